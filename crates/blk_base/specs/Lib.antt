@@ -1,0 +1,5 @@
+pub mod Sectors
+pub mod SectorLaws
+pub mod Points
+pub mod Limits
+pub mod Regions

@@ -1,0 +1,17 @@
+-- Points: a journal sequence, an entry there, and a half of it, as one number.
+use Rattle.std.specs.Prelude.{ℕ, ◌≡◌, ◌+◌, ◌*◌, ◌<◌, ◌⊎◌}
+use Rattle.blk_base.specs.declared.point.Half.{Half}
+use Rattle.blk_base.specs.declared.point.Half.TheVariants.{Increment, Decrement}
+
+-- the increment of an entry stands before its decrement
+abbrev pub half_number : Half → ℕ
+half_number Increment = 0
+half_number Decrement = 1
+
+-- the number of a point
+abbrev pub point_of : ℕ → ℕ → Half → ℕ
+point_of sequence entry half = sequence * 512 + entry * 2 + half_number half
+
+-- the order of the triples
+abbrev pub IsBefore : ℕ → ℕ → Half → ℕ → ℕ → Half → Type 0
+IsBefore s e h s' e' h' = (s < s') ⊎ ((s ≡ s') × ((e < e') ⊎ ((e ≡ e') × (half_number h < half_number h'))))

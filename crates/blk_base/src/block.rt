@@ -1,0 +1,35 @@
+ghost use Rattle.std.specs.Prelude.{◌≡◌};
+ghost use Rattle.blk_base.specs.Sectors.{zero_block};
+
+use std::marker::Model;
+
+/// A block of a device: 4096 bytes, which a contract sees as a list.
+#[derive(Drop)]
+pub struct Block {
+    pub bytes: [u8; 4096],
+}
+
+impl Model for Block {
+    ghost use Rattle.std.specs.Prelude.{List, ℕ};
+
+    ghost Value = { List ℕ };
+
+    ghost view = { λ block. block.bytes };
+}
+
+impl Block {
+    /// The block of zeros.
+    #[tactic(auto, unfolding(crate::specs::Sectors::zero_block))]
+    pub fn zero() -> Block
+        ensures { result ≡ zero_block }
+    {
+        Block { bytes: [0; 4096] }
+    }
+
+    /// Takes over the bytes of another block.
+    pub fn copy_from(&mut self, other: &Block)
+        ensures { self.new ≡ other.now }
+    {
+        self.bytes = other.bytes;
+    }
+}

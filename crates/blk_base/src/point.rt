@@ -1,0 +1,34 @@
+ghost use Rattle.std.specs.Prelude.{◌≡◌, ◌<◌, ◌^◌, ℕ};
+ghost use Rattle.blk_base.specs.Points.{point_of, IsBefore};
+ghost use Rattle.blk_base.specs.declared.point.Half.{Half};
+
+/// Which half of a journal entry: the reference count that it adds, or the one that it takes away.
+#[derive(Clone, Copy, Debug, PartialEq, Eq)]
+pub enum Half {
+    Increment,
+    Decrement,
+}
+
+/// A place in the recovery journal: a sequence, an entry of its block, and a half of that entry, as one number.
+/// Points are ordered as these triples.
+#[derive(Clone, Copy, Debug, PartialEq, Eq, PartialOrd, Ord)]
+pub struct Point(pub u64);
+
+impl Point {
+    /// The point of a half of an entry. A journal block has at most 192 entries.
+    pub fn of(sequence: u64, entry: u16, half: Half) -> Point
+        requires sequence { sequence < 2 ^ 55 }
+        requires entry { entry < 192 }
+        ensures number { result.0 ≡ point_of sequence entry half }
+
+        // Points are ordered as their triples.
+        ensures rises { (s e : ℕ) (h : Half) → e < 192 → IsBefore sequence entry half s e h → result.0 < point_of s e h }
+        ensures falls { (s e : ℕ) (h : Half) → e < 192 → result.0 < point_of s e h → IsBefore sequence entry half s e h }
+    {
+        let half_number = match half {
+            Half::Increment => 0,
+            Half::Decrement => 1,
+        };
+        Point(sequence * 512 + u64::from(entry) * 2 + half_number)
+    }
+}
