@@ -1,0 +1,14 @@
+//! What a run of requests is, for every crate that speaks of one: requests, the desk log, places, histories, and the
+//! report of a run. The definitions of what is right of them stand in `specs/`.
+#![tactic(auto)]
+
+mod report;
+mod requests;
+mod rows;
+
+pub use report::{DeskLine, HistoryEntry, Mark, Placed, RunReport};
+pub use requests::Requests;
+pub use rows::Rows;
+
+#[cfg(test)]
+mod tests;

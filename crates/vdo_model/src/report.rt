@@ -1,0 +1,48 @@
+use crate::{Requests, Rows};
+use blk_base::{Answer, Lba, Writer};
+
+/// A line of the desk log: a request is begun, or answered.
+#[derive(Drop)]
+pub enum DeskLine {
+    Begin { request: Writer },
+    Answer { request: Writer, answer: Answer },
+}
+
+/// The place of a block request: its logical zone, and the number that it drew there, from 0.
+#[derive(Clone, Copy, Debug, PartialEq, Eq)]
+pub struct Placed {
+    pub request: Writer,
+    pub zone: u32,
+    pub place: u64,
+}
+
+/// What became of a write or a discard.
+#[derive(Clone, Copy, Debug, PartialEq, Eq)]
+pub enum Mark {
+    /// It was answered Ok.
+    Settled,
+    /// It was stopped after its journal entry had been handed in: a stop may show it.
+    Unsettled,
+    /// Anything else: no stop shows it.
+    Refused,
+}
+
+/// A write or discard in the history of its address.
+#[derive(Clone, Copy, Debug, PartialEq, Eq)]
+pub struct HistoryEntry {
+    pub at: Lba,
+    pub request: Writer,
+    pub mark: Mark,
+}
+
+/// What a run did: the requests of its script, and what became of them. Where no session was begun, all lists are empty.
+#[derive(Drop)]
+pub struct RunReport {
+    pub requests: Requests,
+    /// The desk log, in the desk's order.
+    pub desk: Rows<DeskLine>,
+    /// The place of each request that has one, in the order of each zone's numbers.
+    pub places: Rows<Placed>,
+    /// The writes and discards that have a place. Those of one address are its history, in the order of their places.
+    pub histories: Rows<HistoryEntry>,
+}

@@ -1,0 +1,44 @@
+ghost use Rattle.std.specs.Prelude.{◌≡◌, [], reverse};
+
+use std::alloc::Global;
+use std::marker::Model;
+
+/// A list that was written item after item. A contract sees the newest item first, so that what was so at an earlier
+/// moment is the rest of the list.
+#[derive(Drop)]
+pub struct Rows<T> {
+    rows: Vec<T>,
+}
+
+impl<T> Model for Rows<T> {
+    ghost use Rattle.std.specs.Prelude.{List, reverse};
+
+    ghost Value = { List T };
+
+    ghost view = { λ r. reverse r.rows.items };
+}
+
+impl<T: Drop> Rows<T> {
+    /// The empty list.
+    pub fn new(alloc: Global) -> Rows<T>
+        ensures { result ≡ [] }
+    {
+        Rows {
+            rows: Vec::new(alloc),
+        }
+    }
+
+    /// The list of these items, the newest of which stands last.
+    pub fn from_vec(rows: Vec<T>) -> Rows<T>
+        ensures { result ≡ reverse rows.items }
+    {
+        Rows { rows }
+    }
+
+    /// The items, the oldest first.
+    pub fn as_slice(&self) -> &[T]
+        ensures { self.now ≡ reverse result.now }
+    {
+        &self.rows
+    }
+}
