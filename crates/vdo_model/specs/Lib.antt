@@ -4,3 +4,4 @@ pub mod Places
 pub mod Histories
 pub mod RightReads
 pub mod RightRuns
+pub mod Servable
