@@ -1,0 +1,12 @@
+use Rattle.std.proofs.Common.{◌<◌, length, arith, ap, ◌∙◌}
+use Rattle.std.proofs.lemmas.List.{get_or_read}
+use Rattle.blk_base.specs.Sectors.{zero_block}
+use Rattle.disk_model.specs.Memory.{Memory}
+use Rattle.disk_model.proofs.Honest.{given}
+use Rattle.disk_model.proofs.memory.MemDiskDisk.read.Goals as goal
+
+pub returns-clause-given : goal.returns-clause-given
+returns-clause-given c =
+    let here : c.args.at.0 < length c.self.inside.blocks.items = omega (arith, ap (λ (m : Memory). length m.blocks) c.self.view_is) in
+    rw (← c.self.view_is) (given _ _ _ c.args.at.0 _ c.self.invariant here
+    (c.copy_from-2.ensures ∙ get_or_read c.self.inside.blocks.items c.args.at.0 c.index-2.result.now here c.index-2.ensures zero_block))

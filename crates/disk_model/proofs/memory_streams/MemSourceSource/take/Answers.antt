@@ -1,0 +1,11 @@
+use Rattle.std.proofs.Common.{◌≡◌, ◌+◌, ◌-◌, ◌∙◌, ap, sym, arith}
+use Rattle.disk_model.specs.Streams.{SourceState}
+use Rattle.disk_model.proofs.Taken.{taken_parts}
+use Rattle.disk_model.proofs.memory_streams.MemSourceSource.take.Goals as goal
+
+pub returns-clause-given : goal.returns-clause-given
+returns-clause-given c =
+    let taken = c.self.inside.taken in
+    let same : taken + c.min-count.result - taken ≡ c.min-count.result = omega arith in
+    sym (ap (λ (s : SourceState). s.bytes) c.self.view_is)
+    ∙ taken_parts c.self.inside.bytes.items _ _ taken c.min-count.result (rw (same, c.deref.ensures.value) at c.copy_from_slice.ensures.after) (omega (arith, c.self.inside.bytes.ok))

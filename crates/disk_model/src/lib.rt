@@ -1,0 +1,21 @@
+//! A device by the log of its calls, what a stop may leave of it, and sources and sinks that count their faults.
+#![tactic(auto)]
+
+mod call;
+mod disk;
+mod faults;
+mod images;
+mod memory;
+mod memory_streams;
+mod streams;
+
+pub use call::{Call, Failed};
+pub use disk::Disk;
+pub use faults::{CallKind, FaultAt, faults_of_a_plan};
+pub use images::images_of_a_log;
+pub use memory::MemDisk;
+pub use memory_streams::{MemSink, MemSource};
+pub use streams::{OpenGate, Sink, Source, ZoneGate};
+
+#[cfg(test)]
+mod tests;

@@ -1,0 +1,249 @@
+ghost use Rattle.std.specs.Prelude.{◌≡◌, ◌<◌, ◌≤◌, ◌++◌, [], ◌∷◌, true, false, reverse, replicate, length, slice_set, IfOk, OnOk, OnErr};
+ghost use Rattle.std.specs.Bool.{OnTrue, OnFalse};
+ghost use Rattle.blk_base.specs.Sectors.{zero_block};
+ghost use Rattle.disk_model.specs.declared.call.Call.TheVariants.{Read, Write, Flush};
+ghost use Rattle.disk_model.specs.Causes.{Rose, HasCause};
+ghost use Rattle.disk_model.specs.Images.{IsMixOf};
+ghost use Rattle.disk_model.specs.Log.{block_at, settled};
+ghost use Rattle.disk_model.specs.Memory.{fresh, after_failed_write, Succeeds, Fails};
+ghost use Rattle.disk_model.specs.Telling.{FailedInLog};
+
+use crate::faults::take_course;
+use crate::{Call, CallKind, Disk, Failed, FaultAt};
+use blk_base::{Block, Pbn};
+use std::alloc::{AllocError, Global};
+use std::marker::Model;
+
+/// A device in memory, which tells and is honest. A call fails exactly where a planned fault names it, or where it finds
+/// no memory for its place in the log: then it has no effect.
+#[derive(Drop)]
+pub struct MemDisk {
+    opening: Vec<Block>,
+    blocks: Vec<Block>,
+    calls: Vec<Call>,
+    plan: Vec<FaultAt>,
+    faults: u64,
+    unkept: u64,
+}
+
+impl Model for MemDisk {
+    ghost use Rattle.std.specs.Prelude.{reverse};
+    ghost use Rattle.disk_model.specs.Memory.{Memory, IsHonest};
+
+    ghost Value = { Memory };
+
+    ghost view = { λ d. record {
+      opening = d.opening.items;
+      log = reverse d.calls.items;
+      blocks = d.blocks.items;
+      plan = d.plan.items;
+      faults = d.faults;
+      unkept = d.unkept;
+    } };
+
+    ghost invariant = { λ d. IsHonest d.opening.items (reverse d.calls.items) d.blocks.items };
+}
+
+fn copy_all(alloc: Global, blocks: &[Block]) -> Result<Vec<Block>, AllocError>
+    ensures { IfOk result (λ v. v.items ≡ blocks.now) }
+{
+    let mut copies = Vec::new(alloc);
+    for block in blocks {
+        let mut copy = Block::zero();
+        copy.copy_from(block);
+        copies.push(copy)?;
+    }
+    Ok(copies)
+}
+
+// Adds a call to the log, where there is memory for it.
+fn keep(calls: &mut Vec<Call>, call: Call) -> bool
+    ensures kept { OnTrue result (calls.new.items ≡ calls.old.items ++ call ∷ []) }
+    ensures not { OnFalse result (calls.new.items ≡ calls.old.items) }
+{
+    match calls.push(call) {
+        Ok(()) => true,
+        Err(_) => false,
+    }
+}
+
+impl MemDisk {
+    /// A device of so many blocks of zeros.
+    pub fn zeroed(alloc: Global, blocks: u32) -> Result<MemDisk, AllocError>
+        ensures { IfOk result (λ d. d ≡ fresh (replicate blocks zero_block)) }
+    {
+        let mut zeros = Vec::new(alloc);
+        for _ in 0..blocks {
+            zeros.push(Block::zero())?;
+        }
+        MemDisk::from_blocks(alloc, zeros)
+    }
+
+    /// A device with these blocks. More than a `u32` can count are refused as too many for any memory.
+    pub fn from_blocks(alloc: Global, blocks: Vec<Block>) -> Result<MemDisk, AllocError>
+        ensures { IfOk result (λ d. d ≡ fresh blocks.items) }
+    {
+        if blocks.len() > u32::MAX as usize {
+            return Err(AllocError);
+        }
+        let opening = copy_all(alloc, &blocks)?;
+        Ok(MemDisk {
+            opening,
+            blocks,
+            calls: Vec::new(alloc),
+            plan: Vec::new(alloc),
+            faults: 0,
+            unkept: 0,
+        })
+    }
+
+    /// Plans these faults, in place of those that were planned. Their numbers count from this call on.
+    pub fn set_faults(&mut self, faults: Vec<FaultAt>)
+        ensures { self.new ≡ record self.old { plan = faults.items } }
+    {
+        self.plan = faults;
+    }
+
+    /// The calls that found memory for their place in the log, the oldest first.
+    pub fn calls(&self) -> &[Call]
+        ensures { self.now.log ≡ reverse result.now }
+    {
+        &self.calls
+    }
+
+    /// How many calls found no memory for their place in the log.
+    pub fn unkept(&self) -> u64
+        ensures { result ≡ self.now.unkept }
+    {
+        self.unkept
+    }
+}
+
+impl Disk for MemDisk {
+    ghost use Rattle.std.specs.Prelude.{true, length};
+
+    ghost tells = { true };
+
+    ghost honest = { true };
+
+    ghost opening = { λ d. d.opening };
+
+    ghost log = { λ d. d.log };
+
+    ghost faults = { λ d. d.faults };
+
+    ghost unkept = { λ d. d.unkept };
+
+    ghost size = { λ d. length d.blocks };
+
+    fn blocks(&self) -> u32
+        ensures size { result ≡ length self.now.blocks }
+        ensures told { length self.now.opening ≡ length self.now.blocks }
+    {
+        self.blocks.len() as u32
+    }
+
+    fn read(&mut self, at: Pbn, into: &mut Block) -> Result<(), Failed>
+        requires { at.0 < length self.old.blocks }
+        ensures size { length self.new.blocks ≡ length self.old.blocks }
+        ensures opening { self.new.opening ≡ self.old.opening }
+        ensures given { OnOk result (IsMixOf (settled self.old.opening self.old.log at.0) into.new) }
+        ensures ok { OnOk result (self.new.log ≡ Read at into.new true ∷ self.old.log) }
+        ensures err { OnErr result (FailedInLog self.old.log self.new.log (Read at into.new false)
+            (Rose self.old.unkept self.new.unkept)) }
+        ensures cause { HasCause self.old.faults self.new.faults result }
+        ensures unkept { self.old.unkept ≤ self.new.unkept }
+        ensures all_kept { OnOk result (self.new.unkept ≡ self.old.unkept) }
+
+        // The exact effect. A read that failed leaves `into` as it was.
+        ensures into { OnErr result (into.new ≡ into.old) }
+        ensures bytes { OnOk result (into.new ≡ block_at self.old.blocks at.0) }
+        ensures exact_ok { OnOk result (Succeeds self.old self.new (Read at into.new true) self.old.blocks) }
+        ensures exact_err { OnErr result (Fails self.old self.new (Read at into.new false) self.old.blocks) }
+    {
+        let course = take_course(&mut self.plan, CallKind::Read, at);
+        let ok = !course.fails;
+        let mut bytes = Block::zero();
+        bytes.copy_from(if ok {
+            &self.blocks[at.0 as usize]
+        } else {
+            into
+        });
+        if !keep(&mut self.calls, Call::Read { at, bytes, ok }) {
+            self.unkept = self.unkept.saturating_add(1);
+            self.faults = self.faults.saturating_add(1);
+            return Err(Failed);
+        }
+        if course.fails {
+            self.faults = self.faults.saturating_add(1);
+            return Err(Failed);
+        }
+        into.copy_from(&self.blocks[at.0 as usize]);
+        Ok(())
+    }
+
+    fn write(&mut self, at: Pbn, from: &Block) -> Result<(), Failed>
+        requires { at.0 < length self.old.blocks }
+        ensures size { length self.new.blocks ≡ length self.old.blocks }
+        ensures opening { self.new.opening ≡ self.old.opening }
+        ensures ok { OnOk result (self.new.log ≡ Write at from.now true ∷ self.old.log) }
+        ensures err { OnErr result (FailedInLog self.old.log self.new.log (Write at from.now false)
+            (Rose self.old.unkept self.new.unkept)) }
+        ensures cause { HasCause self.old.faults self.new.faults result }
+        ensures unkept { self.old.unkept ≤ self.new.unkept }
+        ensures all_kept { OnOk result (self.new.unkept ≡ self.old.unkept) }
+
+        // The exact effect.
+        ensures exact_ok { OnOk result (Succeeds self.old self.new (Write at from.now true)
+            (slice_set self.old.blocks at.0 from.now)) }
+        ensures exact_err { OnErr result (Fails self.old self.new (Write at from.now false)
+            (after_failed_write self.old at.0 from.now)) }
+    {
+        let course = take_course(&mut self.plan, CallKind::Write, at);
+        let mut bytes = Block::zero();
+        bytes.copy_from(from);
+        let ok = !course.fails;
+        if !keep(&mut self.calls, Call::Write { at, bytes, ok }) {
+            self.unkept = self.unkept.saturating_add(1);
+            self.faults = self.faults.saturating_add(1);
+            return Err(Failed);
+        }
+        if ok {
+            self.blocks[at.0 as usize].copy_from(from);
+            return Ok(());
+        }
+        if course.effect {
+            self.blocks[at.0 as usize].copy_from(from);
+        }
+        self.faults = self.faults.saturating_add(1);
+        Err(Failed)
+    }
+
+    fn flush(&mut self) -> Result<(), Failed>
+        ensures size { length self.new.blocks ≡ length self.old.blocks }
+        ensures opening { self.new.opening ≡ self.old.opening }
+        ensures ok { OnOk result (self.new.log ≡ Flush true ∷ self.old.log) }
+        ensures err { OnErr result (FailedInLog self.old.log self.new.log (Flush false)
+            (Rose self.old.unkept self.new.unkept)) }
+        ensures cause { HasCause self.old.faults self.new.faults result }
+        ensures unkept { self.old.unkept ≤ self.new.unkept }
+        ensures all_kept { OnOk result (self.new.unkept ≡ self.old.unkept) }
+
+        // The exact effect.
+        ensures exact_ok { OnOk result (Succeeds self.old self.new (Flush true) self.old.blocks) }
+        ensures exact_err { OnErr result (Fails self.old self.new (Flush false) self.old.blocks) }
+    {
+        let course = take_course(&mut self.plan, CallKind::Flush, Pbn(0));
+        let ok = !course.fails;
+        if !keep(&mut self.calls, Call::Flush { ok }) {
+            self.unkept = self.unkept.saturating_add(1);
+            self.faults = self.faults.saturating_add(1);
+            return Err(Failed);
+        }
+        if course.fails {
+            self.faults = self.faults.saturating_add(1);
+            return Err(Failed);
+        }
+        Ok(())
+    }
+}
