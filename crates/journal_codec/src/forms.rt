@@ -1,0 +1,28 @@
+use crate::Entries;
+
+/// A block of the journal, as it is to be written: the image's nonce, the block's sequence, the least sequence that
+/// is still needed (`head`), and its entries.
+#[derive(Drop)]
+pub struct JournalBlock {
+    pub nonce: u64,
+    pub sequence: u64,
+    pub head: u64,
+    pub entries: Entries<192>,
+}
+
+/// What a valid sector says. It has at most 24 entries.
+#[derive(Drop)]
+pub struct Sector {
+    pub sequence: u64,
+    pub head: u64,
+    pub entries: Entries<24>,
+}
+
+/// The valid front of a block: its sequence, its head, the entries of its sectors, and whether these are all eight.
+#[derive(Drop)]
+pub struct Prefix {
+    pub sequence: u64,
+    pub head: u64,
+    pub entries: Entries<192>,
+    pub whole: bool,
+}

@@ -1,0 +1,42 @@
+//! The recovery journal's blocks as bytes.
+//!
+//! A block has eight sectors of 512 bytes, each of which can be read by itself. All numbers are little-endian.
+//!
+//! | Byte in the sector | Field |
+//! |---|---|
+//! | 0 | nonce, 8 bytes |
+//! | 8 | sequence, 8 bytes |
+//! | 16 | head, 8 bytes |
+//! | 24 | the sector's number, 2 bytes |
+//! | 26 | the number of its entries, 2 bytes |
+//! | 28 | `VJS1` |
+//! | 32 | 24 entries of 20 bytes; those past the number are zeros |
+//!
+//! | Byte in the entry | Field |
+//! |---|---|
+//! | 0 | kind: 0 maps an address anew, 1 has a new page of the block map |
+//! | 1 | tree of the page (kind 0: zero) |
+//! | 2 | level of the page (kind 0: zero) |
+//! | 3 | zero |
+//! | 4 | the address, or the page's number on its level, 4 bytes |
+//! | 8 | old mapping, 5 bytes; kind 1: unmapped |
+//! | 13 | new mapping, 5 bytes; kind 1: the page's block |
+//! | 18 | two zeros |
+//!
+//! A mapping's first byte is 0 for unmapped, with block 0, and else 1; then comes the block, where 0 stands for zeros.
+#![tactic(auto)]
+
+mod entries;
+mod forms;
+mod laws;
+mod reading;
+mod writing;
+
+pub use entries::Entries;
+pub use forms::{JournalBlock, Prefix, Sector};
+pub use laws::{a_torn_write_leaves_a_prefix, bytes_have_one_reading, what_is_written_is_read};
+pub use reading::{block_prefix, sector};
+pub use writing::encode;
+
+#[cfg(test)]
+mod tests;
