@@ -1,0 +1,48 @@
+-- A block to which an address is mapped is named, and inside the image.
+use Rattle.std.proofs.Common.{ℕ, ◌≡◌, ◌<◌, ◌/◌, ◌%◌, ◌==◌, ◌||◌, Bool, true, false, List, [], ◌∷◌, refl, sym, ◌∙◌, ap, subst, inl, inr, arith}
+use Rattle.std.proofs.lemmas.Bool.Decides.{eqb_tells}
+use Rattle.blk_base.specs.Regions.{needed_blocks}
+use Rattle.blk_base.specs.declared.geometry.Geometry.{Geometry}
+use Rattle.blk_base.specs.declared.journal_entry.Entry.{Entry}
+use Rattle.blk_base.specs.declared.journal_entry.Entry.TheVariants.{Remap, NewPage}
+use Rattle.blk_base.specs.declared.place.Mapping.{Mapping}
+use Rattle.blk_base.specs.declared.place.Mapping.TheVariants.{Unmapped, Zero, At}
+use Rattle.blk_base.specs.declared.place.Pbn.{Pbn}
+use Rattle.serial_engine.specs.Blocks.{mapping_of, is_named, is_at, entries_of}
+use Rattle.serial_engine.specs.Served.{Ground, Seen, AllServed}
+use Rattle.serial_engine.specs.Story.{Served, Stored, NoRoom, DataLost, EntryLost, WriteStopped, Given, NotGiven, Flushed, FlushLost, FlushStopped}
+use Rattle.serial_engine.proofs.DataLaws.{or_left, or_right, or_cases, same_number}
+
+at_itself : (m : Mapping) (x : Pbn) → m ≡ At x → is_at m x.0 ≡ true
+at_itself m x is = rw is (same_number x.0)
+
+pub mapped_named : (entries : List Entry) (a : ℕ) (x : Pbn) → mapping_of entries a ≡ At x → is_named entries x.0 ≡ true
+mapped_named [] a x is = absurd cc
+mapped_named (Remap at old new ∷ older) a x is = elim (eqb_tells at.0 a) [
+  | inl same ↦ or_left (is_at new x.0) (is_named older x.0) (at_itself new x (rw same.0 at is))
+  | inr other ↦ or_right (is_at new x.0) (is_named older x.0) (mapped_named older a x (rw other.0 at is))
+]
+mapped_named (NewPage page at ∷ older) a x is = mapped_named older a x is
+
+-- what the entries of a story name is inside the image
+pub named_inside : (ground : Ground) (first : Seen) (story : List Served) (now : Seen) → AllServed ground first story now
+    → (b : ℕ) → is_named (entries_of story) b ≡ true → b < needed_blocks ground.geometry
+named_inside ground first [] now served b is = absurd cc
+named_inside ground first (Stored at block x ∷ older) now (before, later, (on, room, slot, place, calls), rest) b is =
+    elim (or_cases (x.0 == b) (is_named (entries_of older) b) is) [
+      | inl here ↦
+          elim (eqb_tells x.0 b) [
+            | inl same ↦ omega (arith, same.1, room.block.inside)
+            | inr other ↦ absurd (cc (here, other.0))
+          ]
+      | inr later_on ↦ named_inside ground first older before rest b later_on
+    ]
+named_inside ground first (NoRoom at block ∷ older) now (before, later, serves, rest) b is = named_inside ground first older before rest b is
+named_inside ground first (DataLost at block x ∷ older) now (before, later, serves, rest) b is = named_inside ground first older before rest b is
+named_inside ground first (EntryLost at block x ∷ older) now (before, later, serves, rest) b is = named_inside ground first older before rest b is
+named_inside ground first (WriteStopped at block ∷ older) now (before, later, serves, rest) b is = named_inside ground first older before rest b is
+named_inside ground first (Given at bytes ∷ older) now (before, later, serves, rest) b is = named_inside ground first older before rest b is
+named_inside ground first (NotGiven at ∷ older) now (before, later, serves, rest) b is = named_inside ground first older before rest b is
+named_inside ground first (Flushed ∷ older) now (before, later, serves, rest) b is = named_inside ground first older before rest b is
+named_inside ground first (FlushLost ∷ older) now (before, later, serves, rest) b is = named_inside ground first older before rest b is
+named_inside ground first (FlushStopped ∷ older) now (before, later, serves, rest) b is = named_inside ground first older before rest b is

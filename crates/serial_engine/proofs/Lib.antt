@@ -1,0 +1,9 @@
+pub mod StepLaws
+pub mod DeskLaws
+pub mod CallLaws
+pub mod DataLaws
+pub mod ValueLaws
+pub mod SessionLaws
+pub mod ListLaws
+pub mod EntryLaws
+pub mod StoryLaws

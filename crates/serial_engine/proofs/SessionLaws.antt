@@ -1,0 +1,147 @@
+-- What a served story makes of its session.
+use Rattle.std.proofs.Common.{ℕ, zero, suc, ◌≡◌, ◌⊎◌, ◌+◌, ◌<◌, ◌≤◌, ◌||◌, Bool, true, false, IsTrue, List, [], ◌∷◌, Option, Some, None, length, slice_get, refl, sym, ◌∙◌, ap, subst, inl, inr, arith}
+use Rattle.std.specs.List.{AllByRecursion}
+use Rattle.std.specs.Option.{option_map}
+use Rattle.blk_base.specs.declared.place.Mapping.{Mapping}
+use Rattle.blk_base.specs.declared.place.Mapping.TheVariants.{Unmapped, Zero, At}
+use Rattle.blk_base.specs.declared.request.Answer.TheVariants.{Stopped, ReadFault}
+use Rattle.blk_base.specs.declared.request.Request.{Request}
+use Rattle.blk_base.specs.declared.request.Request.TheVariants.{Read, Write, Discard, Flush}
+use Rattle.blk_base.specs.declared.request.Writer.{Writer}
+use Rattle.disk_model.specs.Causes.{Rose}
+use Rattle.vdo_model.specs.DeskLog.{answer_of}
+use Rattle.vdo_model.specs.Scripts.{request_at, address_of}
+use Rattle.vdo_model.specs.Servable.{IsServable, AreServable}
+use Rattle.serial_engine.specs.Blocks.{entries_of, mapping_of}
+use Rattle.serial_engine.specs.Served.{Ground, Seen, AllServed, ReadFails}
+use Rattle.serial_engine.specs.Sessions.{IsSession, HasFault}
+use Rattle.serial_engine.specs.Story.{Served, Stored, NoRoom, DataLost, EntryLost, WriteStopped, Given, NotGiven, Flushed, FlushLost, FlushStopped, request_of, reply_of, is_stopped, is_stop, name, desk_of, places_of, marks_of, AreServed}
+use Rattle.serial_engine.proofs.CallLaws.{stops_since}
+use Rattle.serial_engine.proofs.DeskLaws.{IsInRange, run_is_right, answer_at}
+use Rattle.serial_engine.proofs.StepLaws.{step_at, step_some, step_none, some_same, bool_cases}
+use Rattle.serial_engine.proofs.ValueLaws.{AreWhole, reads_are_right}
+use Rattle.std.proofs.lemmas.Bool.Decides.{eqb_tells}
+
+-- counts only rise
+faults_later : (ground : Ground) (first : Seen) (story : List Served) (now : Seen) → AllServed ground first story now → first.faults ≤ now.faults
+faults_later ground first [] now same = omega (arith, ap (λ (s : Seen). s.faults) same)
+faults_later ground first (s ∷ older) now served = omega (arith, served.1.faults, faults_later ground first older served.0 served.3)
+
+rose_later : (a b c : ℕ) → Rose a b → b ≤ c → Rose a c
+rose_later a b c rose le = omega arith
+
+rose_before : (a b c : ℕ) → a ≤ b → Rose b c → Rose a c
+rose_before a b c le rose = omega arith
+
+read_rose : (ground : Ground) (m : Mapping) (before after : Seen) → ReadFails ground m before after → Rose before.faults after.faults
+read_rose ground Unmapped before after fails = absurd fails
+read_rose ground Zero before after fails = absurd fails
+read_rose ground (At x) before after fails = fails.1.0
+
+-- a stopped session has seen a call fail
+stop_rose : (ground : Ground) (first : Seen) (story : List Served) (now : Seen) → AllServed ground first story now → is_stopped story ≡ true → Rose first.faults now.faults
+stop_rose ground first [] now served is = absurd cc
+stop_rose ground first (DataLost at block x ∷ older) now (before, later, (on, room, fails), rest) is =
+    rose_before _ _ _ (faults_later ground first older before rest) fails.0
+stop_rose ground first (EntryLost at block x ∷ older) now (before, later, (on, room, slot, place, fails), rest) is =
+    rose_before _ _ _ (faults_later ground first older before rest) fails.0
+stop_rose ground first (FlushLost ∷ older) now (before, later, (on, fails), rest) is =
+    rose_before _ _ _ (faults_later ground first older before rest) fails.0
+stop_rose ground first (Stored at block x ∷ older) now (before, later, serves, rest) is = rose_later _ _ _ (stop_rose ground first older before rest is) later.faults
+stop_rose ground first (NoRoom at block ∷ older) now (before, later, serves, rest) is = rose_later _ _ _ (stop_rose ground first older before rest is) later.faults
+stop_rose ground first (WriteStopped at block ∷ older) now (before, later, serves, rest) is = rose_later _ _ _ (stop_rose ground first older before rest is) later.faults
+stop_rose ground first (Given at bytes ∷ older) now (before, later, serves, rest) is = rose_later _ _ _ (stop_rose ground first older before rest is) later.faults
+stop_rose ground first (NotGiven at ∷ older) now (before, later, serves, rest) is = rose_later _ _ _ (stop_rose ground first older before rest is) later.faults
+stop_rose ground first (Flushed ∷ older) now (before, later, serves, rest) is = rose_later _ _ _ (stop_rose ground first older before rest is) later.faults
+stop_rose ground first (FlushStopped ∷ older) now (before, later, serves, rest) is = rose_later _ _ _ (stop_rose ground first older before rest is) later.faults
+
+-- the newest step's answer has its cause
+newest_rose : (ground : Ground) (first : Seen) (s : Served) (older : List Served) (now : Seen) → AllServed ground first (s ∷ older) now → HasFault (reply_of s) → Rose first.faults now.faults
+newest_rose ground first (Stored at block x) older now served fault = absurd fault
+newest_rose ground first (NoRoom at block) older now served fault = absurd fault
+newest_rose ground first (DataLost at block x) older now served fault = stop_rose ground first (DataLost at block x ∷ older) now served refl
+newest_rose ground first (EntryLost at block x) older now served fault = stop_rose ground first (EntryLost at block x ∷ older) now served refl
+newest_rose ground first (WriteStopped at block) older now (before, later, (off, same), rest) fault = rose_later _ _ _ (stop_rose ground first older before rest off) later.faults
+newest_rose ground first (Given at bytes) older now served fault = absurd fault
+newest_rose ground first (NotGiven at) older now (before, later, fails, rest) fault =
+    rose_before _ _ _ (faults_later ground first older before rest) (read_rose ground (mapping_of (entries_of older) at.0) before now fails)
+newest_rose ground first Flushed older now served fault = absurd fault
+newest_rose ground first FlushLost older now served fault = stop_rose ground first (FlushLost ∷ older) now served refl
+newest_rose ground first FlushStopped older now (before, later, (off, same), rest) fault = rose_later _ _ _ (stop_rose ground first older before rest off) later.faults
+
+step_rose : (ground : Ground) (first : Seen) (story : List Served) (now : Seen) (n : ℕ) (s : Served) → AllServed ground first story now
+    → step_at story n ≡ Some s → HasFault (reply_of s) → Rose first.faults now.faults
+step_rose ground first [] now n s served is fault = absurd cc
+step_rose ground first (t ∷ older) now n s served is fault = elim (eqb_tells (length older) n) [
+  | inl same ↦
+      let here : Some t ≡ Some s = rw same.0 at is in
+      newest_rose ground first t older now served (subst (λ (u : Served). HasFault (reply_of u)) (sym (some_same t s here)) fault)
+  | inr other ↦ rose_later _ _ _ (step_rose ground first older served.0 n s served.3 (rw other.0 at is) fault) served.1.faults
+]
+
+-- servable requests
+pub servable_at : (logical : ℕ) (requests : List Request) (n : ℕ) (r : Request) → AreServable logical requests → slice_get requests n ≡ Some r → IsServable logical r
+servable_at logical [] n r are is = absurd cc
+servable_at logical (q ∷ requests) zero r are is = subst (λ (u : Request). IsServable logical u) (some_same q r is) are.0
+servable_at logical (q ∷ requests) (suc n) r are is = servable_at logical requests n r are.1 is
+
+address_below : (logical : ℕ) (r : Request) (a : ℕ) → IsServable logical r → address_of r ≡ Some a → a < logical
+address_below logical (Read at) a ok is = omega (arith, ok, some_same _ _ is)
+address_below logical (Write at block fua) a ok is = omega (arith, ok.0, some_same _ _ is)
+address_below logical (Discard at) a ok is = absurd ok
+address_below logical Flush a ok is = absurd cc
+
+in_range : (logical : ℕ) (requests : List Request) → AreServable logical requests → IsInRange logical requests
+in_range logical requests are n r a had has = address_below logical r a (servable_at logical requests n r are had) has
+
+are_whole : (logical : ℕ) (requests : List Request) (story : List Served) → AreServable logical requests → AreServed requests story → AreWhole story
+are_whole logical requests [] are each = tt
+are_whole logical requests (Stored at block x ∷ older) are each = ((servable_at logical requests (length older) _ are each.0).1, are_whole logical requests older are each.1)
+are_whole logical requests (NoRoom at block ∷ older) are each = are_whole logical requests older are each.1
+are_whole logical requests (DataLost at block x ∷ older) are each = are_whole logical requests older are each.1
+are_whole logical requests (EntryLost at block x ∷ older) are each = are_whole logical requests older are each.1
+are_whole logical requests (WriteStopped at block ∷ older) are each = are_whole logical requests older are each.1
+are_whole logical requests (Given at bytes ∷ older) are each = are_whole logical requests older are each.1
+are_whole logical requests (NotGiven at ∷ older) are each = are_whole logical requests older are each.1
+are_whole logical requests (Flushed ∷ older) are each = are_whole logical requests older are each.1
+are_whole logical requests (FlushLost ∷ older) are each = are_whole logical requests older are each.1
+are_whole logical requests (FlushStopped ∷ older) are each = are_whole logical requests older are each.1
+
+-- an answer that a fault causes
+fault_rose : (ground : Ground) (first : Seen) (story : List Served) (now : Seen) (n : ℕ) → AllServed ground first story now
+    → (s : Option Served) → step_at story n ≡ s → (a : _) → answer_of (desk_of story) (name n) ≡ Some a → HasFault a → Rose first.faults now.faults
+fault_rose ground first story now n served None is a told fault = absurd (cc (answer_at story n, ap (option_map reply_of) is, told))
+fault_rose ground first story now n served (Some s) is a told fault =
+    let a_is : reply_of s ≡ a = some_same _ _ (sym (ap (option_map reply_of) is) ∙ sym (answer_at story n) ∙ told) in
+    step_rose ground first story now n s served is (subst HasFault (sym a_is) fault)
+
+-- a request of another stream has no answer
+other_stream : (story : List Served) (stream number : ℕ) → answer_of (desk_of story) (record { stream = suc stream; number = number }) ≡ None
+other_stream [] stream number = refl
+other_stream (s ∷ older) stream number = elim (eqb_tells 0 (suc stream)) [
+  | inl same ↦ absurd (omega (arith, same.1))
+  | inr other ↦ rw other.0 (other_stream older stream number)
+]
+
+causes_at : (ground : Ground) (first : Seen) (story : List Served) (now : Seen) → AllServed ground first story now
+    → (stream number : ℕ) (a : _) → answer_of (desk_of story) (record { stream = stream; number = number }) ≡ Some a → HasFault a → Rose first.faults now.faults
+causes_at ground first story now served zero number a told fault = fault_rose ground first story now number served (step_at story number) refl a told fault
+causes_at ground first story now served (suc stream) number a told fault = absurd (cc (other_stream story stream number, told))
+
+-- a served story is a session
+pub session : (ground : Ground) (requests : List Request) (story : List Served) (first now : Seen) → AreServable ground.geometry.logical requests
+    → AreServed requests story → length story ≡ length requests → AllServed ground first story now
+    → IsSession ground requests (desk_of story) (places_of story) (marks_of story) first now
+session ground requests story first now are each whole served = record {
+  story = story;
+  each = each;
+  whole = whole;
+  served = served;
+  desk_is = refl;
+  places_is = refl;
+  histories_is = refl;
+  run_right = run_is_right ground.geometry.logical requests story (in_range _ requests are) each whole;
+  reads_right = λ tells honest. reads_are_right ground first requests story now tells honest served each (are_whole _ requests story are each) whole;
+  causes = λ w a told fault. causes_at ground first story now served w.stream w.number a told fault;
+  stops = λ tells. stops_since ground first story now tells served;
+}

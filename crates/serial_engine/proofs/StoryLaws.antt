@@ -1,0 +1,74 @@
+-- A session goes on by one request more.
+use Rattle.std.proofs.Common.{ℕ, zero, suc, ◌≡◌, ◌+◌, ◌<◌, ◌≤◌, ◌||◌, ◌++◌, Bool, true, false, List, [], ◌∷◌, Option, Some, None, length, slice_get, if◌then◌else◌, refl, sym, ◌∙◌, ap, subst, arith}
+use Rattle.blk_base.specs.Regions.{needed_blocks}
+use Rattle.blk_base.specs.declared.journal_entry.Entry.{Entry}
+use Rattle.blk_base.specs.declared.request.Request.{Request}
+use Rattle.vdo_model.specs.declared.report.DeskLine.{DeskLine}
+use Rattle.vdo_model.specs.declared.report.DeskLine.TheVariants.{Begin, Answer}
+use Rattle.vdo_model.specs.declared.report.HistoryEntry.{HistoryEntry}
+use Rattle.vdo_model.specs.declared.report.Placed.{Placed}
+use Rattle.vdo_model.specs.Servable.{AreServable}
+use Rattle.serial_engine.specs.Blocks.{entries_of, entries_with, is_named}
+use Rattle.serial_engine.specs.Keeping.{Keeping, Adds, ServesRequest, InSession, NamesBelow, nothing_kept}
+use Rattle.serial_engine.specs.Served.{Ground, Seen, AllServed, Serves}
+use Rattle.serial_engine.specs.Sessions.{IsSession}
+use Rattle.serial_engine.specs.Story.{Served, request_of, reply_of, is_placed, is_stop, name, entry_of, desk_of, places_of, drawn_of, marks_of, is_stopped, AreServed}
+use Rattle.serial_engine.proofs.EntryLaws.{named_inside}
+use Rattle.serial_engine.proofs.SessionLaws.{session}
+
+-- before the first request
+pub starts : (ground : Ground) (requests : List Request) (first : Seen) (k : Keeping) → k ≡ nothing_kept → InSession ground requests first 0 k first
+starts ground requests first k fresh = rw fresh (record {
+  story = [];
+  count = refl;
+  each = tt;
+  served = refl;
+  desk_is = refl;
+  places_is = refl;
+  drawn_is = refl;
+  histories_is = refl;
+  entries_is = refl;
+  stopped_is = refl;
+})
+
+with_one : (ground : Ground) (requests : List Request) (first : Seen) (n : ℕ) (request : Request) (k new : Keeping) (now after : Seen)
+    → (was : InSession ground requests first n k now) → n ≡ length was.story → slice_get requests n ≡ Some request
+    → ServesRequest ground n request k new now after → InSession ground requests first (n + 1) new after
+with_one ground requests first n request k new now after was count had serves =
+    let s = serves.how in
+    let adds = serves.done.adds in
+    let served = subst (λ (entries : List Entry). Serves ground entries k.stopped s now after) was.entries_is serves.done.serves in
+    let served_too = subst (λ (b : Bool). Serves ground (entries_of was.story) b s now after) was.stopped_is served in
+    record {
+      story = s ∷ was.story;
+      count = omega (arith, count);
+      each = (subst (λ (m : ℕ). slice_get requests m ≡ Some (request_of s)) count (had ∙ ap Some (sym serves.asked)), was.each);
+      served = (now, serves.done.later, served_too, was.served);
+      desk_is = adds.desk ∙ ap (λ (m : ℕ). Answer (name m) (reply_of s) ∷ Begin (name m) ∷ k.desk) count
+          ∙ ap (λ (lines : List DeskLine). Answer (name (length was.story)) (reply_of s) ∷ Begin (name (length was.story)) ∷ lines) was.desk_is;
+      places_is = adds.places ∙ rw (count, was.drawn_is, was.places_is) refl;
+      drawn_is = adds.drawn ∙ rw was.drawn_is refl;
+      histories_is = adds.histories ∙ ap (λ (m : ℕ). entry_of s (name m) ++ k.histories) count
+          ∙ ap (λ (es : List HistoryEntry). entry_of s (name (length was.story)) ++ es) was.histories_is;
+      entries_is = adds.entries ∙ ap (entries_with s) was.entries_is;
+      stopped_is = adds.stopped ∙ ap (λ (b : Bool). is_stop s || b) was.stopped_is;
+    }
+
+-- after one request more
+pub goes_on : (ground : Ground) (requests : List Request) (first : Seen) (n : ℕ) (request : Request) (k new : Keeping) (now after : Seen)
+    → InSession ground requests first n k now → slice_get requests n ≡ Some request
+    → ServesRequest ground n request k new now after → InSession ground requests first (n + 1) new after
+goes_on ground requests first n request k new now after was had serves = with_one ground requests first n request k new now after was (sym was.count) had serves
+
+-- what its entries name is on the device
+pub names_below : (ground : Ground) (requests : List Request) (first : Seen) (n size : ℕ) (k : Keeping) (now : Seen) → needed_blocks ground.geometry ≤ size
+    → InSession ground requests first n k now → NamesBelow size k.entries
+names_below ground requests first n size k now needed was b is =
+    let named = subst (λ (entries : List Entry). is_named entries b ≡ true) was.entries_is is in
+    omega (arith, named_inside ground first was.story now was.served b named)
+
+-- after the last request
+pub ends : (ground : Ground) (requests : List Request) (first : Seen) (k : Keeping) (now : Seen) → AreServable ground.geometry.logical requests
+    → InSession ground requests first (length requests) k now → IsSession ground requests k.desk k.places k.histories first now
+ends ground requests first k now servable was =
+    rw (was.desk_is, was.places_is, was.histories_is) (session ground requests was.story first now servable was.each was.count was.served)

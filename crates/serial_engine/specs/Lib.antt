@@ -1,0 +1,6 @@
+pub mod Story
+pub mod Blocks
+pub mod Served
+pub mod Sessions
+pub mod Keeping
+pub mod Kept

@@ -1,0 +1,44 @@
+ghost use Rattle.std.specs.Prelude.{◌≡◌, ◌<◌, ◌≤◌, reverse, OnOk, OnErr};
+ghost use Rattle.blk_base.specs.declared.geometry.Geometry.{Geometry};
+ghost use Rattle.serial_engine.specs.Blocks.{mapping_of};
+ghost use Rattle.serial_engine.specs.Keeping.{NamesBelow};
+ghost use Rattle.serial_engine.specs.Served.{ReadGives, ReadFails, Later, ground, seen};
+
+use crate::entries::mapping_at;
+use blk_base::{Block, Entry, Layout, Lba, Mapping};
+use disk_model::{Disk, Failed};
+
+/// Reads the block to which the entries map an address, or zeros where they map it to none.
+pub(crate) fn read<D: Disk>(
+    device: &mut D,
+    layout: &Layout,
+    start: u64,
+    entries: &[Entry],
+    at: Lba,
+    into: &mut Block,
+) -> Result<(), Failed>
+    requires { NamesBelow (D.size device.old) (reverse entries.now) }
+    ensures given { OnOk result (ReadGives (ground layout.now.geometry start (D.opening device.old) D.tells D.honest) (mapping_of (reverse entries.now) at.0) into.new
+        (seen (D.log device.old) (D.faults device.old) (D.unkept device.old)) (seen (D.log device.new) (D.faults device.new) (D.unkept device.new))) }
+    ensures fails { OnErr result (ReadFails (ground layout.now.geometry start (D.opening device.old) D.tells D.honest) (mapping_of (reverse entries.now) at.0)
+        (seen (D.log device.old) (D.faults device.old) (D.unkept device.old)) (seen (D.log device.new) (D.faults device.new) (D.unkept device.new))) }
+    ensures later { Later (seen (D.log device.old) (D.faults device.old) (D.unkept device.old)) (seen (D.log device.new) (D.faults device.new) (D.unkept device.new)) }
+    ensures size { D.size device.new ≡ D.size device.old }
+    ensures opening { D.opening device.new ≡ D.opening device.old }
+{
+    let _layout = layout;
+    let _start = start;
+    match mapping_at(entries, at) {
+        Mapping::Unmapped | Mapping::Zero => {
+            into.copy_from(&Block::zero());
+            Ok(())
+        }
+        Mapping::At(block) => {
+            let Ok(()) = device.read(block, into) else {
+                return Err(Failed);
+            };
+            let _bytes = &into.bytes;
+            Ok(())
+        }
+    }
+}

@@ -1,0 +1,147 @@
+ghost use Rattle.std.specs.Prelude.{◌≡◌, ◌<◌, ◌≤◌, ◌+◌, reverse};
+ghost use Rattle.blk_base.specs.Regions.{needed_blocks};
+ghost use Rattle.blk_base.specs.declared.request.Request.TheVariants.{Read};
+ghost use Rattle.vdo_model.specs.Servable.{IsServable};
+ghost use Rattle.serial_engine.specs.Keeping.{Served1, ServesRequest, NamesBelow, served_write};
+ghost use Rattle.serial_engine.specs.Kept.{kept, HasServed, SameGround};
+ghost use Rattle.serial_engine.specs.Served.{ground, seen};
+
+use crate::Session;
+use crate::Written;
+use crate::entries::mapping_at;
+use crate::lists::add;
+use crate::read::read;
+use crate::write::write;
+use blk_base::{Answer, Block, Entry, Lba, Mapping, Request, Writer};
+use disk_model::Disk;
+use vdo_model::{DeskLine, HistoryEntry, Mark, Placed};
+
+/// Serves a write: `None` where the session had been stopped.
+pub(crate) fn serve_write<D: Disk>(
+    device: &mut D,
+    session: &mut Session,
+    number: u32,
+    at: Lba,
+    block: &Block,
+) -> Option<Written>
+    requires size { needed_blocks session.old.layout.geometry ≤ D.size device.old }
+    requires below { number < session.old.limit }
+    requires count { HasServed number session.old }
+    ensures done { Served1 (ground session.old.layout.geometry session.old.start (D.opening device.old) D.tells D.honest) number (served_write result at block.now)
+        (kept session.old) (kept session.new) (seen (D.log device.old) (D.faults device.old) (D.unkept device.old)) (seen (D.log device.new) (D.faults device.new) (D.unkept device.new)) }
+    ensures count { HasServed (number + 1) session.new }
+    ensures same { SameGround session.old session.new }
+    ensures size { D.size device.new ≡ D.size device.old }
+    ensures opening { D.opening device.new ≡ D.opening device.old }
+{
+    let request = Writer { stream: 0, number };
+    add(&mut session.desk, DeskLine::Begin { request });
+    if session.stopped {
+        let answer = Answer::Stopped;
+        add(&mut session.desk, DeskLine::Answer { request, answer });
+        return None;
+    }
+    let place = session.places.len() as u64;
+    let zone = 0;
+    add(&mut session.places, Placed { request, zone, place });
+    let old = mapping_at(&session.entries, at);
+    let written = write(device, &session.layout, session.start, &session.entries, at, block);
+    let (answer, mark) = match written {
+        Written::Stored(target) => {
+            let new = Mapping::At(target);
+            add(&mut session.entries, Entry::Remap { at, old, new });
+            (Answer::Ok, Mark::Settled)
+        }
+        Written::NoRoom => (Answer::Full, Mark::Refused),
+        Written::DataLost(_) => {
+            session.stopped = true;
+            (Answer::Stopped, Mark::Refused)
+        }
+        Written::EntryLost(_) => {
+            session.stopped = true;
+            (Answer::Stopped, Mark::Unsettled)
+        }
+    };
+    add(&mut session.histories, HistoryEntry { at, request, mark });
+    add(&mut session.desk, DeskLine::Answer { request, answer });
+    Some(written)
+}
+
+/// Serves a read, also after a stop.
+pub(crate) fn serve_read<D: Disk>(device: &mut D, session: &mut Session, number: u32, at: Lba)
+    requires named { NamesBelow (D.size device.old) (kept session.old).entries }
+    requires below { number < session.old.limit }
+    requires count { HasServed number session.old }
+    ensures done { ServesRequest (ground session.old.layout.geometry session.old.start (D.opening device.old) D.tells D.honest) number (Read at)
+        (kept session.old) (kept session.new) (seen (D.log device.old) (D.faults device.old) (D.unkept device.old)) (seen (D.log device.new) (D.faults device.new) (D.unkept device.new)) }
+    ensures count { HasServed (number + 1) session.new }
+    ensures same { SameGround session.old session.new }
+    ensures size { D.size device.new ≡ D.size device.old }
+    ensures opening { D.opening device.new ≡ D.opening device.old }
+{
+    let request = Writer { stream: 0, number };
+    add(&mut session.desk, DeskLine::Begin { request });
+    let place = session.places.len() as u64;
+    let zone = 0;
+    add(&mut session.places, Placed { request, zone, place });
+    let mut block = Block::zero();
+    let Ok(()) = read(device, &session.layout, session.start, &session.entries, at, &mut block) else {
+        let answer = Answer::ReadFault;
+        add(&mut session.desk, DeskLine::Answer { request, answer });
+        return;
+    };
+    let answer = Answer::Bytes(block);
+    add(&mut session.desk, DeskLine::Answer { request, answer });
+}
+
+/// Serves a flush.
+pub(crate) fn serve_flush<D: Disk>(device: &mut D, session: &mut Session, number: u32)
+    requires below { number < session.old.limit }
+    requires count { HasServed number session.old }
+    ensures done { ServesRequest (ground session.old.layout.geometry session.old.start (D.opening device.old) D.tells D.honest) number Request.Flush
+        (kept session.old) (kept session.new) (seen (D.log device.old) (D.faults device.old) (D.unkept device.old)) (seen (D.log device.new) (D.faults device.new) (D.unkept device.new)) }
+    ensures count { HasServed (number + 1) session.new }
+    ensures same { SameGround session.old session.new }
+    ensures size { D.size device.new ≡ D.size device.old }
+    ensures opening { D.opening device.new ≡ D.opening device.old }
+{
+    let request = Writer { stream: 0, number };
+    add(&mut session.desk, DeskLine::Begin { request });
+    if session.stopped {
+        let answer = Answer::Stopped;
+        add(&mut session.desk, DeskLine::Answer { request, answer });
+        return;
+    }
+    let Ok(()) = device.flush() else {
+        session.stopped = true;
+        let answer = Answer::Stopped;
+        add(&mut session.desk, DeskLine::Answer { request, answer });
+        return;
+    };
+    let answer = Answer::Ok;
+    add(&mut session.desk, DeskLine::Answer { request, answer });
+}
+
+/// Serves the request with this number.
+pub(crate) fn serve<D: Disk>(device: &mut D, session: &mut Session, number: u32, request: &Request)
+    requires servable { IsServable session.old.layout.geometry.logical request.now }
+    requires size { needed_blocks session.old.layout.geometry ≤ D.size device.old }
+    requires named { NamesBelow (D.size device.old) (kept session.old).entries }
+    requires below { number < session.old.limit }
+    requires count { HasServed number session.old }
+    ensures done { ServesRequest (ground session.old.layout.geometry session.old.start (D.opening device.old) D.tells D.honest) number request.now
+        (kept session.old) (kept session.new) (seen (D.log device.old) (D.faults device.old) (D.unkept device.old)) (seen (D.log device.new) (D.faults device.new) (D.unkept device.new)) }
+    ensures count { HasServed (number + 1) session.new }
+    ensures same { SameGround session.old session.new }
+    ensures size { D.size device.new ≡ D.size device.old }
+    ensures opening { D.opening device.new ≡ D.opening device.old }
+{
+    match request {
+        Request::Write { at, block, .. } => {
+            let _written = serve_write(device, session, number, *at, block);
+        }
+        Request::Read(at) => serve_read(device, session, number, *at),
+        Request::Flush => serve_flush(device, session, number),
+        Request::Discard(_) => unreachable!(),
+    }
+}

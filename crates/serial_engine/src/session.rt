@@ -1,0 +1,50 @@
+ghost use Rattle.std.specs.Prelude.{◌≡◌, ◌≤◌, ◌<◌, ◌*◌, ◌^◌, [], false, vec_capacity, IfOk};
+ghost use Rattle.blk_base.specs.Limits.{IsGeometry};
+
+use blk_base::{Entry, Layout, Super};
+use std::alloc::{AllocError, Global};
+use vdo_model::{DeskLine, HistoryEntry, Placed};
+
+/// What a session keeps while it serves requests. Its lists have room for `limit` requests from the start.
+#[derive(Drop)]
+pub struct Session {
+    pub layout: Layout,
+    /// The sequence of the first journal block.
+    pub start: u64,
+    pub limit: usize,
+    pub desk: Vec<DeskLine>,
+    pub places: Vec<Placed>,
+    pub histories: Vec<HistoryEntry>,
+    /// The entries of the writes that were stored.
+    pub entries: Vec<Entry>,
+    /// Whether a write or flush of the device failed.
+    pub stopped: bool,
+    ghost starts: { start < 2 ^ 54 },
+    ghost few: { limit ≤ 1024 },
+    ghost desk_room: { 2 * limit ≤ vec_capacity desk },
+    ghost places_room: { limit ≤ vec_capacity places },
+    ghost histories_room: { limit ≤ vec_capacity histories },
+    ghost entries_room: { limit ≤ vec_capacity entries },
+}
+
+impl Session {
+    /// A session over an image, before its first request. It has room for `limit` requests, at most 1024.
+    pub fn begin(alloc: Global, head: &Super, limit: usize) -> Result<Session, AllocError>
+        requires sizes { IsGeometry head.now.geometry }
+        requires start { head.now.start < 2 ^ 54 }
+        requires few { limit ≤ 1024 }
+        ensures { IfOk result (λ session. (session.layout.geometry ≡ head.now.geometry) × (session.start ≡ head.now.start) × (session.limit ≡ limit)
+            × (session.desk.items ≡ []) × (session.places.items ≡ []) × (session.histories.items ≡ []) × (session.entries.items ≡ []) × (session.stopped ≡ false)) }
+    {
+        Ok(Session {
+            layout: Layout::of(&head.geometry),
+            start: head.start,
+            limit,
+            desk: Vec::with_capacity(alloc, 2 * limit)?,
+            places: Vec::with_capacity(alloc, limit)?,
+            histories: Vec::with_capacity(alloc, limit)?,
+            entries: Vec::with_capacity(alloc, limit)?,
+            stopped: false,
+        })
+    }
+}

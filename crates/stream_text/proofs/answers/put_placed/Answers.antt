@@ -1,0 +1,36 @@
+use Rattle.std.proofs.Common.{◌++◌}
+use Rattle.std.specs.Prelude.{codes, decimal}
+use Rattle.stream_text.proofs.PutLaws.{on_err, second_failed, both_pieces, part_of_first, part_of_second}
+use Rattle.stream_text.proofs.answers.put_placed.Goals as goal
+
+pub returns-in_err-put-clause-err : goal.returns-in_err-put-clause-err
+returns-in_err-put-clause-err g c = λ tells.
+    let zone = decimal c.args.placed.zone in
+    let place = decimal c.args.placed.place in
+    on_err c.from_residual.result _ (part_of_first _ _ (codes " z" ++ zone ++ codes ":") place
+    (part_of_first _ _ (codes " z" ++ zone) (codes ":") (part_of_first _ _ (codes " z") zone (c.in_err-put.ensures.err tells))))
+
+pub returns-in_err-put_number-clause-err : goal.returns-in_err-put_number-clause-err
+returns-in_err-put_number-clause-err g c = λ tells.
+    let zone = decimal c.args.placed.zone in
+    let place = decimal c.args.placed.place in
+    on_err c.from_residual-in_err-put_number.result _ (part_of_first _ _ (codes " z" ++ zone ++ codes ":") place
+    (part_of_first _ _ (codes " z" ++ zone) (codes ":")
+    (part_of_second _ _ _ (codes " z") zone (c.in_ok-put.ensures.ok tells) (c.in_err-put_number.ensures.err tells))))
+
+pub returns-in_err-put-2-clause-err : goal.returns-in_err-put-2-clause-err
+returns-in_err-put-2-clause-err g c = λ tells.
+    let zone = decimal c.args.placed.zone in
+    let place = decimal c.args.placed.place in
+    on_err c.from_residual-in_err-put-2.result _ (part_of_first _ _ (codes " z" ++ zone ++ codes ":") place
+    (part_of_second _ _ _ (codes " z" ++ zone) (codes ":")
+    (both_pieces _ _ _ (codes " z") zone (c.in_ok-put.ensures.ok tells) (c.in_ok-put_number.ensures.ok tells)) (c.in_err-put-2.ensures.err tells)))
+
+pub returns-clause-err : goal.returns-clause-err
+returns-clause-err g c = λ tells.
+    let zone = decimal c.args.placed.zone in
+    let place = decimal c.args.placed.place in
+    second_failed c.put_number-2.result _ _ _ (codes " z" ++ zone ++ codes ":") place
+    (both_pieces _ _ _ (codes " z" ++ zone) (codes ":")
+    (both_pieces _ _ _ (codes " z") zone (c.in_ok-put.ensures.ok tells) (c.in_ok-put_number.ensures.ok tells)) (c.in_ok-put-2.ensures.ok tells))
+    (c.put_number-2.ensures.err tells)

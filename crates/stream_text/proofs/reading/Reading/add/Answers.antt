@@ -1,0 +1,10 @@
+use Rattle.std.proofs.Common.{◌≤◌, length, sym, arith, eqb-true}
+use Rattle.stream_text.proofs.ReadingLaws.{refuses, refuses_long}
+use Rattle.stream_text.proofs.reading.Reading.add.Goals as goal
+
+pub returns-then-is_full-clause-refused : goal.returns-then-is_full-clause-refused
+returns-then-is_full-clause-refused c = λ rest.
+    let self = c.args.self.now in
+    let full : 64 ≤ length self.line.items = omega (arith, eqb-true _ _ (sym c.if-is_full.ensures.value)) in
+    refuses c.refusal.result _ _ c.refusal.ensures
+    (refuses_long self.logical self.requests.items self.line.items c.args.byte rest self.sound.one_line c.if-byte-eq10.false full)

@@ -1,0 +1,170 @@
+ghost use Rattle.std.specs.Prelude.{◌≡◌, ◌++◌, Some, reverse, codes, decimal, IsTrue, OnOk, OnErr};
+ghost use Rattle.disk_model.specs.Causes.{HasCause};
+ghost use Rattle.vdo_model.specs.DeskLog.{answer_of};
+ghost use Rattle.vdo_model.specs.Places.{place_of};
+ghost use Rattle.stream_text.specs.Puts.{PutsPart};
+ghost use Rattle.stream_text.specs.Texts.{request_text, answer_text, place_text, line_text, stream_text, answers_text, writer};
+
+use crate::puts::put_number;
+use crate::runs::put_runs;
+use crate::search::{find_answer, find_place};
+use blk_base::{Answer, Lba, Request};
+use disk_model::{Failed, Sink};
+use vdo_model::{DeskLine, Placed, Requests, RunReport};
+
+fn put_command<K: Sink>(command: &[u8], at: Lba, out: &mut K) -> Result<(), Failed>
+    ensures ok { IsTrue K.tells → OnOk result (K.holds out.new ≡ K.holds out.old ++ (command.now ++ decimal at.0)) }
+    ensures err { IsTrue K.tells → OnErr result (PutsPart (K.holds out.old) (K.holds out.new) (command.now ++ decimal at.0)) }
+    ensures cause { HasCause (K.faults out.old) (K.faults out.new) result }
+{
+    out.put(command)?;
+    put_number(at.0 as u64, out)
+}
+
+fn put_request<K: Sink>(request: &Request, out: &mut K) -> Result<(), Failed>
+    ensures ok { IsTrue K.tells → OnOk result (K.holds out.new ≡ K.holds out.old ++ request_text request.now) }
+    ensures err { IsTrue K.tells → OnErr result (PutsPart (K.holds out.old) (K.holds out.new) (request_text request.now)) }
+    ensures cause { HasCause (K.faults out.old) (K.faults out.new) result }
+{
+    match request {
+        Request::Read(at) => put_command(b"read ", *at, out),
+        Request::Write { at, .. } => put_command(b"write ", *at, out),
+        Request::Discard(at) => put_command(b"discard ", *at, out),
+        Request::Flush => out.put(b"flush"),
+    }
+}
+
+fn put_answer<K: Sink>(answer: &Answer, out: &mut K) -> Result<(), Failed>
+    ensures ok { IsTrue K.tells → OnOk result (K.holds out.new ≡ K.holds out.old ++ answer_text answer.now) }
+    ensures err { IsTrue K.tells → OnErr result (PutsPart (K.holds out.old) (K.holds out.new) (answer_text answer.now)) }
+    ensures cause { HasCause (K.faults out.old) (K.faults out.new) result }
+{
+    match answer {
+        Answer::Ok => out.put(b"ok"),
+        Answer::Bytes(block) => put_runs(&block.bytes, out),
+        Answer::Range => out.put(b"range"),
+        Answer::NoSpace => out.put(b"no space"),
+        Answer::Full => out.put(b"full"),
+        Answer::ReadFault => out.put(b"read fault"),
+        Answer::Stopped => out.put(b"stopped"),
+        Answer::Damaged => out.put(b"damaged"),
+    }
+}
+
+fn put_placed<K: Sink>(placed: Placed, out: &mut K) -> Result<(), Failed>
+    ensures ok { IsTrue K.tells → OnOk result (K.holds out.new
+        ≡ K.holds out.old ++ (codes " z" ++ decimal placed.zone ++ codes ":" ++ decimal placed.place)) }
+    ensures err { IsTrue K.tells → OnErr result (PutsPart (K.holds out.old) (K.holds out.new)
+        (codes " z" ++ decimal placed.zone ++ codes ":" ++ decimal placed.place)) }
+    ensures cause { HasCause (K.faults out.old) (K.faults out.new) result }
+{
+    out.put(b" z")?;
+    put_number(placed.zone as u64, out)?;
+    out.put(b":")?;
+    put_number(placed.place, out)
+}
+
+fn put_place<K: Sink>(place: Option<Placed>, out: &mut K) -> Result<(), Failed>
+    ensures ok { IsTrue K.tells → OnOk result (K.holds out.new ≡ K.holds out.old ++ place_text place) }
+    ensures err { IsTrue K.tells → OnErr result (PutsPart (K.holds out.old) (K.holds out.new) (place_text place)) }
+    ensures cause { HasCause (K.faults out.old) (K.faults out.new) result }
+{
+    match place {
+        Some(placed) => put_placed(placed, out),
+        None => Ok(()),
+    }
+}
+
+fn put_name<K: Sink>(stream: u8, number: usize, out: &mut K) -> Result<(), Failed>
+    ensures ok { IsTrue K.tells → OnOk result (K.holds out.new ≡ K.holds out.old ++ (decimal stream ++ codes " " ++ decimal number ++ codes " ")) }
+    ensures err { IsTrue K.tells → OnErr result (PutsPart (K.holds out.old) (K.holds out.new) (decimal stream ++ codes " " ++ decimal number ++ codes " ")) }
+    ensures cause { HasCause (K.faults out.old) (K.faults out.new) result }
+{
+    put_number(stream as u64, out)?;
+    out.put(b" ")?;
+    put_number(number as u64, out)?;
+    out.put(b" ")
+}
+
+fn put_line<K: Sink>(
+    stream: u8,
+    number: usize,
+    request: &Request,
+    answer: &Answer,
+    place: Option<Placed>,
+    out: &mut K,
+) -> Result<(), Failed>
+    ensures ok { IsTrue K.tells → OnOk result (K.holds out.new
+        ≡ K.holds out.old ++ line_text (writer stream number) request.now (Some answer.now) place) }
+    ensures err { IsTrue K.tells → OnErr result (PutsPart (K.holds out.old) (K.holds out.new)
+        (line_text (writer stream number) request.now (Some answer.now) place)) }
+    ensures cause { HasCause (K.faults out.old) (K.faults out.new) result }
+{
+    put_name(stream, number, out)?;
+    put_request(request, out)?;
+    out.put(b" ")?;
+    put_answer(answer, out)?;
+    put_place(place, out)?;
+    out.put(b"\n")
+}
+
+fn put_answered<K: Sink>(
+    desk: &[DeskLine],
+    places: &[Placed],
+    stream: u8,
+    number: usize,
+    request: &Request,
+    out: &mut K,
+) -> Result<(), Failed>
+    ensures ok { IsTrue K.tells → OnOk result (K.holds out.new ≡ K.holds out.old ++ line_text (writer stream number) request.now
+        (answer_of (reverse desk.now) (writer stream number)) (place_of (reverse places.now) (writer stream number))) }
+    ensures err { IsTrue K.tells → OnErr result (PutsPart (K.holds out.old) (K.holds out.new) (line_text (writer stream number) request.now
+        (answer_of (reverse desk.now) (writer stream number)) (place_of (reverse places.now) (writer stream number)))) }
+    ensures cause { HasCause (K.faults out.old) (K.faults out.new) result }
+{
+    let place = find_place(places, stream, number);
+    match find_answer(desk, stream, number) {
+        Some(answer) => put_line(stream, number, request, answer, place, out),
+        None => Ok(()),
+    }
+}
+
+fn put_stream<K: Sink>(
+    desk: &[DeskLine],
+    places: &[Placed],
+    stream: u8,
+    requests: &[Request],
+    out: &mut K,
+) -> Result<(), Failed>
+    ensures ok { IsTrue K.tells → OnOk result (K.holds out.new
+        ≡ K.holds out.old ++ stream_text (reverse desk.now) (reverse places.now) stream 0 requests.now) }
+    ensures err { IsTrue K.tells → OnErr result (PutsPart (K.holds out.old) (K.holds out.new)
+        (stream_text (reverse desk.now) (reverse places.now) stream 0 requests.now)) }
+    ensures cause { HasCause (K.faults out.old) (K.faults out.new) result }
+{
+    for (number, request) in requests.iter().enumerate() {
+        put_answered(desk, places, stream, number, request, out)?;
+    }
+    Ok(())
+}
+
+/// Puts the line of each answered request, stream after stream, in the order of the requests. It fails where the sink
+/// fails; then a first part of the text was put.
+pub fn put_answers<K: Sink>(
+    requests: &Requests,
+    report: &RunReport,
+    out: &mut K,
+) -> Result<(), Failed>
+    ensures ok { IsTrue K.tells → OnOk result (K.holds out.new
+        ≡ K.holds out.old ++ answers_text requests.now report.now.desk report.now.places) }
+    ensures err { IsTrue K.tells → OnErr result (PutsPart (K.holds out.old) (K.holds out.new)
+        (answers_text requests.now report.now.desk report.now.places)) }
+    ensures cause { HasCause (K.faults out.old) (K.faults out.new) result }
+{
+    let desk = report.desk.as_slice();
+    let places = report.places.as_slice();
+    for stream in 0..16_u8 {
+        put_stream(desk, places, stream, requests.stream(stream), out)?;
+    }
+    Ok(())
+}

@@ -1,0 +1,74 @@
+ghost use Rattle.std.specs.Prelude.{◌≡◌, ◌<◌, ◌≤◌, ◌∷◌, ◌++◌, length, drop, slice_index, codes, IsTrue, OnOk, OnErr};
+ghost use Rattle.disk_model.specs.Causes.{HasCause};
+ghost use Rattle.stream_text.specs.Puts.{PutsPart};
+ghost use Rattle.stream_text.specs.Runs.{run_text, runs_of, runs_text, later_text};
+
+use crate::puts::put_number;
+use disk_model::{Failed, Sink};
+
+/// How often the first byte stands at the front.
+fn first_run(bytes: &[u8]) -> usize
+    requires { 0 < length bytes.now }
+    ensures some { 0 < result }
+    ensures within { result ≤ length bytes.now }
+    ensures run { runs_of bytes.now ≡ record { count = result; byte = slice_index bytes.now 0 } ∷ runs_of (drop result bytes.now) }
+{
+    let first = bytes[0];
+    for (at, byte) in bytes.iter().enumerate() {
+        if *byte != first {
+            return at;
+        }
+    }
+    bytes.len()
+}
+
+fn put_run<K: Sink>(count: usize, byte: u8, out: &mut K) -> Result<(), Failed>
+    ensures ok { IsTrue K.tells → OnOk result (K.holds out.new ≡ K.holds out.old ++ run_text (record { count = count; byte = byte })) }
+    ensures err { IsTrue K.tells → OnErr result (PutsPart (K.holds out.old) (K.holds out.new) (run_text (record { count = count; byte = byte }))) }
+    ensures cause { HasCause (K.faults out.old) (K.faults out.new) result }
+{
+    let mut digits = [0; 2];
+    let Ok(()) = hex::encode_to_slice([byte], &mut digits) else {
+        unreachable!()
+    };
+    put_number(count as u64, out)?;
+    out.put(b"*")?;
+    out.put(&digits)
+}
+
+fn put_later_runs<K: Sink>(bytes: &[u8], out: &mut K) -> Result<(), Failed>
+    ensures ok { IsTrue K.tells → OnOk result (K.holds out.new ≡ K.holds out.old ++ later_text (runs_of bytes.now)) }
+    ensures err { IsTrue K.tells → OnErr result (PutsPart (K.holds out.old) (K.holds out.new) (later_text (runs_of bytes.now))) }
+    ensures cause { HasCause (K.faults out.old) (K.faults out.new) result }
+{
+    let mut at = 0;
+    while at < bytes.len() {
+        let count = first_run(&bytes[at..]);
+        put_later_run(count, bytes[at], out)?;
+        at += count;
+    }
+    Ok(())
+}
+
+fn put_later_run<K: Sink>(count: usize, byte: u8, out: &mut K) -> Result<(), Failed>
+    ensures ok { IsTrue K.tells → OnOk result (K.holds out.new ≡ K.holds out.old ++ (codes "+" ++ run_text (record { count = count; byte = byte }))) }
+    ensures err { IsTrue K.tells → OnErr result (PutsPart (K.holds out.old) (K.holds out.new) (codes "+" ++ run_text (record { count = count; byte = byte }))) }
+    ensures cause { HasCause (K.faults out.old) (K.faults out.new) result }
+{
+    out.put(b"+")?;
+    put_run(count, byte, out)
+}
+
+/// Puts bytes as their longest runs.
+pub fn put_runs<K: Sink>(bytes: &[u8], out: &mut K) -> Result<(), Failed>
+    ensures ok { IsTrue K.tells → OnOk result (K.holds out.new ≡ K.holds out.old ++ runs_text (runs_of bytes.now)) }
+    ensures err { IsTrue K.tells → OnErr result (PutsPart (K.holds out.old) (K.holds out.new) (runs_text (runs_of bytes.now))) }
+    ensures cause { HasCause (K.faults out.old) (K.faults out.new) result }
+{
+    if bytes.is_empty() {
+        return Ok(());
+    }
+    let count = first_run(bytes);
+    put_run(count, bytes[0], out)?;
+    put_later_runs(&bytes[count..], out)
+}

@@ -1,0 +1,4 @@
+pub mod Commands
+pub mod Endings
+pub mod Texts
+pub mod Runs

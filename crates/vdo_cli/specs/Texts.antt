@@ -1,0 +1,81 @@
+-- The texts and the statuses of a run.
+use Rattle.std.specs.Prelude.{ℕ, ◌++◌, ◌||◌, Bool, true, false, List, [], ◌∷◌, codes, decimal, if◌then◌else◌}
+use Rattle.blk_base.specs.declared.request.Answer.{Answer as Reply}
+use Rattle.blk_base.specs.declared.request.Answer.TheVariants as reply
+use Rattle.image_layout.specs.declared.fault.ImageFault.TheVariants as image
+use Rattle.image_layout.specs.declared.fault.SuperFault.{SuperFault}
+use Rattle.image_layout.specs.Faults.{super_fault_text}
+use Rattle.stream_text.specs.declared.fault.ScriptFault.{ScriptFault}
+use Rattle.stream_text.specs.declared.fault.ScriptFault.TheVariants as script
+use Rattle.vdo_model.specs.declared.report.DeskLine.{DeskLine}
+use Rattle.vdo_model.specs.declared.report.DeskLine.TheVariants.{Begin, Answer}
+use Rattle.vdo_cli.specs.declared.fault.Fault.{Fault}
+use Rattle.vdo_cli.specs.declared.fault.Fault.TheVariants as fault
+
+-- the line of a superblock that is refused
+abbrev pub super_fault_line : SuperFault → List ℕ
+super_fault_line why = codes "bad image: " ++ super_fault_text why ++ codes "\n"
+
+-- the number of the line that is refused
+abbrev pub line_of : ScriptFault → ℕ
+line_of (script.Later line) = line
+
+-- the line of a script that is refused
+abbrev pub script_fault_line : ScriptFault → List ℕ
+script_fault_line why = codes "script line " ++ decimal (line_of why) ++ codes ": later\n"
+
+-- the line of a fault
+abbrev pub fault_text : Fault → List ℕ
+fault_text fault.Usage = codes "usage\n"
+fault_text (fault.Script why) = script_fault_line why
+fault_text fault.Device = codes "device fault\n"
+fault_text (fault.Image (image.Super why)) = super_fault_line why
+fault_text fault.Memory = codes "no memory\n"
+fault_text fault.Read = codes "read fault\n"
+fault_text fault.Sink = []
+
+-- the status of a fault
+abbrev pub fault_status : Fault → ℕ
+fault_status fault.Usage = 2
+fault_status (fault.Script why) = 2
+fault_status fault.Device = 3
+fault_status (fault.Image why) = 4
+fault_status fault.Memory = 5
+fault_status fault.Read = 7
+fault_status fault.Sink = 7
+
+-- an answer that says that the device failed
+abbrev pub is_lost : Reply → Bool
+is_lost reply.Stopped = true
+is_lost reply.ReadFault = true
+is_lost reply.Ok = false
+is_lost (reply.Bytes bytes) = false
+is_lost reply.Range = false
+is_lost reply.NoSpace = false
+is_lost reply.Full = false
+is_lost reply.Damaged = false
+
+abbrev pub is_full : Reply → Bool
+is_full reply.Full = true
+is_full reply.Stopped = false
+is_full reply.ReadFault = false
+is_full reply.Ok = false
+is_full (reply.Bytes bytes) = false
+is_full reply.Range = false
+is_full reply.NoSpace = false
+is_full reply.Damaged = false
+
+-- a request was answered so
+abbrev pub some_lost : List DeskLine → Bool
+some_lost [] = false
+some_lost (Begin w ∷ older) = some_lost older
+some_lost (Answer w a ∷ older) = is_lost a || some_lost older
+
+abbrev pub some_full : List DeskLine → Bool
+some_full [] = false
+some_full (Begin w ∷ older) = some_full older
+some_full (Answer w a ∷ older) = is_full a || some_full older
+
+-- the status of a session whose answers were all put
+abbrev pub desk_status : List DeskLine → ℕ
+desk_status desk = if some_lost desk then 3 else (if some_full desk then 1 else 0)

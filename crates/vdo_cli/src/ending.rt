@@ -1,0 +1,120 @@
+ghost use Rattle.std.specs.Prelude.{◌≡◌, ◌++◌, IsTrue, OnOk, OnErr, reverse};
+ghost use Rattle.disk_model.specs.Causes.{HasCause};
+ghost use Rattle.stream_text.specs.Puts.{PutsPart};
+ghost use Rattle.vdo_cli.specs.Texts.{fault_text, fault_status, super_fault_line, script_fault_line, line_of, some_lost, some_full, desk_status};
+
+use crate::Fault;
+use blk_base::Answer;
+use disk_model::{Failed, Sink};
+use image_layout::{ImageFault, SuperFault};
+use stream_text::ScriptFault;
+use vdo_model::DeskLine;
+
+// Puts three pieces of a text.
+fn put_three<K: Sink>(out: &mut K, first: &[u8], second: &[u8], third: &[u8]) -> Result<(), Failed>
+    ensures ok { IsTrue K.tells → OnOk result (K.holds out.new ≡ K.holds out.old ++ (first.now ++ (second.now ++ third.now))) }
+    ensures err { IsTrue K.tells → OnErr result (PutsPart (K.holds out.old) (K.holds out.new) (first.now ++ (second.now ++ third.now))) }
+    ensures cause { HasCause (K.faults out.old) (K.faults out.new) result }
+{
+    let Ok(()) = out.put(first) else {
+        return Err(Failed);
+    };
+    let Ok(()) = out.put(second) else {
+        return Err(Failed);
+    };
+    let Ok(()) = out.put(third) else {
+        return Err(Failed);
+    };
+    Ok(())
+}
+
+// Puts the line of a superblock that is refused.
+fn put_super_fault<K: Sink>(fault: SuperFault, out: &mut K) -> Result<(), Failed>
+    ensures ok { IsTrue K.tells → OnOk result (K.holds out.new ≡ K.holds out.old ++ super_fault_line fault) }
+    ensures err { IsTrue K.tells → OnErr result (PutsPart (K.holds out.old) (K.holds out.new) (super_fault_line fault)) }
+    ensures cause { HasCause (K.faults out.old) (K.faults out.new) result }
+{
+    match fault {
+        SuperFault::NotAnImage => out.put(b"bad image: not an image\n"),
+        SuperFault::Version(found) => {
+            let mut buffer = itoa::Buffer::new();
+            put_three(out, b"bad image: version ", buffer.format(found).as_bytes(), b"\n")
+        }
+        SuperFault::BadField(field) => put_three(out, b"bad image: field ", field.name().as_bytes(), b"\n"),
+    }
+}
+
+// The number of the line that is refused.
+fn refused_line(fault: ScriptFault) -> u64
+    ensures { result ≡ line_of fault }
+{
+    match fault {
+        ScriptFault::Later { line } => line,
+    }
+}
+
+// Puts the line of a script that is refused.
+fn put_script_fault<K: Sink>(fault: ScriptFault, out: &mut K) -> Result<(), Failed>
+    ensures ok { IsTrue K.tells → OnOk result (K.holds out.new ≡ K.holds out.old ++ script_fault_line fault) }
+    ensures err { IsTrue K.tells → OnErr result (PutsPart (K.holds out.old) (K.holds out.new) (script_fault_line fault)) }
+    ensures cause { HasCause (K.faults out.old) (K.faults out.new) result }
+{
+    let mut buffer = itoa::Buffer::new();
+    put_three(out, b"script line ", buffer.format(refused_line(fault)).as_bytes(), b": later\n")
+}
+
+/// Puts the line of a fault. Where the sink is the fault, nothing is put.
+pub(crate) fn put_fault<K: Sink>(fault: &Fault, out: &mut K) -> Result<(), Failed>
+    ensures ok { IsTrue K.tells → OnOk result (K.holds out.new ≡ K.holds out.old ++ fault_text fault.now) }
+    ensures err { IsTrue K.tells → OnErr result (PutsPart (K.holds out.old) (K.holds out.new) (fault_text fault.now)) }
+    ensures cause { HasCause (K.faults out.old) (K.faults out.new) result }
+{
+    match fault {
+        Fault::Usage => out.put(b"usage\n"),
+        Fault::Script(why) => put_script_fault(*why, out),
+        Fault::Device => out.put(b"device fault\n"),
+        Fault::Image(ImageFault::Super(why)) => put_super_fault(*why, out),
+        Fault::Memory => out.put(b"no memory\n"),
+        Fault::Read => out.put(b"read fault\n"),
+        Fault::Sink => out.put(b""),
+    }
+}
+
+/// The status of a fault.
+pub(crate) fn status_of(fault: &Fault) -> u8
+    ensures { result ≡ fault_status fault.now }
+{
+    match fault {
+        Fault::Usage | Fault::Script(_) => 2,
+        Fault::Device => 3,
+        Fault::Image(_) => 4,
+        Fault::Memory => 5,
+        Fault::Read | Fault::Sink => 7,
+    }
+}
+
+/// Whether a request was answered Stopped or with a read fault.
+pub(crate) fn has_lost(desk: &[DeskLine]) -> bool
+    ensures { result ≡ some_lost (reverse desk.now) }
+{
+    let mut found = false;
+    for line in desk {
+        if let DeskLine::Answer { answer: Answer::Stopped | Answer::ReadFault, .. } = line {
+            found = true;
+        }
+    }
+    found
+}
+
+/// Whether a request was answered Full.
+pub(crate) fn has_full(desk: &[DeskLine]) -> bool
+    ensures { result ≡ some_full (reverse desk.now) }
+{
+    let mut found = false;
+    for line in desk {
+        if let DeskLine::Answer { answer: Answer::Full, .. } = line {
+            found = true;
+        }
+    }
+    found
+}

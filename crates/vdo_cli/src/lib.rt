@@ -1,0 +1,15 @@
+//! The top call: what the program does with its words, a device, a script and a place for its output.
+#![tactic(auto)]
+
+mod adapters;
+mod ending;
+mod fault;
+mod opening;
+mod playing;
+mod running;
+mod words;
+
+pub use adapters::{StdSink, StdSource};
+pub use fault::Fault;
+pub use running::{Ended, run};
+pub use words::Words;
