@@ -1,14 +1,14 @@
 -- Runs of sectors, the prefix of a block, and what a stop within a write leaves of it.
-use Rattle.std.specs.Prelude.{ℕ, zero, suc, ◌≡◌, ◌⊎◌, ◌<◌, ◌≤◌, ◌+◌, ◌-◌, ◌*◌, ◌↔◌, Bool, true, false, IsTrue, List, [], ◌++◌, length, take, drop, flat_map, refl}
+use Rattle.std.specs.Prelude.{ℕ, zero, suc, ◌≡◌, ◌⊎◌, ◌<◌, ◌≤◌, ◌+◌, ◌-◌, ◌*◌, ◌↔◌, Bool, true, false, IsTrue, All, List, [], ◌++◌, length, take, drop, flat_map, refl}
 use Rattle.std.proofs.Common.{sym, ◌∙◌, ap, ap₂, subst, inl, inr, arith, length-append, length-drop}
 use Rattle.std.proofs.lemmas.Bool.{cases_lt}
 use Rattle.std.proofs.lemmas.List.{length-take, take-append-drop, drop-drop, drop-take, take-take, take-append-le, drop-append-le, drop_at, drop_all, take_all, take_min, append-nil, nil_from_length}
-use Rattle.std.proofs.lemmas.List.Elements.{All-take, All-drop}
+use Rattle.std.proofs.lemmas.List.Elements.{All-nil, All-append, All-same, All-take, All-drop}
 use Rattle.blk_base.specs.declared.journal_entry.Entry.{Entry}
 use Rattle.blk_base.specs.Sectors.{sector}
 use Rattle.byte_fields.proofs.FieldLaws.{record_at}
 use Rattle.journal_codec.specs.Spelling.{sector_bytes, entries_in, sector_of, sector_numbers, block_bytes}
-use Rattle.journal_codec.specs.Grammar.{HoldsEntry, HoldsBlock, IsSector, IsRun, IsPrefix, IsTorn}
+use Rattle.journal_codec.specs.Grammar.{joined, HoldsEntry, HoldsBlock, IsSector, IsRun, IsPrefix, IsTorn}
 use Rattle.journal_codec.proofs.SpellingLaws.{few_in, length-sector_of, count_of_sectors, sector_number}
 use Rattle.journal_codec.proofs.ReadLaws.{one_reading}
 
@@ -92,6 +92,78 @@ pub run_unique : (nonce : ℕ) (block : List ℕ) (s h n : ℕ) (xs ys : List En
 run_unique nonce block s h n xs ys run run' =
     same_parts n xs ys run.fits run'.fits
     (λ i lt. (one_reading nonce i (sector i block) s h s h (entries_in i xs) (entries_in i ys) (run.sectors i lt) (run'.sectors i lt)).2)
+
+-- a run is its sectors: their entries in order ..
+
+take-next : (n : ℕ) (es : List Entry) → take (24 * n) es ++ entries_in n es ≡ take (24 * suc n) es
+take-next n es =
+    let place : 24 * n + 24 ≡ 24 * suc n = omega arith in
+    ap₂ (λ f b. f ++ b) (sym (take-take (24 * n) (24 * n + 24) es (omega arith))) (sym (drop-take (24 * n) 24 es))
+    ∙ take-append-drop (24 * n) (take (24 * n + 24) es) ∙ ap (λ k. take k es) place
+
+joined-take : (n : ℕ) (es : List Entry) → joined n (λ i. entries_in i es) ≡ take (24 * n) es
+joined-take zero es = refl
+joined-take (suc n) es = ap (λ f. f ++ entries_in n es) (joined-take n es) ∙ take-next n es
+
+pub run-joined : (nonce : ℕ) (block : List ℕ) (s h n : ℕ) (es : List Entry) → IsRun nonce block s h n es → joined n (λ i. entries_in i es) ≡ es
+run-joined nonce block s h n es run = joined-take n es ∙ take_all (24 * n) es run.fits
+
+-- .. none behind one with fewer than 24 ..
+pub run_is_filled : (nonce : ℕ) (block : List ℕ) (s h n : ℕ) (es : List Entry) → IsRun nonce block s h n es → (i j : ℕ) → i < j → j < n
+    → length (entries_in i es) < 24 → entries_in j es ≡ []
+run_is_filled nonce block s h n es run i j behind lt short =
+    let size = simp (length-take, length-drop) at short in in_none j es (omega (arith, size))
+
+-- .. and each list of sectors that is filled so is a run
+pub run_of_sectors : (nonce : ℕ) (block : List ℕ) (s h n : ℕ) (lists : ℕ → List Entry)
+    → ((i : ℕ) → i < n → IsSector nonce i (sector i block) s h (lists i))
+    → ((i j : ℕ) → i < j → j < n → length (lists i) < 24 → lists j ≡ []) → IsRun nonce block s h n (joined n lists)
+run_of_sectors nonce block s h n lists sectors filled = run n sectors filled
+  where
+    -- while each is full
+    size : (n : ℕ) → ((i : ℕ) → i < n → length (lists i) ≡ 24) → length (joined n lists) ≡ 24 * n
+    size zero full = refl
+    size (suc n) full =
+        let before = size n (λ i lt. full i (omega arith)) in
+        let here = full n (omega arith) in
+        simp length-append (omega (arith, before, here))
+
+    -- all are full, or one isn't
+    split : (n : ℕ) → ((i : ℕ) → i < n → length (lists i) ≤ 24) → ((i : ℕ) → i < n → length (lists i) ≡ 24) ⊎ ((i : ℕ) × (i < n) × (length (lists i) < 24))
+    split zero few = inl (λ i lt. absurd (omega arith))
+    split (suc n) few = elim (split n (λ i lt. few i (omega arith))) [
+      | inl full ↦ elim (cases_lt (length (lists n)) 24) [
+        | inl short ↦ inr (n, omega arith, short)
+        | inr here ↦ let most = few n (omega arith) in inl (λ i lt. elim (cases_lt i n) [
+          | inl below ↦ full i below
+          | inr past ↦ let same : n ≡ i = omega arith in subst (λ (k : ℕ). length (lists k) ≡ 24) same (omega (arith, here, most))
+        ])
+      ]
+      | inr found ↦ inr (found.0, omega (arith, found.1), found.2)
+    ]
+
+    run : (n : ℕ) → ((i : ℕ) → i < n → IsSector nonce i (sector i block) s h (lists i))
+        → ((i j : ℕ) → i < j → j < n → length (lists i) < 24 → lists j ≡ []) → IsRun nonce block s h n (joined n lists)
+    run zero sectors filled = record { fits = omega arith; sectors = λ i lt. absurd (omega arith) }
+    run (suc n) sectors filled =
+        let before = run n (λ i lt. sectors i (omega arith)) (λ i j behind lt. filled i j behind (omega arith)) in
+        let place : n + 1 ≡ suc n = omega arith in
+        let is = sectors n (omega arith) in
+        let more : IsRun nonce block s h (n + 1) (joined n lists ++ lists n) = elim (split n (λ i lt. (sectors i (omega arith)).few)) [
+          | inl full ↦ run-full nonce block s h n (joined n lists) (lists n) (size n full) before is
+          | inr found ↦ run-empty nonce block s h n (joined n lists) (lists n) (ap length (filled found.0 n found.1 (omega arith) found.2)) before is
+        ] in
+        subst (λ (k : ℕ). IsRun nonce block s h k (joined n lists ++ lists n)) place more
+
+-- the form can hold what a run says
+pub run_holds : (nonce : ℕ) (block : List ℕ) (s h n : ℕ) (es : List Entry) → IsRun nonce block s h n es → All HoldsEntry es
+run_holds nonce block s h n es run =
+    All-same HoldsEntry es (joined n (λ i. entries_in i es)) (sym (run-joined nonce block s h n es run)) (each n run.sectors)
+  where
+    each : (n : ℕ) → ((i : ℕ) → i < n → IsSector nonce i (sector i block) s h (entries_in i es)) → All HoldsEntry (joined n (λ i. entries_in i es))
+    each zero sectors = All-nil HoldsEntry
+    each (suc n) sectors =
+        All-append HoldsEntry (joined n (λ i. entries_in i es)) (entries_in n es) (each n (λ i lt. sectors i (omega arith))) (sectors n (omega arith)).each
 
 -- why a run ends: the next sector isn't valid ..
 pub ends-none : (nonce : ℕ) (block : List ℕ) (s h n : ℕ) (more : List Entry)

@@ -1,5 +1,5 @@
 -- When a sector of the journal is valid, and what the prefix of a block is.
-use Rattle.std.specs.Prelude.{ℕ, ◌≡◌, ◌*◌, ◌<◌, ◌≤◌, ◌^◌, ◌↔◌, ◌⊎◌, Bool, IsTrue, List, length, All}
+use Rattle.std.specs.Prelude.{ℕ, zero, suc, ◌≡◌, ◌*◌, ◌<◌, ◌≤◌, ◌^◌, ◌↔◌, ◌⊎◌, Bool, IsTrue, List, [], ◌++◌, length, All}
 use Rattle.blk_base.specs.declared.place.Mapping.{Mapping}
 use Rattle.blk_base.specs.declared.place.Mapping.TheVariants.{Unmapped, Zero, At}
 use Rattle.blk_base.specs.declared.journal_entry.Entry.{Entry}
@@ -43,6 +43,11 @@ IsNoSector nonce number bytes sequence = (head : ℕ) (entries : List Entry) →
 pub record IsRun (nonce : ℕ) (block : List ℕ) (sequence head count : ℕ) (entries : List Entry) : Type 0 where
   pub fits : length entries ≤ 24 * count
   pub sectors : (i : ℕ) → i < count → IsSector nonce i (sector i block) sequence head (entries_in i entries)
+
+-- lists one behind the other, the first n of them
+abbrev pub joined : ℕ → (ℕ → List Entry) → List Entry
+joined zero lists = []
+joined (suc n) lists = joined n lists ++ lists n
 
 -- The prefix of a block: its longest run, of at least one sector. The block is whole where that is all eight.
 pub record IsPrefix (nonce : ℕ) (block : List ℕ) (sequence head : ℕ) (entries : List Entry) (whole : Bool) : Type 0 where

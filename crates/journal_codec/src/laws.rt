@@ -1,8 +1,8 @@
-ghost use Rattle.std.specs.Prelude.{◌≡◌, ◌<◌, ℕ, Bool, true, List, IsTrue, length, take};
+ghost use Rattle.std.specs.Prelude.{◌≡◌, ◌<◌, ℕ, Bool, true, List, [], IsTrue, All, length, take};
 ghost use Rattle.blk_base.specs.declared.journal_entry.Entry.{Entry};
 ghost use Rattle.blk_base.specs.Sectors.{sector};
 ghost use Rattle.journal_codec.specs.Spelling.{entries_in, block_bytes};
-ghost use Rattle.journal_codec.specs.Grammar.{HoldsBlock, IsSector, IsPrefix, IsTorn};
+ghost use Rattle.journal_codec.specs.Grammar.{HoldsEntry, HoldsBlock, joined, IsSector, IsRun, IsPrefix, IsTorn};
 
 /// Bytes say one sector, if they are a valid one, and a block has one prefix, if it has one.
 pub fn bytes_have_one_reading()
@@ -10,6 +10,20 @@ pub fn bytes_have_one_reading()
         → IsSector nonce number bytes s h es → IsSector nonce number bytes s' h' es' → (s ≡ s') × (h ≡ h') × (es ≡ es') }
     ensures blocks { (nonce : ℕ) (block : List ℕ) (s h s' h' : ℕ) (es es' : List Entry) (w w' : Bool)
         → IsPrefix nonce block s h es w → IsPrefix nonce block s' h' es' w' → (s ≡ s') × (h ≡ h') × (es ≡ es') × (w ≡ w') }
+{}
+
+/// A run of a block is a list of its sectors: each is valid and has the run's sequence and head, those behind one with
+/// fewer than 24 entries have none, and the run's entries are theirs in order. The format can hold each of them.
+pub fn a_run_is_its_sectors()
+    ensures order { (nonce : ℕ) (block : List ℕ) (s h n : ℕ) (es : List Entry) → IsRun nonce block s h n es
+        → joined n (λ i. entries_in i es) ≡ es }
+    ensures filled { (nonce : ℕ) (block : List ℕ) (s h n : ℕ) (es : List Entry) → IsRun nonce block s h n es
+        → (i j : ℕ) → i < j → j < n → length (entries_in i es) < 24 → entries_in j es ≡ [] }
+    ensures each { (nonce : ℕ) (block : List ℕ) (s h n : ℕ) (lists : ℕ → List Entry)
+        → ((i : ℕ) → i < n → IsSector nonce i (sector i block) s h (lists i))
+        → ((i j : ℕ) → i < j → j < n → length (lists i) < 24 → lists j ≡ [])
+        → IsRun nonce block s h n (joined n lists) }
+    ensures held { (nonce : ℕ) (block : List ℕ) (s h n : ℕ) (es : List Entry) → IsRun nonce block s h n es → All HoldsEntry es }
 {}
 
 /// A block that the format can hold is read back as it was written: each sector has its part of the entries, and the

@@ -24,6 +24,11 @@
 //! | 18 | two zeros |
 //!
 //! A mapping's first byte is 0 for unmapped, with block 0, and else 1; then comes the block, where 0 stands for zeros.
+//!
+//! A sector is valid if it has this form with the reader's nonce and its own number, at most 24 entries, a sequence
+//! below 2^55 that isn't 0, no head above it, and if each new page is of one of the 60 trees and its block isn't 0
+//! (`specs/Grammar.antt`). A block's prefix is the longest list of sectors from sector 0 on that are valid, have sector
+//! 0's sequence and head, and have no entries behind a sector with fewer than 24. It is whole if it has all eight.
 #![tactic(auto)]
 
 mod entries;
@@ -34,7 +39,10 @@ mod writing;
 
 pub use entries::Entries;
 pub use forms::{JournalBlock, Prefix, Sector};
-pub use laws::{a_torn_write_leaves_a_prefix, bytes_have_one_reading, what_is_written_is_read};
+pub use laws::{
+    a_run_is_its_sectors, a_torn_write_leaves_a_prefix, bytes_have_one_reading,
+    what_is_written_is_read,
+};
 pub use reading::{block_prefix, sector};
 pub use writing::encode;
 

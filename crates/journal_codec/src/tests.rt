@@ -1,4 +1,7 @@
-use crate::{Entries, JournalBlock, block_prefix, encode, sector};
+use crate::{
+    Entries, JournalBlock, a_run_is_its_sectors, a_torn_write_leaves_a_prefix, block_prefix,
+    bytes_have_one_reading, encode, sector, what_is_written_is_read,
+};
 use blk_base::{Block, Entry, Lba, Mapping, PageId, Pbn};
 
 // The bytes of these tests were computed from the tables of this crate by a program of another language.
@@ -161,6 +164,10 @@ fn a_whole_block_is_read_back(rt: HostRuntime) {
     assert_eq!(rt; full.entries.as_slice(), first_entries(192).as_slice());
     assert!(rt; full.whole);
     assert!(rt; block_prefix(&first(30), NONCE - 1).is_none());
+    bytes_have_one_reading();
+    what_is_written_is_read();
+    a_run_is_its_sectors();
+    a_torn_write_leaves_a_prefix();
 }
 
 #[test]

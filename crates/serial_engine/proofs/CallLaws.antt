@@ -1,5 +1,5 @@
 -- After a write or flush of the device that failed, a session makes no other.
-use Rattle.std.proofs.Common.{ℕ, ◌≡◌, ◌⊎◌, ◌++◌, Bool, true, false, IsTrue, List, [], ◌∷◌, refl, sym, ◌∙◌, ap, inl, inr}
+use Rattle.std.proofs.Common.{ℕ, ◌≡◌, ◌⊎◌, ◌++◌, Bool, true, false, IsTrue, List, [], ◌∷◌, refl, ap, inl, inr}
 use Rattle.blk_base.specs.declared.place.Mapping.{Mapping}
 use Rattle.blk_base.specs.declared.place.Mapping.TheVariants.{Unmapped, Zero, At}
 use Rattle.blk_base.specs.declared.place.Pbn.{Pbn}
@@ -7,7 +7,7 @@ use Rattle.disk_model.specs.declared.call.Call.{Call}
 use Rattle.disk_model.specs.declared.call.Call.TheVariants.{Read, Write, Flush}
 use Rattle.disk_model.specs.Telling.{FailedInLog}
 use Rattle.serial_engine.specs.Blocks.{entries_of, mapping_of}
-use Rattle.serial_engine.specs.Served.{Ground, Seen, AllServed, StoreFails, ReadGives, ReadFails, stored}
+use Rattle.serial_engine.specs.Served.{Ground, Seen, AllServed, ReadGives, ReadFails, stored}
 use Rattle.serial_engine.specs.Sessions.{NoneFailed, StopsAtFailure, SinceThen}
 use Rattle.serial_engine.specs.Story.{Served, Stored, NoRoom, DataLost, EntryLost, WriteStopped, Given, NotGiven, Flushed, FlushLost, FlushStopped, is_stopped}
 

@@ -1,24 +1,22 @@
 -- The data block of each stored write has the write's bytes, whatever a stop leaves, for as long as the session lasts.
-use Rattle.std.proofs.Common.{ℕ, ◌≡◌, ◌≢◌, ◌⊎◌, ◌++◌, ◌+◌, ◌*◌, ◌/◌, ◌%◌, ◌<◌, ◌≤◌, ◌==◌, ◌||◌, Bool, true, false, IsTrue, List, [], ◌∷◌, Some, length, slice_get, refl, sym, ◌∙◌, ap, subst, inl, inr, arith}
+use Rattle.std.proofs.Common.{ℕ, ◌≡◌, ◌⊎◌, ◌<◌, ◌≤◌, ◌==◌, ◌||◌, Bool, true, false, IsTrue, List, [], ◌∷◌, refl, inl, inr, arith}
 use Rattle.std.specs.List.{AllByRecursion}
 use Rattle.std.proofs.lemmas.Bool.Decides.{eqb_tells}
 use Rattle.std.proofs.lemmas.Nat.{mod_below}
 use Rattle.blk_base.specs.Regions.{first_slab_of}
 use Rattle.blk_base.specs.declared.geometry.Geometry.{Geometry}
 use Rattle.blk_base.specs.declared.journal_entry.Entry.{Entry}
-use Rattle.blk_base.specs.declared.place.Lba.{Lba}
 use Rattle.blk_base.specs.declared.place.Mapping.{Mapping}
 use Rattle.blk_base.specs.declared.place.Mapping.TheVariants.{Unmapped, Zero, At}
 use Rattle.blk_base.specs.declared.place.Pbn.{Pbn}
 use Rattle.disk_model.specs.declared.call.Call.{Call}
 use Rattle.disk_model.specs.declared.call.Call.TheVariants.{Read, Write, Flush}
-use Rattle.disk_model.specs.Log.{Misses, contents, settled}
+use Rattle.disk_model.specs.Log.{Misses, contents}
 use Rattle.disk_model.proofs.ImageLaws.{settled-write, kept}
 use Rattle.disk_model.specs.Telling.{FailedInLog}
-use Rattle.serial_engine.specs.Blocks.{entries_of, mapping_of, is_named, is_at, remap, data_number, slot_number, IsNextBlock}
-use Rattle.serial_engine.specs.Served.{Ground, Seen, AllServed, Serves, StoreFails, ReadGives, ReadFails, HasRoom, IsNextSlot, next_sequence, journal_bytes, stored}
-use Rattle.serial_engine.specs.Story.{Served, Stored, NoRoom, DataLost, EntryLost, WriteStopped, Given, NotGiven, Flushed, FlushLost, FlushStopped, is_stopped}
-use Rattle.serial_engine.proofs.StepLaws.{bool_cases}
+use Rattle.serial_engine.specs.Blocks.{entries_of, mapping_of, is_named, remap, data_number}
+use Rattle.serial_engine.specs.Served.{Ground, Seen, AllServed, ReadGives, ReadFails, HasRoom, IsNextSlot, next_sequence, journal_bytes, stored}
+use Rattle.serial_engine.specs.Story.{Served, Stored, NoRoom, DataLost, EntryLost, WriteStopped, Given, NotGiven, Flushed, FlushLost, FlushStopped}
 
 -- each content that a stop may leave in this block is this one
 abbrev pub Stands : Ground → ℕ → List ℕ → List Call → Type 0

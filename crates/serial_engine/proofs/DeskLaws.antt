@@ -1,5 +1,5 @@
 -- The desk log, the places and the histories of a story are right.
-use Rattle.std.proofs.Common.{ℕ, zero, suc, ◌≡◌, ◌+◌, ◌<◌, ◌≤◌, ◌⊎◌, ◌==◌, ◌++◌, ◌%◌, Bool, true, false, List, [], ◌∷◌, Option, Some, None, IsSome, IsNone, length, slice_get, if◌then◌else◌, refl, sym, ◌∙◌, ap, subst, inl, inr, arith}
+use Rattle.std.proofs.Common.{ℕ, ◌≡◌, ◌+◌, ◌<◌, ◌≤◌, ◌==◌, ◌++◌, Bool, true, false, List, [], ◌∷◌, Option, Some, None, IsSome, IsNone, length, slice_get, if◌then◌else◌, refl, sym, ◌∙◌, ap, inl, inr, arith}
 use Rattle.std.proofs.lemmas.Bool.Decides.{eqb_tells}
 use Rattle.std.specs.List.{AllByRecursion}
 use Rattle.std.specs.Option.{option_map}
@@ -9,9 +9,9 @@ use Rattle.blk_base.specs.declared.request.Writer.{Writer}
 use Rattle.vdo_model.specs.declared.report.DeskLine.{DeskLine}
 use Rattle.vdo_model.specs.declared.report.HistoryEntry.{HistoryEntry}
 use Rattle.vdo_model.specs.declared.report.Placed.{Placed}
-use Rattle.vdo_model.specs.Scripts.{request_at, address_of, same_writer}
+use Rattle.vdo_model.specs.Scripts.{address_of}
 use Rattle.vdo_model.specs.DeskLog.{begun, answered, answer_of, before_begin, IsDeskLog, AllAnswered}
-use Rattle.vdo_model.specs.Places.{drawn, place_of, AreDrawn, ArePlaces, Follows, IsOfZone, IsNextPlace}
+use Rattle.vdo_model.specs.Places.{drawn, place_of, AreDrawn, ArePlaces, Follows}
 use Rattle.vdo_model.specs.Histories.{mark_of, histories_of}
 use Rattle.vdo_model.specs.Histories as model
 use Rattle.vdo_model.specs.RightRuns.{RunRight}

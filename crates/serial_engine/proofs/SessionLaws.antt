@@ -1,24 +1,21 @@
 -- What a served story makes of its session.
-use Rattle.std.proofs.Common.{ℕ, zero, suc, ◌≡◌, ◌⊎◌, ◌+◌, ◌<◌, ◌≤◌, ◌||◌, Bool, true, false, IsTrue, List, [], ◌∷◌, Option, Some, None, length, slice_get, refl, sym, ◌∙◌, ap, subst, inl, inr, arith}
-use Rattle.std.specs.List.{AllByRecursion}
+use Rattle.std.proofs.Common.{ℕ, zero, suc, ◌≡◌, ◌<◌, ◌≤◌, true, List, [], ◌∷◌, Option, Some, None, length, slice_get, refl, sym, ◌∙◌, ap, subst, inl, inr, arith}
 use Rattle.std.specs.Option.{option_map}
 use Rattle.blk_base.specs.declared.place.Mapping.{Mapping}
 use Rattle.blk_base.specs.declared.place.Mapping.TheVariants.{Unmapped, Zero, At}
-use Rattle.blk_base.specs.declared.request.Answer.TheVariants.{Stopped, ReadFault}
 use Rattle.blk_base.specs.declared.request.Request.{Request}
 use Rattle.blk_base.specs.declared.request.Request.TheVariants.{Read, Write, Discard, Flush}
-use Rattle.blk_base.specs.declared.request.Writer.{Writer}
 use Rattle.disk_model.specs.Causes.{Rose}
 use Rattle.vdo_model.specs.DeskLog.{answer_of}
-use Rattle.vdo_model.specs.Scripts.{request_at, address_of}
+use Rattle.vdo_model.specs.Scripts.{address_of}
 use Rattle.vdo_model.specs.Servable.{IsServable, AreServable}
 use Rattle.serial_engine.specs.Blocks.{entries_of, mapping_of}
 use Rattle.serial_engine.specs.Served.{Ground, Seen, AllServed, ReadFails}
 use Rattle.serial_engine.specs.Sessions.{IsSession, HasFault}
-use Rattle.serial_engine.specs.Story.{Served, Stored, NoRoom, DataLost, EntryLost, WriteStopped, Given, NotGiven, Flushed, FlushLost, FlushStopped, request_of, reply_of, is_stopped, is_stop, name, desk_of, places_of, marks_of, AreServed}
+use Rattle.serial_engine.specs.Story.{Served, Stored, NoRoom, DataLost, EntryLost, WriteStopped, Given, NotGiven, Flushed, FlushLost, FlushStopped, reply_of, is_stopped, name, desk_of, places_of, marks_of, AreServed}
 use Rattle.serial_engine.proofs.CallLaws.{stops_since}
 use Rattle.serial_engine.proofs.DeskLaws.{IsInRange, run_is_right, answer_at}
-use Rattle.serial_engine.proofs.StepLaws.{step_at, step_some, step_none, some_same, bool_cases}
+use Rattle.serial_engine.proofs.StepLaws.{step_at, some_same}
 use Rattle.serial_engine.proofs.ValueLaws.{AreWhole, reads_are_right}
 use Rattle.std.proofs.lemmas.Bool.Decides.{eqb_tells}
 

@@ -1,18 +1,17 @@
 -- A session goes on by one request more.
-use Rattle.std.proofs.Common.{ℕ, zero, suc, ◌≡◌, ◌+◌, ◌<◌, ◌≤◌, ◌||◌, ◌++◌, Bool, true, false, List, [], ◌∷◌, Option, Some, None, length, slice_get, if◌then◌else◌, refl, sym, ◌∙◌, ap, subst, arith}
+use Rattle.std.proofs.Common.{ℕ, ◌≡◌, ◌+◌, ◌≤◌, ◌||◌, ◌++◌, Bool, true, List, [], ◌∷◌, Some, length, slice_get, refl, sym, ◌∙◌, ap, subst, arith}
 use Rattle.blk_base.specs.Regions.{needed_blocks}
 use Rattle.blk_base.specs.declared.journal_entry.Entry.{Entry}
 use Rattle.blk_base.specs.declared.request.Request.{Request}
 use Rattle.vdo_model.specs.declared.report.DeskLine.{DeskLine}
 use Rattle.vdo_model.specs.declared.report.DeskLine.TheVariants.{Begin, Answer}
 use Rattle.vdo_model.specs.declared.report.HistoryEntry.{HistoryEntry}
-use Rattle.vdo_model.specs.declared.report.Placed.{Placed}
 use Rattle.vdo_model.specs.Servable.{AreServable}
 use Rattle.serial_engine.specs.Blocks.{entries_of, entries_with, is_named}
-use Rattle.serial_engine.specs.Keeping.{Keeping, Adds, ServesRequest, InSession, NamesBelow, nothing_kept}
-use Rattle.serial_engine.specs.Served.{Ground, Seen, AllServed, Serves}
+use Rattle.serial_engine.specs.Keeping.{Keeping, ServesRequest, InSession, NamesBelow, nothing_kept}
+use Rattle.serial_engine.specs.Served.{Ground, Seen, Serves}
 use Rattle.serial_engine.specs.Sessions.{IsSession}
-use Rattle.serial_engine.specs.Story.{Served, request_of, reply_of, is_placed, is_stop, name, entry_of, desk_of, places_of, drawn_of, marks_of, is_stopped, AreServed}
+use Rattle.serial_engine.specs.Story.{request_of, reply_of, is_stop, name, entry_of}
 use Rattle.serial_engine.proofs.EntryLaws.{named_inside}
 use Rattle.serial_engine.proofs.SessionLaws.{session}
 

@@ -1,5 +1,5 @@
 -- What a read gives is the value of the last settled write of its address before it.
-use Rattle.std.proofs.Common.{ℕ, ◌≡◌, ◌≢◌, ◌⊎◌, ◌++◌, ◌+◌, ◌<◌, ◌≤◌, ◌==◌, ◌&&◌, Bool, true, false, IsTrue, nat_lt, List, [], ◌∷◌, Option, Some, None, length, slice_get, if◌then◌else◌, refl, sym, ◌∙◌, ap, subst, inl, inr, arith}
+use Rattle.std.proofs.Common.{ℕ, ◌≡◌, ◌++◌, ◌<◌, ◌≤◌, ◌==◌, ◌&&◌, Bool, true, false, IsTrue, List, [], ◌∷◌, Some, length, if◌then◌else◌, refl, sym, ◌∙◌, ap, subst, inl, inr, arith}
 use Rattle.std.specs.List.{AllByRecursion}
 use Rattle.std.specs.Option.{option_map}
 use Rattle.std.proofs.lemmas.Bool.{lt-ltb, le-ltb}
@@ -9,11 +9,9 @@ use Rattle.blk_base.specs.declared.place.Lba.{Lba}
 use Rattle.blk_base.specs.declared.place.Mapping.{Mapping}
 use Rattle.blk_base.specs.declared.place.Mapping.TheVariants.{Unmapped, Zero, At}
 use Rattle.blk_base.specs.declared.request.Request.{Request}
-use Rattle.blk_base.specs.declared.request.Request.TheVariants.{Read, Write}
-use Rattle.blk_base.specs.declared.request.Answer.{Answer as Reply}
+use Rattle.blk_base.specs.declared.request.Request.TheVariants.{Read}
 use Rattle.blk_base.specs.declared.request.Answer.TheVariants.{Bytes}
 use Rattle.disk_model.specs.declared.call.Call.{Call}
-use Rattle.disk_model.specs.Images.{IsMixOf}
 use Rattle.disk_model.proofs.ImageLaws.{settled_are_contents, block_of_mix}
 use Rattle.disk_model.specs.Log.{contents, settled}
 use Rattle.vdo_model.specs.declared.report.HistoryEntry.{HistoryEntry}
@@ -21,13 +19,13 @@ use Rattle.vdo_model.specs.declared.report.Placed.{Placed}
 use Rattle.vdo_model.specs.Histories.{history_of, is_settled}
 use Rattle.vdo_model.specs.Places.{place_of}
 use Rattle.vdo_model.specs.RightReads.{is_below, value_below, ReadsRight}
-use Rattle.vdo_model.specs.Scripts.{Script, request_at, value_written}
+use Rattle.vdo_model.specs.Scripts.{Script}
 use Rattle.serial_engine.specs.Blocks.{entries_of, mapping_of}
 use Rattle.serial_engine.specs.Served.{Ground, Seen, AllServed, ReadGives}
 use Rattle.serial_engine.specs.Story.{Served, Stored, NoRoom, DataLost, EntryLost, WriteStopped, Given, NotGiven, Flushed, FlushLost, FlushStopped, request_of, reply_of, is_placed, name, desk_of, drawn_of, places_of, entry_of, marks_of, AreServed}
 use Rattle.serial_engine.proofs.DataLaws.{HoldsData, all_hold}
-use Rattle.serial_engine.proofs.DeskLaws.{answer_at, no_place}
-use Rattle.serial_engine.proofs.StepLaws.{step_at, step_below, step_some, step_request, some_same, bool_cases, index_below, named}
+use Rattle.serial_engine.proofs.DeskLaws.{answer_at}
+use Rattle.serial_engine.proofs.StepLaws.{step_at, step_some, step_request, some_same, bool_cases, index_below, named}
 
 -- the value of an address: that of its last stored write
 abbrev pub latest : List Served → ℕ → List ℕ

@@ -3,7 +3,6 @@ use Rattle.std.specs.Prelude.{ℕ, ◌≡◌, ◌⊎◌, ◌+◌, ◌<◌, ◌�
 use Rattle.blk_base.specs.Sectors.{zero_block}
 use Rattle.blk_base.specs.declared.geometry.Geometry.{Geometry}
 use Rattle.blk_base.specs.declared.journal_entry.Entry.{Entry}
-use Rattle.blk_base.specs.declared.place.Lba.{Lba}
 use Rattle.blk_base.specs.declared.place.Mapping.{Mapping}
 use Rattle.blk_base.specs.declared.place.Mapping.TheVariants.{Unmapped, Zero, At}
 use Rattle.blk_base.specs.declared.place.Pbn.{Pbn}
@@ -61,8 +60,8 @@ Fails ground call before after =
 abbrev pub StoreFails : Ground → Pbn → List ℕ → List Call → Seen → Seen → Type 0
 StoreFails ground x block log before after =
     Rose before.faults after.faults × (IsTrue ground.tells →
-      FailedInLog log after.log (Write x block false) (Rose before.unkept after.unkept)
-      ⊎ FailedInLog (Write x block true ∷ log) after.log (Flush false) (Rose before.unkept after.unkept))
+    FailedInLog log after.log (Write x block false) (Rose before.unkept after.unkept)
+    ⊎ FailedInLog (Write x block true ∷ log) after.log (Flush false) (Rose before.unkept after.unkept))
 
 -- what a read of this mapping gives: zeros without a call, or what the device gave of the block
 abbrev pub ReadGives : Ground → Mapping → List ℕ → Seen → Seen → Type 0

@@ -9,7 +9,11 @@ pub(crate) fn mapping_at(entries: &[Entry], at: Lba) -> Mapping
 {
     let mut mapping = Mapping::Unmapped;
     for entry in entries {
-        if let Entry::Remap { at: mapped, new, .. } = entry
+        if let Entry::Remap {
+            at: mapped,
+            new,
+            ..
+        } = entry
             && *mapped == at
         {
             mapping = *new;
@@ -24,7 +28,10 @@ pub(crate) fn is_taken(entries: &[Entry], at: Pbn) -> bool
 {
     let mut taken = false;
     for entry in entries {
-        if let Entry::Remap { new: Mapping::At(block), .. } = entry
+        if let Entry::Remap {
+            new: Mapping::At(block),
+            ..
+        } = entry
             && *block == at
         {
             taken = true;

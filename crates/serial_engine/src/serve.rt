@@ -1,4 +1,4 @@
-ghost use Rattle.std.specs.Prelude.{◌≡◌, ◌<◌, ◌≤◌, ◌+◌, reverse};
+ghost use Rattle.std.specs.Prelude.{◌≡◌, ◌<◌, ◌≤◌, ◌+◌, ◌∷◌, reverse, vec_len, vec_capacity};
 ghost use Rattle.blk_base.specs.Regions.{needed_blocks};
 ghost use Rattle.blk_base.specs.declared.request.Request.TheVariants.{Read};
 ghost use Rattle.vdo_model.specs.Servable.{IsServable};
@@ -6,15 +6,33 @@ ghost use Rattle.serial_engine.specs.Keeping.{Served1, ServesRequest, NamesBelow
 ghost use Rattle.serial_engine.specs.Kept.{kept, HasServed, SameGround};
 ghost use Rattle.serial_engine.specs.Served.{ground, seen};
 
-use crate::Session;
-use crate::Written;
 use crate::entries::mapping_at;
 use crate::lists::add;
 use crate::read::read;
 use crate::write::write;
+use crate::{Session, Written};
 use blk_base::{Answer, Block, Entry, Lba, Mapping, Request, Writer};
 use disk_model::Disk;
 use vdo_model::{DeskLine, HistoryEntry, Mark, Placed};
+
+// Draws the next place of logical zone 0, the only one.
+fn draw_place(places: &mut Vec<Placed>, request: Writer)
+    requires { vec_len places.old < vec_capacity places.old }
+    ensures newest { reverse places.new.items ≡ record { request = request; zone = 0; place = vec_len places.old } ∷ reverse places.old.items }
+    ensures count { vec_len places.new ≡ vec_len places.old + 1 }
+    ensures room { vec_capacity places.new ≡ vec_capacity places.old }
+{
+    let place = places.len() as u64;
+    let zone = 0;
+    add(
+        places,
+        Placed {
+            request,
+            zone,
+            place,
+        },
+    );
+}
 
 /// Serves a write: `None` where the session had been stopped.
 pub(crate) fn serve_write<D: Disk>(
@@ -41,11 +59,16 @@ pub(crate) fn serve_write<D: Disk>(
         add(&mut session.desk, DeskLine::Answer { request, answer });
         return None;
     }
-    let place = session.places.len() as u64;
-    let zone = 0;
-    add(&mut session.places, Placed { request, zone, place });
+    draw_place(&mut session.places, request);
     let old = mapping_at(&session.entries, at);
-    let written = write(device, &session.layout, session.start, &session.entries, at, block);
+    let written = write(
+        device,
+        &session.layout,
+        session.start,
+        &session.entries,
+        at,
+        block,
+    );
     let (answer, mark) = match written {
         Written::Stored(target) => {
             let new = Mapping::At(target);
@@ -81,11 +104,16 @@ pub(crate) fn serve_read<D: Disk>(device: &mut D, session: &mut Session, number:
 {
     let request = Writer { stream: 0, number };
     add(&mut session.desk, DeskLine::Begin { request });
-    let place = session.places.len() as u64;
-    let zone = 0;
-    add(&mut session.places, Placed { request, zone, place });
+    draw_place(&mut session.places, request);
     let mut block = Block::zero();
-    let Ok(()) = read(device, &session.layout, session.start, &session.entries, at, &mut block) else {
+    let Ok(()) = read(
+        device,
+        &session.layout,
+        session.start,
+        &session.entries,
+        at,
+        &mut block,
+    ) else {
         let answer = Answer::ReadFault;
         add(&mut session.desk, DeskLine::Answer { request, answer });
         return;

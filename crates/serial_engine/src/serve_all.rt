@@ -13,7 +13,7 @@ use crate::serve::serve;
 use blk_base::{Request, Super};
 use disk_model::Disk;
 use std::alloc::{AllocError, Global};
-use vdo_model::{Requests, RunReport, Rows};
+use vdo_model::{Requests, Rows, RunReport};
 
 /// Serves each of the requests in turn, the first ones of the session.
 fn serve_each<D: Disk>(device: &mut D, session: &mut Session, requests: &[Request])
@@ -39,7 +39,12 @@ fn serve_each<D: Disk>(device: &mut D, session: &mut Session, requests: &[Reques
 /// the device is only read. A read whose device call failed is a `ReadFault`.
 ///
 /// It fails only where memory runs out, and then the device is as before.
-pub fn serve_requests<D: Disk>(alloc: Global, head: &Super, requests: Requests, device: &mut D) -> Result<RunReport, AllocError>
+pub fn serve_requests<D: Disk>(
+    alloc: Global,
+    head: &Super,
+    requests: Requests,
+    device: &mut D,
+) -> Result<RunReport, AllocError>
     requires sizes { IsGeometry head.now.geometry }
     requires start { head.now.start < 2 ^ 54 }
     requires size { needed_blocks head.now.geometry ≤ D.size device.old }
@@ -48,7 +53,7 @@ pub fn serve_requests<D: Disk>(alloc: Global, head: &Super, requests: Requests, 
     ensures report { IfOk result (λ report. report.requests ≡ requests) }
     ensures session { IfOk result (λ report.
         IsSession (ground head.now.geometry head.now.start (D.opening device.old) D.tells D.honest) (stream_of requests 0) report.desk report.places report.histories
-          (seen (D.log device.old) (D.faults device.old) (D.unkept device.old)) (seen (D.log device.new) (D.faults device.new) (D.unkept device.new))) }
+        (seen (D.log device.old) (D.faults device.old) (D.unkept device.old)) (seen (D.log device.new) (D.faults device.new) (D.unkept device.new))) }
     ensures err { OnErr result (device.new ≡ device.old) }
     ensures size { D.size device.new ≡ D.size device.old }
     ensures opening { D.opening device.new ≡ D.opening device.old }

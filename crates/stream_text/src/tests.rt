@@ -180,40 +180,37 @@ fn report(alloc: Global) -> Result<RunReport, Fail> {
     let mut requests = Vec::new(alloc);
     let mut desk = Vec::new(alloc);
     let mut places = Vec::new(alloc);
-    for (request, answer, place) in [
-        (write(5), Answer::Ok, Some((0, 0))),
+    for (number, request, answer, place) in [
+        (0, write(5), Answer::Ok, Some((0, 0))),
         (
+            1,
             Request::Read(Lba(5)),
             Answer::Bytes(block(97, 97)),
             Some((0, 1)),
         ),
-        (Request::Flush, Answer::Stopped, None),
+        (2, Request::Flush, Answer::Stopped, None),
         (
+            3,
             Request::Read(Lba(5)),
             Answer::Bytes(block(65, 0)),
             Some((0, 3)),
         ),
-        (Request::Read(Lba(5)), Answer::ReadFault, Some((0, 4))),
-        (Request::Discard(Lba(7)), Answer::Damaged, Some((12, 0))),
-        (Request::Read(Lba(4000)), Answer::Range, None),
-        (write(8), Answer::NoSpace, Some((0, 7))),
-        (write(8), Answer::Full, Some((0, 8))),
+        (4, Request::Read(Lba(5)), Answer::ReadFault, Some((0, 4))),
+        (5, Request::Discard(Lba(7)), Answer::Damaged, Some((12, 0))),
+        (6, Request::Read(Lba(4000)), Answer::Range, None),
+        (7, write(8), Answer::NoSpace, Some((0, 7))),
+        (8, write(8), Answer::Full, Some((0, 8))),
     ] {
-        let request_name = Writer {
-            stream: 0,
-            number: requests.len() as u32,
-        };
+        let name = Writer { stream: 0, number };
         requests.push(request)?;
-        desk.push(DeskLine::Begin {
-            request: request_name,
-        })?;
+        desk.push(DeskLine::Begin { request: name })?;
         desk.push(DeskLine::Answer {
-            request: request_name,
+            request: name,
             answer,
         })?;
         if let Some((zone, place)) = place {
             places.push(Placed {
-                request: request_name,
+                request: name,
                 zone,
                 place,
             })?;

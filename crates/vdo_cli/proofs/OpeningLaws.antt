@@ -23,7 +23,7 @@ pub first_says : (opening : Blocks) (log : List Call) (image : Blocks) (block : 
     → IsMixOf (settled opening log 0) block → super_of block size ≡ says → HasOneImage opening log image → super_of_image image ≡ says
 first_says opening log image block size says told some whole mix is one =
     let same : block ≡ block_at image 0 =
-        block_of_mix (settled opening log 0) (block_at image 0) block (one.whole 0 (omega arith)) whole mix (settled_are_contents _ opening log 0 (one.only 0 (omega arith))) in
+    block_of_mix (settled opening log 0) (block_at image 0) block (one.whole 0 (omega arith)) whole mix (settled_are_contents _ opening log 0 (one.only 0 (omega arith))) in
     let count : length image ≡ size = one.size ∙ told in
     of_first image says (omega arith) (rw (← same, count) is)
 

@@ -57,8 +57,8 @@ abbrev pub Closes : Bool → RunReport → ℕ → Option Fault → List ℕ →
 Closes tells report status None held faults held' faults' =
     (status ≡ desk_status report.desk)
     × MatchBool (some_lost report.desk)
-      (PutsOrFails tells (answers_text report.requests report.desk report.places) held faults held' faults')
-      (IsTrue tells → held' ≡ held ++ answers_text report.requests report.desk report.places)
+    (PutsOrFails tells (answers_text report.requests report.desk report.places) held faults held' faults')
+    (IsTrue tells → held' ≡ held ++ answers_text report.requests report.desk report.places)
 Closes tells report status (Some fault.Sink) held faults held' faults' =
     (status ≡ 7) × (some_lost report.desk ≡ false) × Rose faults faults'
     × (IsTrue tells → PutsPart held held' (answers_text report.requests report.desk report.places))

@@ -38,9 +38,19 @@ fn put_super_fault<K: Sink>(fault: SuperFault, out: &mut K) -> Result<(), Failed
         SuperFault::NotAnImage => out.put(b"bad image: not an image\n"),
         SuperFault::Version(found) => {
             let mut buffer = itoa::Buffer::new();
-            put_three(out, b"bad image: version ", buffer.format(found).as_bytes(), b"\n")
+            put_three(
+                out,
+                b"bad image: version ",
+                buffer.format(found).as_bytes(),
+                b"\n",
+            )
         }
-        SuperFault::BadField(field) => put_three(out, b"bad image: field ", field.name().as_bytes(), b"\n"),
+        SuperFault::BadField(field) => put_three(
+            out,
+            b"bad image: field ",
+            field.name().as_bytes(),
+            b"\n",
+        ),
     }
 }
 
@@ -60,7 +70,12 @@ fn put_script_fault<K: Sink>(fault: ScriptFault, out: &mut K) -> Result<(), Fail
     ensures cause { HasCause (K.faults out.old) (K.faults out.new) result }
 {
     let mut buffer = itoa::Buffer::new();
-    put_three(out, b"script line ", buffer.format(refused_line(fault)).as_bytes(), b": later\n")
+    put_three(
+        out,
+        b"script line ",
+        buffer.format(refused_line(fault)).as_bytes(),
+        b": later\n",
+    )
 }
 
 /// Puts the line of a fault. Where the sink is the fault, nothing is put.
@@ -99,7 +114,11 @@ pub(crate) fn has_lost(desk: &[DeskLine]) -> bool
 {
     let mut found = false;
     for line in desk {
-        if let DeskLine::Answer { answer: Answer::Stopped | Answer::ReadFault, .. } = line {
+        if let DeskLine::Answer {
+            answer: Answer::Stopped | Answer::ReadFault,
+            ..
+        } = line
+        {
             found = true;
         }
     }
@@ -112,7 +131,11 @@ pub(crate) fn has_full(desk: &[DeskLine]) -> bool
 {
     let mut found = false;
     for line in desk {
-        if let DeskLine::Answer { answer: Answer::Full, .. } = line {
+        if let DeskLine::Answer {
+            answer: Answer::Full,
+            ..
+        } = line
+        {
             found = true;
         }
     }

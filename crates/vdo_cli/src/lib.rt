@@ -13,3 +13,6 @@ pub use adapters::{StdSink, StdSource};
 pub use fault::Fault;
 pub use running::{Ended, run};
 pub use words::Words;
+
+#[cfg(test)]
+mod tests;

@@ -11,7 +11,11 @@ use stream_text::{ReadScript, read_script};
 use vdo_model::RunReport;
 
 /// Reads the superblock and the script, and serves the script's requests.
-pub(crate) fn play<D: Disk, S: Source>(alloc: Global, device: &mut D, script: &mut S) -> Result<RunReport, Fault>
+pub(crate) fn play<D: Disk, S: Source>(
+    alloc: Global,
+    device: &mut D,
+    script: &mut S,
+) -> Result<RunReport, Fault>
     ensures session { IfOk result (λ report. Plays D.tells D.honest S.tells (D.opening device.old) report
         (seen (D.log device.old) (D.faults device.old) (D.unkept device.old)) (seen (D.log device.new) (D.faults device.new) (D.unkept device.new)) (S.left script.old) (S.left script.new)) }
     ensures fault { IfErr result (λ fault. PlayFails D.tells D.honest S.tells (D.opening device.old)

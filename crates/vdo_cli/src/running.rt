@@ -94,12 +94,10 @@ pub fn run<R: Threads + Wait + Sync, D: Disk + Send + Drop, S: Source, K: Sink, 
     out: &mut K,
     gate: &G,
 ) -> Ended<D>
-    ensures {
-        EndsSo (setting (D.opening device) D.tells D.honest S.tells K.tells) words.now
+    ensures { EndsSo (setting (D.opening device) D.tells D.honest S.tells K.tells) words.now
         (outside (seen (D.log device) (D.faults device) (D.unkept device)) (S.left script.old) (S.faults script.old) (K.holds out.old) (K.faults out.old))
         (outside (seen (D.log result.device) (D.faults result.device) (D.unkept result.device)) (S.left script.new) (S.faults script.new) (K.holds out.new) (K.faults out.new))
-        result.status result.report result.fault
-    }
+        result.status result.report result.fault }
 {
     let alloc = words.allocator();
     if !words.is_run() {

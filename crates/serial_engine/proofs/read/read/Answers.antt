@@ -1,4 +1,4 @@
-use Rattle.std.proofs.Common.{◌≡◌, reverse, sym}
+use Rattle.std.proofs.Common.{reverse, sym}
 use Rattle.serial_engine.proofs.EntryLaws.{mapped_named}
 use Rattle.serial_engine.proofs.read.read.Goals as goal
 

@@ -1,7 +1,6 @@
-use Rattle.std.proofs.Common.{◌≡◌, ◌+◌, Some, length, reverse, slice_get, refl, rules, arith}
+use Rattle.std.proofs.Common.{length, refl, rules, arith}
 use Rattle.std.proofs.lemmas.Option.{slice_get_read}
 use Rattle.serial_engine.specs.Kept.{kept}
-use Rattle.serial_engine.specs.Served.{ground, seen}
 use Rattle.serial_engine.proofs.SessionLaws.{servable_at}
 use Rattle.serial_engine.proofs.StoryLaws.{goes_on, names_below}
 use Rattle.serial_engine.proofs.serve_all.serve_each.Goals as goal

@@ -1,4 +1,4 @@
-use Rattle.std.proofs.Common.{◌≡◌, ◌≤◌, length, reverse, refl, inl, inr, arith, ap, sym}
+use Rattle.std.proofs.Common.{refl, inl, arith}
 use Rattle.std.proofs.lemmas.List.{length-reverse}
 use Rattle.serial_engine.proofs.write.write.Goals as goal
 
