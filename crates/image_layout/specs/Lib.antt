@@ -1,3 +1,4 @@
 pub mod Faults
 pub mod Superblock
 pub mod FirstImage
+pub mod Window
