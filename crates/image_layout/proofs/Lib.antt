@@ -1,3 +1,4 @@
 pub mod CheckLaws
 pub mod SpellingLaws
 pub mod AgainLaws
+pub mod WindowLaws

@@ -2,3 +2,4 @@ pub mod Faults
 pub mod Superblock
 pub mod FirstImage
 pub mod Window
+pub mod WindowCount

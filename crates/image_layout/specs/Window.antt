@@ -9,6 +9,8 @@ use Rattle.blk_base.specs.declared.journal_entry.Entry.TheVariants.{Remap, NewPa
 use Rattle.blk_base.specs.declared.place.Mapping.{Mapping}
 use Rattle.blk_base.specs.declared.place.Mapping.TheVariants.{Unmapped, Zero, At}
 use Rattle.journal_codec.specs.Grammar.{IsSector}
+use Rattle.image_layout.specs.declared.fault.WindowFault.{WindowFault}
+use Rattle.image_layout.specs.declared.fault.WindowFault.TheVariants.{Faulty, Memory}
 
 -- the journal's blocks of an image: they stand behind the superblock
 abbrev pub journal_of : Geometry → List (List ℕ) → List (List ℕ)
@@ -58,6 +60,11 @@ pub record IsFaulty (g : Geometry) (start : ℕ) (journal : List (List ℕ)) (se
   pub below : sequence < start + count
   pub bad : (entry : Entry) → IsWritten g start journal sequence entry → ⊥
   pub good : (earlier : ℕ) → start ≤ earlier → earlier < sequence → (entry : Entry) × IsWritten g start journal earlier entry
+
+-- what a refusal says: the first faulty block, and of want of memory nothing
+abbrev pub IsRefused : Geometry → ℕ → List (List ℕ) → WindowFault → Type 0
+IsRefused g start journal (Faulty sequence) = IsFaulty g start journal sequence
+IsRefused g start journal Memory = Unit {0}
 
 -- where the entries map an address
 abbrev pub mapping_of : List Entry → ℕ → Mapping

@@ -1,14 +1,17 @@
-//! The layout of an image on its device: its superblock, and what its blocks are before anything was written.
+//! The layout of an image on its device: its superblock, what its blocks are before anything was written, and what
+//! earlier runs wrote to its recovery journal.
 #![tactic(auto)]
 
 mod fault;
 mod first;
 mod reading;
+mod windows;
 mod writing;
 
-pub use fault::{Field, ImageFault, SuperFault};
+pub use fault::{Field, ImageFault, SuperFault, WindowFault};
 pub use first::first_image;
 pub use reading::read_super;
+pub use windows::{mapping_at, read_window, value_at, windows_are_one};
 pub use writing::write_super;
 
 #[cfg(test)]

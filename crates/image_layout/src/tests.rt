@@ -1,6 +1,10 @@
 use crate::SuperFault::{BadField, NotAnImage, Version};
-use crate::{Field, ImageFault, SuperFault, first_image, read_super, write_super};
-use blk_base::{Block, Geometry, Layout, Super};
+use crate::{
+    Field, ImageFault, SuperFault, WindowFault, first_image, mapping_at, read_super, read_window,
+    value_at, windows_are_one, write_super,
+};
+use blk_base::{Block, Entry, Geometry, Layout, Lba, Mapping, PageId, Pbn, Super};
+use journal_codec::{Entries, JournalBlock, encode};
 use std::process::Abort;
 use std::test::Fail;
 
@@ -185,7 +189,196 @@ fn the_first_image(rt: HostRuntime) -> Result<(), Fail> {
     Ok(())
 }
 
-// The texts are those of `field_name` and `super_fault_text`.
+// The first sequence of the windows that are read here. The journal has 8 slots.
+const START: u64 = 7;
+
+// A block of the journal of the default image.
+fn journal_block(sequence: u64, head: u64, entries: &[Entry]) -> Block {
+    let mut held = Entries::new();
+    for &entry in entries {
+        if !held.is_full() {
+            held.push(entry);
+        }
+    }
+    let block = JournalBlock {
+        nonce: 1,
+        sequence,
+        head,
+        entries: held,
+    };
+    let mut into = Block::zero();
+    encode(&block, &mut into);
+    into
+}
+
+fn empty_journal() -> [Block; 8] {
+    [
+        Block::zero(),
+        Block::zero(),
+        Block::zero(),
+        Block::zero(),
+        Block::zero(),
+        Block::zero(),
+        Block::zero(),
+        Block::zero(),
+    ]
+}
+
+fn put_block(rt: &impl Abort, journal: &mut [Block; 8], slot: usize, block: &Block) {
+    assert!(rt; slot < 8);
+    journal[slot].copy_from(block);
+}
+
+// Puts the block of a sequence to its slot, as a run leaves it.
+fn put_written(rt: &impl Abort, journal: &mut [Block; 8], sequence: u64, entry: Entry) {
+    let block = journal_block(sequence, START, &[entry]);
+    put_block(rt, journal, (sequence % 8) as usize, &block);
+}
+
+fn read(rt: &HostRuntime, journal: &[Block; 8]) -> Result<Vec<Entry>, WindowFault> {
+    let head = Super {
+        geometry: DEFAULT,
+        clean: false,
+        start: START,
+    };
+    read_window(rt.alloc(), journal, &head)
+}
+
+fn remap(at: u32, block: u32) -> Entry {
+    Entry::Remap {
+        at: Lba(at),
+        old: Mapping::Unmapped,
+        new: Mapping::At(Pbn(block)),
+    }
+}
+
+// The data blocks are 85 to 148.
+#[test]
+fn windows(rt: HostRuntime) -> Result<(), Fail> {
+    let entries = [remap(0, 85), remap(999, 148), remap(0, 86)];
+    let mut journal = empty_journal();
+    assert_eq!(rt; read(&rt, &journal)?.len(), 0);
+    for (i, (sequence, entry)) in [(7, entries[0]), (8, entries[1]), (9, entries[2])]
+        .iter()
+        .enumerate()
+    {
+        put_written(&rt, &mut journal, *sequence, *entry);
+        assert_eq!(rt; read(&rt, &journal)?.as_slice(), &entries[..=i]);
+    }
+    windows_are_one();
+    Ok(())
+}
+
+// Sequences below the first one, out of reach, or in the slot of another.
+#[test]
+fn what_is_not_looked_at(rt: HostRuntime) -> Result<(), Fail> {
+    for (slot, sequence) in [(6, 6), (7, 7 + (1 << 32)), (2, 9), (1, 8)] {
+        let mut journal = empty_journal();
+        let block = journal_block(sequence, 1, &[]);
+        put_block(&rt, &mut journal, slot, &block);
+        assert_eq!(rt; read(&rt, &journal)?.len(), 0, "sequence {sequence}");
+        put_written(&rt, &mut journal, 7, remap(3, 100));
+        assert_eq!(rt;
+            read(&rt, &journal)?.as_slice(),
+            &[remap(3, 100)][..],
+            "sequence {sequence}"
+        );
+    }
+    Ok(())
+}
+
+fn is_faulty(rt: &HostRuntime, journal: &[Block; 8], sequence: u64) -> bool {
+    read(rt, journal) == Err(WindowFault::Faulty { sequence })
+}
+
+#[test]
+fn faulty_windows(rt: HostRuntime) {
+    let one = remap(3, 100);
+    let page = PageId {
+        tree: 0,
+        level: 0,
+        index: 0,
+    };
+    for (head, entry, faulty) in [
+        (START, one, false),
+        // another head
+        (START - 1, one, true),
+        (START + 1, one, true),
+        // past the logical size
+        (START, remap(999, 100), false),
+        (START, remap(1000, 100), true),
+        // outside the data blocks
+        (START, remap(3, 84), true),
+        (START, remap(3, 149), true),
+        (
+            START,
+            Entry::Remap {
+                at: Lba(3),
+                old: Mapping::At(Pbn(100)),
+                new: Mapping::Unmapped,
+            },
+            true,
+        ),
+        (
+            START,
+            Entry::Remap {
+                at: Lba(3),
+                old: Mapping::At(Pbn(100)),
+                new: Mapping::Zero,
+            },
+            true,
+        ),
+        (START, Entry::NewPage { page, at: Pbn(100) }, true),
+    ] {
+        let mut journal = empty_journal();
+        put_written(&rt, &mut journal, 7, one);
+        let block = journal_block(8, head, &[entry]);
+        put_block(&rt, &mut journal, 0, &block);
+        put_written(&rt, &mut journal, 9, one);
+        assert_eq!(rt; is_faulty(&rt, &journal, 8), faulty, "head {head}");
+    }
+    // A hole, no entry, and two.
+    for block in [
+        Block::zero(),
+        journal_block(8, START, &[]),
+        journal_block(8, START, &[one, one]),
+    ] {
+        let mut journal = empty_journal();
+        put_written(&rt, &mut journal, 7, one);
+        put_block(&rt, &mut journal, 0, &block);
+        put_written(&rt, &mut journal, 9, one);
+        assert!(rt; is_faulty(&rt, &journal, 8));
+    }
+    // The last sequence in reach stands alone.
+    let mut journal = empty_journal();
+    put_written(&rt, &mut journal, 6 + (1 << 32), one);
+    assert!(rt; is_faulty(&rt, &journal, 7));
+}
+
+#[test]
+fn values(rt: HostRuntime) {
+    let entries = [remap(3, 1), remap(4, 2), remap(3, 2), remap(5, 9)];
+    let mut image = empty_journal();
+    for (slot, byte) in [(1, 11), (2, 22)] {
+        let block = Block {
+            bytes: [byte; 4096],
+        };
+        put_block(&rt, &mut image, slot, &block);
+    }
+    for (at, mapping, byte) in [
+        (3, Mapping::At(Pbn(2)), 22),
+        (4, Mapping::At(Pbn(2)), 22),
+        (5, Mapping::At(Pbn(9)), 0),
+        (6, Mapping::Unmapped, 0),
+    ] {
+        assert_eq!(rt; mapping_at(&entries, Lba(at)), mapping, "address {at}");
+        let value = value_at(&image, &entries, Lba(at));
+        assert!(rt; value.bytes == [byte; 4096], "address {at}");
+    }
+    assert_eq!(rt; mapping_at(&entries[..1], Lba(3)), Mapping::At(Pbn(1)));
+}
+
+// The texts are those of `field_name`, `super_fault_text` and `image_fault_text`.
 #[test]
 fn texts(rt: HostRuntime) -> Result<(), Fail> {
     let names = [
@@ -218,5 +411,7 @@ fn texts(rt: HostRuntime) -> Result<(), Fail> {
             text
         );
     }
+    let fault = ImageFault::Window { sequence: 9 };
+    assert_eq!(rt; format!(in rt.alloc(); "{fault}")?.as_str(), "window 9");
     Ok(())
 }

@@ -1,12 +1,14 @@
 -- After a write or flush of the device that failed, a session makes no other.
 use Rattle.std.proofs.Common.{ℕ, ◌≡◌, ◌⊎◌, ◌++◌, Bool, true, false, IsTrue, List, [], ◌∷◌, refl, ap, inl, inr}
+use Rattle.blk_base.specs.declared.journal_entry.Entry.{Entry}
 use Rattle.blk_base.specs.declared.place.Mapping.{Mapping}
 use Rattle.blk_base.specs.declared.place.Mapping.TheVariants.{Unmapped, Zero, At}
 use Rattle.blk_base.specs.declared.place.Pbn.{Pbn}
 use Rattle.disk_model.specs.declared.call.Call.{Call}
 use Rattle.disk_model.specs.declared.call.Call.TheVariants.{Read, Write, Flush}
 use Rattle.disk_model.specs.Telling.{FailedInLog}
-use Rattle.serial_engine.specs.Blocks.{entries_of, mapping_of}
+use Rattle.image_layout.specs.Window.{mapping_of}
+use Rattle.serial_engine.specs.Blocks.{entries_of}
 use Rattle.serial_engine.specs.Served.{Ground, Seen, AllServed, ReadGives, ReadFails, stored}
 use Rattle.serial_engine.specs.Sessions.{NoneFailed, StopsAtFailure, SinceThen}
 use Rattle.serial_engine.specs.Story.{Served, Stored, NoRoom, DataLost, EntryLost, WriteStopped, Given, NotGiven, Flushed, FlushLost, FlushStopped, is_stopped}
@@ -112,34 +114,34 @@ flush_failed : (old now : List Call) (lost : Type 0) (first : List Call) → Fai
 flush_failed old now lost first (inl is) goes = rw is (fails_flush first old goes)
 flush_failed old now lost first (inr same) goes = rw same.0 (halts first old goes)
 
-all_go : (ground : Ground) (first : Seen) (story : List Served) (now : Seen) → IsTrue ground.tells → AllServed ground first story now
+all_go : (ground : Ground) (window : List Entry) (first : Seen) (story : List Served) (now : Seen) → IsTrue ground.tells → AllServed ground window first story now
     → Goes (is_stopped story) first.log now.log
-all_go ground first [] now tells served =
+all_go ground window first [] now tells served =
     rw (← served) (record { calls = []; since = refl; stops = tt; none_failed = λ e. tt })
-all_go ground first (Stored at block x ∷ older) now tells (before, later, (on, room, slot, place, calls), rest) =
-    let goes = going (is_stopped older) first.log before.log on (all_go ground first older before tells rest) in
+all_go ground window first (Stored at block x ∷ older) now tells (before, later, (on, room, slot, place, calls), rest) =
+    let goes = going (is_stopped older) first.log before.log on (all_go ground window first older before tells rest) in
     rw (on, calls tells) (works first.log _ slot _ (works first.log before.log x block goes))
-all_go ground first (NoRoom at block ∷ older) now tells (before, later, (on, used, same), rest) =
-    same_log _ first.log before.log now.log (same tells) (all_go ground first older before tells rest)
-all_go ground first (DataLost at block x ∷ older) now tells (before, later, (on, room, fails), rest) =
-    store_fails first.log before.log now.log x block _ (fails.1 tells) (going (is_stopped older) first.log before.log on (all_go ground first older before tells rest))
-all_go ground first (EntryLost at block x ∷ older) now tells (before, later, (on, room, slot, place, fails), rest) =
+all_go ground window first (NoRoom at block ∷ older) now tells (before, later, (on, used, same), rest) =
+    same_log _ first.log before.log now.log (same tells) (all_go ground window first older before tells rest)
+all_go ground window first (DataLost at block x ∷ older) now tells (before, later, (on, room, fails), rest) =
+    store_fails first.log before.log now.log x block _ (fails.1 tells) (going (is_stopped older) first.log before.log on (all_go ground window first older before tells rest))
+all_go ground window first (EntryLost at block x ∷ older) now tells (before, later, (on, room, slot, place, fails), rest) =
     store_fails first.log _ now.log slot _ _ (fails.1 tells)
-    (works first.log before.log x block (going (is_stopped older) first.log before.log on (all_go ground first older before tells rest)))
-all_go ground first (WriteStopped at block ∷ older) now tells (before, later, (on, same), rest) =
-    same_log _ first.log before.log now.log (same tells) (all_go ground first older before tells rest)
-all_go ground first (Given at bytes ∷ older) now tells (before, later, gives, rest) =
-    read_goes ground (mapping_of (entries_of older) at.0) bytes before now _ first.log tells gives (all_go ground first older before tells rest)
-all_go ground first (NotGiven at ∷ older) now tells (before, later, fails, rest) =
-    read_fails ground (mapping_of (entries_of older) at.0) before now _ first.log tells fails (all_go ground first older before tells rest)
-all_go ground first (Flushed ∷ older) now tells (before, later, (on, calls), rest) =
-    rw (on, calls tells) (works_flush first.log before.log (going (is_stopped older) first.log before.log on (all_go ground first older before tells rest)))
-all_go ground first (FlushLost ∷ older) now tells (before, later, (on, fails), rest) =
-    flush_failed before.log now.log _ first.log (fails.1 tells) (going (is_stopped older) first.log before.log on (all_go ground first older before tells rest))
-all_go ground first (FlushStopped ∷ older) now tells (before, later, (on, same), rest) =
-    same_log _ first.log before.log now.log (same tells) (all_go ground first older before tells rest)
+    (works first.log before.log x block (going (is_stopped older) first.log before.log on (all_go ground window first older before tells rest)))
+all_go ground window first (WriteStopped at block ∷ older) now tells (before, later, (on, same), rest) =
+    same_log _ first.log before.log now.log (same tells) (all_go ground window first older before tells rest)
+all_go ground window first (Given at bytes ∷ older) now tells (before, later, gives, rest) =
+    read_goes ground (mapping_of (entries_of window older) at.0) bytes before now _ first.log tells gives (all_go ground window first older before tells rest)
+all_go ground window first (NotGiven at ∷ older) now tells (before, later, fails, rest) =
+    read_fails ground (mapping_of (entries_of window older) at.0) before now _ first.log tells fails (all_go ground window first older before tells rest)
+all_go ground window first (Flushed ∷ older) now tells (before, later, (on, calls), rest) =
+    rw (on, calls tells) (works_flush first.log before.log (going (is_stopped older) first.log before.log on (all_go ground window first older before tells rest)))
+all_go ground window first (FlushLost ∷ older) now tells (before, later, (on, fails), rest) =
+    flush_failed before.log now.log _ first.log (fails.1 tells) (going (is_stopped older) first.log before.log on (all_go ground window first older before tells rest))
+all_go ground window first (FlushStopped ∷ older) now tells (before, later, (on, same), rest) =
+    same_log _ first.log before.log now.log (same tells) (all_go ground window first older before tells rest)
 
 -- no call after a failure
-pub stops_since : (ground : Ground) (first : Seen) (story : List Served) (now : Seen) → IsTrue ground.tells → AllServed ground first story now
+pub stops_since : (ground : Ground) (window : List Entry) (first : Seen) (story : List Served) (now : Seen) → IsTrue ground.tells → AllServed ground window first story now
     → SinceThen StopsAtFailure first.log now.log
-stops_since ground first story now tells served = let goes = all_go ground first story now tells served in (goes.calls, goes.since, goes.stops)
+stops_since ground window first story now tells served = let goes = all_go ground window first story now tells served in (goes.calls, goes.since, goes.stops)

@@ -1,28 +1,36 @@
 -- What a served story makes of its session.
-use Rattle.std.proofs.Common.{ℕ, zero, suc, ◌≡◌, ◌<◌, ◌≤◌, true, List, [], ◌∷◌, Option, Some, None, length, slice_get, refl, sym, ◌∙◌, ap, subst, inl, inr, arith}
+use Rattle.std.proofs.Common.{ℕ, zero, suc, ◌≡◌, ◌<◌, ◌≤◌, true, IsTrue, List, [], ◌∷◌, Option, Some, None, length, slice_get, refl, sym, ◌∙◌, ap, subst, inl, inr, arith}
 use Rattle.std.specs.Option.{option_map}
+use Rattle.blk_base.specs.declared.journal_entry.Entry.{Entry}
 use Rattle.blk_base.specs.declared.place.Mapping.{Mapping}
 use Rattle.blk_base.specs.declared.place.Mapping.TheVariants.{Unmapped, Zero, At}
 use Rattle.blk_base.specs.declared.request.Request.{Request}
 use Rattle.blk_base.specs.declared.request.Request.TheVariants.{Read, Write, Discard, Flush}
+use Rattle.blk_base.specs.Regions.{needed_blocks}
 use Rattle.disk_model.specs.Causes.{Rose}
+use Rattle.disk_model.specs.Images.{HasOneImage}
+use Rattle.disk_model.specs.Log.{Blocks}
+use Rattle.disk_model.specs.declared.call.Call.{Call}
 use Rattle.vdo_model.specs.DeskLog.{answer_of}
 use Rattle.vdo_model.specs.Scripts.{address_of}
 use Rattle.vdo_model.specs.Servable.{IsServable, AreServable}
-use Rattle.serial_engine.specs.Blocks.{entries_of, mapping_of}
+use Rattle.image_layout.specs.Window.{mapping_of}
+use Rattle.serial_engine.specs.Blocks.{NamesData, entries_of}
 use Rattle.serial_engine.specs.Served.{Ground, Seen, AllServed, ReadFails}
 use Rattle.serial_engine.specs.Sessions.{IsSession, HasFault}
 use Rattle.serial_engine.specs.Story.{Served, Stored, NoRoom, DataLost, EntryLost, WriteStopped, Given, NotGiven, Flushed, FlushLost, FlushStopped, reply_of, is_stopped, name, desk_of, places_of, marks_of, AreServed}
 use Rattle.serial_engine.proofs.CallLaws.{stops_since}
+use Rattle.serial_engine.proofs.DataLaws.{HoldsData}
+use Rattle.serial_engine.proofs.EntryLaws.{data_inside}
 use Rattle.serial_engine.proofs.DeskLaws.{IsInRange, run_is_right, answer_at}
 use Rattle.serial_engine.proofs.StepLaws.{step_at, some_same}
 use Rattle.serial_engine.proofs.ValueLaws.{AreWhole, reads_are_right}
 use Rattle.std.proofs.lemmas.Bool.Decides.{eqb_tells}
 
 -- counts only rise
-faults_later : (ground : Ground) (first : Seen) (story : List Served) (now : Seen) → AllServed ground first story now → first.faults ≤ now.faults
-faults_later ground first [] now same = omega (arith, ap (λ (s : Seen). s.faults) same)
-faults_later ground first (s ∷ older) now served = omega (arith, served.1.faults, faults_later ground first older served.0 served.3)
+faults_later : (ground : Ground) (window : List Entry) (first : Seen) (story : List Served) (now : Seen) → AllServed ground window first story now → first.faults ≤ now.faults
+faults_later ground window first [] now same = omega (arith, ap (λ (s : Seen). s.faults) same)
+faults_later ground window first (s ∷ older) now served = omega (arith, served.1.faults, faults_later ground window first older served.0 served.3)
 
 rose_later : (a b c : ℕ) → Rose a b → b ≤ c → Rose a c
 rose_later a b c rose le = omega arith
@@ -36,44 +44,44 @@ read_rose ground Zero before after fails = absurd fails
 read_rose ground (At x) before after fails = fails.1.0
 
 -- a stopped session has seen a call fail
-stop_rose : (ground : Ground) (first : Seen) (story : List Served) (now : Seen) → AllServed ground first story now → is_stopped story ≡ true → Rose first.faults now.faults
-stop_rose ground first [] now served is = absurd cc
-stop_rose ground first (DataLost at block x ∷ older) now (before, later, (on, room, fails), rest) is =
-    rose_before _ _ _ (faults_later ground first older before rest) fails.0
-stop_rose ground first (EntryLost at block x ∷ older) now (before, later, (on, room, slot, place, fails), rest) is =
-    rose_before _ _ _ (faults_later ground first older before rest) fails.0
-stop_rose ground first (FlushLost ∷ older) now (before, later, (on, fails), rest) is =
-    rose_before _ _ _ (faults_later ground first older before rest) fails.0
-stop_rose ground first (Stored at block x ∷ older) now (before, later, serves, rest) is = rose_later _ _ _ (stop_rose ground first older before rest is) later.faults
-stop_rose ground first (NoRoom at block ∷ older) now (before, later, serves, rest) is = rose_later _ _ _ (stop_rose ground first older before rest is) later.faults
-stop_rose ground first (WriteStopped at block ∷ older) now (before, later, serves, rest) is = rose_later _ _ _ (stop_rose ground first older before rest is) later.faults
-stop_rose ground first (Given at bytes ∷ older) now (before, later, serves, rest) is = rose_later _ _ _ (stop_rose ground first older before rest is) later.faults
-stop_rose ground first (NotGiven at ∷ older) now (before, later, serves, rest) is = rose_later _ _ _ (stop_rose ground first older before rest is) later.faults
-stop_rose ground first (Flushed ∷ older) now (before, later, serves, rest) is = rose_later _ _ _ (stop_rose ground first older before rest is) later.faults
-stop_rose ground first (FlushStopped ∷ older) now (before, later, serves, rest) is = rose_later _ _ _ (stop_rose ground first older before rest is) later.faults
+stop_rose : (ground : Ground) (window : List Entry) (first : Seen) (story : List Served) (now : Seen) → AllServed ground window first story now → is_stopped story ≡ true → Rose first.faults now.faults
+stop_rose ground window first [] now served is = absurd cc
+stop_rose ground window first (DataLost at block x ∷ older) now (before, later, (on, room, fails), rest) is =
+    rose_before _ _ _ (faults_later ground window first older before rest) fails.0
+stop_rose ground window first (EntryLost at block x ∷ older) now (before, later, (on, room, slot, place, fails), rest) is =
+    rose_before _ _ _ (faults_later ground window first older before rest) fails.0
+stop_rose ground window first (FlushLost ∷ older) now (before, later, (on, fails), rest) is =
+    rose_before _ _ _ (faults_later ground window first older before rest) fails.0
+stop_rose ground window first (Stored at block x ∷ older) now (before, later, serves, rest) is = rose_later _ _ _ (stop_rose ground window first older before rest is) later.faults
+stop_rose ground window first (NoRoom at block ∷ older) now (before, later, serves, rest) is = rose_later _ _ _ (stop_rose ground window first older before rest is) later.faults
+stop_rose ground window first (WriteStopped at block ∷ older) now (before, later, serves, rest) is = rose_later _ _ _ (stop_rose ground window first older before rest is) later.faults
+stop_rose ground window first (Given at bytes ∷ older) now (before, later, serves, rest) is = rose_later _ _ _ (stop_rose ground window first older before rest is) later.faults
+stop_rose ground window first (NotGiven at ∷ older) now (before, later, serves, rest) is = rose_later _ _ _ (stop_rose ground window first older before rest is) later.faults
+stop_rose ground window first (Flushed ∷ older) now (before, later, serves, rest) is = rose_later _ _ _ (stop_rose ground window first older before rest is) later.faults
+stop_rose ground window first (FlushStopped ∷ older) now (before, later, serves, rest) is = rose_later _ _ _ (stop_rose ground window first older before rest is) later.faults
 
 -- the newest step's answer has its cause
-newest_rose : (ground : Ground) (first : Seen) (s : Served) (older : List Served) (now : Seen) → AllServed ground first (s ∷ older) now → HasFault (reply_of s) → Rose first.faults now.faults
-newest_rose ground first (Stored at block x) older now served fault = absurd fault
-newest_rose ground first (NoRoom at block) older now served fault = absurd fault
-newest_rose ground first (DataLost at block x) older now served fault = stop_rose ground first (DataLost at block x ∷ older) now served refl
-newest_rose ground first (EntryLost at block x) older now served fault = stop_rose ground first (EntryLost at block x ∷ older) now served refl
-newest_rose ground first (WriteStopped at block) older now (before, later, (off, same), rest) fault = rose_later _ _ _ (stop_rose ground first older before rest off) later.faults
-newest_rose ground first (Given at bytes) older now served fault = absurd fault
-newest_rose ground first (NotGiven at) older now (before, later, fails, rest) fault =
-    rose_before _ _ _ (faults_later ground first older before rest) (read_rose ground (mapping_of (entries_of older) at.0) before now fails)
-newest_rose ground first Flushed older now served fault = absurd fault
-newest_rose ground first FlushLost older now served fault = stop_rose ground first (FlushLost ∷ older) now served refl
-newest_rose ground first FlushStopped older now (before, later, (off, same), rest) fault = rose_later _ _ _ (stop_rose ground first older before rest off) later.faults
+newest_rose : (ground : Ground) (window : List Entry) (first : Seen) (s : Served) (older : List Served) (now : Seen) → AllServed ground window first (s ∷ older) now → HasFault (reply_of s) → Rose first.faults now.faults
+newest_rose ground window first (Stored at block x) older now served fault = absurd fault
+newest_rose ground window first (NoRoom at block) older now served fault = absurd fault
+newest_rose ground window first (DataLost at block x) older now served fault = stop_rose ground window first (DataLost at block x ∷ older) now served refl
+newest_rose ground window first (EntryLost at block x) older now served fault = stop_rose ground window first (EntryLost at block x ∷ older) now served refl
+newest_rose ground window first (WriteStopped at block) older now (before, later, (off, same), rest) fault = rose_later _ _ _ (stop_rose ground window first older before rest off) later.faults
+newest_rose ground window first (Given at bytes) older now served fault = absurd fault
+newest_rose ground window first (NotGiven at) older now (before, later, fails, rest) fault =
+    rose_before _ _ _ (faults_later ground window first older before rest) (read_rose ground (mapping_of (entries_of window older) at.0) before now fails)
+newest_rose ground window first Flushed older now served fault = absurd fault
+newest_rose ground window first FlushLost older now served fault = stop_rose ground window first (FlushLost ∷ older) now served refl
+newest_rose ground window first FlushStopped older now (before, later, (off, same), rest) fault = rose_later _ _ _ (stop_rose ground window first older before rest off) later.faults
 
-step_rose : (ground : Ground) (first : Seen) (story : List Served) (now : Seen) (n : ℕ) (s : Served) → AllServed ground first story now
+step_rose : (ground : Ground) (window : List Entry) (first : Seen) (story : List Served) (now : Seen) (n : ℕ) (s : Served) → AllServed ground window first story now
     → step_at story n ≡ Some s → HasFault (reply_of s) → Rose first.faults now.faults
-step_rose ground first [] now n s served is fault = absurd cc
-step_rose ground first (t ∷ older) now n s served is fault = elim (eqb_tells (length older) n) [
+step_rose ground window first [] now n s served is fault = absurd cc
+step_rose ground window first (t ∷ older) now n s served is fault = elim (eqb_tells (length older) n) [
   | inl same ↦
       let here : Some t ≡ Some s = rw same.0 at is in
-      newest_rose ground first t older now served (subst (λ (u : Served). HasFault (reply_of u)) (sym (some_same t s here)) fault)
-  | inr other ↦ rose_later _ _ _ (step_rose ground first older served.0 n s served.3 (rw other.0 at is) fault) served.1.faults
+      newest_rose ground window first t older now served (subst (λ (u : Served). HasFault (reply_of u)) (sym (some_same t s here)) fault)
+  | inr other ↦ rose_later _ _ _ (step_rose ground window first older served.0 n s served.3 (rw other.0 at is) fault) served.1.faults
 ]
 
 -- servable requests
@@ -105,12 +113,12 @@ are_whole logical requests (FlushLost ∷ older) are each = are_whole logical re
 are_whole logical requests (FlushStopped ∷ older) are each = are_whole logical requests older are each.1
 
 -- an answer that a fault causes
-fault_rose : (ground : Ground) (first : Seen) (story : List Served) (now : Seen) (n : ℕ) → AllServed ground first story now
+fault_rose : (ground : Ground) (window : List Entry) (first : Seen) (story : List Served) (now : Seen) (n : ℕ) → AllServed ground window first story now
     → (s : Option Served) → step_at story n ≡ s → (a : _) → answer_of (desk_of story) (name n) ≡ Some a → HasFault a → Rose first.faults now.faults
-fault_rose ground first story now n served None is a told fault = absurd (cc (answer_at story n, ap (option_map reply_of) is, told))
-fault_rose ground first story now n served (Some s) is a told fault =
+fault_rose ground window first story now n served None is a told fault = absurd (cc (answer_at story n, ap (option_map reply_of) is, told))
+fault_rose ground window first story now n served (Some s) is a told fault =
     let a_is : reply_of s ≡ a = some_same _ _ (sym (ap (option_map reply_of) is) ∙ sym (answer_at story n) ∙ told) in
-    step_rose ground first story now n s served is (subst HasFault (sym a_is) fault)
+    step_rose ground window first story now n s served is (subst HasFault (sym a_is) fault)
 
 -- a request of another stream has no answer
 other_stream : (story : List Served) (stream number : ℕ) → answer_of (desk_of story) (record { stream = suc stream; number = number }) ≡ None
@@ -120,16 +128,24 @@ other_stream (s ∷ older) stream number = elim (eqb_tells 0 (suc stream)) [
   | inr other ↦ rw other.0 (other_stream older stream number)
 ]
 
-causes_at : (ground : Ground) (first : Seen) (story : List Served) (now : Seen) → AllServed ground first story now
+causes_at : (ground : Ground) (window : List Entry) (first : Seen) (story : List Served) (now : Seen) → AllServed ground window first story now
     → (stream number : ℕ) (a : _) → answer_of (desk_of story) (record { stream = stream; number = number }) ≡ Some a → HasFault a → Rose first.faults now.faults
-causes_at ground first story now served zero number a told fault = fault_rose ground first story now number served (step_at story number) refl a told fault
-causes_at ground first story now served (suc stream) number a told fault = absurd (cc (other_stream story stream number, told))
+causes_at ground window first story now served zero number a told fault = fault_rose ground window first story now number served (step_at story number) refl a told fault
+causes_at ground window first story now served (suc stream) number a told fault = absurd (cc (other_stream story stream number, told))
+
+-- where nothing is pending, the blocks of the window are those of the image
+opened : (ground : Ground) (window : List Entry) (image : Blocks) (log : List Call) → NamesData ground.geometry window → needed_blocks ground.geometry ≤ length ground.opening
+    → HasOneImage ground.opening log image → HoldsData ground window image [] log
+opened ground window image log names room one b is =
+    let below = data_inside ground.geometry b (names b is) in
+    (one.whole b (omega arith), one.only b (omega arith))
 
 -- a served story is a session
-pub session : (ground : Ground) (requests : List Request) (story : List Served) (first now : Seen) → AreServable ground.geometry.logical requests
-    → AreServed requests story → length story ≡ length requests → AllServed ground first story now
-    → IsSession ground requests (desk_of story) (places_of story) (marks_of story) first now
-session ground requests story first now are each whole served = record {
+pub session : (ground : Ground) (window : List Entry) (requests : List Request) (story : List Served) (first now : Seen) → AreServable ground.geometry.logical requests
+    → NamesData ground.geometry window → (IsTrue ground.tells → needed_blocks ground.geometry ≤ length ground.opening)
+    → AreServed requests story → length story ≡ length requests → AllServed ground window first story now
+    → IsSession ground window requests (desk_of story) (places_of story) (marks_of story) first now
+session ground window requests story first now are names room each whole served = record {
   story = story;
   each = each;
   whole = whole;
@@ -138,7 +154,8 @@ session ground requests story first now are each whole served = record {
   places_is = refl;
   histories_is = refl;
   run_right = run_is_right ground.geometry.logical requests story (in_range _ requests are) each whole;
-  reads_right = λ tells honest. reads_are_right ground first requests story now tells honest served each (are_whole _ requests story are each) whole;
-  causes = λ w a told fault. causes_at ground first story now served w.stream w.number a told fault;
-  stops = λ tells. stops_since ground first story now tells served;
+  reads_right = λ tells honest image one.
+      reads_are_right ground window image first requests story now tells honest names (opened ground window image first.log names (room tells) one) served each (are_whole _ requests story are each) whole;
+  causes = λ w a told fault. causes_at ground window first story now served w.stream w.number a told fault;
+  stops = λ tells. stops_since ground window first story now tells served;
 }

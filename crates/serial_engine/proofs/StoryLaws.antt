@@ -1,5 +1,5 @@
 -- A session goes on by one request more.
-use Rattle.std.proofs.Common.{ℕ, ◌≡◌, ◌+◌, ◌≤◌, ◌||◌, ◌++◌, Bool, true, List, [], ◌∷◌, Some, length, slice_get, refl, sym, ◌∙◌, ap, subst, arith}
+use Rattle.std.proofs.Common.{ℕ, ◌≡◌, ◌+◌, ◌≤◌, ◌||◌, ◌++◌, Bool, true, IsTrue, List, [], ◌∷◌, Some, length, slice_get, refl, sym, ◌∙◌, ap, subst, arith}
 use Rattle.blk_base.specs.Regions.{needed_blocks}
 use Rattle.blk_base.specs.declared.journal_entry.Entry.{Entry}
 use Rattle.blk_base.specs.declared.request.Request.{Request}
@@ -7,8 +7,8 @@ use Rattle.vdo_model.specs.declared.report.DeskLine.{DeskLine}
 use Rattle.vdo_model.specs.declared.report.DeskLine.TheVariants.{Begin, Answer}
 use Rattle.vdo_model.specs.declared.report.HistoryEntry.{HistoryEntry}
 use Rattle.vdo_model.specs.Servable.{AreServable}
-use Rattle.serial_engine.specs.Blocks.{entries_of, entries_with, is_named}
-use Rattle.serial_engine.specs.Keeping.{Keeping, ServesRequest, InSession, NamesBelow, nothing_kept}
+use Rattle.serial_engine.specs.Blocks.{NamesData, entries_of, entries_with, is_named}
+use Rattle.serial_engine.specs.Keeping.{Keeping, ServesRequest, InSession, NamesBelow, window_kept}
 use Rattle.serial_engine.specs.Served.{Ground, Seen, Serves}
 use Rattle.serial_engine.specs.Sessions.{IsSession}
 use Rattle.serial_engine.specs.Story.{request_of, reply_of, is_stop, name, entry_of}
@@ -16,8 +16,8 @@ use Rattle.serial_engine.proofs.EntryLaws.{named_inside}
 use Rattle.serial_engine.proofs.SessionLaws.{session}
 
 -- before the first request
-pub starts : (ground : Ground) (requests : List Request) (first : Seen) (k : Keeping) → k ≡ nothing_kept → InSession ground requests first 0 k first
-starts ground requests first k fresh = rw fresh (record {
+pub starts : (ground : Ground) (window : List Entry) (requests : List Request) (first : Seen) (k : Keeping) → k ≡ window_kept window → InSession ground window requests first 0 k first
+starts ground window requests first k fresh = rw fresh (record {
   story = [];
   count = refl;
   each = tt;
@@ -30,14 +30,14 @@ starts ground requests first k fresh = rw fresh (record {
   stopped_is = refl;
 })
 
-with_one : (ground : Ground) (requests : List Request) (first : Seen) (n : ℕ) (request : Request) (k new : Keeping) (now after : Seen)
-    → (was : InSession ground requests first n k now) → n ≡ length was.story → slice_get requests n ≡ Some request
-    → ServesRequest ground n request k new now after → InSession ground requests first (n + 1) new after
-with_one ground requests first n request k new now after was count had serves =
+with_one : (ground : Ground) (window : List Entry) (requests : List Request) (first : Seen) (n : ℕ) (request : Request) (k new : Keeping) (now after : Seen)
+    → (was : InSession ground window requests first n k now) → n ≡ length was.story → slice_get requests n ≡ Some request
+    → ServesRequest ground n request k new now after → InSession ground window requests first (n + 1) new after
+with_one ground window requests first n request k new now after was count had serves =
     let s = serves.how in
     let adds = serves.done.adds in
     let served = subst (λ (entries : List Entry). Serves ground entries k.stopped s now after) was.entries_is serves.done.serves in
-    let served_too = subst (λ (b : Bool). Serves ground (entries_of was.story) b s now after) was.stopped_is served in
+    let served_too = subst (λ (b : Bool). Serves ground (entries_of window was.story) b s now after) was.stopped_is served in
     record {
       story = s ∷ was.story;
       count = omega (arith, count);
@@ -54,20 +54,20 @@ with_one ground requests first n request k new now after was count had serves =
     }
 
 -- after one request more
-pub goes_on : (ground : Ground) (requests : List Request) (first : Seen) (n : ℕ) (request : Request) (k new : Keeping) (now after : Seen)
-    → InSession ground requests first n k now → slice_get requests n ≡ Some request
-    → ServesRequest ground n request k new now after → InSession ground requests first (n + 1) new after
-goes_on ground requests first n request k new now after was had serves = with_one ground requests first n request k new now after was (sym was.count) had serves
+pub goes_on : (ground : Ground) (window : List Entry) (requests : List Request) (first : Seen) (n : ℕ) (request : Request) (k new : Keeping) (now after : Seen)
+    → InSession ground window requests first n k now → slice_get requests n ≡ Some request
+    → ServesRequest ground n request k new now after → InSession ground window requests first (n + 1) new after
+goes_on ground window requests first n request k new now after was had serves = with_one ground window requests first n request k new now after was (sym was.count) had serves
 
 -- what its entries name is on the device
-pub names_below : (ground : Ground) (requests : List Request) (first : Seen) (n size : ℕ) (k : Keeping) (now : Seen) → needed_blocks ground.geometry ≤ size
-    → InSession ground requests first n k now → NamesBelow size k.entries
-names_below ground requests first n size k now needed was b is =
+pub names_below : (ground : Ground) (window : List Entry) (requests : List Request) (first : Seen) (n size : ℕ) (k : Keeping) (now : Seen) → NamesData ground.geometry window → needed_blocks ground.geometry ≤ size
+    → InSession ground window requests first n k now → NamesBelow size k.entries
+names_below ground window requests first n size k now names needed was b is =
     let named = subst (λ (entries : List Entry). is_named entries b ≡ true) was.entries_is is in
-    omega (arith, named_inside ground first was.story now was.served b named)
+    omega (arith, named_inside ground window first was.story now names was.served b named)
 
 -- after the last request
-pub ends : (ground : Ground) (requests : List Request) (first : Seen) (k : Keeping) (now : Seen) → AreServable ground.geometry.logical requests
-    → InSession ground requests first (length requests) k now → IsSession ground requests k.desk k.places k.histories first now
-ends ground requests first k now servable was =
-    rw (was.desk_is, was.places_is, was.histories_is) (session ground requests was.story first now servable was.each was.count was.served)
+pub ends : (ground : Ground) (window : List Entry) (requests : List Request) (first : Seen) (k : Keeping) (now : Seen) → AreServable ground.geometry.logical requests → NamesData ground.geometry window
+    → (IsTrue ground.tells → needed_blocks ground.geometry ≤ length ground.opening) → InSession ground window requests first (length requests) k now → IsSession ground window requests k.desk k.places k.histories first now
+ends ground window requests first k now servable names room was =
+    rw (was.desk_is, was.places_is, was.histories_is) (session ground window requests was.story first now servable names room was.each was.count was.served)

@@ -5,6 +5,7 @@ use Rattle.std.specs.Option.{option_map}
 use Rattle.std.proofs.lemmas.Bool.{lt-ltb, le-ltb}
 use Rattle.std.proofs.lemmas.Bool.Decides.{eqb_tells}
 use Rattle.blk_base.specs.Sectors.{zero_block}
+use Rattle.blk_base.specs.declared.journal_entry.Entry.{Entry}
 use Rattle.blk_base.specs.declared.place.Lba.{Lba}
 use Rattle.blk_base.specs.declared.place.Mapping.{Mapping}
 use Rattle.blk_base.specs.declared.place.Mapping.TheVariants.{Unmapped, Zero, At}
@@ -13,33 +14,35 @@ use Rattle.blk_base.specs.declared.request.Request.TheVariants.{Read}
 use Rattle.blk_base.specs.declared.request.Answer.TheVariants.{Bytes}
 use Rattle.disk_model.specs.declared.call.Call.{Call}
 use Rattle.disk_model.proofs.ImageLaws.{settled_are_contents, block_of_mix}
-use Rattle.disk_model.specs.Log.{contents, settled}
+use Rattle.disk_model.specs.Log.{Blocks, contents, settled}
 use Rattle.vdo_model.specs.declared.report.HistoryEntry.{HistoryEntry}
 use Rattle.vdo_model.specs.declared.report.Placed.{Placed}
 use Rattle.vdo_model.specs.Histories.{history_of, is_settled}
 use Rattle.vdo_model.specs.Places.{place_of}
 use Rattle.vdo_model.specs.RightReads.{is_below, value_below, ReadsRight}
 use Rattle.vdo_model.specs.Scripts.{Script}
-use Rattle.serial_engine.specs.Blocks.{entries_of, mapping_of}
+use Rattle.image_layout.specs.Window.{mapping_of, value_of}
+use Rattle.serial_engine.specs.Blocks.{NamesData, entries_of}
 use Rattle.serial_engine.specs.Served.{Ground, Seen, AllServed, ReadGives}
 use Rattle.serial_engine.specs.Story.{Served, Stored, NoRoom, DataLost, EntryLost, WriteStopped, Given, NotGiven, Flushed, FlushLost, FlushStopped, request_of, reply_of, is_placed, name, desk_of, drawn_of, places_of, entry_of, marks_of, AreServed}
 use Rattle.serial_engine.proofs.DataLaws.{HoldsData, all_hold}
 use Rattle.serial_engine.proofs.DeskLaws.{answer_at}
+use Rattle.serial_engine.proofs.EntryLaws.{mapped_named}
 use Rattle.serial_engine.proofs.StepLaws.{step_at, step_some, step_request, some_same, bool_cases, index_below, named}
 
--- the value of an address: that of its last stored write
-abbrev pub latest : List Served → ℕ → List ℕ
-latest [] a = zero_block
-latest (Stored at block x ∷ older) a = if at.0 == a then block else latest older a
-latest (NoRoom at block ∷ older) a = latest older a
-latest (DataLost at block x ∷ older) a = latest older a
-latest (EntryLost at block x ∷ older) a = latest older a
-latest (WriteStopped at block ∷ older) a = latest older a
-latest (Given at bytes ∷ older) a = latest older a
-latest (NotGiven at ∷ older) a = latest older a
-latest (Flushed ∷ older) a = latest older a
-latest (FlushLost ∷ older) a = latest older a
-latest (FlushStopped ∷ older) a = latest older a
+-- the value of an address: that of its last stored write, or the one before the session
+abbrev pub latest : (ℕ → List ℕ) → List Served → ℕ → List ℕ
+latest opened [] a = opened a
+latest opened (Stored at block x ∷ older) a = if at.0 == a then block else latest opened older a
+latest opened (NoRoom at block ∷ older) a = latest opened older a
+latest opened (DataLost at block x ∷ older) a = latest opened older a
+latest opened (EntryLost at block x ∷ older) a = latest opened older a
+latest opened (WriteStopped at block ∷ older) a = latest opened older a
+latest opened (Given at bytes ∷ older) a = latest opened older a
+latest opened (NotGiven at ∷ older) a = latest opened older a
+latest opened (Flushed ∷ older) a = latest opened older a
+latest opened (FlushLost ∷ older) a = latest opened older a
+latest opened (FlushStopped ∷ older) a = latest opened older a
 
 -- each stored block is whole
 abbrev pub AreWhole : List Served → Type 0
@@ -61,22 +64,29 @@ ShowsValue ground Unmapped value log = value ≡ zero_block
 ShowsValue ground Zero value log = value ≡ zero_block
 ShowsValue ground (At x) value log = (length value ≡ 4096) × AllByRecursion (λ content. content ≡ value) (contents ground.opening log x.0)
 
-map_shows : (ground : Ground) (story : List Served) (log : List Call) (a : ℕ) → AreWhole story → HoldsData ground story log
-    → ShowsValue ground (mapping_of (entries_of story) a) (latest story a) log
-map_shows ground [] log a whole holds = refl
-map_shows ground (Stored at block x ∷ older) log a whole holds = elim (eqb_tells at.0 a) [
+-- before the session
+window_shows : (ground : Ground) (window : List Entry) (image : Blocks) (log : List Call) (a : ℕ) (m : Mapping) → mapping_of window a ≡ m → HoldsData ground window image [] log
+    → ShowsValue ground (mapping_of window a) (value_of image window a) log
+window_shows ground window image log a Unmapped is holds = rw is refl
+window_shows ground window image log a Zero is holds = rw is refl
+window_shows ground window image log a (At x) is holds = rw is (holds x.0 (mapped_named window a x is))
+
+map_shows : (ground : Ground) (window : List Entry) (image : Blocks) (story : List Served) (log : List Call) (a : ℕ) → AreWhole story → HoldsData ground window image story log
+    → ShowsValue ground (mapping_of (entries_of window story) a) (latest (value_of image window) story a) log
+map_shows ground window image [] log a whole holds = window_shows ground window image log a (mapping_of window a) refl holds
+map_shows ground window image (Stored at block x ∷ older) log a whole holds = elim (eqb_tells at.0 a) [
   | inl same ↦ rw same.0 (whole.0, holds.0)
-  | inr other ↦ rw other.0 (map_shows ground older log a whole.1 holds.1)
+  | inr other ↦ rw other.0 (map_shows ground window image older log a whole.1 holds.1)
 ]
-map_shows ground (NoRoom at block ∷ older) log a whole holds = map_shows ground older log a whole holds
-map_shows ground (DataLost at block x ∷ older) log a whole holds = map_shows ground older log a whole holds
-map_shows ground (EntryLost at block x ∷ older) log a whole holds = map_shows ground older log a whole holds
-map_shows ground (WriteStopped at block ∷ older) log a whole holds = map_shows ground older log a whole holds
-map_shows ground (Given at bytes ∷ older) log a whole holds = map_shows ground older log a whole holds
-map_shows ground (NotGiven at ∷ older) log a whole holds = map_shows ground older log a whole holds
-map_shows ground (Flushed ∷ older) log a whole holds = map_shows ground older log a whole holds
-map_shows ground (FlushLost ∷ older) log a whole holds = map_shows ground older log a whole holds
-map_shows ground (FlushStopped ∷ older) log a whole holds = map_shows ground older log a whole holds
+map_shows ground window image (NoRoom at block ∷ older) log a whole holds = map_shows ground window image older log a whole holds
+map_shows ground window image (DataLost at block x ∷ older) log a whole holds = map_shows ground window image older log a whole holds
+map_shows ground window image (EntryLost at block x ∷ older) log a whole holds = map_shows ground window image older log a whole holds
+map_shows ground window image (WriteStopped at block ∷ older) log a whole holds = map_shows ground window image older log a whole holds
+map_shows ground window image (Given at bytes ∷ older) log a whole holds = map_shows ground window image older log a whole holds
+map_shows ground window image (NotGiven at ∷ older) log a whole holds = map_shows ground window image older log a whole holds
+map_shows ground window image (Flushed ∷ older) log a whole holds = map_shows ground window image older log a whole holds
+map_shows ground window image (FlushLost ∷ older) log a whole holds = map_shows ground window image older log a whole holds
+map_shows ground window image (FlushStopped ∷ older) log a whole holds = map_shows ground window image older log a whole holds
 
 -- what a read gives of a mapping is the value that it stands for
 gives_value : (ground : Ground) (m : Mapping) (bytes value : List ℕ) (before now : Seen) → IsTrue ground.tells → IsTrue ground.honest
@@ -174,28 +184,28 @@ drawn_le : (s : Served) (older : List Served) → drawn_of older ≤ drawn_of (s
 drawn_le s older = elim (bool_cases (is_placed s)) [ inl taken ↦ rw taken (omega arith) | inr passed ↦ rw passed (omega arith) ]
 
 -- the value below a place behind which nothing was drawn
-value_is : (requests : List Request) (places : List Placed) (story : List Served) (a q : ℕ) → PlacesAre places story → AreServed requests story → drawn_of story ≤ q
-    → value_below (requests ∷ []) places zero_block (history_of (marks_of story) a) q ≡ latest story a
-value_is requests places [] a q are each above = refl
-value_is requests places (Stored at block x ∷ older) a q are each above =
-    let rest = value_is requests places older a q are.1 each.1 (omega arith) in
+value_is : (opened : ℕ → List ℕ) (requests : List Request) (places : List Placed) (story : List Served) (a q : ℕ) → PlacesAre places story → AreServed requests story → drawn_of story ≤ q
+    → value_below (requests ∷ []) places (opened a) (history_of (marks_of story) a) q ≡ latest opened story a
+value_is opened requests places [] a q are each above = refl
+value_is opened requests places (Stored at block x ∷ older) a q are each above =
+    let rest = value_is opened requests places older a q are.1 each.1 (omega arith) in
     let below = below_is places (length older) (drawn_of older) q (are.0 refl) (omega arith) in
     elim (eqb_tells at.0 a) [
       | inl same ↦ rw (same.0, below, each.0) refl
       | inr other ↦ rw other.0 rest
     ]
-value_is requests places (NoRoom at block ∷ older) a q are each above =
-    skip (requests ∷ []) places zero_block _ (marks_of older) a q refl ∙ value_is requests places older a q are.1 each.1 (omega arith)
-value_is requests places (DataLost at block x ∷ older) a q are each above =
-    skip (requests ∷ []) places zero_block _ (marks_of older) a q refl ∙ value_is requests places older a q are.1 each.1 (omega arith)
-value_is requests places (EntryLost at block x ∷ older) a q are each above =
-    skip (requests ∷ []) places zero_block _ (marks_of older) a q refl ∙ value_is requests places older a q are.1 each.1 (omega arith)
-value_is requests places (WriteStopped at block ∷ older) a q are each above = value_is requests places older a q are.1 each.1 above
-value_is requests places (Given at bytes ∷ older) a q are each above = value_is requests places older a q are.1 each.1 (omega arith)
-value_is requests places (NotGiven at ∷ older) a q are each above = value_is requests places older a q are.1 each.1 (omega arith)
-value_is requests places (Flushed ∷ older) a q are each above = value_is requests places older a q are.1 each.1 above
-value_is requests places (FlushLost ∷ older) a q are each above = value_is requests places older a q are.1 each.1 above
-value_is requests places (FlushStopped ∷ older) a q are each above = value_is requests places older a q are.1 each.1 above
+value_is opened requests places (NoRoom at block ∷ older) a q are each above =
+    skip (requests ∷ []) places (opened a) _ (marks_of older) a q refl ∙ value_is opened requests places older a q are.1 each.1 (omega arith)
+value_is opened requests places (DataLost at block x ∷ older) a q are each above =
+    skip (requests ∷ []) places (opened a) _ (marks_of older) a q refl ∙ value_is opened requests places older a q are.1 each.1 (omega arith)
+value_is opened requests places (EntryLost at block x ∷ older) a q are each above =
+    skip (requests ∷ []) places (opened a) _ (marks_of older) a q refl ∙ value_is opened requests places older a q are.1 each.1 (omega arith)
+value_is opened requests places (WriteStopped at block ∷ older) a q are each above = value_is opened requests places older a q are.1 each.1 above
+value_is opened requests places (Given at bytes ∷ older) a q are each above = value_is opened requests places older a q are.1 each.1 (omega arith)
+value_is opened requests places (NotGiven at ∷ older) a q are each above = value_is opened requests places older a q are.1 each.1 (omega arith)
+value_is opened requests places (Flushed ∷ older) a q are each above = value_is opened requests places older a q are.1 each.1 above
+value_is opened requests places (FlushLost ∷ older) a q are each above = value_is opened requests places older a q are.1 each.1 above
+value_is opened requests places (FlushStopped ∷ older) a q are each above = value_is opened requests places older a q are.1 each.1 above
 
 whole_older : (s : Served) (older : List Served) → AreWhole (s ∷ older) → AreWhole older
 whole_older (Stored at block x) older whole = whole.1
@@ -210,14 +220,14 @@ whole_older FlushLost older whole = whole
 whole_older FlushStopped older whole = whole
 
 -- the read that this step is
-read_here : (ground : Ground) (first : Seen) (requests : List Request) (places : List Placed) (older : List Served) (now : Seen) (at : Lba) (bytes : List ℕ)
-    → IsTrue ground.tells → IsTrue ground.honest → AllServed ground first (Given at bytes ∷ older) now → AreServed requests older → AreWhole older → PlacesAre places older
-    → bytes ≡ value_below (requests ∷ []) places zero_block (history_of (marks_of older) at.0) (drawn_of older)
-read_here ground first requests places older now at bytes tells honest (before, later, gives, rest) each whole are =
-    let holds = all_hold ground first older before tells rest in
-    let shows = map_shows ground older before.log at.0 whole holds in
-    gives_value ground (mapping_of (entries_of older) at.0) bytes (latest older at.0) before now tells honest gives shows
-    ∙ sym (value_is requests places older at.0 (drawn_of older) are each (omega arith))
+read_here : (ground : Ground) (window : List Entry) (image : Blocks) (first : Seen) (requests : List Request) (places : List Placed) (older : List Served) (now : Seen) (at : Lba) (bytes : List ℕ)
+    → IsTrue ground.tells → IsTrue ground.honest → NamesData ground.geometry window → HoldsData ground window image [] first.log → AllServed ground window first (Given at bytes ∷ older) now → AreServed requests older → AreWhole older → PlacesAre places older
+    → bytes ≡ value_below (requests ∷ []) places (value_of image window at.0) (history_of (marks_of older) at.0) (drawn_of older)
+read_here ground window image first requests places older now at bytes tells honest names opened (before, later, gives, rest) each whole are =
+    let holds = all_hold ground window image first older before tells names opened rest in
+    let shows = map_shows ground window image older before.log at.0 whole holds in
+    gives_value ground (mapping_of (entries_of window older) at.0) bytes (latest (value_of image window) older at.0) before now tells honest gives shows
+    ∙ sym (value_is (value_of image window) requests places older at.0 (drawn_of older) are each (omega arith))
 
 same_place : (p q : Placed) → Some p ≡ Some q → p.place ≡ q.place
 same_place p q same = let e : p ≡ q = cc in ap (λ (r : Placed). r.place) e
@@ -226,25 +236,25 @@ below_later : (places : List Placed) (s : Served) (older : List Served) (q : ℕ
     → is_placed s ≡ true → is_below (place_of places (name (length older))) q ≡ false
 below_later places s older q are low placed = rw (are.0 placed) (le-ltb (drawn_of older) q low)
 
-read_right : (ground : Ground) (first : Seen) (requests : List Request) (places : List Placed) (story : List Served) (now : Seen) (n : ℕ) (at : Lba) (bytes : List ℕ) (p : Placed)
-    → IsTrue ground.tells → IsTrue ground.honest → AllServed ground first story now → AreServed requests story → AreWhole story → PlacesAre places story
+read_right : (ground : Ground) (window : List Entry) (image : Blocks) (first : Seen) (requests : List Request) (places : List Placed) (story : List Served) (now : Seen) (n : ℕ) (at : Lba) (bytes : List ℕ) (p : Placed)
+    → IsTrue ground.tells → IsTrue ground.honest → NamesData ground.geometry window → HoldsData ground window image [] first.log → AllServed ground window first story now → AreServed requests story → AreWhole story → PlacesAre places story
     → step_at story n ≡ Some (Given at bytes) → place_of places (name n) ≡ Some p
-    → bytes ≡ value_below (requests ∷ []) places zero_block (history_of (marks_of story) at.0) p.place
-read_right ground first requests places [] now n at bytes p tells honest served each whole are is placed = absurd cc
-read_right ground first requests places (s ∷ older) now n at bytes p tells honest served each whole are is placed = elim (eqb_tells (length older) n) [
+    → bytes ≡ value_below (requests ∷ []) places (value_of image window at.0) (history_of (marks_of story) at.0) p.place
+read_right ground window image first requests places [] now n at bytes p tells honest names opened served each whole are is placed = absurd cc
+read_right ground window image first requests places (s ∷ older) now n at bytes p tells honest names opened served each whole are is placed = elim (eqb_tells (length older) n) [
   | inl same ↦
       let here : Some s ≡ Some (Given at bytes) = rw same.0 at is in
       let s_is : s ≡ Given at bytes = cc in
       let mine = subst (λ (t : Served). is_placed t ≡ true → place_of places (name (length older)) ≡ Some (record { request = name (length older); zone = 0; place = drawn_of older })) s_is are.0 refl in
       let at_n = subst (λ (k : ℕ). place_of places (name k) ≡ Some (record { request = name (length older); zone = 0; place = drawn_of older })) same.1 mine in
       let number : p.place ≡ drawn_of older = same_place p _ (sym placed ∙ at_n) in
-      let all = subst (λ (t : Served). AllServed ground first (t ∷ older) now) s_is served in
-      let gave = read_here ground first requests places older now at bytes tells honest all each.1 (whole_older s older whole) are.1 in
-      rw number (subst (λ (t : Served). bytes ≡ value_below (requests ∷ []) places zero_block (history_of (entry_of t (name (length older)) ++ marks_of older) at.0) (drawn_of older)) (sym s_is) gave)
+      let all = subst (λ (t : Served). AllServed ground window first (t ∷ older) now) s_is served in
+      let gave = read_here ground window image first requests places older now at bytes tells honest names opened all each.1 (whole_older s older whole) are.1 in
+      rw number (subst (λ (t : Served). bytes ≡ value_below (requests ∷ []) places (value_of image window at.0) (history_of (entry_of t (name (length older)) ++ marks_of older) at.0) (drawn_of older)) (sym s_is) gave)
   | inr other ↦
-      let rest = read_right ground first requests places older served.0 n at bytes p tells honest served.3 each.1 (whole_older s older whole) are.1 (rw other.0 at is) placed in
+      let rest = read_right ground window image first requests places older served.0 n at bytes p tells honest names opened served.3 each.1 (whole_older s older whole) are.1 (rw other.0 at is) placed in
       let low = place_low places older n (Given at bytes) p are.1 (rw other.0 at is) refl placed in
-      rest ∙ sym (skip_later (requests ∷ []) places zero_block s (length older) (marks_of older) at.0 p.place (below_later places s older p.place are (omega arith)))
+      rest ∙ sym (skip_later (requests ∷ []) places (value_of image window at.0) s (length older) (marks_of older) at.0 p.place (below_later places s older p.place are (omega arith)))
 ]
 
 -- the step of a request that is answered with bytes gave them
@@ -261,10 +271,10 @@ gave_bytes FlushLost at' bytes r a = absurd cc
 gave_bytes FlushStopped at' bytes r a = absurd cc
 
 -- each read of a story is right
-pub reads_are_right : (ground : Ground) (first : Seen) (requests : List Request) (story : List Served) (now : Seen) → IsTrue ground.tells → IsTrue ground.honest
-    → AllServed ground first story now → AreServed requests story → AreWhole story → length story ≡ length requests
-    → ReadsRight (λ a. zero_block) (requests ∷ []) (desk_of story) (places_of story) (marks_of story)
-reads_are_right ground first requests story now tells honest served each whole all w at bytes p had told placed =
+pub reads_are_right : (ground : Ground) (window : List Entry) (image : Blocks) (first : Seen) (requests : List Request) (story : List Served) (now : Seen) → IsTrue ground.tells → IsTrue ground.honest
+    → NamesData ground.geometry window → HoldsData ground window image [] first.log → AllServed ground window first story now → AreServed requests story → AreWhole story → length story ≡ length requests
+    → ReadsRight (value_of image window) (requests ∷ []) (desk_of story) (places_of story) (marks_of story)
+reads_are_right ground window image first requests story now tells honest names opened served each whole all w at bytes p had told placed =
     let is = named requests w (Read at) had in
     let below = index_below requests is.n (Read at) is.had in
     let s = step_some story is.n (omega arith) in
@@ -273,4 +283,4 @@ reads_are_right ground first requests story now tells honest served each whole a
     let answered = answer_at story is.n ∙ ap (option_map reply_of) s.1 in
     let a_is : reply_of s.0 ≡ Bytes bytes = some_same _ _ (sym answered ∙ (rw is.is at told)) in
     let gave = gave_bytes s.0 at bytes r_is a_is in
-    read_right ground first requests (places_of story) story now is.n at bytes p tells honest served each whole (places_are story) (s.1 ∙ ap Some gave) (rw is.is at placed)
+    read_right ground window image first requests (places_of story) story now is.n at bytes p tells honest names opened served each whole (places_are story) (s.1 ∙ ap Some gave) (rw is.is at placed)

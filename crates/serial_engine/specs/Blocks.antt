@@ -1,5 +1,5 @@
 -- The journal entries that were stored, and the blocks that they use. The newest entry stands first.
-use Rattle.std.specs.Prelude.{ℕ, ◌≡◌, ◌⊎◌, ◌*◌, ◌/◌, ◌%◌, ◌<◌, ◌≤◌, ◌==◌, Bool, true, false, ◌||◌, List, [], ◌∷◌, length, if◌then◌else◌}
+use Rattle.std.specs.Prelude.{ℕ, ◌≡◌, ◌⊎◌, ◌*◌, ◌/◌, ◌%◌, ◌<◌, ◌≤◌, ◌==◌, Bool, true, false, ◌||◌, List, [], ◌∷◌, length}
 use Rattle.blk_base.specs.Regions.{DataBlock, JournalSlot, block_of, needed_blocks}
 use Rattle.blk_base.specs.declared.geometry.Geometry.{Geometry}
 use Rattle.blk_base.specs.declared.journal_entry.Entry.{Entry}
@@ -8,13 +8,8 @@ use Rattle.blk_base.specs.declared.place.Lba.{Lba}
 use Rattle.blk_base.specs.declared.place.Mapping.{Mapping}
 use Rattle.blk_base.specs.declared.place.Mapping.TheVariants.{Unmapped, Zero, At}
 use Rattle.blk_base.specs.declared.place.Pbn.{Pbn}
+use Rattle.image_layout.specs.Window.{IsDataBlock, mapping_of}
 use Rattle.serial_engine.specs.Story.{Served, Stored, NoRoom, DataLost, EntryLost, WriteStopped, Given, NotGiven, Flushed, FlushLost, FlushStopped}
-
--- where the entries map an address
-abbrev pub mapping_of : List Entry → ℕ → Mapping
-mapping_of [] a = Unmapped
-mapping_of (Remap at old new ∷ older) a = if at.0 == a then new else mapping_of older a
-mapping_of (NewPage page at ∷ older) a = mapping_of older a
 
 -- whether a mapping has this block
 abbrev pub is_at : Mapping → ℕ → Bool
@@ -45,10 +40,14 @@ entries_with Flushed entries = entries
 entries_with FlushLost entries = entries
 entries_with FlushStopped entries = entries
 
--- the entries of the writes that were stored
-abbrev pub entries_of : List Served → List Entry
-entries_of [] = []
-entries_of (s ∷ older) = entries_with s (entries_of older)
+-- the entries of the window, and of the writes that were stored since
+abbrev pub entries_of : List Entry → List Served → List Entry
+entries_of window [] = window
+entries_of window (s ∷ older) = entries_with s (entries_of window older)
+
+-- each block that an entry names is a data block
+abbrev pub NamesData : Geometry → List Entry → Type 0
+NamesData g entries = (b : ℕ) → is_named entries b ≡ true → IsDataBlock g b
 
 -- how many data blocks an image has, and which is the k-th
 abbrev pub data_blocks : Geometry → ℕ

@@ -22,9 +22,9 @@ pub record Keeping : Type 0 where
   pub entries : List Entry
   pub stopped : Bool
 
--- before the first request
-abbrev pub nothing_kept : Keeping
-nothing_kept = record { desk = []; places = []; drawn = 0; histories = []; entries = []; stopped = false }
+-- before the first request: the entries of the window
+abbrev pub window_kept : List Entry → Keeping
+window_kept window = record { desk = []; places = []; drawn = 0; histories = []; entries = window; stopped = false }
 
 -- what the n-th request, served so, adds
 pub record Adds (s : Served) (n : ℕ) (old new : Keeping) : Type 0 where
@@ -60,14 +60,14 @@ pub record ServesRequest (ground : Ground) (n : ℕ) (request : Request) (old ne
   pub done : Served1 ground n how old new before after
 
 -- the first n requests were served, and what the session keeps is their story's
-pub record InSession (ground : Ground) (requests : List Request) (first : Seen) (n : ℕ) (k : Keeping) (now : Seen) : Type 0 where
+pub record InSession (ground : Ground) (window : List Entry) (requests : List Request) (first : Seen) (n : ℕ) (k : Keeping) (now : Seen) : Type 0 where
   pub story : List Served
   pub count : length story ≡ n
   pub each : AreServed requests story
-  pub served : AllServed ground first story now
+  pub served : AllServed ground window first story now
   pub desk_is : k.desk ≡ desk_of story
   pub places_is : k.places ≡ places_of story
   pub drawn_is : k.drawn ≡ drawn_of story
   pub histories_is : k.histories ≡ marks_of story
-  pub entries_is : k.entries ≡ entries_of story
+  pub entries_is : k.entries ≡ entries_of window story
   pub stopped_is : k.stopped ≡ is_stopped story

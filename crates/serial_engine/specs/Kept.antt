@@ -1,5 +1,5 @@
 -- What a session's fields keep.
-use Rattle.std.specs.Prelude.{ℕ, ◌≡◌, ◌*◌, ◌≤◌, reverse, vec_len}
+use Rattle.std.specs.Prelude.{ℕ, ◌≡◌, ◌+◌, ◌*◌, ◌≤◌, reverse, vec_len}
 use Rattle.serial_engine.specs.declared.session.Session.{Session}
 use Rattle.serial_engine.specs.Keeping.{Keeping}
 
@@ -18,10 +18,11 @@ pub record HasServed (n : ℕ) (session : Session) : Type 0 where
   pub desk : vec_len session.desk ≡ 2 * n
   pub places : vec_len session.places ≤ n
   pub histories : vec_len session.histories ≤ n
-  pub entries : vec_len session.entries ≤ n
+  pub entries : vec_len session.entries ≤ session.opened + n
 
 -- what a session is served over stays
 pub record SameGround (old new : Session) : Type 0 where
   pub layout : new.layout ≡ old.layout
   pub start : new.start ≡ old.start
   pub limit : new.limit ≡ old.limit
+  pub opened : new.opened ≡ old.opened

@@ -12,8 +12,9 @@ use Rattle.disk_model.specs.Causes.{Rose}
 use Rattle.disk_model.specs.Images.{IsMixOf}
 use Rattle.disk_model.specs.Log.{Blocks as Opening, settled}
 use Rattle.disk_model.specs.Telling.{FailedInLog}
+use Rattle.image_layout.specs.Window.{mapping_of}
 use Rattle.journal_codec.specs.Spelling.{block_bytes}
-use Rattle.serial_engine.specs.Blocks.{mapping_of, remap, entries_of, slot_number, IsNextBlock, IsUsedUp}
+use Rattle.serial_engine.specs.Blocks.{remap, entries_of, slot_number, IsNextBlock, IsUsedUp}
 use Rattle.serial_engine.specs.Story.{Served, Stored, NoRoom, DataLost, EntryLost, WriteStopped, Given, NotGiven, Flushed, FlushLost, FlushStopped, is_stopped}
 
 -- what contracts see of a device at a moment: its log, how often a call failed, and how often one wasn't kept in the log
@@ -111,8 +112,8 @@ pub record Later (before after : Seen) : Type 0 where
   pub faults : before.faults ≤ after.faults
   pub unkept : before.unkept ≤ after.unkept
 
--- each request was served, from what the device was at first
-abbrev pub AllServed : Ground → Seen → List Served → Seen → Type 0
-AllServed ground first [] now = first ≡ now
-AllServed ground first (s ∷ older) now =
-    (before : Seen) × Later before now × Serves ground (entries_of older) (is_stopped older) s before now × AllServed ground first older before
+-- each request was served, from what the device was at first, and the entries of the window, the newest first
+abbrev pub AllServed : Ground → List Entry → Seen → List Served → Seen → Type 0
+AllServed ground window first [] now = first ≡ now
+AllServed ground window first (s ∷ older) now =
+    (before : Seen) × Later before now × Serves ground (entries_of window older) (is_stopped older) s before now × AllServed ground window first older before

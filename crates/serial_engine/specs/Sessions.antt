@@ -1,6 +1,6 @@
 -- A session: its story, and what the report and the device's log say of it.
 use Rattle.std.specs.Prelude.{◌≡◌, ◌++◌, true, IsTrue, List, [], ◌∷◌, Some, length}
-use Rattle.blk_base.specs.Sectors.{zero_block}
+use Rattle.blk_base.specs.declared.journal_entry.Entry.{Entry}
 use Rattle.blk_base.specs.declared.request.Answer.{Answer as Reply}
 use Rattle.blk_base.specs.declared.request.Answer.TheVariants as reply
 use Rattle.blk_base.specs.declared.request.Request.{Request}
@@ -8,6 +8,9 @@ use Rattle.blk_base.specs.declared.request.Writer.{Writer}
 use Rattle.disk_model.specs.Causes.{Rose}
 use Rattle.disk_model.specs.declared.call.Call.{Call}
 use Rattle.disk_model.specs.declared.call.Call.TheVariants.{Read, Write, Flush}
+use Rattle.disk_model.specs.Images.{HasOneImage}
+use Rattle.disk_model.specs.Log.{Blocks}
+use Rattle.image_layout.specs.Window.{value_of}
 use Rattle.vdo_model.specs.declared.report.DeskLine.{DeskLine}
 use Rattle.vdo_model.specs.declared.report.HistoryEntry.{HistoryEntry}
 use Rattle.vdo_model.specs.declared.report.Placed.{Placed}
@@ -46,17 +49,19 @@ HasFault reply.NoSpace = ⊥
 HasFault reply.Full = ⊥
 HasFault reply.Damaged = ⊥
 
--- A session over these requests that ended: every request was served in its turn, the report's lists are those of the
+-- A session over these requests that ended, on an image whose window has these entries: every request was served in its turn, the report's lists are those of the
 -- story, and they are right.
-pub record IsSession (ground : Ground) (requests : List Request) (desk : List DeskLine) (places : List Placed) (histories : List HistoryEntry) (first now : Seen) : Type 0 where
+pub record IsSession (ground : Ground) (window : List Entry) (requests : List Request) (desk : List DeskLine) (places : List Placed) (histories : List HistoryEntry) (first now : Seen) : Type 0 where
   pub story : List Served
   pub each : AreServed requests story
   pub whole : length story ≡ length requests
-  pub served : AllServed ground first story now
+  pub served : AllServed ground window first story now
   pub desk_is : desk ≡ desk_of story
   pub places_is : places ≡ places_of story
   pub histories_is : histories ≡ marks_of story
   pub run_right : RunRight 1 1 ground.geometry.logical (handed_of story) (requests ∷ []) desk places histories
-  pub reads_right : IsTrue ground.tells → IsTrue ground.honest → ReadsRight (λ a. zero_block) (requests ∷ []) desk places histories
+  -- before the session each address has its value in the image, where nothing is pending
+  pub reads_right : IsTrue ground.tells → IsTrue ground.honest → (image : Blocks) → HasOneImage ground.opening first.log image
+      → ReadsRight (value_of image window) (requests ∷ []) desk places histories
   pub causes : (w : Writer) (a : Reply) → answer_of desk w ≡ Some a → HasFault a → Rose first.faults now.faults
   pub stops : IsTrue ground.tells → SinceThen StopsAtFailure first.log now.log

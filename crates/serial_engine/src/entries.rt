@@ -1,26 +1,7 @@
 ghost use Rattle.std.specs.Prelude.{ℕ, ◌≡◌, ◌<◌, ◌≤◌, true, reverse, length, IfSome, IfNone};
-ghost use Rattle.serial_engine.specs.Blocks.{mapping_of, is_named, data_blocks, data_number, IsNextBlock};
+ghost use Rattle.serial_engine.specs.Blocks.{is_named, data_blocks, data_number, IsNextBlock};
 
-use blk_base::{Entry, Layout, Lba, Mapping, Pbn};
-
-/// Where the entries, the oldest first, map an address.
-pub(crate) fn mapping_at(entries: &[Entry], at: Lba) -> Mapping
-    ensures { result ≡ mapping_of (reverse entries.now) at.0 }
-{
-    let mut mapping = Mapping::Unmapped;
-    for entry in entries {
-        if let Entry::Remap {
-            at: mapped,
-            new,
-            ..
-        } = entry
-            && *mapped == at
-        {
-            mapping = *new;
-        }
-    }
-    mapping
-}
+use blk_base::{Entry, Layout, Mapping, Pbn};
 
 /// Whether an entry maps an address to this block.
 pub(crate) fn is_taken(entries: &[Entry], at: Pbn) -> bool

@@ -1,12 +1,12 @@
 ghost use Rattle.std.specs.Prelude.{◌≡◌, ◌<◌, ◌≤◌, reverse, OnOk, OnErr};
 ghost use Rattle.blk_base.specs.declared.geometry.Geometry.{Geometry};
-ghost use Rattle.serial_engine.specs.Blocks.{mapping_of};
+ghost use Rattle.image_layout.specs.Window.{mapping_of};
 ghost use Rattle.serial_engine.specs.Keeping.{NamesBelow};
 ghost use Rattle.serial_engine.specs.Served.{ReadGives, ReadFails, Later, ground, seen};
 
-use crate::entries::mapping_at;
 use blk_base::{Block, Entry, Layout, Lba, Mapping};
 use disk_model::{Disk, Failed};
+use image_layout::mapping_at;
 
 /// Reads the block to which the entries map an address, or zeros where they map it to none.
 pub(crate) fn read<D: Disk>(

@@ -6,13 +6,13 @@ ghost use Rattle.serial_engine.specs.Keeping.{Served1, ServesRequest, NamesBelow
 ghost use Rattle.serial_engine.specs.Kept.{kept, HasServed, SameGround};
 ghost use Rattle.serial_engine.specs.Served.{ground, seen};
 
-use crate::entries::mapping_at;
 use crate::lists::add;
 use crate::read::read;
 use crate::write::write;
 use crate::{Session, Written};
 use blk_base::{Answer, Block, Entry, Lba, Mapping, Request, Writer};
 use disk_model::Disk;
+use image_layout::mapping_at;
 use vdo_model::{DeskLine, HistoryEntry, Mark, Placed};
 
 // Draws the next place of logical zone 0, the only one.

@@ -1,16 +1,17 @@
-ghost use Rattle.std.specs.Prelude.{◌≡◌, ◌≤◌, ◌<◌, ◌^◌, [], ◌∷◌, length, IfOk, OnErr};
+ghost use Rattle.std.specs.Prelude.{◌≡◌, ◌≤◌, ◌<◌, ◌^◌, [], ◌∷◌, length, reverse, vec_len, IfOk, OnErr};
 ghost use Rattle.blk_base.specs.Limits.{IsGeometry};
 ghost use Rattle.blk_base.specs.Regions.{needed_blocks};
 ghost use Rattle.vdo_model.specs.Scripts.{stream_of};
 ghost use Rattle.vdo_model.specs.Servable.{AreServable};
-ghost use Rattle.serial_engine.specs.Keeping.{InSession, nothing_kept};
+ghost use Rattle.serial_engine.specs.Blocks.{NamesData};
+ghost use Rattle.serial_engine.specs.Keeping.{InSession, window_kept};
 ghost use Rattle.serial_engine.specs.Kept.{kept};
 ghost use Rattle.serial_engine.specs.Served.{ground, seen};
 ghost use Rattle.serial_engine.specs.Sessions.{IsSession};
 
 use crate::Session;
 use crate::serve::serve;
-use blk_base::{Request, Super};
+use blk_base::{Entry, Request, Super};
 use disk_model::Disk;
 use std::alloc::{AllocError, Global};
 use vdo_model::{Requests, Rows, RunReport};
@@ -19,9 +20,11 @@ use vdo_model::{Requests, Rows, RunReport};
 fn serve_each<D: Disk>(device: &mut D, session: &mut Session, requests: &[Request])
     requires size { needed_blocks session.old.layout.geometry ≤ D.size device.old }
     requires limit { session.old.limit ≡ length requests.now }
-    requires fresh { kept session.old ≡ nothing_kept }
+    requires fresh { kept session.old ≡ window_kept (kept session.old).entries }
+    requires opened { vec_len session.old.entries ≡ session.old.opened }
+    requires names { NamesData session.old.layout.geometry (kept session.old).entries }
     requires servable { AreServable session.old.layout.geometry.logical requests.now }
-    ensures served { InSession (ground session.old.layout.geometry session.old.start (D.opening device.old) D.tells D.honest) requests.now
+    ensures served { InSession (ground session.old.layout.geometry session.old.start (D.opening device.old) D.tells D.honest) (kept session.old).entries requests.now
         (seen (D.log device.old) (D.faults device.old) (D.unkept device.old)) (length requests.now) (kept session.new) (seen (D.log device.new) (D.faults device.new) (D.unkept device.new)) }
     ensures size { D.size device.new ≡ D.size device.old }
     ensures opening { D.opening device.new ≡ D.opening device.old }
@@ -31,7 +34,8 @@ fn serve_each<D: Disk>(device: &mut D, session: &mut Session, requests: &[Reques
     }
 }
 
-/// Serves the requests of stream 0 on a fresh image, one after the other, and reports what became of them.
+/// Serves the requests of stream 0, one after the other, on an image whose window has these entries, the oldest first,
+/// and reports what became of them.
 ///
 /// A write goes to the first data block that no journal entry names. It is answered Ok once its block is flushed, and
 /// then a journal block with its entry. `Full` comes exactly where all journal blocks or all data blocks are used.
@@ -42,24 +46,28 @@ fn serve_each<D: Disk>(device: &mut D, session: &mut Session, requests: &[Reques
 pub fn serve_requests<D: Disk>(
     alloc: Global,
     head: &Super,
+    window: Vec<Entry>,
     requests: Requests,
     device: &mut D,
 ) -> Result<RunReport, AllocError>
     requires sizes { IsGeometry head.now.geometry }
     requires start { head.now.start < 2 ^ 54 }
     requires size { needed_blocks head.now.geometry ≤ D.size device.old }
+    requires opened { vec_len window ≤ 1024 }
+    requires names { NamesData head.now.geometry (reverse window.items) }
     requires few { length (stream_of requests 0) ≤ 1024 }
     requires servable { AreServable head.now.geometry.logical (stream_of requests 0) }
     ensures report { IfOk result (λ report. report.requests ≡ requests) }
     ensures session { IfOk result (λ report.
-        IsSession (ground head.now.geometry head.now.start (D.opening device.old) D.tells D.honest) (stream_of requests 0) report.desk report.places report.histories
+        IsSession (ground head.now.geometry head.now.start (D.opening device.old) D.tells D.honest) (reverse window.items) (stream_of requests 0) report.desk report.places report.histories
         (seen (D.log device.old) (D.faults device.old) (D.unkept device.old)) (seen (D.log device.new) (D.faults device.new) (D.unkept device.new))) }
     ensures err { OnErr result (device.new ≡ device.old) }
     ensures size { D.size device.new ≡ D.size device.old }
     ensures opening { D.opening device.new ≡ D.opening device.old }
 {
     let stream = requests.stream(0);
-    let mut session = Session::begin(alloc, head, stream.len())?;
+    let mut session = Session::begin(alloc, head, window, stream.len())?;
+    let _blocks = device.blocks();
     serve_each(device, &mut session, stream);
     Ok(RunReport {
         desk: Rows::from_vec(session.desk),

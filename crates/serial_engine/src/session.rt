@@ -1,4 +1,4 @@
-ghost use Rattle.std.specs.Prelude.{◌≡◌, ◌≤◌, ◌<◌, ◌*◌, ◌^◌, [], false, vec_capacity, IfOk};
+ghost use Rattle.std.specs.Prelude.{◌≡◌, ◌≤◌, ◌<◌, ◌+◌, ◌*◌, ◌^◌, [], false, vec_len, vec_capacity, IfOk};
 ghost use Rattle.blk_base.specs.Limits.{IsGeometry};
 
 use blk_base::{Entry, Layout, Super};
@@ -12,38 +12,52 @@ pub struct Session {
     /// The sequence of the first journal block.
     pub start: u64,
     pub limit: usize,
+    /// How many entries the window has, at most 1024.
+    pub opened: usize,
     pub desk: Vec<DeskLine>,
     pub places: Vec<Placed>,
     pub histories: Vec<HistoryEntry>,
-    /// The entries of the writes that were stored.
+    /// The entries of the window, and of the writes that were stored since, the oldest first.
     pub entries: Vec<Entry>,
     /// Whether a write or flush of the device failed.
     pub stopped: bool,
     ghost starts: { start < 2 ^ 54 },
     ghost few: { limit ≤ 1024 },
+    ghost few_opened: { opened ≤ 1024 },
     ghost desk_room: { 2 * limit ≤ vec_capacity desk },
     ghost places_room: { limit ≤ vec_capacity places },
     ghost histories_room: { limit ≤ vec_capacity histories },
-    ghost entries_room: { limit ≤ vec_capacity entries },
+    ghost entries_room: { opened + limit ≤ vec_capacity entries },
 }
 
 impl Session {
-    /// A session over an image, before its first request. It has room for `limit` requests, at most 1024.
-    pub fn begin(alloc: Global, head: &Super, limit: usize) -> Result<Session, AllocError>
+    /// A session over an image whose window has these entries, the oldest first and at most 1024, before its first
+    /// request. It has room for `limit` requests, at most 1024.
+    pub fn begin(
+        alloc: Global,
+        head: &Super,
+        window: Vec<Entry>,
+        limit: usize,
+    ) -> Result<Session, AllocError>
         requires sizes { IsGeometry head.now.geometry }
         requires start { head.now.start < 2 ^ 54 }
         requires few { limit ≤ 1024 }
-        ensures { IfOk result (λ session. (session.layout.geometry ≡ head.now.geometry) × (session.start ≡ head.now.start) × (session.limit ≡ limit)
-            × (session.desk.items ≡ []) × (session.places.items ≡ []) × (session.histories.items ≡ []) × (session.entries.items ≡ []) × (session.stopped ≡ false)) }
+        requires few_opened { vec_len window ≤ 1024 }
+        ensures { IfOk result (λ session. (session.layout.geometry ≡ head.now.geometry) × (session.start ≡ head.now.start) × (session.limit ≡ limit) × (session.opened ≡ vec_len window)
+            × (session.desk.items ≡ []) × (session.places.items ≡ []) × (session.histories.items ≡ []) × (session.entries.items ≡ window.items) × (session.stopped ≡ false)) }
     {
+        let opened = window.len();
+        let mut entries = window;
+        entries.reserve(limit)?;
         Ok(Session {
             layout: Layout::of(&head.geometry),
             start: head.start,
             limit,
+            opened,
             desk: Vec::with_capacity(alloc, 2 * limit)?,
             places: Vec::with_capacity(alloc, limit)?,
             histories: Vec::with_capacity(alloc, limit)?,
-            entries: Vec::with_capacity(alloc, limit)?,
+            entries,
             stopped: false,
         })
     }

@@ -4,10 +4,11 @@ ghost use Rattle.journal_codec.specs.Spelling.{block_bytes};
 ghost use Rattle.serial_engine.specs.Keeping.{served_write};
 ghost use Rattle.serial_engine.specs.Served.{Serves, Later, ground, seen};
 
-use crate::entries::{mapping_at, next_block};
+use crate::entries::next_block;
 use crate::store::store;
 use blk_base::{Block, Entry, Layout, Lba, Mapping, Pbn};
 use disk_model::Disk;
+use image_layout::mapping_at;
 use journal_codec::{Entries, JournalBlock, encode};
 
 /// How a write went.
@@ -52,7 +53,7 @@ pub(crate) fn write<D: Disk>(
     block: &Block,
 ) -> Written
     requires size { needed_blocks layout.now.geometry ≤ D.size device.old }
-    requires few { length entries.now ≤ 1024 }
+    requires few { length entries.now ≤ 2048 }
     requires start { start < 2 ^ 54 }
     ensures serves { Serves (ground layout.now.geometry start (D.opening device.old) D.tells D.honest) (reverse entries.now) false (served_write (Some result) at block.now)
         (seen (D.log device.old) (D.faults device.old) (D.unkept device.old)) (seen (D.log device.new) (D.faults device.new) (D.unkept device.new)) }

@@ -1,5 +1,5 @@
 -- One word, by its bytes.
-use Rattle.std.proofs.Common.{ℕ, ◌≡◌, ◌↔◌, Bool, true, IsTrue, List, [], ◌∷◌, length, get_or, map, bytes_eq, refl, sym, ◌∙◌, ap, arith}
+use Rattle.std.proofs.Common.{ℕ, ◌≡◌, ◌↔◌, Bool, IsTrue, List, [], ◌∷◌, length, get_or, map, bytes_eq, refl, sym, ◌∙◌, ap, arith}
 use Rattle.std.proofs.lemmas.Slice.Eq.{bytes_eq-Decides}
 
 pub one_word : {X : Type 0} (f : X → List ℕ) (items : List X) (word : X) (bytes text : List ℕ) (b : Bool) → length items ≡ 1 → word ≡ get_or items 0 word → bytes ≡ f word

@@ -16,6 +16,10 @@ use Rattle.vdo_cli.specs.declared.fault.Fault.TheVariants as fault
 abbrev pub super_fault_line : SuperFault → List ℕ
 super_fault_line why = codes "bad image: " ++ super_fault_text why ++ codes "\n"
 
+-- the line of a block of the window that isn't as a run leaves it
+abbrev pub window_fault_line : ℕ → List ℕ
+window_fault_line sequence = codes "bad image: " ++ (codes "window " ++ decimal sequence) ++ codes "\n"
+
 -- the number of the line that is refused
 abbrev pub line_of : ScriptFault → ℕ
 line_of (script.Later line) = line
@@ -30,6 +34,7 @@ fault_text fault.Usage = codes "usage\n"
 fault_text (fault.Script why) = script_fault_line why
 fault_text fault.Device = codes "device fault\n"
 fault_text (fault.Image (image.Super why)) = super_fault_line why
+fault_text (fault.Image (image.Window sequence)) = window_fault_line sequence
 fault_text fault.Memory = codes "no memory\n"
 fault_text fault.Read = codes "read fault\n"
 fault_text fault.Sink = []

@@ -1,7 +1,7 @@
 ghost use Rattle.std.specs.Prelude.{◌≡◌, ◌++◌, IsTrue, OnOk, OnErr, reverse};
 ghost use Rattle.disk_model.specs.Causes.{HasCause};
 ghost use Rattle.stream_text.specs.Puts.{PutsPart};
-ghost use Rattle.vdo_cli.specs.Texts.{fault_text, fault_status, super_fault_line, script_fault_line, line_of, some_lost, some_full, desk_status};
+ghost use Rattle.vdo_cli.specs.Texts.{fault_text, fault_status, super_fault_line, window_fault_line, script_fault_line, line_of, some_lost, some_full, desk_status};
 
 use crate::Fault;
 use blk_base::Answer;
@@ -54,6 +54,21 @@ fn put_super_fault<K: Sink>(fault: SuperFault, out: &mut K) -> Result<(), Failed
     }
 }
 
+// Puts the line of a block of the window that isn't as a run leaves it.
+fn put_window_fault<K: Sink>(sequence: u64, out: &mut K) -> Result<(), Failed>
+    ensures ok { IsTrue K.tells → OnOk result (K.holds out.new ≡ K.holds out.old ++ window_fault_line sequence) }
+    ensures err { IsTrue K.tells → OnErr result (PutsPart (K.holds out.old) (K.holds out.new) (window_fault_line sequence)) }
+    ensures cause { HasCause (K.faults out.old) (K.faults out.new) result }
+{
+    let mut buffer = itoa::Buffer::new();
+    put_three(
+        out,
+        b"bad image: window ",
+        buffer.format(sequence).as_bytes(),
+        b"\n",
+    )
+}
+
 // The number of the line that is refused.
 fn refused_line(fault: ScriptFault) -> u64
     ensures { result ≡ line_of fault }
@@ -89,6 +104,7 @@ pub(crate) fn put_fault<K: Sink>(fault: &Fault, out: &mut K) -> Result<(), Faile
         Fault::Script(why) => put_script_fault(*why, out),
         Fault::Device => out.put(b"device fault\n"),
         Fault::Image(ImageFault::Super(why)) => put_super_fault(*why, out),
+        Fault::Image(ImageFault::Window { sequence }) => put_window_fault(*sequence, out),
         Fault::Memory => out.put(b"no memory\n"),
         Fault::Read => out.put(b"read fault\n"),
         Fault::Sink => out.put(b""),

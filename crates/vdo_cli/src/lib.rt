@@ -16,3 +16,5 @@ pub use words::Words;
 
 #[cfg(test)]
 mod tests;
+#[cfg(test)]
+mod window_tests;

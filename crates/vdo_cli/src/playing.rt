@@ -3,14 +3,14 @@ ghost use Rattle.serial_engine.specs.Served.{seen};
 ghost use Rattle.vdo_cli.specs.Endings.{Plays, PlayFails, IsUntouched};
 
 use crate::Fault;
-use crate::opening::open;
+use crate::opening::{Opened, open};
 use disk_model::{Disk, Source};
 use serial_engine::serve_requests;
 use std::alloc::Global;
 use stream_text::{ReadScript, read_script};
 use vdo_model::RunReport;
 
-/// Reads the superblock and the script, and serves the script's requests.
+/// Reads the superblock, the window and the script, and serves the script's requests.
 pub(crate) fn play<D: Disk, S: Source>(
     alloc: Global,
     device: &mut D,
@@ -25,8 +25,8 @@ pub(crate) fn play<D: Disk, S: Source>(
         (seen (D.log device.old) (D.faults device.old) (D.unkept device.old)) (seen (D.log device.new) (D.faults device.new) (D.unkept device.new))) }
     ensures later { S.faults script.old ≤ S.faults script.new }
 {
-    let head = match open(device) {
-        Ok(head) => head,
+    let Opened { head, window } = match open(alloc, device) {
+        Ok(opened) => opened,
         Err(fault) => return Err(fault),
     };
     let requests = match read_script(alloc, script, head.geometry.logical) {
@@ -35,7 +35,7 @@ pub(crate) fn play<D: Disk, S: Source>(
         Err(ReadScript::Read) => return Err(Fault::Read),
         Err(ReadScript::Memory) => return Err(Fault::Memory),
     };
-    match serve_requests(alloc, &head, requests, device) {
+    match serve_requests(alloc, &head, window, requests, device) {
         Ok(report) => Ok(report),
         Err(_) => Err(Fault::Memory),
     }

@@ -73,7 +73,8 @@ fn close<D: Disk, K: Sink>(report: RunReport, device: D, out: &mut K) -> Ended<D
 }
 
 /// Does what the words say. The only command is `run`: the requests of the script are served on the device's image, one
-/// after the other, and their answers are put to `out`, one line for each.
+/// after the other, and their answers are put to `out`, one line for each. What earlier runs wrote is there again: it
+/// is read from the window of the recovery journal.
 ///
 /// | Status | Comes where |
 /// |---|---|
@@ -81,11 +82,11 @@ fn close<D: Disk, K: Sink>(report: RunReport, device: D, out: &mut K) -> Ended<D
 /// | 1 | a request was answered Full: all journal blocks or all data blocks were used |
 /// | 2 | the words are no command (`Usage`), or a line of the script is refused (`Script`) |
 /// | 3 | the device failed: before the script was read (`Device`), or a request was answered Stopped or with a read fault |
-/// | 4 | the device has no image (`Image`) |
+/// | 4 | the device has no image, or a block of its window isn't as a run leaves it (`Image`) |
 /// | 5 | memory ran out before the first request was served (`Memory`) |
 /// | 7 | the source or the sink failed (`Read`, `Sink`) |
 ///
-/// The first that applies is taken in this order: words, superblock, script; and of a session 3, 7, 1, 0.
+/// The first that applies is taken in this order: words, superblock, window, script; and of a session 3, 7, 1, 0.
 pub fn run<R: Threads + Wait + Sync, D: Disk + Send + Drop, S: Source, K: Sink, G: ZoneGate + Sync>(
     rt: &R,
     words: &Words,

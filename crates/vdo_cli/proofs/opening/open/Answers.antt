@@ -1,31 +1,37 @@
-use Rattle.std.proofs.Common.{◌≡◌, ◌∙◌, length, ap, sym, arith}
-use Rattle.vdo_cli.proofs.OpeningLaws.{first_says, read_since, failed_since}
+use Rattle.serial_engine.specs.Served.{seen}
+use Rattle.vdo_cli.proofs.OpeningLaws.{untouched_on}
+use Rattle.vdo_cli.proofs.WindowLaws.{fails_since, window_of_image, faulty_of_image, written_name_data}
 use Rattle.vdo_cli.proofs.opening.open.Goals as goal
 
-pub returns-in_default-clause-untouched : goal.returns-in_default-clause-untouched
-returns-in_default-clause-untouched g c = record {
-  reads = λ tells. failed_since _ _ _ _ _ (c.in_default.ensures.err tells);
-  later = record { faults = c.read.ensures.cause.later; unkept = c.read.ensures.unkept };
-}
+pub returns-in-Err-read_journal-clause-fault : goal.returns-in-Err-read_journal-clause-fault
+returns-in-Err-read_journal-clause-fault g c =
+    fails_since _ _ _ _ (seen (g.D.Disk.log c.read_head.new.device) (g.D.Disk.faults c.read_head.new.device) (g.D.Disk.unkept c.read_head.new.device))
+    (seen (g.D.Disk.log c.read_journal.new.device) (g.D.Disk.faults c.read_journal.new.device) (g.D.Disk.unkept c.read_journal.new.device)) _ c.read_head.ensures.untouched (rw c.read_head.ensures.opening at c.in-Err-read_journal.ensures.fault)
 
-pub returns-in-Ok-read_super-clause-head : goal.returns-in-Ok-read_super-clause-head
-returns-in-Ok-read_super-clause-head g c tells honest image one =
-    let whole : length c.read.new.into ≡ 4096 = omega (arith, ap length c.block.view_is) in
-    first_says _ _ image c.read.new.into c.blocks-blocks.result _ (c.blocks-blocks.ensures.told tells ∙ sym c.blocks-blocks.ensures.size) (omega arith) whole (c.in-Ok.ensures.given tells honest) (sym c.in-Ok-read_super.ensures.read) one
+pub returns-in-Err-read_journal-clause-untouched : goal.returns-in-Err-read_journal-clause-untouched
+returns-in-Err-read_journal-clause-untouched g c = untouched_on _ _ _ _ c.read_head.ensures.untouched c.read_journal.ensures.untouched
 
-pub returns-in-Ok-read_super-clause-untouched : goal.returns-in-Ok-read_super-clause-untouched
-returns-in-Ok-read_super-clause-untouched g c = record {
-  reads = λ tells. read_since _ _ _ _ _ (c.in-Ok.ensures.ok tells);
-  later = record { faults = c.read.ensures.cause.later; unkept = c.read.ensures.unkept };
-}
+pub returns-in-Ok-read_window-clause-window : goal.returns-in-Ok-read_window-clause-window
+returns-in-Ok-read_window-clause-window g c =
+    window_of_image _ _ _ _ _ c.in-Ok.head _ _ c.read_head.ensures.untouched (rw (c.read_head.ensures.opening, c.of-layout.ensures) at c.in-Ok-read_journal.ensures.journal)
+    (rw c.as_slice.ensures.value at c.in-Ok-read_window.ensures.window)
 
-pub returns-in-Err-clause-fault : goal.returns-in-Err-clause-fault
-returns-in-Err-clause-fault g c tells honest image one =
-    let whole : length c.read.new.into ≡ 4096 = omega (arith, ap length c.block.view_is) in
-    first_says _ _ image c.read.new.into c.blocks-blocks.result _ (c.blocks-blocks.ensures.told tells ∙ sym c.blocks-blocks.ensures.size) (omega arith) whole (c.in-Ok.ensures.given tells honest) (sym c.in-Err.ensures.read) one
+pub returns-in-Ok-read_window-clause-names : goal.returns-in-Ok-read_window-clause-names
+returns-in-Ok-read_window-clause-names g c = written_name_data c.in-Ok.head.geometry c.in-Ok.head.start _ _ c.in-Ok-read_window.ensures.window.written
 
-pub returns-in-Err-clause-untouched : goal.returns-in-Err-clause-untouched
-returns-in-Err-clause-untouched g c = record {
-  reads = λ tells. read_since _ _ _ _ _ (c.in-Ok.ensures.ok tells);
-  later = record { faults = c.read.ensures.cause.later; unkept = c.read.ensures.unkept };
-}
+pub returns-in-Ok-read_window-clause-untouched : goal.returns-in-Ok-read_window-clause-untouched
+returns-in-Ok-read_window-clause-untouched g c = untouched_on _ _ _ _ c.read_head.ensures.untouched c.read_journal.ensures.untouched
+
+pub returns-in-Err-Faulty-clause-fault : goal.returns-in-Err-Faulty-clause-fault
+returns-in-Err-Faulty-clause-fault g c = rw c.in-Err-Faulty.field-0-is (
+  c.in-Ok.head,
+  c.in-Ok.ensures.head,
+  faulty_of_image _ _ _ _ _ c.in-Ok.head _ _ c.read_head.ensures.untouched (rw (c.read_head.ensures.opening, c.of-layout.ensures) at c.in-Ok-read_journal.ensures.journal)
+      (rw (c.as_slice.ensures.value, c.in-Err-Faulty.field-0-is) at c.in-Err-Faulty.ensures.faulty),
+)
+
+pub returns-in-Err-Faulty-clause-untouched : goal.returns-in-Err-Faulty-clause-untouched
+returns-in-Err-Faulty-clause-untouched g c = untouched_on _ _ _ _ c.read_head.ensures.untouched c.read_journal.ensures.untouched
+
+pub returns-clause-untouched : goal.returns-clause-untouched
+returns-clause-untouched g c = untouched_on _ _ _ _ c.read_head.ensures.untouched c.read_journal.ensures.untouched

@@ -1,4 +1,4 @@
-use Rattle.std.proofs.Common.{◌≡◌, ◌∙◌, length, string_bytes, codes, sym, ap, arith}
+use Rattle.std.proofs.Common.{◌≡◌, length, string_bytes, codes, arith}
 use Rattle.vdo_cli.proofs.WordLaws.{one_word}
 use Rattle.vdo_cli.proofs.words.Words.is_run.Goals as goal
 

@@ -1,0 +1,31 @@
+use Rattle.std.proofs.Common.{◌≡◌, ◌∙◌, length, ap, sym, arith}
+use Rattle.vdo_cli.proofs.OpeningLaws.{first_says, read_since, failed_since}
+use Rattle.vdo_cli.proofs.opening.read_head.Goals as goal
+
+pub returns-in_default-clause-untouched : goal.returns-in_default-clause-untouched
+returns-in_default-clause-untouched g c = record {
+  reads = λ tells. failed_since _ _ _ _ _ (c.in_default.ensures.err tells);
+  later = record { faults = c.read.ensures.cause.later; unkept = c.read.ensures.unkept };
+}
+
+pub returns-in-Ok-read_super-clause-head : goal.returns-in-Ok-read_super-clause-head
+returns-in-Ok-read_super-clause-head g c tells honest image one =
+    let whole : length c.read.new.into ≡ 4096 = omega (arith, ap length c.block.view_is) in
+    first_says _ _ image c.read.new.into c.blocks-blocks.result _ (c.blocks-blocks.ensures.told tells ∙ sym c.blocks-blocks.ensures.size) (omega arith) whole (c.in-Ok.ensures.given tells honest) (sym c.in-Ok-read_super.ensures.read) one
+
+pub returns-in-Ok-read_super-clause-untouched : goal.returns-in-Ok-read_super-clause-untouched
+returns-in-Ok-read_super-clause-untouched g c = record {
+  reads = λ tells. read_since _ _ _ _ _ (c.in-Ok.ensures.ok tells);
+  later = record { faults = c.read.ensures.cause.later; unkept = c.read.ensures.unkept };
+}
+
+pub returns-in-Err-clause-fault : goal.returns-in-Err-clause-fault
+returns-in-Err-clause-fault g c tells honest image one =
+    let whole : length c.read.new.into ≡ 4096 = omega (arith, ap length c.block.view_is) in
+    first_says _ _ image c.read.new.into c.blocks-blocks.result _ (c.blocks-blocks.ensures.told tells ∙ sym c.blocks-blocks.ensures.size) (omega arith) whole (c.in-Ok.ensures.given tells honest) (sym c.in-Err.ensures.read) one
+
+pub returns-in-Err-clause-untouched : goal.returns-in-Err-clause-untouched
+returns-in-Err-clause-untouched g c = record {
+  reads = λ tells. read_since _ _ _ _ _ (c.in-Ok.ensures.ok tells);
+  later = record { faults = c.read.ensures.cause.later; unkept = c.read.ensures.unkept };
+}

@@ -1,0 +1,29 @@
+use Rattle.std.proofs.Common.{◌≡◌, [], ◌∷◌, refl, ◌∙◌, rules}
+use Rattle.serial_engine.specs.Served.{seen}
+use Rattle.vdo_model.specs.Scripts.{stream_of}
+use Rattle.vdo_cli.proofs.OpeningLaws.{image_since}
+use Rattle.vdo_cli.proofs.playing.play.Goals as goal
+
+pub returns-in-Err-Read-clause-fault : goal.returns-in-Err-Read-clause-fault
+returns-in-Err-Read-clause-fault g c = (c.in-Ok.opened.head, c.in-Ok.ensures.head, search rules)
+
+pub returns-in-Ok-serve_requests-clause-session : goal.returns-in-Ok-serve_requests-clause-session
+returns-in-Ok-serve_requests-clause-session g c =
+    let shape = c.in-Ok-read_script.ensures.shape in
+    let all : c.in-Ok-serve_requests.report.requests ≡ stream_of c.in-Ok-read_script.requests 0 ∷ [] = c.in-Ok-serve_requests.ensures.report ∙ rw shape.1 refl in
+    let served = rw c.open.ensures.opening at c.in-Ok-serve_requests.ensures.session in
+    record {
+      head = c.in-Ok.opened.head;
+      image_is = c.in-Ok.ensures.head;
+      one_stream = search rules;
+      script_is = search rules;
+      to_its_end = search rules;
+      window = _;
+      window_is = c.in-Ok.ensures.window;
+      opened = seen (g.D.Disk.log c.open.new.device) (g.D.Disk.faults c.open.new.device) (g.D.Disk.unkept c.open.new.device);
+      untouched = c.open.ensures.untouched;
+      served = search rules;
+      reads_right = λ tells honest image one.
+          let right = served.reads_right tells honest image (image_since _ _ _ image (c.open.ensures.untouched.reads tells) one) in
+          rw all right;
+    }
