@@ -1,0 +1,11 @@
+//! When a flush may be answered: once every write that was answered before it is done.
+#![tactic(auto)]
+
+mod gate;
+mod waiting;
+
+pub use gate::Gate;
+pub use waiting::Waiting;
+
+#[cfg(test)]
+mod tests;

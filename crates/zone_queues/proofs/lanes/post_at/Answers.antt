@@ -1,0 +1,14 @@
+use Rattle.std.proofs.Common.{◌∙◌, ap, set, arith, length, ◌<◌, ◌∷◌, [], sym, List, get_or}
+use Rattle.zone_queues.specs.Queues.{Boxes, Queue, empty, network_of, with_more, set_outbox}
+use Rattle.zone_queues.proofs.NetworkLaws.{network-with_outbox, rows-network, row-network}
+use Rattle.zone_queues.proofs.lanes.post_at.Goals as goal
+
+pub returns : goal.returns
+returns g c =
+    let size = rows-network c.args.ports.now.items in
+    let inside : c.args.from < length c.args.ports.now.items = omega (arith, c.requires.sender) in
+    ap (λ (b : Boxes _). network_of (set c.args.ports.now.items c.args.from b)) c.post.ensures
+    ∙ network-with_outbox c.args.ports.now.items c.args.from c.args.to c.index_mut.result.now _ inside c.index_mut.ensures.value
+    ∙ ap (λ (row : List (Queue _)). record (network_of c.args.ports.now.items) {
+      outboxes = set_outbox (network_of c.args.ports.now.items).outboxes c.args.from c.args.to (with_more (get_or row c.args.to (empty _ 0)) (c.args.item ∷ []));
+    }) (sym (row-network c.args.ports.now.items c.args.from c.index_mut.result.now inside c.index_mut.ensures.value))
