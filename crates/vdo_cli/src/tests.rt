@@ -223,29 +223,31 @@ fn a_request_too_many(rt: HostRuntime) -> Result<(), Fail> {
     Ok(())
 }
 
+// A write and a read, with a source that fails after so many bytes, and a sink with so much room.
+fn ends<R: Threads + Wait + Sync + Abort>(
+    rt: &R,
+    alloc: Global,
+    device: MemDisk,
+    fails_at: Option<u64>,
+    room: usize,
+    text: &[u8],
+    status: u8,
+) -> Result<(), Fail> {
+    let script = b"0 write 5 4096*61\n0 read 5\n";
+    let Ran { ended, sink } = run_on(rt, alloc, device, script, fails_at, room)?;
+    assert_eq!(rt; sink.bytes(), text);
+    assert_eq!(rt; ended.status, status);
+    Ok(())
+}
+
 #[test]
 fn the_outside_fails(rt: HostRuntime) -> Result<(), Fail> {
     let alloc = rt.alloc();
-    let script = b"0 write 5 4096*61\n0 read 5\n";
-    let ran = run_on(&rt, alloc, fresh(alloc)?, script, Some(0), 2000)?;
-    assert_eq!(rt; ran.sink.bytes(), b"read fault\n".as_slice());
-    assert_eq!(rt; ran.ended.status, 7);
-    let ran = run_on(&rt, alloc, fresh(alloc)?, script, None, 10)?;
-    assert_eq!(rt; ran.sink.bytes(), b"0 0 write ".as_slice());
-    assert_eq!(rt; ran.ended.status, 7);
-    assert_eq!(rt; ran.ended.report.desk.as_slice().len(), 4);
+    ends(&rt, alloc, fresh(alloc)?, Some(0), 2000, b"read fault\n", 7)?;
+    ends(&rt, alloc, fresh(alloc)?, None, 10, b"0 0 write ", 7)?;
     // A device that failed decides the status before the sink does.
-    let mut device = fresh(alloc)?;
-    device.set_faults(vec![in alloc;
-        FaultAt {
-            kind: CallKind::Write,
-            at: Pbn(85),
-            nth: 0,
-            effect: true
-        },
-    ]?);
-    let ran = run_on(&rt, alloc, device, script, None, 10)?;
-    assert_eq!(rt; ran.ended.status, 3);
+    let device = failing(alloc, CallKind::Write, 85)?;
+    ends(&rt, alloc, device, None, 10, b"0 0 write ", 3)?;
     Ok(())
 }
 
