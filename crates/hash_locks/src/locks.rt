@@ -1,0 +1,162 @@
+ghost use Rattle.std.specs.Prelude.{◌≡◌, ◌+◌, ◌<◌, ◌≤◌, ◌↔◌, ◌∷◌, ◌++◌, [], length, vec_len, vec_capacity, IfOk, IfSome, IfNone};
+ghost use Rattle.hash_locks.specs.Sharing.{nothing, HasRoom, Arrives, Leaves, Frees, NoLock, NoneWaits, IsFirstFor, IsLockAt};
+
+use crate::held::{Held, are_same};
+use crate::{HasBlock, Role, Waiter};
+use blk_base::Block;
+use block_names::Name;
+use std::alloc::{AllocError, Global};
+use std::marker::Model;
+
+/// The locks on the names of one zone. The first that arrives with a name holds its lock, as agent; those that arrive
+/// later with the same bytes wait for what it finds out.
+///
+/// A lock keeps a copy of its agent's bytes, and not the agent: each value is either with its owner or kept here as a
+/// waiter.
+#[derive(Drop)]
+pub struct HashLocks<V: HasBlock> {
+    room: u32,
+    held: Vec<Held>,
+    // Whoever waits, for any name, in the order in which they came.
+    waiting: Vec<Waiter<V>>,
+    // The blocks for the locks to come.
+    spare: Vec<Box<Block>>,
+}
+
+impl<V: HasBlock> Model for HashLocks<V> {
+    ghost use Rattle.std.specs.Prelude.{◌≡◌, ◌+◌, ◌≤◌, vec_len, vec_capacity};
+    ghost use Rattle.hash_locks.specs.Sharing.{Sharing, AreDistinct, WaitersMatch};
+
+    ghost Value = { Sharing V };
+
+    ghost view = { λ l. record { room = l.room; held = l.held.items; waiting = l.waiting.items } };
+
+    ghost invariant = { λ l. record {
+      blocks : vec_len l.spare + vec_len l.held ≡ l.room;
+      spare_room : l.room ≤ vec_capacity l.spare;
+      held_room : l.room ≤ vec_capacity l.held;
+      waiting_room : l.room ≤ vec_capacity l.waiting;
+      distinct : AreDistinct l.held.items;
+      bytes : WaitersMatch V.bytes_of l.held.items l.waiting.items;
+    } };
+}
+
+impl<V: HasBlock + Drop> HashLocks<V> {
+    /// Locks for at most `room` agents and waiters, with a block for each.
+    pub fn new(alloc: Global, room: u32) -> Result<HashLocks<V>, AllocError>
+        ensures { IfOk result (λ locks. locks ≡ nothing V room) }
+    {
+        let mut spare = Vec::with_capacity(alloc, room as usize)?;
+        for _made in 0..room {
+            spare.push_reserved(Box::new(alloc, Block::zero())?);
+        }
+        Ok(HashLocks {
+            room,
+            held: Vec::with_capacity(alloc, room as usize)?,
+            waiting: Vec::with_capacity(alloc, room as usize)?,
+            spare,
+        })
+    }
+
+    /// Arrives with a name: as agent exactly where no lock of the name is held, alone exactly where one is held and its
+    /// agent's bytes are others; else it waits.
+    pub fn arrive(&mut self, name: &Name, vio: V) -> Role<V>
+        requires { HasRoom self.old }
+        ensures role { Arrives V.bytes_of self.old self.new name.now vio result }
+
+        // At most one more is kept.
+        ensures grows { length self.new.held + length self.new.waiting ≤ length self.old.held + length self.old.waiting + 1 }
+        ensures room { self.new.room ≡ self.old.room }
+    {
+        match lock_at(&self.held, name) {
+            Some(place) => {
+                if self.held[place].has(vio.block()) {
+                    self.waiting.push_reserved(Waiter { name: *name, vio });
+                    Role::Waits
+                } else {
+                    Role::Alone(vio)
+                }
+            }
+            None => {
+                hold(&mut self.held, &mut self.spare, name, vio.block());
+                Role::Agent(vio)
+            }
+        }
+    }
+
+    /// The agent's block is settled. It gives the next that waits for the name, which shares that block; `None` exactly
+    /// where nobody waits, and then nothing changes.
+    pub fn settle(&mut self, name: &Name) -> Option<V>
+        ensures some { IfSome result (λ vio. Leaves V.bytes_of self.old self.new (record { name = name.now; vio = vio })) }
+        ensures none { IfNone result (NoneWaits self.old.waiting name.now × (self.new ≡ self.old)) }
+    {
+        let first = first_waiter(&self.waiting, name)?;
+        let Waiter { name: _, vio } = self.waiting.remove(first);
+        Some(vio)
+    }
+
+    /// The agent lets the lock go. It gives the next that waits for the name, which is its agent now; `None` exactly where
+    /// nobody waits, and the lock is gone.
+    pub fn roll_over(&mut self, name: &Name) -> Option<V>
+        ensures some { IfSome result (λ vio. Leaves V.bytes_of self.old self.new (record { name = name.now; vio = vio })) }
+        ensures none { IfNone result (Frees self.old self.new name.now) }
+    {
+        match first_waiter(&self.waiting, name) {
+            Some(place) => {
+                let Waiter { name: _, vio } = self.waiting.remove(place);
+                Some(vio)
+            }
+            None => {
+                let place = match lock_at(&self.held, name) {
+                    Some(place) => place,
+                    None => return None,
+                };
+                let lock = self.held.remove(place);
+                self.spare.push_reserved(lock.into_room());
+                None
+            }
+        }
+    }
+}
+
+// The place of the lock of a name.
+fn lock_at(held: &[Held], name: &Name) -> Option<usize>
+    ensures some { IfSome result (IsLockAt held.now name.now) }
+    ensures none { IfNone result (NoLock held.now name.now) }
+{
+    for (place, lock) in held.iter().enumerate() {
+        if lock.is_of(name) {
+            return Some(place);
+        }
+    }
+    None
+}
+
+// The place of the first that waits for a name.
+fn first_waiter<V>(waiting: &[Waiter<V>], name: &Name) -> Option<usize>
+    ensures some { IfSome result (IsFirstFor waiting.now name.now) }
+    ensures none { IfNone result (NoneWaits waiting.now name.now) }
+{
+    for (place, waiter) in waiting.iter().enumerate() {
+        if are_same(&waiter.name, name) {
+            return Some(place);
+        }
+    }
+    None
+}
+
+// Holds the lock of a name, with one of the spare blocks.
+fn hold(held: &mut Vec<Held>, spare: &mut Vec<Box<Block>>, name: &Name, block: &Block)
+    requires block { 0 < vec_len spare.old }
+    requires room { vec_len held.old < vec_capacity held.old }
+    ensures items { held.new.items ≡ held.old.items ++ record { name = name.now; bytes = block.now } ∷ [] }
+    ensures len { vec_len held.new ≡ vec_len held.old + 1 }
+    ensures capacity { vec_capacity held.new ≡ vec_capacity held.old }
+    ensures spare { vec_len spare.new + 1 ≡ vec_len spare.old }
+    ensures spare_capacity { vec_capacity spare.new ≡ vec_capacity spare.old }
+{
+    let Some(room) = spare.pop() else {
+        unreachable!()
+    };
+    held.push_reserved(Held::new(*name, room, block));
+}

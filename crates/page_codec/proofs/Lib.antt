@@ -1,0 +1,4 @@
+pub mod SpellingLaws
+pub mod ReadLaws
+pub mod HeadLaws
+pub mod TornLaws

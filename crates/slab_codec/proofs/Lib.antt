@@ -1,0 +1,3 @@
+pub mod SpellingLaws
+pub mod ReadLaws
+pub mod CounterLaws
