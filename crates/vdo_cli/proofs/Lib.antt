@@ -1,3 +1,4 @@
 pub mod WordLaws
 pub mod OpeningLaws
 pub mod WindowLaws
+pub mod WorkedRows
