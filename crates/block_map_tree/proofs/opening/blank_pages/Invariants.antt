@@ -1,0 +1,6 @@
+use Rattle.std.proofs.Common.{◌≡◌, replicate}
+use Rattle.block_map_tree.specs.Opening.{blank}
+use Rattle.block_map_tree.proofs.opening.blank_pages.Given as goal
+
+abbrev pub invariant-loop-made : goal.invariant-loop-made
+invariant-loop-made l = l.pages.items ≡ replicate l.made blank

@@ -1,0 +1,57 @@
+-- Which slot each page has.
+use Rattle.std.specs.Prelude.{ℕ, ◌≡◌, ◌≢◌, ◌<◌, ◌≤◌, ◌+◌, ◌*◌, ◌^◌, ◌⊎◌, List, [], length, Contains, slice_index_or}
+use Rattle.blk_base.specs.declared.place.PageId.{PageId}
+use Rattle.map_page_cache.specs.declared.index.IndexEntry.{IndexEntry}
+
+-- `room` is the greatest number of entries
+pub record Index : Type 0 where
+  pub room : ℕ
+  pub entries : List IndexEntry
+
+-- no page has a slot
+abbrev pub no_entries : ℕ → Index
+no_entries room = record { room = room; entries = [] }
+
+-- the page has this slot
+abbrev pub HasSlot : Index → PageId → ℕ → Type 0
+HasSlot index page slot = Contains index.entries (record { page = page; slot = slot })
+
+-- no page has two slots
+abbrev pub HaveOneSlot : Index → Type 0
+HaveOneSlot index = (page : PageId) (slot other : ℕ) → HasSlot index page slot → HasSlot index page other → slot ≡ other
+
+-- the page gets this slot, and all others keep theirs
+pub record Adds (old new : Index) (page : PageId) (slot : ℕ) : Type 0 where
+  pub room : new.room ≡ old.room
+  pub count : length new.entries ≡ length old.entries + 1
+  pub added : HasSlot new page slot
+  pub kept : (other : PageId) (s : ℕ) → HasSlot old other s → HasSlot new other s
+  pub only : (other : PageId) (s : ℕ) → HasSlot new other s → HasSlot old other s ⊎ ((other ≡ page) × (s ≡ slot))
+
+-- the page has no slot any longer, and all others keep theirs
+pub record Removes (old new : Index) (page : PageId) : Type 0 where
+  pub room : new.room ≡ old.room
+  pub count : length new.entries + 1 ≡ length old.entries
+  pub gone : (s : ℕ) → HasSlot new page s → ⊥
+  pub kept : (other : PageId) (s : ℕ) → other ≢ page → HasSlot old other s → HasSlot new other s
+  pub only : (other : PageId) (s : ℕ) → HasSlot new other s → HasSlot old other s
+
+-- pages are ordered by tree, then level, then number
+abbrev pub order_of : PageId → ℕ
+order_of page = (page.tree * 2 ^ 8 + page.level) * 2 ^ 32 + page.index
+
+-- the entries are in the order of their pages, no two of which are equal
+abbrev pub AreInOrder : List IndexEntry → Type 0
+AreInOrder entries =
+    (i j : ℕ) (d : IndexEntry) → i < j → j < length entries → order_of (slice_index_or entries i d).page < order_of (slice_index_or entries j d).page
+
+-- the entry of the page stands here
+pub record IsPlaceOf (entries : List IndexEntry) (page : PageId) (place : ℕ) : Type 0 where
+  pub inside : place < length entries
+  pub named : (d : IndexEntry) → (slice_index_or entries place d).page ≡ page
+
+-- an entry of the page would stand here, and there is none
+pub record IsGapFor (entries : List IndexEntry) (page : PageId) (place : ℕ) : Type 0 where
+  pub inside : place ≤ length entries
+  pub before : (k : ℕ) (d : IndexEntry) → k < place → order_of (slice_index_or entries k d).page < order_of page
+  pub behind : (k : ℕ) (d : IndexEntry) → place ≤ k → k < length entries → order_of page < order_of (slice_index_or entries k d).page

@@ -1,0 +1,128 @@
+ghost use Rattle.std.specs.Prelude.{◌≡◌, ◌<◌, ◌↔◌, ℕ, length, IfOk, IfErr, IfSome, IfNone, IsTrue};
+ghost use Rattle.blk_base.specs.declared.place.PageId.{PageId};
+ghost use Rattle.map_page_cache.specs.Index.{no_entries, HasSlot, HaveOneSlot, Adds, Removes, order_of, AreInOrder, IsPlaceOf, IsGapFor};
+
+use blk_base::PageId;
+use std::alloc::{AllocError, Global};
+use std::marker::Model;
+
+/// A page and the slot that it has.
+#[derive(Clone, Copy)]
+pub(crate) struct IndexEntry {
+    pub(crate) page: PageId,
+    pub(crate) slot: u32,
+}
+
+/// The slots of the pages, found in as many steps as the logarithm of their number. Only where a page comes or goes, which
+/// is beside the read of a block, do the entries behind it move by a place.
+#[derive(Drop)]
+pub(crate) struct PageIndex {
+    // In the order of the pages.
+    entries: Vec<IndexEntry>,
+    room: u32,
+}
+
+impl Model for PageIndex {
+    ghost use Rattle.std.specs.Prelude.{◌≤◌, vec_capacity, length};
+    ghost use Rattle.map_page_cache.specs.Index.{Index, AreInOrder};
+
+    ghost Value = { Index };
+
+    ghost view = { λ i. record { room = i.room; entries = i.entries.items } };
+
+    ghost invariant = { λ i. record {
+      room : i.room ≤ vec_capacity i.entries;
+      order : AreInOrder i.entries.items;
+    } };
+}
+
+impl PageIndex {
+    /// An index with room for this many pages, of which it has none.
+    pub(crate) fn new(alloc: Global, room: u32) -> Result<PageIndex, AllocError>
+        ensures { IfOk result (λ index. index ≡ no_entries room) }
+    {
+        Ok(PageIndex {
+            entries: Vec::with_capacity(alloc, room as usize)?,
+            room,
+        })
+    }
+
+    /// The slot of a page, or `None` where it has none.
+    pub(crate) fn find(&self, page: PageId) -> Option<u32>
+        ensures some { IfSome result (λ slot. HasSlot self.now page slot) }
+        ensures none { IfNone result ((slot : ℕ) → HasSlot self.now page slot → ⊥) }
+        ensures single { HaveOneSlot self.now }
+    {
+        match place_of(&self.entries, page) {
+            Ok(place) => Some(self.entries[place].slot),
+            Err(_) => None,
+        }
+    }
+
+    /// Gives a slot to a page that has none.
+    pub(crate) fn insert(&mut self, page: PageId, slot: u32)
+        requires room { length self.old.entries < self.old.room }
+        requires absent { (s : ℕ) → HasSlot self.old page s → ⊥ }
+        ensures { Adds self.old self.new page slot }
+    {
+        match place_of(&self.entries, page) {
+            Ok(_) => unreachable!(),
+            Err(place) => {
+                let Ok(()) = self.entries.insert(place, IndexEntry { page, slot }) else {
+                    unreachable!()
+                };
+            }
+        }
+    }
+
+    /// Takes its slot from a page that has one.
+    pub(crate) fn remove(&mut self, page: PageId)
+        requires { (slot : ℕ) × HasSlot self.old page slot }
+        ensures removed { Removes self.old self.new page }
+        ensures single { HaveOneSlot self.old }
+    {
+        match place_of(&self.entries, page) {
+            Ok(place) => {
+                let _entry = self.entries.remove(place);
+            }
+            Err(_) => unreachable!(),
+        }
+    }
+}
+
+// Where the page's entry stands, or would stand.
+fn place_of(entries: &[IndexEntry], page: PageId) -> Result<usize, usize>
+    requires { AreInOrder entries.now }
+    ensures found { IfOk result (IsPlaceOf entries.now page) }
+    ensures gap { IfErr result (IsGapFor entries.now page) }
+{
+    let mut low = 0;
+    let mut high = entries.len();
+    while low < high {
+        let middle = low + (high - low) / 2;
+        if is_before(entries[middle].page, page) {
+            low = middle + 1;
+        } else {
+            high = middle;
+        }
+    }
+    if low < entries.len() && !is_before(page, entries[low].page) {
+        Ok(low)
+    } else {
+        Err(low)
+    }
+}
+
+// Whether the left page is before the right one in the order of pages.
+fn is_before(left: PageId, right: PageId) -> bool
+    ensures before { IsTrue result ↔ (order_of left < order_of right) }
+    ensures apart { order_of left ≡ order_of right → left ≡ right }
+{
+    if left.tree != right.tree {
+        left.tree < right.tree
+    } else if left.level != right.level {
+        left.level < right.level
+    } else {
+        left.index < right.index
+    }
+}

@@ -1,0 +1,272 @@
+-- What is true of a journal stays true over each call, and what the calls say of it.
+use Rattle.std.specs.Prelude.{ℕ, ◌≡◌, ◌+◌, ◌-◌, ◌*◌, ◌/◌, ◌<◌, ◌≤◌, ◌⊎◌, List, [], ◌∷◌, ◌++◌, length, take, drop, max, All, Any, refl}
+use Rattle.std.proofs.Common.{arith, sym, subst, ap, ◌∙◌, inl, inr, get_or, length-append}
+use Rattle.std.proofs.lemmas.Bool.{cases_lt}
+use Rattle.std.proofs.lemmas.List.{drop_more, drop-drop, drop-append-le, take-append-drop, length-take-le, get_or-take, get_or-drop, length-drop, length-set}
+use Rattle.std.proofs.lemmas.List.Elements.{All-nil, All-cons, All-head, All-rest, All-weaker, All-append, All-set, All-same}
+use Rattle.blk_base.specs.declared.point.Point.{Point}
+use Rattle.blk_base.specs.declared.journal_entry.Entry.{Entry}
+use Rattle.recovery_journal.specs.declared.forms.CommittedEntry.{CommittedEntry}
+use Rattle.recovery_journal.specs.Log.{Log, point_at, first_sequence, head_of, placed, unhanded, IsNeeded, IsDurable, IsHead, HandsOut, NoneCommitted, IsBehind, raised, Advances}
+use Rattle.recovery_journal.specs.Kept.{rank, AreRising, AreBelow, IsKept}
+use Rattle.recovery_journal.proofs.RisingLaws.{length-AreRising, AreRising-from, AreRising-append, AreRising-drop, AreRising-placed, points_above, points_from_first, few_entries, first_reached, first_rises}
+
+-- the head is the least sequence that some zone needs
+
+pub head_reached : (log : Log) → IsKept log → head_of log ≤ log.sequence
+head_reached log kept = first_reached log.entries log.sequence kept.rising
+
+first_least : (es : List CommittedEntry) (sequence : ℕ) → AreRising 0 es (sequence * 192) → All (λ e. point_at (first_sequence es sequence) 0 ≤ e.point.0) es
+first_least [] sequence rising = All-nil (λ (e : CommittedEntry). point_at sequence 0 ≤ e.point.0)
+first_least (e ∷ es) sequence rising =
+    let P : CommittedEntry → Type 0 = λ f. point_at (e.point.0 / 512) 0 ≤ f.point.0 in
+    points_from_first 0 (e ∷ es) (sequence * 192) (point_at (e.point.0 / 512) 0) rising (All-cons P e [] (omega arith) (All-nil P))
+
+first_needed : (marks : List Point) (es : List CommittedEntry) (sequence : ℕ) → All (λ e. IsNeeded marks e.point) es
+    → (first_sequence es sequence ≡ sequence) ⊎ Any (λ e. IsNeeded marks e.point × (e.point.0 / 512 ≡ first_sequence es sequence)) es
+first_needed marks [] sequence needed = inl refl
+first_needed marks (e ∷ es) sequence needed = inr (0, e, omega arith, refl, (All-head (λ (f : CommittedEntry). IsNeeded marks f.point) e es needed, refl))
+
+pub is_head : (log : Log) → IsKept log → IsHead log (head_of log)
+is_head log kept =
+    record {
+      reached = head_reached log kept;
+      least = All-weaker (λ (e : CommittedEntry). point_at (head_of log) 0 ≤ e.point.0) (λ (e : CommittedEntry). IsNeeded log.marks e.point → point_at (head_of log) 0 ≤ e.point.0)
+          (λ e above needed. above) log.entries (first_least log.entries log.sequence kept.rising);
+      needed = first_needed log.marks log.entries log.sequence kept.needed;
+    }
+
+-- handing out
+
+pub rest_is : (es : List CommittedEntry) (handed : ℕ) (e : CommittedEntry) → handed < length es → e ≡ get_or es handed e → drop handed es ≡ e ∷ drop (handed + 1) es
+rest_is es handed e inside is = drop_more es handed e inside ∙ ap (λ (f : CommittedEntry). f ∷ drop (handed + 1) es) (sym is)
+
+pub hands_out : (log : Log) (e : CommittedEntry) → IsKept log → log.handed < length log.entries → e ≡ get_or log.entries log.handed e
+    → e.point.0 / 512 < log.committed → HandsOut log (record log { handed = log.handed + 1 }) e
+hands_out log e kept inside is below =
+    let next = rest_is log.entries log.handed e inside is in
+    let rising = subst (λ (es : List CommittedEntry). AreRising 0 es (log.sequence * 192)) next (AreRising-drop log.handed 0 log.entries (log.sequence * 192) kept.rising) in
+    record {
+      next = next;
+      committed = omega arith;
+      handed = refl;
+      order = points_above (rank e.point.0 + 1) (drop (log.handed + 1) log.entries) (log.sequence * 192) e.point.0 rising.0 (omega arith) rising.2;
+    }
+
+pub none_committed : (log : Log) (e : CommittedEntry) → IsKept log → log.handed < length log.entries → e ≡ get_or log.entries log.handed e
+    → log.committed ≤ e.point.0 / 512 → NoneCommitted log
+none_committed log e kept inside is above =
+    let P : CommittedEntry → Type 0 = λ f. point_at log.committed 0 ≤ f.point.0 in
+    let next = rest_is log.entries log.handed e inside is in
+    points_from_first 0 (drop log.handed log.entries) (log.sequence * 192) (point_at log.committed 0) (AreRising-drop log.handed 0 log.entries (log.sequence * 192) kept.rising)
+    (subst (λ (es : List CommittedEntry). All P (take 1 es)) (sym next) (All-cons P e [] (omega arith) (All-nil P)))
+
+pub kept_handed : (log : Log) (e : CommittedEntry) → IsKept log → log.handed < length log.entries → e ≡ get_or log.entries log.handed e
+    → IsKept (record log { handed = log.handed + 1 })
+kept_handed log e kept inside is =
+    record {
+      zones = kept.zones;
+      size = kept.size;
+      number = kept.number;
+      number_filling = kept.number_filling;
+      rising = kept.rising;
+      handed = omega arith;
+      committed = kept.committed;
+      ring = kept.ring;
+      ring_filling = kept.ring_filling;
+      marks = kept.marks;
+      unhanded = All-rest (λ (f : CommittedEntry). AreBelow log f.point.0) e (drop (log.handed + 1) log.entries) (drop log.handed log.entries)
+          (rest_is log.entries log.handed e inside is) kept.unhanded;
+      needed = kept.needed;
+    }
+
+-- every entry below the first that wasn't handed out was
+
+pub behind_first : (log : Log) (e : CommittedEntry) → IsKept log → log.handed < length log.entries → e ≡ get_or log.entries log.handed e → IsBehind log e.point
+behind_first log e kept inside is =
+    let P : CommittedEntry → Type 0 = λ f. e.point.0 ≤ f.point.0 in
+    let next = rest_is log.entries log.handed e inside is in
+    let rising = AreRising-drop log.handed 0 log.entries (log.sequence * 192) kept.rising in
+    let first = subst (λ (es : List CommittedEntry). AreRising 0 es (log.sequence * 192)) next rising in
+    let above = length-AreRising (rank e.point.0 + 1) (drop (log.handed + 1) log.entries) (log.sequence * 192) first.2 in
+    record {
+      sealed = points_from_first 0 (drop log.handed log.entries) (log.sequence * 192) e.point.0 rising
+          (subst (λ (es : List CommittedEntry). All P (take 1 es)) (sym next) (All-cons P e [] (omega arith) (All-nil P)));
+      filling = omega (arith, first.0);
+    }
+
+-- sealing
+
+pub room_to_seal : (log : Log) → IsKept log → 0 < length log.filling → length log.entries + 384 ≤ log.size * 192
+room_to_seal log kept waits = omega (arith, few_entries log.entries log.sequence kept.rising, kept.ring_filling waits)
+
+pub first-sealed : (es : List CommittedEntry) (sequence : ℕ) (filling : List Entry) → 0 < length filling
+    → first_sequence (es ++ placed sequence 0 filling) (sequence + 1) ≡ first_sequence es sequence
+first-sealed (e ∷ es) sequence filling waits = refl
+first-sealed [] sequence [] waits = absurd (omega arith)
+first-sealed [] sequence (f ∷ fs) waits = omega arith
+
+placed_from : (sequence number p : ℕ) (filling : List Entry) → p ≤ point_at sequence number → All (λ e. p ≤ e.point.0) (placed sequence number filling)
+placed_from sequence number p [] below = All-nil (λ (e : CommittedEntry). p ≤ e.point.0)
+placed_from sequence number p (f ∷ fs) below =
+    All-cons (λ (e : CommittedEntry). p ≤ e.point.0) (record { entry = f; point = record { 0 = point_at sequence number } }) (placed sequence (number + 1) fs) below
+    (placed_from sequence (number + 1) p fs (omega arith))
+
+needed_by_first : (marks : List Point) (point : Point) → 0 < length marks → All (λ mark. mark.0 ≤ point.0) marks → IsNeeded marks point
+needed_by_first [] point some below = absurd (omega arith)
+needed_by_first (mark ∷ marks) point some below = (0, mark, omega arith, refl, below 0 mark (omega arith))
+
+pub kept_sealed : (log : Log) → IsKept log → 0 < length log.filling → length log.filling ≤ 192 → log.sequence ≤ log.committed
+    → IsKept (record log { sequence = log.sequence + 1; filling = []; entries = log.entries ++ placed log.sequence 0 log.filling })
+kept_sealed log kept waits few written =
+    let new = placed log.sequence 0 log.filling in
+    let head = first-sealed log.entries log.sequence log.filling waits in
+    let from = placed_from log.sequence 0 (point_at log.sequence 0) log.filling (omega arith) in
+    let behind : All (λ e. AreBelow log e.point.0) new
+    = All-weaker (λ (e : CommittedEntry). point_at log.sequence 0 ≤ e.point.0) (λ (e : CommittedEntry). AreBelow log e.point.0)
+    (λ e above. All-weaker (λ (mark : Point). mark.0 ≤ point_at log.sequence 0) (λ (mark : Point). mark.0 ≤ e.point.0) (λ mark below. omega (arith, below, above)) log.marks kept.marks) new from in
+    record {
+      zones = kept.zones;
+      size = kept.size;
+      number = omega (arith, kept.number_filling waits);
+      number_filling = λ some. absurd (omega (arith, some));
+      rising = AreRising-append 0 log.entries (log.sequence * 192) new ((log.sequence + 1) * 192) kept.rising
+          (AreRising-from (log.sequence * 192 + 0) (log.sequence * 192) new ((log.sequence + 1) * 192) (omega arith) (AreRising-placed log.sequence 0 log.filling (omega arith)));
+      handed = omega (arith, length-append log.entries new, kept.handed);
+      committed = (omega (arith, kept.committed.0), omega arith);
+      ring = omega (arith, head, kept.ring_filling waits);
+      ring_filling = λ some. absurd (omega (arith, some));
+      marks = All-weaker (λ (mark : Point). mark.0 ≤ point_at log.sequence 0) (λ (mark : Point). mark.0 ≤ point_at (log.sequence + 1) 0) (λ mark below. omega (arith, below)) log.marks kept.marks;
+      unhanded = All-same (λ (e : CommittedEntry). AreBelow log e.point.0) (drop log.handed (log.entries ++ new)) (drop log.handed log.entries ++ new)
+          (drop-append-le log.handed log.entries new kept.handed)
+          (All-append (λ (e : CommittedEntry). AreBelow log e.point.0) (drop log.handed log.entries) new kept.unhanded behind);
+      needed = All-append (λ (e : CommittedEntry). IsNeeded log.marks e.point) log.entries new kept.needed
+          (All-weaker (λ (e : CommittedEntry). AreBelow log e.point.0) (λ (e : CommittedEntry). IsNeeded log.marks e.point)
+          (λ e below. needed_by_first log.marks e.point kept.zones below) new behind);
+    }
+
+-- marks
+
+marks_below : (marks : List Point) (zone p : ℕ) (point : Point) → zone < length marks → point.0 ≤ p → All (λ mark. mark.0 ≤ p) marks → All (λ mark. mark.0 ≤ p) (raised marks zone point)
+marks_below marks zone p point inside below all =
+    All-set (λ (mark : Point). mark.0 ≤ p) marks zone (record { 0 = max (get_or marks zone point).0 point.0 }) (omega (arith, all zone point inside)) all
+
+-- what `watermark` finds: the least mark, and how many entries at the front are below it
+pub record Found (log : Log) (zone : ℕ) (point : Point) (least count : ℕ) : Type 0 where
+  pub inside : zone < length log.marks
+  pub behind : IsBehind log point
+  pub lowest : All (λ mark. least ≤ mark.0) (raised log.marks zone point)
+  pub attained : Any (λ mark. mark.0 ≤ least) (raised log.marks zone point)
+  pub few : count ≤ length log.entries
+  pub below : All (λ e. e.point.0 < least) (take count log.entries)
+  pub next : All (λ e. least ≤ e.point.0) (take 1 (drop count log.entries))
+
+abbrev pub advanced : Log → ℕ → Point → ℕ → Log
+advanced log zone point count = record log { entries = drop count log.entries; handed = log.handed - count; marks = raised log.marks zone point }
+
+an_entry : (es : List CommittedEntry) → 0 < length es → CommittedEntry
+an_entry [] some = absurd (omega arith)
+an_entry (e ∷ es) some = e
+
+module _ (log : Log) (zone : ℕ) (point : Point) (least count : ℕ) (kept : IsKept log) (found : Found log zone point least count) where
+  unhanded_marks : All (λ e. All (λ mark. mark.0 ≤ e.point.0) (raised log.marks zone point)) (unhanded log)
+  unhanded_marks = λ k d inside. marks_below log.marks zone (get_or (unhanded log) k d).point.0 point found.inside (found.behind.sealed k d inside) (kept.unhanded k d inside)
+
+  unhanded_least : All (λ e. least ≤ e.point.0) (unhanded log)
+  unhanded_least = λ k d inside.
+      let mark = found.attained in
+      omega (arith, found.lowest mark.0 mark.1 mark.2, ap (λ (m : Point). m.0) mark.3, unhanded_marks k d inside mark.0 mark.1 mark.2)
+
+  pub only_handed : count ≤ log.handed
+  only_handed =
+      elim (cases_lt log.handed count) [
+        | inr behind ↦ behind
+        | inl before ↦
+            let few = found.few in
+            let d : CommittedEntry = an_entry log.entries (omega arith) in
+            let taken = get_or-take count log.entries log.handed d before in
+            let dropped = get_or-drop log.handed log.entries 0 d in
+            let size = length-drop log.handed log.entries in
+            let inside : log.handed < length (take count log.entries) = omega (arith, length-take-le count log.entries few) in
+            let low = found.below log.handed d inside in
+            let high = unhanded_least 0 d (omega arith) in
+            let place : log.handed + 0 ≡ log.handed = omega arith in
+            absurd (omega (arith, low, high, ap (λ (e : CommittedEntry). e.point.0) taken, ap (λ (e : CommittedEntry). e.point.0) dropped, ap (λ (n : ℕ). (get_or log.entries n d).point.0) place))
+      ]
+
+  left_needed : All (λ e. IsNeeded (raised log.marks zone point) e.point) (drop count log.entries)
+  left_needed =
+      let mark = found.attained in
+      All-weaker (λ (e : CommittedEntry). least ≤ e.point.0) (λ (e : CommittedEntry). IsNeeded (raised log.marks zone point) e.point)
+      (λ e above. (mark.0, mark.1, mark.2, mark.3, omega (arith, mark.4, above))) (drop count log.entries)
+      (points_from_first 0 (drop count log.entries) (log.sequence * 192) least (AreRising-drop count 0 log.entries (log.sequence * 192) kept.rising) found.next)
+
+  pub head_rises : head_of log ≤ head_of (advanced log zone point count)
+  head_rises = first_rises 0 count log.entries log.sequence kept.rising
+
+  pub kept_advanced : IsKept (advanced log zone point count)
+  kept_advanced =
+      let handed = only_handed in
+      let rises = head_rises in
+      let place : count + (log.handed - count) ≡ log.handed = omega arith in
+      record {
+        zones = omega (arith, length-set log.marks zone (record { 0 = max (get_or log.marks zone point).0 point.0 }), kept.zones);
+        size = kept.size;
+        number = kept.number;
+        number_filling = kept.number_filling;
+        rising = AreRising-drop count 0 log.entries (log.sequence * 192) kept.rising;
+        handed = omega (arith, length-drop count log.entries, kept.handed);
+        committed = kept.committed;
+        ring = omega (arith, kept.ring);
+        ring_filling = λ some. omega (arith, kept.ring_filling some);
+        marks = marks_below log.marks zone (point_at log.sequence 0) point found.inside found.behind.filling kept.marks;
+        unhanded = All-same (λ (e : CommittedEntry). All (λ (mark : Point). mark.0 ≤ e.point.0) (raised log.marks zone point))
+            (drop (log.handed - count) (drop count log.entries)) (drop log.handed log.entries)
+            (drop-drop (log.handed - count) count log.entries ∙ ap (λ (n : ℕ). drop n log.entries) place) unhanded_marks;
+        needed = left_needed;
+      }
+
+  pub advances : Advances log (advanced log zone point count) zone point
+  advances =
+      let handed = only_handed in
+      record {
+        durable = take count log.entries;
+        marks = refl;
+        parts = sym (take-append-drop count log.entries);
+        done = All-weaker (λ (e : CommittedEntry). e.point.0 < least) (λ (e : CommittedEntry). IsDurable (raised log.marks zone point) e.point)
+            (λ e below k d inside. omega (arith, below, found.lowest k d inside)) (take count log.entries) found.below;
+        needed = left_needed;
+        handed = omega (arith, length-take-le count log.entries found.few);
+        rest = refl;
+      }
+
+-- the same, as the code comes to it
+
+pub kept_sealed_as : (log : Log) (left seen : List Entry) (es : List CommittedEntry) → IsKept log → 0 < length log.filling → length log.filling ≤ 192 → log.sequence ≤ log.committed
+    → left ≡ [] → seen ≡ log.filling → es ≡ log.entries ++ placed log.sequence 0 seen
+    → IsKept (record log { sequence = log.sequence + 1; filling = left; entries = es })
+kept_sealed_as log left seen es kept waits few written empty same added =
+    let now : es ≡ log.entries ++ placed log.sequence 0 log.filling = added ∙ ap (λ (fs : List Entry). log.entries ++ placed log.sequence 0 fs) same in
+    subst (λ (l : List Entry). IsKept (record log { sequence = log.sequence + 1; filling = l; entries = es })) (sym empty)
+    (subst (λ (l : List CommittedEntry). IsKept (record log { sequence = log.sequence + 1; filling = []; entries = l })) (sym now) (kept_sealed log kept waits few written))
+
+pub found_as : (log now : Log) (zone : ℕ) (point : Point) (least count : ℕ) (marks seen : List Point) → log ≡ now → marks ≡ raised log.marks zone point → seen ≡ marks
+    → zone < length now.marks → IsBehind now point → All (λ mark. least ≤ mark.0) seen → Any (λ mark. mark.0 ≤ least) seen
+    → count ≤ length log.entries → All (λ e. e.point.0 < least) (take count log.entries) → All (λ e. least ≤ e.point.0) (take 1 (drop count log.entries))
+    → Found log zone point least count
+found_as log now zone point least count marks seen is risen same inside behind lowest attained few below next =
+    record {
+      inside = subst (λ (l : Log). zone < length l.marks) (sym is) inside;
+      behind = subst (λ (l : Log). IsBehind l point) (sym is) behind;
+      lowest = subst (λ (ms : List Point). All (λ mark. least ≤ mark.0) ms) (same ∙ risen) lowest;
+      attained = subst (λ (ms : List Point). Any (λ mark. mark.0 ≤ least) ms) (same ∙ risen) attained;
+      few = few;
+      below = below;
+      next = next;
+    }
+
+pub advanced_as : (log : Log) (zone : ℕ) (point : Point) (count : ℕ) (marks : List Point) (es : List CommittedEntry) → marks ≡ raised log.marks zone point → es ≡ drop count log.entries
+    → record log { entries = es; handed = log.handed - count; marks = marks } ≡ advanced log zone point count
+advanced_as log zone point count marks es risen left =
+    ap (λ (ms : List Point). record log { entries = es; handed = log.handed - count; marks = ms }) risen
+    ∙ ap (λ (l : List CommittedEntry). record log { entries = l; handed = log.handed - count; marks = raised log.marks zone point }) left

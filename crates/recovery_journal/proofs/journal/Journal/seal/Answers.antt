@@ -1,0 +1,32 @@
+use Rattle.std.proofs.Common.{◌∙◌, ◌+◌, ◌++◌, List, length, ◌<◌, arith, ap}
+use Rattle.blk_base.specs.declared.journal_entry.Entry.{Entry}
+use Rattle.recovery_journal.specs.declared.forms.CommittedEntry.{CommittedEntry}
+use Rattle.recovery_journal.specs.contracts.journal.Journal.{the_view}
+use Rattle.recovery_journal.specs.Log.{first_sequence, head_of, placed}
+use Rattle.recovery_journal.proofs.JournalLaws.{head_reached, room_to_seal, kept_sealed_as, first-sealed}
+use Rattle.recovery_journal.proofs.journal.Journal.seal.Goals as goal
+
+pub enter-requires-clause-room : goal.enter-requires-clause-room
+enter-requires-clause-room c =
+    let size = c.self.inside.entries.ok in
+    let same = ap (λ (es : List Entry). length es) c.as_slice.ensures.value in
+    omega (arith, room_to_seal _ c.self.invariant.kept (omega arith), c.self.invariant.room)
+
+pub invariant_of-self : goal.invariant_of-self
+invariant_of-self c =
+    let waits : 0 < length c.self.inside.filling = omega arith in
+    record {
+      kept = kept_sealed_as (the_view c.self.inside) c.replace.new.dest c.as_slice.result.now c.enter.new.entries.items c.self.invariant.kept waits (omega arith) (omega arith)
+          (c.replace.ensures.after ∙ c.new.ensures) c.as_slice.ensures.value c.enter.ensures.items;
+      room = omega (arith, c.enter.ensures.capacity, c.self.invariant.room);
+    }
+
+pub returns-clause-below : goal.returns-clause-below
+returns-clause-below c = omega (arith, c.first_sequence-head.ensures, head_reached _ c.self.invariant.kept)
+
+pub returns-clause-head : goal.returns-clause-head
+returns-clause-head c =
+    let waits : 0 < length c.self.inside.filling = omega arith in
+    ap (λ (es : List CommittedEntry). first_sequence es (c.self.inside.sequence + 1))
+    (c.enter.ensures.items ∙ ap (λ (es : List Entry). c.self.inside.entries.items ++ placed c.self.inside.sequence 0 es) c.as_slice.ensures.value)
+    ∙ first-sealed c.self.inside.entries.items c.self.inside.sequence c.self.inside.filling waits ∙ ap head_of c.self.view_is

@@ -1,0 +1,108 @@
+use blk_base::Entry;
+use std::alloc::{AllocError, Global};
+use std::cmp;
+
+// How many entries a block has, and how many points.
+const PER_BLOCK: usize = 192;
+
+const POINTS_PER_BLOCK: u64 = 512;
+
+/// A journal as the list of all its entries, which every call looks through.
+#[derive(Drop)]
+pub(crate) struct PlainJournal {
+    size: u64,
+    sequence: u64,
+    entries: Vec<PlainEntry>,
+    committed: u64,
+    marks: [u64; 2],
+}
+
+#[derive(Clone, Copy)]
+struct PlainEntry {
+    entry: Entry,
+    point: u64,
+    handed: bool,
+}
+
+impl PlainJournal {
+    pub(crate) fn new(alloc: Global, size: u64, start: u64) -> PlainJournal {
+        PlainJournal {
+            size,
+            sequence: start,
+            entries: Vec::new(alloc),
+            committed: start,
+            marks: [start.saturating_mul(POINTS_PER_BLOCK); 2],
+        }
+    }
+
+    // How many entries the block being filled has.
+    fn count(&self) -> usize {
+        let sequence = self.sequence;
+        self.entries
+            .iter()
+            .filter(|one| one.point / POINTS_PER_BLOCK == sequence)
+            .count()
+    }
+
+    pub(crate) fn head(&self) -> u64 {
+        let mut head = self.sequence;
+        for one in &self.entries {
+            for mark in self.marks {
+                if mark <= one.point {
+                    head = cmp::min(head, one.point / POINTS_PER_BLOCK);
+                }
+            }
+        }
+        head
+    }
+
+    /// The entry's sequence and number, or `None`.
+    pub(crate) fn append(&mut self, entry: Entry) -> Result<Option<(u64, usize)>, AllocError> {
+        let number = self.count();
+        if number == PER_BLOCK
+            || self.head().saturating_add(self.size) < self.sequence.saturating_add(2)
+        {
+            return Ok(None);
+        }
+        let first = self.sequence.saturating_mul(POINTS_PER_BLOCK);
+        self.entries.push(PlainEntry {
+            entry,
+            point: first.saturating_add((number as u64).saturating_mul(2)),
+            handed: false,
+        })?;
+        Ok(Some((self.sequence, number)))
+    }
+
+    /// The block's sequence, its head and the number of its entries, or `None`.
+    pub(crate) fn seal(&mut self) -> Option<(u64, u64, usize)> {
+        let count = self.count();
+        if count == 0 || self.committed < self.sequence {
+            return None;
+        }
+        let sealed = (self.sequence, self.head(), count);
+        self.sequence = self.sequence.saturating_add(1);
+        Some(sealed)
+    }
+
+    pub(crate) fn committed(&mut self, sequence: u64) {
+        self.committed = sequence.saturating_add(1);
+    }
+
+    /// The next entry with its point, or `None`.
+    pub(crate) fn next_committed(&mut self) -> Option<(Entry, u64)> {
+        let committed = self.committed;
+        for one in self.entries.iter_mut() {
+            if !one.handed && one.point / POINTS_PER_BLOCK < committed {
+                one.handed = true;
+                return Some((one.entry, one.point));
+            }
+        }
+        None
+    }
+
+    pub(crate) fn watermark(&mut self, zone: usize, point: u64) {
+        if let Some(mark) = self.marks.get_mut(zone) {
+            *mark = cmp::max(*mark, point);
+        }
+    }
+}

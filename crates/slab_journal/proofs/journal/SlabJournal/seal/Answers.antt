@@ -1,0 +1,13 @@
+use Rattle.std.proofs.Common.{◌%◌, ◌∙◌, ℕ, List, set, ap, refl, sym, subst}
+use Rattle.slab_codec.specs.declared.forms.SlabEntry.{SlabEntry}
+use Rattle.slab_journal.specs.contracts.journal.SlabJournal.{the_view}
+use Rattle.slab_journal.specs.Slab.{Slab, MayOverwrite}
+use Rattle.slab_journal.proofs.SlabLaws.{keeps_sealed_as}
+use Rattle.slab_journal.proofs.journal.SlabJournal.seal.Goals as goal
+
+pub returns-clause-kept : goal.returns-clause-kept
+returns-clause-kept c =
+    let may = subst (λ (log : Slab). MayOverwrite log) (sym c.self.view_is) (c.if-not-may_overwrite.ensures.0 refl) in
+    keeps_sealed_as (the_view c.self.inside) c.args.self.now c.replace.new.dest _ c.self.view_is c.self.invariant.kept may (c.replace.ensures.after ∙ c.new.ensures)
+    (ap (λ (n : ℕ). set c.self.inside.slots.items (c.self.inside.sequence % n) c.replace.result) c.from.ensures
+    ∙ ap (λ (es : List SlabEntry). set c.self.inside.slots.items (c.self.inside.sequence % c.self.inside.geometry.slab_journal) es) c.replace.ensures.value)

@@ -1,0 +1,3 @@
+pub mod Slab
+pub mod Kept
+pub mod Viewed

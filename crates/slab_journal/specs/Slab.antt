@@ -1,0 +1,89 @@
+-- What a slab's journal knows: its updates, and up to which point those of each sector of counters are durable.
+use Rattle.std.specs.Prelude.{ℕ, ◌≡◌, ◌+◌, ◌-◌, ◌/◌, ◌%◌, ◌<◌, ◌≤◌, ◌⊎◌, List, [], length, max, replicate, All, Any, Contains, slice_index_or, slice_set}
+use Rattle.blk_base.specs.Regions.{slab_start_of}
+use Rattle.blk_base.specs.declared.geometry.Geometry.{Geometry}
+use Rattle.blk_base.specs.declared.place.Pbn.{Pbn}
+use Rattle.blk_base.specs.declared.point.Point.{Point}
+use Rattle.slab_codec.specs.declared.forms.SlabEntry.{SlabEntry}
+use Rattle.slab_codec.specs.declared.forms.SlabJournalBlock.{SlabJournalBlock}
+use Rattle.slab_journal.specs.declared.forms.Update.{Update}
+
+-- `sequence` is that of the block being filled, and `filling` its updates. `slots` has for each slot of the ring the
+-- updates of the block that stands there. The blocks below `durable` are durable. `commits` has for each sector of
+-- counters its durable commit point.
+pub record Slab : Type 0 where
+  pub geometry : Geometry
+  pub slab : ℕ
+  pub sequence : ℕ
+  pub filling : List SlabEntry
+  pub slots : List (List SlabEntry)
+  pub durable : ℕ
+  pub commits : List Point
+
+-- how many sectors the counters of a slab take: each has 504
+abbrev pub sectors_of : Geometry → ℕ
+sectors_of geometry = (geometry.slab_blocks + 503) / 504
+
+-- no update was taken in this session
+abbrev pub opening : Geometry → ℕ → Slab
+opening geometry slab =
+    record {
+      geometry = geometry;
+      slab = slab;
+      sequence = 1;
+      filling = [];
+      slots = replicate geometry.slab_journal [];
+      durable = 1;
+      commits = replicate (sectors_of geometry) (record { 0 = 0 });
+    }
+
+-- it is a data block of the slab
+abbrev pub IsOfSlab : Slab → Pbn → Type 0
+IsOfSlab log at = (slab_start_of log.geometry log.slab ≤ at.0) × (at.0 < slab_start_of log.geometry log.slab + log.geometry.slab_blocks)
+
+-- the update, by the data block's offset in the slab
+abbrev pub entry_of : Slab → Update → SlabEntry
+entry_of log update = record { point = update.point; offset = update.at.0 - slab_start_of log.geometry log.slab }
+
+-- the update is at or below the durable commit point of its sector: the counters on the device include it
+abbrev pub IsCovered : List Point → SlabEntry → Type 0
+IsCovered commits entry = entry.point.0 ≤ (slice_index_or commits (entry.offset / 504) (record { 0 = 0 })).0
+
+-- the slot of the block being filled, and the updates of the block that stands there
+abbrev pub next_slot : Slab → ℕ
+next_slot log = log.sequence % log.geometry.slab_journal
+
+abbrev pub next_block : Slab → List SlabEntry
+next_block log = slice_index_or log.slots (next_slot log) []
+
+-- every update of the block in the next slot is covered
+abbrev pub MayOverwrite : Slab → Type 0
+MayOverwrite log = All (IsCovered log.commits) (next_block log)
+
+-- a sealed block isn't durable yet
+abbrev pub IsWriting : Slab → Type 0
+IsWriting log = log.durable < log.sequence
+
+-- the update is in the block being filled, or in a block that isn't overwritten
+abbrev pub IsHeld : Slab → SlabEntry → Type 0
+IsHeld log entry = Contains log.filling entry ⊎ Any (λ block. Contains block entry) log.slots
+
+-- every update that isn't covered stays
+abbrev pub Keeps : Slab → Slab → Type 0
+Keeps old new = (entry : SlabEntry) → IsHeld old entry → ¬ IsCovered new.commits entry → IsHeld new entry
+
+-- the block being filled was sealed, in place of one whose updates are all covered, and the next one is filled
+pub record Seals (old new : Slab) (block : SlabJournalBlock) : Type 0 where
+  pub waits : 0 < length old.filling
+  pub none_writing : old.durable ≡ old.sequence
+  pub covered : MayOverwrite old
+  pub records : block ≡ record { nonce = old.geometry.nonce; sequence = old.sequence; slab = old.slab; entries = old.filling }
+  pub follows : new ≡ record old {
+    sequence = old.sequence + 1;
+    filling = [];
+    slots = slice_set old.slots (next_slot old) old.filling;
+  }
+
+-- the sector's commit point is this point, if that is above it
+abbrev pub raised : List Point → ℕ → Point → List Point
+raised commits sector point = slice_set commits sector (record { 0 = max (slice_index_or commits sector point).0 point.0 })

@@ -1,0 +1,144 @@
+ghost use Rattle.std.specs.Prelude.{◌≡◌, ◌+◌, ◌<◌, ◌≤◌, ◌^◌, ◌↔◌, ◌∷◌, ◌++◌, [], ◌⊎◌, length, IsTrue, IfOk, IfSome, IfNone, OnOk, OnErr};
+ghost use Rattle.blk_base.specs.Limits.{IsGeometry};
+ghost use Rattle.slab_codec.specs.Grammar.{HoldsBlock};
+ghost use Rattle.slab_journal.specs.Slab.{opening, entry_of, raised, IsOfSlab, MayOverwrite, IsWriting, Keeps, Seals};
+
+use crate::covering::{are_covered, raise};
+use crate::entries::{Updates, copy_of, empty_slots, opening_commits, slab_entry};
+use crate::{Full, Update};
+use blk_base::{Geometry, Layout, Point};
+use slab_codec::{COUNTERS, SlabEntries, SlabJournalBlock};
+use std::alloc::{AllocError, Global};
+use std::marker::Model;
+use std::mem::replace;
+
+/// The journal of a slab in a session.
+#[derive(Drop)]
+pub struct SlabJournal {
+    geometry: Geometry,
+    slab: u32,
+    // The first data block of the slab.
+    first: u32,
+    // The sequence of the block being filled, and its updates.
+    sequence: u64,
+    filling: Updates,
+    // For each slot of the ring, the updates of the block that stands there.
+    slots: Vec<Updates>,
+    // The blocks below this sequence are durable.
+    durable: u64,
+    // For each sector of counters, its durable commit point.
+    commits: Vec<Point>,
+}
+
+impl Model for SlabJournal {
+    ghost use Rattle.std.specs.Prelude.{◌≡◌};
+    ghost use Rattle.blk_base.specs.Regions.{slab_start_of};
+    ghost use Rattle.slab_journal.specs.Slab.{Slab};
+
+    ghost Value = { Slab };
+
+    ghost use Rattle.slab_journal.specs.Kept.{IsKept};
+    ghost use Rattle.slab_journal.specs.Viewed.{log_of};
+
+    ghost view = { log_of };
+
+    ghost invariant = { λ j. record {
+      kept : IsKept (log_of j);
+      first : j.first ≡ slab_start_of j.geometry j.slab;
+    } };
+}
+
+impl SlabJournal {
+    /// The empty journal of a slab below the number of slabs, whose first block has sequence 1. Takes the room for the
+    /// updates of a full ring and of the block being filled.
+    pub fn new(alloc: Global, geometry: &Geometry, slab: u32) -> Result<SlabJournal, AllocError>
+        requires geometry { IsGeometry geometry.now }
+        requires slab { slab < geometry.now.slabs }
+        ensures { IfOk result (λ journal. journal ≡ opening geometry.now slab) }
+    {
+        let sectors = geometry.slab_blocks.div_ceil(COUNTERS as u32);
+        Ok(SlabJournal {
+            geometry: *geometry,
+            slab,
+            first: Layout::of(geometry).data_block(slab, 0).0,
+            sequence: 1,
+            filling: SlabEntries::new(),
+            slots: empty_slots(alloc, geometry.slab_journal)?,
+            durable: 1,
+            commits: opening_commits(alloc, sectors)?,
+        })
+    }
+
+    /// Adds an update of a data block of this slab to the block being filled. It is refused exactly where that block has
+    /// 320.
+    pub fn add(&mut self, update: &Update) -> Result<(), Full>
+        requires { IsOfSlab self.old update.now.at }
+        ensures added { OnOk result (self.new ≡ record self.old { filling = self.old.filling ++ entry_of self.old update.now ∷ [] }) }
+        ensures fewer { OnOk result (length self.old.filling < 320) }
+        ensures full { OnErr result ((length self.old.filling ≡ 320) × (self.new ≡ self.old)) }
+        ensures kept { Keeps self.old self.new }
+    {
+        if self.filling.is_full() {
+            return Err(Full);
+        }
+        let entry = slab_entry(update.point.0, update.at.0 - self.first);
+        self.filling.push(entry);
+        Ok(())
+    }
+
+    /// Seals the block being filled, to be written; the next one is filled from here on. `None` exactly where no update
+    /// waits, a sealed block isn't durable yet, or its slot can't be overwritten. Its sequence is below 2^55.
+    pub fn seal(&mut self) -> Option<SlabJournalBlock>
+        requires { self.old.sequence < 2 ^ 55 }
+        ensures some { IfSome result (Seals self.old self.new) }
+        ensures held { IfSome result (λ block. HoldsBlock self.old.geometry.slab_blocks block.sequence block.entries) }
+        ensures none { IfNone result (((self.old.filling ≡ []) ⊎ (IsWriting self.old ⊎ (¬ MayOverwrite self.old))) × (self.new ≡ self.old)) }
+        ensures kept { Keeps self.old self.new }
+    {
+        if self.filling.len() == 0 || self.durable < self.sequence || !self.may_overwrite() {
+            return None;
+        }
+        let sequence = self.sequence;
+        let slot = (sequence % u64::from(self.geometry.slab_journal)) as usize;
+        let entries = copy_of(&self.filling);
+        self.slots[slot] = replace(&mut self.filling, SlabEntries::new());
+        self.sequence += 1;
+        Some(SlabJournalBlock {
+            nonce: self.geometry.nonce,
+            sequence,
+            slab: self.slab,
+            entries,
+        })
+    }
+
+    /// The sealed block, which has this sequence, is durable.
+    pub fn durable(&mut self, sequence: u64)
+        requires sealed { IsWriting self.old }
+        requires sequence { sequence ≡ self.old.durable }
+        ensures durable { self.new ≡ record self.old { durable = sequence + 1 } }
+        ensures kept { Keeps self.old self.new }
+    {
+        prove_eq!(sequence, self.durable);
+        self.durable += 1;
+    }
+
+    /// Whether the slot of the block being filled may be overwritten: exactly where each update of the block that stands
+    /// there is at or below the durable commit point of its sector.
+    pub fn may_overwrite(&self) -> bool
+        ensures { IsTrue result ↔ MayOverwrite self.now }
+    {
+        let slot = (self.sequence % u64::from(self.geometry.slab_journal)) as usize;
+        let block = &self.slots[slot];
+        are_covered(block.as_slice(), &self.commits)
+    }
+
+    /// The sector of counters with this number in the slab, from 0, is durable with this commit point. A report that says
+    /// less than an earlier one changes nothing.
+    pub fn reference_durable(&mut self, sector: u32, point: Point)
+        requires { sector < length self.old.commits }
+        ensures commits { self.new ≡ record self.old { commits = raised self.old.commits sector point } }
+        ensures kept { Keeps self.old self.new }
+    {
+        raise(&mut self.commits, sector, point);
+    }
+}
