@@ -40,7 +40,7 @@ HoldsData ground window image (FlushLost ∷ older) log = HoldsData ground windo
 HoldsData ground window image (FlushStopped ∷ older) log = HoldsData ground window image older log
 
 -- a call that writes no block that an entry names
-abbrev MissesNamed : List Entry → Call → Type 0
+abbrev pub MissesNamed : List Entry → Call → Type 0
 MissesNamed entries call = (b : ℕ) → is_named entries b ≡ true → Misses call b
 
 pub or_left : (p q : Bool) → p ≡ true → (p || q) ≡ true
@@ -58,7 +58,7 @@ pub same_number : (n : ℕ) → (n == n) ≡ true
 same_number n = elim (eqb_tells n n) [ inl same ↦ same.0 | inr other ↦ absurd (other.1 refl) ]
 
 -- data goes on over a call that misses it
-data_kept : (ground : Ground) (window : List Entry) (image : Blocks) (log : List Call) (call : Call) (story : List Served) → MissesNamed (entries_of window story) call
+pub data_kept : (ground : Ground) (window : List Entry) (image : Blocks) (log : List Call) (call : Call) (story : List Served) → MissesNamed (entries_of window story) call
     → HoldsData ground window image story log → HoldsData ground window image story (call ∷ log)
 data_kept ground window image log call [] misses holds = λ b is. ((holds b is).0, kept _ ground.opening log call b (misses b is) (holds b is).1)
 data_kept ground window image log call (Stored at block x ∷ older) misses holds = (
@@ -76,13 +76,13 @@ data_kept ground window image log call (FlushLost ∷ older) misses holds = data
 data_kept ground window image log call (FlushStopped ∷ older) misses holds = data_kept ground window image log call older misses holds
 
 -- a data block lies behind the journal
-data_high : (g : Geometry) (k : ℕ) → first_slab_of g ≤ data_number g k
+pub data_high : (g : Geometry) (k : ℕ) → first_slab_of g ≤ data_number g k
 data_high g k = omega arith
 
-is_high : (g : Geometry) (b : ℕ) → IsDataBlock g b → first_slab_of g ≤ b
+pub is_high : (g : Geometry) (b : ℕ) → IsDataBlock g b → first_slab_of g ≤ b
 is_high g b (slab, offset, is, at) = omega (arith, at)
 
-named_high : (ground : Ground) (window : List Entry) (first : Seen) (story : List Served) (now : Seen) → NamesData ground.geometry window → AllServed ground window first story now
+pub named_high : (ground : Ground) (window : List Entry) (first : Seen) (story : List Served) (now : Seen) → NamesData ground.geometry window → AllServed ground window first story now
     → (b : ℕ) → is_named (entries_of window story) b ≡ true → first_slab_of ground.geometry ≤ b
 named_high ground window first [] now names served b is = is_high ground.geometry b (names b is)
 named_high ground window first (Stored at block x ∷ older) now names (before, later, (on, room, slot, place, calls), rest) b is =
@@ -105,20 +105,20 @@ named_high ground window first (FlushLost ∷ older) now names (before, later, s
 named_high ground window first (FlushStopped ∷ older) now names (before, later, serves, rest) b is = named_high ground window first older before names rest b is
 
 -- a write to the next data block misses the named ones
-misses_block : (ground : Ground) (entries : List Entry) (x : Pbn) (bytes : List ℕ) (ok : Bool) → HasRoom ground entries x → MissesNamed entries (Write x bytes ok)
+pub misses_block : (ground : Ground) (entries : List Entry) (x : Pbn) (bytes : List ℕ) (ok : Bool) → HasRoom ground entries x → MissesNamed entries (Write x bytes ok)
 misses_block ground entries x bytes ok room b is same =
     let named : is_named entries x.0 ≡ true = rw same is in
     absurd (cc (named, room.block.unnamed))
 
 -- a write to a journal block misses the data blocks
-misses_slot : (ground : Ground) (entries named : List Entry) (slot : Pbn) (bytes : List ℕ) (ok : Bool) → 0 < ground.geometry.journal → IsNextSlot ground entries slot
+pub misses_slot : (ground : Ground) (entries named : List Entry) (slot : Pbn) (bytes : List ℕ) (ok : Bool) → 0 < ground.geometry.journal → IsNextSlot ground entries slot
     → ((b : ℕ) → is_named named b ≡ true → first_slab_of ground.geometry ≤ b) → MissesNamed named (Write slot bytes ok)
 misses_slot ground entries named slot bytes ok some place high b is same =
     let low = mod_below (next_sequence ground entries) ground.geometry.journal some in
     omega (arith, high b is, low, place, same)
 
 -- what is stored and flushed stands
-stands : (ground : Ground) (log : List Call) (x : Pbn) (block : List ℕ) → Stands ground x.0 block (stored x block log)
+pub stands : (ground : Ground) (log : List Call) (x : Pbn) (block : List ℕ) → Stands ground x.0 block (stored x block log)
 stands ground log x block = rw (settled-write ground.opening log x block) (refl, tt)
 
 data_stored : (ground : Ground) (window : List Entry) (image : Blocks) (log : List Call) (x : Pbn) (bytes : List ℕ) (story : List Served) → MissesNamed (entries_of window story) (Write x bytes true)

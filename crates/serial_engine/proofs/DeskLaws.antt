@@ -31,7 +31,7 @@ answer_at (s ∷ older) n = picked reply_of (length older == n) s _ _ (answer_at
 pub not_answered : (story : List Served) (n : ℕ) → length story ≤ n → answer_of (desk_of story) (name n) ≡ None
 not_answered story n past = answer_at story n ∙ ap (option_map reply_of) (step_none story n past)
 
-begun_of : (story : List Served) → begun 0 (desk_of story) ≡ length story
+pub begun_of : (story : List Served) → begun 0 (desk_of story) ≡ length story
 begun_of [] = refl
 begun_of (s ∷ older) = omega (arith, begun_of older)
 
@@ -69,7 +69,7 @@ all_answered requests story whole w known =
     rw is.is (some_is _ _ (answer_at story is.n ∙ ap (option_map reply_of) s.1))
 
 -- before a request was begun, no later one was answered
-unanswered_before : (story : List Served) (m n : ℕ) → m ≤ n → answer_of (before_begin (desk_of story) (name m)) (name n) ≡ None
+pub unanswered_before : (story : List Served) (m n : ℕ) → m ≤ n → answer_of (before_begin (desk_of story) (name m)) (name n) ≡ None
 unanswered_before [] m n le = refl
 unanswered_before (s ∷ older) m n le = elim (eqb_tells (length older) m) [
   | inl same ↦ rw same.0 (not_answered older n (omega (arith, same.1)))

@@ -7,3 +7,11 @@ pub mod SessionLaws
 pub mod ListLaws
 pub mod EntryLaws
 pub mod StoryLaws
+pub mod MomentLaws
+pub mod GroundLaws
+pub mod MarkLaws
+pub mod ShownLaws
+pub mod EntryKindLaws
+pub mod StopLaws
+pub mod StopStepLaws
+pub mod AfterLaws

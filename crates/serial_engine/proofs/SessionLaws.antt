@@ -1,28 +1,31 @@
 -- What a served story makes of its session.
-use Rattle.std.proofs.Common.{ℕ, zero, suc, ◌≡◌, ◌<◌, ◌≤◌, true, IsTrue, List, [], ◌∷◌, Option, Some, None, length, slice_get, refl, sym, ◌∙◌, ap, subst, inl, inr, arith}
+use Rattle.std.proofs.Common.{ℕ, zero, suc, ◌≡◌, ◌≤◌, true, List, [], ◌∷◌, Option, Some, None, length, refl, sym, ◌∙◌, ap, subst, inl, inr, arith}
 use Rattle.std.specs.Option.{option_map}
 use Rattle.blk_base.specs.declared.journal_entry.Entry.{Entry}
 use Rattle.blk_base.specs.declared.place.Mapping.{Mapping}
 use Rattle.blk_base.specs.declared.place.Mapping.TheVariants.{Unmapped, Zero, At}
 use Rattle.blk_base.specs.declared.request.Request.{Request}
-use Rattle.blk_base.specs.declared.request.Request.TheVariants.{Read, Write, Discard, Flush}
 use Rattle.blk_base.specs.Regions.{needed_blocks}
 use Rattle.disk_model.specs.Causes.{Rose}
 use Rattle.disk_model.specs.Images.{HasOneImage}
 use Rattle.disk_model.specs.Log.{Blocks}
 use Rattle.disk_model.specs.declared.call.Call.{Call}
 use Rattle.vdo_model.specs.DeskLog.{answer_of}
-use Rattle.vdo_model.specs.Scripts.{address_of}
-use Rattle.vdo_model.specs.Servable.{IsServable, AreServable}
+use Rattle.vdo_model.specs.Servable.{AreServable}
 use Rattle.image_layout.specs.Window.{mapping_of}
 use Rattle.serial_engine.specs.Blocks.{NamesData, entries_of}
+use Rattle.serial_engine.specs.Moments.{flush_marks_of}
 use Rattle.serial_engine.specs.Served.{Ground, Seen, AllServed, ReadFails}
 use Rattle.serial_engine.specs.Sessions.{IsSession, HasFault}
 use Rattle.serial_engine.specs.Story.{Served, Stored, NoRoom, DataLost, EntryLost, WriteStopped, Given, NotGiven, Flushed, FlushLost, FlushStopped, reply_of, is_stopped, name, desk_of, places_of, marks_of, AreServed}
+use Rattle.serial_engine.proofs.AfterLaws.{stops_are_right}
 use Rattle.serial_engine.proofs.CallLaws.{stops_since}
 use Rattle.serial_engine.proofs.DataLaws.{HoldsData}
 use Rattle.serial_engine.proofs.EntryLaws.{data_inside}
-use Rattle.serial_engine.proofs.DeskLaws.{IsInRange, run_is_right, answer_at}
+use Rattle.serial_engine.proofs.DeskLaws.{run_is_right, answer_at}
+use Rattle.serial_engine.proofs.GroundLaws.{IsGround, servable_at, in_range}
+use Rattle.serial_engine.proofs.MarkLaws.{are_flush_marks}
+use Rattle.serial_engine.proofs.MomentLaws.{happened}
 use Rattle.serial_engine.proofs.StepLaws.{step_at, some_same}
 use Rattle.serial_engine.proofs.ValueLaws.{AreWhole, reads_are_right}
 use Rattle.std.proofs.lemmas.Bool.Decides.{eqb_tells}
@@ -84,21 +87,6 @@ step_rose ground window first (t ∷ older) now n s served is fault = elim (eqb_
   | inr other ↦ rose_later _ _ _ (step_rose ground window first older served.0 n s served.3 (rw other.0 at is) fault) served.1.faults
 ]
 
--- servable requests
-pub servable_at : (logical : ℕ) (requests : List Request) (n : ℕ) (r : Request) → AreServable logical requests → slice_get requests n ≡ Some r → IsServable logical r
-servable_at logical [] n r are is = absurd cc
-servable_at logical (q ∷ requests) zero r are is = subst (λ (u : Request). IsServable logical u) (some_same q r is) are.0
-servable_at logical (q ∷ requests) (suc n) r are is = servable_at logical requests n r are.1 is
-
-address_below : (logical : ℕ) (r : Request) (a : ℕ) → IsServable logical r → address_of r ≡ Some a → a < logical
-address_below logical (Read at) a ok is = omega (arith, ok, some_same _ _ is)
-address_below logical (Write at block fua) a ok is = omega (arith, ok.0, some_same _ _ is)
-address_below logical (Discard at) a ok is = absurd ok
-address_below logical Flush a ok is = absurd cc
-
-in_range : (logical : ℕ) (requests : List Request) → AreServable logical requests → IsInRange logical requests
-in_range logical requests are n r a had has = address_below logical r a (servable_at logical requests n r are had) has
-
 are_whole : (logical : ℕ) (requests : List Request) (story : List Served) → AreServable logical requests → AreServed requests story → AreWhole story
 are_whole logical requests [] are each = tt
 are_whole logical requests (Stored at block x ∷ older) are each = ((servable_at logical requests (length older) _ are each.0).1, are_whole logical requests older are each.1)
@@ -141,11 +129,12 @@ opened ground window image log names room one b is =
     (one.whole b (omega arith), one.only b (omega arith))
 
 -- a served story is a session
-pub session : (ground : Ground) (window : List Entry) (requests : List Request) (story : List Served) (first now : Seen) → AreServable ground.geometry.logical requests
-    → NamesData ground.geometry window → (IsTrue ground.tells → needed_blocks ground.geometry ≤ length ground.opening)
+pub session : (ground : Ground) (window : List Entry) (made : ℕ) (requests : List Request) (story : List Served) (first now : Seen) → IsGround ground window requests
     → AreServed requests story → length story ≡ length requests → AllServed ground window first story now
-    → IsSession ground window requests (desk_of story) (places_of story) (marks_of story) first now
-session ground window requests story first now are names room each whole served = record {
+    → IsSession ground window made (record { requests = requests ∷ []; desk = desk_of story; marks = flush_marks_of made window story; places = places_of story; histories = marks_of story }) first now
+session ground window made requests story first now is each whole served = record {
+  requests = requests;
+  one_stream = refl;
   story = story;
   each = each;
   whole = whole;
@@ -153,9 +142,15 @@ session ground window requests story first now are names room each whole served 
   desk_is = refl;
   places_is = refl;
   histories_is = refl;
-  run_right = run_is_right ground.geometry.logical requests story (in_range _ requests are) each whole;
+  marks_is = refl;
+  run_right = run_is_right ground.geometry.logical requests story (in_range _ requests is.servable) each whole;
   reads_right = λ tells honest image one.
-      reads_are_right ground window image first requests story now tells honest names (opened ground window image first.log names (room tells) one) served each (are_whole _ requests story are each) whole;
+      reads_are_right ground window image first requests story now tells honest is.names (opened ground window image first.log is.names (is.room tells) one) served each (are_whole _ requests story is.servable each) whole;
   causes = λ w a told fault. causes_at ground window first story now served w.stream w.number a told fault;
   stops = λ tells. stops_since ground window first story now tells served;
+  happened = λ tells. happened ground window first tells story now served;
+  flushes = λ tells earlier base. are_flush_marks ground window first tells earlier made base requests story now served each whole;
+  stops_right = λ tells image one is_window earlier base.
+      stops_are_right ground window image first requests story now served earlier made tells base is each (are_whole _ requests story is.servable each) one is_window
+      (opened ground window image first.log is.names (is.room tells) one);
 }

@@ -59,7 +59,7 @@ AreWhole (FlushLost ∷ older) = AreWhole older
 AreWhole (FlushStopped ∷ older) = AreWhole older
 
 -- a mapping stands for a value
-abbrev ShowsValue : Ground → Mapping → List ℕ → List Call → Type 0
+abbrev pub ShowsValue : Ground → Mapping → List ℕ → List Call → Type 0
 ShowsValue ground Unmapped value log = value ≡ zero_block
 ShowsValue ground Zero value log = value ≡ zero_block
 ShowsValue ground (At x) value log = (length value ≡ 4096) × AllByRecursion (λ content. content ≡ value) (contents ground.opening log x.0)
@@ -71,7 +71,7 @@ window_shows ground window image log a Unmapped is holds = rw is refl
 window_shows ground window image log a Zero is holds = rw is refl
 window_shows ground window image log a (At x) is holds = rw is (holds x.0 (mapped_named window a x is))
 
-map_shows : (ground : Ground) (window : List Entry) (image : Blocks) (story : List Served) (log : List Call) (a : ℕ) → AreWhole story → HoldsData ground window image story log
+pub map_shows : (ground : Ground) (window : List Entry) (image : Blocks) (story : List Served) (log : List Call) (a : ℕ) → AreWhole story → HoldsData ground window image story log
     → ShowsValue ground (mapping_of (entries_of window story) a) (latest (value_of image window) story a) log
 map_shows ground window image [] log a whole holds = window_shows ground window image log a (mapping_of window a) refl holds
 map_shows ground window image (Stored at block x ∷ older) log a whole holds = elim (eqb_tells at.0 a) [
@@ -207,7 +207,7 @@ value_is opened requests places (Flushed ∷ older) a q are each above = value_i
 value_is opened requests places (FlushLost ∷ older) a q are each above = value_is opened requests places older a q are.1 each.1 above
 value_is opened requests places (FlushStopped ∷ older) a q are each above = value_is opened requests places older a q are.1 each.1 above
 
-whole_older : (s : Served) (older : List Served) → AreWhole (s ∷ older) → AreWhole older
+pub whole_older : (s : Served) (older : List Served) → AreWhole (s ∷ older) → AreWhole older
 whole_older (Stored at block x) older whole = whole.1
 whole_older (NoRoom at block) older whole = whole
 whole_older (DataLost at block x) older whole = whole

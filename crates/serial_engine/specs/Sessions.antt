@@ -1,5 +1,5 @@
 -- A session: its story, and what the report and the device's log say of it.
-use Rattle.std.specs.Prelude.{◌≡◌, ◌++◌, true, IsTrue, List, [], ◌∷◌, Some, length}
+use Rattle.std.specs.Prelude.{ℕ, ◌≡◌, ◌≤◌, ◌++◌, true, IsTrue, List, [], ◌∷◌, Some, length}
 use Rattle.blk_base.specs.declared.journal_entry.Entry.{Entry}
 use Rattle.blk_base.specs.declared.request.Answer.{Answer as Reply}
 use Rattle.blk_base.specs.declared.request.Answer.TheVariants as reply
@@ -8,15 +8,17 @@ use Rattle.blk_base.specs.declared.request.Writer.{Writer}
 use Rattle.disk_model.specs.Causes.{Rose}
 use Rattle.disk_model.specs.declared.call.Call.{Call}
 use Rattle.disk_model.specs.declared.call.Call.TheVariants.{Read, Write, Flush}
-use Rattle.disk_model.specs.Images.{HasOneImage}
-use Rattle.disk_model.specs.Log.{Blocks}
-use Rattle.image_layout.specs.Window.{value_of}
+use Rattle.disk_model.specs.Images.{HasOneImage, IsImage}
+use Rattle.disk_model.specs.Log.{Blocks, block_at}
+use Rattle.image_layout.specs.Window.{IsWindow, journal_of, value_of}
 use Rattle.vdo_model.specs.declared.report.DeskLine.{DeskLine}
-use Rattle.vdo_model.specs.declared.report.HistoryEntry.{HistoryEntry}
-use Rattle.vdo_model.specs.declared.report.Placed.{Placed}
+use Rattle.vdo_model.specs.declared.report.RunReport.{RunReport}
 use Rattle.vdo_model.specs.DeskLog.{answer_of}
+use Rattle.vdo_model.specs.FlushMarks.{AreFlushMarks, calls_of, lines_of, successes}
 use Rattle.vdo_model.specs.RightReads.{ReadsRight}
 use Rattle.vdo_model.specs.RightRuns.{RunRight}
+use Rattle.vdo_model.specs.Stops.{ShowsRight}
+use Rattle.serial_engine.specs.Moments.{moments_of, flush_marks_of, device_moments}
 use Rattle.serial_engine.specs.Served.{Ground, Seen, AllServed}
 use Rattle.serial_engine.specs.Story.{Served, desk_of, places_of, marks_of, handed_of, AreServed}
 
@@ -49,19 +51,49 @@ HasFault reply.NoSpace = ⊥
 HasFault reply.Full = ⊥
 HasFault reply.Damaged = ⊥
 
--- A session over these requests that ended, on an image whose window has these entries: every request was served in its turn, the report's lists are those of the
--- story, and they are right.
-pub record IsSession (ground : Ground) (window : List Entry) (requests : List Request) (desk : List DeskLine) (places : List Placed) (histories : List HistoryEntry) (first now : Seen) : Type 0 where
+-- the moments of a story are those of its desk log and of the calls since the log was the first one
+pub record Happened (ground : Ground) (window : List Entry) (first : Seen) (story : List Served) (now : Seen) (served : AllServed ground window first story now) (desk : List DeskLine) : Type 0 where
+  pub lines : lines_of (moments_of ground window first story now served) ≡ desk
+  pub calls : now.log ≡ calls_of (moments_of ground window first story now served) ++ first.log
+
+-- An image has the superblock of the one that was opened, and a window that gives its addresses these values.
+pub record ShowsValues (ground : Ground) (opened image : Blocks) (values : ℕ → List ℕ) : Type 0 where
+  pub superblock : block_at image 0 ≡ block_at opened 0
+  pub window : List Entry
+  pub is_window : IsWindow ground.geometry ground.start (journal_of ground.geometry image) window
+  pub values_are : values ≡ value_of image window
+
+-- A stop at any moment is right: at each moment before the session the opening values were, and after each prefix of the
+-- session's calls, which followed the earlier ones, each image shows values that are.
+pub record StopsRight (ground : Ground) (opened : Blocks) (opening : ℕ → List ℕ) (report : RunReport) (earlier first calls : List Call) : Type 0 where
+  pub before : (size : ℕ) → size ≤ length earlier → ShowsRight ground.geometry.logical opening report (calls ++ earlier) size opening
+  pub since : (later prefix : List Call) → calls ≡ later ++ prefix → (image : Blocks) → IsImage ground.opening (prefix ++ first) image
+      → (values : ℕ → List ℕ) × ShowsValues ground opened image values × ShowsRight ground.geometry.logical opening report (calls ++ earlier) (length (prefix ++ earlier)) values
+
+-- A session over the one stream of a script that ended, on an image whose window has these entries: every request was
+-- served in its turn, the report's lists are those of the story, and they are right. So many calls had succeeded before.
+pub record IsSession (ground : Ground) (window : List Entry) (made : ℕ) (report : RunReport) (first now : Seen) : Type 0 where
+  pub requests : List Request
+  pub one_stream : report.requests ≡ requests ∷ []
   pub story : List Served
   pub each : AreServed requests story
   pub whole : length story ≡ length requests
   pub served : AllServed ground window first story now
-  pub desk_is : desk ≡ desk_of story
-  pub places_is : places ≡ places_of story
-  pub histories_is : histories ≡ marks_of story
-  pub run_right : RunRight 1 1 ground.geometry.logical (handed_of story) (requests ∷ []) desk places histories
+  pub desk_is : report.desk ≡ desk_of story
+  pub places_is : report.places ≡ places_of story
+  pub histories_is : report.histories ≡ marks_of story
+  pub marks_is : report.marks ≡ flush_marks_of made window story
+  pub run_right : RunRight 1 1 ground.geometry.logical (handed_of story) report.requests report.desk report.places report.histories
   -- before the session each address has its value in the image, where nothing is pending
   pub reads_right : IsTrue ground.tells → IsTrue ground.honest → (image : Blocks) → HasOneImage ground.opening first.log image
-      → ReadsRight (value_of image window) (requests ∷ []) desk places histories
-  pub causes : (w : Writer) (a : Reply) → answer_of desk w ≡ Some a → HasFault a → Rose first.faults now.faults
+      → ReadsRight (value_of image window) report.requests report.desk report.places report.histories
+  pub causes : (w : Writer) (a : Reply) → answer_of report.desk w ≡ Some a → HasFault a → Rose first.faults now.faults
   pub stops : IsTrue ground.tells → SinceThen StopsAtFailure first.log now.log
+  -- its moments are those of the desk log and of the device's log, and each flush that was answered Ok has its mark there
+  pub happened : IsTrue ground.tells → Happened ground window first story now served report.desk
+  pub flushes : IsTrue ground.tells → (earlier : List Call) → successes earlier ≡ made
+      → AreFlushMarks report.requests (moments_of ground window first story now served ++ device_moments earlier) report.marks
+  -- and a stop at any moment leaves what it may
+  pub stops_right : IsTrue ground.tells → (image : Blocks) → HasOneImage ground.opening first.log image
+      → IsWindow ground.geometry ground.start (journal_of ground.geometry image) window → (earlier : List Call) → successes earlier ≡ made
+      → StopsRight ground image (value_of image window) report earlier first.log (calls_of (moments_of ground window first story now served))

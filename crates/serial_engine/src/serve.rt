@@ -13,7 +13,10 @@ use crate::{Session, Written};
 use blk_base::{Answer, Block, Entry, Lba, Mapping, Request, Writer};
 use disk_model::Disk;
 use image_layout::mapping_at;
-use vdo_model::{DeskLine, HistoryEntry, Mark, Placed};
+use vdo_model::{DeskLine, FlushMark, HistoryEntry, Mark, Placed};
+
+/// The calls that succeed for a write that is stored: its block is written and flushed, and then its entry.
+const STORED_CALLS: u64 = 4;
 
 // Draws the next place of logical zone 0, the only one.
 fn draw_place(places: &mut Vec<Placed>, request: Writer)
@@ -73,6 +76,7 @@ pub(crate) fn serve_write<D: Disk>(
         Written::Stored(target) => {
             let new = Mapping::At(target);
             add(&mut session.entries, Entry::Remap { at, old, new });
+            session.made += STORED_CALLS;
             (Answer::Ok, Mark::Settled)
         }
         Written::NoRoom => (Answer::Full, Mark::Refused),
@@ -106,7 +110,7 @@ pub(crate) fn serve_read<D: Disk>(device: &mut D, session: &mut Session, number:
     add(&mut session.desk, DeskLine::Begin { request });
     draw_place(&mut session.places, request);
     let mut block = Block::zero();
-    let Ok(()) = read(
+    let Ok(made) = read(
         device,
         &session.layout,
         session.start,
@@ -118,6 +122,7 @@ pub(crate) fn serve_read<D: Disk>(device: &mut D, session: &mut Session, number:
         add(&mut session.desk, DeskLine::Answer { request, answer });
         return;
     };
+    session.made += made;
     let answer = Answer::Bytes(block);
     add(&mut session.desk, DeskLine::Answer { request, answer });
 }
@@ -146,6 +151,9 @@ pub(crate) fn serve_flush<D: Disk>(device: &mut D, session: &mut Session, number
         add(&mut session.desk, DeskLine::Answer { request, answer });
         return;
     };
+    session.made += 1;
+    let calls = session.made;
+    add(&mut session.marks, FlushMark { request, calls });
     let answer = Answer::Ok;
     add(&mut session.desk, DeskLine::Answer { request, answer });
 }

@@ -20,11 +20,11 @@ use vdo_model::{Requests, Rows, RunReport};
 fn serve_each<D: Disk>(device: &mut D, session: &mut Session, requests: &[Request])
     requires size { needed_blocks session.old.layout.geometry ≤ D.size device.old }
     requires limit { session.old.limit ≡ length requests.now }
-    requires fresh { kept session.old ≡ window_kept (kept session.old).entries }
+    requires fresh { kept session.old ≡ window_kept (kept session.old).entries session.old.before }
     requires opened { vec_len session.old.entries ≡ session.old.opened }
     requires names { NamesData session.old.layout.geometry (kept session.old).entries }
     requires servable { AreServable session.old.layout.geometry.logical requests.now }
-    ensures served { InSession (ground session.old.layout.geometry session.old.start (D.opening device.old) D.tells D.honest) (kept session.old).entries requests.now
+    ensures served { InSession (ground session.old.layout.geometry session.old.start (D.opening device.old) D.tells D.honest) (kept session.old).entries session.old.before requests.now
         (seen (D.log device.old) (D.faults device.old) (D.unkept device.old)) (length requests.now) (kept session.new) (seen (D.log device.new) (D.faults device.new) (D.unkept device.new)) }
     ensures size { D.size device.new ≡ D.size device.old }
     ensures opening { D.opening device.new ≡ D.opening device.old }
@@ -34,8 +34,9 @@ fn serve_each<D: Disk>(device: &mut D, session: &mut Session, requests: &[Reques
     }
 }
 
-/// Serves the requests of stream 0, one after the other, on an image whose window has these entries, the oldest first,
-/// and reports what became of them.
+/// Serves the requests of a script's one stream, one after the other, on an image whose window has these entries, the
+/// oldest first, and reports what became of them. So many calls of the device, at most 2^32, succeeded `before`: the
+/// marks of the flushes go on from there.
 ///
 /// A write goes to the first data block that no journal entry names. It is answered Ok once its block is flushed, and
 /// then a journal block with its entry. `Full` comes exactly where all journal blocks or all data blocks are used.
@@ -47,30 +48,34 @@ pub fn serve_requests<D: Disk>(
     alloc: Global,
     head: &Super,
     window: Vec<Entry>,
+    before: u64,
     requests: Requests,
     device: &mut D,
 ) -> Result<RunReport, AllocError>
     requires sizes { IsGeometry head.now.geometry }
-    requires start { head.now.start < 2 ^ 54 }
+    requires start { (1 ≤ head.now.start) × (head.now.start < 2 ^ 54) }
     requires size { needed_blocks head.now.geometry ≤ D.size device.old }
     requires opened { vec_len window ≤ 1024 }
     requires names { NamesData head.now.geometry (reverse window.items) }
+    requires before { before ≤ 2 ^ 32 }
+    requires one_stream { requests ≡ stream_of requests 0 ∷ [] }
     requires few { length (stream_of requests 0) ≤ 1024 }
     requires servable { AreServable head.now.geometry.logical (stream_of requests 0) }
     ensures report { IfOk result (λ report. report.requests ≡ requests) }
     ensures session { IfOk result (λ report.
-        IsSession (ground head.now.geometry head.now.start (D.opening device.old) D.tells D.honest) (reverse window.items) (stream_of requests 0) report.desk report.places report.histories
+        IsSession (ground head.now.geometry head.now.start (D.opening device.old) D.tells D.honest) (reverse window.items) before report
         (seen (D.log device.old) (D.faults device.old) (D.unkept device.old)) (seen (D.log device.new) (D.faults device.new) (D.unkept device.new))) }
     ensures err { OnErr result (device.new ≡ device.old) }
     ensures size { D.size device.new ≡ D.size device.old }
     ensures opening { D.opening device.new ≡ D.opening device.old }
 {
     let stream = requests.stream(0);
-    let mut session = Session::begin(alloc, head, window, stream.len())?;
+    let mut session = Session::begin(alloc, head, window, before, stream.len())?;
     let _blocks = device.blocks();
     serve_each(device, &mut session, stream);
     Ok(RunReport {
         desk: Rows::from_vec(session.desk),
+        marks: Rows::from_vec(session.marks),
         places: Rows::from_vec(session.places),
         histories: Rows::from_vec(session.histories),
         requests,

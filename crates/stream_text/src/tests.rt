@@ -220,6 +220,7 @@ fn report(alloc: Global) -> Result<RunReport, Fail> {
     Ok(RunReport {
         requests: Requests::of_stream(alloc, requests)?,
         desk: Rows::from_vec(desk),
+        marks: Rows::new(alloc),
         places: Rows::from_vec(places),
         histories: Rows::new(alloc),
     })

@@ -2,3 +2,4 @@ pub mod WordLaws
 pub mod OpeningLaws
 pub mod WindowLaws
 pub mod WorkedRows
+pub mod StopLaws

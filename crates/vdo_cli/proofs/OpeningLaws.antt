@@ -1,5 +1,5 @@
 -- What reading the superblock and the recovery journal says of the image.
-use Rattle.std.proofs.Common.{ℕ, suc, ◌≡◌, ◌<◌, ◌+◌, ◌++◌, Bool, false, List, [], ◌∷◌, length, take, drop, append_assoc, length-drop, Result, refl, sym, ◌∙◌, ap, inl, inr, arith}
+use Rattle.std.proofs.Common.{ℕ, suc, ◌≡◌, ◌<◌, ◌+◌, ◌++◌, Bool, true, false, IsTrue, List, [], ◌∷◌, length, take, drop, append_assoc, length-drop, Result, refl, sym, ◌∙◌, ap, inl, inr, arith}
 use Rattle.std.proofs.Math.Seq.{take-suc}
 use Rattle.std.proofs.lemmas.Grind.{get_or_after_one}
 use Rattle.blk_base.specs.Sectors.{zero_block}
@@ -11,11 +11,12 @@ use Rattle.disk_model.specs.Images.{IsMixOf, HasOneImage}
 use Rattle.disk_model.specs.Log.{Blocks, block_at, settled, contents}
 use Rattle.disk_model.specs.Telling.{FailedInLog}
 use Rattle.disk_model.proofs.ImageLaws.{block_of_mix, settled_are_contents}
+use Rattle.stop_laws.proofs.HistoryLaws.{successes_append}
 use Rattle.image_layout.specs.declared.fault.SuperFault.{SuperFault}
 use Rattle.image_layout.specs.Superblock.{super_of}
 use Rattle.serial_engine.specs.Served.{Seen}
 use Rattle.serial_engine.specs.Sessions.{SinceThen}
-use Rattle.vdo_cli.specs.Endings.{OnlyReads, IsUntouched, super_of_image}
+use Rattle.vdo_cli.specs.Openings.{HasRead, OnlyReads, IsUntouched, super_of_image}
 
 -- the superblock of a device that has blocks
 of_first : (image : Blocks) (says : Result Super SuperFault) → 0 < length image → super_of (block_at image 0) (length image) ≡ says → super_of_image image ≡ says
@@ -88,3 +89,21 @@ read_since old now at bytes ok is = (Read at bytes ok ∷ [], is, tt)
 pub failed_since : (old now : List Call) (at : Pbn) (bytes : List ℕ) (lost : Type 0) → FailedInLog old now (Read at bytes false) lost → SinceThen OnlyReads old now
 failed_since old now at bytes lost (inl is) = read_since old now at bytes false is
 failed_since old now at bytes lost (inr same) = ([], same.0, tt)
+
+-- How many reads there were.
+
+pub no_read : (tells : Bool) (log : List Call) → HasRead tells 0 log log
+no_read tells log told = ([], refl, (tt, refl))
+
+pub one_read : (tells : Bool) (old now : List Call) (at : Pbn) (bytes : List ℕ) → (IsTrue tells → now ≡ Read at bytes true ∷ old) → HasRead tells 1 old now
+one_read tells old now at bytes is told = (Read at bytes true ∷ [], is told, (tt, refl))
+
+pub read_on : (tells : Bool) (m n : ℕ) (first middle now : List Call) → HasRead tells m first middle → HasRead tells n middle now → HasRead tells (m + n) first now
+read_on tells m n first middle now old new told =
+    let before = old told in
+    let after = new told in
+    let count = successes_append after.0 before.0 in (
+      after.0 ++ before.0,
+      after.1 ∙ ap (λ (log : List Call). after.0 ++ log) before.1 ∙ sym (append_assoc after.0 before.0 first),
+      (reads_append after.0 before.0 after.2.0 before.2.0, count ∙ omega (arith, before.2.1, after.2.1)),
+    )

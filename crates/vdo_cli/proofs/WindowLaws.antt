@@ -13,7 +13,7 @@ use Rattle.serial_engine.specs.Blocks.{NamesData}
 use Rattle.serial_engine.specs.Served.{Seen}
 use Rattle.vdo_cli.specs.declared.fault.Fault.{Fault}
 use Rattle.vdo_cli.specs.declared.fault.Fault.TheVariants as fault
-use Rattle.vdo_cli.specs.Endings.{OfImage, HasJournal, HasWindow, HasFaulty, OpeningFails, IsUntouched}
+use Rattle.vdo_cli.specs.Openings.{OfImage, HasJournal, HasWindow, HasFaulty, OpeningFails, IsUntouched}
 use Rattle.vdo_cli.proofs.OpeningLaws.{image_since}
 
 -- what holds of the one image after reads held of it before

@@ -1,4 +1,6 @@
 pub mod Commands
+pub mod Openings
+pub mod Stops
 pub mod Endings
 pub mod Texts
 pub mod Runs

@@ -9,7 +9,8 @@ use Rattle.vdo_model.specs.declared.report.RunReport.{RunReport}
 use Rattle.vdo_cli.specs.declared.fault.Fault.{Fault}
 use Rattle.vdo_cli.specs.declared.fault.Fault.TheVariants as fault
 use Rattle.vdo_cli.specs.Commands.{run_words}
-use Rattle.vdo_cli.specs.Endings.{Plays, PlayFails, IsUntouched}
+use Rattle.vdo_cli.specs.Endings.{Plays, PlayFails}
+use Rattle.vdo_cli.specs.Openings.{IsUntouched}
 use Rattle.vdo_cli.specs.Texts.{fault_text, fault_status, some_lost, desk_status}
 
 -- What doesn't change in a run: what the device was when its log began, and which of the outside tell.
@@ -44,7 +45,7 @@ PutsOrFails tells text held faults held' faults' =
 
 -- the report where no session was begun
 abbrev pub no_report : RunReport
-no_report = record { requests = []; desk = []; places = []; histories = [] }
+no_report = record { requests = []; desk = []; marks = []; places = []; histories = [] }
 
 -- a fault's line is put, with its status
 pub record Refuses (tells : Bool) (why : Fault) (status : ℕ) (report : RunReport) (held : List ℕ) (faults : ℕ) (held' : List ℕ) (faults' : ℕ) : Type 0 where

@@ -15,6 +15,8 @@ pub use running::{Ended, run};
 pub use words::Words;
 
 #[cfg(test)]
+mod stop_tests;
+#[cfg(test)]
 mod tests;
 #[cfg(test)]
 mod window_tests;

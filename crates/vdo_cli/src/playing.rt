@@ -1,6 +1,7 @@
 ghost use Rattle.std.specs.Prelude.{◌≡◌, ◌≤◌, IfOk, IfErr};
 ghost use Rattle.serial_engine.specs.Served.{seen};
-ghost use Rattle.vdo_cli.specs.Endings.{Plays, PlayFails, IsUntouched};
+ghost use Rattle.vdo_cli.specs.Endings.{Plays, PlayFails};
+ghost use Rattle.vdo_cli.specs.Openings.{IsUntouched};
 
 use crate::Fault;
 use crate::opening::{Opened, open};
@@ -25,7 +26,7 @@ pub(crate) fn play<D: Disk, S: Source>(
         (seen (D.log device.old) (D.faults device.old) (D.unkept device.old)) (seen (D.log device.new) (D.faults device.new) (D.unkept device.new))) }
     ensures later { S.faults script.old ≤ S.faults script.new }
 {
-    let Opened { head, window } = match open(alloc, device) {
+    let Opened { head, window, made } = match open(alloc, device) {
         Ok(opened) => opened,
         Err(fault) => return Err(fault),
     };
@@ -35,7 +36,7 @@ pub(crate) fn play<D: Disk, S: Source>(
         Err(ReadScript::Read) => return Err(Fault::Read),
         Err(ReadScript::Memory) => return Err(Fault::Memory),
     };
-    match serve_requests(alloc, &head, window, requests, device) {
+    match serve_requests(alloc, &head, window, made, requests, device) {
         Ok(report) => Ok(report),
         Err(_) => Err(Fault::Memory),
     }

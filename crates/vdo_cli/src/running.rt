@@ -28,6 +28,7 @@ fn empty_report(alloc: Global) -> RunReport
     RunReport {
         requests: Requests::new(alloc),
         desk: Rows::new(alloc),
+        marks: Rows::new(alloc),
         places: Rows::new(alloc),
         histories: Rows::new(alloc),
     }
@@ -75,6 +76,10 @@ fn close<D: Disk, K: Sink>(report: RunReport, device: D, out: &mut K) -> Ended<D
 /// Does what the words say. The only command is `run`: the requests of the script are served on the device's image, one
 /// after the other, and their answers are put to `out`, one line for each. What earlier runs wrote is there again: it
 /// is read from the window of the recovery journal.
+///
+/// A stop before or within any call of the device leaves an image that can be opened again. In it each address has the
+/// value of one of its writes: of none older than the last one that was answered before a flush was begun which was
+/// answered too (docs/DESIGN.md, "A stop"). The report's marks say which calls of the device made the flushes last.
 ///
 /// | Status | Comes where |
 /// |---|---|

@@ -3,5 +3,7 @@ pub mod DeskLog
 pub mod Places
 pub mod Histories
 pub mod RightReads
+pub mod FlushMarks
+pub mod Stops
 pub mod RightRuns
 pub mod Servable

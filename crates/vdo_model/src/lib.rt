@@ -6,7 +6,7 @@ mod report;
 mod requests;
 mod rows;
 
-pub use report::{DeskLine, HistoryEntry, Mark, Placed, RunReport};
+pub use report::{DeskLine, FlushMark, HistoryEntry, Mark, Placed, RunReport};
 pub use requests::Requests;
 pub use rows::Rows;
 

@@ -35,12 +35,22 @@ pub struct HistoryEntry {
     pub mark: Mark,
 }
 
+/// The mark of a flush that was answered Ok: the flush of the device that made it last.
+#[derive(Clone, Copy, Debug, PartialEq, Eq)]
+pub struct FlushMark {
+    pub request: Writer,
+    /// How many calls of the device had succeeded in the run when that flush returned, itself among them.
+    pub calls: u64,
+}
+
 /// What a run did: the requests of its script, and what became of them. Where no session was begun, all lists are empty.
 #[derive(Drop)]
 pub struct RunReport {
     pub requests: Requests,
     /// The desk log, in the desk's order.
     pub desk: Rows<DeskLine>,
+    /// The marks of the flushes that were answered Ok.
+    pub marks: Rows<FlushMark>,
     /// The place of each request that has one, in the order of each zone's numbers.
     pub places: Rows<Placed>,
     /// The writes and discards that have a place. Those of one address are its history, in the order of their places.

@@ -1,7 +1,7 @@
 use Rattle.std.proofs.Common.{length, refl, rules, arith}
 use Rattle.std.proofs.lemmas.Option.{slice_get_read}
 use Rattle.serial_engine.specs.Kept.{kept}
-use Rattle.serial_engine.proofs.SessionLaws.{servable_at}
+use Rattle.serial_engine.proofs.GroundLaws.{servable_at}
 use Rattle.serial_engine.proofs.StoryLaws.{goes_on, names_below}
 use Rattle.serial_engine.proofs.serve_all.serve_each.Goals as goal
 
@@ -15,7 +15,7 @@ serve-requires-clause-servable g c =
 pub serve-requires-clause-named : goal.serve-requires-clause-named
 serve-requires-clause-named g c =
     let was = c.loop-number.invariant in
-    names_below _ _ c.args.requests.now _ c.loop-number.number (g.D.Disk.size c.loop-number.device) (kept c.loop-number.session) _ c.requires.names (omega (arith, was.size, c.requires.size)) was.served
+    names_below _ _ _ c.args.requests.now _ c.loop-number.number (g.D.Disk.size c.loop-number.device) (kept c.loop-number.session) _ c.requires.names (omega (arith, was.size, c.requires.size)) was.served
 
 pub loop-number-preserved : goal.loop-number-preserved
 loop-number-preserved g c =
@@ -24,7 +24,7 @@ loop-number-preserved g c =
     let had = slice_get_read c.args.requests.now (length c.args.requests.now) c.loop-number.number item.result refl (omega arith) item.is in
     let done = rw (was.same.layout, was.same.start, was.opening) at c.serve.ensures.done in
     record {
-      served = goes_on _ _ c.args.requests.now _ c.loop-number.number item.result (kept c.loop-number.session) (kept c.serve.new.session) _ _ was.served had done;
+      served = goes_on _ _ _ c.args.requests.now _ c.loop-number.number item.result (kept c.loop-number.session) (kept c.serve.new.session) _ _ was.served had done;
       count = c.serve.ensures.count;
       same = search rules;
       size = search rules;

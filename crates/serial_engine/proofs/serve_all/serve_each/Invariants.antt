@@ -8,7 +8,7 @@ abbrev pub invariant-loop-number : goal.invariant-loop-number
 invariant-loop-number g l =
     let disk = g.D.Disk in
     record {
-      served : InSession (ground l.fn.session.layout.geometry l.fn.session.start (disk.opening l.fn.device) disk.tells disk.honest) (kept l.fn.session).entries l.requests
+      served : InSession (ground l.fn.session.layout.geometry l.fn.session.start (disk.opening l.fn.device) disk.tells disk.honest) (kept l.fn.session).entries l.fn.session.before l.requests
           (seen (disk.log l.fn.device) (disk.faults l.fn.device) (disk.unkept l.fn.device)) l.number (kept l.session) (seen (disk.log l.device) (disk.faults l.device) (disk.unkept l.device));
       count : HasServed l.number l.session;
       same : SameGround l.fn.session l.session;

@@ -1,5 +1,5 @@
 use Rattle.serial_engine.specs.Served.{seen}
-use Rattle.vdo_cli.proofs.OpeningLaws.{untouched_on}
+use Rattle.vdo_cli.proofs.OpeningLaws.{read_on, untouched_on}
 use Rattle.vdo_cli.proofs.WindowLaws.{fails_since, window_of_image, faulty_of_image, written_name_data}
 use Rattle.vdo_cli.proofs.opening.open.Goals as goal
 
@@ -15,6 +15,10 @@ pub returns-in-Ok-read_window-clause-window : goal.returns-in-Ok-read_window-cla
 returns-in-Ok-read_window-clause-window g c =
     window_of_image _ _ _ _ _ c.in-Ok.head _ _ c.read_head.ensures.untouched (rw (c.read_head.ensures.opening, c.of-layout.ensures) at c.in-Ok-read_journal.ensures.journal)
     (rw c.as_slice.ensures.value at c.in-Ok-read_window.ensures.window)
+
+pub returns-in-Ok-read_window-clause-made : goal.returns-in-Ok-read_window-clause-made
+returns-in-Ok-read_window-clause-made g c =
+    rw c.from.ensures (read_on _ 1 c.in-Ok.head.geometry.journal _ _ _ c.in-Ok.ensures.made (rw c.of-layout.ensures at c.in-Ok-read_journal.ensures.made))
 
 pub returns-in-Ok-read_window-clause-names : goal.returns-in-Ok-read_window-clause-names
 returns-in-Ok-read_window-clause-names g c = written_name_data c.in-Ok.head.geometry c.in-Ok.head.start _ _ c.in-Ok-read_window.ensures.window.written

@@ -1,5 +1,5 @@
 use Rattle.std.proofs.Common.{◌≡◌, ◌∙◌, length, ap, sym, arith}
-use Rattle.vdo_cli.proofs.OpeningLaws.{first_says, read_since, failed_since}
+use Rattle.vdo_cli.proofs.OpeningLaws.{first_says, one_read, read_since, failed_since}
 use Rattle.vdo_cli.proofs.opening.read_head.Goals as goal
 
 pub returns-in_default-clause-untouched : goal.returns-in_default-clause-untouched
@@ -12,6 +12,9 @@ pub returns-in-Ok-read_super-clause-head : goal.returns-in-Ok-read_super-clause-
 returns-in-Ok-read_super-clause-head g c tells honest image one =
     let whole : length c.read.new.into ≡ 4096 = omega (arith, ap length c.block.view_is) in
     first_says _ _ image c.read.new.into c.blocks-blocks.result _ (c.blocks-blocks.ensures.told tells ∙ sym c.blocks-blocks.ensures.size) (omega arith) whole (c.in-Ok.ensures.given tells honest) (sym c.in-Ok-read_super.ensures.read) one
+
+pub returns-in-Ok-read_super-clause-made : goal.returns-in-Ok-read_super-clause-made
+returns-in-Ok-read_super-clause-made g c = one_read _ _ _ _ _ c.in-Ok.ensures.ok
 
 pub returns-in-Ok-read_super-clause-untouched : goal.returns-in-Ok-read_super-clause-untouched
 returns-in-Ok-read_super-clause-untouched g c = record {

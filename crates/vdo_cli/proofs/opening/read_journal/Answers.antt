@@ -1,6 +1,6 @@
 use Rattle.std.proofs.Common.{◌≡◌, ◌<◌, ◌+◌, length, ap, rules, arith}
 use Rattle.std.proofs.Math.Nat.{mod-eq_of_lt}
-use Rattle.vdo_cli.proofs.OpeningLaws.{image_since, one_more, read_block, read_since, failed_since, untouched_on}
+use Rattle.vdo_cli.proofs.OpeningLaws.{image_since, one_more, one_read, read_block, read_on, read_since, failed_since, untouched_on}
 use Rattle.vdo_cli.proofs.opening.read_journal.Goals as goal
 
 pub returns-in_default-clause-untouched : goal.returns-in_default-clause-untouched
@@ -30,6 +30,7 @@ loop-slot-preserved g c =
         reads = λ tells. read_since _ _ _ _ _ (c.in-Ok.ensures.ok tells);
         later = record { faults = c.read.ensures.cause.later; unkept = c.read.ensures.unkept };
       });
+      made = read_on _ c.loop-slot.slot 1 _ _ _ was.made (one_read _ _ _ _ _ c.in-Ok.ensures.ok);
       journal_is = λ tells honest image one.
           let still = image_since _ _ _ image (was.untouched.reads tells) one in
           let given = rw (was.opening, at_is) at (c.in-Ok.ensures.given tells honest) in

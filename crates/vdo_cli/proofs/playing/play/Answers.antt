@@ -2,13 +2,18 @@ use Rattle.std.proofs.Common.{◌≡◌, [], ◌∷◌, refl, ◌∙◌, rules}
 use Rattle.serial_engine.specs.Served.{seen}
 use Rattle.vdo_model.specs.Scripts.{stream_of}
 use Rattle.vdo_cli.proofs.OpeningLaws.{image_since}
+use Rattle.vdo_cli.proofs.StopLaws.{happens}
 use Rattle.vdo_cli.proofs.playing.play.Goals as goal
 
 pub returns-in-Err-Read-clause-fault : goal.returns-in-Err-Read-clause-fault
 returns-in-Err-Read-clause-fault g c = (c.in-Ok.opened.head, c.in-Ok.ensures.head, search rules)
 
+pub serve_requests-requires-clause-one_stream : goal.serve_requests-requires-clause-one_stream
+serve_requests-requires-clause-one_stream g c = rw c.in-Ok-read_script.ensures.shape.1 refl
+
 pub returns-in-Ok-serve_requests-clause-session : goal.returns-in-Ok-serve_requests-clause-session
 returns-in-Ok-serve_requests-clause-session g c =
+    let disk = g.D.Disk in
     let shape = c.in-Ok-read_script.ensures.shape in
     let all : c.in-Ok-serve_requests.report.requests ≡ stream_of c.in-Ok-read_script.requests 0 ∷ [] = c.in-Ok-serve_requests.ensures.report ∙ rw shape.1 refl in
     let served = rw c.open.ensures.opening at c.in-Ok-serve_requests.ensures.session in
@@ -20,10 +25,11 @@ returns-in-Ok-serve_requests-clause-session g c =
       to_its_end = search rules;
       window = _;
       window_is = c.in-Ok.ensures.window;
-      opened = seen (g.D.Disk.log c.open.new.device) (g.D.Disk.faults c.open.new.device) (g.D.Disk.unkept c.open.new.device);
+      opened = seen (disk.log c.open.new.device) (disk.faults c.open.new.device) (disk.unkept c.open.new.device);
       untouched = c.open.ensures.untouched;
-      served = search rules;
-      reads_right = λ tells honest image one.
-          let right = served.reads_right tells honest image (image_since _ _ _ image (c.open.ensures.untouched.reads tells) one) in
-          rw all right;
+      made = _;
+      served = served;
+      reads_right = λ tells honest image one. served.reads_right tells honest image (image_since _ _ _ image (c.open.ensures.untouched.reads tells) one);
+      happens = λ tells. happens c.in-Ok.opened.head _ _ _ _ _ _ (seen (disk.log c.args.device.now) (disk.faults c.args.device.now) (disk.unkept c.args.device.now)) _ _ served tells c.in-Ok.ensures.made
+          c.in-Ok.ensures.head c.in-Ok.ensures.window;
     }

@@ -1,0 +1,9 @@
+use Rattle.std.proofs.Common.{rules}
+use Rattle.serial_engine.proofs.serve.serve_write.Goals.{in-Stored, in-NoRoom, in-DataLost, in-EntryLost}
+use Rattle.serial_engine.proofs.serve.serve_write.Goals as goal
+
+pub returns-clause-done : goal.returns-clause-done
+returns-clause-done g c = elim c.match-written.branch [ in-Stored w ↦ search rules | in-NoRoom w ↦ search rules | in-DataLost w ↦ search rules | in-EntryLost w ↦ search rules ]
+
+pub returns-clause-count : goal.returns-clause-count
+returns-clause-count g c = elim c.match-written.branch [ in-Stored w ↦ search rules | in-NoRoom w ↦ search rules | in-DataLost w ↦ search rules | in-EntryLost w ↦ search rules ]
