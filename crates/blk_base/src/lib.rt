@@ -17,6 +17,3 @@ pub use layout::{DataPlace, Layout, regions_are_apart};
 pub use place::{Lba, Mapping, PageId, Pbn, ZoneId};
 pub use point::{Half, Point};
 pub use request::{Answer, Request, Writer};
-
-#[cfg(test)]
-mod tests;

@@ -31,6 +31,3 @@ pub use laws::{
 pub use nodes::TreeNodes;
 pub use paths::path;
 pub use slots::Slots;
-
-#[cfg(test)]
-mod tests;

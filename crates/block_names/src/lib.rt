@@ -6,6 +6,3 @@ mod namers;
 
 pub use name::{Name, route, tag};
 pub use namers::{ConstantName, Murmur, Namer};
-
-#[cfg(test)]
-mod tests;

@@ -9,6 +9,3 @@ mod write;
 
 pub use read::{read_u8, read_u16, read_u32, read_u64};
 pub use write::{put, put_u8, put_u16, put_u32, put_u64, put_zeros};
-
-#[cfg(test)]
-mod tests;

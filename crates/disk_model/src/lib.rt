@@ -16,6 +16,3 @@ pub use images::images_of_a_log;
 pub use memory::MemDisk;
 pub use memory_streams::{MemSink, MemSource};
 pub use streams::{OpenGate, Sink, Source, ZoneGate};
-
-#[cfg(test)]
-mod tests;

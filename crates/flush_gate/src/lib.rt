@@ -6,6 +6,3 @@ mod waiting;
 
 pub use gate::Gate;
 pub use waiting::Waiting;
-
-#[cfg(test)]
-mod tests;

@@ -11,6 +11,3 @@ pub use has_block::HasBlock;
 pub use locks::HashLocks;
 pub use role::Role;
 pub use waiter::Waiter;
-
-#[cfg(test)]
-mod tests;

@@ -13,6 +13,3 @@ pub use first::first_image;
 pub use reading::read_super;
 pub use windows::{mapping_at, read_window, value_at, windows_are_one};
 pub use writing::write_super;
-
-#[cfg(test)]
-mod tests;

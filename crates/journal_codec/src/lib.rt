@@ -45,6 +45,3 @@ pub use laws::{
 };
 pub use reading::{block_prefix, sector};
 pub use writing::encode;
-
-#[cfg(test)]
-mod tests;

@@ -53,6 +53,3 @@ pub fn total(bytes: &[u8]) -> u64
     }
     sum
 }
-
-#[cfg(test)]
-mod tests;

@@ -6,6 +6,3 @@ mod waiter;
 
 pub use locks::Locks;
 pub use waiter::Waiter;
-
-#[cfg(test)]
-mod tests;

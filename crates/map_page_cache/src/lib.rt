@@ -27,8 +27,3 @@ pub use cache::Cache;
 pub use frame::Frame;
 pub use laws::nothing_unwritten_is_lost;
 pub use no_frame::NoFrame;
-
-#[cfg(test)]
-mod plain;
-#[cfg(test)]
-mod tests;

@@ -46,6 +46,3 @@ pub use laws::{
 pub use mappings::Mappings;
 pub use reading::{decode, slot};
 pub use writing::encode;
-
-#[cfg(test)]
-mod tests;

@@ -17,8 +17,3 @@ mod marking;
 pub use forms::{CommittedEntry, Place};
 pub use journal::Journal;
 pub use laws::no_needed_block_is_overwritten;
-
-#[cfg(test)]
-mod plain;
-#[cfg(test)]
-mod tests;

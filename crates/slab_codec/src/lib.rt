@@ -49,6 +49,3 @@ pub use forms::{
 pub use laws::{a_counter_stands_at_its_place, bytes_have_one_reading, what_is_written_is_read};
 pub use reading::slab_sector;
 pub use writing::encode_slab;
-
-#[cfg(test)]
-mod tests;

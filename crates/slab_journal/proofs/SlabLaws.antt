@@ -1,5 +1,5 @@
 -- What is true of a slab's journal stays true over each call, and no update that isn't covered is lost.
-use Rattle.std.specs.Prelude.{ℕ, ◌≡◌, ◌+◌, ◌-◌, ◌/◌, ◌%◌, ◌<◌, ◌≤◌, ◌^◌, List, [], ◌∷◌, ◌++◌, length, take, All, Contains, Bool, IsTrue, ◌↔◌}
+use Rattle.std.specs.Prelude.{ℕ, ◌≡◌, ◌+◌, ◌-◌, ◌%◌, ◌<◌, ◌≤◌, ◌^◌, List, [], ◌∷◌, ◌++◌, length, take, All, Contains, Bool, IsTrue, ◌↔◌}
 use Rattle.std.proofs.Common.{arith, sym, subst, ap, ◌∙◌, inl, inr, get_or, set}
 use Rattle.std.proofs.lemmas.Bool.{cases_eq}
 use Rattle.std.proofs.lemmas.Nat.{mod_below}
@@ -9,6 +9,7 @@ use Rattle.std.proofs.lemmas.List.Quantifiers.{any-set}
 use Rattle.blk_base.specs.Regions.{slab_start_of}
 use Rattle.blk_base.specs.declared.point.Point.{Point}
 use Rattle.slab_codec.specs.Grammar.{HoldsEntry}
+use Rattle.slab_codec.specs.Reference.{sector_of_offset}
 use Rattle.slab_codec.specs.declared.forms.SlabEntry.{SlabEntry}
 use Rattle.slab_journal.specs.Slab.{Slab, IsOfSlab, IsCovered, Keeps, MayOverwrite, next_slot, next_block}
 use Rattle.slab_journal.specs.Kept.{AreOfSlab, IsKept}
@@ -85,17 +86,17 @@ keeps_sealed log kept covered entry held uncovered =
 pub block_held : (log : Slab) → IsKept log → AreOfSlab log (next_block log)
 block_held log kept = All-get_or (AreOfSlab log) log.slots (next_slot log) [] (slot_inside log kept) kept.blocks
 
-pub sectors_inside : (log : Slab) (entries : List SlabEntry) → IsKept log → AreOfSlab log entries → All (λ entry. entry.offset / 504 < length log.commits) entries
+pub sectors_inside : (log : Slab) (entries : List SlabEntry) → IsKept log → AreOfSlab log entries → All (λ entry. sector_of_offset entry.offset < length log.commits) entries
 sectors_inside log entries kept held k d inside = omega (arith, kept.sectors, (held k d inside).2)
 
 -- the same, as the code comes to it
 
 pub covered_more : (commits : List Point) (entries : List SlabEntry) (index offset : ℕ) (d : SlabEntry) → index < length entries
     → All (IsCovered commits) (take index entries) → offset ≡ (get_or entries index d).offset
-    → (get_or entries index d).point.0 ≤ (get_or commits (offset / 504) (record { 0 = 0 })).0 → All (IsCovered commits) (take (index + 1) entries)
+    → (get_or entries index d).point.0 ≤ (get_or commits (sector_of_offset offset) (record { 0 = 0 })).0 → All (IsCovered commits) (take (index + 1) entries)
 covered_more commits entries index offset d inside all same here =
     All-more (IsCovered commits) entries index d inside all
-    (subst (λ (n : ℕ). (get_or entries index d).point.0 ≤ (get_or commits (n / 504) (record { 0 = 0 })).0) same here)
+    (subst (λ (n : ℕ). (get_or entries index d).point.0 ≤ (get_or commits (sector_of_offset n) (record { 0 = 0 })).0) same here)
 
 pub may_overwrite_as : (log now : Slab) (block entries : List SlabEntry) (commits : List Point) (size : ℕ) (result : Bool) → IsKept log → log ≡ now → commits ≡ log.commits → entries ≡ block
     → size ≡ log.geometry.slab_journal → block ≡ get_or log.slots (log.sequence % size) block → (IsTrue result ↔ All (IsCovered commits) entries) → IsTrue result ↔ MayOverwrite now

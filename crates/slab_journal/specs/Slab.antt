@@ -1,9 +1,10 @@
 -- What a slab's journal knows: its updates, and up to which point those of each sector of counters are durable.
-use Rattle.std.specs.Prelude.{ℕ, ◌≡◌, ◌+◌, ◌-◌, ◌/◌, ◌%◌, ◌<◌, ◌≤◌, ◌⊎◌, List, [], length, max, replicate, All, Any, Contains, slice_index_or, slice_set}
+use Rattle.std.specs.Prelude.{ℕ, ◌≡◌, ◌+◌, ◌-◌, ◌%◌, ◌<◌, ◌≤◌, ◌⊎◌, List, [], length, max, replicate, All, Any, Contains, slice_index_or, slice_set}
 use Rattle.blk_base.specs.Regions.{slab_start_of}
 use Rattle.blk_base.specs.declared.geometry.Geometry.{Geometry}
 use Rattle.blk_base.specs.declared.place.Pbn.{Pbn}
 use Rattle.blk_base.specs.declared.point.Point.{Point}
+use Rattle.slab_codec.specs.Reference.{sector_of_offset, sectors_of_blocks}
 use Rattle.slab_codec.specs.declared.forms.SlabEntry.{SlabEntry}
 use Rattle.slab_codec.specs.declared.forms.SlabJournalBlock.{SlabJournalBlock}
 use Rattle.slab_journal.specs.declared.forms.Update.{Update}
@@ -20,9 +21,9 @@ pub record Slab : Type 0 where
   pub durable : ℕ
   pub commits : List Point
 
--- how many sectors the counters of a slab take: each has 504
+-- how many sectors the counters of a slab take
 abbrev pub sectors_of : Geometry → ℕ
-sectors_of geometry = (geometry.slab_blocks + 503) / 504
+sectors_of geometry = sectors_of_blocks geometry.slab_blocks
 
 -- no update was taken in this session
 abbrev pub opening : Geometry → ℕ → Slab
@@ -47,7 +48,7 @@ entry_of log update = record { point = update.point; offset = update.at.0 - slab
 
 -- the update is at or below the durable commit point of its sector: the counters on the device include it
 abbrev pub IsCovered : List Point → SlabEntry → Type 0
-IsCovered commits entry = entry.point.0 ≤ (slice_index_or commits (entry.offset / 504) (record { 0 = 0 })).0
+IsCovered commits entry = entry.point.0 ≤ (slice_index_or commits (sector_of_offset entry.offset) (record { 0 = 0 })).0
 
 -- the slot of the block being filled, and the updates of the block that stands there
 abbrev pub next_slot : Slab → ℕ

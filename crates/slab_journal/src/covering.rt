@@ -1,4 +1,5 @@
-ghost use Rattle.std.specs.Prelude.{◌≡◌, ◌/◌, ◌<◌, ◌↔◌, IsTrue, All, length};
+ghost use Rattle.std.specs.Prelude.{◌≡◌, ◌<◌, ◌↔◌, IsTrue, All, length};
+ghost use Rattle.slab_codec.specs.Reference.{sector_of_offset};
 ghost use Rattle.slab_journal.specs.Slab.{IsCovered, raised};
 
 use blk_base::Point;
@@ -7,7 +8,7 @@ use std::cmp;
 
 /// Whether the counters on the device include each of these updates.
 pub(crate) fn are_covered(entries: &[SlabEntry], commits: &[Point]) -> bool
-    requires { All (λ entry. entry.offset / 504 < length commits.now) entries.now }
+    requires { All (λ entry. sector_of_offset entry.offset < length commits.now) entries.now }
     ensures { IsTrue result ↔ All (IsCovered commits.now) entries.now }
 {
     for entry in entries {

@@ -14,8 +14,3 @@ mod journal;
 
 pub use forms::{Full, Update};
 pub use journal::SlabJournal;
-
-#[cfg(test)]
-mod plain;
-#[cfg(test)]
-mod tests;

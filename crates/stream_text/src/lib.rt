@@ -13,6 +13,3 @@ pub use answers::put_answers;
 pub use fault::{ReadScript, ScriptFault};
 pub use puts::put_number;
 pub use reading::read_script;
-
-#[cfg(test)]
-mod tests;

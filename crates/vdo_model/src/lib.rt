@@ -9,6 +9,3 @@ mod rows;
 pub use report::{DeskLine, FlushMark, HistoryEntry, Mark, Placed, RunReport};
 pub use requests::Requests;
 pub use rows::Rows;
-
-#[cfg(test)]
-mod tests;

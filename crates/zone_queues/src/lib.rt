@@ -11,6 +11,3 @@ mod ports;
 pub use lane::Lane;
 pub use lanes::Lanes;
 pub use ports::Ports;
-
-#[cfg(test)]
-mod tests;

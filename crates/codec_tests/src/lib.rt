@@ -1,0 +1,13 @@
+//! Tests of the formats, with bytes that another program computed: each public call on known input.
+#![tactic(auto)]
+
+#[cfg(test)]
+mod fields;
+#[cfg(test)]
+mod images;
+#[cfg(test)]
+mod journals;
+#[cfg(test)]
+mod pages;
+#[cfg(test)]
+mod slabs;

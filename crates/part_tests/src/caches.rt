@@ -1,0 +1,259 @@
+mod plain;
+
+use crate::caches::plain::{PlainCache, PlainEntry, State};
+use blk_base::{Geometry, Mapping, PageId, Pbn, Point};
+use map_page_cache::Cache;
+use page_codec::{MapPage, Mappings, PageHead};
+use std::alloc::AllocError;
+use std::test::Fail;
+
+const GEOMETRY: Geometry = Geometry {
+    logical: 1_000_000,
+    slabs: 1,
+    slab_blocks: 64,
+    journal: 8,
+    index: 16,
+    slab_journal: 4,
+    height: 2,
+    nonce: 7,
+};
+
+// A call, with pages by their number and mappings by that of their block.
+#[derive(Clone, Copy)]
+enum Act {
+    Install(u32),
+    Set(u32, u16, u32, u64),
+    TakeExpired(u64),
+    Written(u32),
+    LowPoint,
+    Block(u32, u16),
+}
+
+fn leaf(index: u32) -> PageId {
+    PageId {
+        tree: 3,
+        level: 0,
+        index,
+    }
+}
+
+// A page that was just read: no slot of it is mapped.
+fn read_page(page: PageId) -> MapPage {
+    MapPage {
+        head: PageHead {
+            geometry: GEOMETRY,
+            page,
+            at: Pbn(90),
+        },
+        mappings: Mappings::new(),
+    }
+}
+
+// What the slot of a page says, as the number of its block; 0 where it isn't mapped.
+fn block_in(page: &MapPage, slot: u16) -> u64 {
+    if slot >= 812 {
+        return 0;
+    }
+    match page.mappings.get(slot) {
+        Mapping::At(block) => u64::from(block.0),
+        _ => 0,
+    }
+}
+
+// Whether the page was taken; `None` where it is there already.
+fn install(cache: &mut Cache, page: u32) -> Option<u64> {
+    let id = leaf(page);
+    match cache.get(id) {
+        Some(_) => None,
+        None => Some(u64::from(cache.install(id, &read_page(id)).is_ok())),
+    }
+}
+
+fn set(cache: &mut Cache, page: u32, slot: u16, block: u32, point: u64) -> Option<u64> {
+    let id = leaf(page);
+    if slot >= 812 {
+        return None;
+    }
+    match cache.get(id) {
+        Some(_) => {
+            cache.set(id, slot, Mapping::At(Pbn(block)), Point(point));
+            Some(0)
+        }
+        None => None,
+    }
+}
+
+fn written(cache: &mut Cache, page: u32) -> Option<u64> {
+    let id = leaf(page);
+    if cache.is_being_written(id) {
+        cache.written(id);
+        Some(0)
+    } else {
+        None
+    }
+}
+
+// The page that is handed out.
+fn take_expired(cache: &mut Cache, point: u64) -> Option<u64> {
+    let mut into = read_page(leaf(0));
+    let page = cache.take_expired(Point(point), &mut into)?;
+    Some(u64::from(page.index))
+}
+
+fn block(cache: &Cache, page: u32, slot: u16) -> Option<u64> {
+    let found = cache.get(leaf(page))?;
+    Some(block_in(found, slot))
+}
+
+fn low_point(cache: &Cache) -> Option<u64> {
+    let low = cache.low_point()?;
+    Some(low.0)
+}
+
+// The answer as a number; `None` where the call gives none, or where its condition isn't met.
+fn answer(cache: &mut Cache, act: Act) -> Option<u64> {
+    match act {
+        Act::Install(page) => install(cache, page),
+        Act::Set(page, slot, block, point) => set(cache, page, slot, block, point),
+        Act::TakeExpired(point) => take_expired(cache, point),
+        Act::Written(page) => written(cache, page),
+        Act::LowPoint => low_point(cache),
+        Act::Block(page, slot) => block(cache, page, slot),
+    }
+}
+
+// A page that is changed again while it is being written keeps both points. No page is given up while it is dirty or
+// being written, and none while a frame is empty.
+#[test]
+fn calls_and_their_answers(rt: HostRuntime) -> Result<(), Fail> {
+    let mut cache = Cache::new(rt.alloc(), 2)?;
+    for (act, want) in [
+        (Act::LowPoint, None),
+        (Act::Install(1), Some(1)),
+        (Act::Set(1, 811, 90, 7), Some(0)),
+        (Act::Set(1, 0, 91, 5), Some(0)),
+        (Act::LowPoint, Some(5)),
+        (Act::TakeExpired(4), None),
+        (Act::TakeExpired(5), Some(1)),
+        (Act::Set(1, 0, 92, 8), Some(0)),
+        (Act::TakeExpired(9), None),
+        (Act::LowPoint, Some(5)),
+        (Act::Written(1), Some(0)),
+        (Act::LowPoint, Some(8)),
+        (Act::Block(1, 0), Some(92)),
+        (Act::Block(1, 811), Some(90)),
+        (Act::Install(2), Some(1)),
+        (Act::Set(2, 2, 93, 9), Some(0)),
+        (Act::Install(3), Some(0)),
+        (Act::TakeExpired(9), Some(1)),
+        (Act::Install(3), Some(0)),
+        (Act::Written(1), Some(0)),
+        (Act::Install(3), Some(1)),
+        (Act::Block(1, 0), None),
+        (Act::Block(2, 2), Some(93)),
+        (Act::Block(3, 2), Some(0)),
+    ] {
+        assert_eq!(rt; answer(&mut cache, act), want);
+    }
+    Ok(())
+}
+
+const PAGES: u32 = 6;
+
+// Whether both caches have the same pages with the same mappings, and the same low point.
+fn agree(cache: &Cache, plain: &PlainCache) -> bool {
+    for page in 0..PAGES {
+        for slot in 0..4 {
+            if block(cache, page, slot) != plain.block(page, slot) {
+                return false;
+            }
+        }
+    }
+    low_point(cache) == plain.low_point()
+}
+
+// How many pages aren't in the cache any longer and were clean. The plain one gives them up.
+fn give_up(cache: &Cache, plain: &mut PlainCache) -> u32 {
+    let mut given_up: u32 = 0;
+    for page in 0..PAGES {
+        if block(cache, page, 0).is_none() && plain.give_up(page) {
+            given_up = given_up.wrapping_add(1);
+        }
+    }
+    given_up
+}
+
+// Installs a page in both. Whether both refuse it, or one clean page was given up exactly where no frame was empty.
+fn install_both(cache: &mut Cache, plain: &mut PlainCache, page: u32) -> Result<bool, AllocError> {
+    let (empty, clean, there) = (
+        plain.has_empty_frame(),
+        plain.has_clean_page(),
+        plain.has(page),
+    );
+    match install(cache, page) {
+        None => Ok(there),
+        Some(0) => Ok(!empty && !clean),
+        Some(_) => {
+            let given_up = give_up(cache, plain);
+            plain.install(page)?;
+            Ok(given_up == u32::from(!empty))
+        }
+    }
+}
+
+// Hands out a page of both. Whether it is one with the least first dirty point.
+fn hand_out_both(cache: &mut Cache, plain: &mut PlainCache, point: u64) -> bool {
+    let first = plain.first_due();
+    let due = match first {
+        Some(least) => least <= point,
+        None => false,
+    };
+    match take_expired(cache, point) {
+        None => !due,
+        Some(page) => due && page < 64 && plain.hand_out(page as u32, first),
+    }
+}
+
+fn set_both(
+    cache: &mut Cache,
+    plain: &mut PlainCache,
+    page: u32,
+    slot: u16,
+    number: u32,
+) -> Result<bool, AllocError> {
+    let block = number / 512;
+    let point = u64::from(block % 64);
+    plain.set(PlainEntry {
+        page,
+        slot,
+        block: u64::from(block),
+        point,
+        state: State::Set,
+    })?;
+    Ok(set(cache, page, slot, block, point).is_some() == plain.has(page))
+}
+
+// One call of both, which the number chooses, and whether they did alike.
+fn step(cache: &mut Cache, plain: &mut PlainCache, number: u32) -> Result<bool, AllocError> {
+    let page = number / 8 % PAGES;
+    match number % 8 {
+        0 | 1 => install_both(cache, plain, page),
+        2..=4 => set_both(cache, plain, page, (number / 64 % 4) as u16, number),
+        5 | 6 => Ok(hand_out_both(cache, plain, u64::from(number / 512 % 64))),
+        _ => Ok(written(cache, page).is_some() == plain.written(page)),
+    }
+}
+
+// Some hundred calls, in a fixed order, against a plain list of all entries.
+#[test]
+fn as_a_plain_list(rt: HostRuntime) -> Result<(), Fail> {
+    let mut cache = Cache::new(rt.alloc(), 4)?;
+    let mut plain = PlainCache::new(rt.alloc(), 4);
+    let mut number: u32 = 1;
+    for round in 0..600_u32 {
+        number = number.wrapping_mul(1_664_525).wrapping_add(1_013_904_223);
+        let alike = step(&mut cache, &mut plain, number / 256)?;
+        assert!(rt; alike && agree(&cache, &plain), "call {round}");
+    }
+    Ok(())
+}

@@ -1,0 +1,48 @@
+use blk_base::Block;
+use block_names::{ConstantName, Murmur, Name, Namer, route, tag};
+
+// The names of four blocks: zeros, 0x61, byte i = i mod 251, and that with the lowest bit of byte 4095 turned. They were
+// computed by a second program, in another language, from the text of the format.
+const NAMES: [[u8; 16]; 4] = [
+    [
+        0x81, 0xa3, 0xec, 0x86, 0x65, 0x7e, 0xe7, 0x84, 0x4a, 0x63, 0xfd, 0x81, 0x1c, 0x80, 0x08,
+        0xb7,
+    ],
+    [
+        0xcd, 0xad, 0x3c, 0x50, 0x5e, 0x39, 0x2d, 0xf7, 0x71, 0x24, 0x90, 0x4f, 0x43, 0x3d, 0x82,
+        0x60,
+    ],
+    [
+        0xf3, 0xd3, 0x11, 0x1e, 0x63, 0x0f, 0xf1, 0x8c, 0x88, 0x94, 0xa2, 0x4c, 0xe0, 0x1a, 0x9e,
+        0x93,
+    ],
+    [
+        0xd5, 0x6b, 0xcd, 0x59, 0x67, 0x5b, 0x32, 0x29, 0x26, 0x61, 0x2e, 0x2a, 0x61, 0x9c, 0x20,
+        0x1e,
+    ],
+];
+
+#[test]
+fn names_of_known_blocks(rt: HostRuntime) {
+    let mut block = Block::zero();
+    assert_eq!(rt; Murmur.name(&block), Name::new(NAMES[0]));
+    block.bytes = [0x61; 4096];
+    assert_eq!(rt; Murmur.name(&block), Name::new(NAMES[1]));
+    for i in 0..4096_usize {
+        block.bytes[i] = (i % 251) as u8;
+    }
+    assert_eq!(rt; Murmur.name(&block), Name::new(NAMES[2]));
+    assert!(rt; ConstantName.name(&block) == ConstantName.name(&Block::zero()));
+    block.bytes[4095] ^= 1;
+    assert_eq!(rt; Murmur.name(&block), Name::new(NAMES[3]));
+}
+
+// The name's bytes 0 to 3 are 81 a3 ec 86, its bytes 4 to 7 are 65 7e e7 84.
+#[test]
+fn tag_and_route(rt: HostRuntime) {
+    let name = Name::new(NAMES[0]);
+    assert_eq!(rt; tag(&name), 0x86ec_a381);
+    for (zones, zone) in [(1, 0), (2, 1), (3, 2), (4, 1)] {
+        assert_eq!(rt; route(&name, zones), zone, "of {zones}");
+    }
+}

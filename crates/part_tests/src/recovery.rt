@@ -1,0 +1,210 @@
+ghost use Rattle.std.specs.Prelude.{◌≡◌, ◌+◌, ◌<◌, ◌≤◌, ◌^◌, length};
+ghost use Rattle.recovery_journal.specs.Log.{IsWriting};
+
+mod plain;
+
+use crate::recovery::plain::PlainJournal;
+use blk_base::{Entry, Geometry, Lba, Mapping, Pbn, Point};
+use recovery_journal::{Journal, no_needed_block_is_overwritten};
+use std::alloc::AllocError;
+use std::cmp;
+use std::test::Fail;
+
+const SMALL: Geometry = Geometry {
+    logical: 1000,
+    slabs: 1,
+    slab_blocks: 64,
+    journal: 8,
+    index: 16,
+    slab_journal: 4,
+    height: 2,
+    nonce: 1,
+};
+
+fn entry(number: u32) -> Entry {
+    Entry::Remap {
+        at: Lba(number),
+        old: Mapping::Zero,
+        new: Mapping::At(Pbn(number)),
+    }
+}
+
+// Adds an entry, and gives its place.
+fn add(journal: &mut Journal, number: u32) -> Option<(u64, usize)>
+    requires { journal.old.sequence < 2 ^ 55 }
+    ensures sequence { journal.new.sequence ≡ journal.old.sequence }
+    ensures committed { journal.new.committed ≡ journal.old.committed }
+    ensures zones { length journal.new.marks ≡ length journal.old.marks }
+{
+    match journal.append(entry(number)) {
+        Ok(place) => Some((place.sequence, usize::from(place.entry))),
+        Err(_) => None,
+    }
+}
+
+// Seals the block and commits it; meanwhile an entry is added to the next block. Gives the block's sequence, its head,
+// and the number of its entries.
+fn write(journal: &mut Journal, number: u32) -> Option<(u64, u64, usize)>
+    requires { journal.old.sequence < 2 ^ 54 }
+    ensures sequence { journal.new.sequence ≤ journal.old.sequence + 1 }
+    ensures zones { length journal.new.marks ≡ length journal.old.marks }
+{
+    let block = journal.seal()?;
+    let _ = add(journal, number);
+    journal.committed(block.sequence);
+    Some((block.sequence, block.head, block.entries.len()))
+}
+
+// Hands out an entry.
+fn hand_out(journal: &mut Journal) -> Option<(Entry, u64)>
+    ensures sequence { journal.new.sequence ≡ journal.old.sequence }
+    ensures zones { length journal.new.marks ≡ length journal.old.marks }
+{
+    match journal.next_committed() {
+        Some(next) => Some((next.entry, next.point.0)),
+        None => None,
+    }
+}
+
+// Reports that the zone's part of every entry below this point is durable, or of all that were handed out.
+fn reap(journal: &mut Journal, zone: u32, point: u64) -> u64
+    requires sequence { journal.old.sequence < 2 ^ 55 }
+    requires zone { zone < length journal.old.marks }
+    ensures sequence { journal.new.sequence ≡ journal.old.sequence }
+    ensures zones { length journal.new.marks ≡ length journal.old.marks }
+{
+    let below = cmp::min(point, journal.first_unhanded().0);
+    journal.watermark(zone, Point(below));
+    below
+}
+
+// No block is sealed while one is written.
+fn seals_none(journal: &mut Journal) -> bool
+    requires { IsWriting journal.old }
+    ensures { journal.new ≡ journal.old }
+{
+    match journal.seal() {
+        Some(_) => false,
+        None => true,
+    }
+}
+
+// Blocks 2 to 8 are written with head 2: an entry for block 9 waits until the head is 3.
+#[test]
+fn a_full_ring_waits_for_the_head(rt: HostRuntime) -> Result<(), Fail> {
+    let mut journal = Journal::new(rt.alloc(), &SMALL, 1, 1)?;
+    assert_eq!(rt; add(&mut journal, 1), Some((1, 0)));
+    assert_eq!(rt; write(&mut journal, 2), Some((1, 1, 1)));
+    assert_eq!(rt; hand_out(&mut journal), Some((entry(1), 512)));
+    assert_eq!(rt; reap(&mut journal, 0, u64::MAX), 1024);
+    for number in 3..9 {
+        let _ = write(&mut journal, number);
+    }
+    assert_eq!(rt; write(&mut journal, 9), Some((8, 2, 1)));
+    assert_eq!(rt; add(&mut journal, 9), None);
+    assert_eq!(rt; hand_out(&mut journal), Some((entry(2), 1024)));
+    assert_eq!(rt; reap(&mut journal, 0, u64::MAX), 1536);
+    assert_eq!(rt; journal.head(), 3);
+    assert_eq!(rt; add(&mut journal, 9), Some((9, 0)));
+    no_needed_block_is_overwritten();
+    Ok(())
+}
+
+// A journal and a plain one, of two zones, which do the same.
+fn add_both(
+    journal: &mut Journal,
+    plain: &mut PlainJournal,
+    first: u32,
+    count: u32,
+) -> Result<bool, AllocError>
+    requires { journal.old.sequence < 2 ^ 55 }
+    ensures sequence { journal.new.sequence ≡ journal.old.sequence }
+    ensures zones { length journal.new.marks ≡ length journal.old.marks }
+{
+    let mut same = true;
+    for k in 0..count {
+        let number = first.wrapping_add(k);
+        let place = add(journal, number);
+        same &= place == plain.append(entry(number))?;
+    }
+    Ok(same)
+}
+
+fn write_both(
+    journal: &mut Journal,
+    plain: &mut PlainJournal,
+    number: u32,
+) -> Result<bool, AllocError>
+    requires { journal.old.sequence < 2 ^ 54 }
+    ensures sequence { journal.new.sequence ≤ journal.old.sequence + 1 }
+    ensures zones { length journal.new.marks ≡ length journal.old.marks }
+{
+    let Some(block) = journal.seal() else {
+        return Ok(plain.seal().is_none());
+    };
+    let sealed = plain.seal() == Some((block.sequence, block.head, block.entries.len()));
+    let again = seals_none(journal) && plain.seal().is_none();
+    let place = add(journal, number);
+    journal.committed(block.sequence);
+    plain.committed(block.sequence);
+    let added = place == plain.append(entry(number))?;
+    Ok(sealed && again && added)
+}
+
+fn hand_out_both(journal: &mut Journal, plain: &mut PlainJournal, count: u32) -> bool
+    ensures sequence { journal.new.sequence ≡ journal.old.sequence }
+    ensures zones { length journal.new.marks ≡ length journal.old.marks }
+{
+    let mut same = true;
+    for k in 0..count {
+        same &= hand_out(journal) == plain.next_committed();
+    }
+    same
+}
+
+fn reap_both(journal: &mut Journal, plain: &mut PlainJournal, zone: u32, far: u64)
+    requires sequence { journal.old.sequence < 2 ^ 55 }
+    requires zone { zone < length journal.old.marks }
+    ensures sequence { journal.new.sequence ≡ journal.old.sequence }
+    ensures zones { length journal.new.marks ≡ length journal.old.marks }
+{
+    let point = journal.head().saturating_mul(512).saturating_add(far);
+    let below = reap(journal, zone, point);
+    plain.watermark(zone as usize, below);
+}
+
+// One step, which a number chooses.
+fn step(journal: &mut Journal, plain: &mut PlainJournal, number: u64) -> Result<bool, AllocError>
+    requires sequence { journal.old.sequence < 2 ^ 54 }
+    requires zones { length journal.old.marks ≡ 2 }
+    ensures sequence { journal.new.sequence ≤ journal.old.sequence + 1 }
+    ensures zones { length journal.new.marks ≡ 2 }
+{
+    let rest = number / 4;
+    let small = (rest % 250) as u32;
+    let same = match number % 4 {
+        0 => add_both(journal, plain, small, small)?,
+        1 => write_both(journal, plain, small)?,
+        2 => hand_out_both(journal, plain, small),
+        _ => {
+            reap_both(journal, plain, small % 2, rest % 4096);
+            true
+        }
+    };
+    Ok(same && journal.head() == plain.head())
+}
+
+#[test]
+fn as_the_plain_journal(rt: HostRuntime) -> Result<(), Fail> {
+    let mut journal = Journal::new(rt.alloc(), &SMALL, 5, 2)?;
+    let mut plain = PlainJournal::new(rt.alloc(), 8, 5);
+    let mut number = 1_u64;
+    for turn in 0..300_u64 {
+        number = number
+            .wrapping_mul(6364136223846793005)
+            .wrapping_add(1442695040888963407);
+        assert!(rt; step(&mut journal, &mut plain, number >> 33)?);
+    }
+    assert!(rt; journal.head() > 20);
+    Ok(())
+}

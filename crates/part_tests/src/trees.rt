@@ -1,0 +1,251 @@
+ghost use Rattle.std.specs.Prelude.{◌≡◌, ◌<◌, ◌≤◌, IfOk, slice_index_or};
+ghost use Rattle.blk_base.specs.Limits.{logical_limit};
+ghost use Rattle.blk_base.specs.declared.place.Mapping.TheVariants.{Unmapped, At};
+ghost use Rattle.blk_base.specs.declared.place.PageId.{PageId};
+ghost use Rattle.block_map_tree.specs.Tree.{IsTree, IsWriting};
+
+mod plain;
+
+use blk_base::{Geometry, Lba, Mapping, PageId, Pbn, Point};
+use block_map_tree::{Found, OpenedPage, TreeNodes, path};
+use page_codec::{MapPage, Mappings, PageHead};
+use plain::{Plain, page_at};
+use std::alloc::{AllocError, Global};
+use std::process::Abort;
+use std::test::Fail;
+
+const GEOMETRY: Geometry = Geometry {
+    logical: 40_000_000,
+    slabs: 1,
+    slab_blocks: 64,
+    journal: 8,
+    index: 16,
+    slab_journal: 4,
+    height: 3,
+    nonce: 7,
+};
+
+// The path of this address in trees of this height.
+fn leads(rt: &impl Abort, at: u32, height: u32, tree: u8, slots: &[u16])
+    requires height { (2 ≤ height) × (height ≤ 3) }
+    requires inside { at < logical_limit height }
+{
+    let found = path(Lba(at), height);
+    assert_eq!(rt; found.tree, tree);
+    assert!(rt; found.slots.as_slice() == slots);
+}
+
+#[test]
+fn paths_of_some_addresses(rt: HostRuntime) {
+    leads(&rt, 1000, 2, 1, &[0, 188]);
+    leads(&rt, 48_720, 2, 0, &[1, 0]);
+    leads(&rt, 39_560_639, 2, 59, &[811, 811]);
+    leads(&rt, 39_560_640, 3, 0, &[1, 0, 0]);
+}
+
+// A page of an image of these sizes, as `take_expired` fills it.
+fn blank_page() -> MapPage {
+    MapPage {
+        head: PageHead {
+            geometry: GEOMETRY,
+            page: page_at(Lba(0), 0),
+            at: Pbn(0),
+        },
+        mappings: Mappings::new(),
+    }
+}
+
+// The tree has what the list of links says.
+fn is_like(rt: &impl Abort, tree: &TreeNodes, plain: &Plain, at: Lba)
+    requires sizes { tree.now.geometry ≡ GEOMETRY }
+    requires inside { at.0 < GEOMETRY.logical }
+{
+    assert_eq!(rt; tree.find(&path(at, GEOMETRY.height)), plain.find(at, 3));
+    assert_eq!(rt; tree.at(page_at(at, 0)), plain.at(page_at(at, 0)));
+    assert_eq!(rt; tree.low_point(), plain.low_point());
+}
+
+// Links the highest page that the path misses.
+fn link_next(
+    tree: &mut TreeNodes,
+    plain: &mut Plain,
+    at: Lba,
+    block: Pbn,
+    point: Point,
+) -> Result<(), AllocError>
+    requires form { IsTree tree.old }
+    requires sizes { tree.old.geometry ≡ GEOMETRY }
+    requires inside { at.0 < GEOMETRY.logical }
+    ensures form { IsTree tree.new }
+    ensures sizes { tree.new.geometry ≡ GEOMETRY }
+    ensures out { (page : PageId) → IsWriting tree.old page → IsWriting tree.new page }
+{
+    match tree.find(&path(at, GEOMETRY.height)) {
+        Found::Leaf(_) => Ok(()),
+        Found::Missing(level) => {
+            let page = page_at(at, level);
+            tree.link(page, block, point);
+            plain.link(page, block, point)
+        }
+    }
+}
+
+// A page is handed out and reported at once.
+fn write_one(rt: &impl Abort, tree: &mut TreeNodes, plain: &mut Plain, limit: Point)
+    requires form { IsTree tree.old }
+    requires sizes { tree.old.geometry ≡ GEOMETRY }
+    ensures form { IsTree tree.new }
+    ensures sizes { tree.new.geometry ≡ GEOMETRY }
+    ensures out { (page : PageId) → IsWriting tree.old page → IsWriting tree.new page }
+{
+    let mut into = blank_page();
+    let taken = tree.take_expired(limit, &mut into);
+    assert_eq!(rt; taken, plain.take_expired(limit));
+    if let Some(page) = taken {
+        tree.written(page);
+        plain.written(page);
+    }
+}
+
+// A page is linked, one is handed out, another is linked, another written, and then the first one is reported.
+fn cycle(
+    rt: &impl Abort,
+    tree: &mut TreeNodes,
+    plain: &mut Plain,
+    one: Lba,
+    other: Lba,
+    limit: Point,
+) -> Result<(), AllocError>
+    requires form { IsTree tree.old }
+    requires sizes { tree.old.geometry ≡ GEOMETRY }
+    requires one { one.0 < GEOMETRY.logical }
+    requires other { other.0 < GEOMETRY.logical }
+    ensures form { IsTree tree.new }
+    ensures sizes { tree.new.geometry ≡ GEOMETRY }
+{
+    link_next(tree, plain, one, Pbn(one.0 / 7), Point(limit.0 ^ 3))?;
+    is_like(rt, tree, plain, one);
+    let mut into = blank_page();
+    let taken = tree.take_expired(limit, &mut into);
+    assert_eq!(rt; taken, plain.take_expired(limit));
+    let Some(page) = taken else {
+        return Ok(());
+    };
+    assert!(rt; into.head.page == page);
+    assert_eq!(rt; count_links(&into.mappings), plain.count_below(page));
+    link_next(tree, plain, other, Pbn(other.0 / 7), Point(limit.0 ^ 12))?;
+    write_one(rt, tree, plain, limit);
+    is_like(rt, tree, plain, other);
+    tree.written(page);
+    plain.written(page);
+    Ok(())
+}
+
+fn count_links(mappings: &Mappings) -> usize {
+    mappings
+        .as_slice()
+        .iter()
+        .filter(|mapping| **mapping != Mapping::Unmapped)
+        .count()
+}
+
+// The next of a fixed sequence of numbers.
+fn next(number: u64) -> u64 {
+    number
+        .wrapping_mul(6_364_136_223_846_793_005)
+        .wrapping_add(1_442_695_040_888_963_407)
+}
+
+// An address of four trees by a number.
+fn address(number: u64) -> Lba
+    ensures { result.0 < GEOMETRY.logical }
+{
+    let tree = (number >> 40) % 4;
+    let leaf = (number >> 20) % 820;
+    Lba(((leaf * 60 + tree) * 812) as u32)
+}
+
+#[test]
+fn like_a_list_of_links(rt: HostRuntime) -> Result<(), Fail> {
+    let mut tree = TreeNodes::from_opened(rt.alloc(), &GEOMETRY, &[])?;
+    let mut plain = Plain::new(rt.alloc(), &GEOMETRY);
+    let mut number = 1;
+    for _step in 0..300 {
+        let one = address(number);
+        number = next(number);
+        let limit = Point(number >> 55);
+        cycle(&rt, &mut tree, &mut plain, one, address(number), limit)?;
+        number = next(number);
+    }
+    Ok(())
+}
+
+// A root of the first tree, which leads to one page, and that page, which leads to one leaf.
+fn opened(page: PageId, at: Pbn, slot: u16, leads: Pbn) -> OpenedPage
+    requires { slot < 812 }
+    ensures page { result.page ≡ page }
+    ensures at { result.at ≡ at }
+    ensures leads { slice_index_or result.mappings slot Unmapped ≡ At leads }
+{
+    let mut mappings = Mappings::new();
+    mappings.set(slot, Mapping::At(leads));
+    OpenedPage { page, at, mappings }
+}
+
+// The tree of an image whose first tree leads to the leaf of the addresses 243,600 to 244,411, in block 91.
+fn small_tree(alloc: Global) -> Result<TreeNodes, AllocError>
+    ensures { IfOk result (λ tree. IsTree tree × (tree.geometry ≡ GEOMETRY)) }
+{
+    let root = PageId {
+        tree: 0,
+        level: 2,
+        index: 0,
+    };
+    let middle = PageId {
+        tree: 0,
+        level: 1,
+        index: 0,
+    };
+    let pages = [
+        opened(root, Pbn(9), 0, Pbn(90)),
+        opened(middle, Pbn(90), 5, Pbn(91)),
+    ];
+    TreeNodes::from_opened(alloc, &GEOMETRY, &pages)
+}
+
+#[test]
+fn opened_pages_lead_on(rt: HostRuntime) -> Result<(), Fail> {
+    let mut tree = small_tree(rt.alloc())?;
+    assert_eq!(rt; tree.find(&path(Lba(243_600), 3)), Found::Leaf(Pbn(91)));
+    assert_eq!(rt; tree.find(&path(Lba(0), 3)), Found::Missing(0));
+    assert_eq!(rt; tree.find(&path(Lba(812), 3)), Found::Missing(1));
+    assert_eq!(rt; tree.at(page_at(Lba(812), 2)), Some(Pbn(10)));
+    assert_eq!(rt; tree.at(page_at(Lba(812), 1)), None);
+    assert_eq!(rt; tree.low_point(), None);
+    let mut plain = Plain::new(rt.alloc(), &GEOMETRY);
+    link_next(&mut tree, &mut plain, Lba(812), Pbn(92), Point(8))?;
+    link_next(&mut tree, &mut plain, Lba(812), Pbn(93), Point(6))?;
+    assert_eq!(rt; tree.find(&path(Lba(812), 3)), Found::Leaf(Pbn(93)));
+    assert_eq!(rt; tree.low_point(), Some(Point(6)));
+    Ok(())
+}
+
+#[test]
+fn a_changed_page_is_written(rt: HostRuntime) -> Result<(), Fail> {
+    let mut tree = small_tree(rt.alloc())?;
+    let mut plain = Plain::new(rt.alloc(), &GEOMETRY);
+    link_next(&mut tree, &mut plain, Lba(0), Pbn(92), Point(8))?;
+    let mut into = blank_page();
+    assert_eq!(rt; tree.take_expired(Point(7), &mut into), None);
+    let Some(page) = tree.take_expired(Point(8), &mut into) else {
+        return Err(Fail::new("no page is due"));
+    };
+    assert_eq!(rt; page, page_at(Lba(0), 1));
+    assert_eq!(rt; into.head.at, Pbn(90));
+    assert_eq!(rt; into.mappings.get(0), Mapping::At(Pbn(92)));
+    assert_eq!(rt; into.mappings.get(5), Mapping::At(Pbn(91)));
+    assert_eq!(rt; tree.low_point(), Some(Point(8)));
+    tree.written(page);
+    assert_eq!(rt; tree.low_point(), None);
+    Ok(())
+}

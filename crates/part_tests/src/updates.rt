@@ -1,0 +1,188 @@
+ghost use Rattle.std.specs.Prelude.{◌≡◌, ◌+◌, ◌<◌, ◌≤◌, ◌^◌, length};
+ghost use Rattle.slab_journal.specs.Slab.{IsWriting};
+
+mod plain;
+
+use crate::updates::plain::PlainJournal;
+use blk_base::{Geometry, Pbn, Point};
+use slab_codec::SlabJournalBlock;
+use slab_journal::{SlabJournal, Update};
+use std::alloc::AllocError;
+use std::test::Fail;
+
+// Two sectors of counters, two slots; the first data block of slab 0 is 85.
+const SMALL: Geometry = Geometry {
+    logical: 1000,
+    slabs: 1,
+    slab_blocks: 1000,
+    journal: 8,
+    index: 16,
+    slab_journal: 2,
+    height: 2,
+    nonce: 7,
+};
+
+// Adds an update, and tells whether it was taken.
+fn add(journal: &mut SlabJournal, point: u64, offset: u32) -> bool
+    requires small { (journal.old.geometry ≡ SMALL) × (journal.old.slab ≡ 0) }
+    requires offset { offset < 1000 }
+    ensures small { (journal.new.geometry ≡ SMALL) × (journal.new.slab ≡ 0) }
+    ensures sequence { journal.new.sequence ≡ journal.old.sequence }
+    ensures durable { journal.new.durable ≡ journal.old.durable }
+    ensures sectors { length journal.new.commits ≡ length journal.old.commits }
+{
+    let update = Update {
+        at: Pbn(85 + offset),
+        point: Point(point),
+    };
+    journal.add(&update).is_ok()
+}
+
+// The block's sequence, the number of its updates and the sums of their points and offsets.
+fn told(block: &SlabJournalBlock) -> (u64, usize, u64, u64) {
+    let mut points = 0_u64;
+    let mut offsets = 0_u64;
+    for entry in block.entries.as_slice() {
+        points = points.wrapping_add(entry.point.0);
+        offsets = offsets.wrapping_add(u64::from(entry.offset));
+    }
+    (block.sequence, block.entries.len(), points, offsets)
+}
+
+// Seals the block, and tells it durable.
+fn write(journal: &mut SlabJournal) -> Option<(u64, usize, u64, u64)>
+    requires small { (journal.old.geometry ≡ SMALL) × (journal.old.slab ≡ 0) }
+    requires sequence { journal.old.sequence < 2 ^ 54 }
+    ensures small { (journal.new.geometry ≡ SMALL) × (journal.new.slab ≡ 0) }
+    ensures sequence { journal.new.sequence ≤ journal.old.sequence + 1 }
+    ensures sectors { length journal.new.commits ≡ length journal.old.commits }
+{
+    let block = journal.seal()?;
+    journal.durable(block.sequence);
+    Some(told(&block))
+}
+
+// No block is sealed while one is written.
+fn seals_none(journal: &mut SlabJournal) -> bool
+    requires writing { IsWriting journal.old }
+    requires sequence { journal.old.sequence < 2 ^ 55 }
+    ensures { journal.new ≡ journal.old }
+{
+    match journal.seal() {
+        Some(_) => false,
+        None => true,
+    }
+}
+
+// Block 3 goes to the slot of block 1, once both sectors of counters include its updates.
+#[test]
+fn a_slot_waits_for_its_sectors(rt: HostRuntime) -> Result<(), Fail> {
+    let mut journal = SlabJournal::new(rt.alloc(), &SMALL, 0)?;
+    assert_eq!(rt; write(&mut journal), None);
+    assert!(rt; add(&mut journal, 512, 503));
+    assert!(rt; add(&mut journal, 513, 504));
+    assert_eq!(rt; write(&mut journal), Some((1, 2, 1025, 1007)));
+    assert!(rt; add(&mut journal, 514, 999));
+    assert_eq!(rt; write(&mut journal), Some((2, 1, 514, 999)));
+    assert!(rt; add(&mut journal, 600, 0));
+    assert!(rt; !journal.may_overwrite());
+    assert_eq!(rt; write(&mut journal), None);
+    journal.reference_durable(0, Point(512));
+    journal.reference_durable(1, Point(512));
+    assert!(rt; !journal.may_overwrite());
+    journal.reference_durable(1, Point(513));
+    assert!(rt; journal.may_overwrite());
+    assert_eq!(rt; write(&mut journal), Some((3, 1, 600, 0)));
+    Ok(())
+}
+
+// A journal and a plain one, which do the same.
+fn add_both(
+    journal: &mut SlabJournal,
+    plain: &mut PlainJournal,
+    first: u64,
+    count: u32,
+) -> Result<bool, AllocError>
+    requires small { (journal.old.geometry ≡ SMALL) × (journal.old.slab ≡ 0) }
+    ensures small { (journal.new.geometry ≡ SMALL) × (journal.new.slab ≡ 0) }
+    ensures sequence { journal.new.sequence ≡ journal.old.sequence }
+    ensures sectors { length journal.new.commits ≡ length journal.old.commits }
+{
+    let mut same = true;
+    for k in 0..count {
+        let point = first.wrapping_add(u64::from(k));
+        let offset = (point % 1000) as u32;
+        let added = add(journal, point, offset);
+        same &= added == plain.add(point, offset)?;
+    }
+    Ok(same)
+}
+
+fn write_both(journal: &mut SlabJournal, plain: &mut PlainJournal) -> bool
+    requires small { (journal.old.geometry ≡ SMALL) × (journal.old.slab ≡ 0) }
+    requires sequence { journal.old.sequence < 2 ^ 54 }
+    ensures small { (journal.new.geometry ≡ SMALL) × (journal.new.slab ≡ 0) }
+    ensures sequence { journal.new.sequence ≤ journal.old.sequence + 1 }
+    ensures sectors { length journal.new.commits ≡ length journal.old.commits }
+{
+    let Some(block) = journal.seal() else {
+        return plain.seal().is_none();
+    };
+    let sealed = plain.seal() == Some(told(&block));
+    let again = seals_none(journal);
+    journal.durable(block.sequence);
+    plain.durable(block.sequence);
+    sealed && again
+}
+
+fn cover_both(journal: &mut SlabJournal, plain: &mut PlainJournal, sector: u32, point: u64)
+    requires small { (journal.old.geometry ≡ SMALL) × (journal.old.slab ≡ 0) }
+    requires sector { sector < length journal.old.commits }
+    ensures small { (journal.new.geometry ≡ SMALL) × (journal.new.slab ≡ 0) }
+    ensures sequence { journal.new.sequence ≡ journal.old.sequence }
+    ensures sectors { length journal.new.commits ≡ length journal.old.commits }
+{
+    journal.reference_durable(sector, Point(point));
+    plain.reference_durable(sector as usize, point);
+}
+
+// One step, which a number chooses. `now` is the point that the updates have reached.
+fn step(
+    journal: &mut SlabJournal,
+    plain: &mut PlainJournal,
+    now: u64,
+    number: u64,
+) -> Result<bool, AllocError>
+    requires small { (journal.old.geometry ≡ SMALL) × (journal.old.slab ≡ 0) }
+    requires sequence { journal.old.sequence < 2 ^ 54 }
+    requires sectors { length journal.old.commits ≡ 2 }
+    ensures small { (journal.new.geometry ≡ SMALL) × (journal.new.slab ≡ 0) }
+    ensures sequence { journal.new.sequence ≤ journal.old.sequence + 1 }
+    ensures sectors { length journal.new.commits ≡ 2 }
+{
+    let rest = number / 4;
+    let same = match number % 4 {
+        0 => add_both(journal, plain, now, (rest % 250) as u32)?,
+        1 => write_both(journal, plain),
+        _ => {
+            let back = rest / 2 % 1500;
+            cover_both(journal, plain, (rest % 2) as u32, now.saturating_sub(back));
+            true
+        }
+    };
+    Ok(same && journal.may_overwrite() == plain.may_overwrite())
+}
+
+#[test]
+fn as_the_plain_journal(rt: HostRuntime) -> Result<(), Fail> {
+    let mut journal = SlabJournal::new(rt.alloc(), &SMALL, 0)?;
+    let mut plain = PlainJournal::new(rt.alloc(), 2);
+    let mut number = 1_u64;
+    for turn in 0..300_u64 {
+        number = number
+            .wrapping_mul(6364136223846793005)
+            .wrapping_add(1442695040888963407);
+        assert!(rt; step(&mut journal, &mut plain, 512 + turn * 250, number >> 33)?);
+    }
+    Ok(())
+}

@@ -1,8 +1,0 @@
-use Rattle.std.proofs.Common.{◌≡◌, ◌≤◌, ◌+◌, length}
-use Rattle.recovery_journal.proofs.tests.as_the_plain_journal.Given as goal
-
-abbrev pub invariant-loop-turn : goal.invariant-loop-turn
-invariant-loop-turn g l = record {
-  sequence : l.journal.sequence ≤ l.turn + 5;
-  zones : length l.journal.marks ≡ 2;
-}
