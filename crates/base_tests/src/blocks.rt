@@ -11,9 +11,9 @@ const DEFAULT: Geometry = Geometry {
     nonce: 1,
 };
 
-// The table of the default image in docs/DESIGN.md.
+// These four have the table of the default image in docs/DESIGN.md.
 #[test]
-fn the_default_image(rt: HostRuntime) {
+fn the_default_journal(rt: HostRuntime) {
     let layout = Layout::of(&DEFAULT);
     assert_eq!(rt; layout.needed(), 154);
     for (sequence, block) in [(0, 1), (1, 2), (7, 8), (8, 1), (15, 8)] {
@@ -23,12 +23,23 @@ fn the_default_image(rt: HostRuntime) {
             "sequence {sequence}"
         );
     }
+    regions_are_apart();
+}
+
+#[test]
+fn the_default_roots_and_index(rt: HostRuntime) {
+    let layout = Layout::of(&DEFAULT);
     for (tree, block) in [(0, 9), (59, 68)] {
         assert_eq!(rt; layout.root(tree).0, block, "tree {tree}");
     }
     for (i, block) in [(0, 69), (15, 84)] {
         assert_eq!(rt; layout.index_block(i).0, block, "index block {i}");
     }
+}
+
+#[test]
+fn the_default_data_blocks(rt: HostRuntime) {
+    let layout = Layout::of(&DEFAULT);
     for (offset, block) in [(0, 85), (63, 148)] {
         assert_eq!(rt;
             layout.data_block(0, offset).0,
@@ -40,6 +51,14 @@ fn the_default_image(rt: HostRuntime) {
             Some(DataPlace { slab: 0, offset })
         );
     }
+    for block in [0, 84, 149, 150, 153, 154] {
+        assert_eq!(rt; layout.place(Pbn(block)), None, "block {block}");
+    }
+}
+
+#[test]
+fn the_default_slab(rt: HostRuntime) {
+    let layout = Layout::of(&DEFAULT);
     assert_eq!(rt; layout.reference_block(0, 0).0, 149);
     for (sequence, block) in [(0, 150), (3, 153), (4, 150)] {
         assert_eq!(rt;
@@ -48,10 +67,6 @@ fn the_default_image(rt: HostRuntime) {
             "slab sequence {sequence}"
         );
     }
-    for block in [0, 84, 149, 150, 153, 154] {
-        assert_eq!(rt; layout.place(Pbn(block)), None, "block {block}");
-    }
-    regions_are_apart();
 }
 
 #[test]

@@ -136,15 +136,19 @@ fn a_device(rt: HostRuntime) -> Result<(), Fail> {
 }
 
 #[test]
-fn streams(rt: HostRuntime) -> Result<(), Fail> {
-    let alloc = rt.alloc();
-    let mut source = MemSource::new(b"abc".to_vec(alloc)?, Some(1));
+fn a_source(rt: HostRuntime) -> Result<(), Fail> {
+    let mut source = MemSource::new(b"abc".to_vec(rt.alloc())?, Some(1));
     let mut into = [0; 2];
     for (number, answer) in [Ok(2), Err(Failed), Ok(1), Ok(0)].iter().enumerate() {
         assert_eq!(rt; source.take(&mut into), *answer, "take {number}");
     }
     assert_eq!(rt; into, *b"cb");
-    let mut sink = MemSink::new(alloc, 4)?;
+    Ok(())
+}
+
+#[test]
+fn a_sink(rt: HostRuntime) -> Result<(), Fail> {
+    let mut sink = MemSink::new(rt.alloc(), 4)?;
     assert_eq!(rt; sink.put(b"abc".as_slice()), Ok(()));
     assert_eq!(rt; sink.put(b"de".as_slice()), Err(Failed));
     assert_eq!(rt; sink.bytes(), b"abcd".as_slice());

@@ -2,23 +2,36 @@ use byte_fields::{
     put, put_u8, put_u16, put_u32, put_u64, put_zeros, read_u8, read_u16, read_u32, read_u64,
 };
 
-// 8 of 0xee, then each field in turn. The numbers' bytes are written out by hand.
+// Each field in turn, and 2 of 0xee. The numbers' bytes are written out by hand.
+const WRITTEN: [u8; 24] = [
+    1, 2, 3, 4, 5, 6, 7, 8, 10, 11, 12, 13, 14, 15, 16, 86, 74, 83, 49, 0, 0, 0, 0xee, 0xee,
+];
+
+fn put_numbers(out: &mut [u8; 24]) {
+    put_u64(out, 0, 0x0807_0605_0403_0201);
+    put_u32(out, 8, 0x0d0c_0b0a);
+    put_u16(out, 12, 0x0f0e);
+    put_u8(out, 14, 0x10);
+}
+
+fn put_texts(out: &mut [u8; 24]) {
+    put(out, 15, b"VJS1");
+    put_zeros(out, 19, 3);
+}
+
 #[test]
 fn fields_side_by_side(rt: HostRuntime) {
     let mut out = [0xee; 24];
-    put_u64(&mut out, 0, 0x0807_0605_0403_0201);
-    put_u32(&mut out, 8, 0x0d0c_0b0a);
-    put_u16(&mut out, 12, 0x0f0e);
-    put_u8(&mut out, 14, 0x10);
-    put(&mut out, 15, b"VJS1");
-    put_zeros(&mut out, 19, 3);
-    let want = [
-        1, 2, 3, 4, 5, 6, 7, 8, 10, 11, 12, 13, 14, 15, 16, 86, 74, 83, 49, 0, 0, 0, 0xee, 0xee,
-    ];
-    assert_eq!(rt; out, want);
-    assert_eq!(rt; read_u64(&out, 0), 0x0807_0605_0403_0201);
-    assert_eq!(rt; read_u64(&out, 1), 0x0a08_0706_0504_0302);
-    assert_eq!(rt; read_u32(&out, 15), 0x3153_4a56);
-    assert_eq!(rt; read_u16(&out, 22), 0xeeee);
-    assert_eq!(rt; read_u8(&out, 23), 0xee);
+    put_numbers(&mut out);
+    put_texts(&mut out);
+    assert_eq!(rt; out, WRITTEN);
+}
+
+#[test]
+fn fields_at_any_place(rt: HostRuntime) {
+    assert_eq!(rt; read_u64(&WRITTEN, 0), 0x0807_0605_0403_0201);
+    assert_eq!(rt; read_u64(&WRITTEN, 1), 0x0a08_0706_0504_0302);
+    assert_eq!(rt; read_u32(&WRITTEN, 15), 0x3153_4a56);
+    assert_eq!(rt; read_u16(&WRITTEN, 22), 0xeeee);
+    assert_eq!(rt; read_u8(&WRITTEN, 23), 0xee);
 }

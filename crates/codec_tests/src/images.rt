@@ -1,3 +1,4 @@
+use crate::shared::is_shown_as;
 use blk_base::{Block, Entry, Geometry, Layout, Lba, Mapping, PageId, Pbn, Super};
 use image_layout::SuperFault::{BadField, NotAnImage, Version};
 use image_layout::{
@@ -105,74 +106,106 @@ fn change(rt: &impl Abort, block: &mut Block, at: usize, byte: u8) {
     block.bytes[at] = byte;
 }
 
+fn is_zero(bytes: &[u8]) -> bool {
+    bytes.iter().all(|&byte| byte == 0)
+}
+
+fn spelled(head: &Super) -> Block {
+    let mut block = Block { bytes: [7; 4096] };
+    write_super(head, &mut block);
+    block
+}
+
+fn is_read(block: &Block, blocks: u32, head: &Super) -> bool {
+    read_super(block, blocks) == Ok(*head)
+}
+
+fn is_refused(block: &Block, blocks: u32, fault: SuperFault) -> bool {
+    read_super(block, blocks) == Err(fault)
+}
+
 #[test]
 fn written_bytes(rt: HostRuntime) {
-    for (head, bytes, needed) in [(HEAD, DEFAULT_BYTES, 154), (OTHER, OTHER_BYTES, 66779)] {
-        let mut block = Block { bytes: [7; 4096] };
-        write_super(&head, &mut block);
+    for (head, bytes) in [(HEAD, DEFAULT_BYTES), (OTHER, OTHER_BYTES)] {
+        let block = spelled(&head);
         assert_eq!(rt; &block.bytes[..64], &bytes[..]);
-        assert!(rt; block.bytes[64..].iter().all(|&byte| byte == 0));
-        assert_eq!(rt; read_super(&block, needed), Ok(head));
-        assert_eq!(rt;
-            read_super(&block, needed - 1),
-            Err(BadField(Field::Blocks))
-        );
+        assert!(rt; is_zero(&block.bytes[64..]));
+    }
+}
+
+#[test]
+fn what_is_written_is_read(rt: HostRuntime) {
+    for (head, needed) in [(HEAD, 154), (OTHER, 66779)] {
+        let mut block = spelled(&head);
+        assert!(rt; is_read(&block, needed, &head));
+        assert!(rt; is_refused(&block, needed - 1, BadField(Field::Blocks)));
         // The other sectors aren't looked at.
         block.bytes[512] = 1;
         block.bytes[4095] = 1;
-        assert_eq!(rt; read_super(&block, u32::MAX), Ok(head));
+        assert!(rt; is_read(&block, u32::MAX, &head));
     }
+}
+
+// The default superblock with two bytes changed.
+fn changed(rt: &impl Abort, one: (usize, u8), other: (usize, u8)) -> Block {
+    let mut block = default_block();
+    change(rt, &mut block, one.0, one.1);
+    change(rt, &mut block, other.0, other.1);
+    block
 }
 
 #[test]
 fn the_first_fault_is_named(rt: HostRuntime) {
     for (i, &(at, byte, fault)) in FIRST_ROWS.iter().enumerate() {
         for &(later, other, _) in &FIRST_ROWS[i..] {
-            let mut block = default_block();
-            change(&rt, &mut block, at, byte);
-            change(&rt, &mut block, later, other);
-            for blocks in [153, 154] {
-                assert_eq!(rt;
-                    read_super(&block, blocks),
-                    Err(fault),
-                    "bytes {at} and {later}"
-                );
-            }
+            let block = changed(&rt, (at, byte), (later, other));
+            let named = is_refused(&block, 153, fault) && is_refused(&block, 154, fault);
+            assert!(rt; named, "bytes {at} and {later}");
         }
     }
+}
+
+#[test]
+fn more_faults_are_named(rt: HostRuntime) {
     for (at, byte, fault) in MORE_ROWS {
         let mut block = default_block();
         change(&rt, &mut block, at, byte);
-        assert_eq!(rt; read_super(&block, 154), Err(fault), "byte {at}");
+        assert!(rt; is_refused(&block, 154, fault), "byte {at}");
+    }
+}
+
+fn sized(height: u32, logical: u32) -> Super {
+    Super {
+        geometry: Geometry {
+            logical,
+            height,
+            ..DEFAULT
+        },
+        ..HEAD
     }
 }
 
 // The greatest logical size of each height.
 #[test]
 fn logical_limits(rt: HostRuntime) {
-    for (height, limit) in [(2, 39_560_640), (3, 4_000_000_000)] {
-        for (logical, accepted) in [(0, false), (1, true), (limit, true), (limit + 1, false)] {
-            let head = Super {
-                geometry: Geometry {
-                    logical,
-                    height,
-                    ..DEFAULT
-                },
-                ..HEAD
-            };
-            let mut block = Block::zero();
-            write_super(&head, &mut block);
-            let want = if accepted {
-                Ok(head)
-            } else {
-                Err(BadField(Field::Logical))
-            };
-            assert_eq!(rt;
-                read_super(&block, 154),
-                want,
-                "height {height}, logical {logical}"
-            );
-        }
+    for (height, logical, accepted) in [
+        (2, 0, false),
+        (2, 1, true),
+        (2, 39_560_640, true),
+        (2, 39_560_641, false),
+        (3, 0, false),
+        (3, 1, true),
+        (3, 4_000_000_000, true),
+        (3, 4_000_000_001, false),
+    ] {
+        let head = sized(height, logical);
+        let block = spelled(&head);
+        let right = if accepted {
+            is_read(&block, 154, &head)
+        } else {
+            is_refused(&block, 154, BadField(Field::Logical))
+        };
+        assert!(rt; right, "height {height}, logical {logical}");
     }
 }
 
@@ -182,9 +215,9 @@ fn the_first_image(rt: HostRuntime) -> Result<(), Fail> {
     let image = first_image(rt.alloc(), &DEFAULT, &layout)?;
     assert_eq!(rt; image.len(), 154);
     assert_eq!(rt; &image[0].bytes[..64], &DEFAULT_BYTES[..]);
-    assert!(rt; image[0].bytes[64..].iter().all(|&byte| byte == 0));
+    assert!(rt; is_zero(&image[0].bytes[64..]));
     for block in &image[1..] {
-        assert!(rt; block.bytes.iter().all(|&byte| byte == 0));
+        assert!(rt; is_zero(&block.bytes));
     }
     Ok(())
 }
@@ -244,6 +277,13 @@ fn read(rt: &HostRuntime, journal: &[Block; 8]) -> Result<Vec<Entry>, WindowFaul
     read_window(rt.alloc(), journal, &head)
 }
 
+fn is_read_as(rt: &HostRuntime, journal: &[Block; 8], entries: &[Entry]) -> bool {
+    match read(rt, journal) {
+        Ok(found) => found.as_slice() == entries,
+        Err(_) => false,
+    }
+}
+
 fn remap(at: u32, block: u32) -> Entry {
     Entry::Remap {
         at: Lba(at),
@@ -254,37 +294,34 @@ fn remap(at: u32, block: u32) -> Entry {
 
 // The data blocks are 85 to 148.
 #[test]
-fn windows(rt: HostRuntime) -> Result<(), Fail> {
+fn windows(rt: HostRuntime) {
     let entries = [remap(0, 85), remap(999, 148), remap(0, 86)];
     let mut journal = empty_journal();
-    assert_eq!(rt; read(&rt, &journal)?.len(), 0);
+    assert!(rt; is_read_as(&rt, &journal, &[]));
     for (i, (sequence, entry)) in [(7, entries[0]), (8, entries[1]), (9, entries[2])]
         .iter()
         .enumerate()
     {
         put_written(&rt, &mut journal, *sequence, *entry);
-        assert_eq!(rt; read(&rt, &journal)?.as_slice(), &entries[..=i]);
+        assert!(rt; is_read_as(&rt, &journal, &entries[..=i]));
     }
     windows_are_one();
-    Ok(())
 }
 
 // Sequences below the first one, out of reach, or in the slot of another.
 #[test]
-fn what_is_not_looked_at(rt: HostRuntime) -> Result<(), Fail> {
+fn what_is_not_looked_at(rt: HostRuntime) {
     for (slot, sequence) in [(6, 6), (7, 7 + (1 << 32)), (2, 9), (1, 8)] {
         let mut journal = empty_journal();
         let block = journal_block(sequence, 1, &[]);
         put_block(&rt, &mut journal, slot, &block);
-        assert_eq!(rt; read(&rt, &journal)?.len(), 0, "sequence {sequence}");
+        assert!(rt; is_read_as(&rt, &journal, &[]), "sequence {sequence}");
         put_written(&rt, &mut journal, 7, remap(3, 100));
-        assert_eq!(rt;
-            read(&rt, &journal)?.as_slice(),
-            &[remap(3, 100)][..],
+        assert!(rt;
+            is_read_as(&rt, &journal, &[remap(3, 100)]),
             "sequence {sequence}"
         );
     }
-    Ok(())
 }
 
 fn is_faulty(rt: &HostRuntime, journal: &[Block; 8], sequence: u64) -> bool {
@@ -378,40 +415,46 @@ fn values(rt: HostRuntime) {
     assert_eq!(rt; mapping_at(&entries[..1], Lba(3)), Mapping::At(Pbn(1)));
 }
 
-// The texts are those of `field_name`, `super_fault_text` and `image_fault_text`.
+const FIELD_NAMES: [(Field, &str); 12] = [
+    (Field::Height, "height"),
+    (Field::Nonce, "nonce"),
+    (Field::Logical, "logical"),
+    (Field::Slabs, "slabs"),
+    (Field::SlabBlocks, "slab-blocks"),
+    (Field::Journal, "journal"),
+    (Field::Index, "index"),
+    (Field::SlabJournal, "slab-journal"),
+    (Field::Clean, "clean"),
+    (Field::Reserved, "reserved"),
+    (Field::Start, "start"),
+    (Field::Blocks, "blocks"),
+];
+
+// The names are those of `field_name`.
 #[test]
-fn texts(rt: HostRuntime) -> Result<(), Fail> {
-    let names = [
-        (Field::Height, "height"),
-        (Field::Nonce, "nonce"),
-        (Field::Logical, "logical"),
-        (Field::Slabs, "slabs"),
-        (Field::SlabBlocks, "slab-blocks"),
-        (Field::Journal, "journal"),
-        (Field::Index, "index"),
-        (Field::SlabJournal, "slab-journal"),
-        (Field::Clean, "clean"),
-        (Field::Reserved, "reserved"),
-        (Field::Start, "start"),
-        (Field::Blocks, "blocks"),
-    ];
-    for (field, name) in names {
+fn names_of_fields(rt: HostRuntime) -> Result<(), Fail> {
+    for (field, name) in FIELD_NAMES {
         assert_eq!(rt; field.name(), name);
-        assert_eq!(rt; format!(in rt.alloc(); "{field}")?.as_str(), name);
+        assert!(rt; is_shown_as(&rt, &field, name)?, "{name}");
     }
-    let faults = [
+    Ok(())
+}
+
+// The texts are those of `super_fault_text` and `image_fault_text`.
+#[test]
+fn texts_of_faults(rt: HostRuntime) -> Result<(), Fail> {
+    for (fault, text) in [
         (NotAnImage, "not an image"),
         (Version(7), "version 7"),
         (BadField(Field::Journal), "field journal"),
-    ];
-    for (fault, text) in faults {
-        assert_eq!(rt; format!(in rt.alloc(); "{fault}")?.as_str(), text);
-        assert_eq!(rt;
-            format!(in rt.alloc(); "{}", ImageFault::Super(fault))?.as_str(),
-            text
+    ] {
+        assert!(rt; is_shown_as(&rt, &fault, text)?, "{text}");
+        assert!(rt;
+            is_shown_as(&rt, &ImageFault::Super(fault), text)?,
+            "{text}"
         );
     }
     let fault = ImageFault::Window { sequence: 9 };
-    assert_eq!(rt; format!(in rt.alloc(); "{fault}")?.as_str(), "window 9");
+    assert!(rt; is_shown_as(&rt, &fault, "window 9")?);
     Ok(())
 }

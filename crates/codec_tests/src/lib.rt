@@ -10,4 +10,6 @@ mod journals;
 #[cfg(test)]
 mod pages;
 #[cfg(test)]
+mod shared;
+#[cfg(test)]
 mod slabs;

@@ -1,3 +1,4 @@
+use crate::shared::{is_shown_as, stands_at, weighed};
 use blk_base::{Block, Geometry, Mapping, PageId, Pbn};
 use page_codec::PageFault::{Compressed, Header, OutOfRange};
 use page_codec::{MapPage, Mappings, PageFault, PageHead, decode, encode, slot};
@@ -89,19 +90,6 @@ fn is_unmapped(mappings: &Mappings) -> bool {
     mappings.as_slice() == Mappings::new().as_slice()
 }
 
-// The bytes, each times its place from 1 on: a byte that is another or elsewhere changes the sum.
-fn weighed(block: &Block) -> u64 {
-    let mut sum: u64 = 0;
-    for (i, byte) in block.bytes.iter().enumerate() {
-        sum = sum.wrapping_add((i as u64).wrapping_add(1).wrapping_mul(u64::from(*byte)));
-    }
-    sum
-}
-
-fn stands_at(block: &Block, at: usize, want: &[u8]) -> bool {
-    at <= 4096 && block.bytes[at..].starts_with(want)
-}
-
 #[test]
 fn a_page_is_spelled(rt: HostRuntime) {
     let block = leaf();
@@ -122,20 +110,35 @@ fn a_page_is_spelled(rt: HostRuntime) {
 
 #[test]
 fn a_page_is_read_back(rt: HostRuntime) {
-    let block = leaf();
     let mut into = MapPage {
         head: ROOT,
         mappings: Mappings::new(),
     };
-    assert_eq!(rt; decode(&block, &LEAF, &mut into), Ok(()));
+    assert_eq!(rt; decode(&leaf(), &LEAF, &mut into), Ok(()));
     assert_eq!(rt; into.head, LEAF);
     assert_eq!(rt; into.mappings.as_slice(), all_mappings().as_slice());
+}
+
+// Whether the slot of a leaf is answered so.
+fn is_slot(block: &Block, number: u16, want: Result<Mapping, PageFault>) -> bool {
+    slot(block, &LEAF, number % 812) == want
+}
+
+#[test]
+fn slots_are_read_back(rt: HostRuntime) {
+    let block = leaf();
     let mut copy = Mappings::new();
-    copy.copy_from(&into.mappings);
+    copy.copy_from(&all_mappings());
     for k in 0..812 {
         assert_eq!(rt; copy.get(k), mapping(k), "slot {k}");
-        assert_eq!(rt; slot(&block, &LEAF, k), Ok(mapping(k)), "slot {k}");
+        assert!(rt; is_slot(&block, k, Ok(mapping(k))), "slot {k}");
     }
+}
+
+// Whether the leaf is refused with this fault, and nothing of it is left.
+fn is_refused(block: &Block, fault: PageFault) -> bool {
+    let mut into = blank();
+    decode(block, &LEAF, &mut into) == Err(fault) && is_unmapped(&into.mappings)
 }
 
 #[test]
@@ -144,11 +147,16 @@ fn another_head(rt: HostRuntime) {
         let mut block = leaf();
         block.bytes[at] = block.bytes[at].wrapping_add(1);
         block.bytes[36] = 2;
-        let mut into = blank();
-        assert_eq!(rt; decode(&block, &LEAF, &mut into), Err(Header), "byte {at}");
-        assert!(rt; is_unmapped(&into.mappings), "byte {at}");
-        assert_eq!(rt; slot(&block, &LEAF, 811), Err(Header), "byte {at}");
+        assert!(rt; is_refused(&block, Header), "byte {at}");
+        assert!(rt; is_slot(&block, 811, Err(Header)), "byte {at}");
     }
+}
+
+// The head that a leaf is read into, where the block is refused.
+fn head_after(block: &Block) -> PageHead {
+    let mut into = blank();
+    let _ = decode(block, &LEAF, &mut into);
+    into.head
 }
 
 // Slots 0 and 405 lead to blocks, and slot 811 to zeros.
@@ -171,22 +179,11 @@ fn a_fault_of_one_slot(rt: HostRuntime) {
         (4095, 1, 811, OutOfRange(811)),
     ] {
         let block = with_byte(leaf(), at, value);
-        let mut into = blank();
-        assert_eq!(rt;
-            decode(&block, &LEAF, &mut into),
-            Err(fault),
-            "byte {at}: {value}"
-        );
-        assert_eq!(rt; into.head, LEAF);
-        assert!(rt; is_unmapped(&into.mappings), "byte {at}: {value}");
-        assert_eq!(rt;
-            slot(&block, &LEAF, number % 812),
-            Err(fault),
-            "byte {at}: {value}"
-        );
-        assert_eq!(rt;
-            slot(&block, &LEAF, 406),
-            Ok(Mapping::Zero),
+        assert!(rt; is_refused(&block, fault), "byte {at}: {value}");
+        assert_eq!(rt; head_after(&block), LEAF);
+        assert!(rt; is_slot(&block, number, Err(fault)), "byte {at}: {value}");
+        assert!(rt;
+            is_slot(&block, 406, Ok(Mapping::Zero)),
             "byte {at}: {value}"
         );
     }
@@ -202,26 +199,26 @@ fn the_least_slot_is_named(rt: HostRuntime) {
         let mut block = leaf();
         block.bytes[51] = third;
         block.bytes[71] = seventh;
-        let mut into = blank();
-        assert_eq!(rt;
-            decode(&block, &LEAF, &mut into),
-            Err(fault),
-            "{third} {seventh}"
-        );
+        assert!(rt; is_refused(&block, fault), "{third} {seventh}");
         assert!(rt; slot(&block, &LEAF, 7).is_err(), "{third} {seventh}");
-        assert_eq!(rt; slot(&block, &LEAF, 5), Ok(mapping(5)), "{third} {seventh}");
+        assert!(rt; is_slot(&block, 5, Ok(mapping(5))), "{third} {seventh}");
     }
 }
 
 #[test]
-fn zeros_only_in_a_leaf(rt: HostRuntime) {
+fn no_zeros_in_a_root(rt: HostRuntime) {
     let block = spelled(ROOT, all_mappings());
     let mut into = blank();
     assert_eq!(rt; decode(&block, &ROOT, &mut into), Err(OutOfRange(1)));
     assert_eq!(rt; slot(&block, &ROOT, 0), Ok(Mapping::At(Pbn(86))));
+}
+
+#[test]
+fn links_of_a_root(rt: HostRuntime) {
     let mut mappings = Mappings::new();
     mappings.set(811, Mapping::At(Pbn(148)));
     let links = spelled(ROOT, mappings);
+    let mut into = blank();
     assert_eq!(rt; decode(&links, &ROOT, &mut into), Ok(()));
     assert_eq!(rt; into.mappings.get(811), Mapping::At(Pbn(148)));
     assert_eq!(rt; into.mappings.get(0), Mapping::Unmapped);
@@ -231,10 +228,14 @@ fn zeros_only_in_a_leaf(rt: HostRuntime) {
 #[test]
 fn a_torn_page(rt: HostRuntime) {
     let block = with_sector_0(leaf(), &spelled(LEAF, Mappings::new()));
-    assert_eq!(rt; slot(&block, &LEAF, 90), Ok(Mapping::Unmapped));
-    assert_eq!(rt; slot(&block, &LEAF, 95), Err(OutOfRange(95)));
-    assert_eq!(rt; slot(&block, &LEAF, 96), Ok(Mapping::Zero));
-    assert_eq!(rt; slot(&block, &LEAF, 405), Ok(Mapping::At(Pbn(119))));
+    for (number, want) in [
+        (90, Ok(Mapping::Unmapped)),
+        (95, Err(OutOfRange(95))),
+        (96, Ok(Mapping::Zero)),
+        (405, Ok(Mapping::At(Pbn(119)))),
+    ] {
+        assert!(rt; is_slot(&block, number, want), "slot {number}");
+    }
 }
 
 #[test]
@@ -245,7 +246,7 @@ fn texts(rt: HostRuntime) -> Result<(), Fail> {
         (OutOfRange(811), "slot 811 out of range"),
     ];
     for (fault, text) in faults {
-        assert_eq!(rt; format!(in rt.alloc(); "{fault}")?.as_str(), text);
+        assert!(rt; is_shown_as(&rt, &fault, text)?, "{text}");
     }
     Ok(())
 }

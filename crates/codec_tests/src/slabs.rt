@@ -1,3 +1,4 @@
+use crate::shared::{stands_at, weighed};
 use blk_base::{Block, Point};
 use slab_codec::{
     COUNTERS, CounterPlace, ReferenceBlock, ReferenceSector, SlabEntries, SlabEntry,
@@ -7,19 +8,6 @@ use slab_codec::{
 
 // The bytes of these tests were computed from the tables of `slab_codec` by a program of another language.
 const NONCE: u64 = 0x1122_3344_5566_7788;
-
-// The bytes, each times its place from 1 on: a byte that is another or elsewhere changes the sum.
-fn weighed(block: &Block) -> u64 {
-    let mut sum: u64 = 0;
-    for (i, byte) in block.bytes.iter().enumerate() {
-        sum = sum.wrapping_add((i as u64).wrapping_add(1).wrapping_mul(u64::from(*byte)));
-    }
-    sum
-}
-
-fn stands_at(block: &Block, at: usize, want: &[u8]) -> bool {
-    at <= 4096 && block.bytes[at..].starts_with(want)
-}
 
 fn old_block() -> Block {
     let mut block = Block::zero();
@@ -51,10 +39,15 @@ fn all_counted() -> ReferenceBlock {
     block
 }
 
-#[test]
-fn counters_are_spelled_and_read_back(rt: HostRuntime) {
+fn spelled_counters() -> Block {
     let mut block = old_block();
     encode_reference(&all_counted(), &mut block);
+    block
+}
+
+#[test]
+fn counters_are_spelled(rt: HostRuntime) {
+    let block = spelled_counters();
     assert_eq!(rt; weighed(&block), 1_035_179_652);
     for (at, want) in [
         (0, b"\x00\x07\x06\x05\x04\x03\x02\x01\x00\x03\x06\x09"),
@@ -63,6 +56,11 @@ fn counters_are_spelled_and_read_back(rt: HostRuntime) {
     ] {
         assert!(rt; stands_at(&block, at, want), "at {at}");
     }
+}
+
+#[test]
+fn counters_are_read_back(rt: HostRuntime) {
+    let block = spelled_counters();
     for j in 0..8 {
         assert_eq!(rt; reference_sector(&block, j), counted(j), "sector {j}");
     }
@@ -169,21 +167,19 @@ fn the_greatest_numbers(rt: HostRuntime) {
     assert_eq!(rt; sector.entries.len(), 2);
 }
 
+fn is_read_as(block: &Block, number: u16, want: &SlabEntries<40>) -> bool {
+    match slab_sector(block, number, NONCE, 7, 400) {
+        Some(sector) => sector.sequence == 5 && sector.entries.as_slice() == want.as_slice(),
+        None => false,
+    }
+}
+
 #[test]
 fn sectors_are_read_back(rt: HostRuntime) {
     for (count, in_1, in_7) in [(42, 2, 0), (320, 40, 40)] {
         let block = spelled(5, 7, entries(0, count));
-        let second = slab_sector(&block, 1, NONCE, 7, 400).expect(&rt, "a sector");
-        assert_eq!(rt; second.sequence, 5);
-        assert_eq!(rt;
-            second.entries.as_slice(),
-            entries::<40>(40, in_1).as_slice()
-        );
-        let last = slab_sector(&block, 7, NONCE, 7, 400).expect(&rt, "a sector");
-        assert_eq!(rt;
-            last.entries.as_slice(),
-            entries::<40>(280, in_7).as_slice()
-        );
+        assert!(rt; is_read_as(&block, 1, &entries(40, in_1)));
+        assert!(rt; is_read_as(&block, 7, &entries(280, in_7)));
         assert!(rt; slab_sector(&block, 1, NONCE - 1, 7, 400).is_none());
         assert!(rt; slab_sector(&block, 1, NONCE, 6, 400).is_none());
         assert!(rt; slab_sector(&block, 8, NONCE, 7, 400).is_none());

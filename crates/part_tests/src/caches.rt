@@ -124,36 +124,38 @@ fn answer(cache: &mut Cache, act: Act) -> Option<u64> {
 
 // A page that is changed again while it is being written keeps both points. No page is given up while it is dirty or
 // being written, and none while a frame is empty.
+const CALLS: [(Act, Option<u64>); 24] = [
+    (Act::LowPoint, None),
+    (Act::Install(1), Some(1)),
+    (Act::Set(1, 811, 90, 7), Some(0)),
+    (Act::Set(1, 0, 91, 5), Some(0)),
+    (Act::LowPoint, Some(5)),
+    (Act::TakeExpired(4), None),
+    (Act::TakeExpired(5), Some(1)),
+    (Act::Set(1, 0, 92, 8), Some(0)),
+    (Act::TakeExpired(9), None),
+    (Act::LowPoint, Some(5)),
+    (Act::Written(1), Some(0)),
+    (Act::LowPoint, Some(8)),
+    (Act::Block(1, 0), Some(92)),
+    (Act::Block(1, 811), Some(90)),
+    (Act::Install(2), Some(1)),
+    (Act::Set(2, 2, 93, 9), Some(0)),
+    (Act::Install(3), Some(0)),
+    (Act::TakeExpired(9), Some(1)),
+    (Act::Install(3), Some(0)),
+    (Act::Written(1), Some(0)),
+    (Act::Install(3), Some(1)),
+    (Act::Block(1, 0), None),
+    (Act::Block(2, 2), Some(93)),
+    (Act::Block(3, 2), Some(0)),
+];
+
 #[test]
 fn calls_and_their_answers(rt: HostRuntime) -> Result<(), Fail> {
     let mut cache = Cache::new(rt.alloc(), 2)?;
-    for (act, want) in [
-        (Act::LowPoint, None),
-        (Act::Install(1), Some(1)),
-        (Act::Set(1, 811, 90, 7), Some(0)),
-        (Act::Set(1, 0, 91, 5), Some(0)),
-        (Act::LowPoint, Some(5)),
-        (Act::TakeExpired(4), None),
-        (Act::TakeExpired(5), Some(1)),
-        (Act::Set(1, 0, 92, 8), Some(0)),
-        (Act::TakeExpired(9), None),
-        (Act::LowPoint, Some(5)),
-        (Act::Written(1), Some(0)),
-        (Act::LowPoint, Some(8)),
-        (Act::Block(1, 0), Some(92)),
-        (Act::Block(1, 811), Some(90)),
-        (Act::Install(2), Some(1)),
-        (Act::Set(2, 2, 93, 9), Some(0)),
-        (Act::Install(3), Some(0)),
-        (Act::TakeExpired(9), Some(1)),
-        (Act::Install(3), Some(0)),
-        (Act::Written(1), Some(0)),
-        (Act::Install(3), Some(1)),
-        (Act::Block(1, 0), None),
-        (Act::Block(2, 2), Some(93)),
-        (Act::Block(3, 2), Some(0)),
-    ] {
-        assert_eq!(rt; answer(&mut cache, act), want);
+    for &(act, want) in &CALLS {
+        assert!(rt; answer(&mut cache, act) == want);
     }
     Ok(())
 }

@@ -17,21 +17,22 @@ const SECOND: Writer = Writer {
 #[test]
 fn flushes_wait_for_older_writes(rt: HostRuntime) -> Result<(), Fail> {
     let mut gate = Gate::new(rt.alloc(), 2)?;
-    assert_eq!(rt; gate.complete(), None);
+    let nothing = gate.complete();
     let before = gate.answered();
     let first = gate.begin(FIRST);
     let between = gate.answered();
     let second = gate.begin(SECOND);
     let after = gate.answered();
-    assert_eq!(rt; [before, first, between, second, after], [0, 1, 1, 2, 2]);
     gate.done(after);
     gate.done(between);
-    assert!(rt; !gate.older_done(first));
-    assert_eq!(rt; gate.complete(), None);
+    let first_early = gate.older_done(first);
+    let early = gate.complete();
     gate.done(before);
-    assert!(rt; gate.older_done(second));
-    assert_eq!(rt; gate.complete(), Some(FIRST));
-    assert_eq!(rt; gate.complete(), Some(SECOND));
-    assert_eq!(rt; gate.complete(), None);
+    let second_late = gate.older_done(second);
+    let completed = [gate.complete(), gate.complete(), gate.complete()];
+    assert_eq!(rt; [before, first, between, second, after], [0, 1, 1, 2, 2]);
+    assert!(rt; !first_early && second_late);
+    assert!(rt; nothing.is_none() && early.is_none());
+    assert!(rt; completed == [Some(FIRST), Some(SECOND), None]);
     Ok(())
 }

@@ -24,17 +24,14 @@ fn the_greatest_total(rt: HostRuntime) {
 fn the_only_free_place_is_last(rt: HostRuntime) {
     let mut counters = [0; 200];
     let mut claims = [0; 200];
-    assert_eq!(rt; first_free(&counters[..0], &claims[..0]), None);
+    assert!(rt; first_free(&counters[..0], &claims[..0]).is_none());
     for at in 0..200_usize {
-        assert_eq!(rt;
-            first_free(&counters[..at + 1], &claims[..at + 1]),
-            Some(at)
-        );
+        assert!(rt; first_free(&counters[..at + 1], &claims[..at + 1]) == Some(at));
         if at % 2 == 0 {
             counters[at] = 1;
         } else {
             claims[at] = 1;
         }
-        assert_eq!(rt; first_free(&counters[..at + 1], &claims[..at + 1]), None);
+        assert!(rt; first_free(&counters[..at + 1], &claims[..at + 1]).is_none());
     }
 }

@@ -5,19 +5,22 @@ use zone_queues::{Lane, Lanes, Ports};
 #[test]
 fn from_zone_to_zone(rt: HostRuntime) -> Result<(), Fail> {
     let mut lanes = Lanes::new(rt.alloc(), &[2, 3])?;
-    assert_eq!(rt; lanes.take(1), None);
-    assert!(rt; !lanes.move_all(0, 1));
+    let at_first = lanes.take(1);
+    let none_moved = lanes.move_all(0, 1);
     lanes.post(0, 1, 'a');
     lanes.post(1, 1, 'b');
     lanes.post(0, 1, 'c');
-    assert!(rt; lanes.move_all(1, 1));
-    assert!(rt; lanes.move_all(0, 1));
-    assert!(rt; !lanes.move_all(0, 1));
-    assert_eq!(rt; lanes.take(0), None);
-    assert_eq!(rt; lanes.take(1), Some('b'));
-    assert_eq!(rt; lanes.take(1), Some('a'));
-    assert_eq!(rt; lanes.take(1), Some('c'));
-    assert_eq!(rt; lanes.take(1), None);
+    let moved = [
+        lanes.move_all(1, 1),
+        lanes.move_all(0, 1),
+        lanes.move_all(0, 1),
+    ];
+    let elsewhere = lanes.take(0);
+    let taken = [lanes.take(1), lanes.take(1), lanes.take(1), lanes.take(1)];
+    assert!(rt; at_first.is_none() && !none_moved);
+    assert!(rt; moved == [true, true, false]);
+    assert!(rt; elsewhere.is_none());
+    assert!(rt; taken == [Some('b'), Some('a'), Some('c'), None]);
     Ok(())
 }
 
@@ -31,9 +34,13 @@ fn a_batch_changes_hands(rt: HostRuntime) -> Result<(), Fail> {
     receiver.keep('z');
     let mut batch = sender.exchange(1, Lane::new(rt.alloc(), 2)?);
     receiver.receive(&mut batch);
+    let taken = [
+        receiver.take(),
+        receiver.take(),
+        receiver.take(),
+        receiver.take(),
+    ];
     assert!(rt; batch.is_empty());
-    for want in [Some('z'), Some('a'), Some('b'), None] {
-        assert_eq!(rt; receiver.take(), want);
-    }
+    assert!(rt; taken == [Some('z'), Some('a'), Some('b'), None]);
     Ok(())
 }

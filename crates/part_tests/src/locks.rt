@@ -7,16 +7,28 @@ use std::test::Fail;
 fn first_come_first_served(rt: HostRuntime) -> Result<(), Fail> {
     let mut locks = Locks::new(rt.alloc(), 5)?;
     let (one, other) = (Lba(7), Lba(8));
-    assert_eq!(rt; locks.ask(one, 'a'), (0, Some('a')));
-    assert_eq!(rt; locks.ask(one, 'b'), (1, None));
-    assert_eq!(rt; locks.ask(other, 'c'), (2, Some('c')));
-    assert_eq!(rt; locks.ask(other, 'd'), (3, None));
-    assert_eq!(rt; locks.ask(one, 'e'), (4, None));
-    assert_eq!(rt; locks.release(one), Some('b'));
-    assert_eq!(rt; locks.release(one), Some('e'));
-    assert_eq!(rt; locks.release(one), None);
-    assert_eq!(rt; locks.release(other), Some('d'));
-    assert_eq!(rt; locks.release(other), None);
-    assert_eq!(rt; locks.release(other), None);
+    let asked = [
+        locks.ask(one, 'a'),
+        locks.ask(one, 'b'),
+        locks.ask(other, 'c'),
+        locks.ask(other, 'd'),
+        locks.ask(one, 'e'),
+    ];
+    let of_one = [locks.release(one), locks.release(one), locks.release(one)];
+    let of_other = [
+        locks.release(other),
+        locks.release(other),
+        locks.release(other),
+    ];
+    let places = [
+        (0, Some('a')),
+        (1, None),
+        (2, Some('c')),
+        (3, None),
+        (4, None),
+    ];
+    assert!(rt; asked == places);
+    assert!(rt; of_one == [Some('b'), Some('e'), None]);
+    assert!(rt; of_other == [Some('d'), None, None]);
     Ok(())
 }

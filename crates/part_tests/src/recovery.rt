@@ -93,19 +93,23 @@ fn seals_none(journal: &mut Journal) -> bool
 #[test]
 fn a_full_ring_waits_for_the_head(rt: HostRuntime) -> Result<(), Fail> {
     let mut journal = Journal::new(rt.alloc(), &SMALL, 1, 1)?;
-    assert_eq!(rt; add(&mut journal, 1), Some((1, 0)));
-    assert_eq!(rt; write(&mut journal, 2), Some((1, 1, 1)));
-    assert_eq!(rt; hand_out(&mut journal), Some((entry(1), 512)));
-    assert_eq!(rt; reap(&mut journal, 0, u64::MAX), 1024);
+    let added = add(&mut journal, 1);
+    let written = write(&mut journal, 2);
+    let handed_out = hand_out(&mut journal);
+    let reaped = reap(&mut journal, 0, u64::MAX);
     for number in 3..9 {
         let _ = write(&mut journal, number);
     }
-    assert_eq!(rt; write(&mut journal, 9), Some((8, 2, 1)));
-    assert_eq!(rt; add(&mut journal, 9), None);
-    assert_eq!(rt; hand_out(&mut journal), Some((entry(2), 1024)));
-    assert_eq!(rt; reap(&mut journal, 0, u64::MAX), 1536);
-    assert_eq!(rt; journal.head(), 3);
-    assert_eq!(rt; add(&mut journal, 9), Some((9, 0)));
+    let last_written = write(&mut journal, 9);
+    let refused = add(&mut journal, 9);
+    let handed_out_next = hand_out(&mut journal);
+    let reaped_next = reap(&mut journal, 0, u64::MAX);
+    let head = journal.head();
+    let added_then = add(&mut journal, 9);
+    assert!(rt; [added, refused, added_then] == [Some((1, 0)), None, Some((9, 0))]);
+    assert!(rt; [written, last_written] == [Some((1, 1, 1)), Some((8, 2, 1))]);
+    assert!(rt; handed_out == Some((entry(1), 512)) && handed_out_next == Some((entry(2), 1024)));
+    assert_eq!(rt; [reaped, reaped_next, head], [1024, 1536, 3]);
     no_needed_block_is_overwritten();
     Ok(())
 }

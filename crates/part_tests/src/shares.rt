@@ -46,30 +46,21 @@ fn agents_waiters_and_others(rt: HostRuntime) -> Result<(), Fail> {
     let mut locks = HashLocks::new(rt.alloc(), 5)?;
     let one = Name::new([1; 16]);
     let other = Name::new([2; 16]);
-    assert_eq!(rt;
+    let arrived = [
         told(locks.arrive(&one, block_with(rt.alloc(), 1, 7)?)),
-        ('a', 1)
-    );
-    assert_eq!(rt;
         told(locks.arrive(&one, block_with(rt.alloc(), 2, 7)?)),
-        ('w', 0)
-    );
-    assert_eq!(rt;
         told(locks.arrive(&one, block_with(rt.alloc(), 3, 8)?)),
-        ('n', 3)
-    );
-    assert_eq!(rt;
         told(locks.arrive(&other, block_with(rt.alloc(), 4, 8)?)),
-        ('a', 4)
-    );
-    assert_eq!(rt;
         told(locks.arrive(&one, block_with(rt.alloc(), 5, 7)?)),
-        ('w', 0)
-    );
-    assert_eq!(rt; mark_of(locks.settle(&one)), Some(2));
-    assert_eq!(rt; mark_of(locks.roll_over(&one)), Some(5));
-    assert_eq!(rt; mark_of(locks.settle(&one)), None);
-    assert_eq!(rt; mark_of(locks.roll_over(&one)), None);
-    assert_eq!(rt; mark_of(locks.roll_over(&one)), None);
+    ];
+    let left = [
+        mark_of(locks.settle(&one)),
+        mark_of(locks.roll_over(&one)),
+        mark_of(locks.settle(&one)),
+        mark_of(locks.roll_over(&one)),
+        mark_of(locks.roll_over(&one)),
+    ];
+    assert!(rt; arrived == [('a', 1), ('w', 0), ('n', 3), ('a', 4), ('w', 0)]);
+    assert!(rt; left == [Some(2), Some(5), None, None, None]);
     Ok(())
 }

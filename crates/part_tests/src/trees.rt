@@ -55,14 +55,14 @@ fn blank_page() -> MapPage {
     }
 }
 
-// The tree has what the list of links says.
-fn is_like(rt: &impl Abort, tree: &TreeNodes, plain: &Plain, at: Lba)
+// Whether the tree has what the list of links says.
+fn is_like(tree: &TreeNodes, plain: &Plain, at: Lba) -> bool
     requires sizes { tree.now.geometry ≡ GEOMETRY }
     requires inside { at.0 < GEOMETRY.logical }
 {
-    assert_eq!(rt; tree.find(&path(at, GEOMETRY.height)), plain.find(at, 3));
-    assert_eq!(rt; tree.at(page_at(at, 0)), plain.at(page_at(at, 0)));
-    assert_eq!(rt; tree.low_point(), plain.low_point());
+    tree.find(&path(at, GEOMETRY.height)) == plain.find(at, 3)
+        && tree.at(page_at(at, 0)) == plain.at(page_at(at, 0))
+        && tree.low_point() == plain.low_point()
 }
 
 // Links the highest page that the path misses.
@@ -100,7 +100,7 @@ fn write_one(rt: &impl Abort, tree: &mut TreeNodes, plain: &mut Plain, limit: Po
 {
     let mut into = blank_page();
     let taken = tree.take_expired(limit, &mut into);
-    assert_eq!(rt; taken, plain.take_expired(limit));
+    assert!(rt; taken == plain.take_expired(limit));
     if let Some(page) = taken {
         tree.written(page);
         plain.written(page);
@@ -124,18 +124,18 @@ fn cycle(
     ensures sizes { tree.new.geometry ≡ GEOMETRY }
 {
     link_next(tree, plain, one, Pbn(one.0 / 7), Point(limit.0 ^ 3))?;
-    is_like(rt, tree, plain, one);
+    assert!(rt; is_like(tree, plain, one));
     let mut into = blank_page();
     let taken = tree.take_expired(limit, &mut into);
-    assert_eq!(rt; taken, plain.take_expired(limit));
+    assert!(rt; taken == plain.take_expired(limit));
     let Some(page) = taken else {
         return Ok(());
     };
-    assert!(rt; into.head.page == page);
-    assert_eq!(rt; count_links(&into.mappings), plain.count_below(page));
+    let links = count_links(&into.mappings);
+    assert!(rt; into.head.page == page && links == plain.count_below(page));
     link_next(tree, plain, other, Pbn(other.0 / 7), Point(limit.0 ^ 12))?;
     write_one(rt, tree, plain, limit);
-    is_like(rt, tree, plain, other);
+    assert!(rt; is_like(tree, plain, other));
     tree.written(page);
     plain.written(page);
     Ok(())
@@ -216,17 +216,21 @@ fn small_tree(alloc: Global) -> Result<TreeNodes, AllocError>
 #[test]
 fn opened_pages_lead_on(rt: HostRuntime) -> Result<(), Fail> {
     let mut tree = small_tree(rt.alloc())?;
-    assert_eq!(rt; tree.find(&path(Lba(243_600), 3)), Found::Leaf(Pbn(91)));
-    assert_eq!(rt; tree.find(&path(Lba(0), 3)), Found::Missing(0));
-    assert_eq!(rt; tree.find(&path(Lba(812), 3)), Found::Missing(1));
-    assert_eq!(rt; tree.at(page_at(Lba(812), 2)), Some(Pbn(10)));
-    assert_eq!(rt; tree.at(page_at(Lba(812), 1)), None);
-    assert_eq!(rt; tree.low_point(), None);
+    let found = [
+        tree.find(&path(Lba(243_600), 3)),
+        tree.find(&path(Lba(0), 3)),
+        tree.find(&path(Lba(812), 3)),
+    ];
+    let stand = [tree.at(page_at(Lba(812), 2)), tree.at(page_at(Lba(812), 1))];
+    let clean = tree.low_point();
     let mut plain = Plain::new(rt.alloc(), &GEOMETRY);
     link_next(&mut tree, &mut plain, Lba(812), Pbn(92), Point(8))?;
     link_next(&mut tree, &mut plain, Lba(812), Pbn(93), Point(6))?;
-    assert_eq!(rt; tree.find(&path(Lba(812), 3)), Found::Leaf(Pbn(93)));
-    assert_eq!(rt; tree.low_point(), Some(Point(6)));
+    let linked = tree.find(&path(Lba(812), 3));
+    assert!(rt; found == [Found::Leaf(Pbn(91)), Found::Missing(0), Found::Missing(1)]);
+    assert!(rt; stand == [Some(Pbn(10)), None]);
+    assert!(rt; linked == Found::Leaf(Pbn(93)));
+    assert!(rt; [clean, tree.low_point()] == [None, Some(Point(6))]);
     Ok(())
 }
 
@@ -236,16 +240,16 @@ fn a_changed_page_is_written(rt: HostRuntime) -> Result<(), Fail> {
     let mut plain = Plain::new(rt.alloc(), &GEOMETRY);
     link_next(&mut tree, &mut plain, Lba(0), Pbn(92), Point(8))?;
     let mut into = blank_page();
-    assert_eq!(rt; tree.take_expired(Point(7), &mut into), None);
+    let early = tree.take_expired(Point(7), &mut into);
     let Some(page) = tree.take_expired(Point(8), &mut into) else {
         return Err(Fail::new("no page is due"));
     };
-    assert_eq!(rt; page, page_at(Lba(0), 1));
-    assert_eq!(rt; into.head.at, Pbn(90));
-    assert_eq!(rt; into.mappings.get(0), Mapping::At(Pbn(92)));
-    assert_eq!(rt; into.mappings.get(5), Mapping::At(Pbn(91)));
-    assert_eq!(rt; tree.low_point(), Some(Point(8)));
+    let low = tree.low_point();
     tree.written(page);
-    assert_eq!(rt; tree.low_point(), None);
+    let mappings = [into.mappings.get(0), into.mappings.get(5)];
+    assert!(rt; early.is_none() && page == page_at(Lba(0), 1));
+    assert!(rt; into.head.at == Pbn(90));
+    assert!(rt; mappings == [Mapping::At(Pbn(92)), Mapping::At(Pbn(91))]);
+    assert!(rt; [low, tree.low_point()] == [Some(Point(8)), None]);
     Ok(())
 }

@@ -78,21 +78,25 @@ fn seals_none(journal: &mut SlabJournal) -> bool
 #[test]
 fn a_slot_waits_for_its_sectors(rt: HostRuntime) -> Result<(), Fail> {
     let mut journal = SlabJournal::new(rt.alloc(), &SMALL, 0)?;
-    assert_eq!(rt; write(&mut journal), None);
-    assert!(rt; add(&mut journal, 512, 503));
-    assert!(rt; add(&mut journal, 513, 504));
-    assert_eq!(rt; write(&mut journal), Some((1, 2, 1025, 1007)));
-    assert!(rt; add(&mut journal, 514, 999));
-    assert_eq!(rt; write(&mut journal), Some((2, 1, 514, 999)));
-    assert!(rt; add(&mut journal, 600, 0));
-    assert!(rt; !journal.may_overwrite());
-    assert_eq!(rt; write(&mut journal), None);
+    let of_nothing = write(&mut journal);
+    let added = add(&mut journal, 512, 503) && add(&mut journal, 513, 504);
+    let first = write(&mut journal);
+    let added_next = add(&mut journal, 514, 999);
+    let second = write(&mut journal);
+    let added_last = add(&mut journal, 600, 0);
+    let at_once = journal.may_overwrite();
+    let too_early = write(&mut journal);
     journal.reference_durable(0, Point(512));
     journal.reference_durable(1, Point(512));
-    assert!(rt; !journal.may_overwrite());
+    let half_covered = journal.may_overwrite();
     journal.reference_durable(1, Point(513));
-    assert!(rt; journal.may_overwrite());
-    assert_eq!(rt; write(&mut journal), Some((3, 1, 600, 0)));
+    let covered = journal.may_overwrite();
+    let third = write(&mut journal);
+    assert!(rt; added && added_next && added_last);
+    assert!(rt; of_nothing.is_none() && too_early.is_none());
+    assert!(rt; first == Some((1, 2, 1025, 1007)) && second == Some((2, 1, 514, 999)));
+    assert!(rt; third == Some((3, 1, 600, 0)));
+    assert!(rt; [at_once, half_covered, covered] == [false, false, true]);
     Ok(())
 }
 

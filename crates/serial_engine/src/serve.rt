@@ -72,23 +72,18 @@ pub(crate) fn serve_write<D: Disk>(
         at,
         block,
     );
-    let (answer, mark) = match written {
+    let (answer, mark, stopped) = match written {
         Written::Stored(target) => {
             let new = Mapping::At(target);
             add(&mut session.entries, Entry::Remap { at, old, new });
             session.made += STORED_CALLS;
-            (Answer::Ok, Mark::Settled)
+            (Answer::Ok, Mark::Settled, false)
         }
-        Written::NoRoom => (Answer::Full, Mark::Refused),
-        Written::DataLost(_) => {
-            session.stopped = true;
-            (Answer::Stopped, Mark::Refused)
-        }
-        Written::EntryLost(_) => {
-            session.stopped = true;
-            (Answer::Stopped, Mark::Unsettled)
-        }
+        Written::NoRoom => (Answer::Full, Mark::Refused, false),
+        Written::DataLost(_) => (Answer::Stopped, Mark::Refused, true),
+        Written::EntryLost(_) => (Answer::Stopped, Mark::Unsettled, true),
     };
+    session.stopped = stopped;
     add(&mut session.histories, HistoryEntry { at, request, mark });
     add(&mut session.desk, DeskLine::Answer { request, answer });
     Some(written)

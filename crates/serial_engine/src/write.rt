@@ -12,7 +12,7 @@ use image_layout::mapping_at;
 use journal_codec::{Entries, JournalBlock, encode};
 
 /// How a write went.
-#[derive(Clone, Copy, Debug, PartialEq, Eq)]
+#[derive(Clone, Copy)]
 pub enum Written {
     /// The block stands in this data block, and its entry in the journal.
     Stored(Pbn),
@@ -78,7 +78,8 @@ pub(crate) fn write<D: Disk>(
         new: Mapping::At(target),
     };
     let journal = journal_block(layout.geometry.nonce, sequence, start, entry);
-    let Ok(()) = store(device, layout.journal_slot(sequence), &journal) else {
+    let slot = layout.journal_slot(sequence);
+    let Ok(()) = store(device, slot, &journal) else {
         return Written::EntryLost(target);
     };
     Written::Stored(target)

@@ -1,5 +1,5 @@
 -- The requests that a line can ask for.
-use Rattle.std.specs.Prelude.{ℕ, ◌≡◌, ◌<◌, Bool, true, false, if◌then◌else◌, List, [], ◌∷◌, ◌++◌, length, Option, Some, None, refl}
+use Rattle.std.specs.Prelude.{ℕ, ◌≡◌, ◌≢◌, ◌<◌, Bool, true, false, if◌then◌else◌, List, [], ◌∷◌, ◌++◌, length, Option, Some, None, refl}
 use Rattle.std.specs.List.{AllByRecursion}
 use Rattle.std.specs.Str.Parse.{digits_value}
 use Rattle.std.proofs.Common.{subst, arith}
@@ -71,4 +71,15 @@ next_line logical requests line request new_requests new_line reading few servab
       servable = all_and (IsServable logical) requests request reading.servable servable;
       short = omega arith;
       one_line = tt;
+    })
+
+-- the next byte of a line is read
+pub next_byte : (logical : ℕ) (requests : List Request) (line : List ℕ) (byte : ℕ) (new_line : List ℕ)
+    → IsReading logical requests line → byte ≢ 10 → length line < 64 → new_line ≡ line ++ byte ∷ [] → IsReading logical requests new_line
+next_byte logical requests line byte new_line reading other room more =
+    rw more (record {
+      few = reading.few;
+      servable = reading.servable;
+      short = simp length-append (omega arith);
+      one_line = all_and (λ (b : ℕ). b ≢ 10) line byte reading.one_line other;
     })

@@ -74,6 +74,13 @@ pub words_many : (logical : ℕ) (stream command address fill rest : List ℕ)
 words_many logical stream command address fill [] = refl
 words_many logical stream command address fill (byte ∷ rest) = words_if logical stream command address fill byte (byte == 32) (words_of rest)
 
+-- what a line of 64 bytes or fewer asks for
+pub short_line : (logical : ℕ) (line : List ℕ) (words : List (List ℕ)) → length line ≤ 64 → words_of line ≡ words
+    → request_of_words logical words ≡ request_of_line logical line
+short_line logical line words short same =
+    let within : nat_le (length line) 64 ≡ true = grind (arith, nat_tests) in
+    rw (within, same) refl
+
 pub words_refused : (logical : ℕ) (line stream command address fill rest rest2 rest3 rest4 : List ℕ)
     → words_of line ≡ stream ∷ words_of rest → words_of rest ≡ command ∷ words_of rest2
     → words_of rest2 ≡ address ∷ words_of rest3 → words_of rest3 ≡ fill ∷ words_of rest4

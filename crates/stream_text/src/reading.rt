@@ -110,6 +110,30 @@ impl Reading {
         Ok(())
     }
 
+    /// The bytes of the source until its end.
+    fn feed_all<S: Source>(&mut self, source: &mut S) -> Result<(), ReadScript>
+        ensures logical { self.new.logical ≡ self.old.logical }
+        ensures ok { IsTrue S.tells → OnOk result (
+            goes_on self.old.logical self.old.requests.items self.old.line.items (S.left source.old)
+            ≡ goes_on self.new.logical self.new.requests.items self.new.line.items []) }
+        ensures whole { IsTrue S.tells → OnOk result (S.left source.new ≡ []) }
+        ensures refused { IsTrue S.tells → IfErr result (λ fault.
+            Refuses fault (goes_on self.old.logical self.old.requests.items self.old.line.items (S.left source.old))) }
+        ensures read { IsErrOf result ReadScript.Read → Rose (S.faults source.old) (S.faults source.new) }
+        ensures later { S.faults source.old ≤ S.faults source.new }
+    {
+        let mut buffer = [0; 4096];
+        'pieces: loop {
+            let Ok(count) = source.take(&mut buffer) else {
+                return Err(ReadScript::Read);
+            };
+            if count == 0 {
+                return Ok(());
+            }
+            self.feed(&buffer[..count])?;
+        }
+    }
+
     /// The script has no more bytes.
     fn end(mut self) -> Result<Vec<Request>, ReadScript>
         ensures ok { IfOk result (λ row. goes_on self.logical self.requests.items self.line.items [] ≡ Ok row.items) }
@@ -145,16 +169,7 @@ pub fn read_script<S: Source>(
     ensures later { S.faults source.old ≤ S.faults source.new }
 {
     let mut reading = Reading::begin(alloc, logical);
-    let mut buffer = [0; 4096];
-    'pieces: loop {
-        let Ok(count) = source.take(&mut buffer) else {
-            return Err(ReadScript::Read);
-        };
-        if count == 0 {
-            break;
-        }
-        reading.feed(&buffer[..count])?;
-    }
+    reading.feed_all(source)?;
     let row = reading.end()?;
     match Requests::of_stream(alloc, row) {
         Ok(requests) => Ok(requests),

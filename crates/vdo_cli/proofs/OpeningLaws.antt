@@ -1,5 +1,5 @@
 -- What reading the superblock and the recovery journal says of the image.
-use Rattle.std.proofs.Common.{ℕ, suc, ◌≡◌, ◌<◌, ◌+◌, ◌++◌, Bool, true, false, IsTrue, List, [], ◌∷◌, length, take, drop, append_assoc, length-drop, Result, refl, sym, ◌∙◌, ap, inl, inr, arith}
+use Rattle.std.proofs.Common.{ℕ, suc, ◌≡◌, ◌<◌, ◌+◌, ◌++◌, Bool, true, false, IsTrue, List, [], ◌∷◌, length, take, drop, append_assoc, length-drop, Result, Err, refl, sym, ◌∙◌, ap, inl, inr, arith}
 use Rattle.std.proofs.Math.Seq.{take-suc}
 use Rattle.std.proofs.lemmas.Grind.{get_or_after_one}
 use Rattle.blk_base.specs.Sectors.{zero_block}
@@ -13,6 +13,7 @@ use Rattle.disk_model.specs.Telling.{FailedInLog}
 use Rattle.disk_model.proofs.ImageLaws.{block_of_mix, settled_are_contents}
 use Rattle.stop_laws.proofs.HistoryLaws.{successes_append}
 use Rattle.image_layout.specs.declared.fault.SuperFault.{SuperFault}
+use Rattle.image_layout.specs.declared.fault.SuperFault.TheVariants.{NotAnImage}
 use Rattle.image_layout.specs.Superblock.{super_of}
 use Rattle.serial_engine.specs.Served.{Seen}
 use Rattle.serial_engine.specs.Sessions.{SinceThen}
@@ -22,6 +23,11 @@ use Rattle.vdo_cli.specs.Openings.{HasRead, OnlyReads, IsUntouched, super_of_ima
 of_first : (image : Blocks) (says : Result Super SuperFault) → 0 < length image → super_of (block_at image 0) (length image) ≡ says → super_of_image image ≡ says
 of_first [] says some is = absurd (omega arith)
 of_first (block ∷ blocks) says some is = is
+
+-- a device without blocks has no superblock
+pub no_blocks : (opening : Blocks) (log : List Call) (image : Blocks) → length opening ≡ 0 → HasOneImage opening log image → super_of_image image ≡ Err NotAnImage
+no_blocks opening log [] none one = refl
+no_blocks opening log (block ∷ blocks) none one = absurd (omega (arith, one.size))
 
 -- a block that was read is that of the one image
 pub read_block : (opening : Blocks) (log : List Call) (image : Blocks) (at : ℕ) (block : List ℕ) → at < length opening → length block ≡ 4096

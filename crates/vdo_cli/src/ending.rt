@@ -94,7 +94,7 @@ fn put_script_fault<K: Sink>(fault: ScriptFault, out: &mut K) -> Result<(), Fail
 }
 
 /// Puts the line of a fault. Where the sink is the fault, nothing is put.
-pub(crate) fn put_fault<K: Sink>(fault: &Fault, out: &mut K) -> Result<(), Failed>
+pub fn put_fault<K: Sink>(fault: &Fault, out: &mut K) -> Result<(), Failed>
     ensures ok { IsTrue K.tells → OnOk result (K.holds out.new ≡ K.holds out.old ++ fault_text fault.now) }
     ensures err { IsTrue K.tells → OnErr result (PutsPart (K.holds out.old) (K.holds out.new) (fault_text fault.now)) }
     ensures cause { HasCause (K.faults out.old) (K.faults out.new) result }

@@ -10,13 +10,7 @@ mod running;
 mod words;
 
 pub use adapters::{StdSink, StdSource};
+pub use ending::put_fault;
 pub use fault::Fault;
 pub use running::{Ended, run};
 pub use words::Words;
-
-#[cfg(test)]
-mod stop_tests;
-#[cfg(test)]
-mod tests;
-#[cfg(test)]
-mod window_tests;

@@ -34,7 +34,8 @@ fn read_head<D: Disk>(device: &mut D) -> Result<Super, Fault>
     ensures opening { D.opening device.new ≡ D.opening device.old }
 {
     let blocks = device.blocks();
-    if blocks == 0 {
+    let is_empty = blocks == 0;
+    if is_empty {
         return Err(Fault::Image(ImageFault::Super(SuperFault::NotAnImage)));
     }
     let mut block = Block::zero();

@@ -106,7 +106,8 @@ pub fn run<R: Threads + Wait + Sync, D: Disk + Send + Drop, S: Source, K: Sink, 
         result.status result.report result.fault }
 {
     let alloc = words.allocator();
-    if !words.is_run() {
+    let is_run = words.is_run();
+    if !is_run {
         return refuse(alloc, Fault::Usage, device, out);
     }
     let mut device = device;

@@ -1,3 +1,4 @@
+use Rattle.std.proofs.lemmas.Grind.{common_steps}
 use Rattle.std.proofs.Common.{◌-◌, arith, ap, sym, ◌∙◌, not}
 use Rattle.disk_model.specs.Plans.{strikes, counted_down}
 use Rattle.disk_model.specs.declared.faults.FaultAt.{FaultAt}
@@ -13,3 +14,6 @@ loop-rest-preserved c =
           c.args.plan.now.items c.loop-rest.plan.items c.loop-rest.rest (c.loop-rest.rest - 1) c.index.result.now c.counted_down.result
           (omega arith) kept.within kept.so_far c.index.ensures (ap not (sym c.strikes.ensures ∙ c.if-strikes.false)) c.counted_down.ensures;
     }
+
+pub loop-rest-preserved-then-strikes : goal.loop-rest-preserved-then-strikes
+loop-rest-preserved-then-strikes c = grind (arith, common_steps)

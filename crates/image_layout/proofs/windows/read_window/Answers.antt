@@ -1,3 +1,4 @@
+use Rattle.std.proofs.lemmas.Grind.{common_steps}
 use Rattle.std.proofs.Common.{arith, reverse}
 use Rattle.std.proofs.lemmas.List.{length-reverse}
 use Rattle.image_layout.proofs.WindowLaws.{faulty_first, window_done, written_few}
@@ -24,3 +25,6 @@ returns-clause-few c =
     let size = length-reverse c.loop-k.entries.items in
     let length_is = c.loop-k.entries.ok in
     omega (arith, few, size, length_is)
+
+pub loop-k-preserved : goal.loop-k-preserved
+loop-k-preserved c = grind (arith, common_steps)

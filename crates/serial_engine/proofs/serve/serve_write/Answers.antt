@@ -3,7 +3,41 @@ use Rattle.serial_engine.proofs.serve.serve_write.Goals.{in-Stored, in-NoRoom, i
 use Rattle.serial_engine.proofs.serve.serve_write.Goals as goal
 
 pub returns-clause-done : goal.returns-clause-done
-returns-clause-done g c = elim c.match-written.branch [ in-Stored w ↦ search rules | in-NoRoom w ↦ search rules | in-DataLost w ↦ search rules | in-EntryLost w ↦ search rules ]
+returns-clause-done g c =
+    elim c.match-written.branch [
+      | in-Stored w ↦ search rules
+      | in-NoRoom w ↦ search rules
+      | in-DataLost w ↦
+          record {
+            serves = search rules;
+            later = search rules;
+            adds = record {
+              desk = search rules;
+              marks = search rules;
+              places = search rules;
+              drawn = search rules;
+              histories = search rules;
+              entries = search rules;
+              made = search rules;
+              stopped = search rules;
+            };
+          }
+      | in-EntryLost w ↦
+          record {
+            serves = search rules;
+            later = search rules;
+            adds = record {
+              desk = search rules;
+              marks = search rules;
+              places = search rules;
+              drawn = search rules;
+              histories = search rules;
+              entries = search rules;
+              made = search rules;
+              stopped = search rules;
+            };
+          }
+    ]
 
 pub returns-clause-count : goal.returns-clause-count
 returns-clause-count g c = elim c.match-written.branch [ in-Stored w ↦ search rules | in-NoRoom w ↦ search rules | in-DataLost w ↦ search rules | in-EntryLost w ↦ search rules ]

@@ -1,4 +1,4 @@
-use Rattle.std.proofs.Common.{refl, inl, arith}
+use Rattle.std.proofs.Common.{refl, inl, rules, arith}
 use Rattle.std.proofs.lemmas.List.{length-reverse}
 use Rattle.serial_engine.proofs.write.write.Goals as goal
 
@@ -7,3 +7,21 @@ returns-then-entries-layout-clause-serves g c = (refl, inl (omega (arith, length
 
 pub store-requires : goal.store-requires
 store-requires g c = omega (arith, c.in-Some.ensures.next.inside)
+
+pub returns-in_default-store-clause-serves : goal.returns-in_default-store-clause-serves
+returns-in_default-store-clause-serves g c = (
+  refl,
+  record { journal = omega (arith, length-reverse c.args.entries.now); block = c.in-Some.ensures.next },
+  c.journal_slot-slot.result,
+  simp length-reverse c.journal_slot-slot.ensures.block,
+  (search rules, λ tells. simp length-reverse (search rules)),
+)
+
+pub returns-clause-serves : goal.returns-clause-serves
+returns-clause-serves g c = (
+  refl,
+  record { journal = omega (arith, length-reverse c.args.entries.now); block = c.in-Some.ensures.next },
+  c.journal_slot-slot.result,
+  simp length-reverse c.journal_slot-slot.ensures.block,
+  λ tells. simp length-reverse (search rules),
+)

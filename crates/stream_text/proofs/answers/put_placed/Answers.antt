@@ -1,6 +1,6 @@
 use Rattle.std.proofs.Common.{◌++◌}
 use Rattle.std.specs.Prelude.{codes, decimal}
-use Rattle.stream_text.proofs.PutLaws.{on_err, second_failed, both_pieces, part_of_first, part_of_second}
+use Rattle.stream_text.proofs.PutLaws.{on_err, second_failed, second_put, both_pieces, part_of_first, part_of_second}
 use Rattle.stream_text.proofs.answers.put_placed.Goals as goal
 
 pub returns-in_err-put-clause-err : goal.returns-in_err-put-clause-err
@@ -34,3 +34,12 @@ returns-clause-err g c = λ tells.
     (both_pieces _ _ _ (codes " z" ++ zone) (codes ":")
     (both_pieces _ _ _ (codes " z") zone (c.in_ok-put.ensures.ok tells) (c.in_ok-put_number.ensures.ok tells)) (c.in_ok-put-2.ensures.ok tells))
     (c.put_number-2.ensures.err tells)
+
+pub returns-clause-ok : goal.returns-clause-ok
+returns-clause-ok g c = λ tells.
+    let zone = decimal c.args.placed.zone in
+    let place = decimal c.args.placed.place in
+    second_put c.put_number-2.result _ _ _ (codes " z" ++ zone ++ codes ":") place
+    (both_pieces _ _ _ (codes " z" ++ zone) (codes ":")
+    (both_pieces _ _ _ (codes " z") zone (c.in_ok-put.ensures.ok tells) (c.in_ok-put_number.ensures.ok tells)) (c.in_ok-put-2.ensures.ok tells))
+    (c.put_number-2.ensures.ok tells)

@@ -1,3 +1,4 @@
+use Rattle.std.proofs.Common.{rules}
 use Rattle.serial_engine.specs.Served.{seen}
 use Rattle.vdo_cli.proofs.OpeningLaws.{read_on, untouched_on}
 use Rattle.vdo_cli.proofs.WindowLaws.{fails_since, window_of_image, faulty_of_image, written_name_data}
@@ -25,6 +26,18 @@ returns-in-Ok-read_window-clause-names g c = written_name_data c.in-Ok.head.geom
 
 pub returns-in-Ok-read_window-clause-untouched : goal.returns-in-Ok-read_window-clause-untouched
 returns-in-Ok-read_window-clause-untouched g c = untouched_on _ _ _ _ c.read_head.ensures.untouched c.read_journal.ensures.untouched
+
+pub returns-in-Err-Faulty-clause-window : goal.returns-in-Err-Faulty-clause-window
+returns-in-Err-Faulty-clause-window g c = search rules
+
+pub returns-in-Err-Faulty-clause-made : goal.returns-in-Err-Faulty-clause-made
+returns-in-Err-Faulty-clause-made g c = search rules
+
+pub returns-in-Err-Faulty-clause-few_made : goal.returns-in-Err-Faulty-clause-few_made
+returns-in-Err-Faulty-clause-few_made g c = search rules
+
+pub returns-in-Err-Faulty-clause-names : goal.returns-in-Err-Faulty-clause-names
+returns-in-Err-Faulty-clause-names g c = search rules
 
 pub returns-in-Err-Faulty-clause-fault : goal.returns-in-Err-Faulty-clause-fault
 returns-in-Err-Faulty-clause-fault g c = rw c.in-Err-Faulty.field-0-is (

@@ -1,6 +1,10 @@
 use Rattle.std.proofs.Common.{◌≡◌, ◌∙◌, length, ap, sym, arith}
-use Rattle.vdo_cli.proofs.OpeningLaws.{first_says, one_read, read_since, failed_since}
+use Rattle.vdo_cli.proofs.OpeningLaws.{no_blocks, first_says, one_read, read_since, failed_since}
 use Rattle.vdo_cli.proofs.opening.read_head.Goals as goal
+
+pub returns-then-is_empty-clause-fault : goal.returns-then-is_empty-clause-fault
+returns-then-is_empty-clause-fault g c tells honest image one =
+    no_blocks _ _ image (omega (arith, c.blocks-blocks.ensures.told tells, c.blocks-blocks.ensures.size, c.if-is_empty.true)) one
 
 pub returns-in_default-clause-untouched : goal.returns-in_default-clause-untouched
 returns-in_default-clause-untouched g c = record {

@@ -11,6 +11,12 @@ returns-in-Err-Read-clause-fault g c = (c.in-Ok.opened.head, c.in-Ok.ensures.hea
 pub serve_requests-requires-clause-one_stream : goal.serve_requests-requires-clause-one_stream
 serve_requests-requires-clause-one_stream g c = rw c.in-Ok-read_script.ensures.shape.1 refl
 
+pub serve_requests-requires-clause-servable : goal.serve_requests-requires-clause-servable
+serve_requests-requires-clause-servable g c = search rules
+
+pub returns-in-Err-Script-clause-fault : goal.returns-in-Err-Script-clause-fault
+returns-in-Err-Script-clause-fault g c = search rules
+
 pub returns-in-Ok-serve_requests-clause-session : goal.returns-in-Ok-serve_requests-clause-session
 returns-in-Ok-serve_requests-clause-session g c =
     let disk = g.D.Disk in
@@ -33,3 +39,9 @@ returns-in-Ok-serve_requests-clause-session g c =
       happens = λ tells. happens c.in-Ok.opened.head _ _ _ _ _ _ (seen (disk.log c.args.device.now) (disk.faults c.args.device.now) (disk.unkept c.args.device.now)) _ _ served tells c.in-Ok.ensures.made
           c.in-Ok.ensures.head c.in-Ok.ensures.window;
     }
+
+pub returns-in-Ok-serve_requests-clause-fault : goal.returns-in-Ok-serve_requests-clause-fault
+returns-in-Ok-serve_requests-clause-fault g c = search rules
+
+pub returns-in-Ok-serve_requests-clause-untouched : goal.returns-in-Ok-serve_requests-clause-untouched
+returns-in-Ok-serve_requests-clause-untouched g c = search rules

@@ -1,4 +1,4 @@
-use crate::tests::{DEFAULT, fresh, puts};
+use crate::runs::{DEFAULT, fresh, puts};
 use blk_base::{Block, Layout};
 use disk_model::{Call, MemDisk};
 use image_layout::first_image;

@@ -1,6 +1,6 @@
 ghost use Rattle.std.specs.Prelude.{◌<◌};
 
-use crate::tests::{DEFAULT, Ran, fresh, puts, run_on};
+use crate::runs::{DEFAULT, Ran, fresh, puts, run_on};
 use blk_base::{Block, Layout, Pbn};
 use disk_model::{Call, MemDisk};
 use image_layout::first_image;
@@ -33,18 +33,24 @@ const FIRST_THIRD: &[u8] = b"0 0 read 1 4096*61 z0:0\n0 1 read 2 4096*63 z0:1\n"
 
 const SECOND_THIRD: &[u8] = b"0 0 read 1 4096*62 z0:0\n0 1 read 2 4096*63 z0:1\n";
 
-// Whether a stop after so many calls of the session may show this: the first flush is marked at the 5th call, the second
-// at the 14th.
+// What a stop may show, from the first of these counts of calls to the last: the first flush is marked at the 5th call, the
+// second at the 14th.
+const SHOWN: [(usize, usize, &[u8]); 5] = [
+    (0, 4, ZEROS_ZEROS),
+    (0, 13, FIRST_ZEROS),
+    (6, 13, SECOND_ZEROS),
+    (6, 13, FIRST_THIRD),
+    (6, 14, SECOND_THIRD),
+];
+
+// Whether a stop after so many calls of the session may show this.
 fn is_allowed(count: usize, text: &[u8]) -> bool {
-    if count < 5 {
-        text == ZEROS_ZEROS || text == FIRST_ZEROS
-    } else if count == 5 {
-        text == FIRST_ZEROS
-    } else if count < SESSION {
-        text == FIRST_ZEROS || text == SECOND_ZEROS || text == FIRST_THIRD || text == SECOND_THIRD
-    } else {
-        text == SECOND_THIRD
+    for (first, last, shown) in SHOWN {
+        if first <= count && count <= last && text == shown {
+            return true;
+        }
     }
+    false
 }
 
 // The blocks of a device with a fresh image after these calls, each of which worked whole.

@@ -1,4 +1,3 @@
-use crate::{Ended, Fault, Words, run};
 use blk_base::{Block, Geometry, Layout, Pbn, Super};
 use disk_model::{CallKind, FaultAt, MemDisk, MemSink, MemSource, OpenGate};
 use image_layout::{Field, ImageFault, SuperFault, first_image, write_super};
@@ -8,6 +7,7 @@ use std::sync::Wait;
 use std::test::Fail;
 use std::thread::Threads;
 use stream_text::ScriptFault;
+use vdo_cli::{Ended, Fault, Words, put_fault, run};
 
 pub(crate) const DEFAULT: Geometry = Geometry {
     logical: 1000,
@@ -333,9 +333,28 @@ fn changed(alloc: Global, at: usize, byte: u8) -> Result<MemDisk, AllocError> {
     MemDisk::from_blocks(alloc, blocks)
 }
 
+// These words are no command, and the device isn't looked at.
+fn is_usage<R: Threads + Wait + Sync + Abort>(
+    rt: &R,
+    alloc: Global,
+    row: &[&str],
+) -> Result<(), Fail> {
+    let mut words = Words::new(alloc);
+    for word in row {
+        words.push(word)?;
+    }
+    let mut source = MemSource::new(Vec::new(alloc), None);
+    let mut sink = MemSink::new(alloc, 100)?;
+    let device = fresh(alloc)?;
+    let ended = run(rt, &words, device, &mut source, &mut sink, &OpenGate);
+    assert_eq!(rt; sink.bytes(), b"usage\n".as_slice());
+    assert_eq!(rt; ended.status, 2);
+    assert_eq!(rt; ended.device.calls().len(), 0);
+    Ok(())
+}
+
 #[test]
 fn other_words(rt: HostRuntime) -> Result<(), Fail> {
-    let alloc = rt.alloc();
     let rows: [&[&str]; 5] = [
         &[],
         &["runs"],
@@ -344,24 +363,18 @@ fn other_words(rt: HostRuntime) -> Result<(), Fail> {
         &["run", "--threads"],
     ];
     for row in rows {
-        let mut words = Words::new(alloc);
-        for word in row {
-            words.push(word)?;
-        }
-        let mut source = MemSource::new(Vec::new(alloc), None);
-        let mut sink = MemSink::new(alloc, 100)?;
-        let ended = run(
-            &rt,
-            &words,
-            fresh(alloc)?,
-            &mut source,
-            &mut sink,
-            &OpenGate,
-        );
-        assert_eq!(rt; sink.bytes(), b"usage\n".as_slice());
-        assert_eq!(rt; ended.status, 2);
-        assert_eq!(rt; ended.device.calls().len(), 0);
+        is_usage(&rt, rt.alloc(), row)?;
     }
+    Ok(())
+}
+
+// The fault displays this text, and with a newline it is put.
+fn displays<R: Abort>(rt: &R, alloc: Global, fault: &Fault, text: &str) -> Result<(), Fail> {
+    assert_eq!(rt; format!(in alloc; "{fault}")?.as_str(), text);
+    let mut sink = MemSink::new(alloc, 100)?;
+    assert!(rt; put_fault(fault, &mut sink).is_ok());
+    let line = format!(in alloc; "{text}\n")?;
+    assert_eq!(rt; sink.bytes(), line.as_str().as_bytes());
     Ok(())
 }
 
@@ -396,13 +409,7 @@ fn faults_display_their_lines(rt: HostRuntime) -> Result<(), Fail> {
         (Fault::Read, "read fault"),
     ];
     for (fault, text) in &rows {
-        assert_eq!(rt; format!(in alloc; "{fault}")?.as_str(), *text);
-        let mut sink = MemSink::new(alloc, 100)?;
-        assert!(rt; crate::ending::put_fault(fault, &mut sink).is_ok());
-        assert_eq!(rt;
-            sink.bytes(),
-            format!(in alloc; "{text}\n")?.as_str().as_bytes()
-        );
+        displays(&rt, alloc, fault, text)?;
     }
     Ok(())
 }
