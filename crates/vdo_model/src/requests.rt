@@ -1,4 +1,4 @@
-ghost use Rattle.std.specs.Prelude.{◌≡◌, [], ◌∷◌, IfOk};
+ghost use Rattle.std.specs.Prelude.{◌≡◌, [], ◌∷◌, IfOk, length, map};
 ghost use Rattle.vdo_model.specs.Scripts.{stream_of};
 
 use blk_base::{Request, Writer};
@@ -37,6 +37,20 @@ impl Requests {
         let mut streams = Vec::with_capacity(alloc, 1)?;
         streams.push_reserved(requests);
         Ok(Requests { streams })
+    }
+
+    /// The requests of these streams.
+    pub fn of_streams(streams: Vec<Vec<Request>>) -> Requests
+        ensures { result ≡ map (λ requests. requests.items) streams.items }
+    {
+        Requests { streams }
+    }
+
+    /// How many streams there are.
+    pub fn count(&self) -> usize
+        ensures { result ≡ length self.now }
+    {
+        self.streams.len()
     }
 
     /// The requests of a stream, in order; none where the script has no such stream.

@@ -1,6 +1,6 @@
-ghost use Rattle.std.specs.Prelude.{◌≡◌, [], reverse};
+ghost use Rattle.std.specs.Prelude.{◌≡◌, [], ◌∷◌, OnOk, length, reverse};
 
-use std::alloc::Global;
+use std::alloc::{AllocError, Global};
 use std::marker::Model;
 
 /// A list that was written item after item. A contract sees the newest item first, so that what was so at an earlier
@@ -33,6 +33,21 @@ impl<T: Drop> Rows<T> {
         ensures { result ≡ reverse rows.items }
     {
         Rows { rows }
+    }
+
+    /// One more item, the newest.
+    pub fn push(&mut self, item: T) -> Result<(), AllocError>
+        ensures { OnOk result (self.new ≡ item ∷ self.old) }
+    {
+        self.rows.push(item)?;
+        Ok(())
+    }
+
+    /// How many items there are.
+    pub fn len(&self) -> usize
+        ensures { result ≡ length self.now }
+    {
+        self.rows.len()
     }
 
     /// The items, the oldest first.

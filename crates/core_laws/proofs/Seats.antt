@@ -1,0 +1,74 @@
+-- What a thread does with its own zone is a step of the core, though other zones went on meanwhile.
+use Rattle.std.proofs.Common.{◌≡◌, ℕ, zero, suc, Bool, true, false, List, [], ◌∷◌, ◌++◌, Some, slice_get, slice_set, nat_eq, refl, ap, sym, ◌∙◌, append_assoc}
+use Rattle.std.proofs.lemmas.Option.{same_Some}
+use Rattle.core_laws.specs.declared.items.Item.{Item}
+use Rattle.core_laws.specs.declared.sizes.Sizes.{Sizes}
+use Rattle.core_laws.specs.declared.zones.Zone.{Zone}
+use Rattle.core_laws.specs.Steps.{posted, sent_to, sent, delivered, ZoneStep, Core, StepOf}
+use Rattle.core_laws.specs.Trace.{Trace}
+use Rattle.core_laws.specs.Views.{behind, with_batches, zones_of, core_of}
+use Rattle.core_laws.specs.Vios.{Post}
+
+behind_posted : (batches : List (List Item)) (to : ℕ) (x : Item) (lanes : List (List Item)) → behind batches (posted to x lanes) ≡ posted to x (behind batches lanes)
+behind_posted [] to x lanes = refl
+behind_posted (b ∷ bs) to x [] = refl
+behind_posted (b ∷ bs) zero x (l ∷ ls) = ap (λ (lane : List Item). lane ∷ behind bs ls) (sym (append_assoc b l (x ∷ [])))
+behind_posted (b ∷ bs) (suc to) x (l ∷ ls) = ap (λ (lanes : List (List Item)). (b ++ l) ∷ lanes) (behind_posted bs to x ls)
+
+sent_behind : (batches : List (List Item)) (b : Bool) (p : Post) (z : Zone) → with_batches batches (sent_to b p z) ≡ sent_to b p (with_batches batches z)
+sent_behind batches true p z = refl
+sent_behind batches false p z = ap (λ (lanes : List (List Item)). record z { outboxes = lanes }) (behind_posted batches p.0 p.1 z.outboxes)
+
+delivered_behind : (batches : List (List Item)) (ps : List Post) (z : Zone) → with_batches batches (delivered ps z) ≡ delivered ps (with_batches batches z)
+delivered_behind batches [] z = refl
+delivered_behind batches (p ∷ ps) z = delivered_behind batches ps (sent p z) ∙ ap (delivered ps) (sent_behind batches (nat_eq p.0 z.number) p z)
+
+-- A step of a zone by itself is one of the zone with what lies in its lanes.
+pub step_behind : (sizes : Sizes) (batches : List (List Item)) (old new : Zone) (made : Trace) → ZoneStep sizes old new made → ZoneStep sizes (with_batches batches old) (with_batches batches new) made
+step_behind sizes batches old new made s =
+    record {
+      front = s.front;
+      rest = s.rest;
+      posts = s.posts;
+      taken = s.taken;
+      in_turn = s.in_turn;
+      act = s.act;
+      lanes = ap (with_batches batches) s.lanes ∙ delivered_behind batches s.posts (record old { keeps = new.keeps; inbox = s.rest });
+    }
+
+-- what lies in the lanes from the zone of a number
+abbrev pub batches_of : ℕ → List (List (List Item)) → List (List Item)
+batches_of n [] = []
+batches_of zero (b ∷ bs) = b
+batches_of (suc n) (b ∷ bs) = batches_of n bs
+
+pub view_get : (views : List Zone) (lanes : List (List (List Item))) (n : ℕ) (z : Zone) → slice_get views n ≡ Some z → slice_get (zones_of views lanes) n ≡ Some (with_batches (batches_of n lanes) z)
+view_get [] lanes n z h = cc
+view_get (y ∷ ys) [] n z h = h
+view_get (y ∷ ys) (b ∷ bs) zero z h = ap (λ (k : Zone). Some (with_batches b k)) (same_Some _ _ h)
+view_get (y ∷ ys) (b ∷ bs) (suc n) z h = view_get ys bs n z h
+
+pub view_put : (views : List Zone) (lanes : List (List (List Item))) (n : ℕ) (z : Zone) → zones_of (slice_set views n z) lanes ≡ slice_set (zones_of views lanes) n (with_batches (batches_of n lanes) z)
+view_put [] lanes n z = refl
+view_put (y ∷ ys) [] zero z = refl
+view_put (y ∷ ys) [] (suc n) z = refl
+view_put (y ∷ ys) (b ∷ bs) zero z = refl
+view_put (y ∷ ys) (b ∷ bs) (suc n) z = ap (λ (zones : List Zone). with_batches b y ∷ zones) (view_put ys bs n z)
+
+at_moment : List Zone → Trace → Core
+at_moment zones t = record { zones = zones; trace = t }
+
+-- The step that a thread computed from its own zone is a step of the core, whatever the other views and the lanes are when it is taken.
+pub seat_step : (sizes : Sizes) (views : List Zone) (lanes : List (List (List Item))) (n : ℕ) (old new : Zone) (made t : Trace) → slice_get views n ≡ Some old → ZoneStep sizes old new made
+    → StepOf sizes (core_of views lanes t) (core_of (slice_set views n new) lanes (made ++ t))
+unfolding at_moment
+seat_step sizes views lanes n old new made t h s =
+    record {
+      number = n;
+      zone = with_batches (batches_of n lanes) old;
+      zone' = with_batches (batches_of n lanes) new;
+      made = made;
+      had = view_get views lanes n old h;
+      step = step_behind sizes (batches_of n lanes) old new made s;
+      has = ap (λ (zones : List Zone). at_moment zones (made ++ t)) (view_put views lanes n new);
+    }

@@ -1,0 +1,30 @@
+use Rattle.std.proofs.Common.{subst}
+use Rattle.core_laws.specs.declared.zones.ZoneData.{ZoneData}
+use Rattle.core_laws.specs.Facts.{DataOk}
+use Rattle.core_laws.proofs.DeskOfTrace.{desk_log_right}
+use Rattle.core_laws.proofs.Stopped.{stopped_at_device}
+use Rattle.core_laws.proofs.PlacesOfTrace.{places_drawn, places_all, run_right}
+use Rattle.core_laws.proofs.laws.a_legal_core_is_in_order.Goals as goal
+
+pub returns-clause-desk_log : goal.returns-clause-desk_log
+returns-clause-desk_log c = λ s core legal. desk_log_right s core.trace legal.right
+
+pub returns-clause-drawn : goal.returns-clause-drawn
+returns-clause-drawn c = λ s core legal. places_drawn s core.trace legal.right
+
+pub returns-clause-placed : goal.returns-clause-placed
+returns-clause-placed c = λ s core w r a legal. places_all s core.trace w r a legal.right
+
+pub returns-clause-at_desk : goal.returns-clause-at_desk
+returns-clause-at_desk c = λ s core n z desk legal had keeps.
+    let k = subst (λ (d : ZoneData). DataOk s core.trace n d) keeps (legal.each n z had).own in (k.log_is, k.marks_is)
+
+pub returns-clause-at_zone : goal.returns-clause-at_zone
+returns-clause-at_zone c = λ s core n z l legal had keeps.
+    let k = subst (λ (d : ZoneData). DataOk s core.trace n d) keeps (legal.each n z had).own in k.places_is
+
+pub returns-clause-run : goal.returns-clause-run
+returns-clause-run c = λ s core session legal. run_right s core.trace session legal.right
+
+pub returns-clause-stopped : goal.returns-clause-stopped
+returns-clause-stopped c = stopped_at_device

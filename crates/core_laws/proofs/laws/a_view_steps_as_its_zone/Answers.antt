@@ -1,0 +1,5 @@
+use Rattle.core_laws.proofs.Seats.{seat_step}
+use Rattle.core_laws.proofs.laws.a_view_steps_as_its_zone.Goals as goal
+
+pub returns : goal.returns
+returns c = seat_step

@@ -1,0 +1,58 @@
+-- The legal states of the core.
+use Rattle.std.specs.Prelude.{ℕ, ◌+◌, ◌*◌, ◌≡◌, ◌<◌, Bool, List, [], ◌∷◌, ◌++◌, Some, slice_get, length}
+use Rattle.std.specs.List.{AllByRecursion}
+use Rattle.blk_base.specs.declared.request.Writer.{Writer}
+use Rattle.vdo_model.specs.declared.report.Placed.{Placed}
+use Rattle.core_laws.specs.declared.items.Item.{Item}
+use Rattle.core_laws.specs.declared.zones.ZoneData.TheVariants as at
+use Rattle.core_laws.specs.declared.zones.LogicalZone.{LogicalZone}
+use Rattle.core_laws.specs.declared.zones.Zone.{Zone}
+use Rattle.core_laws.specs.Facts.{ZoneOk, arrivals}
+use Rattle.core_laws.specs.Numbers.{desk_zone, zone_count, tellers}
+use Rattle.core_laws.specs.RightTraces.{RightTrace, GivesRight}
+use Rattle.core_laws.specs.Sessions.{Session, IsHonest}
+use Rattle.core_laws.specs.Steps.{Core}
+use Rattle.core_laws.specs.Sums.{Each}
+use Rattle.core_laws.specs.Tokens.{Balanced, AtMost, request_token, lease_token, block_token, journal_token, room_token, notice_token}
+use Rattle.core_laws.specs.Trace.{Trace, places}
+
+-- in a zone, each stream's places are drawn in the order of its requests: a request has a greater number than those with
+-- a place, and than those of its stream before it
+abbrev pub ComesAfter : ℕ → Writer → Placed → Type 0
+ComesAfter zone w p = p.zone ≡ zone → p.request.stream ≡ w.stream → p.request.number < w.number
+
+abbrev pub InOrder : ℕ → List Placed → List Writer → Type 0
+InOrder zone drawn [] = Unit {0}
+InOrder zone drawn (w ∷ later) =
+    AllByRecursion (ComesAfter zone w) drawn × AllByRecursion (λ (u : Writer). w.stream ≡ u.stream → w.number < u.number) later × InOrder zone drawn later
+
+-- those on the way from the desk to a logical zone: the ones in its inbox, then the ones in the lane
+abbrev pub LanesInOrder : Trace → List Zone → Type 0
+LanesInOrder t zones =
+    (n : ℕ) (z desk : Zone) (l : LogicalZone) (lane : List Item)
+    → slice_get zones n ≡ Some z → z.keeps ≡ at.Logical l → slice_get zones desk_zone ≡ Some desk → slice_get desk.outboxes n ≡ Some lane
+    → InOrder l.zone (places t) (arrivals z.inbox ++ arrivals lane)
+
+-- how many items a lane has at most, and how many requests a zone keeps: those under way, and the words of a stop
+abbrev pub share : Session → ℕ
+share s = length s.script * s.sizes.depth + tellers s.sizes
+
+-- A legal core: balances of tokens, what each zone with its lanes keeps and carries, and a right trace.
+pub record Legal (s : Session) (core : Core) : Type 0 where
+  pub count : length core.zones ≡ zone_count s.sizes
+  pub each : Each (ZoneOk s core.trace) core.zones
+  -- each request that is begun and not answered is in one place
+  pub requests : (w : Writer) → Balanced (request_token w) core.zones
+  -- each lock has one holder, with its place
+  pub leases : (a : ℕ) (test : ℕ → Bool) → Balanced (lease_token a test) core.zones
+  -- no data block is taken twice
+  pub blocks : (x : ℕ) → AtMost (block_token x) core.zones
+  -- one sealed block is under way, or the journal is idle
+  pub journal : Balanced journal_token core.zones
+  -- no request and no word of a stop is lost or doubled
+  pub room : Balanced room_token core.zones
+  pub notices : Balanced (notice_token s.sizes) core.zones
+  pub in_order : LanesInOrder core.trace core.zones
+  pub right : RightTrace s core.trace
+  -- on an honest device alone
+  pub gives_right : IsHonest s core.trace → GivesRight s core.trace

@@ -1,0 +1,17 @@
+pub mod Sums
+pub mod Numbers
+pub mod Trace
+pub mod Vios
+pub mod DeskRows
+pub mod LogicalRows
+pub mod JournalRows
+pub mod DeviceRows
+pub mod Steps
+pub mod Tokens
+pub mod Sessions
+pub mod RightTraces
+pub mod Reports
+pub mod Facts
+pub mod Legal
+pub mod Views
+pub mod Start

@@ -1,0 +1,159 @@
+-- What a logical zone does: places, locks, slots.
+use Rattle.std.specs.Prelude.{ℕ, ◌+◌, ◌≡◌, ◌==◌, Bool, true, false, ◌||◌, Option, None, Some, List, [], ◌∷◌, ◌++◌, if◌then◌else◌}
+use Rattle.blk_base.specs.Sectors.{zero_block}
+use Rattle.blk_base.specs.declared.place.Lba.{Lba}
+use Rattle.blk_base.specs.declared.place.Mapping.{Mapping}
+use Rattle.blk_base.specs.declared.place.Mapping.TheVariants.{Unmapped, Zero, At}
+use Rattle.blk_base.specs.declared.request.Answer.TheVariants as reply
+use Rattle.image_layout.specs.Window.{mapping_of}
+use Rattle.vdo_model.specs.declared.report.Placed.{Placed}
+use Rattle.core_laws.specs.declared.items.Asks.{Asks}
+use Rattle.core_laws.specs.declared.items.Asks.TheVariants.{Read, Write, Flush}
+use Rattle.core_laws.specs.declared.items.Item.TheVariants as item
+use Rattle.core_laws.specs.declared.items.Phase.TheVariants as phase
+use Rattle.core_laws.specs.declared.items.Vio.{Vio}
+use Rattle.core_laws.specs.declared.sizes.Sizes.{Sizes}
+use Rattle.core_laws.specs.declared.zones.Lock.{Lock}
+use Rattle.core_laws.specs.declared.zones.LogicalZone.{LogicalZone}
+use Rattle.core_laws.specs.declared.zones.Logged.{Logged}
+use Rattle.core_laws.specs.Numbers.{desk_zone, logical_zone, physical_zone, device_zone}
+use Rattle.core_laws.specs.Trace.{Trace, Draws, Sets, Gives, of_address, newest}
+use Rattle.core_laws.specs.Vios.{Post, turned, ended, logged, gift}
+
+-- whether an address is among these
+abbrev pub is_among : ℕ → List Lba → Bool
+is_among a [] = false
+is_among a (at ∷ others) = (at.0 == a) || is_among a others
+
+-- whether its lock is
+abbrev pub is_held : ℕ → List Lock → Bool
+is_held a [] = false
+is_held a (lock ∷ others) = (lock.at.0 == a) || is_held a others
+
+-- the locks but that of this address
+abbrev pub without : ℕ → List Lock → List Lock
+without a [] = []
+without a (lock ∷ others) = if lock.at.0 == a then without a others else lock ∷ without a others
+
+-- the lock that a request holds
+abbrev pub lock_of : Vio → Lock
+lock_of v = record { at = v.at; place = v.place }
+
+-- the first that waits for an address; those that wait but this first one; those that wait for it, and for others
+abbrev pub first_for : ℕ → List Vio → Option Vio
+first_for a [] = None
+first_for a (v ∷ others) = if v.at.0 == a then Some v else first_for a others
+
+abbrev pub but_first_for : ℕ → List Vio → List Vio
+but_first_for a [] = []
+but_first_for a (v ∷ others) = if v.at.0 == a then others else v ∷ but_first_for a others
+
+abbrev pub all_for : ℕ → List Vio → List Vio
+all_for a [] = []
+all_for a (v ∷ others) = if v.at.0 == a then v ∷ all_for a others else all_for a others
+
+abbrev pub none_for : ℕ → List Vio → List Vio
+none_for a [] = []
+none_for a (v ∷ others) = if v.at.0 == a then none_for a others else v ∷ none_for a others
+
+-- the request with the zone's next place
+abbrev pub placed : LogicalZone → Vio → Vio
+placed l v = record v { place = l.next }
+
+abbrev pub place_of_vio : LogicalZone → Vio → Placed
+place_of_vio l v = record { request = v.request; zone = l.zone; place = l.next }
+
+-- the zone after that place was drawn
+abbrev pub drawn_by : LogicalZone → Vio → LogicalZone
+drawn_by l v = record l { next = l.next + 1; places = place_of_vio l v ∷ l.places }
+
+-- the last write that set an address in this session, and where the address is mapped
+abbrev pub latest_at : LogicalZone → ℕ → Option Logged
+latest_at l a = newest (of_address a l.slots)
+
+abbrev pub mapped_by : Option Logged → Mapping → Mapping
+mapped_by None opening = opening
+mapped_by (Some e) opening = At e.block
+
+abbrev pub mapping_at : LogicalZone → ℕ → Mapping
+mapping_at l a = mapped_by (latest_at l a) (mapping_of l.window a)
+
+-- a request that has the lock of its address, and knows what is mapped there
+abbrev pub looked : LogicalZone → Vio → Vio
+looked l v = record v { old = mapping_at l v.at.0; latest = latest_at l v.at.0 }
+
+-- where it goes: a write takes a block, a read reads the mapped one, or is given zeros
+abbrev pub read_next : Sizes → LogicalZone → Vio → Mapping → Post
+read_next sizes l v (At x) = (device_zone sizes, item.Request (record v { phase = phase.Load; block = x }))
+read_next sizes l v Unmapped = (logical_zone l.zone, item.Request (record v { phase = phase.Loaded; bytes = zero_block }))
+read_next sizes l v Zero = (logical_zone l.zone, item.Request (record v { phase = phase.Loaded; bytes = zero_block }))
+
+abbrev pub next_for : Sizes → LogicalZone → Vio → Asks → Post
+next_for sizes l v Read = read_next sizes l (looked l v) (mapping_at l v.at.0)
+next_for sizes l v Write = (physical_zone sizes, item.Request (turned phase.Claim (looked l v)))
+next_for sizes l v Flush = (physical_zone sizes, item.Request (turned phase.Claim (looked l v)))
+
+abbrev pub goes_on : Sizes → LogicalZone → Vio → Post
+goes_on sizes l v = next_for sizes l v v.asks
+
+-- The lock of an address goes to the first that waits for it, or is released.
+abbrev pub passed_to : ℕ → LogicalZone → Option Vio → LogicalZone
+passed_to a l None = record l { held = without a l.held }
+passed_to a l (Some v) = record l { held = lock_of v ∷ without a l.held; waiting = but_first_for a l.waiting }
+
+abbrev pub released : ℕ → LogicalZone → LogicalZone
+released a l = passed_to a l (first_for a l.waiting)
+
+abbrev pub passes_on : Sizes → LogicalZone → Option Vio → List Post
+passes_on sizes l None = []
+passes_on sizes l (Some v) = goes_on sizes l v ∷ []
+
+abbrev pub granted : Sizes → ℕ → LogicalZone → List Post
+granted sizes a l = passes_on sizes l (first_for a l.waiting)
+
+-- The lock of an address is never released: nobody waits for it any more.
+abbrev pub buried : ℕ → LogicalZone → LogicalZone
+buried a l = record l { held = without a l.held; dead = record { 0 = a } ∷ l.dead; waiting = none_for a l.waiting }
+
+abbrev pub all_stopped : List Vio → List Post
+all_stopped [] = []
+all_stopped (v ∷ vs) = (desk_zone, item.Request (ended phase.Reply reply.Stopped v)) ∷ all_stopped vs
+
+-- with the slot that a write sets
+abbrev pub with_slot : LogicalZone → Vio → LogicalZone
+with_slot l v = record l { slots = logged v ∷ l.slots }
+
+pub data LogicalServes (sizes : Sizes) (old : LogicalZone) (v : Vio) (new : LogicalZone) (made : Trace) (posts : List Post) : Type 0 where
+  -- it draws its place: its address is never released, or free, or held
+  arrives_dead : v.phase ≡ phase.Arrive → is_among v.at.0 old.dead ≡ true
+      → new ≡ drawn_by old v → made ≡ Draws (place_of_vio old v) ∷ []
+      → posts ≡ (desk_zone, item.Request (ended phase.Reply reply.Stopped (placed old v))) ∷ []
+      → LogicalServes sizes old v new made posts
+  arrives_free : v.phase ≡ phase.Arrive → is_among v.at.0 old.dead ≡ false → is_held v.at.0 old.held ≡ false
+      → new ≡ record (drawn_by old v) { held = lock_of (placed old v) ∷ old.held } → made ≡ Draws (place_of_vio old v) ∷ []
+      → posts ≡ goes_on sizes old (placed old v) ∷ []
+      → LogicalServes sizes old v new made posts
+  arrives_held : v.phase ≡ phase.Arrive → is_among v.at.0 old.dead ≡ false → is_held v.at.0 old.held ≡ true
+      → new ≡ record (drawn_by old v) { waiting = old.waiting ++ turned phase.Wait (placed old v) ∷ [] } → made ≡ Draws (place_of_vio old v) ∷ []
+      → posts ≡ []
+      → LogicalServes sizes old v new made posts
+  -- its slot is set
+  settles : v.phase ≡ phase.Settle
+      → new ≡ released v.at.0 (with_slot old v) → made ≡ Sets (logged v) ∷ []
+      → posts ≡ (desk_zone, item.Request (ended phase.Reply reply.Ok v)) ∷ granted sizes v.at.0 (with_slot old v)
+      → LogicalServes sizes old v new made posts
+  -- it is given its bytes
+  gives : v.phase ≡ phase.Loaded
+      → new ≡ released v.at.0 old → made ≡ Gives (gift v) ∷ []
+      → posts ≡ (desk_zone, item.Request (ended phase.Reply (reply.Bytes v.bytes) v)) ∷ granted sizes v.at.0 old
+      → LogicalServes sizes old v new made posts
+  -- it ends undone
+  leaves : v.phase ≡ phase.Leave
+      → new ≡ released v.at.0 old → made ≡ []
+      → posts ≡ (desk_zone, item.Request (turned phase.Reply v)) ∷ granted sizes v.at.0 old
+      → LogicalServes sizes old v new made posts
+  -- it ends with its entry handed in
+  dies : v.phase ≡ phase.Die
+      → new ≡ buried v.at.0 old → made ≡ []
+      → posts ≡ (desk_zone, item.Request (turned phase.Reply v)) ∷ all_stopped (all_for v.at.0 old.waiting)
+      → LogicalServes sizes old v new made posts

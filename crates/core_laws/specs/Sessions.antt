@@ -1,0 +1,130 @@
+-- What a session is over, what stands on its device, and which values its addresses have.
+use Rattle.std.specs.Prelude.{ℕ, ◌+◌, ◌≡◌, ◌≢◌, ◌⊎◌, ◌<◌, ◌≤◌, ◌^◌, true, false, Option, None, Some, List, [], ◌∷◌, ◌++◌, length}
+use Rattle.std.specs.List.{AllByRecursion}
+use Rattle.blk_base.specs.Limits.{IsGeometry}
+use Rattle.blk_base.specs.Regions.{needed_blocks}
+use Rattle.blk_base.specs.declared.journal_entry.Entry.{Entry}
+use Rattle.blk_base.specs.declared.place.Mapping.TheVariants.{At}
+use Rattle.blk_base.specs.declared.place.Pbn.{Pbn}
+use Rattle.blk_base.specs.declared.request.Request.TheVariants as request
+use Rattle.blk_base.specs.declared.request.Request.{Request}
+use Rattle.disk_model.specs.Images.{HasOneImage, IsMixOf}
+use Rattle.disk_model.specs.Log as device
+use Rattle.disk_model.specs.declared.call.Call.{Call}
+use Rattle.disk_model.specs.declared.call.Call.TheVariants.{Read, Write, Flush}
+use Rattle.image_layout.specs.Window.{IsDataBlock, IsWindow, journal_of, mapping_of, value_of}
+use Rattle.stop_laws.specs.Journals.{Surely, IsAtRest, IsUnderWay, HasEntry, block_of_slot, slot_of}
+use Rattle.vdo_model.specs.Scripts.{Script, request_at, value_written}
+use Rattle.core_laws.specs.declared.sizes.Sizes.{Sizes}
+use Rattle.core_laws.specs.declared.zones.Logged.{Logged}
+use Rattle.core_laws.specs.Trace.{Says, Flushes, Draws, Enters, Commits, Sets, Gives, Calls, Trace, calls, entered, committed, settled, of_address, newest, entry_of, entries_of}
+
+-- What is fixed: the sizes, the script, the blocks that the device had when its log began, its log before the session,
+-- the one image that a stop left then, and the window of that image.
+pub record Session : Type 0 where
+  pub sizes : Sizes
+  pub script : Script
+  pub blocks : device.Blocks
+  pub before : List Call
+  pub image : device.Blocks
+  pub window : List Entry
+
+-- a request that is served as yet
+abbrev pub IsServed : Request → Type 0
+IsServed (request.Read at) = Unit {0}
+IsServed (request.Write at bytes fua) = (length bytes ≡ 4096) × (fua ≡ false)
+IsServed (request.Discard at) = ⊥
+IsServed request.Flush = Unit {0}
+
+-- the session can be served
+pub record IsSession (s : Session) : Type 0 where
+  pub sizes : IsGeometry s.sizes.geometry
+  pub start : (1 ≤ s.sizes.start) × (s.sizes.start < 2 ^ 54)
+  pub zones : 1 ≤ s.sizes.zones
+  pub room : needed_blocks s.sizes.geometry ≤ length s.blocks
+  pub served : AllByRecursion (AllByRecursion IsServed) s.script
+  pub one_image : HasOneImage s.blocks s.before s.image
+  pub is_window : IsWindow s.sizes.geometry s.sizes.start (journal_of s.sizes.geometry s.image) s.window
+  pub opened : s.sizes.opened ≡ length s.window
+  pub few : length s.window ≤ s.sizes.geometry.journal
+
+-- the device's log
+abbrev pub log : Session → Trace → List Call
+log s t = calls t ++ s.before
+
+-- each read of the session gave what the device had
+abbrev pub IsHonest : Session → Trace → Type 0
+IsHonest s [] = Unit {0}
+IsHonest s (Says line ∷ t) = IsHonest s t
+IsHonest s (Flushes mark ∷ t) = IsHonest s t
+IsHonest s (Draws p ∷ t) = IsHonest s t
+IsHonest s (Enters e ∷ t) = IsHonest s t
+IsHonest s (Commits e ∷ t) = IsHonest s t
+IsHonest s (Sets e ∷ t) = IsHonest s t
+IsHonest s (Gives g ∷ t) = IsHonest s t
+IsHonest s (Calls (Read at bytes true) ∷ t) = (length bytes ≡ 4096) × IsMixOf (device.settled s.blocks (log s t) at.0) bytes × IsHonest s t
+IsHonest s (Calls (Read at bytes false) ∷ t) = IsHonest s t
+IsHonest s (Calls (Write at bytes ok) ∷ t) = IsHonest s t
+IsHonest s (Calls (Flush ok) ∷ t) = IsHonest s t
+
+-- whatever a stop leaves in a block is these bytes; and whatever a read may give is
+abbrev pub Stands : Session → Trace → ℕ → List ℕ → Type 0
+Stands s t x bytes = Surely s.blocks (log s t) x (λ content. content ≡ bytes)
+
+abbrev pub ReadsAs : Session → Trace → ℕ → List ℕ → Type 0
+ReadsAs s t x bytes = AllByRecursion (λ content. content ≡ bytes) (device.settled s.blocks (log s t) x)
+
+-- a data block that no entry of the window names
+pub record IsFresh (s : Session) (x : Pbn) : Type 0 where
+  pub is_data : IsDataBlock s.sizes.geometry x.0
+  pub unnamed : (a : ℕ) (y : Pbn) → mapping_of s.window a ≡ At y → y.0 ≢ x.0
+  pub inside : x.0 < needed_blocks s.sizes.geometry
+
+-- what a write gives its address
+abbrev pub bytes_of : Session → Logged → List ℕ
+bytes_of s e = value_written (request_at s.script e.request)
+
+-- the blocks of these writes stand
+abbrev pub EachStands : Session → Trace → List Logged → Type 0
+EachStands s t [] = Unit {0}
+EachStands s t (e ∷ older) = (IsFresh s e.block × Stands s t e.block.0 (bytes_of s e)) × EachStands s t older
+
+-- the journal has the entries of these writes, and their blocks stand
+abbrev pub AtRest : Session → Trace → List Logged → Type 0
+AtRest s t es = IsAtRest s.blocks (log s t) s.sizes.geometry s.sizes.start (entries_of s.window es) × EachStands s t es
+
+-- besides, the block of one more entry is under way
+abbrev pub OnItsWay : Session → Trace → List Logged → Logged → Type 0
+OnItsWay s t es e = IsUnderWay s.blocks (log s t) s.sizes.geometry s.sizes.start (entries_of s.window es) (entry_of e) × EachStands s t (e ∷ es)
+
+-- and a read of that block's place gives it
+abbrev pub ReadsEntry : Session → Trace → List Logged → Logged → Type 0
+ReadsEntry s t es e =
+    AllByRecursion (HasEntry s.sizes.geometry s.sizes.start (s.sizes.start + length (entries_of s.window es)) (entry_of e))
+    (device.settled s.blocks (log s t) (block_of_slot (slot_of s.sizes.geometry (s.sizes.start + length (entries_of s.window es)))))
+
+-- what was there when the session began stands: the superblock, and each block that the window maps an address to
+pub record Kept (s : Session) (t : Trace) : Type 0 where
+  pub superblock : Stands s t 0 (device.block_at s.image 0)
+  pub mapped : (a : ℕ) (y : Pbn) → mapping_of s.window a ≡ At y → Stands s t y.0 (device.block_at s.image y.0)
+
+-- The last entry was handed in and isn't committed: the journal has the committed ones, or the block of this one is under
+-- way, or is there too.
+pub record HasPending (s : Session) (t : Trace) : Type 0 where
+  pub entry : Logged
+  pub is_last : entered t ≡ entry ∷ committed t
+  pub stands : AtRest s t (committed t) ⊎ OnItsWay s t (committed t) entry ⊎ AtRest s t (entry ∷ committed t)
+
+-- What stands on the device: what was there, and in the journal the entries that are committed, or these and the one that
+-- was handed in last.
+pub record Shown (s : Session) (t : Trace) : Type 0 where
+  pub kept : Kept s t
+  pub journal : ((entered t ≡ committed t) × AtRest s t (committed t)) ⊎ HasPending s t
+
+-- the value of an address: that of its last write, or the one that it had when the session began
+abbrev pub value_from : Session → ℕ → Option Logged → List ℕ
+value_from s a None = value_of s.image s.window a
+value_from s a (Some e) = bytes_of s e
+
+abbrev pub value_at : Session → Trace → ℕ → List ℕ
+value_at s t a = value_from s a (newest (of_address a (settled t)))

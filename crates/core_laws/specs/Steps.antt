@@ -1,0 +1,121 @@
+-- A step of one zone, and a move between two. They speak of a zone's own data and lanes and of nothing else.
+use Rattle.std.specs.Prelude.{ℕ, zero, suc, ◌≡◌, ◌≢◌, Bool, true, false, List, [], ◌∷◌, ◌++◌, Some, slice_get, slice_set, nat_eq}
+use Rattle.blk_base.specs.declared.request.Answer.TheVariants as reply
+use Rattle.blk_base.specs.declared.request.Writer.{Writer}
+use Rattle.vdo_model.specs.DeskLog.{IsNextLine}
+use Rattle.vdo_model.specs.declared.report.DeskLine.TheVariants as line
+use Rattle.core_laws.specs.declared.items.Item.{Item}
+use Rattle.core_laws.specs.declared.items.Item.TheVariants.{Request, Block, Notice}
+use Rattle.core_laws.specs.declared.items.SealedBlock.{SealedBlock}
+use Rattle.core_laws.specs.declared.items.Vio.{Vio}
+use Rattle.core_laws.specs.declared.sizes.Sizes.{Sizes}
+use Rattle.core_laws.specs.declared.zones.ZoneData.{ZoneData}
+use Rattle.core_laws.specs.declared.zones.ZoneData.TheVariants as at
+use Rattle.core_laws.specs.declared.zones.Desk.{Desk}
+use Rattle.core_laws.specs.declared.zones.DeviceZone.{DeviceZone}
+use Rattle.core_laws.specs.declared.zones.JournalZone.{JournalZone}
+use Rattle.core_laws.specs.declared.zones.LogicalZone.{LogicalZone}
+use Rattle.core_laws.specs.declared.zones.PhysicalZone.{PhysicalZone}
+use Rattle.core_laws.specs.declared.zones.Zone.{Zone}
+use Rattle.core_laws.specs.Numbers.{desk_zone}
+use Rattle.core_laws.specs.Trace.{Trace}
+use Rattle.core_laws.specs.Vios.{Post}
+use Rattle.core_laws.specs.DeskRows.{DeskBegins, DeskServes, with_word, woken}
+use Rattle.core_laws.specs.LogicalRows.{LogicalServes}
+use Rattle.core_laws.specs.JournalRows.{PhysicalServes, JournalServes, JournalEnds, all_refused}
+use Rattle.core_laws.specs.DeviceRows.{DeviceServes, DeviceWorks}
+
+-- What a zone does with the item at the front of its inbox, or the desk with none: what it keeps then, what happens, and
+-- what it posts.
+pub data Act (sizes : Sizes) : ZoneData → List Item → ZoneData → Trace → List Post → Type 0 where
+  begins : {old new : Desk} {made : Trace} {posts : List Post} → DeskBegins sizes old new made posts → Act sizes (at.Desk old) [] (at.Desk new) made posts
+  answers : {old new : Desk} {v : Vio} {made : Trace} {posts : List Post} → DeskServes sizes old v new made posts → Act sizes (at.Desk old) (Request v ∷ []) (at.Desk new) made posts
+  hears : {old : Desk} → Act sizes (at.Desk old) (Notice ∷ []) (at.Desk (with_word old)) [] (woken old.parked)
+  serves : {old new : LogicalZone} {v : Vio} {made : Trace} {posts : List Post} → LogicalServes sizes old v new made posts → Act sizes (at.Logical old) (Request v ∷ []) (at.Logical new) made posts
+  serves_told : {old : LogicalZone} → Act sizes (at.Logical old) (Notice ∷ []) (at.Logical (record old { told = true })) [] ((desk_zone, Notice) ∷ [])
+  takes : {old new : PhysicalZone} {v : Vio} {made : Trace} {posts : List Post} → PhysicalServes sizes old v new made posts → Act sizes (at.Physical old) (Request v ∷ []) (at.Physical new) made posts
+  takes_told : {old : PhysicalZone} → Act sizes (at.Physical old) (Notice ∷ []) (at.Physical (record old { told = true })) [] ((desk_zone, Notice) ∷ [])
+  enters : {old new : JournalZone} {v : Vio} {made : Trace} {posts : List Post} → JournalServes sizes old v new made posts → Act sizes (at.Journal old) (Request v ∷ []) (at.Journal new) made posts
+  ends : {old new : JournalZone} {b : SealedBlock} {made : Trace} {posts : List Post} → JournalEnds sizes old b new made posts → Act sizes (at.Journal old) (Block b ∷ []) (at.Journal new) made posts
+  enters_told : {old : JournalZone} → Act sizes (at.Journal old) (Notice ∷ []) (at.Journal (record old { told = true; waiting = [] })) []
+      ((desk_zone, Notice) ∷ all_refused sizes reply.Stopped old.waiting)
+  calls : {old new : DeviceZone} {v : Vio} {made : Trace} {posts : List Post} → DeviceServes sizes old v new made posts → Act sizes (at.Device old) (Request v ∷ []) (at.Device new) made posts
+  works : {old new : DeviceZone} {b : SealedBlock} {made : Trace} {posts : List Post} → DeviceWorks sizes old b new made posts → Act sizes (at.Device old) (Block b ∷ []) (at.Device new) made posts
+
+-- an item behind those of one of the lists
+abbrev pub posted : ℕ → Item → List (List Item) → List (List Item)
+posted to item [] = []
+posted zero item (lane ∷ lanes) = (lane ++ item ∷ []) ∷ lanes
+posted (suc to) item (lane ∷ lanes) = lane ∷ posted to item lanes
+
+-- what a zone posts to itself goes to its own inbox
+abbrev pub sent_to : Bool → Post → Zone → Zone
+sent_to true post z = record z { inbox = z.inbox ++ post.1 ∷ [] }
+sent_to false post z = record z { outboxes = posted post.0 post.1 z.outboxes }
+
+abbrev pub sent : Post → Zone → Zone
+sent post z = sent_to (nat_eq post.0 z.number) post z
+
+abbrev pub delivered : List Post → Zone → Zone
+delivered [] z = z
+delivered (post ∷ posts) z = delivered posts (sent post z)
+
+-- One step of a zone: it takes the front of its inbox; where that is empty, the desk begins a request.
+pub record ZoneStep (sizes : Sizes) (old new : Zone) (made : Trace) : Type 0 where
+  pub front : List Item
+  pub rest : List Item
+  pub posts : List Post
+  pub taken : old.inbox ≡ front ++ rest
+  pub in_turn : front ≡ [] → rest ≡ []
+  pub act : Act sizes old.keeps front new.keeps made posts
+  pub lanes : new ≡ delivered posts (record old { keeps = new.keeps; inbox = rest })
+
+-- A zone has no work: its inbox is empty, and, where it is the desk, no stream may begin a request.
+abbrev pub MayBegin : Sizes → ZoneData → Type 0
+MayBegin sizes (at.Desk desk) = (w : Writer) × IsNextLine sizes.depth desk.requests (line.Begin w) desk.log
+MayBegin sizes (at.Logical l) = ⊥
+MayBegin sizes (at.Physical p) = ⊥
+MayBegin sizes (at.Journal j) = ⊥
+MayBegin sizes (at.Device d) = ⊥
+
+pub record IsIdle (sizes : Sizes) (z : Zone) : Type 0 where
+  pub inbox : z.inbox ≡ []
+  pub none_begins : MayBegin sizes z.keeps → ⊥
+
+-- The core: its zones by number, and what has happened.
+pub record Core : Type 0 where
+  pub zones : List Zone
+  pub trace : Trace
+
+-- One zone steps, and all others stay.
+pub record StepOf (sizes : Sizes) (old new : Core) : Type 0 where
+  pub number : ℕ
+  pub zone : Zone
+  pub zone' : Zone
+  pub made : Trace
+  pub had : slice_get old.zones number ≡ Some zone
+  pub step : ZoneStep sizes zone zone' made
+  pub has : new ≡ record { zones = slice_set old.zones number zone'; trace = made ++ old.trace }
+
+-- A front part of an outbox becomes the tail of the receiver's inbox.
+pub record MoveOf (old new : Core) : Type 0 where
+  pub from : ℕ
+  pub to : ℕ
+  pub source : Zone
+  pub target : Zone
+  pub part : List Item
+  pub left : List Item
+  pub apart : from ≢ to
+  pub had_source : slice_get old.zones from ≡ Some source
+  pub had_target : slice_get old.zones to ≡ Some target
+  pub outbox : slice_get source.outboxes to ≡ Some (part ++ left)
+  pub has : new ≡ record {
+    zones = slice_set (slice_set old.zones from (record source { outboxes = slice_set source.outboxes to left })) to (record target { inbox = target.inbox ++ part });
+    trace = old.trace;
+  }
+
+-- A list of events leads from one core to another: the newest event stands first.
+pub data Leads (sizes : Sizes) : Core → Core → Type 0 where
+  rests : {core : Core} → Leads sizes core core
+  steps : {first before after : Core} → StepOf sizes before after → Leads sizes first before → Leads sizes first after
+  moves : {first before after : Core} → MoveOf before after → Leads sizes first before → Leads sizes first after

@@ -1,0 +1,72 @@
+-- A request under way: what it asked, and what becomes of it.
+use Rattle.std.specs.Prelude.{ℕ, false, None, Some, List}
+use Rattle.blk_base.specs.declared.place.Lba.{Lba}
+use Rattle.blk_base.specs.declared.place.Mapping.TheVariants.{Unmapped}
+use Rattle.blk_base.specs.declared.request.Answer.{Answer}
+use Rattle.blk_base.specs.declared.request.Request.{Request}
+use Rattle.blk_base.specs.declared.request.Request.TheVariants as request
+use Rattle.blk_base.specs.declared.request.Writer.{Writer}
+use Rattle.vdo_model.specs.Places.{zone_of}
+use Rattle.core_laws.specs.declared.items.Asks.{Asks}
+use Rattle.core_laws.specs.declared.items.Asks.TheVariants.{Read, Write, Flush}
+use Rattle.core_laws.specs.declared.items.Item.{Item}
+use Rattle.core_laws.specs.declared.items.Phase.{Phase}
+use Rattle.core_laws.specs.declared.items.Phase.TheVariants as phase
+use Rattle.core_laws.specs.declared.items.SealedBlock.{SealedBlock}
+use Rattle.core_laws.specs.declared.items.Stage.{Stage}
+use Rattle.core_laws.specs.declared.items.Vio.{Vio}
+use Rattle.core_laws.specs.declared.sizes.Sizes.{Sizes}
+use Rattle.core_laws.specs.declared.zones.Logged.{Logged}
+use Rattle.core_laws.specs.Numbers.{logical_zone}
+use Rattle.core_laws.specs.Trace.{Gift}
+
+-- an item, with the number of the zone that it goes to
+abbrev pub Post : Type 0
+Post = ℕ × Item
+
+-- the request of the script that asks for this
+abbrev pub asked : Asks → Lba → List ℕ → Request
+asked Read at bytes = request.Read at
+asked Write at bytes = request.Write at bytes false
+asked Flush at bytes = request.Flush
+
+abbrev pub request_of : Vio → Request
+request_of v = asked v.asks v.at v.bytes
+
+-- a request for an address when it is begun
+abbrev pub begun_vio : Sizes → Writer → Asks → Lba → List ℕ → Vio
+begun_vio sizes w asks at bytes =
+    record {
+      request = w;
+      asks = asks;
+      at = at;
+      home = logical_zone (zone_of sizes.zones at.0);
+      phase = phase.Arrive;
+      bytes = bytes;
+      place = 0;
+      old = Unmapped;
+      latest = None;
+      block = record { 0 = 0 };
+      answer = None;
+      calls = 0;
+    }
+
+-- it goes on to another phase
+abbrev pub turned : Phase → Vio → Vio
+turned next v = record v { phase = next }
+
+-- it is to be answered so, and goes on to another phase
+abbrev pub ended : Phase → Answer → Vio → Vio
+ended next answer v = record v { phase = next; answer = Some answer }
+
+-- the entry that it hands in
+abbrev pub logged : Vio → Logged
+logged v = record { request = v.request; at = v.at; place = v.place; old = v.old; block = v.block }
+
+-- what it was given
+abbrev pub gift : Vio → Gift
+gift v = record { request = v.request; at = v.at; place = v.place; bytes = v.bytes }
+
+-- a sealed block that has come further
+abbrev pub staged : Stage → SealedBlock → SealedBlock
+staged next b = record b { stage = next }

@@ -1,0 +1,102 @@
+use crate::Logged;
+use blk_base::{Answer, Block, Lba, Mapping, Pbn, Writer};
+
+/// What a request asks for.
+#[derive(Clone, Copy)]
+pub enum Asks {
+    Read,
+    Write,
+    Flush,
+}
+
+/// How far a request has come: what is done with it next, and in which zone. Each phase is a row of the table in
+/// docs/DESIGN.md.
+#[derive(Clone, Copy)]
+pub enum Phase {
+    /// Logical: it draws its place, and takes the lock of its address or waits for it.
+    Arrive,
+    /// Logical: it has its place, and waits for the lock.
+    Wait,
+    /// Physical: a write takes a free data block.
+    Claim,
+    /// Device: the data of a write is written to its block.
+    Store,
+    /// Journal: the entry of a write is handed in, or waits until it can be.
+    Enter,
+    /// Logical: the entry is committed: the slot of the address is set, and the lock released.
+    Settle,
+    /// Device: the block of a read is read.
+    Load,
+    /// Logical: a read has its bytes, and the lock is released.
+    Loaded,
+    /// Physical: a write that ends undone gives back what it has there.
+    Return,
+    /// Logical: a request that ends undone releases the lock.
+    Leave,
+    /// Physical: a write whose entry was handed in ends: its block stays taken.
+    Spend,
+    /// Logical: a write whose entry was handed in ends: the lock of its address is never released.
+    Die,
+    /// Device: the flush of a flush request is made.
+    Flush,
+    /// Desk: it is answered.
+    Reply,
+}
+
+/// A request under way.
+#[derive(Drop)]
+pub struct Vio {
+    pub request: Writer,
+    pub asks: Asks,
+    /// The address of a read or write.
+    pub at: Lba,
+    /// The number of the logical zone of the address, among all zones.
+    pub home: u32,
+    pub phase: Phase,
+    /// What a write gives its address, or what a read got.
+    pub bytes: Block,
+    /// The number that it drew in its logical zone.
+    pub place: u64,
+    /// The mapping of its address when it took the lock.
+    pub old: Mapping,
+    /// The last write of its address that was settled in this session when it took the lock.
+    pub latest: Option<Logged>,
+    /// The data block that it has taken, or that it reads; block 0 until then.
+    pub block: Pbn,
+    /// What it is answered with, once that is known.
+    pub answer: Option<Answer>,
+    /// Of a flush, how many calls of the device had succeeded when its own returned; 0 until then.
+    pub calls: u64,
+}
+
+/// How far a sealed block of the journal has come.
+#[derive(Clone, Copy)]
+pub enum Stage {
+    /// Device: the flush is made by which the data of its entry lasts.
+    Cover,
+    /// Device: it is written.
+    Write,
+    /// Device: the flush is made by which it lasts itself.
+    Harden,
+    /// Journal: it is committed.
+    Commit,
+    /// Journal: a write or flush of the device failed before it was.
+    Fail,
+}
+
+/// A sealed block of the journal, with the request of its entry.
+#[derive(Drop)]
+pub struct SealedBlock {
+    pub stage: Stage,
+    pub sequence: u64,
+    pub vio: Vio,
+}
+
+/// What the zones pass to each other.
+#[derive(Drop)]
+pub enum Item {
+    Request(Vio),
+    Block(SealedBlock),
+    /// The device zone's word that the session is stopped.
+    Notice,
+}

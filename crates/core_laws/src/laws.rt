@@ -1,0 +1,87 @@
+//! The laws of the core that other crates stand on.
+
+ghost use Rattle.std.specs.Prelude.{◌≡◌, ◌<◌, ◌≤◌, ◌⊎◌, ℕ, Bool, true, length, Some, IsSome, List, slice_get, slice_set, ◌++◌};
+ghost use Rattle.blk_base.specs.declared.request.Answer.TheVariants.{Stopped};
+ghost use Rattle.blk_base.specs.declared.request.Request.{Request};
+ghost use Rattle.blk_base.specs.declared.request.Writer.{Writer};
+ghost use Rattle.vdo_model.specs.DeskLog.{IsDeskLog, AllAnswered, answer_of};
+ghost use Rattle.vdo_model.specs.FlushMarks.{AreFlushMarks};
+ghost use Rattle.vdo_model.specs.Places.{AreDrawn, place_of};
+ghost use Rattle.vdo_model.specs.RightReads.{ReadsRight};
+ghost use Rattle.vdo_model.specs.RightRuns.{RunRight};
+ghost use Rattle.vdo_model.specs.Scripts.{address_of, request_at};
+ghost use Rattle.vdo_model.specs.Stops.{RightAfterStops};
+ghost use Rattle.core_laws.specs.declared.zones.ZoneData.TheVariants.{Desk, Device, Logical};
+ghost use Rattle.core_laws.specs.declared.zones.Desk.{Desk as DeskData};
+ghost use Rattle.core_laws.specs.declared.zones.DeviceZone.{DeviceZone};
+ghost use Rattle.core_laws.specs.declared.zones.LogicalZone.{LogicalZone};
+ghost use Rattle.core_laws.specs.declared.zones.Zone.{Zone};
+ghost use Rattle.core_laws.specs.declared.items.Item.{Item};
+ghost use Rattle.core_laws.specs.declared.sizes.Sizes.{Sizes};
+ghost use Rattle.core_laws.specs.Facts.{places_in};
+ghost use Rattle.core_laws.specs.Legal.{Legal, share};
+ghost use Rattle.core_laws.specs.Tokens.{queued};
+ghost use Rattle.core_laws.specs.Reports.{HasValues, handed_in, opening_values, report_of};
+ghost use Rattle.core_laws.specs.Sessions.{Session, IsSession, IsHonest};
+ghost use Rattle.core_laws.specs.Start.{IsFirst};
+ghost use Rattle.core_laws.specs.Steps.{Core, Leads, MoveOf, StepOf, ZoneStep};
+ghost use Rattle.core_laws.specs.Trace.{Trace, calls, lines, marks, moments, places};
+ghost use Rattle.core_laws.specs.Views.{core_of};
+
+/// A core is legal when a session begins, and every list of events keeps it so.
+pub fn every_event_keeps_a_core_legal()
+    ensures first { (s : Session) (core : Core) → IsSession s → IsFirst s core → Legal s core }
+    ensures step { (s : Session) (old new : Core) → IsSession s → StepOf s.sizes old new → Legal s old → Legal s new }
+    ensures moved { (s : Session) (old new : Core) → MoveOf old new → Legal s old → Legal s new }
+    ensures leads { (s : Session) (first core : Core) → IsSession s → Leads s.sizes first core → Legal s first → Legal s core }
+{}
+
+/// What was begun and answered in a legal core is in order, and so are the places; the desk and the logical zones have
+/// them. A request is answered as stopped only where the device's zone has stopped the session, since a write or flush
+/// failed. Where each request of the script is answered, that is a right run.
+pub fn a_legal_core_is_in_order()
+    ensures desk_log { (s : Session) (core : Core) → Legal s core → IsDeskLog s.sizes.depth s.script (lines core.trace) }
+    ensures drawn { (s : Session) (core : Core) → Legal s core
+        → AreDrawn s.sizes.zones s.sizes.geometry.logical s.script (lines core.trace) (places core.trace) }
+    ensures placed { (s : Session) (core : Core) (w : Writer) (r : Request) (a : ℕ) → Legal s core → request_at s.script w ≡ Some r → address_of r ≡ Some a
+        → a < s.sizes.geometry.logical → IsSome (answer_of (lines core.trace) w)
+        → IsSome (place_of (places core.trace) w) ⊎ (answer_of (lines core.trace) w ≡ Some Stopped) }
+    ensures at_desk { (s : Session) (core : Core) (n : ℕ) (z : Zone) (desk : DeskData) → Legal s core → slice_get core.zones n ≡ Some z → z.keeps ≡ Desk desk
+        → (desk.log ≡ lines core.trace) × (desk.marks ≡ marks core.trace) }
+    ensures at_zone { (s : Session) (core : Core) (n : ℕ) (z : Zone) (l : LogicalZone) → Legal s core → slice_get core.zones n ≡ Some z → z.keeps ≡ Logical l
+        → l.places ≡ places_in l.zone (places core.trace) }
+    ensures stopped { (s : Session) (core : Core) (w : Writer) (n : ℕ) (z : Zone) (d : DeviceZone) → Legal s core → answer_of (lines core.trace) w ≡ Some Stopped
+        → slice_get core.zones n ≡ Some z → z.keeps ≡ Device d → d.stopped ≡ true }
+    ensures run { (s : Session) (core : Core) → IsSession s → Legal s core → AllAnswered s.script (lines core.trace)
+        → RunRight s.sizes.zones s.sizes.depth s.sizes.geometry.logical (handed_in core.trace) s.script (lines core.trace) (places core.trace)
+        (report_of s core.trace).histories }
+{}
+
+/// On an honest device each read that a legal core answered gave the last settled write before its place.
+pub fn a_legal_core_reads_right()
+    ensures { (s : Session) (core : Core) → IsSession s → Legal s core → IsHonest s core.trace
+        → ReadsRight (opening_values s) s.script (lines core.trace) (places core.trace) (report_of s core.trace).histories }
+{}
+
+/// Each flush that a legal core answered Ok has its mark, and a stop before or within any call of the device leaves each
+/// address a value no older than its last flushed one.
+pub fn a_legal_core_is_right_after_a_stop()
+    ensures marked { (s : Session) (core : Core) → IsSession s → Legal s core → AreFlushMarks s.script (moments core.trace) (marks core.trace) }
+    ensures stops { (s : Session) (core : Core) → IsSession s → Legal s core
+        → RightAfterStops (HasValues s) s.blocks s.before s.sizes.geometry.logical (opening_values s) (report_of s core.trace) (calls core.trace) }
+{}
+
+/// In a legal core each lane and each list of requests that a zone keeps is within its share: as many as there may be
+/// requests under way, and words of a stop.
+pub fn a_legal_core_has_room()
+    ensures inbox { (s : Session) (core : Core) (n : ℕ) (z : Zone) → Legal s core → slice_get core.zones n ≡ Some z → length z.inbox ≤ share s }
+    ensures lanes { (s : Session) (core : Core) (n : ℕ) (z : Zone) (to : ℕ) (lane : List Item) → Legal s core → slice_get core.zones n ≡ Some z
+        → slice_get z.outboxes to ≡ Some lane → length lane ≤ share s }
+    ensures kept { (s : Session) (core : Core) (n : ℕ) (z : Zone) → Legal s core → slice_get core.zones n ≡ Some z → queued (λ it. 1) z.keeps ≤ share s }
+{}
+
+/// A step of one zone's view is a step of the core that the views and the lanes stand for, whatever the others are by then.
+pub fn a_view_steps_as_its_zone()
+    ensures { (sizes : Sizes) (views : List Zone) (lanes : List (List (List Item))) (n : ℕ) (old new : Zone) (made t : Trace) → slice_get views n ≡ Some old
+        → ZoneStep sizes old new made → StepOf sizes (core_of views lanes t) (core_of (slice_set views n new) lanes (made ++ t)) }
+{}

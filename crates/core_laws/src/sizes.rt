@@ -1,0 +1,15 @@
+use blk_base::Geometry;
+
+/// What the zones know of the session that they serve.
+#[derive(Clone, Copy)]
+pub struct Sizes {
+    pub geometry: Geometry,
+    /// The first sequence of the journal's window.
+    pub start: u64,
+    /// How many entries the window had when the session began.
+    pub opened: u32,
+    /// How many logical zones there are.
+    pub zones: u32,
+    /// How many requests of a stream are under way at most.
+    pub depth: u32,
+}

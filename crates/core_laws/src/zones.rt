@@ -1,0 +1,105 @@
+use crate::{Fifo, Item, Vio};
+use blk_base::{Entry, Lba, Mapping, Pbn, Writer};
+use vdo_model::{DeskLine, FlushMark, Placed, Requests, Rows};
+
+/// A write whose journal entry was handed in.
+#[derive(Clone, Copy)]
+pub struct Logged {
+    pub request: Writer,
+    pub at: Lba,
+    /// The number that the write drew in its logical zone.
+    pub place: u64,
+    pub old: Mapping,
+    pub block: Pbn,
+}
+
+/// The lock of an address, with the place of its holder.
+#[derive(Clone, Copy)]
+pub struct Lock {
+    pub at: Lba,
+    pub place: u64,
+}
+
+/// Where requests begin and are answered.
+#[derive(Drop)]
+pub struct Desk {
+    pub requests: Requests,
+    pub log: Rows<DeskLine>,
+    pub marks: Rows<FlushMark>,
+    /// How many zones have passed on the word that the session is stopped.
+    pub told: u32,
+    /// Requests to be answered as stopped, which wait until every zone has passed it on.
+    pub parked: Fifo<Vio>,
+}
+
+/// The addresses of some trees: their places, locks and slots.
+#[derive(Drop)]
+pub struct LogicalZone {
+    /// The number of the zone among the logical ones.
+    pub zone: u32,
+    pub told: bool,
+    /// The place that is drawn next.
+    pub next: u64,
+    pub places: Rows<Placed>,
+    /// The locks that are held, one for each address at most.
+    pub held: Fifo<Lock>,
+    /// Who waits for a lock, in the order of their places.
+    pub waiting: Fifo<Vio>,
+    /// The addresses whose lock is never released.
+    pub dead: Fifo<Lba>,
+    /// The entries of the journal when the session began: where an address is mapped that isn't set since.
+    pub window: Rows<Entry>,
+    /// The slots that were set since, with whoever set them.
+    pub slots: Rows<Logged>,
+}
+
+/// The data blocks.
+#[derive(Drop)]
+pub struct PhysicalZone {
+    pub told: bool,
+    /// The blocks that nobody has taken.
+    pub free: Fifo<Pbn>,
+}
+
+/// The recovery journal.
+#[derive(Drop)]
+pub struct JournalZone {
+    pub told: bool,
+    /// A sealed block is under way.
+    pub busy: bool,
+    /// A sealed block failed, and no entry is handed in any more.
+    pub broken: bool,
+    /// Who waits until the block under way is committed.
+    pub waiting: Fifo<Vio>,
+    /// The entries that were handed in.
+    pub entered: Rows<Logged>,
+    /// Those that are committed.
+    pub committed: Rows<Logged>,
+}
+
+/// The device.
+#[derive(Drop)]
+pub struct DeviceZone {
+    pub stopped: bool,
+    /// How many calls succeeded.
+    pub calls: u64,
+}
+
+/// What a zone of each kind keeps.
+#[derive(Drop)]
+pub enum ZoneData {
+    Desk(Desk),
+    Logical(LogicalZone),
+    Physical(PhysicalZone),
+    Journal(JournalZone),
+    Device(DeviceZone),
+}
+
+/// A zone: its number among all zones, what it keeps, its inbox, and an outbox to each zone.
+#[derive(Drop)]
+pub struct Zone {
+    pub number: u32,
+    pub keeps: ZoneData,
+    pub inbox: Fifo<Item>,
+    pub outboxes: Fifo<Fifo<Item>>,
+}
