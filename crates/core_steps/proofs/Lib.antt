@@ -1,0 +1,7 @@
+pub mod ActLaws
+pub mod Calls
+pub mod DeskLaws
+pub mod Ends
+pub mod PlayLaws
+pub mod StartLaws
+pub mod ZoneLaws

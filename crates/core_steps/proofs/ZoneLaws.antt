@@ -1,0 +1,51 @@
+-- Items on their way, and what a step of a zone is.
+use Rattle.std.proofs.Common.{◌≡◌, ℕ, zero, suc, Bool, List, [], ◌∷◌, ◌++◌, Some, slice_get, slice_set, refl, sym, ap, subst, ◌∙◌}
+use Rattle.std.proofs.lemmas.Option.{same_Some}
+use Rattle.core_laws.specs.declared.items.Item.{Item}
+use Rattle.core_laws.specs.declared.sizes.Sizes.{Sizes}
+use Rattle.core_laws.specs.declared.zones.ZoneData.{ZoneData}
+use Rattle.core_laws.specs.declared.zones.Zone.{Zone}
+use Rattle.core_laws.proofs.Lift.{delivered_same}
+use Rattle.core_laws.specs.Steps.{posted, delivered, Act, ZoneStep}
+use Rattle.disk_model.specs.declared.call.Call.{Call}
+use Rattle.core_laws.specs.Trace.{Trace}
+use Rattle.core_laws.specs.Vios.{Post}
+use Rattle.core_steps.specs.Acts.{Acts, ActsAlone}
+use Rattle.core_steps.specs.Plays.{ZoneSteps}
+
+-- an item behind those of one list
+pub posted_is : (to : ℕ) (x : Item) (lane : List Item) (lanes : List (List Item)) → slice_get lanes to ≡ Some lane → slice_set lanes to (lane ++ x ∷ []) ≡ posted to x lanes
+posted_is to x lane [] got = refl
+posted_is zero x lane (l ∷ ls) got = ap (λ (k : List Item). (k ++ x ∷ []) ∷ ls) (sym (same_Some _ _ got))
+posted_is (suc to) x lane (l ∷ ls) got = ap (λ (ks : List (List Item)). l ∷ ks) (posted_is to x lane ls got)
+
+-- a step from its parts: what an act leaves in the zone, with its posts delivered
+pub step_of : (sizes : Sizes) (old new : Zone) (keeps : ZoneData) (front rest : List Item) (made : Trace) (posts : List Post)
+    → old.inbox ≡ front ++ rest → (front ≡ [] → rest ≡ []) → Act sizes old.keeps front keeps made posts
+    → new ≡ delivered posts (record old { keeps = keeps; inbox = rest }) → ZoneStep sizes old new made
+step_of sizes old new keeps front rest made posts taken in_turn act is =
+    let kept : new.keeps ≡ keeps = ap (λ (z : Zone). z.keeps) is ∙ (delivered_same posts (record old { keeps = keeps; inbox = rest })).keeps_is in
+    record {
+      front = front;
+      rest = rest;
+      posts = posts;
+      taken = taken;
+      in_turn = in_turn;
+      act = subst (λ (d : ZoneData). Act sizes old.keeps front d made posts) (sym kept) act;
+      lanes = is ∙ ap (λ (d : ZoneData). delivered posts (record old { keeps = d; inbox = rest })) (sym kept);
+    }
+
+-- a zone steps with the item in front of its inbox
+pub stepped : (tells : Bool) (sizes : Sizes) (old new : Zone) (keeps : ZoneData) (front : Item) (rest : List Item) (posts : List Post) (before after : List Call)
+    → old.inbox ≡ front ∷ rest → Acts tells sizes old.keeps (front ∷ []) keeps posts before after
+    → new ≡ delivered posts (record old { keeps = keeps; inbox = rest }) → ZoneSteps tells sizes old new before after
+stepped tells sizes old new keeps front rest posts before after taken (made, act, log) is =
+    let in_turn : front ∷ [] ≡ [] → rest ≡ [] = λ e. cc in
+    (made, step_of sizes old new keeps (front ∷ []) rest made posts taken in_turn act is, log)
+
+-- a zone steps with no item, and doesn't call the device
+pub begun : (tells : Bool) (sizes : Sizes) (old new : Zone) (keeps : ZoneData) (rest : List Item) (posts : List Post) (log : List Call)
+    → old.inbox ≡ [] → rest ≡ [] → ActsAlone sizes old.keeps [] keeps posts
+    → new ≡ delivered posts (record old { keeps = keeps; inbox = rest }) → ZoneSteps tells sizes old new log log
+begun tells sizes old new keeps rest posts log taken none (made, act, silent) is =
+    (made, step_of sizes old new keeps [] rest made posts (taken ∙ sym none) (λ e. none) act is, λ told. rw silent refl)

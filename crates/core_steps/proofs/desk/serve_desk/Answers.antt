@@ -1,0 +1,7 @@
+use Rattle.std.proofs.Common.{rules, []}
+use Rattle.core_laws.specs.DeskRows.DeskServes.{parks}
+use Rattle.core_steps.proofs.desk.serve_desk.Goals as goal
+
+pub returns-in_ok-push : goal.returns-in_ok-push
+returns-in_ok-push c =
+    ([], parks c.in-Some.given (search rules) (search rules) (search rules) (search rules) (search rules) (search rules) (search rules))

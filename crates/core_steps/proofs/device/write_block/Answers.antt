@@ -1,0 +1,5 @@
+use Rattle.core_steps.proofs.Calls.{failed_call}
+use Rattle.core_steps.proofs.device.write_block.Goals as goal
+
+pub returns-clause-err : goal.returns-clause-err
+returns-clause-err g c = failed_call _ _ _ _ _ _ c.write.ensures.err

@@ -1,0 +1,12 @@
+use Rattle.std.proofs.Common.{◌≡◌}
+use Rattle.core_steps.specs.Plays.{LeadsTo}
+use Rattle.core_steps.specs.declared.fault.Stepped.TheVariants.{Idle}
+use Rattle.core_steps.proofs.events.play.Given as goal
+
+abbrev pub invariant-loop-event : goal.invariant-loop-event
+invariant-loop-event g l = record {
+  size : g.D.Disk.size l.disk ≡ g.D.Disk.size l.fn.disk;
+  opening : g.D.Disk.opening l.disk ≡ g.D.Disk.opening l.fn.disk;
+  leads : LeadsTo g.D.Disk.tells l.sizes l.fn.zones l.zones (g.D.Disk.log l.fn.disk) (g.D.Disk.log l.disk);
+  same : l.any ≡ Idle → l.zones ≡ l.fn.zones;
+}

@@ -1,0 +1,11 @@
+use Rattle.std.proofs.Common.{rules, [], ◌∷◌}
+use Rattle.core_laws.specs.JournalRows.JournalServes.{enters}
+use Rattle.core_laws.specs.Trace.{Enters}
+use Rattle.core_laws.specs.Vios.{logged}
+use Rattle.core_steps.proofs.journal.enter.Goals as goal
+
+pub returns : goal.returns
+returns c = (
+  Enters (logged c.args.vio) ∷ [],
+  enters (search rules) (search rules) (search rules) (search rules) (search rules) (search rules) (search rules),
+)

@@ -1,0 +1,6 @@
+pub mod Acts
+pub mod DeviceLog
+pub mod Moves
+pub mod Plays
+pub mod Refusals
+pub mod Starts

@@ -1,0 +1,209 @@
+ghost use Rattle.std.specs.Prelude.{◌≡◌, ◌<◌, ◌∷◌, [], ℕ, IfOk, IfSome, IfNone, Some, None};
+ghost use Rattle.vdo_model.specs.DeskLog.{IsNextLine};
+ghost use Rattle.vdo_model.specs.Scripts.{request_at};
+ghost use Rattle.vdo_model.specs.declared.report.DeskLine.TheVariants as line;
+ghost use Rattle.core_laws.specs.declared.items.Item.TheVariants as item;
+ghost use Rattle.core_laws.specs.declared.zones.ZoneData.TheVariants as at;
+ghost use Rattle.core_laws.specs.DeskRows as rows;
+ghost use Rattle.core_laws.specs.Steps.{MayBegin};
+ghost use Rattle.core_laws.specs.Trace.{Trace};
+ghost use Rattle.core_laws.specs.Vios as vios;
+
+use crate::StepFault;
+use crate::counts::{answered, begun};
+use crate::desk::{answer, is_told};
+use crate::numbers::{device_zone, logical_zone};
+use crate::posts::Posts;
+use crate::vios::turned;
+use blk_base::{Answer, Block, Lba, Mapping, Pbn, Request, Writer};
+use core_laws::{Asks, Desk, Item, Phase, Sizes, Vio};
+use std::alloc::Global;
+use vdo_model::DeskLine;
+
+// A request for an address when it is begun.
+fn begun_vio(
+    sizes: &Sizes,
+    request: Writer,
+    asks: Asks,
+    at: Lba,
+    bytes: Block,
+) -> Result<Vio, StepFault>
+    ensures { IfOk result (λ vio. vio ≡ vios.begun_vio sizes.now request asks at bytes) }
+{
+    let tree = at.0 / 812 % 60;
+    let Some(zone) = tree.checked_rem(sizes.zones) else {
+        return Err(StepFault::Numbers);
+    };
+    Ok(Vio {
+        request,
+        asks,
+        at,
+        home: logical_zone(zone)?,
+        phase: Phase::Arrive,
+        bytes,
+        place: 0,
+        old: Mapping::Unmapped,
+        latest: None,
+        block: Pbn(0),
+        answer: None,
+        calls: 0,
+    })
+}
+
+// The request as it is under way.
+fn vio_of(sizes: &Sizes, request: Writer, asked: &Request) -> Result<Vio, StepFault>
+    ensures { IfOk result (λ vio. vio ≡ rows.vio_of sizes.now request asked.now) }
+{
+    match asked {
+        Request::Read(at) => {
+            let zeros = Block::zero();
+            Ok(begun_vio(sizes, request, Asks::Read, *at, zeros)?)
+        }
+        Request::Write { at, block, .. } => {
+            let mut bytes = Block::zero();
+            bytes.copy_from(block);
+            Ok(begun_vio(sizes, request, Asks::Write, *at, bytes)?)
+        }
+        Request::Discard(at) => {
+            let zeros = Block::zero();
+            Ok(begun_vio(sizes, request, Asks::Write, *at, zeros)?)
+        }
+        Request::Flush => {
+            let zeros = Block::zero();
+            let vio = begun_vio(sizes, request, Asks::Flush, Lba(0), zeros)?;
+            Ok(turned(vio, Phase::Flush))
+        }
+    }
+}
+
+// What a request is answered with at once.
+fn at_once(sizes: &Sizes, told: bool, asked: &Request) -> Option<Answer>
+    ensures { result ≡ rows.at_once sizes.now told asked.now }
+{
+    let logical = sizes.geometry.logical;
+    match asked {
+        Request::Read(at) => {
+            if at.0 < logical {
+                None
+            } else {
+                Some(Answer::Range)
+            }
+        }
+        Request::Write { at, .. } | Request::Discard(at) => {
+            if at.0 >= logical {
+                Some(Answer::Range)
+            } else if told {
+                Some(Answer::Stopped)
+            } else {
+                None
+            }
+        }
+        Request::Flush => { if told { Some(Answer::Stopped) } else { None } }
+    }
+}
+
+// A block request goes to the logical zone of its address, a flush to the device.
+fn first_zone(sizes: &Sizes, vio: &Vio) -> Result<u32, StepFault>
+    ensures { IfOk result (λ number. number ≡ rows.first_zone sizes.now vio.now) }
+{
+    match vio.asks {
+        Asks::Read | Asks::Write => Ok(vio.home),
+        Asks::Flush => Ok(device_zone(sizes)?),
+    }
+}
+
+// The number of the next request of a stream, where it may be begun.
+fn next_of(sizes: &Sizes, desk: &Desk, stream: u8) -> Result<Option<u32>, StepFault>
+    ensures may { IfOk result (λ next. IfSome next (λ number.
+        IsNextLine sizes.now.depth desk.now.requests (line.Begin (record { stream = stream; number = number })) desk.now.log)) }
+    ensures none { IfOk result (λ next. IfNone next (
+        (number : ℕ) → IsNextLine sizes.now.depth desk.now.requests (line.Begin (record { stream = stream; number = number })) desk.now.log → ⊥)) }
+{
+    let lines = desk.log.as_slice();
+    let next = begun(stream, lines);
+    let done = answered(stream, lines);
+    let requests = desk.requests.stream(stream);
+    if next >= requests.len() || next as u64 >= done as u64 + u64::from(sizes.depth) {
+        return Ok(None);
+    }
+    match u32::try_from(next) {
+        Ok(number) => Ok(Some(number)),
+        Err(_) => Err(StepFault::Numbers),
+    }
+}
+
+// The next request of the lowest stream that may begin one.
+fn lowest(sizes: &Sizes, desk: &Desk) -> Result<Option<Writer>, StepFault>
+    ensures may { IfOk result (λ next. IfSome next (λ request. IsNextLine sizes.now.depth desk.now.requests (line.Begin request) desk.now.log)) }
+    ensures none { IfOk result (λ next. IfNone next (MayBegin sizes.now (at.Desk desk.now) → ⊥)) }
+{
+    for number in 0..desk.requests.count() {
+        let Ok(stream) = u8::try_from(number) else {
+            return Err(StepFault::Numbers);
+        };
+        if let Some(number) = next_of(sizes, desk, stream)? {
+            return Ok(Some(Writer { stream, number }));
+        }
+    }
+    Ok(None)
+}
+
+// A request is begun, and sent on.
+fn send(
+    alloc: Global,
+    sizes: &Sizes,
+    desk: &mut Desk,
+    request: Writer,
+    vio: Vio,
+) -> Result<Posts, StepFault>
+    ensures desk { IfOk result (λ posts. desk.new ≡ record desk.old { log = line.Begin request ∷ desk.old.log }) }
+    ensures posts { IfOk result (λ posts. posts ≡ (rows.first_zone sizes.now vio, item.Request vio) ∷ []) }
+{
+    desk.log.push(DeskLine::Begin { request })?;
+    let to = first_zone(sizes, &vio)?;
+    Ok(Posts::one(alloc, to, Item::Request(vio))?)
+}
+
+// A request is begun, and answered at once or sent on.
+fn begin_one(
+    alloc: Global,
+    sizes: &Sizes,
+    desk: &mut Desk,
+    request: Writer,
+) -> Result<Posts, StepFault>
+    requires { IsNextLine sizes.now.depth desk.old.requests (line.Begin request) desk.old.log }
+    ensures { IfOk result (λ posts. (made : Trace) × rows.DeskBegins sizes.now desk.old desk.new made posts) }
+{
+    let told = is_told(sizes, desk);
+    let requests = desk.requests.stream(request.stream);
+    let Some(asked) = requests.get(request.number as usize) else {
+        return Err(StepFault::Numbers);
+    };
+    match at_once(sizes, told, asked) {
+        Some(given) => {
+            desk.log.push(DeskLine::Begin { request })?;
+            answer(desk, request, given)?;
+            Ok(Posts::none(alloc))
+        }
+        None => {
+            let vio = vio_of(sizes, request, asked)?;
+            Ok(send(alloc, sizes, desk, request, vio)?)
+        }
+    }
+}
+
+/// The next request of the lowest stream that may begin one is begun; none where no stream may.
+pub(crate) fn begin_next(
+    alloc: Global,
+    sizes: &Sizes,
+    desk: &mut Desk,
+) -> Result<Option<Posts>, StepFault>
+    ensures begun { IfOk result (λ begun. IfSome begun (λ posts. (made : Trace) × rows.DeskBegins sizes.now desk.old desk.new made posts)) }
+    ensures same { IfOk result (λ begun. IfNone begun (desk.new ≡ desk.old)) }
+    ensures none { IfOk result (λ begun. IfNone begun (MayBegin sizes.now (at.Desk desk.old) → ⊥)) }
+{
+    match lowest(sizes, desk)? {
+        Some(request) => Ok(Some(begin_one(alloc, sizes, desk, request)?)),
+        None => Ok(None),
+    }
+}

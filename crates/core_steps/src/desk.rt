@@ -1,0 +1,119 @@
+ghost use Rattle.std.specs.Prelude.{◌≡◌, [], ◌∷◌, ◌++◌, ◌+◌, IfOk, OnOk, Some, true, false};
+ghost use Rattle.blk_base.specs.declared.request.Answer.{Answer};
+ghost use Rattle.blk_base.specs.declared.request.Answer.TheVariants.{Ok};
+ghost use Rattle.core_laws.specs.declared.items.Phase.TheVariants.{Reply};
+ghost use Rattle.vdo_model.specs.declared.report.DeskLine.TheVariants as line;
+ghost use Rattle.core_laws.specs.DeskRows as rows;
+ghost use Rattle.core_laws.specs.Trace.{Trace};
+
+use crate::StepFault;
+use crate::lists::wake_all;
+use crate::posts::Posts;
+use blk_base::{Answer, Writer};
+use core_laws::{Asks, Desk, Fifo, Phase, Sizes, Vio};
+use std::alloc::Global;
+use vdo_model::{DeskLine, FlushMark};
+
+/// Whether every zone has told the desk that the session is stopped.
+pub(crate) fn is_told(sizes: &Sizes, desk: &Desk) -> bool
+    ensures { result ≡ rows.is_told sizes.now desk.now }
+{
+    u64::from(sizes.zones) + 1 < u64::from(desk.told)
+}
+
+// Whether an answer is that of a flush that returned.
+fn is_marked(asks: Asks, answer: &Answer) -> bool
+    ensures { result ≡ rows.is_marked asks answer.now }
+{
+    matches!((asks, answer), (Asks::Flush, Answer::Ok))
+}
+
+// Whether an answer waits until every zone has told of the stop.
+fn is_stopped(answer: &Answer) -> bool
+    ensures { result ≡ rows.is_stopped answer.now }
+{
+    matches!(answer, Answer::Stopped | Answer::Damaged)
+}
+
+/// A request is answered.
+pub(crate) fn answer(desk: &mut Desk, request: Writer, answer: Answer) -> Result<(), StepFault>
+    ensures { OnOk result (desk.new ≡ record desk.old { log = line.Answer request answer ∷ desk.old.log }) }
+{
+    desk.log.push(DeskLine::Answer { request, answer })?;
+    Ok(())
+}
+
+// A flush is answered, with its mark.
+fn mark(desk: &mut Desk, mark: FlushMark) -> Result<(), StepFault>
+    ensures { OnOk result (desk.new ≡ record desk.old { log = line.Answer mark.request Ok ∷ desk.old.log; marks = mark ∷ desk.old.marks }) }
+{
+    answer(desk, mark.request, Answer::Ok)?;
+    desk.marks.push(mark)?;
+    Ok(())
+}
+
+// A request that need not wait is answered.
+fn reply(alloc: Global, sizes: &Sizes, desk: &mut Desk, vio: Vio) -> Result<Posts, StepFault>
+    requires phase { vio.phase ≡ Reply }
+    requires told { (given : Answer) → vio.answer ≡ Some given → rows.is_stopped given ≡ true → rows.is_told sizes.now desk.old ≡ true }
+    ensures { IfOk result (λ posts. (made : Trace) × rows.DeskServes sizes.now desk.old vio desk.new made posts) }
+{
+    let _sizes = sizes;
+    let Vio {
+        request,
+        asks,
+        calls,
+        answer: given,
+        ..
+    } = vio;
+    match given {
+        None => Err(StepFault::Stray),
+        Some(given) => {
+            if is_marked(asks, &given) {
+                mark(desk, FlushMark { request, calls })?;
+                Ok(Posts::none(alloc))
+            } else {
+                answer(desk, request, given)?;
+                Ok(Posts::none(alloc))
+            }
+        }
+    }
+}
+
+/// A request that comes back is answered, or waits until every zone has told of the stop.
+pub(crate) fn serve_desk(
+    alloc: Global,
+    sizes: &Sizes,
+    desk: &mut Desk,
+    vio: Vio,
+) -> Result<Posts, StepFault>
+    ensures { IfOk result (λ posts. (made : Trace) × rows.DeskServes sizes.now desk.old vio desk.new made posts) }
+{
+    let Phase::Reply = vio.phase else {
+        return Err(StepFault::Stray);
+    };
+    let Some(given) = &vio.answer else {
+        return Err(StepFault::Stray);
+    };
+    if is_stopped(given) && !is_told(sizes, desk) {
+        desk.parked.push(vio)?;
+        Ok(Posts::none(alloc))
+    } else {
+        Ok(reply(alloc, sizes, desk, vio)?)
+    }
+}
+
+/// A zone has told of the stop: those that wait for it look again.
+pub(crate) fn hear_desk(alloc: Global, desk: &mut Desk) -> Result<Posts, StepFault>
+    ensures desk { OnOk result (desk.new ≡ rows.with_word desk.old) }
+    ensures posts { IfOk result (λ posts. posts ≡ rows.woken desk.old.parked) }
+{
+    let Some(told) = desk.told.checked_add(1) else {
+        return Err(StepFault::Numbers);
+    };
+    desk.told = told;
+    let parked = std::mem::replace(&mut desk.parked, Fifo::new(alloc));
+    let mut posts = Posts::none(alloc);
+    wake_all(parked, &mut posts)?;
+    Ok(posts)
+}

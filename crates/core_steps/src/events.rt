@@ -1,0 +1,99 @@
+ghost use Rattle.std.specs.Prelude.{◌≡◌, Some, IfOk, OnOk, slice_get};
+ghost use Rattle.core_laws.specs.declared.zones.Zone.{Zone};
+ghost use Rattle.core_laws.specs.Steps.{IsIdle};
+ghost use Rattle.core_steps.specs.Plays.{Steps, LeadsTo};
+ghost use Rattle.core_steps.specs.declared.fault.Stepped.TheVariants.{Did, Idle};
+
+use crate::moving::move_items;
+use crate::stepping::step_zone;
+use crate::zones::Zones;
+use crate::{StepFault, Stepped};
+use core_laws::Sizes;
+use disk_model::Disk;
+use std::alloc::Global;
+
+/// What may happen next.
+#[derive(Clone, Copy, Debug, PartialEq, Eq)]
+pub enum Event {
+    /// The zone of this number steps.
+    Step(u32),
+    /// What the first zone posted to the second one moves there.
+    Move(u32, u32),
+}
+
+/// One zone of a core steps. It is idle where no zone has the number.
+pub fn step<D: Disk>(
+    alloc: Global,
+    sizes: &Sizes,
+    zones: &mut Zones,
+    number: u32,
+    disk: &mut D,
+) -> Result<Stepped, StepFault>
+    ensures size { D.size disk.new ≡ D.size disk.old }
+    ensures opening { D.opening disk.new ≡ D.opening disk.old }
+    ensures did { IfOk result (λ stepped. stepped ≡ Did → Steps D.tells sizes.now zones.old zones.new (D.log disk.old) (D.log disk.new)) }
+    ensures idle { IfOk result (λ stepped. stepped ≡ Idle → (zone : Zone) → slice_get zones.old number ≡ Some zone → IsIdle sizes.now zone) }
+    ensures busy { IfOk result (λ stepped. stepped ≡ Did → (zone : Zone) → slice_get zones.old number ≡ Some zone → IsIdle sizes.now zone → ⊥) }
+    ensures same { IfOk result (λ stepped. stepped ≡ Idle → zones.new ≡ zones.old) }
+    ensures silent { IfOk result (λ stepped. stepped ≡ Idle → D.log disk.new ≡ D.log disk.old) }
+{
+    let number = number as usize;
+    if number >= zones.zones.len() {
+        return Ok(Stepped::Idle);
+    }
+    let zone = &mut zones.zones[number];
+    let stepped = step_zone(alloc, sizes, zone, disk)?;
+    Ok(stepped)
+}
+
+/// One event.
+fn play_one<D: Disk>(
+    alloc: Global,
+    sizes: &Sizes,
+    zones: &mut Zones,
+    event: Event,
+    disk: &mut D,
+) -> Result<Stepped, StepFault>
+    ensures size { D.size disk.new ≡ D.size disk.old }
+    ensures opening { D.opening disk.new ≡ D.opening disk.old }
+    ensures leads { OnOk result (LeadsTo D.tells sizes.now zones.old zones.new (D.log disk.old) (D.log disk.new)) }
+    ensures same { IfOk result (λ stepped. stepped ≡ Idle → zones.new ≡ zones.old) }
+{
+    let _sizes = sizes;
+    match event {
+        Event::Step(number) => Ok(step(alloc, sizes, zones, number, disk)?),
+        Event::Move(from, to) => Ok(move_items(alloc, zones, from, to)?),
+    }
+}
+
+// Whether there was work for one of two events.
+fn either(first: Stepped, second: Stepped) -> Stepped
+    ensures first { result ≡ Idle → first ≡ Idle }
+    ensures second { result ≡ Idle → second ≡ Idle }
+{
+    match (first, second) {
+        (Stepped::Idle, Stepped::Idle) => Stepped::Idle,
+        (Stepped::Did, _) | (_, Stepped::Did) => Stepped::Did,
+    }
+}
+
+/// Events one after another, and whether there was work for any of them.
+pub fn play<D: Disk>(
+    alloc: Global,
+    sizes: &Sizes,
+    zones: &mut Zones,
+    events: &[Event],
+    disk: &mut D,
+) -> Result<Stepped, StepFault>
+    ensures size { D.size disk.new ≡ D.size disk.old }
+    ensures opening { D.opening disk.new ≡ D.opening disk.old }
+    ensures leads { OnOk result (LeadsTo D.tells sizes.now zones.old zones.new (D.log disk.old) (D.log disk.new)) }
+    ensures same { IfOk result (λ stepped. stepped ≡ Idle → zones.new ≡ zones.old) }
+{
+    let mut any = Stepped::Idle;
+    for event in events {
+        let stepped = play_one(alloc, sizes, zones, *event, disk)?;
+        any = either(any, stepped);
+    }
+    Ok(any)
+}

@@ -1,0 +1,42 @@
+ghost use Rattle.std.specs.Prelude.{◌≡◌, OnOk};
+ghost use Rattle.core_laws.specs.Steps.{posted, sent, delivered};
+
+use crate::StepFault;
+use crate::posts::Posts;
+use core_laws::{Fifo, Item, Zone};
+
+// An item goes behind those of one outbox.
+fn post(outboxes: &mut Fifo<Fifo<Item>>, to: u32, item: Item) -> Result<(), StepFault>
+    ensures { OnOk result (outboxes.new ≡ posted to item outboxes.old) }
+{
+    let to = to as usize;
+    if to >= outboxes.items.len() {
+        return Err(StepFault::Stray);
+    }
+    let outbox = &mut outboxes.items[to];
+    outbox.push(item)?;
+    Ok(())
+}
+
+// What a zone posts to itself goes to its own inbox.
+fn send(zone: &mut Zone, to: u32, item: Item) -> Result<(), StepFault>
+    ensures { OnOk result (zone.new ≡ sent (to, item) zone.old) }
+{
+    if to == zone.number {
+        zone.inbox.push(item)?;
+        Ok(())
+    } else {
+        post(&mut zone.outboxes, to, item)?;
+        Ok(())
+    }
+}
+
+/// The posts go to their lanes, in their order.
+pub(crate) fn deliver(zone: &mut Zone, mut posts: Posts) -> Result<(), StepFault>
+    ensures { OnOk result (zone.new ≡ delivered posts zone.old) }
+{
+    while let Some((to, item)) = posts.pop() {
+        send(zone, to, item)?;
+    }
+    Ok(())
+}

@@ -1,0 +1,71 @@
+ghost use Rattle.std.specs.Prelude.{◌≡◌, [], ◌∷◌, true, IfOk};
+ghost use Rattle.core_laws.specs.Numbers.{desk_zone};
+ghost use Rattle.core_laws.specs.JournalRows.{PhysicalServes};
+ghost use Rattle.core_laws.specs.Vios as vios;
+ghost use Rattle.core_laws.specs.declared.items.Item.TheVariants.{Request, Notice};
+ghost use Rattle.core_laws.specs.declared.items.Phase.TheVariants.{Claim};
+
+use crate::numbers::{DESK, device_zone};
+use crate::vios::{ended, turned};
+use crate::{Posts, StepFault};
+use blk_base::Answer;
+use core_laws::{Item, Phase, PhysicalZone, Sizes, Vio};
+use std::alloc::Global;
+
+/// A write takes the first free block, or there is none.
+fn claim(
+    alloc: Global,
+    sizes: &Sizes,
+    zone: &mut PhysicalZone,
+    mut vio: Vio,
+) -> Result<Posts, StepFault>
+    requires { vio.phase ≡ Claim }
+    ensures { IfOk result (λ posts. PhysicalServes sizes.now zone.old vio zone.new [] posts) }
+{
+    let home = vio.home;
+    match zone.free.pop() {
+        Some(block) => {
+            vio.phase = Phase::Store;
+            vio.block = block;
+            Ok(Posts::one(alloc, device_zone(sizes)?, Item::Request(vio))?)
+        }
+        None => {
+            let full = ended(vio, Phase::Leave, Answer::Full);
+            Ok(Posts::one(alloc, home, Item::Request(full))?)
+        }
+    }
+}
+
+/// A request goes back to its logical zone.
+fn go_home(alloc: Global, vio: Vio, phase: Phase) -> Result<Posts, StepFault>
+    ensures { IfOk result (λ posts. posts ≡ (vio.home, Request (vios.turned phase vio)) ∷ []) }
+{
+    let home = vio.home;
+    Posts::one(alloc, home, Item::Request(turned(vio, phase)))
+}
+
+/// What the physical zone does with a request in front of its inbox.
+pub fn serve_physical(
+    alloc: Global,
+    sizes: &Sizes,
+    zone: &mut PhysicalZone,
+    vio: Vio,
+) -> Result<Posts, StepFault>
+    ensures { IfOk result (λ posts. PhysicalServes sizes.now zone.old vio zone.new [] posts) }
+{
+    match vio.phase {
+        Phase::Claim => Ok(claim(alloc, sizes, zone, vio)?),
+        Phase::Return => Ok(go_home(alloc, vio, Phase::Leave)?),
+        Phase::Spend => Ok(go_home(alloc, vio, Phase::Die)?),
+        _ => Err(StepFault::Stray),
+    }
+}
+
+/// The physical zone hears that the session is stopped, and passes it on.
+pub fn hear_stop(alloc: Global, zone: &mut PhysicalZone) -> Result<Posts, StepFault>
+    ensures zone { zone.new ≡ record zone.old { told = true } }
+    ensures posts { IfOk result (λ posts. posts ≡ (desk_zone, Notice) ∷ []) }
+{
+    zone.told = true;
+    Posts::one(alloc, DESK, Item::Notice)
+}

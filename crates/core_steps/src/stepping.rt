@@ -1,0 +1,61 @@
+ghost use Rattle.std.specs.Prelude.{◌≡◌, [], IfOk, IfSome, IfNone};
+ghost use Rattle.core_laws.specs.Steps.{IsIdle, MayBegin};
+ghost use Rattle.core_steps.specs.Acts.{ActsAlone};
+ghost use Rattle.core_steps.specs.Plays.{ZoneSteps};
+ghost use Rattle.core_steps.specs.declared.fault.Stepped.TheVariants.{Did, Idle};
+
+use crate::acting::act;
+use crate::beginning::begin_next;
+use crate::lanes::deliver;
+use crate::posts::Posts;
+use crate::{StepFault, Stepped};
+use core_laws::{Sizes, Zone, ZoneData};
+use disk_model::Disk;
+use std::alloc::Global;
+
+// With no item the desk begins a request, where one may begin.
+fn begin(alloc: Global, sizes: &Sizes, keeps: &mut ZoneData) -> Result<Option<Posts>, StepFault>
+    ensures begun { IfOk result (λ begun. IfSome begun (ActsAlone sizes.now keeps.old [] keeps.new)) }
+    ensures might { IfOk result (λ begun. IfSome begun (λ posts. MayBegin sizes.now keeps.old)) }
+    ensures same { IfOk result (λ begun. IfNone begun (keeps.new ≡ keeps.old)) }
+    ensures none { IfOk result (λ begun. IfNone begun (MayBegin sizes.now keeps.old → ⊥)) }
+{
+    match keeps {
+        ZoneData::Desk(desk) => Ok(begin_next(alloc, sizes, desk)?),
+        ZoneData::Logical(_) | ZoneData::Physical(_) | ZoneData::Journal(_) | ZoneData::Device(_) =>
+            Ok(None),
+    }
+}
+
+/// One step of a zone: it takes the item in front of its inbox, or, where it is the desk and has none, begins the next
+/// request of the lowest stream that may begin one. It is idle exactly where there is neither. Where the device tells,
+/// the calls that it made stand in its log.
+pub fn step_zone<D: Disk>(
+    alloc: Global,
+    sizes: &Sizes,
+    zone: &mut Zone,
+    disk: &mut D,
+) -> Result<Stepped, StepFault>
+    ensures size { D.size disk.new ≡ D.size disk.old }
+    ensures opening { D.opening disk.new ≡ D.opening disk.old }
+    ensures did { IfOk result (λ stepped. stepped ≡ Did → ZoneSteps D.tells sizes.now zone.old zone.new (D.log disk.old) (D.log disk.new)) }
+    ensures busy { IfOk result (λ stepped. stepped ≡ Did → IsIdle sizes.now zone.old → ⊥) }
+    ensures idle { IfOk result (λ stepped. stepped ≡ Idle → IsIdle sizes.now zone.old) }
+    ensures same { IfOk result (λ stepped. stepped ≡ Idle → zone.new ≡ zone.old) }
+    ensures silent { IfOk result (λ stepped. stepped ≡ Idle → D.log disk.new ≡ D.log disk.old) }
+{
+    match zone.inbox.pop() {
+        Some(item) => {
+            let posts = act(alloc, sizes, &mut zone.keeps, item, disk)?;
+            deliver(zone, posts)?;
+            Ok(Stepped::Did)
+        }
+        None => match begin(alloc, sizes, &mut zone.keeps)? {
+            Some(posts) => {
+                deliver(zone, posts)?;
+                Ok(Stepped::Did)
+            }
+            None => Ok(Stepped::Idle),
+        },
+    }
+}
