@@ -27,11 +27,40 @@ pub(crate) fn fresh(alloc: Global) -> Result<MemDisk, AllocError> {
     MemDisk::from_blocks(alloc, blocks)
 }
 
-// A run on this device, and what it put.
+// A run that ended: its device, its status and what it put.
 #[derive(Drop)]
 pub(crate) struct Ran {
-    pub(crate) ended: Ended<MemDisk>,
+    pub(crate) device: MemDisk,
+    pub(crate) status: u8,
     pub(crate) sink: MemSink,
+}
+
+// These words.
+fn words_of(alloc: Global, row: &[&str]) -> Result<Words, AllocError> {
+    let mut words = Words::new(alloc);
+    for word in row {
+        words.push(word)?;
+    }
+    Ok(words)
+}
+
+fn run_words<R: Threads + Wait + Sync>(
+    rt: &R,
+    alloc: Global,
+    words: &Words,
+    device: MemDisk,
+    source: MemSource,
+    room: usize,
+) -> Result<Ran, AllocError> {
+    let mut source = source;
+    let mut sink = MemSink::new(alloc, room)?;
+    let ended = run(rt, words, device, &mut source, &mut sink, &OpenGate);
+    let Ended { device, status, .. } = ended;
+    Ok(Ran {
+        device,
+        status,
+        sink,
+    })
 }
 
 pub(crate) fn run_on<R: Threads + Wait + Sync>(
@@ -42,12 +71,20 @@ pub(crate) fn run_on<R: Threads + Wait + Sync>(
     fails_at: Option<u64>,
     room: usize,
 ) -> Result<Ran, AllocError> {
-    let mut words = Words::new(alloc);
-    words.push("run")?;
-    let mut source = MemSource::new(script.to_vec(alloc)?, fails_at);
-    let mut sink = MemSink::new(alloc, room)?;
-    let ended = run(rt, &words, device, &mut source, &mut sink, &OpenGate);
-    Ok(Ran { ended, sink })
+    let source = MemSource::new(script.to_vec(alloc)?, fails_at);
+    let words = words_of(alloc, &["run"])?;
+    run_words(rt, alloc, &words, device, source, room)
+}
+
+// The run put this text and ended with this status.
+fn shows<R: Abort>(rt: &R, ran: &Ran, text: &[u8], status: u8) {
+    assert_eq!(rt; ran.sink.bytes(), text);
+    assert_eq!(rt; ran.status, status);
+}
+
+// So many calls of the device were made.
+pub(crate) fn has_calls<R: Abort>(rt: &R, device: &MemDisk, count: usize) {
+    assert_eq!(rt; device.calls().len(), count);
 }
 
 // Runs a script on a device, which puts this text and ends with this status, and gives the device back.
@@ -59,10 +96,9 @@ pub(crate) fn puts<R: Threads + Wait + Sync + Abort>(
     text: &[u8],
     status: u8,
 ) -> Result<MemDisk, Fail> {
-    let Ran { ended, sink } = run_on(rt, alloc, device, script, None, 2000)?;
-    assert_eq!(rt; sink.bytes(), text);
-    assert_eq!(rt; ended.status, status);
-    let Ended { device, .. } = ended;
+    let ran = run_on(rt, alloc, device, script, None, 2000)?;
+    shows(rt, &ran, text, status);
+    let Ran { device, .. } = ran;
     Ok(device)
 }
 
@@ -80,146 +116,154 @@ fn failing(alloc: Global, kind: CallKind, at: u32) -> Result<MemDisk, AllocError
     Ok(device)
 }
 
+/// A script, the text that a run of it puts, and the run's status.
+pub(crate) type Case = (&'static [u8], &'static [u8], u8);
+
+// Each of these scripts is run on a device with a fresh image.
+fn each_puts<R: Threads + Wait + Sync + Abort>(
+    rt: &R,
+    alloc: Global,
+    cases: &[Case],
+) -> Result<(), Fail> {
+    for (script, text, status) in cases {
+        puts(rt, alloc, fresh(alloc)?, script, text, *status)?;
+    }
+    Ok(())
+}
+
 #[test]
 fn scripts_on_a_fresh_image(rt: HostRuntime) -> Result<(), Fail> {
-    puts(
+    each_puts(
         &rt,
         rt.alloc(),
-        fresh(rt.alloc())?,
-        b"0 write 5 4096*61\n0 read 5\n",
-        b"0 0 write 5 ok z0:0\n0 1 read 5 4096*61 z0:1\n",
-        0,
-    )?;
-    puts(&rt, rt.alloc(), fresh(rt.alloc())?, b"", b"", 0)?;
-    // The last value wins, and another address has its own.
-    puts(
-        &rt,
-        rt.alloc(),
-        fresh(rt.alloc())?,
-        b"0 write 1 4096*61\n0 write 2 4096*62\n0 write 1 4096*63\n0 read 1\n0 flush\n0 read 2\n0 read 3",
-        b"0 0 write 1 ok z0:0\n0 1 write 2 ok z0:1\n0 2 write 1 ok z0:2\n0 3 read 1 4096*63 z0:3\n0 4 flush ok\n0 5 read 2 4096*62 z0:4\n0 6 read 3 4096*00 z0:5\n",
-        0,
-    )?;
-    Ok(())
+        &[
+            (
+                b"0 write 5 4096*61\n0 read 5\n",
+                b"0 0 write 5 ok z0:0\n0 1 read 5 4096*61 z0:1\n",
+                0,
+            ),
+            (b"", b"", 0),
+            // The last value wins, and another address has its own.
+            (
+                b"0 write 1 4096*61\n0 write 2 4096*62\n0 write 1 4096*63\n0 read 1\n0 flush\n0 read 2\n0 read 3",
+                b"0 0 write 1 ok z0:0\n0 1 write 2 ok z0:1\n0 2 write 1 ok z0:2\n0 3 read 1 4096*63 z0:3\n0 4 flush ok\n0 5 read 2 4096*62 z0:4\n0 6 read 3 4096*00 z0:5\n",
+                0,
+            ),
+        ],
+    )
 }
 
 // Each journal block has one entry.
 #[test]
 fn all_journal_blocks_are_used(rt: HostRuntime) -> Result<(), Fail> {
-    puts(
+    each_puts(
         &rt,
         rt.alloc(),
-        fresh(rt.alloc())?,
-        b"0 write 0 4096*61\n0 write 1 4096*61\n0 write 2 4096*61\n0 write 3 4096*61\n0 write 4 4096*61\n0 write 5 4096*61\n0 write 6 4096*61\n0 write 7 4096*61\n0 write 8 4096*61\n",
-        b"0 0 write 0 ok z0:0\n0 1 write 1 ok z0:1\n0 2 write 2 ok z0:2\n0 3 write 3 ok z0:3\n0 4 write 4 ok z0:4\n0 5 write 5 ok z0:5\n0 6 write 6 ok z0:6\n0 7 write 7 ok z0:7\n0 8 write 8 full z0:8\n",
-        1,
-    )?;
+        &[(
+            b"0 write 0 4096*61\n0 write 1 4096*61\n0 write 2 4096*61\n0 write 3 4096*61\n0 write 4 4096*61\n0 write 5 4096*61\n0 write 6 4096*61\n0 write 7 4096*61\n0 write 8 4096*61\n",
+            b"0 0 write 0 ok z0:0\n0 1 write 1 ok z0:1\n0 2 write 2 ok z0:2\n0 3 write 3 ok z0:3\n0 4 write 4 ok z0:4\n0 5 write 5 ok z0:5\n0 6 write 6 ok z0:6\n0 7 write 7 ok z0:7\n0 8 write 8 full z0:8\n",
+            1,
+        )],
+    )
+}
+
+// On a device with a fresh image, of which this call fails once without effect, each run of a script puts this text and
+// ends with status 3.
+fn each_fails<R: Threads + Wait + Sync + Abort>(
+    rt: &R,
+    alloc: Global,
+    rows: &[(CallKind, u32, &[u8], &[u8])],
+) -> Result<(), Fail> {
+    for (kind, at, script, text) in rows {
+        puts(rt, alloc, failing(alloc, *kind, *at)?, script, text, 3)?;
+    }
     Ok(())
 }
 
 #[test]
 fn a_write_of_the_device_fails(rt: HostRuntime) -> Result<(), Fail> {
-    // The first write of a data block fails.
-    puts(
+    each_fails(
         &rt,
         rt.alloc(),
-        failing(rt.alloc(), CallKind::Write, 85)?,
-        b"0 write 5 4096*61\n0 flush\n0 read 5\n0 write 6 4096*61\n",
-        b"0 0 write 5 stopped z0:0\n0 1 flush stopped\n0 2 read 5 4096*00 z0:1\n0 3 write 6 stopped\n",
-        3,
-    )?;
-    // The write of a journal block fails, and the old value stays.
-    puts(
-        &rt,
-        rt.alloc(),
-        failing(rt.alloc(), CallKind::Write, 3)?,
-        b"0 write 5 4096*61\n0 write 5 4096*62\n0 read 5\n",
-        b"0 0 write 5 ok z0:0\n0 1 write 5 stopped z0:1\n0 2 read 5 4096*61 z0:2\n",
-        3,
-    )?;
-    Ok(())
+        &[
+            // The first write of a data block fails.
+            (
+                CallKind::Write,
+                85,
+                b"0 write 5 4096*61\n0 flush\n0 read 5\n0 write 6 4096*61\n",
+                b"0 0 write 5 stopped z0:0\n0 1 flush stopped\n0 2 read 5 4096*00 z0:1\n0 3 write 6 stopped\n",
+            ),
+            // The write of a journal block fails, and the old value stays.
+            (
+                CallKind::Write,
+                3,
+                b"0 write 5 4096*61\n0 write 5 4096*62\n0 read 5\n",
+                b"0 0 write 5 ok z0:0\n0 1 write 5 stopped z0:1\n0 2 read 5 4096*61 z0:2\n",
+            ),
+        ],
+    )
 }
 
 #[test]
 fn another_call_of_the_device_fails(rt: HostRuntime) -> Result<(), Fail> {
-    puts(
+    each_fails(
         &rt,
         rt.alloc(),
-        failing(rt.alloc(), CallKind::Flush, 0)?,
-        b"0 flush\n0 read 0\n0 flush\n",
-        b"0 0 flush stopped\n0 1 read 0 4096*00 z0:0\n0 2 flush stopped\n",
-        3,
-    )?;
-    // A data block can't be read, once.
-    puts(
-        &rt,
-        rt.alloc(),
-        failing(rt.alloc(), CallKind::Read, 85)?,
-        b"0 write 5 4096*61\n0 read 5\n0 read 5\n",
-        b"0 0 write 5 ok z0:0\n0 1 read 5 read fault z0:1\n0 2 read 5 4096*61 z0:2\n",
-        3,
-    )?;
-    // The superblock can't be read, or a block of the journal.
-    puts(
-        &rt,
-        rt.alloc(),
-        failing(rt.alloc(), CallKind::Read, 0)?,
-        b"0 read 5\n",
-        b"device fault\n",
-        3,
-    )?;
-    puts(
-        &rt,
-        rt.alloc(),
-        failing(rt.alloc(), CallKind::Read, 8)?,
-        b"0 read 5\n",
-        b"device fault\n",
-        3,
-    )?;
-    Ok(())
+        &[
+            (
+                CallKind::Flush,
+                0,
+                b"0 flush\n0 read 0\n0 flush\n",
+                b"0 0 flush stopped\n0 1 read 0 4096*00 z0:0\n0 2 flush stopped\n",
+            ),
+            // A data block can't be read, once.
+            (
+                CallKind::Read,
+                85,
+                b"0 write 5 4096*61\n0 read 5\n0 read 5\n",
+                b"0 0 write 5 ok z0:0\n0 1 read 5 read fault z0:1\n0 2 read 5 4096*61 z0:2\n",
+            ),
+            // The superblock can't be read, or a block of the journal.
+            (CallKind::Read, 0, b"0 read 5\n", b"device fault\n"),
+            (CallKind::Read, 8, b"0 read 5\n", b"device fault\n"),
+        ],
+    )
 }
 
 #[test]
 fn lines_that_are_refused(rt: HostRuntime) -> Result<(), Fail> {
-    puts(
+    each_puts(
         &rt,
         rt.alloc(),
-        fresh(rt.alloc())?,
-        b"0 discard 5 1\n",
-        b"script line 1: later\n",
-        2,
-    )?;
-    puts(
-        &rt,
-        rt.alloc(),
-        fresh(rt.alloc())?,
-        b"0 read 5\n0 read 1000\n",
-        b"script line 2: later\n",
-        2,
-    )?;
-    puts(
-        &rt,
-        rt.alloc(),
-        fresh(rt.alloc())?,
-        b"0 read 0000000000000000000000000000000000000000000000000000000005\n",
-        b"script line 1: later\n",
-        2,
-    )?;
-    Ok(())
+        &[
+            (b"0 discard 5 1\n", b"script line 1: later\n", 2),
+            (b"0 read 5\n0 read 1000\n", b"script line 2: later\n", 2),
+            (
+                b"0 read 0000000000000000000000000000000000000000000000000000000005\n",
+                b"script line 1: later\n",
+                2,
+            ),
+        ],
+    )
+}
+
+// A script of so many flushes.
+fn flushes(alloc: Global, count: u64) -> Result<Vec<u8>, AllocError> {
+    let mut script = Vec::new(alloc);
+    for _ in 0..count {
+        script.extend_from_slice(b"0 flush\n")?;
+    }
+    Ok(script)
 }
 
 #[test]
 fn a_request_too_many(rt: HostRuntime) -> Result<(), Fail> {
     let alloc = rt.alloc();
-    let mut script = Vec::new(alloc);
-    for _ in 0..1025_u64 {
-        script.extend_from_slice(b"0 flush\n")?;
-    }
-    let ran = run_on(&rt, alloc, fresh(alloc)?, script.as_slice(), None, 2000)?;
-    assert_eq!(rt; ran.sink.bytes(), b"script line 1025: later\n".as_slice());
-    assert_eq!(rt; ran.ended.status, 2);
+    let script = flushes(alloc, 1025)?;
+    let text = b"script line 1025: later\n";
+    let device = puts(&rt, alloc, fresh(alloc)?, script.as_slice(), text, 2)?;
     // The superblock and the journal were read, and nothing was written.
-    assert_eq!(rt; ran.ended.device.calls().len(), 9);
+    has_calls(&rt, &device, 9);
     Ok(())
 }
 
@@ -234,9 +278,8 @@ fn ends<R: Threads + Wait + Sync + Abort>(
     status: u8,
 ) -> Result<(), Fail> {
     let script = b"0 write 5 4096*61\n0 read 5\n";
-    let Ran { ended, sink } = run_on(rt, alloc, device, script, fails_at, room)?;
-    assert_eq!(rt; sink.bytes(), text);
-    assert_eq!(rt; ended.status, status);
+    let ran = run_on(rt, alloc, device, script, fails_at, room)?;
+    shows(rt, &ran, text, status);
     Ok(())
 }
 
@@ -253,64 +296,51 @@ fn the_outside_fails(rt: HostRuntime) -> Result<(), Fail> {
 
 #[test]
 fn no_image(rt: HostRuntime) -> Result<(), Fail> {
-    let alloc = rt.alloc();
-    let none = b"bad image: not an image\n";
-    puts(
-        &rt,
-        alloc,
-        MemDisk::zeroed(alloc, 0)?,
-        b"0 read 5\n",
-        none,
-        4,
-    )?;
-    puts(
-        &rt,
-        alloc,
-        MemDisk::zeroed(alloc, 154)?,
-        b"0 read 5\n",
-        none,
-        4,
-    )?;
+    for blocks in [0, 154] {
+        let device = MemDisk::zeroed(rt.alloc(), blocks)?;
+        let none = b"bad image: not an image\n";
+        puts(&rt, rt.alloc(), device, b"0 read 5\n", none, 4)?;
+    }
     Ok(())
 }
 
 // Where this byte of the superblock is another one, the image is refused with this text. The superblock was read, and
 // nothing was written.
-fn refuses<R: Threads + Wait + Sync + Abort>(
+fn each_is_refused<R: Threads + Wait + Sync + Abort>(
     rt: &R,
     alloc: Global,
-    at: usize,
-    byte: u8,
-    text: &[u8],
+    rows: &[(usize, u8, &[u8])],
 ) -> Result<(), Fail> {
-    let device = puts(rt, alloc, changed(alloc, at, byte)?, b"", text, 4)?;
-    assert_eq!(rt; device.calls().len(), 1);
+    for (at, byte, text) in rows {
+        let device = puts(rt, alloc, changed(alloc, *at, *byte)?, b"", text, 4)?;
+        has_calls(rt, &device, 1);
+    }
     Ok(())
 }
 
 #[test]
 fn superblocks_that_are_refused(rt: HostRuntime) -> Result<(), Fail> {
-    refuses(&rt, rt.alloc(), 0, 255, b"bad image: not an image\n")?;
-    refuses(&rt, rt.alloc(), 8, 255, b"bad image: version 255\n")?;
-    refuses(&rt, rt.alloc(), 12, 255, b"bad image: field height\n")?;
-    refuses(&rt, rt.alloc(), 16, 0, b"bad image: field nonce\n")?;
-    refuses(&rt, rt.alloc(), 27, 255, b"bad image: field logical\n")?;
-    refuses(&rt, rt.alloc(), 31, 255, b"bad image: field slabs\n")?;
-    refuses(&rt, rt.alloc(), 35, 255, b"bad image: field slab-blocks\n")?;
-    refuses(&rt, rt.alloc(), 39, 255, b"bad image: field journal\n")?;
-    Ok(())
-}
-
-#[test]
-fn superblocks_that_are_refused_further_on(rt: HostRuntime) -> Result<(), Fail> {
-    refuses(&rt, rt.alloc(), 40, 255, b"bad image: field index\n")?;
-    refuses(&rt, rt.alloc(), 44, 255, b"bad image: field slab-journal\n")?;
-    refuses(&rt, rt.alloc(), 48, 255, b"bad image: field clean\n")?;
-    refuses(&rt, rt.alloc(), 52, 255, b"bad image: field reserved\n")?;
-    refuses(&rt, rt.alloc(), 63, 255, b"bad image: field start\n")?;
-    refuses(&rt, rt.alloc(), 511, 255, b"bad image: field reserved\n")?;
-    refuses(&rt, rt.alloc(), 28, 2, b"bad image: field blocks\n")?;
-    Ok(())
+    each_is_refused(
+        &rt,
+        rt.alloc(),
+        &[
+            (0, 255, b"bad image: not an image\n"),
+            (8, 255, b"bad image: version 255\n"),
+            (12, 255, b"bad image: field height\n"),
+            (16, 0, b"bad image: field nonce\n"),
+            (27, 255, b"bad image: field logical\n"),
+            (31, 255, b"bad image: field slabs\n"),
+            (35, 255, b"bad image: field slab-blocks\n"),
+            (39, 255, b"bad image: field journal\n"),
+            (40, 255, b"bad image: field index\n"),
+            (44, 255, b"bad image: field slab-journal\n"),
+            (48, 255, b"bad image: field clean\n"),
+            (52, 255, b"bad image: field reserved\n"),
+            (63, 255, b"bad image: field start\n"),
+            (511, 255, b"bad image: field reserved\n"),
+            (28, 2, b"bad image: field blocks\n"),
+        ],
+    )
 }
 
 // A device of 154 blocks whose superblock has another byte.
@@ -333,23 +363,27 @@ fn changed(alloc: Global, at: usize, byte: u8) -> Result<MemDisk, AllocError> {
     MemDisk::from_blocks(alloc, blocks)
 }
 
+// A run of these words on a device with a fresh image, and an empty script.
+fn run_row<R: Threads + Wait + Sync>(
+    rt: &R,
+    alloc: Global,
+    row: &[&str],
+) -> Result<Ran, AllocError> {
+    let device = fresh(alloc)?;
+    let source = MemSource::new(Vec::new(alloc), None);
+    let words = words_of(alloc, row)?;
+    run_words(rt, alloc, &words, device, source, 100)
+}
+
 // These words are no command, and the device isn't looked at.
 fn is_usage<R: Threads + Wait + Sync + Abort>(
     rt: &R,
     alloc: Global,
     row: &[&str],
 ) -> Result<(), Fail> {
-    let mut words = Words::new(alloc);
-    for word in row {
-        words.push(word)?;
-    }
-    let mut source = MemSource::new(Vec::new(alloc), None);
-    let mut sink = MemSink::new(alloc, 100)?;
-    let device = fresh(alloc)?;
-    let ended = run(rt, &words, device, &mut source, &mut sink, &OpenGate);
-    assert_eq!(rt; sink.bytes(), b"usage\n".as_slice());
-    assert_eq!(rt; ended.status, 2);
-    assert_eq!(rt; ended.device.calls().len(), 0);
+    let ran = run_row(rt, alloc, row)?;
+    shows(rt, &ran, b"usage\n", 2);
+    has_calls(rt, &ran.device, 0);
     Ok(())
 }
 
@@ -368,48 +402,57 @@ fn other_words(rt: HostRuntime) -> Result<(), Fail> {
     Ok(())
 }
 
-// The fault displays this text, and with a newline it is put.
-fn displays<R: Abort>(rt: &R, alloc: Global, fault: &Fault, text: &str) -> Result<(), Fail> {
-    assert_eq!(rt; format!(in alloc; "{fault}")?.as_str(), text);
+// The fault displays this line without its newline.
+fn displays<R: Abort>(rt: &R, alloc: Global, fault: &Fault, line: &str) -> Result<(), Fail> {
+    let shown = format!(in alloc; "{fault}\n")?;
+    assert_eq!(rt; shown.as_str(), line);
+    Ok(())
+}
+
+// This line of the fault is put.
+fn is_put<R: Abort>(rt: &R, alloc: Global, fault: &Fault, line: &str) -> Result<(), Fail> {
     let mut sink = MemSink::new(alloc, 100)?;
     assert!(rt; put_fault(fault, &mut sink).is_ok());
-    let line = format!(in alloc; "{text}\n")?;
-    assert_eq!(rt; sink.bytes(), line.as_str().as_bytes());
+    assert_eq!(rt; sink.bytes(), line.as_bytes());
+    Ok(())
+}
+
+fn each_displays<R: Abort>(rt: &R, alloc: Global, rows: &[(Fault, &str)]) -> Result<(), Fail> {
+    for (fault, line) in rows {
+        displays(rt, alloc, fault, line)?;
+        is_put(rt, alloc, fault, line)?;
+    }
     Ok(())
 }
 
 // What is put of a fault is what it displays, and a newline.
 #[test]
 fn faults_display_their_lines(rt: HostRuntime) -> Result<(), Fail> {
-    let alloc = rt.alloc();
     let rows = [
-        (Fault::Usage, "usage"),
+        (Fault::Usage, "usage\n"),
         (
             Fault::Script(ScriptFault::Later { line: 3 }),
-            "script line 3: later",
+            "script line 3: later\n",
         ),
-        (Fault::Device, "device fault"),
+        (Fault::Device, "device fault\n"),
         (
             Fault::Image(ImageFault::Super(SuperFault::NotAnImage)),
-            "bad image: not an image",
+            "bad image: not an image\n",
         ),
         (
             Fault::Image(ImageFault::Super(SuperFault::Version(7))),
-            "bad image: version 7",
+            "bad image: version 7\n",
         ),
         (
             Fault::Image(ImageFault::Super(SuperFault::BadField(Field::SlabBlocks))),
-            "bad image: field slab-blocks",
+            "bad image: field slab-blocks\n",
         ),
         (
             Fault::Image(ImageFault::Window { sequence: 12 }),
-            "bad image: window 12",
+            "bad image: window 12\n",
         ),
-        (Fault::Memory, "no memory"),
-        (Fault::Read, "read fault"),
+        (Fault::Memory, "no memory\n"),
+        (Fault::Read, "read fault\n"),
     ];
-    for (fault, text) in &rows {
-        displays(&rt, alloc, fault, text)?;
-    }
-    Ok(())
+    each_displays(&rt, rt.alloc(), &rows)
 }

@@ -1,6 +1,6 @@
 ghost use Rattle.std.specs.Prelude.{◌<◌};
 
-use crate::runs::{DEFAULT, Ran, fresh, puts, run_on};
+use crate::runs::{DEFAULT, Ran, fresh, has_calls, puts, run_on};
 use blk_base::{Block, Layout, Pbn};
 use disk_model::{Call, MemDisk};
 use image_layout::first_image;
@@ -74,6 +74,12 @@ fn put_sector(into: &mut Block, from: &Block, sector: usize)
     into.bytes[start..start + 512].copy_from_slice(&from.bytes[start..start + 512]);
 }
 
+// The run ended well, and put what a stop after so many calls may show.
+fn shows_allowed<R: Abort>(rt: &R, ran: &Ran, count: usize) {
+    assert!(rt; is_allowed(count, ran.sink.bytes()));
+    assert_eq!(rt; ran.status, 0);
+}
+
 // A run on these blocks reads what a stop after so many calls may show.
 fn opens<R: Threads + Wait + Sync + Abort>(
     rt: &R,
@@ -82,10 +88,46 @@ fn opens<R: Threads + Wait + Sync + Abort>(
     count: usize,
 ) -> Result<(), Fail> {
     let device = MemDisk::from_blocks(alloc, blocks)?;
-    let Ran { ended, sink } = run_on(rt, alloc, device, b"0 read 1\n0 read 2\n", None, 2000)?;
-    assert!(rt; is_allowed(count, sink.bytes()));
-    assert_eq!(rt; ended.status, 0);
+    let ran = run_on(rt, alloc, device, b"0 read 1\n0 read 2\n", None, 2000)?;
+    shows_allowed(rt, &ran, count);
     Ok(())
+}
+
+// The blocks after these calls, and a write at this block of which a sector alone is new.
+fn with_sector(
+    alloc: Global,
+    calls: &[Call],
+    at: Pbn,
+    bytes: &Block,
+    sector: usize,
+) -> Result<Vec<Block>, Fail>
+    requires { sector < 8 }
+{
+    let mut blocks = blocks_after(alloc, calls)?;
+    if let Some(block) = blocks.get_mut(at.0 as usize) {
+        put_sector(block, bytes, sector);
+    }
+    Ok(blocks)
+}
+
+// The blocks after these calls, and a write at this block of which a sector alone is old.
+fn without_sector(
+    alloc: Global,
+    calls: &[Call],
+    at: Pbn,
+    bytes: &Block,
+    sector: usize,
+) -> Result<Vec<Block>, Fail>
+    requires { sector < 8 }
+{
+    let mut blocks = blocks_after(alloc, calls)?;
+    if let Some(block) = blocks.get_mut(at.0 as usize) {
+        let mut rest = Block::zero();
+        rest.copy_from(bytes);
+        put_sector(&mut rest, block, sector);
+        block.copy_from(&rest);
+    }
+    Ok(blocks)
 }
 
 // The last write after these calls is torn: a sector alone is new, or old.
@@ -98,18 +140,9 @@ fn opens_torn<R: Threads + Wait + Sync + Abort>(
     count: usize,
 ) -> Result<(), Fail> {
     for sector in 0..8 {
-        let mut new = blocks_after(alloc, calls)?;
-        let mut old = blocks_after(alloc, calls)?;
-        if let Some(block) = new.get_mut(at.0 as usize)
-            && let Some(other) = old.get_mut(at.0 as usize)
-        {
-            put_sector(block, bytes, sector);
-            let mut rest = Block::zero();
-            rest.copy_from(bytes);
-            put_sector(&mut rest, other, sector);
-            other.copy_from(&rest);
-        }
+        let new = with_sector(alloc, calls, at, bytes, sector)?;
         opens(rt, alloc, new, count)?;
+        let old = without_sector(alloc, calls, at, bytes, sector)?;
         opens(rt, alloc, old, count)?;
     }
     Ok(())
@@ -131,15 +164,23 @@ fn stops_after<R: Threads + Wait + Sync + Abort>(
     Ok(())
 }
 
-#[test]
-fn a_stop_at_any_moment(rt: HostRuntime) -> Result<(), Fail> {
-    let device = puts(&rt, rt.alloc(), fresh(rt.alloc())?, SCRIPT, ANSWERS, 0)?;
-    let calls = device.calls();
-    assert_eq!(rt; calls.len(), OPENING + SESSION);
+// Stops after each number of calls of the session.
+fn stops_anywhere<R: Threads + Wait + Sync + Abort>(
+    rt: &R,
+    alloc: Global,
+    calls: &[Call],
+) -> Result<(), Fail> {
     for count in 0..=SESSION {
         if let Some(prefix) = calls.get(..OPENING + count) {
-            stops_after(&rt, rt.alloc(), prefix, count)?;
+            stops_after(rt, alloc, prefix, count)?;
         }
     }
     Ok(())
+}
+
+#[test]
+fn a_stop_at_any_moment(rt: HostRuntime) -> Result<(), Fail> {
+    let device = puts(&rt, rt.alloc(), fresh(rt.alloc())?, SCRIPT, ANSWERS, 0)?;
+    has_calls(&rt, &device, OPENING + SESSION);
+    stops_anywhere(&rt, rt.alloc(), device.calls())
 }

@@ -1,4 +1,4 @@
-use crate::runs::{DEFAULT, fresh, puts};
+use crate::runs::{Case, DEFAULT, fresh, puts};
 use blk_base::{Block, Layout};
 use disk_model::{Call, MemDisk};
 use image_layout::first_image;
@@ -8,72 +8,69 @@ use std::sync::Wait;
 use std::test::Fail;
 use std::thread::Threads;
 
-// Runs one after the other on the same device.
+// These scripts are run one after the other on the same device, which has a fresh image first.
+fn in_turn<R: Threads + Wait + Sync + Abort>(
+    rt: &R,
+    alloc: Global,
+    cases: &[Case],
+) -> Result<(), Fail> {
+    let mut device = fresh(alloc)?;
+    for (script, text, status) in cases {
+        device = puts(rt, alloc, device, script, text, *status)?;
+    }
+    Ok(())
+}
+
 #[test]
 fn a_later_run_finds_what_an_earlier_one_wrote(rt: HostRuntime) -> Result<(), Fail> {
-    let device = puts(
+    in_turn(
         &rt,
         rt.alloc(),
-        fresh(rt.alloc())?,
-        b"0 write 5 4096*61\n0 read 5\n",
-        b"0 0 write 5 ok z0:0\n0 1 read 5 4096*61 z0:1\n",
-        0,
-    )?;
-    let device = puts(
-        &rt,
-        rt.alloc(),
-        device,
-        b"0 read 5\n",
-        b"0 0 read 5 4096*61 z0:0\n",
-        0,
-    )?;
-    let device = puts(
-        &rt,
-        rt.alloc(),
-        device,
-        b"0 write 5 4096*62\n0 write 999 4096*63\n0 read 5\n",
-        b"0 0 write 5 ok z0:0\n0 1 write 999 ok z0:1\n0 2 read 5 4096*62 z0:2\n",
-        0,
-    )?;
-    puts(
-        &rt,
-        rt.alloc(),
-        device,
-        b"0 read 5\n0 read 999\n0 read 6\n",
-        b"0 0 read 5 4096*62 z0:0\n0 1 read 999 4096*63 z0:1\n0 2 read 6 4096*00 z0:2\n",
-        0,
-    )?;
-    Ok(())
+        &[
+            (
+                b"0 write 5 4096*61\n0 read 5\n",
+                b"0 0 write 5 ok z0:0\n0 1 read 5 4096*61 z0:1\n",
+                0,
+            ),
+            (b"0 read 5\n", b"0 0 read 5 4096*61 z0:0\n", 0),
+            (
+                b"0 write 5 4096*62\n0 write 999 4096*63\n0 read 5\n",
+                b"0 0 write 5 ok z0:0\n0 1 write 999 ok z0:1\n0 2 read 5 4096*62 z0:2\n",
+                0,
+            ),
+            (
+                b"0 read 5\n0 read 999\n0 read 6\n",
+                b"0 0 read 5 4096*62 z0:0\n0 1 read 999 4096*63 z0:1\n0 2 read 6 4096*00 z0:2\n",
+                0,
+            ),
+        ],
+    )
 }
 
 // The journal's blocks are used over several runs.
 #[test]
 fn a_later_run_uses_the_last_journal_blocks(rt: HostRuntime) -> Result<(), Fail> {
-    let device = puts(
+    in_turn(
         &rt,
         rt.alloc(),
-        fresh(rt.alloc())?,
-        b"0 write 5 4096*61\n0 write 5 4096*62\n0 write 999 4096*63\n",
-        b"0 0 write 5 ok z0:0\n0 1 write 5 ok z0:1\n0 2 write 999 ok z0:2\n",
-        0,
-    )?;
-    let device = puts(
-        &rt,
-        rt.alloc(),
-        device,
-        b"0 write 0 4096*64\n0 write 1 4096*65\n0 write 2 4096*66\n0 write 3 4096*67\n0 write 4 4096*68\n0 write 6 4096*69\n0 read 5\n",
-        b"0 0 write 0 ok z0:0\n0 1 write 1 ok z0:1\n0 2 write 2 ok z0:2\n0 3 write 3 ok z0:3\n0 4 write 4 ok z0:4\n0 5 write 6 full z0:5\n0 6 read 5 4096*62 z0:6\n",
-        1,
-    )?;
-    puts(
-        &rt,
-        rt.alloc(),
-        device,
-        b"0 write 5 4096*61\n0 read 4\n0 read 6\n",
-        b"0 0 write 5 full z0:0\n0 1 read 4 4096*68 z0:1\n0 2 read 6 4096*00 z0:2\n",
-        1,
-    )?;
-    Ok(())
+        &[
+            (
+                b"0 write 5 4096*61\n0 write 5 4096*62\n0 write 999 4096*63\n",
+                b"0 0 write 5 ok z0:0\n0 1 write 5 ok z0:1\n0 2 write 999 ok z0:2\n",
+                0,
+            ),
+            (
+                b"0 write 0 4096*64\n0 write 1 4096*65\n0 write 2 4096*66\n0 write 3 4096*67\n0 write 4 4096*68\n0 write 6 4096*69\n0 read 5\n",
+                b"0 0 write 0 ok z0:0\n0 1 write 1 ok z0:1\n0 2 write 2 ok z0:2\n0 3 write 3 ok z0:3\n0 4 write 4 ok z0:4\n0 5 write 6 full z0:5\n0 6 read 5 4096*62 z0:6\n",
+                1,
+            ),
+            (
+                b"0 write 5 4096*61\n0 read 4\n0 read 6\n",
+                b"0 0 write 5 full z0:0\n0 1 read 4 4096*68 z0:1\n0 2 read 6 4096*00 z0:2\n",
+                1,
+            ),
+        ],
+    )
 }
 
 // A block of an image, and the bytes that it begins with; the others are zeros.
@@ -130,15 +127,16 @@ fn image_with(alloc: Global, parts: &[Part]) -> Result<MemDisk, AllocError> {
 }
 
 // The window of an image with these blocks is refused with this text, and nothing is written.
-fn refuses<R: Threads + Wait + Sync + Abort>(
+fn each_is_refused<R: Threads + Wait + Sync + Abort>(
     rt: &R,
     alloc: Global,
-    parts: &[Part],
-    text: &[u8],
+    rows: &[(&[Part], &[u8])],
 ) -> Result<(), Fail> {
-    let device = image_with(alloc, parts)?;
-    let device = puts(rt, alloc, device, b"0 write 5 4096*61\n", text, 4)?;
-    assert!(rt; only_reads(device.calls()));
+    for (parts, text) in rows {
+        let device = image_with(alloc, parts)?;
+        let device = puts(rt, alloc, device, b"0 write 5 4096*61\n", text, 4)?;
+        assert!(rt; only_reads(device.calls()));
+    }
     Ok(())
 }
 
@@ -148,27 +146,32 @@ const WINDOW_2: &[u8] = b"bad image: window 2\n";
 
 #[test]
 fn windows_whose_blocks_are_refused(rt: HostRuntime) -> Result<(), Fail> {
-    // A hole: block 2 stands there, and block 1 doesn't.
-    refuses(&rt, rt.alloc(), &[(3, SECOND)], WINDOW_1)?;
-    refuses(&rt, rt.alloc(), &[(2, HEAD_0)], WINDOW_1)?;
-    refuses(&rt, rt.alloc(), &[(2, TWO)], WINDOW_1)?;
-    refuses(&rt, rt.alloc(), &[(2, WRITTEN), (3, NONE)], WINDOW_2)?;
-    Ok(())
+    each_is_refused(
+        &rt,
+        rt.alloc(),
+        &[
+            // A hole: block 2 stands there, and block 1 doesn't.
+            (&[(3, SECOND)], WINDOW_1),
+            (&[(2, HEAD_0)], WINDOW_1),
+            (&[(2, TWO)], WINDOW_1),
+            (&[(2, WRITTEN), (3, NONE)], WINDOW_2),
+        ],
+    )
 }
 
 #[test]
 fn windows_whose_entries_are_refused(rt: HostRuntime) -> Result<(), Fail> {
-    refuses(
+    each_is_refused(
         &rt,
         rt.alloc(),
-        &[(2, WRITTEN), (3, ADDRESS_1000)],
-        WINDOW_2,
-    )?;
-    refuses(&rt, rt.alloc(), &[(2, BLOCK_84)], WINDOW_1)?;
-    refuses(&rt, rt.alloc(), &[(2, BLOCK_149)], WINDOW_1)?;
-    refuses(&rt, rt.alloc(), &[(2, NO_BLOCK)], WINDOW_1)?;
-    refuses(&rt, rt.alloc(), &[(2, PAGE)], WINDOW_1)?;
-    Ok(())
+        &[
+            (&[(2, WRITTEN), (3, ADDRESS_1000)], WINDOW_2),
+            (&[(2, BLOCK_84)], WINDOW_1),
+            (&[(2, BLOCK_149)], WINDOW_1),
+            (&[(2, NO_BLOCK)], WINDOW_1),
+            (&[(2, PAGE)], WINDOW_1),
+        ],
+    )
 }
 
 // Whether nothing was written or flushed.
@@ -182,23 +185,37 @@ fn only_reads(calls: &[Call]) -> bool {
     reads
 }
 
+// What an image with these blocks gives at address 5.
+fn each_is_read<R: Threads + Wait + Sync + Abort>(
+    rt: &R,
+    alloc: Global,
+    rows: &[(&[Part], &[u8])],
+) -> Result<(), Fail> {
+    for (parts, text) in rows {
+        let device = image_with(alloc, parts)?;
+        puts(rt, alloc, device, b"0 read 5\n", text, 0)?;
+    }
+    Ok(())
+}
+
+// The content of block 85, and what a read then gives.
+const VALUE: Part = (85, b"\x6a");
+
+const FOUND: &[u8] = b"0 0 read 5 1*6a+4095*00 z0:0\n";
+
 // What stands in the window is read, and a block of the journal in another slot isn't.
 #[test]
 fn windows_that_are_read(rt: HostRuntime) -> Result<(), Fail> {
-    let value: Part = (85, b"\x6a");
-    let found = b"0 0 read 5 1*6a+4095*00 z0:0\n";
-    let one = image_with(rt.alloc(), &[(2, WRITTEN), value])?;
-    puts(&rt, rt.alloc(), one, b"0 read 5\n", found, 0)?;
-    let two = image_with(rt.alloc(), &[(2, WRITTEN), (3, SECOND), value])?;
-    puts(&rt, rt.alloc(), two, b"0 read 5\n", found, 0)?;
-    let other = image_with(rt.alloc(), &[(3, WRITTEN), (4, SECOND), value])?;
-    puts(
+    each_is_read(
         &rt,
         rt.alloc(),
-        other,
-        b"0 read 5\n",
-        b"0 0 read 5 4096*00 z0:0\n",
-        0,
-    )?;
-    Ok(())
+        &[
+            (&[(2, WRITTEN), VALUE], FOUND),
+            (&[(2, WRITTEN), (3, SECOND), VALUE], FOUND),
+            (
+                &[(3, WRITTEN), (4, SECOND), VALUE],
+                b"0 0 read 5 4096*00 z0:0\n",
+            ),
+        ],
+    )
 }
