@@ -79,7 +79,8 @@ pub(crate) fn write<D: Disk>(
     };
     let journal = journal_block(layout.geometry.nonce, sequence, start, entry);
     let slot = layout.journal_slot(sequence);
-    let Ok(()) = store(device, slot, &journal) else {
+    let stored = store(device, slot, &journal);
+    let Ok(()) = stored else {
         return Written::EntryLost(target);
     };
     Written::Stored(target)

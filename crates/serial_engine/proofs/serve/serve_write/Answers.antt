@@ -1,4 +1,4 @@
-use Rattle.std.proofs.Common.{rules}
+use Rattle.std.proofs.Common.{refl, rules}
 use Rattle.serial_engine.proofs.serve.serve_write.Goals.{in-Stored, in-NoRoom, in-DataLost, in-EntryLost}
 use Rattle.serial_engine.proofs.serve.serve_write.Goals as goal
 
@@ -16,10 +16,10 @@ returns-clause-done g c =
               marks = search rules;
               places = search rules;
               drawn = search rules;
-              histories = search rules;
+              histories = search (c.add-2.ensures.newest, w.answer-is, w.session-is, w.written-is, w.in-DataLost.is);
               entries = search rules;
               made = search rules;
-              stopped = search rules;
+              stopped = search (w.answer-is, w.written-is, w.in-DataLost.is);
             };
           }
       | in-EntryLost w ↦
@@ -31,10 +31,10 @@ returns-clause-done g c =
               marks = search rules;
               places = search rules;
               drawn = search rules;
-              histories = search rules;
+              histories = rw (c.add-2.ensures.newest, w.answer-is, w.written-is, w.in-EntryLost.is) refl;
               entries = search rules;
               made = search rules;
-              stopped = search rules;
+              stopped = search (w.answer-is, w.written-is, w.in-EntryLost.is);
             };
           }
     ]

@@ -8,8 +8,8 @@ returns-then-entries-layout-clause-serves g c = (refl, inl (omega (arith, length
 pub store-requires : goal.store-requires
 store-requires g c = omega (arith, c.in-Some.ensures.next.inside)
 
-pub returns-in_default-store-clause-serves : goal.returns-in_default-store-clause-serves
-returns-in_default-store-clause-serves g c = (
+pub returns-in_default-stored-clause-serves : goal.returns-in_default-stored-clause-serves
+returns-in_default-stored-clause-serves g c = (
   refl,
   record { journal = omega (arith, length-reverse c.args.entries.now); block = c.in-Some.ensures.next },
   c.journal_slot-slot.result,
@@ -23,5 +23,5 @@ returns-clause-serves g c = (
   record { journal = omega (arith, length-reverse c.args.entries.now); block = c.in-Some.ensures.next },
   c.journal_slot-slot.result,
   simp length-reverse c.journal_slot-slot.ensures.block,
-  λ tells. simp length-reverse (search rules),
+  λ tells. simp length-reverse (cc (c.in-Ok-stored.ensures.ok tells, c.in-Ok.ensures.ok tells)),
 )
