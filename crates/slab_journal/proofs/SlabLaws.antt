@@ -114,6 +114,12 @@ keeps_sealed_as log now left slots is kept covered empty stands =
     (subst (λ (es : List SlabEntry). Keeps log (record log { sequence = log.sequence + 1; filling = es; slots = slots })) (sym empty)
     (subst (λ (blocks : List (List SlabEntry)). Keeps log (record log { sequence = log.sequence + 1; filling = []; slots = blocks })) (sym stands) (keeps_sealed log kept covered)))
 
+pub kept_sealed_as : (log : Slab) (left : List SlabEntry) (slots : List (List SlabEntry)) → IsKept log → log.sequence < 2 ^ 55 → log.sequence ≤ log.durable → left ≡ []
+    → slots ≡ set log.slots (next_slot log) log.filling → IsKept (record log { sequence = log.sequence + 1; filling = left; slots = slots })
+kept_sealed_as log left slots kept number written empty stands =
+    subst (λ (es : List SlabEntry). IsKept (record log { sequence = log.sequence + 1; filling = es; slots = slots })) (sym empty)
+    (subst (λ (blocks : List (List SlabEntry)). IsKept (record log { sequence = log.sequence + 1; filling = []; slots = blocks })) (sym stands) (kept_sealed log kept number written))
+
 pub entry_held : (log now : Slab) (at first : ℕ) (point : Point) → log ≡ now → IsKept log → first ≡ slab_start_of log.geometry log.slab → IsOfSlab now (record { 0 = at }) → point.0 < 2 ^ 64
     → HoldsEntry log.geometry.slab_blocks (record { point = point; offset = at - first })
 entry_held log now at first point is kept start inside fits =

@@ -1,4 +1,4 @@
-use Rattle.std.proofs.Common.{subst, refl}
+use Rattle.std.proofs.Common.{subst, refl, rules}
 use Rattle.std.specs.Prelude.{List, All}
 use Rattle.std.proofs.lemmas.List.{take_all}
 use Rattle.slab_codec.specs.declared.forms.SlabEntry.{SlabEntry}
@@ -15,3 +15,6 @@ returns c = (
   (λ yes. subst (λ (entries : List SlabEntry). All (IsCovered c.args.commits.now) entries) (take_all c.loop-entry.entry-index c.args.entries.now c.loop-entry-test.false) c.loop-entry.invariant),
   (λ all. refl),
 )
+
+pub returns-then-commits-from : goal.returns-then-commits-from
+returns-then-commits-from c = search rules

@@ -1,8 +1,8 @@
-use Rattle.std.proofs.Common.{◌%◌, ◌∙◌, ℕ, List, set, ap, refl, sym, subst}
+use Rattle.std.proofs.Common.{◌%◌, ◌∙◌, ℕ, List, set, ap, refl, sym, subst, arith, rules}
 use Rattle.slab_codec.specs.declared.forms.SlabEntry.{SlabEntry}
 use Rattle.slab_journal.specs.contracts.journal.SlabJournal.{the_view}
 use Rattle.slab_journal.specs.Slab.{Slab, MayOverwrite}
-use Rattle.slab_journal.proofs.SlabLaws.{keeps_sealed_as}
+use Rattle.slab_journal.proofs.SlabLaws.{keeps_sealed_as, kept_sealed_as}
 use Rattle.slab_journal.proofs.journal.SlabJournal.seal.Goals as goal
 
 pub returns-clause-kept : goal.returns-clause-kept
@@ -11,3 +11,15 @@ returns-clause-kept c =
     keeps_sealed_as (the_view c.self.inside) c.args.self.now c.replace.new.dest _ c.self.view_is c.self.invariant.kept may (c.replace.ensures.after ∙ c.new.ensures)
     (ap (λ (n : ℕ). set c.self.inside.slots.items (c.self.inside.sequence % n) c.replace.result) c.from.ensures
     ∙ ap (λ (es : List SlabEntry). set c.self.inside.slots.items (c.self.inside.sequence % c.self.inside.geometry.slab_journal) es) c.replace.ensures.value)
+
+pub invariant_of-self : goal.invariant_of-self
+invariant_of-self c = record {
+  kept = kept_sealed_as (the_view c.self.inside) c.replace.new.dest _ c.self.invariant.kept (omega (arith, c.requires, ap (λ (log : Slab). log.sequence) c.self.view_is)) (omega arith)
+      (c.replace.ensures.after ∙ c.new.ensures)
+      (ap (λ (n : ℕ). set c.self.inside.slots.items (c.self.inside.sequence % n) c.replace.result) c.from.ensures
+      ∙ ap (λ (es : List SlabEntry). set c.self.inside.slots.items (c.self.inside.sequence % c.self.inside.geometry.slab_journal) es) c.replace.ensures.value);
+  first = c.self.invariant.first;
+}
+
+pub returns-clause-some : goal.returns-clause-some
+returns-clause-some c = search rules
