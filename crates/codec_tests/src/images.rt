@@ -167,7 +167,7 @@ fn the_first_fault_is_named(rt: HostRuntime) {
 
 #[test]
 fn more_faults_are_named(rt: HostRuntime) {
-    for (at, byte, fault) in MORE_ROWS {
+    for &(at, byte, fault) in &MORE_ROWS {
         let mut block = default_block();
         change(&rt, &mut block, at, byte);
         assert!(rt; is_refused(&block, 154, fault), "byte {at}");
@@ -328,15 +328,15 @@ fn is_faulty(rt: &HostRuntime, journal: &[Block; 8], sequence: u64) -> bool {
     read(rt, journal) == Err(WindowFault::Faulty { sequence })
 }
 
-#[test]
-fn faulty_windows(rt: HostRuntime) {
+// The head and the entry of a block, and whether it is a fault.
+fn window_rows() -> [(u64, Entry, bool); 10] {
     let one = remap(3, 100);
     let page = PageId {
         tree: 0,
         level: 0,
         index: 0,
     };
-    for (head, entry, faulty) in [
+    [
         (START, one, false),
         // another head
         (START - 1, one, true),
@@ -366,7 +366,13 @@ fn faulty_windows(rt: HostRuntime) {
             true,
         ),
         (START, Entry::NewPage { page, at: Pbn(100) }, true),
-    ] {
+    ]
+}
+
+#[test]
+fn blocks_of_a_window(rt: HostRuntime) {
+    let one = remap(3, 100);
+    for (head, entry, faulty) in window_rows() {
         let mut journal = empty_journal();
         put_written(&rt, &mut journal, 7, one);
         let block = journal_block(8, head, &[entry]);
@@ -374,6 +380,11 @@ fn faulty_windows(rt: HostRuntime) {
         put_written(&rt, &mut journal, 9, one);
         assert_eq!(rt; is_faulty(&rt, &journal, 8), faulty, "head {head}");
     }
+}
+
+#[test]
+fn faulty_windows(rt: HostRuntime) {
+    let one = remap(3, 100);
     // A hole, no entry, and two.
     for block in [
         Block::zero(),
@@ -392,27 +403,33 @@ fn faulty_windows(rt: HostRuntime) {
     assert!(rt; is_faulty(&rt, &journal, 7));
 }
 
+fn some_entries() -> [Entry; 4] {
+    [remap(3, 1), remap(4, 2), remap(3, 2), remap(5, 9)]
+}
+
+#[test]
+fn mappings(rt: HostRuntime) {
+    let entries = some_entries();
+    for (at, mapping) in [
+        (3, Mapping::At(Pbn(2))),
+        (4, Mapping::At(Pbn(2))),
+        (5, Mapping::At(Pbn(9))),
+        (6, Mapping::Unmapped),
+    ] {
+        assert!(rt; mapping_at(&entries, Lba(at)) == mapping, "address {at}");
+    }
+    assert!(rt; mapping_at(&entries[..1], Lba(3)) == Mapping::At(Pbn(1)));
+}
+
 #[test]
 fn values(rt: HostRuntime) {
-    let entries = [remap(3, 1), remap(4, 2), remap(3, 2), remap(5, 9)];
     let mut image = empty_journal();
-    for (slot, byte) in [(1, 11), (2, 22)] {
-        let block = Block {
-            bytes: [byte; 4096],
-        };
-        put_block(&rt, &mut image, slot, &block);
-    }
-    for (at, mapping, byte) in [
-        (3, Mapping::At(Pbn(2)), 22),
-        (4, Mapping::At(Pbn(2)), 22),
-        (5, Mapping::At(Pbn(9)), 0),
-        (6, Mapping::Unmapped, 0),
-    ] {
-        assert_eq!(rt; mapping_at(&entries, Lba(at)), mapping, "address {at}");
-        let value = value_at(&image, &entries, Lba(at));
+    put_block(&rt, &mut image, 1, &Block { bytes: [11; 4096] });
+    put_block(&rt, &mut image, 2, &Block { bytes: [22; 4096] });
+    for (at, byte) in [(3, 22), (4, 22), (5, 0), (6, 0)] {
+        let value = value_at(&image, &some_entries(), Lba(at));
         assert!(rt; value.bytes == [byte; 4096], "address {at}");
     }
-    assert_eq!(rt; mapping_at(&entries[..1], Lba(3)), Mapping::At(Pbn(1)));
 }
 
 const FIELD_NAMES: [(Field, &str); 12] = [
@@ -433,7 +450,7 @@ const FIELD_NAMES: [(Field, &str); 12] = [
 // The names are those of `field_name`.
 #[test]
 fn names_of_fields(rt: HostRuntime) -> Result<(), Fail> {
-    for (field, name) in FIELD_NAMES {
+    for &(field, name) in &FIELD_NAMES {
         assert_eq!(rt; field.name(), name);
         assert!(rt; is_shown_as(&rt, &field, name)?, "{name}");
     }

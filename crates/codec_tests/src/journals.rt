@@ -186,37 +186,40 @@ fn a_prefix_ends(rt: HostRuntime) {
     }
 }
 
-// Sector 1 has the six entries from 24 on. Its first entry has an old block and no new one.
+// A byte of sector 1, what is added to it, and whether the sector is still valid. The sector has the six entries from 24
+// on; its first entry has an old block and no new one.
+const FIELD_ROWS: [(usize, u8, bool); 26] = [
+    (0, 1, false), // nonce
+    (7, 1, false), // nonce
+    (8, 1, true), // sequence 1548
+    (15, 1, false), // sequence of 2 ^ 55 and more
+    (16, 1, false), // head above the sequence
+    (17, 255, true), // head 1291
+    (24, 1, false), // number
+    (26, 1, true), // a seventh entry, of zeros
+    (26, 19, false), // 25 entries
+    (28, 1, false), // magic
+    (31, 1, false), // magic
+    (32, 1, false), // kind 1 has no old mapping
+    (32, 2, false), // kind
+    (33, 1, false), // tree of kind 0
+    (34, 1, false), // level of kind 0
+    (35, 1, false), // zero
+    (36, 1, true), // address
+    (40, 1, false), // old state 2
+    (40, 16, false), // bit 32 of the old block
+    (41, 1, true), // old block
+    (45, 1, true), // new state 1, which is zeros
+    (46, 1, false), // new block of state 0
+    (50, 1, false), // zero
+    (51, 1, false), // zero
+    (152, 1, false), // behind the entries
+    (511, 1, false), // the last byte
+];
+
 #[test]
 fn each_field_is_looked_at(rt: HostRuntime) {
-    for (at, add, valid) in [
-        (0, 1, false), // nonce
-        (7, 1, false), // nonce
-        (8, 1, true), // sequence 1548
-        (15, 1, false), // sequence of 2 ^ 55 and more
-        (16, 1, false), // head above the sequence
-        (17, 255, true), // head 1291
-        (24, 1, false), // number
-        (26, 1, true), // a seventh entry, of zeros
-        (26, 19, false), // 25 entries
-        (28, 1, false), // magic
-        (31, 1, false), // magic
-        (32, 1, false), // kind 1 has no old mapping
-        (32, 2, false), // kind
-        (33, 1, false), // tree of kind 0
-        (34, 1, false), // level of kind 0
-        (35, 1, false), // zero
-        (36, 1, true), // address
-        (40, 1, false), // old state 2
-        (40, 16, false), // bit 32 of the old block
-        (41, 1, true), // old block
-        (45, 1, true), // new state 1, which is zeros
-        (46, 1, false), // new block of state 0
-        (50, 1, false), // zero
-        (51, 1, false), // zero
-        (152, 1, false), // behind the entries
-        (511, 1, false), // the last byte
-    ] {
+    for &(at, add, valid) in &FIELD_ROWS {
         let mut block = first(30);
         let place = 512 + (at % 512);
         block.bytes[place] = block.bytes[place].wrapping_add(add);

@@ -198,38 +198,41 @@ fn a_sector_by_itself(rt: HostRuntime) {
     assert_eq!(rt; second.entries.as_slice(), entries::<40>(40, 2).as_slice());
 }
 
-// The slab has 64 data blocks. Sector 1 has two entries: an even point at offset 60, and an odd one at 61.
+// A byte of sector 1, what is added to it, and whether the sector is still valid. The slab has 64 data blocks, and the
+// sector has two entries: an even point at offset 60, and an odd one at 61.
+const FIELD_ROWS: [(usize, u8, bool); 27] = [
+    (0, 1, false), // nonce
+    (7, 1, false), // nonce
+    (8, 1, true), // sequence
+    (15, 255, true), // sequence
+    (16, 1, false), // slab
+    (19, 1, false), // slab
+    (20, 1, false), // number
+    (22, 1, true), // a third entry, of zeros
+    (22, 39, false), // 41 entries
+    (22, 255, false), // one entry, and another behind it
+    (24, 1, false), // magic
+    (27, 1, false), // magic
+    (28, 1, false), // zeros
+    (31, 1, false), // zeros
+    (32, 1, false), // an odd point of an increment
+    (32, 2, true), // point
+    (39, 1, true), // point
+    (40, 3, true), // offset 63
+    (40, 4, false), // offset 64
+    (41, 1, false), // offset 316
+    (42, 1, false), // half of an even point
+    (43, 1, false), // zero
+    (54, 255, false), // half of an odd point
+    (54, 2, false), // half of an odd point
+    (55, 1, false), // zero
+    (56, 1, false), // behind the entries
+    (511, 1, false), // the last byte
+];
+
 #[test]
 fn each_field_is_looked_at(rt: HostRuntime) {
-    for (at, add, valid) in [
-        (0, 1, false), // nonce
-        (7, 1, false), // nonce
-        (8, 1, true), // sequence
-        (15, 255, true), // sequence
-        (16, 1, false), // slab
-        (19, 1, false), // slab
-        (20, 1, false), // number
-        (22, 1, true), // a third entry, of zeros
-        (22, 39, false), // 41 entries
-        (22, 255, false), // one entry, and another behind it
-        (24, 1, false), // magic
-        (27, 1, false), // magic
-        (28, 1, false), // zeros
-        (31, 1, false), // zeros
-        (32, 1, false), // an odd point of an increment
-        (32, 2, true), // point
-        (39, 1, true), // point
-        (40, 3, true), // offset 63
-        (40, 4, false), // offset 64
-        (41, 1, false), // offset 316
-        (42, 1, false), // half of an even point
-        (43, 1, false), // zero
-        (54, 255, false), // half of an odd point
-        (54, 2, false), // half of an odd point
-        (55, 1, false), // zero
-        (56, 1, false), // behind the entries
-        (511, 1, false), // the last byte
-    ] {
+    for &(at, add, valid) in &FIELD_ROWS {
         let mut block = spelled(5, 7, entries(0, 42));
         let place = 512 + (at % 512);
         block.bytes[place] = block.bytes[place].wrapping_add(add);
