@@ -2,3 +2,4 @@ pub mod CheckLaws
 pub mod SpellingLaws
 pub mod AgainLaws
 pub mod WindowLaws
+mod FirstLaws
