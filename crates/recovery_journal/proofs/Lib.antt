@@ -1,3 +1,4 @@
 pub mod RingLaws
 pub mod RisingLaws
 pub mod JournalLaws
+pub mod OpeningLaws

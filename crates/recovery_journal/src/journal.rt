@@ -3,7 +3,7 @@ ghost use Rattle.blk_base.specs.Limits.{IsGeometry};
 ghost use Rattle.recovery_journal.specs.Log.{opening, head_of, first_point, unhanded, IsHead, HasRoom, HasNoRoom, IsWriting, Seals, HandsOut, NoneCommitted, IsBehind, Advances};
 
 use crate::entering::enter;
-use crate::marking::{count_below, first_sequence, least, leave_out, raise, sequence_of};
+use crate::marking::{count_below, first_sequence, least, leave_out, marks_at, raise, sequence_of};
 use crate::{CommittedEntry, Place};
 use blk_base::{Entry, Geometry, Half, Point};
 use journal_codec::{Entries, JournalBlock};
@@ -65,16 +65,12 @@ impl Journal {
         requires zones { 0 < zones }
         ensures { IfOk result (λ journal. journal ≡ opening geometry.now start zones) }
     {
-        let size = u64::from(geometry.journal);
-        let entries = VecDeque::with_capacity(alloc, geometry.journal as usize * PER_BLOCK)?;
-        let mut marks = Vec::with_capacity(alloc, zones as usize)?;
         let first = Point::of(start, 0, Half::Increment);
-        for made in 0..zones {
-            marks.push_reserved(first);
-        }
+        let marks = marks_at(alloc, first, zones)?;
+        let entries = VecDeque::with_capacity(alloc, geometry.journal as usize * PER_BLOCK)?;
         Ok(Journal {
             nonce: geometry.nonce,
-            size,
+            size: u64::from(geometry.journal),
             sequence: start,
             filling: Entries::new(),
             entries,

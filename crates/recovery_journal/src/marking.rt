@@ -1,9 +1,10 @@
-ghost use Rattle.std.specs.Prelude.{◌≡◌, ◌/◌, ◌<◌, ◌≤◌, All, Any, length, take, drop};
+ghost use Rattle.std.specs.Prelude.{◌≡◌, ◌/◌, ◌<◌, ◌≤◌, All, Any, IfOk, length, take, drop, replicate};
 ghost use Rattle.std.specs.VecDeque.{deque_len, deque_capacity};
 ghost use Rattle.recovery_journal.specs.Log.{first_sequence, raised};
 
 use crate::CommittedEntry;
 use blk_base::Point;
+use std::alloc::{AllocError, Global};
 use std::cmp;
 use std::collections::VecDeque;
 
@@ -25,6 +26,17 @@ pub(crate) fn first_sequence(entries: &VecDeque<CommittedEntry>, sequence: u64) 
         Some(first) => sequence_of(first.point),
         None => sequence,
     }
+}
+
+/// A mark for each of so many zones, all at this point.
+pub(crate) fn marks_at(alloc: Global, point: Point, zones: u32) -> Result<Vec<Point>, AllocError>
+    ensures { IfOk result (λ marks. marks.items ≡ replicate zones point) }
+{
+    let mut marks = Vec::with_capacity(alloc, zones as usize)?;
+    for _ in 0..zones {
+        marks.push_reserved(point);
+    }
+    Ok(marks)
 }
 
 /// Raises the zone's mark to this point, if that is above it.

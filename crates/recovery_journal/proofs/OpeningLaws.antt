@@ -1,0 +1,51 @@
+-- An empty journal keeps what is true of a journal.
+use Rattle.std.specs.Prelude.{ℕ, ◌≡◌, ◌<◌, ◌≤◌, ◌^◌, List, [], replicate}
+use Rattle.std.proofs.Common.{arith, ap, ◌∙◌}
+use Rattle.std.proofs.lemmas.List.{length-replicate}
+use Rattle.std.proofs.lemmas.List.Elements.{All-nil, All-replicate}
+use Rattle.blk_base.specs.Limits.{IsGeometry}
+use Rattle.blk_base.specs.declared.geometry.Geometry.{Geometry}
+use Rattle.blk_base.specs.declared.point.Point.{Point}
+use Rattle.blk_base.specs.declared.journal_entry.Entry.{Entry}
+use Rattle.recovery_journal.specs.declared.forms.CommittedEntry.{CommittedEntry}
+use Rattle.recovery_journal.specs.Log.{Log, IsNeeded, opening, point_at}
+use Rattle.recovery_journal.specs.Kept.{AreBelow, IsKept}
+
+pub kept_opening : (geometry : Geometry) (start zones : ℕ) → IsGeometry geometry → start < 2 ^ 55 → 0 < zones → IsKept (opening geometry start zones)
+kept_opening geometry start zones sizes early some =
+    let first : Point = record { 0 = point_at start 0 } in
+    record {
+      zones = omega (arith, length-replicate zones first);
+      size = omega (arith, sizes.journal);
+      number = omega arith;
+      number_filling = λ waits. absurd (omega (arith, waits));
+      rising = omega arith;
+      handed = omega arith;
+      committed = (omega arith, omega arith);
+      ring = omega (arith, sizes.journal);
+      ring_filling = λ waits. absurd (omega (arith, waits));
+      marks = All-replicate (λ (mark : Point). mark.0 ≤ point_at start 0) zones first (omega arith);
+      unhanded = All-nil (λ (entry : CommittedEntry). AreBelow (opening geometry start zones) entry.point.0);
+      needed = All-nil (λ (entry : CommittedEntry). IsNeeded (replicate zones first) entry.point);
+    }
+
+-- the fields of a new journal, from what made them
+pub is_opening : (geometry : Geometry) (start zones size : ℕ) (filling : List Entry) (entries : List CommittedEntry) (first : Point) (marks : List Point)
+    → size ≡ geometry.journal → filling ≡ [] → entries ≡ [] → first.0 ≡ point_at start 0 → marks ≡ replicate zones first
+    → ◌≡◌ {A = Log} (record {
+      nonce = geometry.nonce;
+      size = size;
+      sequence = start;
+      filling = filling;
+      entries = entries;
+      handed = 0;
+      committed = start;
+      marks = marks;
+    }) (opening geometry start zones)
+is_opening geometry start zones size filling entries first marks same none no_entries at all =
+    let made : ℕ → List Entry → List CommittedEntry → List Point → Log = λ n fs es ms. record (opening geometry start zones) { size = n; filling = fs; entries = es; marks = ms } in
+    ap (λ (n : ℕ). made n filling entries marks) same
+    ∙ ap (λ (fs : List Entry). made geometry.journal fs entries marks) none
+    ∙ ap (λ (es : List CommittedEntry). made geometry.journal [] es marks) no_entries
+    ∙ ap (λ (ms : List Point). made geometry.journal [] [] ms) all
+    ∙ ap (λ (p : ℕ). made geometry.journal [] [] (replicate zones (record { 0 = p }))) at
