@@ -8,7 +8,7 @@ use Rattle.blk_base.specs.declared.point.Point.{Point}
 use Rattle.page_codec.specs.declared.forms.MapPage.{MapPage}
 use Rattle.map_page_cache.specs.declared.frame.Frame.{Frame}
 use Rattle.map_page_cache.specs.Minima.{key_at, IsLeast}
-use Rattle.map_page_cache.specs.Index.{Index, HasSlot, HaveOneSlot, Adds, Removes}
+use Rattle.map_page_cache.specs.Index.{Index, no_entries, HasSlot, HaveOneSlot, Adds, Removes}
 use Rattle.map_page_cache.specs.CachedPages.{CachedPages, IsThere, IsAbsent, AreApart, IsClean, GivesUp, Changes, IsDue, NoneIsDue, HandsOut, IsLowPoint, handed_out}
 use Rattle.map_page_cache.specs.Slots.{due_of, unwritten_of, clean_of, by_slot, IsAt, Follows}
 use Rattle.map_page_cache.proofs.SlotLaws.{by_slot-inside, by_slot-past}
@@ -296,3 +296,15 @@ hands_out slots slot number frames frame frame' point copy cache is first reache
       least = all.2;
       copied = copied;
     })
+
+-- nothing follows from no frames
+pub follows-none : (slots : ℕ) (index : Index) (frames : List Frame) → index ≡ no_entries slots → frames ≡ [] → Follows index slots frames
+follows-none slots index frames none empty =
+    subst (λ (i : Index). Follows i slots frames) (sym none)
+    (subst (λ (fs : List Frame). Follows (no_entries slots) slots fs) (sym empty)
+    (record {
+      room = refl;
+      count = refl;
+      pages = λ page slot (k, inside, at). absurd (omega (arith, inside));
+      all = λ page slot at. absurd (omega (arith, at.inside));
+    }))

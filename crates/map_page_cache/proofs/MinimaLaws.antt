@@ -1,11 +1,11 @@
 -- The tree of least numbers: a change is carried up to the root, and the root has the least of all.
-use Rattle.std.specs.Prelude.{ℕ, ◌≡◌, ◌≢◌, ◌<◌, ◌≤◌, ◌+◌, ◌*◌, ◌/◌, zero, suc, true, List, ◌⊎◌, length, Option, None, Some, drop, refl}
+use Rattle.std.specs.Prelude.{ℕ, ◌≡◌, ◌≢◌, ◌<◌, ◌≤◌, ◌+◌, ◌*◌, ◌/◌, zero, suc, true, List, ◌⊎◌, length, Option, None, Some, drop, replicate, refl}
 use Rattle.std.proofs.Common.{ap, ◌∙◌, sym, arith, set, inl, inr}
-use Rattle.std.proofs.lemmas.List.{get_or-drop, drop-set-add, length-drop}
+use Rattle.std.proofs.lemmas.List.{get_or-drop, drop-set-add, length-drop, get_or-set_same, get_or-set_other}
 use Rattle.std.proofs.Math.ListN.{get_or-eq_default}
 use Rattle.std.proofs.lemmas.Bool.{cases_eq, cases_lt, leb-true, le-leb}
 use Rattle.std.proofs.lemmas.Bool.Decides.{leb_tells}
-use Rattle.map_page_cache.specs.Minima.{is_at_most, lesser_of, key_at, IsLeast, IsTree}
+use Rattle.map_page_cache.specs.Minima.{is_at_most, lesser_of, key_at, IsLeast, IsTreeBut, IsTree}
 
 at_most-refl : (a : Option ℕ) → is_at_most a a ≡ true
 at_most-refl None = refl
@@ -118,3 +118,40 @@ pub slot_changed : (leaves slot leaf : ℕ) (nodes nodes' : List (Option ℕ)) (
     → drop leaves nodes' ≡ drop leaves (set nodes leaf value) → drop leaves nodes' ≡ set (drop leaves nodes) slot value
 slot_changed leaves slot leaf nodes nodes' value is kept =
     kept ∙ ap (λ (j : ℕ). drop leaves (set nodes j value)) is ∙ drop-set-add leaves nodes slot value
+
+-- a tree in which no node has a number
+none_at : (n k : ℕ) → key_at (replicate n None) k ≡ None
+none_at zero k = refl
+none_at (suc n) zero = refl
+none_at (suc n) (suc k) = none_at n k
+
+pub tree_of_none : (leaves n : ℕ) → IsTree leaves (replicate n None)
+tree_of_none leaves n = λ k positive inside some.
+    none_at n k ∙ sym (ap (λ (l : Option ℕ). lesser_of l (key_at (replicate n None) (2 * k + 1))) (none_at n (2 * k)) ∙ ap (λ (r : Option ℕ). lesser_of None r) (none_at n (2 * k + 1)))
+
+-- what is written to a node changes no children but those of its parent
+module _ (nodes : List (Option ℕ)) (at : ℕ) (value : Option ℕ) where
+  children_kept : (k : ℕ) → k ≢ at / 2
+      → lesser_of (key_at nodes (2 * k)) (key_at nodes (2 * k + 1)) ≡ lesser_of (key_at (set nodes at value) (2 * k)) (key_at (set nodes at value) (2 * k + 1))
+  children_kept k other =
+      ap (λ (l : Option ℕ). lesser_of l (key_at nodes (2 * k + 1))) (sym (get_or-set_other nodes at (2 * k) value None (omega arith)))
+      ∙ ap (λ (r : Option ℕ). lesser_of (key_at (set nodes at value) (2 * k)) r) (sym (get_or-set_other nodes at (2 * k + 1) value None (omega arith)))
+
+  node_kept : (leaves hole k : ℕ) → IsTreeBut leaves hole nodes → 0 < k → k < leaves → k ≢ hole → k ≢ at → k ≢ at / 2
+      → key_at (set nodes at value) k ≡ lesser_of (key_at (set nodes at value) (2 * k)) (key_at (set nodes at value) (2 * k + 1))
+  node_kept leaves hole k tree positive inside whole differs other =
+      get_or-set_other nodes at k value None differs ∙ tree k positive inside whole ∙ children_kept k other
+
+  -- where a leaf is written, its parent is to be settled
+  pub leaf_written : (leaves : ℕ) → leaves ≤ at → IsTree leaves nodes → IsTreeBut leaves (at / 2) (set nodes at value)
+  leaf_written leaves leaf tree = λ k positive inside other. node_kept leaves 0 k tree positive inside (omega arith) (omega arith) other
+
+  -- where an inner node is settled, its parent is next
+  pub node_settled : (leaves : ℕ) → at < length nodes → 0 < at → IsTreeBut leaves at nodes → value ≡ lesser_of (key_at nodes (2 * at)) (key_at nodes (2 * at + 1))
+      → IsTreeBut leaves (at / 2) (set nodes at value)
+  node_settled leaves there positive tree is = λ k above inside other.
+      elim (cases_eq k at) [
+        | inl same ↦ ap (λ (j : ℕ). key_at (set nodes at value) j) same ∙ get_or-set_same nodes at value None there ∙ is
+            ∙ ap (λ (j : ℕ). lesser_of (key_at nodes (2 * j)) (key_at nodes (2 * j + 1))) (sym same) ∙ children_kept k other
+        | inr differs ↦ node_kept leaves at k tree above inside differs differs other
+      ]

@@ -34,11 +34,10 @@ impl Minima {
         ensures { IfOk result (λ minima. minima ≡ replicate slots None) }
     {
         let leaves = slots as usize;
-        let mut nodes = Vec::with_capacity(alloc, 2 * leaves)?;
-        for _ in 0..2 * leaves {
-            nodes.push(None)?;
-        }
-        Ok(Minima { nodes, leaves })
+        Ok(Minima {
+            nodes: no_numbers(alloc, 2 * leaves)?,
+            leaves,
+        })
     }
 
     /// Gives a slot this number, or none.
@@ -68,6 +67,17 @@ impl Minima {
         let leaf = winning_leaf(&self.nodes, self.leaves);
         Some(((leaf - self.leaves) as u32, number))
     }
+}
+
+// So many nodes, none of which has a number.
+fn no_numbers(alloc: Global, count: usize) -> Result<Vec<Option<u64>>, AllocError>
+    ensures { IfOk result (λ nodes. nodes.items ≡ replicate count None) }
+{
+    let mut nodes = Vec::with_capacity(alloc, count)?;
+    for _ in 0..count {
+        nodes.push_reserved(None);
+    }
+    Ok(nodes)
 }
 
 // Gives each inner node from this one up to the root the lesser of its children.
