@@ -51,12 +51,13 @@ impl TreeNodes {
         ensures { IfOk result (IsOpening geometry.now opened.now) }
     {
         let count = count_pages(geometry, opened);
+        let marks = clean_marks(alloc, count)?;
         let mut pages = blank_pages(alloc, count)?;
         take_over(&mut pages, opened, geometry.height);
         Ok(TreeNodes {
             geometry: *geometry,
             pages,
-            marks: clean_marks(alloc, count)?,
+            marks,
         })
     }
 

@@ -40,7 +40,7 @@ pub(crate) fn blank_pages(alloc: Global, count: usize) -> Result<Vec<Mappings>, 
 {
     let mut pages = Vec::with_capacity(alloc, count)?;
     for made in 0..count {
-        pages.push(Mappings::new())?;
+        pages.push_reserved(Mappings::new());
     }
     Ok(pages)
 }
@@ -51,10 +51,10 @@ pub(crate) fn clean_marks(alloc: Global, count: usize) -> Result<Vec<Marks>, All
 {
     let mut marks = Vec::with_capacity(alloc, count)?;
     for made in 0..count {
-        marks.push(Marks {
+        marks.push_reserved(Marks {
             changed: None,
             writing: None,
-        })?;
+        });
     }
     Ok(marks)
 }
