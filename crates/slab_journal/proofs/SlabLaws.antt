@@ -1,18 +1,46 @@
 -- What is true of a slab's journal stays true over each call, and no update that isn't covered is lost.
-use Rattle.std.specs.Prelude.{ℕ, ◌≡◌, ◌+◌, ◌-◌, ◌%◌, ◌<◌, ◌≤◌, ◌^◌, List, [], ◌∷◌, ◌++◌, length, take, All, Contains, Bool, IsTrue, ◌↔◌}
+use Rattle.std.specs.Prelude.{ℕ, ◌≡◌, ◌+◌, ◌-◌, ◌%◌, ◌<◌, ◌≤◌, ◌^◌, List, [], ◌∷◌, ◌++◌, length, take, replicate, All, Contains, Bool, IsTrue, ◌↔◌}
 use Rattle.std.proofs.Common.{arith, sym, subst, ap, ◌∙◌, inl, inr, get_or, set}
 use Rattle.std.proofs.lemmas.Bool.{cases_eq}
 use Rattle.std.proofs.lemmas.Nat.{mod_below}
-use Rattle.std.proofs.lemmas.List.{length-set, get_or_default, get_or-set_other}
-use Rattle.std.proofs.lemmas.List.Elements.{All-nil, All-more, All-push, All-set, All-contains, All-get_or, Contains-append_left}
+use Rattle.std.proofs.lemmas.List.{length-set, length-replicate, get_or_default, get_or-set_other}
+use Rattle.std.proofs.lemmas.List.Elements.{All-nil, All-replicate, All-more, All-push, All-set, All-contains, All-get_or, Contains-append_left}
 use Rattle.std.proofs.lemmas.List.Quantifiers.{any-set}
 use Rattle.blk_base.specs.Regions.{slab_start_of}
+use Rattle.blk_base.specs.Limits.{IsGeometry}
+use Rattle.blk_base.specs.declared.geometry.Geometry.{Geometry}
 use Rattle.blk_base.specs.declared.point.Point.{Point}
 use Rattle.slab_codec.specs.Grammar.{HoldsEntry}
 use Rattle.slab_codec.specs.Reference.{sector_of_offset}
 use Rattle.slab_codec.specs.declared.forms.SlabEntry.{SlabEntry}
-use Rattle.slab_journal.specs.Slab.{Slab, IsOfSlab, IsCovered, Keeps, MayOverwrite, next_slot, next_block}
+use Rattle.slab_journal.specs.Slab.{Slab, opening, sectors_of, IsOfSlab, IsCovered, Keeps, MayOverwrite, next_slot, next_block}
 use Rattle.slab_journal.specs.Kept.{AreOfSlab, IsKept}
+
+-- opening
+
+pub kept_opening : (geometry : Geometry) (slab : ℕ) → IsGeometry geometry → slab < geometry.slabs → IsKept (opening geometry slab)
+kept_opening geometry slab sizes inside =
+    record {
+      geometry = sizes;
+      slab = inside;
+      ring = length-replicate {A = List SlabEntry} geometry.slab_journal [];
+      sectors = length-replicate {A = Point} (sectors_of geometry) (record { 0 = 0 });
+      number = omega arith;
+      durable = (omega arith, omega arith);
+      filling = All-nil (HoldsEntry geometry.slab_blocks);
+      blocks = All-replicate (AreOfSlab (opening geometry slab)) geometry.slab_journal [] (All-nil (HoldsEntry geometry.slab_blocks));
+    }
+
+-- the fields of a new journal, from what made them
+pub is_opening : (geometry : Geometry) (slab sectors : ℕ) (filling : List SlabEntry) (slots : List (List SlabEntry)) (commits : List Point)
+    → sectors ≡ sectors_of geometry → filling ≡ [] → slots ≡ replicate geometry.slab_journal [] → commits ≡ replicate sectors (record { 0 = 0 })
+    → ◌≡◌ {A = Slab} (record { geometry = geometry; slab = slab; sequence = 1; filling = filling; slots = slots; durable = 1; commits = commits }) (opening geometry slab)
+is_opening geometry slab sectors filling slots commits count none empty zero =
+    let made : List SlabEntry → List (List SlabEntry) → List Point → Slab = λ fs ss cs. record (opening geometry slab) { filling = fs; slots = ss; commits = cs } in
+    ap (λ (fs : List SlabEntry). made fs slots commits) none
+    ∙ ap (λ (ss : List (List SlabEntry)). made [] ss commits) empty
+    ∙ ap (λ (cs : List Point). made [] (replicate geometry.slab_journal []) cs) zero
+    ∙ ap (λ (n : ℕ). made [] (replicate geometry.slab_journal []) (replicate n (record { 0 = 0 }))) count
 
 -- adding
 
