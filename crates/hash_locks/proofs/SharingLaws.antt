@@ -4,7 +4,8 @@ use Rattle.std.proofs.Common.{ap, ◌∙◌, sym, subst, arith, get_or, take, dr
 use Rattle.std.proofs.lemmas.List.{take-append-drop, length-take, get_or-take}
 use Rattle.std.proofs.lemmas.List.Elements.{All-head, All-tail, All-cons, All-append, All-push, All-take, All-drop, All-weaker, Contains-append_left, Contains-append_right, Contains-append_cases}
 use Rattle.hash_locks.specs.Lock.{Lock}
-use Rattle.hash_locks.specs.Sharing.{Sharing, NoLock, AreDistinct, NoneWaits, WaitersMatch, IsFirstFor, IsLockAt, Leaves, Frees}
+use Rattle.hash_locks.specs.Sharing.{Sharing, NoLock, AreDistinct, NoneWaits, WaitersMatch, IsFirstFor, IsLockAt, Leaves, Frees, Arrives}
+use Rattle.hash_locks.specs.declared.role.Role.TheVariants.{Waits, Alone}
 use Rattle.hash_locks.specs.declared.waiter.Waiter.{Waiter}
 
 parts_at : {X : Type 0} (xs : List X) (place : ℕ) (x : X) → place < length xs → x ≡ get_or xs place x → xs ≡ take place xs ++ x ∷ drop (place + 1) xs
@@ -152,3 +153,25 @@ module _ {V : Type 0} (bytes_of : V → List ℕ) where
         gone = gone_at held left place lock name at read cut distinct;
         kept = refl;
       })
+
+  -- one more waits, where its lock is held
+  pub waits : (room : ℕ) (held : List Lock) (waiting left : List (Waiter V)) (name : List ℕ) (vio : V) (locks : Sharing V)
+      → record { room = room; held = held; waiting = waiting } ≡ locks → Contains held (record { name = name; bytes = bytes_of vio })
+      → left ≡ waiting ++ record { name = name; vio = vio } ∷ [] → Arrives bytes_of locks (record { room = room; held = held; waiting = left }) name vio Waits
+  waits room held waiting left name vio locks is there added =
+      subst (λ (known : Sharing V). Arrives bytes_of known (record { room = room; held = held; waiting = left }) name vio Waits) is
+      (there, ap (λ (ws : List (Waiter V)). record { room = room; held = held; waiting = ws }) added)
+
+  -- one goes alone, where the lock has other bytes
+  pub goes_alone : (room : ℕ) (held : List Lock) (waiting : List (Waiter V)) (place : ℕ) (lock : Lock) (name : List ℕ) (vio : V) (locks : Sharing V)
+      → record { room = room; held = held; waiting = waiting } ≡ locks → IsLockAt held name place → lock ≡ get_or held place lock → lock.bytes ≢ bytes_of vio
+      → Arrives bytes_of locks locks name vio (Alone vio)
+  goes_alone room held waiting place lock name vio locks is at read differs =
+      subst (λ (known : Sharing V). Arrives bytes_of known known name vio (Alone vio)) is
+      (refl, (lock.bytes, lock_there held name lock.bytes place lock at read refl, differs), refl)
+
+  -- no lock of the name is held, and nobody waits for one
+  pub frees_none : (room : ℕ) (held : List Lock) (waiting : List (Waiter V)) (name : List ℕ) (locks : Sharing V)
+      → record { room = room; held = held; waiting = waiting } ≡ locks → NoneWaits waiting name → NoLock held name → Frees locks locks name
+  frees_none room held waiting name locks is none free =
+      subst (λ (known : Sharing V). Frees known known name) is (record { none_waits = none; less = inl (free, refl); gone = free; kept = refl })

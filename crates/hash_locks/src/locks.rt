@@ -46,14 +46,12 @@ impl<V: HasBlock + Drop> HashLocks<V> {
     pub fn new(alloc: Global, room: u32) -> Result<HashLocks<V>, AllocError>
         ensures { IfOk result (λ locks. locks ≡ nothing V room) }
     {
-        let mut spare = Vec::with_capacity(alloc, room as usize)?;
-        for _made in 0..room {
-            spare.push_reserved(Box::new(alloc, Block::zero())?);
-        }
+        let waiting = Vec::with_capacity(alloc, room as usize)?;
+        let spare = blocks(alloc, room)?;
         Ok(HashLocks {
             room,
             held: Vec::with_capacity(alloc, room as usize)?,
-            waiting: Vec::with_capacity(alloc, room as usize)?,
+            waiting,
             spare,
         })
     }
@@ -117,6 +115,18 @@ impl<V: HasBlock + Drop> HashLocks<V> {
             }
         }
     }
+}
+
+// So many blocks.
+fn blocks(alloc: Global, count: u32) -> Result<Vec<Box<Block>>, AllocError>
+    ensures len { IfOk result (λ blocks. vec_len blocks ≡ count) }
+    ensures capacity { IfOk result (λ blocks. count ≤ vec_capacity blocks) }
+{
+    let mut blocks = Vec::with_capacity(alloc, count as usize)?;
+    for _made in 0..count {
+        blocks.push_reserved(Box::new(alloc, Block::zero())?);
+    }
+    Ok(blocks)
 }
 
 // The place of the lock of a name.

@@ -1,8 +1,8 @@
 use Rattle.std.proofs.Common.{List, arith, subst}
 use Rattle.hash_locks.specs.Lock.{Lock}
-use Rattle.hash_locks.specs.Sharing.{IsLockAt, NoneWaits}
+use Rattle.hash_locks.specs.Sharing.{IsLockAt, NoLock, NoneWaits}
 use Rattle.hash_locks.specs.declared.waiter.Waiter.{Waiter}
-use Rattle.hash_locks.proofs.SharingLaws.{leaves, frees, WaitersMatch-left, WaitersMatch-less, AreDistinct-at}
+use Rattle.hash_locks.proofs.SharingLaws.{leaves, frees, frees_none, WaitersMatch-left, WaitersMatch-less, AreDistinct-at}
 use Rattle.hash_locks.proofs.locks.HashLocks.roll_over.Goals as goal
 
 pub invariant_of-self : goal.invariant_of-self
@@ -41,3 +41,9 @@ returns-in-Some-lock_at-clause-none g c =
     let none = subst (λ (ws : List (Waiter _)). NoneWaits ws c.args.name.now) c.deref.ensures.value c.in-None.ensures.none in
     frees g.V.HasBlock.bytes_of _ c.self.inside.held.items _ c.self.inside.waiting.items c.in-Some-lock_at.place c.remove-lock.result c.args.name.now _ c.self.view_is none at
     c.remove-lock.ensures.value c.remove-lock.ensures.by_index.2 c.self.invariant.distinct
+
+pub returns-in-None-lock_at-clause-none : goal.returns-in-None-lock_at-clause-none
+returns-in-None-lock_at-clause-none g c =
+    frees_none g.V.HasBlock.bytes_of c.self.inside.room c.self.inside.held.items c.self.inside.waiting.items c.args.name.now c.args.self.now c.self.view_is
+    (subst (λ (ws : List (Waiter _)). NoneWaits ws c.args.name.now) c.deref.ensures.value c.in-None.ensures.none)
+    (subst (λ (ls : List Lock). NoLock ls c.args.name.now) c.deref-in-None.ensures.value c.in-None-lock_at.ensures.none)
