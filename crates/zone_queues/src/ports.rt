@@ -29,13 +29,10 @@ impl<V: Drop> Ports<V> {
           outboxes = map (empty V) outboxes.now;
         }) }
     {
-        let mut lanes = Vec::new(alloc);
-        for room in outboxes {
-            lanes.push(Lane::new(alloc, *room)?)?;
-        }
+        let inbox = Lane::new(alloc, inbox)?;
         Ok(Ports {
-            inbox: Lane::new(alloc, inbox)?,
-            outboxes: lanes,
+            inbox,
+            outboxes: lanes(alloc, outboxes)?,
         })
     }
 
@@ -83,4 +80,15 @@ impl<V: Drop> Ports<V> {
     {
         self.inbox.append(batch);
     }
+}
+
+// An empty list for each of these rooms.
+fn lanes<V: Drop>(alloc: Global, rooms: &[u32]) -> Result<Vec<Lane<V>>, AllocError>
+    ensures { IfOk result (λ lanes. lanes.items ≡ map (empty V) rooms.now) }
+{
+    let mut lanes = Vec::with_capacity(alloc, rooms.len())?;
+    for room in rooms {
+        lanes.push_reserved(Lane::new(alloc, *room)?);
+    }
+    Ok(lanes)
 }

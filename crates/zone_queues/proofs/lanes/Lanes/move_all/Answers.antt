@@ -1,6 +1,7 @@
 use Rattle.std.proofs.Common.{◌<◌, ◌∙◌, length, arith, ap, subst, sym}
-use Rattle.zone_queues.specs.Queues.{Network, Queue, HasRoomFor, IsFit, network_of, inbox_at, moved}
-use Rattle.zone_queues.proofs.NetworkLaws.{IsFit-moved, room_for_batch, moved-steps}
+use Rattle.std.specs.Prelude.{IsTrue, ◌↔◌, not}
+use Rattle.zone_queues.specs.Queues.{Network, Queue, HasRoomFor, IsFit, network_of, inbox_at, outbox_at, moved}
+use Rattle.zone_queues.proofs.NetworkLaws.{some_items, IsFit-moved, room_for_batch, moved-steps}
 use Rattle.zone_queues.proofs.lanes.Lanes.move_all.Goals as goal
 
 pub receive_at-requires-clause-room : goal.receive_at-requires-clause-room
@@ -37,3 +38,9 @@ returns-clause-moved g c =
     c.args.from c.args.to c.exchange_at-batch.result c.without_room-none.result c.receive_at.new.batch from c.exchange_at-batch.ensures.out c.exchange_at-batch.ensures.kept
     c.receive_at.ensures.added c.receive_at.ensures.emptied c.exchange_at-none.ensures.kept
     ∙ ap (λ (s : Network _). moved s c.args.from c.args.to) c.self.view_is
+
+pub returns-clause-some : goal.returns-clause-some
+returns-clause-some g c =
+    let some = not c.is_empty-some.result in
+    subst (λ (s : Network _). IsTrue some ↔ (0 < length (outbox_at s c.args.from c.args.to).items)) c.self.view_is
+    (subst (λ (q : Queue _). IsTrue some ↔ (0 < length q.items)) c.exchange_at-batch.ensures.out (some_items c.exchange_at-batch.result.items c.is_empty-some.result c.is_empty-some.ensures))
