@@ -1,11 +1,14 @@
 -- The zones of a core at its start, one after another.
-use Rattle.std.proofs.Common.{◌≡◌, ℕ, ◌+◌, List, [], ◌∷◌, ◌++◌, length, sym, ap, subst, ◌∙◌, length-append}
+use Rattle.std.proofs.Common.{◌≡◌, ℕ, ◌+◌, List, [], ◌∷◌, ◌++◌, length, sym, ap, subst, ◌∙◌, length-append, refl}
+use Rattle.core_laws.specs.declared.items.Item.{Item}
+use Rattle.core_laws.specs.declared.sizes.Sizes.{Sizes}
 use Rattle.core_laws.specs.declared.zones.ZoneData.{ZoneData}
 use Rattle.core_laws.specs.declared.zones.Zone.{Zone}
 use Rattle.core_laws.specs.Sessions.{Session}
 use Rattle.core_laws.specs.Start.{IsFirstData, IsFirstZone}
 use Rattle.core_laws.specs.Sums.{Each}
 use Rattle.core_laws.proofs.Lists.{Each-append}
+use Rattle.core_steps.specs.Starts.{AreEmptyLanes}
 
 -- no zone at all
 pub no_zone : (s : Session) → Each (IsFirstZone s) []
@@ -19,6 +22,22 @@ one_more s old new zone number is count first each =
 
 pub one_longer : (old new : List Zone) (zone : Zone) → new ≡ old ++ zone ∷ [] → length new ≡ length old + 1
 one_longer old new zone is = ap length is ∙ length-append old (zone ∷ [])
+
+-- a zone with empty lanes and the data that it begins with
+pub empty_first : (s : Session) (number : ℕ) (keeps : ZoneData) (inbox : List Item) (lanes : List (List Item))
+    → inbox ≡ [] → AreEmptyLanes s.sizes lanes → IsFirstData s number keeps
+    → IsFirstZone s number (record { number = number; keeps = keeps; inbox = inbox; outboxes = lanes })
+empty_first s number keeps inbox lanes none empty first = record {
+  number_is = refl;
+  lanes = empty.count;
+  inbox = none;
+  outboxes = empty.empty;
+  own = first;
+}
+
+-- lanes that suit sizes suit the same sizes of a session
+pub lanes_of : (s : Session) (sizes : Sizes) (lanes : List (List Item)) → s.sizes ≡ sizes → AreEmptyLanes sizes lanes → AreEmptyLanes s.sizes lanes
+lanes_of s sizes lanes is empty = subst (λ (z : Sizes). AreEmptyLanes z lanes) (sym is) empty
 
 -- the data of a zone by another name of its number
 pub numbered : (s : Session) (number other : ℕ) (keeps : ZoneData) → other ≡ number → IsFirstData s number keeps → IsFirstData s other keeps

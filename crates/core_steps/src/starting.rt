@@ -6,7 +6,7 @@ ghost use Rattle.core_laws.specs.Sessions.{Session, IsFresh};
 ghost use Rattle.core_laws.specs.Start.{IsFirst, IsFirstZone, IsFirstData, AreDistinct};
 ghost use Rattle.core_laws.specs.Sums.{Each};
 ghost use Rattle.core_steps.specs.Plays.{core_of};
-ghost use Rattle.core_steps.specs.Starts.{IsOf};
+ghost use Rattle.core_steps.specs.Starts.{IsOf, AreEmptyLanes};
 
 use crate::StepFault;
 use crate::numbers::{DESK, added, device_zone, journal_zone, logical_zone, physical_zone};
@@ -15,32 +15,19 @@ use blk_base::{Entry, Pbn};
 use core_laws::{
     Desk, DeviceZone, Fifo, Item, JournalZone, LogicalZone, PhysicalZone, Sizes, Zone, ZoneData,
 };
-use std::alloc::Global;
+use std::alloc::{AllocError, Global};
 use vdo_model::{Requests, Rows};
 
-// So many empty lanes.
-fn empty_lanes(alloc: Global, count: u32) -> Result<Fifo<Fifo<Item>>, StepFault>
-    ensures count { IfOk result (λ lanes. length lanes ≡ count) }
-    ensures empty { IfOk result (λ lanes. AllByRecursion (λ lane. lane ≡ []) lanes) }
+// Lanes to every zone, with nothing in them.
+fn empty_lanes(alloc: Global, sizes: &Sizes) -> Result<Fifo<Fifo<Item>>, StepFault>
+    ensures { IfOk result (AreEmptyLanes sizes.now) }
 {
+    let count = added(4, sizes.zones)?;
     let mut lanes = Fifo::new(alloc);
     for made in 0..count {
         lanes.push(Fifo::new(alloc))?;
     }
     Ok(lanes)
-}
-
-// A zone with nothing in its lanes.
-fn empty_zone(alloc: Global, sizes: &Sizes, number: u32, keeps: ZoneData) -> Result<Zone, StepFault>
-    ensures { IfOk result (λ zone. (s : Session) → s.sizes ≡ sizes.now → IsFirstData s number keeps → IsFirstZone s number zone) }
-{
-    let count = added(4, sizes.zones)?;
-    Ok(Zone {
-        number,
-        keeps,
-        inbox: Fifo::new(alloc),
-        outboxes: empty_lanes(alloc, count)?,
-    })
 }
 
 // A copy of the entries, the oldest first.
@@ -54,11 +41,11 @@ fn copied(alloc: Global, window: &[Entry]) -> Result<Rows<Entry>, StepFault>
     Ok(rows)
 }
 
-// A logical zone that drew nothing and has set nothing.
-fn first_logical(alloc: Global, zone: u32, window: &[Entry]) -> Result<LogicalZone, StepFault>
-    ensures { IfOk result (λ logical. (s : Session) → s.window ≡ reverse window.now → zone < s.sizes.zones → IsFirstData s (numbers.logical_zone zone) (at.Logical logical)) }
+// A logical zone that drew nothing and has set nothing, with these entries of the window.
+fn first_logical(alloc: Global, zone: u32, window: Rows<Entry>) -> LogicalZone
+    ensures { (s : Session) → s.window ≡ window → zone < s.sizes.zones → IsFirstData s (numbers.logical_zone zone) (at.Logical result) }
 {
-    Ok(LogicalZone {
+    LogicalZone {
         zone,
         told: false,
         next: 0,
@@ -66,9 +53,9 @@ fn first_logical(alloc: Global, zone: u32, window: &[Entry]) -> Result<LogicalZo
         held: Fifo::new(alloc),
         waiting: Fifo::new(alloc),
         dead: Fifo::new(alloc),
-        window: copied(alloc, window)?,
+        window,
         slots: Rows::new(alloc),
-    })
+    }
 }
 
 // The desk, which has the script and began nothing.
@@ -118,18 +105,38 @@ fn first_device() -> DeviceZone
     }
 }
 
-// One zone more, behind the others.
-fn push(zones: &mut Vec<Zone>, zone: Zone) -> Result<(), StepFault>
-    ensures { OnOk result (zones.new.items ≡ zones.old.items ++ zone ∷ []) }
+// An item more, behind the others.
+fn push<T: Drop>(items: &mut Vec<T>, item: T) -> Result<(), AllocError>
+    ensures { OnOk result (items.new.items ≡ items.old.items ++ item ∷ []) }
 {
-    let Ok(()) = zones.push(zone) else {
-        return Err(StepFault::Memory);
+    items.push(item)?;
+    Ok(())
+}
+
+// A zone with nothing in its lanes, behind the others.
+fn add(
+    alloc: Global,
+    number: u32,
+    keeps: ZoneData,
+    outboxes: Fifo<Fifo<Item>>,
+    zones: &mut Vec<Zone>,
+) -> Result<(), AllocError>
+    requires { length zones.old.items ≡ number }
+    ensures count { OnOk result (length zones.new.items ≡ length zones.old.items + 1) }
+    ensures first { OnOk result ((s : Session) → AreEmptyLanes s.sizes outboxes → IsFirstData s number keeps → Each (IsFirstZone s) zones.old.items → Each (IsFirstZone s) zones.new.items) }
+{
+    let zone = Zone {
+        number,
+        keeps,
+        inbox: Fifo::new(alloc),
+        outboxes,
     };
+    push(zones, zone)?;
     Ok(())
 }
 
 // The logical zones, behind the desk.
-fn push_logical(
+fn add_logical(
     alloc: Global,
     sizes: &Sizes,
     window: &[Entry],
@@ -141,9 +148,34 @@ fn push_logical(
 {
     for zone in 0..sizes.zones {
         let number = logical_zone(zone)?;
-        let keeps = ZoneData::Logical(first_logical(alloc, zone, window)?);
-        push(zones, empty_zone(alloc, sizes, number, keeps)?)?;
+        let lanes = empty_lanes(alloc, sizes)?;
+        let window = copied(alloc, window)?;
+        let logical = ZoneData::Logical(first_logical(alloc, zone, window));
+        add(alloc, number, logical, lanes, zones)?;
     }
+    Ok(())
+}
+
+// The zones behind the logical ones.
+fn add_others(
+    alloc: Global,
+    sizes: &Sizes,
+    free: Vec<Pbn>,
+    zones: &mut Vec<Zone>,
+) -> Result<(), StepFault>
+    requires { length zones.old.items ≡ numbers.physical_zone sizes.now }
+    ensures count { OnOk result (length zones.new.items ≡ numbers.zone_count sizes.now) }
+    ensures first { OnOk result ((s : Session) → s.sizes ≡ sizes.now → AllByRecursion (IsFresh s) free.items → AreDistinct free.items → Each (IsFirstZone s) zones.old.items → Each (IsFirstZone s) zones.new.items) }
+{
+    let (number, lanes) = (physical_zone(sizes)?, empty_lanes(alloc, sizes)?);
+    let physical = ZoneData::Physical(first_physical(free));
+    add(alloc, number, physical, lanes, zones)?;
+    let (number, lanes) = (journal_zone(sizes)?, empty_lanes(alloc, sizes)?);
+    let journal = ZoneData::Journal(first_journal(alloc));
+    add(alloc, number, journal, lanes, zones)?;
+    let (number, lanes) = (device_zone(sizes)?, empty_lanes(alloc, sizes)?);
+    let device = ZoneData::Device(first_device());
+    add(alloc, number, device, lanes, zones)?;
     Ok(())
 }
 
@@ -158,24 +190,16 @@ pub fn begin(
 ) -> Result<Zones, StepFault>
     ensures { IfOk result (λ zones. (s : Session) → IsOf s sizes.now requests (reverse window.now) free.items → IsFirst s (core_of zones [])) }
 {
+    let lanes = empty_lanes(alloc, sizes)?;
     let mut zones = Vec::new(alloc);
-    let desk = ZoneData::Desk(first_desk(alloc, requests));
-    push(&mut zones, empty_zone(alloc, sizes, DESK, desk)?)?;
-    push_logical(alloc, sizes, window, &mut zones)?;
-    let physical = ZoneData::Physical(first_physical(free));
-    push(
+    add(
+        alloc,
+        DESK,
+        ZoneData::Desk(first_desk(alloc, requests)),
+        lanes,
         &mut zones,
-        empty_zone(alloc, sizes, physical_zone(sizes)?, physical)?,
     )?;
-    let journal = ZoneData::Journal(first_journal(alloc));
-    push(
-        &mut zones,
-        empty_zone(alloc, sizes, journal_zone(sizes)?, journal)?,
-    )?;
-    let device = ZoneData::Device(first_device());
-    push(
-        &mut zones,
-        empty_zone(alloc, sizes, device_zone(sizes)?, device)?,
-    )?;
+    add_logical(alloc, sizes, window, &mut zones)?;
+    add_others(alloc, sizes, free, &mut zones)?;
     Ok(Zones::from_vec(zones))
 }
