@@ -37,13 +37,10 @@ pub fn step<D: Disk>(
     ensures same { IfOk result (λ stepped. stepped ≡ Idle → zones.new ≡ zones.old) }
     ensures silent { IfOk result (λ stepped. stepped ≡ Idle → D.log disk.new ≡ D.log disk.old) }
 {
-    let number = number as usize;
-    if number >= zones.zones.len() {
+    let Some(zone) = zones.zones.get_mut(number as usize) else {
         return Ok(Stepped::Idle);
-    }
-    let zone = &mut zones.zones[number];
-    let stepped = step_zone(alloc, sizes, zone, disk)?;
-    Ok(stepped)
+    };
+    Ok(step_zone(alloc, sizes, zone, disk)?)
 }
 
 /// One event.

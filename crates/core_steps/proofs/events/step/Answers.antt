@@ -1,0 +1,27 @@
+use Rattle.std.proofs.Common.{rules, ◌≡◌, ◌<◌, ◌∙◌, Some, length, slice_get, refl, sym, subst}
+use Rattle.std.proofs.lemmas.Option.{same_Some, slice_get_read}
+use Rattle.core_laws.specs.declared.zones.Zone.{Zone}
+use Rattle.core_laws.specs.Steps.{IsIdle}
+use Rattle.core_steps.proofs.PlayLaws.{core_steps}
+use Rattle.core_steps.proofs.events.step.Goals as goal
+
+pub returns-clause-did : goal.returns-clause-did
+returns-clause-did g c did =
+    let item = c.in-Some.ensures.item in
+    let within : c.args.number < length c.zones.inside.zones.items = search rules in
+    let had : slice_get c.zones.inside.zones.items c.args.number ≡ Some c.in-Some.zone.now = slice_get_read _ _ _ _ refl within item.1 in
+    rw (← c.zones.view_is) (core_steps g.D.Disk.tells c.args.sizes.now c.zones.inside.zones.items c.args.number _ c.step_zone.new.zone _ _ had (c.in_ok-step_zone.ensures.did did))
+
+pub returns-clause-idle : goal.returns-clause-idle
+returns-clause-idle g c idle zone got =
+    let item = c.in-Some.ensures.item in
+    let within : c.args.number < length c.zones.inside.zones.items = search rules in
+    let had : slice_get c.args.zones.now c.args.number ≡ Some c.in-Some.zone.now = rw (← c.zones.view_is) (slice_get_read _ _ _ _ refl within item.1) in
+    subst (λ (z : Zone). IsIdle c.args.sizes.now z) (same_Some _ _ (sym had ∙ got)) (c.in_ok-step_zone.ensures.idle idle)
+
+pub returns-clause-busy : goal.returns-clause-busy
+returns-clause-busy g c did zone got idle =
+    let item = c.in-Some.ensures.item in
+    let within : c.args.number < length c.zones.inside.zones.items = search rules in
+    let had : slice_get c.args.zones.now c.args.number ≡ Some c.in-Some.zone.now = rw (← c.zones.view_is) (slice_get_read _ _ _ _ refl within item.1) in
+    c.in_ok-step_zone.ensures.busy did (subst (λ (z : Zone). IsIdle c.args.sizes.now z) (sym (same_Some _ _ (sym had ∙ got))) idle)
