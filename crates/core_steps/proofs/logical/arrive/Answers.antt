@@ -12,3 +12,6 @@ returns c =
     let vio : c.in_ok-drawn.drawn ≡ placed c.args.zone.now c.args.vio = search rules in
     let post : goes_on c.args.sizes.now c.draw.new.zone c.in_ok-drawn.drawn ≡ goes_on c.args.sizes.now c.args.zone.now (placed c.args.zone.now c.args.vio) = rw (zone, vio) in
     arrives_free c.requires dead held (search rules) refl (c.in_ok-one-2.ensures ∙ ap (λ (p : Post). p ∷ []) (c.in_ok-to.ensures.post ∙ post))
+
+pub returns-then-is_held : goal.returns-then-is_held
+returns-then-is_held c = search rules
