@@ -3,6 +3,7 @@ pub mod DeskLaws
 pub mod CallLaws
 pub mod DataLaws
 pub mod ValueLaws
+pub mod WriteLaws
 pub mod SessionLaws
 pub mod ListLaws
 pub mod EntryLaws

@@ -1,10 +1,15 @@
-ghost use Rattle.std.specs.Prelude.{◌≡◌, ◌<◌, ◌≤◌, ◌+◌, ◌∷◌, reverse, vec_len, vec_capacity};
+ghost use Rattle.std.specs.Prelude.{ℕ, ◌≡◌, ◌<◌, ◌≤◌, ◌+◌, ◌∷◌, [], List, Some, reverse, vec_len, vec_capacity};
 ghost use Rattle.blk_base.specs.Regions.{needed_blocks};
+ghost use Rattle.blk_base.specs.declared.place.Lba.{Lba};
 ghost use Rattle.blk_base.specs.declared.request.Request.TheVariants.{Read};
+ghost use Rattle.blk_base.specs.declared.request.Writer.{Writer};
 ghost use Rattle.vdo_model.specs.Servable.{IsServable};
+ghost use Rattle.serial_engine.specs.Blocks.{entries_with};
 ghost use Rattle.serial_engine.specs.Keeping.{Served1, ServesRequest, NamesBelow, served_write};
 ghost use Rattle.serial_engine.specs.Kept.{kept, HasServed, SameGround};
+ghost use Rattle.serial_engine.specs.Moments.{calls_with};
 ghost use Rattle.serial_engine.specs.Served.{ground, seen};
+ghost use Rattle.serial_engine.specs.Story.{reply_of, is_stop, entry_of};
 
 use crate::lists::add;
 use crate::read::read;
@@ -37,6 +42,43 @@ fn draw_place(places: &mut Vec<Placed>, request: Writer)
     );
 }
 
+// What a write that went so is answered, how its history is marked, and whether it stops the session.
+fn outcome(written: Written) -> (Answer, Mark, bool)
+    ensures reply { (at : Lba) → (block : List ℕ) → result.0 ≡ reply_of (served_write (Some written) at block) }
+    ensures mark { (at : Lba) → (block : List ℕ) → (request : Writer)
+        → record { at = at; request = request; mark = result.1 } ∷ [] ≡ entry_of (served_write (Some written) at block) request }
+    ensures stops { (at : Lba) → (block : List ℕ) → result.2 ≡ is_stop (served_write (Some written) at block) }
+{
+    match written {
+        Written::Stored(_) => (Answer::Ok, Mark::Settled, false),
+        Written::NoRoom => (Answer::Full, Mark::Refused, false),
+        Written::DataLost(_) => (Answer::Stopped, Mark::Refused, true),
+        Written::EntryLost(_) => (Answer::Stopped, Mark::Unsettled, true),
+    }
+}
+
+// Keeps the entry of a write that was stored, and says how many calls of the device succeeded for it.
+fn keep_entry(entries: &mut Vec<Entry>, at: Lba, written: Written) -> u64
+    requires { vec_len entries.old < vec_capacity entries.old }
+    ensures entries { (block : List ℕ) → reverse entries.new.items ≡ entries_with (served_write (Some written) at block) (reverse entries.old.items) }
+    ensures calls { (block : List ℕ) → result ≡ calls_with (served_write (Some written) at block) (reverse entries.old.items) }
+    ensures few { result ≤ 4 }
+    ensures count { vec_len entries.new ≤ vec_len entries.old + 1 }
+    ensures room { vec_capacity entries.new ≡ vec_capacity entries.old }
+{
+    match written {
+        Written::Stored(target) => {
+            let old = mapping_at(entries, at);
+            let new = Mapping::At(target);
+            add(entries, Entry::Remap { at, old, new });
+            STORED_CALLS
+        }
+        Written::NoRoom => 0,
+        Written::DataLost(_) => 0,
+        Written::EntryLost(_) => 0,
+    }
+}
+
 /// Serves a write: `None` where the session had been stopped.
 pub(crate) fn serve_write<D: Disk>(
     device: &mut D,
@@ -63,7 +105,6 @@ pub(crate) fn serve_write<D: Disk>(
         return None;
     }
     draw_place(&mut session.places, request);
-    let old = mapping_at(&session.entries, at);
     let written = write(
         device,
         &session.layout,
@@ -72,18 +113,9 @@ pub(crate) fn serve_write<D: Disk>(
         at,
         block,
     );
-    let (answer, mark, stopped) = match written {
-        Written::Stored(target) => {
-            let new = Mapping::At(target);
-            add(&mut session.entries, Entry::Remap { at, old, new });
-            session.made += STORED_CALLS;
-            (Answer::Ok, Mark::Settled, false)
-        }
-        Written::NoRoom => (Answer::Full, Mark::Refused, false),
-        Written::DataLost(_) => (Answer::Stopped, Mark::Refused, true),
-        Written::EntryLost(_) => (Answer::Stopped, Mark::Unsettled, true),
-    };
-    session.stopped = stopped;
+    session.made += keep_entry(&mut session.entries, at, written);
+    let (answer, mark, stops) = outcome(written);
+    session.stopped = stops;
     add(&mut session.histories, HistoryEntry { at, request, mark });
     add(&mut session.desk, DeskLine::Answer { request, answer });
     Some(written)

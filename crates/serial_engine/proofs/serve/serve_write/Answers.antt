@@ -1,43 +1,25 @@
-use Rattle.std.proofs.Common.{refl, rules}
-use Rattle.serial_engine.proofs.serve.serve_write.Goals.{in-Stored, in-NoRoom, in-DataLost, in-EntryLost}
+use Rattle.std.proofs.Common.{◌+◌, ◌++◌, List, reverse, refl, ap, ◌∙◌}
+use Rattle.vdo_model.specs.declared.report.HistoryEntry.{HistoryEntry}
+use Rattle.serial_engine.proofs.WriteLaws.{written_adds}
 use Rattle.serial_engine.proofs.serve.serve_write.Goals as goal
 
 pub returns-clause-done : goal.returns-clause-done
 returns-clause-done g c =
-    elim c.match-written.branch [
-      | in-Stored w ↦ search rules
-      | in-NoRoom w ↦ search rules
-      | in-DataLost w ↦
-          record {
-            serves = search rules;
-            later = search rules;
-            adds = record {
-              desk = search rules;
-              marks = search rules;
-              places = search rules;
-              drawn = search rules;
-              histories = search (c.add-2.ensures.newest, w.answer-is, w.session-is, w.written-is, w.in-DataLost.is);
-              entries = search rules;
-              made = search rules;
-              stopped = search (w.answer-is, w.written-is, w.in-DataLost.is);
-            };
-          }
-      | in-EntryLost w ↦
-          record {
-            serves = search rules;
-            later = search rules;
-            adds = record {
-              desk = search rules;
-              marks = search rules;
-              places = search rules;
-              drawn = search rules;
-              histories = rw (c.add-2.ensures.newest, w.answer-is, w.written-is, w.in-EntryLost.is) refl;
-              entries = search rules;
-              made = search rules;
-              stopped = search (w.answer-is, w.written-is, w.in-EntryLost.is);
-            };
-          }
-    ]
-
-pub returns-clause-count : goal.returns-clause-count
-returns-clause-count g c = elim c.match-written.branch [ in-Stored w ↦ search rules | in-NoRoom w ↦ search rules | in-DataLost w ↦ search rules | in-EntryLost w ↦ search rules ]
+    let at = c.args.at in
+    let block = c.args.block.now in
+    let went = c.outcome-answer.ensures in
+    let entry = c.keep_entry.ensures in
+    record {
+      serves = rw (← c.if-session.false, c.deref.ensures.value) at c.write-written.ensures.serves;
+      later = c.write-written.ensures.later;
+      adds = written_adds _ at block _ _ _
+          (rw (c.add-3.ensures.newest, went.reply at block, c.add.ensures.newest) refl)
+          refl
+          c.draw_place.ensures.newest
+          c.draw_place.ensures.count
+          (c.add-2.ensures.newest ∙ ap (λ (added : List HistoryEntry). added ++ reverse c.args.session.now.histories.items) (went.mark at block _))
+          (entry.entries block)
+          (ap (λ calls. c.args.session.now.made + calls) (entry.calls block))
+          (went.stops at block)
+          c.if-session.false;
+    }
