@@ -1,9 +1,10 @@
 -- A text that is put piece by piece.
-use Rattle.std.specs.Prelude.{ℕ, ◌≡◌, ◌+◌, min, List, [], ◌++◌, length, take, Result, Ok, Err, OnOk, OnErr, refl}
+use Rattle.std.specs.Prelude.{ℕ, ◌≡◌, ◌+◌, ◌≤◌, min, List, [], ◌++◌, length, take, Result, Ok, Err, OnOk, OnErr, refl}
 use Rattle.std.proofs.Common.{sym, ◌∙◌, ap, arith, inl, inr}
 use Rattle.std.proofs.lemmas.Bool.{cases_lt}
 use Rattle.std.proofs.lemmas.List.{append_assoc, append-nil, take-append-le, take_all}
 use Rattle.std.proofs.Math.Seq.{take-append-add, take-append_seam}
+use Rattle.disk_model.specs.Causes.{Rose, HasCause}
 use Rattle.stream_text.specs.Puts.{PutsPart}
 
 take_first : (first second : List ℕ) (n : ℕ) → take (min n (length first)) (first ++ second) ≡ take n first
@@ -78,3 +79,12 @@ pub longer_text : (old new text half more whole : List ℕ) → half ≡ text �
 longer_text old new text half more whole same longer part =
     let all = part_of_first old new text more part in
     (all.0, all.1 ∙ ap (λ t. old ++ take all.0 t) (sym (longer ∙ ap (λ t. t ++ more) same)))
+
+-- a call failed, after some that may have failed too
+pub lost : {T E : Type 0} (result : Result T E) (first mid last : ℕ) → first ≤ mid → mid ≤ last → Rose mid last → HasCause first last result
+lost result first mid last before later rose = record { later = omega arith; failed = on_err result _ (omega arith) }
+
+-- the last call was made after some that may have failed too
+pub at_last : {T E : Type 0} (result : Result T E) (first mid last : ℕ) → first ≤ mid → HasCause mid last result → HasCause first last result
+at_last (Ok x) first mid last before cause = record { later = omega (arith, cause.later); failed = tt }
+at_last (Err e) first mid last before cause = record { later = omega (arith, cause.later); failed = omega (arith, cause.failed) }

@@ -1,12 +1,11 @@
 -- The grammar of scripts: which request a line asks for, and which script a text is.
-use Rattle.std.specs.Prelude.{ℕ, ◌≡◌, ◌<◌, ◌≤◌, ◌+◌, ◌&&◌, false, nat_lt, nat_le, List, [], ◌∷◌, length, take, drop, replicate, codes, bytes_eq, Option, Some, None, Result, Ok, Err, if◌then◌else◌}
-use Rattle.std.specs.List.{AllByRecursion}
+use Rattle.std.specs.Prelude.{ℕ, ◌≡◌, ◌≤◌, ◌+◌, ◌&&◌, false, nat_lt, nat_le, List, [], ◌∷◌, length, take, drop, replicate, codes, bytes_eq, Option, Some, None, Result, Ok, Err, if◌then◌else◌}
 use Rattle.std.specs.Str.{all_ascii_digits}
 use Rattle.std.specs.Str.Parse.{digits_value}
 use Rattle.hex.specs.Hex.{decode_sized}
 use Rattle.hex.specs.declared.error.FromHexError.{FromHexError}
 use Rattle.blk_base.specs.declared.request.Request.{Request}
-use Rattle.blk_base.specs.declared.request.Request.TheVariants.{Read, Write, Discard, Flush}
+use Rattle.blk_base.specs.declared.request.Request.TheVariants.{Read, Write, Flush}
 use Rattle.vdo_model.specs.Scripts.{Script}
 use Rattle.vdo_model.specs.Servable.{AreServable}
 use Rattle.stream_text.specs.Lines.{lines_of, words_of}

@@ -1,6 +1,6 @@
-use Rattle.std.proofs.Common.{◌++◌}
+use Rattle.std.proofs.Common.{◌++◌, arith}
 use Rattle.std.specs.Prelude.{codes, decimal}
-use Rattle.stream_text.proofs.PutLaws.{on_err, second_failed, second_put, both_pieces, part_of_first, part_of_second}
+use Rattle.stream_text.proofs.PutLaws.{on_err, second_failed, second_put, both_pieces, part_of_first, part_of_second, lost, at_last}
 use Rattle.stream_text.proofs.answers.put_placed.Goals as goal
 
 pub returns-in_err-put-clause-err : goal.returns-in_err-put-clause-err
@@ -43,3 +43,17 @@ returns-clause-ok g c = λ tells.
     (both_pieces _ _ _ (codes " z" ++ zone) (codes ":")
     (both_pieces _ _ _ (codes " z") zone (c.in_ok-put.ensures.ok tells) (c.in_ok-put_number.ensures.ok tells)) (c.in_ok-put-2.ensures.ok tells))
     (c.put_number-2.ensures.ok tells)
+
+pub returns-in_err-put-clause-cause : goal.returns-in_err-put-clause-cause
+returns-in_err-put-clause-cause g c = lost c.from_residual.result _ _ _ (omega arith) c.put.ensures.cause.later c.in_err-put.ensures.cause.failed
+
+pub returns-in_err-put_number-clause-cause : goal.returns-in_err-put_number-clause-cause
+returns-in_err-put_number-clause-cause g c = lost c.from_residual-in_err-put_number.result _ _ _ c.put.ensures.cause.later c.put_number.ensures.cause.later c.in_err-put_number.ensures.cause.failed
+
+pub returns-in_err-put-2-clause-cause : goal.returns-in_err-put-2-clause-cause
+returns-in_err-put-2-clause-cause g c =
+    lost c.from_residual-in_err-put-2.result _ _ _ (omega (arith, c.put.ensures.cause.later, c.put_number.ensures.cause.later)) c.put-2.ensures.cause.later c.in_err-put-2.ensures.cause.failed
+
+pub returns-clause-cause : goal.returns-clause-cause
+returns-clause-cause g c =
+    at_last c.put_number-2.result _ _ _ (omega (arith, c.put.ensures.cause.later, c.put_number.ensures.cause.later, c.put-2.ensures.cause.later)) c.put_number-2.ensures.cause
