@@ -73,9 +73,7 @@ fn keep_entry(entries: &mut Vec<Entry>, at: Lba, written: Written) -> u64
             add(entries, Entry::Remap { at, old, new });
             STORED_CALLS
         }
-        Written::NoRoom => 0,
-        Written::DataLost(_) => 0,
-        Written::EntryLost(_) => 0,
+        Written::NoRoom | Written::DataLost(_) | Written::EntryLost(_) => 0,
     }
 }
 
