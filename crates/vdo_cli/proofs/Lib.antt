@@ -3,3 +3,4 @@ pub mod OpeningLaws
 pub mod WindowLaws
 pub mod WorkedRows
 pub mod StopLaws
+pub mod EndingLaws

@@ -1,4 +1,4 @@
-use Rattle.std.proofs.Common.{rules}
+use Rattle.std.proofs.Common.{◌∙◌, rules}
 use Rattle.serial_engine.specs.Served.{seen}
 use Rattle.vdo_cli.proofs.OpeningLaws.{read_on, untouched_on}
 use Rattle.vdo_cli.proofs.WindowLaws.{fails_since, window_of_image, faulty_of_image, written_name_data}
@@ -52,3 +52,21 @@ returns-in-Err-Faulty-clause-untouched g c = untouched_on _ _ _ _ c.read_head.en
 
 pub returns-clause-untouched : goal.returns-clause-untouched
 returns-clause-untouched g c = untouched_on _ _ _ _ c.read_head.ensures.untouched c.read_journal.ensures.untouched
+
+pub returns-in-Err-read_journal-clause-size : goal.returns-in-Err-read_journal-clause-size
+returns-in-Err-read_journal-clause-size g c = c.read_journal.ensures.size ∙ c.read_head.ensures.size
+
+pub returns-in-Err-read_journal-clause-opening : goal.returns-in-Err-read_journal-clause-opening
+returns-in-Err-read_journal-clause-opening g c = c.read_journal.ensures.opening ∙ c.read_head.ensures.opening
+
+pub returns-in-Ok-read_window-clause-size : goal.returns-in-Ok-read_window-clause-size
+returns-in-Ok-read_window-clause-size g c = c.read_journal.ensures.size ∙ c.read_head.ensures.size
+
+pub returns-in-Ok-read_window-clause-opening : goal.returns-in-Ok-read_window-clause-opening
+returns-in-Ok-read_window-clause-opening g c = c.read_journal.ensures.opening ∙ c.read_head.ensures.opening
+
+pub returns-in-Err-Faulty-clause-size : goal.returns-in-Err-Faulty-clause-size
+returns-in-Err-Faulty-clause-size g c = c.read_journal.ensures.size ∙ c.read_head.ensures.size
+
+pub returns-in-Err-Faulty-clause-opening : goal.returns-in-Err-Faulty-clause-opening
+returns-in-Err-Faulty-clause-opening g c = c.read_journal.ensures.opening ∙ c.read_head.ensures.opening

@@ -1,5 +1,5 @@
 use Rattle.std.proofs.Common.{◌≡◌, ◌∙◌, length, ap, sym, arith}
-use Rattle.vdo_cli.proofs.OpeningLaws.{no_blocks, first_says, one_read, read_since, failed_since}
+use Rattle.vdo_cli.proofs.OpeningLaws.{no_blocks, first_says, one_read, read_since, failed_since, untouched_yet}
 use Rattle.vdo_cli.proofs.opening.read_head.Goals as goal
 
 pub returns-then-is_empty-clause-fault : goal.returns-then-is_empty-clause-fault
@@ -36,3 +36,27 @@ returns-in-Err-clause-untouched g c = record {
   reads = λ tells. read_since _ _ _ _ _ (c.in-Ok.ensures.ok tells);
   later = record { faults = c.read.ensures.cause.later; unkept = c.read.ensures.unkept };
 }
+
+pub returns-then-is_empty-clause-untouched : goal.returns-then-is_empty-clause-untouched
+returns-then-is_empty-clause-untouched g c = untouched_yet _ _
+
+pub returns-in_default-clause-fault : goal.returns-in_default-clause-fault
+returns-in_default-clause-fault g c = c.in_default.ensures.cause.failed
+
+pub returns-in_default-clause-size : goal.returns-in_default-clause-size
+returns-in_default-clause-size g c = c.read.ensures.size
+
+pub returns-in_default-clause-opening : goal.returns-in_default-clause-opening
+returns-in_default-clause-opening g c = c.read.ensures.opening
+
+pub returns-in-Ok-read_super-clause-size : goal.returns-in-Ok-read_super-clause-size
+returns-in-Ok-read_super-clause-size g c = c.read.ensures.size
+
+pub returns-in-Ok-read_super-clause-opening : goal.returns-in-Ok-read_super-clause-opening
+returns-in-Ok-read_super-clause-opening g c = c.read.ensures.opening
+
+pub returns-in-Err-clause-size : goal.returns-in-Err-clause-size
+returns-in-Err-clause-size g c = c.read.ensures.size
+
+pub returns-in-Err-clause-opening : goal.returns-in-Err-clause-opening
+returns-in-Err-clause-opening g c = c.read.ensures.opening

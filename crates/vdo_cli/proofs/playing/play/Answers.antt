@@ -1,7 +1,8 @@
-use Rattle.std.proofs.Common.{◌≡◌, [], ◌∷◌, refl, ◌∙◌, rules}
+use Rattle.std.proofs.Common.{◌≡◌, [], ◌∷◌, refl, ◌∙◌, rules, arith}
 use Rattle.serial_engine.specs.Served.{seen}
 use Rattle.vdo_model.specs.Scripts.{stream_of}
 use Rattle.vdo_cli.proofs.OpeningLaws.{image_since}
+use Rattle.vdo_cli.proofs.EndingLaws.{not_opened}
 use Rattle.vdo_cli.proofs.StopLaws.{happens}
 use Rattle.vdo_cli.proofs.playing.play.Goals as goal
 
@@ -45,3 +46,42 @@ returns-in-Ok-serve_requests-clause-fault g c = search rules
 
 pub returns-in-Ok-serve_requests-clause-untouched : goal.returns-in-Ok-serve_requests-clause-untouched
 returns-in-Ok-serve_requests-clause-untouched g c = search rules
+
+pub returns-in-Err-clause-fault : goal.returns-in-Err-clause-fault
+returns-in-Err-clause-fault g c =
+    let disk = g.D.Disk in
+    let source = g.S.Source in
+    let script = c.args.script.now in
+    not_opened disk.tells disk.honest source.tells (disk.opening c.args.device.now) (seen (disk.log c.args.device.now) (disk.faults c.args.device.now) (disk.unkept c.args.device.now))
+    (seen (disk.log c.open.new.device) (disk.faults c.open.new.device) (disk.unkept c.open.new.device)) (source.left script) (source.faults script) (source.faults script)
+    c.in-Err.fault c.in-Err.ensures.fault
+
+pub returns-in-Err-clause-untouched : goal.returns-in-Err-clause-untouched
+returns-in-Err-clause-untouched g c = c.open.ensures.untouched
+
+pub serve_requests-requires-clause-sizes : goal.serve_requests-requires-clause-sizes
+serve_requests-requires-clause-sizes g c = c.in-Ok.ensures.sizes
+
+pub serve_requests-requires-clause-start : goal.serve_requests-requires-clause-start
+serve_requests-requires-clause-start g c = c.in-Ok.ensures.start
+
+pub serve_requests-requires-clause-opened : goal.serve_requests-requires-clause-opened
+serve_requests-requires-clause-opened g c = c.in-Ok.ensures.few
+
+pub serve_requests-requires-clause-names : goal.serve_requests-requires-clause-names
+serve_requests-requires-clause-names g c = c.in-Ok.ensures.names
+
+pub serve_requests-requires-clause-before : goal.serve_requests-requires-clause-before
+serve_requests-requires-clause-before g c = c.in-Ok.ensures.few_made
+
+pub serve_requests-requires-clause-size : goal.serve_requests-requires-clause-size
+serve_requests-requires-clause-size g c = omega (arith, c.in-Ok.ensures.room, c.open.ensures.size)
+
+pub returns-in-Err-Script-clause-untouched : goal.returns-in-Err-Script-clause-untouched
+returns-in-Err-Script-clause-untouched g c = c.open.ensures.untouched
+
+pub returns-in-Err-Read-clause-untouched : goal.returns-in-Err-Read-clause-untouched
+returns-in-Err-Read-clause-untouched g c = c.open.ensures.untouched
+
+pub returns-in-Err-Memory-clause-untouched : goal.returns-in-Err-Memory-clause-untouched
+returns-in-Err-Memory-clause-untouched g c = c.open.ensures.untouched

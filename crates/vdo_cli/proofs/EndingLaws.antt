@@ -1,0 +1,46 @@
+-- A run ends by what its fault says.
+use Rattle.std.proofs.Common.{ℕ, Bool, List, Option, Some, None}
+use Rattle.disk_model.specs.Log.{Blocks}
+use Rattle.image_layout.specs.declared.fault.ImageFault.TheVariants as image
+use Rattle.serial_engine.specs.Served.{Seen}
+use Rattle.vdo_model.specs.declared.report.RunReport.{RunReport}
+use Rattle.vdo_cli.specs.declared.fault.Fault.{Fault}
+use Rattle.vdo_cli.specs.declared.fault.Fault.TheVariants as fault
+use Rattle.vdo_cli.specs.Endings.{PlayFails}
+use Rattle.vdo_cli.specs.Openings.{OpeningFails}
+use Rattle.vdo_cli.specs.Runs.{Setting, Outside, NotBegun, Served, EndsSo}
+
+-- after a session
+pub served_ends : (s : Setting) (words : List (List ℕ)) (before after : Outside) (status : ℕ) (report : RunReport) (ended : Option Fault)
+    → Served s words before after status report ended → EndsSo s words before after status report ended
+served_ends s words before after status report None served = served
+served_ends s words before after status report (Some fault.Sink) served = served
+served_ends s words before after status report (Some fault.Usage) served = absurd served.closes
+served_ends s words before after status report (Some (fault.Script why)) served = absurd served.closes
+served_ends s words before after status report (Some fault.Device) served = absurd served.closes
+served_ends s words before after status report (Some (fault.Image why)) served = absurd served.closes
+served_ends s words before after status report (Some fault.Memory) served = absurd served.closes
+served_ends s words before after status report (Some fault.Read) served = absurd served.closes
+
+-- where no session was begun
+pub not_begun_ends : (s : Setting) (words : List (List ℕ)) (before after : Outside) (status : ℕ) (report : RunReport) (why : Fault)
+    → NotBegun s words before after status report why → EndsSo s words before after status report (Some why)
+not_begun_ends s words before after status report fault.Usage begun = absurd begun.cause
+not_begun_ends s words before after status report fault.Sink begun = absurd begun.cause
+not_begun_ends s words before after status report (fault.Script why) begun = begun
+not_begun_ends s words before after status report fault.Device begun = begun
+not_begun_ends s words before after status report (fault.Image why) begun = begun
+not_begun_ends s words before after status report fault.Memory begun = begun
+not_begun_ends s words before after status report fault.Read begun = begun
+
+-- where the device couldn't be opened
+pub not_opened : (tells honest source_tells : Bool) (opening : Blocks) (before after : Seen) (left : List ℕ) (faults faults' : ℕ) (why : Fault)
+    → OpeningFails tells honest opening before after why → PlayFails tells honest source_tells opening before after left faults faults' why
+not_opened tells honest source_tells opening before after left faults faults' fault.Device fails = fails
+not_opened tells honest source_tells opening before after left faults faults' (fault.Image (image.Super says)) fails = fails
+not_opened tells honest source_tells opening before after left faults faults' (fault.Image (image.Window sequence)) fails = fails
+not_opened tells honest source_tells opening before after left faults faults' fault.Memory fails = tt
+not_opened tells honest source_tells opening before after left faults faults' fault.Usage fails = absurd fails
+not_opened tells honest source_tells opening before after left faults faults' (fault.Script script) fails = absurd fails
+not_opened tells honest source_tells opening before after left faults faults' fault.Read fails = absurd fails
+not_opened tells honest source_tells opening before after left faults faults' fault.Sink fails = absurd fails
