@@ -1,38 +1,79 @@
+ghost use Rattle.std.specs.Prelude.{◌≡◌, ◌<◌, ◌∷◌, [], length};
+ghost use Rattle.zone_queues.specs.Queues.{empty, opening};
+
+use std::alloc::{AllocError, Global};
 use std::test::Fail;
 use zone_queues::{Lane, Lanes, Ports};
+
+// What zone 1 takes before anything was posted, and whether anything moves to it.
+fn before_any_post(lanes: &mut Lanes<char>) -> (Option<char>, bool)
+    requires { lanes.old ≡ opening _ (2 ∷ 3 ∷ []) }
+    ensures { lanes.new ≡ lanes.old }
+{
+    let taken = lanes.take(1);
+    (taken, lanes.move_all(0, 1))
+}
+
+// Two senders post to zone 1. Whether the outbox of the one, of the other, and again of the other has something to move.
+fn post_and_move(lanes: &mut Lanes<char>) -> [bool; 3]
+    requires { lanes.old ≡ opening _ (2 ∷ 3 ∷ []) }
+    ensures { length lanes.new.inboxes ≡ 2 }
+{
+    lanes.post(0, 1, 'a');
+    lanes.post(1, 1, 'b');
+    lanes.post(0, 1, 'c');
+    [
+        lanes.move_all(1, 1),
+        lanes.move_all(0, 1),
+        lanes.move_all(0, 1),
+    ]
+}
+
+fn take(lanes: &mut Lanes<char>, zone: u32) -> Option<char>
+    requires { zone < length lanes.old.inboxes }
+    ensures { length lanes.new.inboxes ≡ length lanes.old.inboxes }
+{
+    lanes.take(zone)
+}
+
+// What zone 0 takes, and four times zone 1.
+fn take_all(lanes: &mut Lanes<char>) -> [Option<char>; 5]
+    requires { length lanes.old.inboxes ≡ 2 }
+{
+    [
+        take(lanes, 0),
+        take(lanes, 1),
+        take(lanes, 1),
+        take(lanes, 1),
+        take(lanes, 1),
+    ]
+}
 
 // Two senders to one zone: what each posts comes in its order, a batch behind those that came before it.
 #[test]
 fn from_zone_to_zone(rt: HostRuntime) -> Result<(), Fail> {
     let mut lanes = Lanes::new(rt.alloc(), &[2, 3])?;
-    let at_first = lanes.take(1);
-    let none_moved = lanes.move_all(0, 1);
-    lanes.post(0, 1, 'a');
-    lanes.post(1, 1, 'b');
-    lanes.post(0, 1, 'c');
-    let moved = [
-        lanes.move_all(1, 1),
-        lanes.move_all(0, 1),
-        lanes.move_all(0, 1),
-    ];
-    let elsewhere = lanes.take(0);
-    let taken = [lanes.take(1), lanes.take(1), lanes.take(1), lanes.take(1)];
-    assert!(rt; at_first.is_none() && !none_moved);
-    assert!(rt; moved == [true, true, false]);
-    assert!(rt; elsewhere.is_none());
-    assert!(rt; taken == [Some('b'), Some('a'), Some('c'), None]);
+    let at_first = before_any_post(&mut lanes);
+    let moved = post_and_move(&mut lanes);
+    let taken = take_all(&mut lanes);
+    let wanted = [None, Some('b'), Some('a'), Some('c'), None];
+    assert!(rt; (at_first, moved, taken) == ((None, false), [true, true, false], wanted));
     Ok(())
 }
 
-// A batch leaves in exchange for an empty list, and comes in at another zone.
-#[test]
-fn a_batch_changes_hands(rt: HostRuntime) -> Result<(), Fail> {
-    let mut sender = Ports::new(rt.alloc(), 1, &[0, 2])?;
-    let mut receiver = Ports::new(rt.alloc(), 3, &[])?;
+// A batch of the sender goes to the receiver. Whether the batch is empty then, and what the receiver takes.
+fn hand_over(
+    sender: &mut Ports<char>,
+    receiver: &mut Ports<char>,
+    alloc: Global,
+) -> Result<(bool, [Option<char>; 4]), AllocError>
+    requires sender { sender.old.outboxes ≡ empty _ 0 ∷ empty _ 2 ∷ [] }
+    requires receiver { receiver.old.inbox ≡ empty _ 3 }
+{
     sender.post(1, 'a');
     sender.post(1, 'b');
     receiver.keep('z');
-    let mut batch = sender.exchange(1, Lane::new(rt.alloc(), 2)?);
+    let mut batch = sender.exchange(1, Lane::new(alloc, 2)?);
     receiver.receive(&mut batch);
     let taken = [
         receiver.take(),
@@ -40,7 +81,15 @@ fn a_batch_changes_hands(rt: HostRuntime) -> Result<(), Fail> {
         receiver.take(),
         receiver.take(),
     ];
-    assert!(rt; batch.is_empty());
-    assert!(rt; taken == [Some('z'), Some('a'), Some('b'), None]);
+    Ok((batch.is_empty(), taken))
+}
+
+// A batch leaves in exchange for an empty list, and comes in at another zone.
+#[test]
+fn a_batch_changes_hands(rt: HostRuntime) -> Result<(), Fail> {
+    let mut sender = Ports::new(rt.alloc(), 1, &[0, 2])?;
+    let mut receiver = Ports::new(rt.alloc(), 3, &[])?;
+    let handed_over = hand_over(&mut sender, &mut receiver, rt.alloc());
+    assert!(rt; handed_over == Ok((true, [Some('z'), Some('a'), Some('b'), None])));
     Ok(())
 }

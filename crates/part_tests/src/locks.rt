@@ -1,25 +1,37 @@
+ghost use Rattle.std.specs.Prelude.{◌≡◌};
+ghost use Rattle.logical_locks.specs.Holders.{nobody};
+
 use blk_base::Lba;
 use logical_locks::Locks;
 use std::test::Fail;
+
+const ONE: Lba = Lba(7);
+
+const OTHER: Lba = Lba(8);
+
+fn ask_all(locks: &mut Locks<char>) -> [(u64, Option<char>); 5]
+    requires { locks.old ≡ nobody _ 5 }
+{
+    [
+        locks.ask(ONE, 'a'),
+        locks.ask(ONE, 'b'),
+        locks.ask(OTHER, 'c'),
+        locks.ask(OTHER, 'd'),
+        locks.ask(ONE, 'e'),
+    ]
+}
+
+fn release_thrice(locks: &mut Locks<char>, at: Lba) -> [Option<char>; 3] {
+    [locks.release(at), locks.release(at), locks.release(at)]
+}
 
 // Five ask for two addresses; each address goes from one to the next in the order of their places.
 #[test]
 fn first_come_first_served(rt: HostRuntime) -> Result<(), Fail> {
     let mut locks = Locks::new(rt.alloc(), 5)?;
-    let (one, other) = (Lba(7), Lba(8));
-    let asked = [
-        locks.ask(one, 'a'),
-        locks.ask(one, 'b'),
-        locks.ask(other, 'c'),
-        locks.ask(other, 'd'),
-        locks.ask(one, 'e'),
-    ];
-    let of_one = [locks.release(one), locks.release(one), locks.release(one)];
-    let of_other = [
-        locks.release(other),
-        locks.release(other),
-        locks.release(other),
-    ];
+    let asked = ask_all(&mut locks);
+    let of_one = release_thrice(&mut locks, ONE);
+    let of_other = release_thrice(&mut locks, OTHER);
     let places = [
         (0, Some('a')),
         (1, None),
@@ -27,8 +39,7 @@ fn first_come_first_served(rt: HostRuntime) -> Result<(), Fail> {
         (3, None),
         (4, None),
     ];
-    assert!(rt; asked == places);
-    assert!(rt; of_one == [Some('b'), Some('e'), None]);
-    assert!(rt; of_other == [Some('d'), None, None]);
+    let next = [[Some('b'), Some('e'), None], [Some('d'), None, None]];
+    assert!(rt; (asked, [of_one, of_other]) == (places, next));
     Ok(())
 }

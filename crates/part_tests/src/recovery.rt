@@ -89,28 +89,83 @@ fn seals_none(journal: &mut Journal) -> bool
     }
 }
 
+// An entry that is handed out, with its point, and the point below which entries are reaped then.
+fn hand_out_and_reap(journal: &mut Journal) -> (Option<(Entry, u64)>, u64)
+    requires sequence { journal.old.sequence < 2 ^ 55 }
+    requires zones { length journal.old.marks ≡ 1 }
+    ensures sequence { journal.new.sequence ≡ journal.old.sequence }
+    ensures zones { length journal.new.marks ≡ 1 }
+{
+    let handed_out = hand_out(journal);
+    (handed_out, reap(journal, 0, u64::MAX))
+}
+
+// Writes so many blocks, and tells of the last.
+fn write_blocks(journal: &mut Journal, first: u32, last: u32) -> Option<(u64, u64, usize)>
+    requires first { first ≤ last }
+    requires sequence { journal.old.sequence ≤ first }
+    requires zones { length journal.old.marks ≡ 1 }
+    ensures sequence { journal.new.sequence ≤ last + 1 }
+    ensures zones { length journal.new.marks ≡ 1 }
+{
+    for number in first..last {
+        let _ = write(journal, number);
+    }
+    write(journal, last)
+}
+
+// Blocks 1 to 8 are written, of which the first is handed out and reaped. The place of the first entry, what is told of
+// the first block and of the last, and the reaped entry with the point below which it is.
+fn fill(
+    journal: &mut Journal,
+) -> (
+    Option<(u64, usize)>,
+    [Option<(u64, u64, usize)>; 2],
+    (Option<(Entry, u64)>, u64),
+)
+    requires sequence { journal.old.sequence ≡ 1 }
+    requires zones { length journal.old.marks ≡ 1 }
+    ensures sequence { journal.new.sequence ≤ 10 }
+    ensures zones { length journal.new.marks ≡ 1 }
+{
+    let added = add(journal, 1);
+    let written = write(journal, 2);
+    let reaped = hand_out_and_reap(journal);
+    let last_written = write_blocks(journal, 3, 9);
+    (added, [written, last_written], reaped)
+}
+
+// The places of an entry before and after another block is reaped, that block's entry, and the head then.
+fn reap_and_add(
+    journal: &mut Journal,
+) -> ([Option<(u64, usize)>; 2], (Option<(Entry, u64)>, u64), u64)
+    requires sequence { journal.old.sequence ≤ 10 }
+    requires zones { length journal.old.marks ≡ 1 }
+{
+    let refused = add(journal, 9);
+    let reaped = hand_out_and_reap(journal);
+    let head = journal.head();
+    let added = add(journal, 9);
+    ([refused, added], reaped, head)
+}
+
 // Blocks 2 to 8 are written with head 2: an entry for block 9 waits until the head is 3.
 #[test]
 fn a_full_ring_waits_for_the_head(rt: HostRuntime) -> Result<(), Fail> {
     let mut journal = Journal::new(rt.alloc(), &SMALL, 1, 1)?;
-    let added = add(&mut journal, 1);
-    let written = write(&mut journal, 2);
-    let handed_out = hand_out(&mut journal);
-    let reaped = reap(&mut journal, 0, u64::MAX);
-    for number in 3..9 {
-        let _ = write(&mut journal, number);
-    }
-    let last_written = write(&mut journal, 9);
-    let refused = add(&mut journal, 9);
-    let handed_out_next = hand_out(&mut journal);
-    let reaped_next = reap(&mut journal, 0, u64::MAX);
-    let head = journal.head();
-    let added_then = add(&mut journal, 9);
-    assert!(rt; [added, refused, added_then] == [Some((1, 0)), None, Some((9, 0))]);
-    assert!(rt; [written, last_written] == [Some((1, 1, 1)), Some((8, 2, 1))]);
-    assert!(rt; handed_out == Some((entry(1), 512)) && handed_out_next == Some((entry(2), 1024)));
-    assert_eq!(rt; [reaped, reaped_next, head], [1024, 1536, 3]);
+    let filled = fill(&mut journal);
+    let added = reap_and_add(&mut journal);
     no_needed_block_is_overwritten();
+    let written = [Some((1, 1, 1)), Some((8, 2, 1))];
+    let reaped = (Some((entry(1), 512)), 1024);
+    let reaped_next = (Some((entry(2), 1024)), 1536);
+    assert!(rt;
+        (filled, added)
+            == (
+                (Some((1, 0)), written, reaped),
+                ([None, Some((9, 0))], reaped_next, 3)
+            )
+    );
     Ok(())
 }
 
@@ -198,17 +253,28 @@ fn step(journal: &mut Journal, plain: &mut PlainJournal, number: u64) -> Result<
     Ok(same && journal.head() == plain.head())
 }
 
-#[test]
-fn as_the_plain_journal(rt: HostRuntime) -> Result<(), Fail> {
-    let mut journal = Journal::new(rt.alloc(), &SMALL, 5, 2)?;
-    let mut plain = PlainJournal::new(rt.alloc(), 8, 5);
+// How many of 300 steps both make alike before the first that they don't.
+fn count_alike(journal: &mut Journal, plain: &mut PlainJournal) -> Result<u64, AllocError>
+    requires sequence { journal.old.sequence ≤ 5 }
+    requires zones { length journal.old.marks ≡ 2 }
+{
     let mut number = 1_u64;
     for turn in 0..300_u64 {
         number = number
             .wrapping_mul(6364136223846793005)
             .wrapping_add(1442695040888963407);
-        assert!(rt; step(&mut journal, &mut plain, number >> 33)?);
+        if !step(journal, plain, number >> 33)? {
+            return Ok(turn);
+        }
     }
-    assert!(rt; journal.head() > 20);
+    Ok(300)
+}
+
+#[test]
+fn as_the_plain_journal(rt: HostRuntime) -> Result<(), Fail> {
+    let mut journal = Journal::new(rt.alloc(), &SMALL, 5, 2)?;
+    let mut plain = PlainJournal::new(rt.alloc(), 8, 5);
+    let alike = count_alike(&mut journal, &mut plain);
+    assert!(rt; (alike, journal.head() > 20) == (Ok(300), true));
     Ok(())
 }

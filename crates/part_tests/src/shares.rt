@@ -1,4 +1,5 @@
-ghost use Rattle.std.specs.Prelude.{List, ℕ};
+ghost use Rattle.std.specs.Prelude.{List, ℕ, ◌≡◌, ◌+◌, ◌<◌, ◌≤◌, length};
+ghost use Rattle.hash_locks.specs.Sharing.{nothing};
 
 use blk_base::Block;
 use block_names::Name;
@@ -36,31 +37,70 @@ fn told(role: Role<Marked>) -> (char, u8) {
     }
 }
 
-fn mark_of(next: Option<Marked>) -> Option<u8> {
-    next.map(|back| back.mark)
+// A block arrives with this mark and this last byte.
+fn arrive(
+    locks: &mut HashLocks<Marked>,
+    alloc: Global,
+    name: &Name,
+    mark: u8,
+    last: u8,
+) -> Result<(char, u8), AllocError>
+    requires { length locks.old.held + length locks.old.waiting < locks.old.room }
+    ensures grows { length locks.new.held + length locks.new.waiting ≤ length locks.old.held + length locks.old.waiting + 1 }
+    ensures room { locks.new.room ≡ locks.old.room }
+{
+    let block = block_with(alloc, mark, last)?;
+    Ok(told(locks.arrive(name, block)))
 }
 
-// One name under which blocks arrive that differ in their last byte alone, and another name.
+// Blocks arrive under one name that differ in their last byte alone, and one under another name.
+fn arrive_all(
+    locks: &mut HashLocks<Marked>,
+    alloc: Global,
+    one: &Name,
+    other: &Name,
+) -> Result<[(char, u8); 5], AllocError>
+    requires { locks.old ≡ nothing _ 5 }
+{
+    Ok([
+        arrive(locks, alloc, one, 1, 7)?,
+        arrive(locks, alloc, one, 2, 7)?,
+        arrive(locks, alloc, one, 3, 8)?,
+        arrive(locks, alloc, other, 4, 8)?,
+        arrive(locks, alloc, one, 5, 7)?,
+    ])
+}
+
+// The mark of the next that shares the agent's block.
+fn settle(locks: &mut HashLocks<Marked>, name: &Name) -> Option<u8> {
+    let next = locks.settle(name)?;
+    Some(next.mark)
+}
+
+// The mark of the next agent.
+fn roll_over(locks: &mut HashLocks<Marked>, name: &Name) -> Option<u8> {
+    let next = locks.roll_over(name)?;
+    Some(next.mark)
+}
+
+fn leave_all(locks: &mut HashLocks<Marked>, name: &Name) -> [Option<u8>; 5] {
+    [
+        settle(locks, name),
+        roll_over(locks, name),
+        settle(locks, name),
+        roll_over(locks, name),
+        roll_over(locks, name),
+    ]
+}
+
 #[test]
 fn agents_waiters_and_others(rt: HostRuntime) -> Result<(), Fail> {
-    let mut locks = HashLocks::new(rt.alloc(), 5)?;
     let one = Name::new([1; 16]);
     let other = Name::new([2; 16]);
-    let arrived = [
-        told(locks.arrive(&one, block_with(rt.alloc(), 1, 7)?)),
-        told(locks.arrive(&one, block_with(rt.alloc(), 2, 7)?)),
-        told(locks.arrive(&one, block_with(rt.alloc(), 3, 8)?)),
-        told(locks.arrive(&other, block_with(rt.alloc(), 4, 8)?)),
-        told(locks.arrive(&one, block_with(rt.alloc(), 5, 7)?)),
-    ];
-    let left = [
-        mark_of(locks.settle(&one)),
-        mark_of(locks.roll_over(&one)),
-        mark_of(locks.settle(&one)),
-        mark_of(locks.roll_over(&one)),
-        mark_of(locks.roll_over(&one)),
-    ];
-    assert!(rt; arrived == [('a', 1), ('w', 0), ('n', 3), ('a', 4), ('w', 0)]);
-    assert!(rt; left == [Some(2), Some(5), None, None, None]);
+    let mut locks = HashLocks::new(rt.alloc(), 5)?;
+    let arrived = arrive_all(&mut locks, rt.alloc(), &one, &other);
+    let left = leave_all(&mut locks, &one);
+    let roles = [('a', 1), ('w', 0), ('n', 3), ('a', 4), ('w', 0)];
+    assert!(rt; (arrived, left) == (Ok(roles), [Some(2), Some(5), None, None, None]));
     Ok(())
 }

@@ -11,7 +11,6 @@ use block_map_tree::{Found, OpenedPage, TreeNodes, path};
 use page_codec::{MapPage, Mappings, PageHead};
 use plain::{Plain, page_at};
 use std::alloc::{AllocError, Global};
-use std::process::Abort;
 use std::test::Fail;
 
 const GEOMETRY: Geometry = Geometry {
@@ -25,22 +24,24 @@ const GEOMETRY: Geometry = Geometry {
     nonce: 7,
 };
 
-// The path of this address in trees of this height.
-fn leads(rt: &impl Abort, at: u32, height: u32, tree: u8, slots: &[u16])
+// Whether the path of this address in trees of this height is this one.
+fn leads(at: u32, height: u32, tree: u8, slots: &[u16]) -> bool
     requires height { (2 ≤ height) × (height ≤ 3) }
     requires inside { at < logical_limit height }
 {
     let found = path(Lba(at), height);
-    assert_eq!(rt; found.tree, tree);
-    assert!(rt; found.slots.as_slice() == slots);
+    found.tree == tree && found.slots.as_slice() == slots
 }
 
 #[test]
 fn paths_of_some_addresses(rt: HostRuntime) {
-    leads(&rt, 1000, 2, 1, &[0, 188]);
-    leads(&rt, 48_720, 2, 0, &[1, 0]);
-    leads(&rt, 39_560_639, 2, 59, &[811, 811]);
-    leads(&rt, 39_560_640, 3, 0, &[1, 0, 0]);
+    let lead = [
+        leads(1000, 2, 1, &[0, 188]),
+        leads(48_720, 2, 0, &[1, 0]),
+        leads(39_560_639, 2, 59, &[811, 811]),
+        leads(39_560_640, 3, 0, &[1, 0, 0]),
+    ];
+    assert!(rt; lead == [true; 4]);
 }
 
 // A page of an image of these sizes, as `take_expired` fills it.
@@ -90,8 +91,8 @@ fn link_next(
     }
 }
 
-// A page is handed out and reported at once.
-fn write_one(rt: &impl Abort, tree: &mut TreeNodes, plain: &mut Plain, limit: Point)
+// A page is handed out and reported at once. Whether it is the same page of both.
+fn write_one(tree: &mut TreeNodes, plain: &mut Plain, limit: Point) -> bool
     requires form { IsTree tree.old }
     requires sizes { tree.old.geometry ≡ GEOMETRY }
     ensures form { IsTree tree.new }
@@ -100,22 +101,24 @@ fn write_one(rt: &impl Abort, tree: &mut TreeNodes, plain: &mut Plain, limit: Po
 {
     let mut into = blank_page();
     let taken = tree.take_expired(limit, &mut into);
-    assert!(rt; taken == plain.take_expired(limit));
-    if let Some(page) = taken {
-        tree.written(page);
-        plain.written(page);
-    }
+    let alike = taken == plain.take_expired(limit);
+    let Some(page) = taken else {
+        return alike;
+    };
+    tree.written(page);
+    plain.written(page);
+    alike
 }
 
-// A page is linked, one is handed out, another is linked, another written, and then the first one is reported.
+// A page is linked, one is handed out, another is linked, another written, and then the first one is reported. Whether
+// both trees do alike.
 fn cycle(
-    rt: &impl Abort,
     tree: &mut TreeNodes,
     plain: &mut Plain,
     one: Lba,
     other: Lba,
     limit: Point,
-) -> Result<(), AllocError>
+) -> Result<bool, AllocError>
     requires form { IsTree tree.old }
     requires sizes { tree.old.geometry ≡ GEOMETRY }
     requires one { one.0 < GEOMETRY.logical }
@@ -124,29 +127,39 @@ fn cycle(
     ensures sizes { tree.new.geometry ≡ GEOMETRY }
 {
     link_next(tree, plain, one, Pbn(one.0 / 7), Point(limit.0 ^ 3))?;
-    assert!(rt; is_like(tree, plain, one));
+    let linked = is_like(tree, plain, one);
     let mut into = blank_page();
     let taken = tree.take_expired(limit, &mut into);
-    assert!(rt; taken == plain.take_expired(limit));
+    let handed_out = taken == plain.take_expired(limit);
     let Some(page) = taken else {
-        return Ok(());
+        return Ok(linked && handed_out);
     };
-    let links = count_links(&into.mappings);
-    assert!(rt; into.head.page == page && links == plain.count_below(page));
+    let links = count_links(&into.mappings) == plain.count_below(page);
     link_next(tree, plain, other, Pbn(other.0 / 7), Point(limit.0 ^ 12))?;
-    write_one(rt, tree, plain, limit);
-    assert!(rt; is_like(tree, plain, other));
+    let written = write_one(tree, plain, limit);
+    let still = is_like(tree, plain, other);
     tree.written(page);
     plain.written(page);
-    Ok(())
+    Ok(
+        [
+            linked,
+            handed_out,
+            into.head.page == page,
+            links,
+            written,
+            still,
+        ] == [true; 6],
+    )
 }
 
 fn count_links(mappings: &Mappings) -> usize {
-    mappings
-        .as_slice()
-        .iter()
-        .filter(|mapping| **mapping != Mapping::Unmapped)
-        .count()
+    let mut count: usize = 0;
+    for mapping in mappings.as_slice() {
+        if *mapping != Mapping::Unmapped {
+            count = count.saturating_add(1);
+        }
+    }
+    count
 }
 
 // The next of a fixed sequence of numbers.
@@ -165,18 +178,30 @@ fn address(number: u64) -> Lba
     Lba(((leaf * 60 + tree) * 812) as u32)
 }
 
+// How many of 300 cycles go alike before the first that doesn't.
+fn count_alike(tree: &mut TreeNodes, plain: &mut Plain) -> Result<u32, AllocError>
+    requires form { IsTree tree.old }
+    requires sizes { tree.old.geometry ≡ GEOMETRY }
+{
+    let mut number = 1;
+    for step in 0..300_u32 {
+        let one = address(number);
+        number = next(number);
+        let limit = Point(number >> 55);
+        if !cycle(tree, plain, one, address(number), limit)? {
+            return Ok(step);
+        }
+        number = next(number);
+    }
+    Ok(300)
+}
+
 #[test]
 fn like_a_list_of_links(rt: HostRuntime) -> Result<(), Fail> {
     let mut tree = TreeNodes::from_opened(rt.alloc(), &GEOMETRY, &[])?;
     let mut plain = Plain::new(rt.alloc(), &GEOMETRY);
-    let mut number = 1;
-    for _step in 0..300 {
-        let one = address(number);
-        number = next(number);
-        let limit = Point(number >> 55);
-        cycle(&rt, &mut tree, &mut plain, one, address(number), limit)?;
-        number = next(number);
-    }
+    let alike = count_alike(&mut tree, &mut plain);
+    assert!(rt; alike == Ok(300));
     Ok(())
 }
 
@@ -213,43 +238,99 @@ fn small_tree(alloc: Global) -> Result<TreeNodes, AllocError>
     TreeNodes::from_opened(alloc, &GEOMETRY, &pages)
 }
 
-#[test]
-fn opened_pages_lead_on(rt: HostRuntime) -> Result<(), Fail> {
-    let mut tree = small_tree(rt.alloc())?;
-    let found = [
+// What an address of the leaf leads to, one beside it, and one of another tree.
+fn find_three(tree: &TreeNodes) -> [Found; 3]
+    requires { tree.now.geometry ≡ GEOMETRY }
+{
+    [
         tree.find(&path(Lba(243_600), 3)),
         tree.find(&path(Lba(0), 3)),
         tree.find(&path(Lba(812), 3)),
-    ];
+    ]
+}
+
+// Links the two pages that the path of an address misses, and finds it then.
+fn link_two(tree: &mut TreeNodes, plain: &mut Plain) -> Result<Found, AllocError>
+    requires form { IsTree tree.old }
+    requires sizes { tree.old.geometry ≡ GEOMETRY }
+{
+    link_next(tree, plain, Lba(812), Pbn(92), Point(8))?;
+    link_next(tree, plain, Lba(812), Pbn(93), Point(6))?;
+    Ok(tree.find(&path(Lba(812), 3)))
+}
+
+#[test]
+fn opened_pages_lead_on(rt: HostRuntime) -> Result<(), Fail> {
+    let mut tree = small_tree(rt.alloc())?;
+    let mut plain = Plain::new(rt.alloc(), &GEOMETRY);
+    let found = find_three(&tree);
     let stand = [tree.at(page_at(Lba(812), 2)), tree.at(page_at(Lba(812), 1))];
     let clean = tree.low_point();
-    let mut plain = Plain::new(rt.alloc(), &GEOMETRY);
-    link_next(&mut tree, &mut plain, Lba(812), Pbn(92), Point(8))?;
-    link_next(&mut tree, &mut plain, Lba(812), Pbn(93), Point(6))?;
-    let linked = tree.find(&path(Lba(812), 3));
-    assert!(rt; found == [Found::Leaf(Pbn(91)), Found::Missing(0), Found::Missing(1)]);
-    assert!(rt; stand == [Some(Pbn(10)), None]);
-    assert!(rt; linked == Found::Leaf(Pbn(93)));
-    assert!(rt; [clean, tree.low_point()] == [None, Some(Point(6))]);
+    let linked = link_two(&mut tree, &mut plain);
+    let marks = [clean, tree.low_point()];
+    let wanted = [Found::Leaf(Pbn(91)), Found::Missing(0), Found::Missing(1)];
+    assert!(rt;
+        (found, stand, linked, marks)
+            == (
+                wanted,
+                [Some(Pbn(10)), None],
+                Ok(Found::Leaf(Pbn(93))),
+                [None, Some(Point(6))]
+            )
+    );
     Ok(())
+}
+
+// What is handed out to be written.
+#[derive(Clone, Copy, PartialEq, Eq)]
+struct Changed {
+    page: PageId,
+    at: Pbn,
+    mappings: [Mapping; 2],
+    low: Option<Point>,
+}
+
+// The page that is due at this point, with two of its mappings, is handed out and reported.
+fn write_changed(tree: &mut TreeNodes, limit: Point) -> Option<Changed>
+    requires { IsTree tree.old }
+    ensures form { IsTree tree.new }
+{
+    let mut into = blank_page();
+    let page = tree.take_expired(limit, &mut into)?;
+    let low = tree.low_point();
+    tree.written(page);
+    Some(Changed {
+        page,
+        at: into.head.at,
+        mappings: [into.mappings.get(0), into.mappings.get(5)],
+        low,
+    })
+}
+
+// A page is linked at point 8: what is due at point 7, at point 8, and the low point then.
+fn link_and_write(
+    tree: &mut TreeNodes,
+    plain: &mut Plain,
+) -> Result<([Option<Changed>; 2], Option<Point>), AllocError>
+    requires form { IsTree tree.old }
+    requires sizes { tree.old.geometry ≡ GEOMETRY }
+{
+    link_next(tree, plain, Lba(0), Pbn(92), Point(8))?;
+    let written = [write_changed(tree, Point(7)), write_changed(tree, Point(8))];
+    Ok((written, tree.low_point()))
 }
 
 #[test]
 fn a_changed_page_is_written(rt: HostRuntime) -> Result<(), Fail> {
     let mut tree = small_tree(rt.alloc())?;
     let mut plain = Plain::new(rt.alloc(), &GEOMETRY);
-    link_next(&mut tree, &mut plain, Lba(0), Pbn(92), Point(8))?;
-    let mut into = blank_page();
-    let early = tree.take_expired(Point(7), &mut into);
-    let Some(page) = tree.take_expired(Point(8), &mut into) else {
-        return Err(Fail::new("no page is due"));
+    let written = link_and_write(&mut tree, &mut plain);
+    let changed = Changed {
+        page: page_at(Lba(0), 1),
+        at: Pbn(90),
+        mappings: [Mapping::At(Pbn(92)), Mapping::At(Pbn(91))],
+        low: Some(Point(8)),
     };
-    let low = tree.low_point();
-    tree.written(page);
-    let mappings = [into.mappings.get(0), into.mappings.get(5)];
-    assert!(rt; early.is_none() && page == page_at(Lba(0), 1));
-    assert!(rt; into.head.at == Pbn(90));
-    assert!(rt; mappings == [Mapping::At(Pbn(92)), Mapping::At(Pbn(91))]);
-    assert!(rt; [low, tree.low_point()] == [Some(Point(8)), None]);
+    assert!(rt; written == Ok(([None, Some(changed)], None)));
     Ok(())
 }

@@ -74,29 +74,55 @@ fn seals_none(journal: &mut SlabJournal) -> bool
     }
 }
 
-// Block 3 goes to the slot of block 1, once both sectors of counters include its updates.
-#[test]
-fn a_slot_waits_for_its_sectors(rt: HostRuntime) -> Result<(), Fail> {
-    let mut journal = SlabJournal::new(rt.alloc(), &SMALL, 0)?;
-    let of_nothing = write(&mut journal);
-    let added = add(&mut journal, 512, 503) && add(&mut journal, 513, 504);
-    let first = write(&mut journal);
-    let added_next = add(&mut journal, 514, 999);
-    let second = write(&mut journal);
-    let added_last = add(&mut journal, 600, 0);
+// Two blocks are written, and an update is added to the third. Whether each update was taken, and what was written before
+// any, then, and last.
+fn fill_both_slots(journal: &mut SlabJournal) -> ([bool; 4], [Option<(u64, usize, u64, u64)>; 3])
+    requires small { (journal.old.geometry ≡ SMALL) × (journal.old.slab ≡ 0) }
+    requires sequence { journal.old.sequence ≡ 1 }
+    ensures small { (journal.new.geometry ≡ SMALL) × (journal.new.slab ≡ 0) }
+    ensures sequence { journal.new.sequence ≤ 4 }
+    ensures sectors { length journal.new.commits ≡ length journal.old.commits }
+{
+    let of_nothing = write(journal);
+    let added = add(journal, 512, 503);
+    let added_too = add(journal, 513, 504);
+    let first = write(journal);
+    let added_next = add(journal, 514, 999);
+    let second = write(journal);
+    let added_last = add(journal, 600, 0);
+    (
+        [added, added_too, added_next, added_last],
+        [of_nothing, first, second],
+    )
+}
+
+// Both sectors of the first block are covered, one after the other. Whether its slot may be overwritten before, in
+// between and then, and what is written before and then.
+fn cover_first_block(journal: &mut SlabJournal) -> ([bool; 3], [Option<(u64, usize, u64, u64)>; 2])
+    requires small { (journal.old.geometry ≡ SMALL) × (journal.old.slab ≡ 0) }
+    requires sequence { journal.old.sequence ≤ 4 }
+    requires sectors { length journal.old.commits ≡ 2 }
+{
     let at_once = journal.may_overwrite();
-    let too_early = write(&mut journal);
+    let too_early = write(journal);
     journal.reference_durable(0, Point(512));
     journal.reference_durable(1, Point(512));
     let half_covered = journal.may_overwrite();
     journal.reference_durable(1, Point(513));
     let covered = journal.may_overwrite();
-    let third = write(&mut journal);
-    assert!(rt; added && added_next && added_last);
-    assert!(rt; of_nothing.is_none() && too_early.is_none());
-    assert!(rt; first == Some((1, 2, 1025, 1007)) && second == Some((2, 1, 514, 999)));
-    assert!(rt; third == Some((3, 1, 600, 0)));
-    assert!(rt; [at_once, half_covered, covered] == [false, false, true]);
+    let third = write(journal);
+    ([at_once, half_covered, covered], [too_early, third])
+}
+
+// Block 3 goes to the slot of block 1, once both sectors of counters include its updates.
+#[test]
+fn a_slot_waits_for_its_sectors(rt: HostRuntime) -> Result<(), Fail> {
+    let mut journal = SlabJournal::new(rt.alloc(), &SMALL, 0)?;
+    let filled = fill_both_slots(&mut journal);
+    let covered = cover_first_block(&mut journal);
+    let written = [None, Some((1, 2, 1025, 1007)), Some((2, 1, 514, 999))];
+    let written_then = [None, Some((3, 1, 600, 0))];
+    assert!(rt; (filled, covered) == (([true; 4], written), ([false, false, true], written_then)));
     Ok(())
 }
 
@@ -177,16 +203,29 @@ fn step(
     Ok(same && journal.may_overwrite() == plain.may_overwrite())
 }
 
-#[test]
-fn as_the_plain_journal(rt: HostRuntime) -> Result<(), Fail> {
-    let mut journal = SlabJournal::new(rt.alloc(), &SMALL, 0)?;
-    let mut plain = PlainJournal::new(rt.alloc(), 2);
+// How many of 300 steps both make alike before the first that they don't.
+fn count_alike(journal: &mut SlabJournal, plain: &mut PlainJournal) -> Result<u64, AllocError>
+    requires small { (journal.old.geometry ≡ SMALL) × (journal.old.slab ≡ 0) }
+    requires sequence { journal.old.sequence ≡ 1 }
+    requires sectors { length journal.old.commits ≡ 2 }
+{
     let mut number = 1_u64;
     for turn in 0..300_u64 {
         number = number
             .wrapping_mul(6364136223846793005)
             .wrapping_add(1442695040888963407);
-        assert!(rt; step(&mut journal, &mut plain, 512 + turn * 250, number >> 33)?);
+        if !step(journal, plain, 512 + turn * 250, number >> 33)? {
+            return Ok(turn);
+        }
     }
+    Ok(300)
+}
+
+#[test]
+fn as_the_plain_journal(rt: HostRuntime) -> Result<(), Fail> {
+    let mut journal = SlabJournal::new(rt.alloc(), &SMALL, 0)?;
+    let mut plain = PlainJournal::new(rt.alloc(), 2);
+    let alike = count_alike(&mut journal, &mut plain);
+    assert!(rt; alike == Ok(300));
     Ok(())
 }

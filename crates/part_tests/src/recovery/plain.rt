@@ -37,11 +37,13 @@ impl PlainJournal {
 
     // How many entries the block being filled has.
     fn count(&self) -> usize {
-        let sequence = self.sequence;
-        self.entries
-            .iter()
-            .filter(|one| one.point / POINTS_PER_BLOCK == sequence)
-            .count()
+        let mut count: usize = 0;
+        for one in &self.entries {
+            if one.point / POINTS_PER_BLOCK == self.sequence {
+                count = count.saturating_add(1);
+            }
+        }
+        count
     }
 
     pub(crate) fn head(&self) -> u64 {

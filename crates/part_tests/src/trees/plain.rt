@@ -54,6 +54,14 @@ fn above(page: PageId) -> PageId {
     }
 }
 
+// The link with the lesser point; of two with the same point the first.
+fn earlier(first: Option<Link>, next: Link) -> Option<Link> {
+    match first {
+        Some(link) if link.point <= next.point => Some(link),
+        _ => Some(next),
+    }
+}
+
 impl Plain {
     pub fn new(alloc: Global, geometry: &Geometry) -> Plain {
         Plain {
@@ -63,10 +71,12 @@ impl Plain {
     }
 
     pub fn at(&self, page: PageId) -> Option<Pbn> {
-        self.links
-            .iter()
-            .find(|link| link.page == page)
-            .map(|link| link.at)
+        for link in &self.links {
+            if link.page == page {
+                return Some(link.at);
+            }
+        }
+        None
     }
 
     pub fn find(&self, at: Lba, height: u8) -> Found
@@ -93,15 +103,20 @@ impl Plain {
     }
 
     fn is_out(&self, page: PageId) -> bool {
-        self.links.iter().any(|link| link.stage == Stage::BeingWritten && above(link.page) == page)
+        for link in &self.links {
+            if link.stage == Stage::BeingWritten && above(link.page) == page {
+                return true;
+            }
+        }
+        false
     }
 
     pub fn take_expired(&mut self, point: Point) -> Option<PageId> {
         let mut first: Option<Link> = None;
         for link in &self.links {
             let due = link.stage == Stage::Waiting && link.point <= point;
-            if due && !self.is_out(above(link.page)) && first.is_none_or(|f| link.point < f.point) {
-                first = Some(*link);
+            if due && !self.is_out(above(link.page)) {
+                first = earlier(first, *link);
             }
         }
         let page = above(first?.page);
@@ -122,18 +137,23 @@ impl Plain {
     }
 
     pub fn low_point(&self) -> Option<Point> {
-        self.links
-            .iter()
-            .filter(|link| link.stage != Stage::Written)
-            .map(|link| link.point)
-            .min()
+        let mut first = None;
+        for link in &self.links {
+            if link.stage != Stage::Written {
+                first = earlier(first, *link);
+            }
+        }
+        Some(first?.point)
     }
 
     // How many pages a page leads to.
     pub fn count_below(&self, page: PageId) -> usize {
-        self.links
-            .iter()
-            .filter(|link| above(link.page) == page)
-            .count()
+        let mut count: usize = 0;
+        for link in &self.links {
+            if above(link.page) == page {
+                count = count.saturating_add(1);
+            }
+        }
+        count
     }
 }

@@ -37,11 +37,13 @@ impl PlainJournal {
 
     // How many updates the block being filled has.
     fn count(&self) -> usize {
-        let sequence = self.sequence;
-        self.updates
-            .iter()
-            .filter(|one| one.sequence == sequence)
-            .count()
+        let mut count: usize = 0;
+        for one in &self.updates {
+            if one.sequence == self.sequence {
+                count = count.saturating_add(1);
+            }
+        }
+        count
     }
 
     // The durable commit point of the update's sector.

@@ -1,8 +1,8 @@
 use Rattle.std.proofs.Common.{◌≡◌, ◌≤◌, ◌+◌, length}
-use Rattle.part_tests.proofs.updates.as_the_plain_journal.Given as goal
+use Rattle.part_tests.proofs.updates.count_alike.Given as goal
 
 abbrev pub invariant-loop-turn : goal.invariant-loop-turn
-invariant-loop-turn g l = record {
+invariant-loop-turn l = record {
   geometry : l.journal.geometry ≡ l.initial.journal.geometry;
   slab : l.journal.slab ≡ l.initial.journal.slab;
   sequence : l.journal.sequence ≤ l.turn + 1;
