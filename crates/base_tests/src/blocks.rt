@@ -15,58 +15,58 @@ const DEFAULT: Geometry = Geometry {
 #[test]
 fn the_default_journal(rt: HostRuntime) {
     let layout = Layout::of(&DEFAULT);
-    assert_eq!(rt; layout.needed(), 154);
-    for (sequence, block) in [(0, 1), (1, 2), (7, 8), (8, 1), (15, 8)] {
-        assert_eq!(rt;
-            layout.journal_slot(sequence).0,
-            block,
-            "sequence {sequence}"
-        );
-    }
+    let slots = [
+        layout.journal_slot(0).0,
+        layout.journal_slot(1).0,
+        layout.journal_slot(7).0,
+        layout.journal_slot(8).0,
+        layout.journal_slot(15).0,
+    ];
+    assert!(rt; layout.needed() == 154 && slots == [1, 2, 8, 1, 8]);
     regions_are_apart();
 }
 
 #[test]
 fn the_default_roots_and_index(rt: HostRuntime) {
     let layout = Layout::of(&DEFAULT);
-    for (tree, block) in [(0, 9), (59, 68)] {
-        assert_eq!(rt; layout.root(tree).0, block, "tree {tree}");
-    }
-    for (i, block) in [(0, 69), (15, 84)] {
-        assert_eq!(rt; layout.index_block(i).0, block, "index block {i}");
-    }
+    let roots = [layout.root(0).0, layout.root(59).0];
+    let index = [layout.index_block(0).0, layout.index_block(15).0];
+    assert!(rt; [roots, index] == [[9, 68], [69, 84]]);
 }
+
+const FIRST: DataPlace = DataPlace { slab: 0, offset: 0 };
+
+const LAST: DataPlace = DataPlace {
+    slab: 0,
+    offset: 63,
+};
 
 #[test]
 fn the_default_data_blocks(rt: HostRuntime) {
     let layout = Layout::of(&DEFAULT);
-    for (offset, block) in [(0, 85), (63, 148)] {
-        assert_eq!(rt;
-            layout.data_block(0, offset).0,
-            block,
-            "data block {offset}"
-        );
-        assert_eq!(rt;
-            layout.place(Pbn(block)),
-            Some(DataPlace { slab: 0, offset })
-        );
-    }
-    for block in [0, 84, 149, 150, 153, 154] {
-        assert_eq!(rt; layout.place(Pbn(block)), None, "block {block}");
-    }
+    let blocks = [layout.data_block(0, 0).0, layout.data_block(0, 63).0];
+    let places = [layout.place(Pbn(85)), layout.place(Pbn(148))];
+    let others = [
+        layout.place(Pbn(0)),
+        layout.place(Pbn(84)),
+        layout.place(Pbn(149)),
+        layout.place(Pbn(150)),
+        layout.place(Pbn(153)),
+        layout.place(Pbn(154)),
+    ];
+    assert!(rt; blocks == [85, 148] && places == [Some(FIRST), Some(LAST)] && others == [None; 6]);
 }
 
 #[test]
 fn the_default_slab(rt: HostRuntime) {
     let layout = Layout::of(&DEFAULT);
-    assert_eq!(rt; layout.reference_block(0, 0).0, 149);
-    for (sequence, block) in [(0, 150), (3, 153), (4, 150)] {
-        assert_eq!(rt;
-            layout.slab_journal_slot(0, sequence).0,
-            block,
-            "slab sequence {sequence}"
-        );
-    }
+    let blocks = [
+        layout.reference_block(0, 0).0,
+        layout.slab_journal_slot(0, 0).0,
+        layout.slab_journal_slot(0, 3).0,
+        layout.slab_journal_slot(0, 4).0,
+    ];
+    assert!(rt; blocks == [149, 150, 153, 150]);
 }
 
 #[test]
@@ -75,23 +75,26 @@ fn two_slabs(rt: HostRuntime) {
         slabs: 2,
         ..DEFAULT
     });
-    assert_eq!(rt; layout.needed(), 223);
-    assert_eq!(rt; layout.data_block(1, 0).0, 154);
-    assert_eq!(rt;
-        layout.place(Pbn(217)),
-        Some(DataPlace {
-            slab: 1,
-            offset: 63
-        })
+    let last = DataPlace {
+        slab: 1,
+        offset: 63,
+    };
+    assert!(rt;
+        [layout.needed(), layout.data_block(1, 0).0] == [223, 154]
+            && layout.place(Pbn(217)) == Some(last)
     );
 }
 
 #[test]
 fn a_point(rt: HostRuntime) {
-    assert_eq!(rt; Point::of(3, 5, Half::Decrement).0, 1547);
+    assert!(rt; Point::of(3, 5, Half::Decrement).0 == 1547);
+}
+
+#[test]
+fn a_block_is_copied(rt: HostRuntime) {
     let mut block = Block::zero();
     block.bytes[7] = 9;
     let mut copy = Block::zero();
     copy.copy_from(&block);
-    assert_eq!(rt; copy.bytes[7], 9);
+    assert!(rt; copy.bytes[7] == 9);
 }

@@ -1,3 +1,5 @@
+ghost use Rattle.std.specs.Prelude.{◌≡◌, ◌<◌, IfOk, length};
+
 use blk_base::{Block, Pbn, ZoneId};
 use disk_model::{
     Call, CallKind, Disk, Failed, FaultAt, MemDisk, MemSink, MemSource, OpenGate, Sink, Source,
@@ -12,7 +14,10 @@ fn block_of(byte: u8) -> Block {
     block
 }
 
-fn fault(kind: CallKind, at: u32, nth: u32, effect: bool) -> FaultAt {
+// A call by its kind, its block and its number, which fails; and whether it has its effect all the same.
+type PlannedFault = (CallKind, u32, u32, bool);
+
+fn fault((kind, at, nth, effect): PlannedFault) -> FaultAt {
     FaultAt {
         kind,
         at: Pbn(at),
@@ -21,12 +26,13 @@ fn fault(kind: CallKind, at: u32, nth: u32, effect: bool) -> FaultAt {
     }
 }
 
-// Which of nine calls succeed on a device of two blocks with these faults, and the first byte of each block then.
-fn outcome(alloc: Global, faults: Vec<FaultAt>) -> Result<([bool; 9], [u8; 2]), AllocError> {
-    let mut device = MemDisk::zeroed(alloc, 2)?;
-    device.set_faults(faults);
+// Which of nine calls succeed.
+fn call_nine(device: &mut MemDisk) -> [bool; 9]
+    requires { length device.old.blocks ≡ 2 }
+    ensures { length device.new.blocks ≡ 2 }
+{
     let mut into = Block::zero();
-    let ok = [
+    [
         device.write(Pbn(0), &block_of(1)).is_ok(),
         device.write(Pbn(0), &block_of(2)).is_ok(),
         device.write(Pbn(1), &block_of(3)).is_ok(),
@@ -36,123 +42,181 @@ fn outcome(alloc: Global, faults: Vec<FaultAt>) -> Result<([bool; 9], [u8; 2]), 
         device.read(Pbn(0), &mut into).is_ok(),
         device.flush().is_ok(),
         device.flush().is_ok(),
-    ];
+    ]
+}
+
+// The first byte of a block; 0 where it can't be read.
+fn first_byte(device: &mut MemDisk, at: u32) -> u8
+    requires { at < length device.old.blocks }
+    ensures { length device.new.blocks ≡ length device.old.blocks }
+{
+    let mut into = Block::zero();
+    match device.read(Pbn(at), &mut into) {
+        Ok(()) => into.bytes[0],
+        Err(_) => 0,
+    }
+}
+
+// Which of nine calls succeed on a device of two blocks with these faults, and the first byte of each block then.
+fn outcome(alloc: Global, faults: &[FaultAt]) -> Result<([bool; 9], [u8; 2]), AllocError> {
+    let faults = faults.to_vec(alloc)?;
+    let mut device = MemDisk::zeroed(alloc, 2)?;
+    device.set_faults(faults);
+    let ok = call_nine(&mut device);
     device.set_faults(Vec::new(alloc));
-    let mut left = [0; 2];
-    if device.read(Pbn(0), &mut into).is_ok() {
-        left[0] = into.bytes[0];
-    }
-    if device.read(Pbn(1), &mut into).is_ok() {
-        left[1] = into.bytes[0];
-    }
+    let left = [first_byte(&mut device, 0), first_byte(&mut device, 1)];
     Ok((ok, left))
 }
 
+const NEVER: PlannedFault = (CallKind::Write, 7, 0, false);
+
+const THIRD_WRITE: PlannedFault = (CallKind::Write, 0, 2, false);
+
+const THIRD_WRITE_WITH_EFFECT: PlannedFault = (CallKind::Write, 0, 2, true);
+
 // Each row: two faults, the number of the call that fails alone (9: none), and the first bytes of the blocks then.
+const ROWS: [(PlannedFault, PlannedFault, usize, [u8; 2]); 13] = [
+    (NEVER, NEVER, 9, [4, 3]),
+    ((CallKind::Write, 0, 0, false), NEVER, 0, [4, 3]),
+    (THIRD_WRITE, NEVER, 3, [2, 3]),
+    (THIRD_WRITE_WITH_EFFECT, NEVER, 3, [4, 3]),
+    ((CallKind::Write, 0, 3, true), NEVER, 9, [4, 3]),
+    ((CallKind::Write, 1, 0, false), NEVER, 2, [4, 0]),
+    ((CallKind::Read, 1, 0, true), NEVER, 5, [4, 3]),
+    ((CallKind::Read, 0, 1, false), NEVER, 6, [4, 3]),
+    ((CallKind::Flush, 7, 0, false), NEVER, 7, [4, 3]),
+    ((CallKind::Flush, 0, 1, false), NEVER, 8, [4, 3]),
+    (THIRD_WRITE, THIRD_WRITE, 3, [2, 3]),
+    (THIRD_WRITE, THIRD_WRITE_WITH_EFFECT, 3, [4, 3]),
+    (THIRD_WRITE_WITH_EFFECT, THIRD_WRITE, 3, [4, 3]),
+];
+
+// All of nine calls succeed, but for the one with this number.
+fn all_but(fails: usize) -> [bool; 9] {
+    let mut ok = [true; 9];
+    if fails < 9 {
+        ok[fails] = false;
+    }
+    ok
+}
+
+// How many rows are right before the first that isn't.
+fn count_right(alloc: Global) -> Result<usize, AllocError> {
+    let mut count: usize = 0;
+    for &(first, second, fails, left) in &ROWS {
+        if outcome(alloc, &[fault(first), fault(second)])? != (all_but(fails), left) {
+            return Ok(count);
+        }
+        count = count.saturating_add(1);
+    }
+    Ok(count)
+}
+
 #[test]
 fn planned_faults(rt: HostRuntime) -> Result<(), Fail> {
-    let never = fault(CallKind::Write, 7, 0, false);
-    let rows = [
-        (never, never, 9, [4, 3]),
-        (fault(CallKind::Write, 0, 0, false), never, 0, [4, 3]),
-        (fault(CallKind::Write, 0, 2, false), never, 3, [2, 3]),
-        (fault(CallKind::Write, 0, 2, true), never, 3, [4, 3]),
-        (fault(CallKind::Write, 0, 3, true), never, 9, [4, 3]),
-        (fault(CallKind::Write, 1, 0, false), never, 2, [4, 0]),
-        (fault(CallKind::Read, 1, 0, true), never, 5, [4, 3]),
-        (fault(CallKind::Read, 0, 1, false), never, 6, [4, 3]),
-        (fault(CallKind::Flush, 7, 0, false), never, 7, [4, 3]),
-        (fault(CallKind::Flush, 0, 1, false), never, 8, [4, 3]),
-        (
-            fault(CallKind::Write, 0, 2, false),
-            fault(CallKind::Write, 0, 2, false),
-            3,
-            [2, 3],
-        ),
-        (
-            fault(CallKind::Write, 0, 2, false),
-            fault(CallKind::Write, 0, 2, true),
-            3,
-            [4, 3],
-        ),
-        (
-            fault(CallKind::Write, 0, 2, true),
-            fault(CallKind::Write, 0, 2, false),
-            3,
-            [4, 3],
-        ),
-    ];
-    for (row, (first, second, fails, left)) in rows.iter().enumerate() {
-        let (ok, bytes) = outcome(rt.alloc(), [*first, *second].to_vec(rt.alloc())?)?;
-        for (number, passed) in ok.iter().enumerate() {
-            assert_eq!(rt; *passed, number != *fails, "row {row}, call {number}");
-        }
-        assert_eq!(rt; bytes, *left, "row {row}");
-    }
+    assert!(rt; count_right(rt.alloc())? == 13);
     Ok(())
 }
 
 #[test]
 fn two_faults(rt: HostRuntime) -> Result<(), Fail> {
-    let faults = [
-        fault(CallKind::Write, 0, 0, false),
-        fault(CallKind::Write, 0, 2, false),
-    ];
-    let (ok, left) = outcome(rt.alloc(), faults.to_vec(rt.alloc())?)?;
-    assert_eq!(rt;
-        ok,
-        [false, true, true, false, true, true, true, true, true]
-    );
-    assert_eq!(rt; left, [2, 3]);
+    let faults = [fault((CallKind::Write, 0, 0, false)), fault(THIRD_WRITE)];
+    let ok = [false, true, true, false, true, true, true, true, true];
+    assert!(rt; outcome(rt.alloc(), &faults)? == (ok, [2, 3]));
     Ok(())
+}
+
+fn device_of_two(alloc: Global) -> Result<MemDisk, AllocError>
+    ensures { IfOk result (λ device. length device.blocks ≡ 2) }
+{
+    let mut blocks = Vec::new(alloc);
+    blocks.push(block_of(5))?;
+    blocks.push(block_of(6))?;
+    MemDisk::from_blocks(alloc, blocks)
+}
+
+// A read, a write and a flush, and the first byte that was read.
+fn call_three(device: &mut MemDisk) -> ([Result<(), Failed>; 3], u8)
+    requires { length device.old.blocks ≡ 2 }
+{
+    let mut into = Block::zero();
+    let results = [
+        device.read(Pbn(1), &mut into),
+        device.write(Pbn(0), &block_of(7)),
+        device.flush(),
+    ];
+    (results, into.bytes[0])
+}
+
+// A call as its letter, its block, the first byte and whether it succeeded.
+fn told(call: &Call) -> (char, u32, u8, bool) {
+    match call {
+        Call::Read { at, bytes, ok } => ('r', at.0, bytes.bytes[0], *ok),
+        Call::Write { at, bytes, ok } => ('w', at.0, bytes.bytes[0], *ok),
+        Call::Flush { ok } => ('f', 0, 0, *ok),
+    }
+}
+
+// The calls of a log, where they are three.
+fn three_calls(calls: &[Call]) -> Option<[(char, u32, u8, bool); 3]> {
+    match calls {
+        [first, second, third] => Some([told(first), told(second), told(third)]),
+        _ => None,
+    }
 }
 
 #[test]
 fn a_device(rt: HostRuntime) -> Result<(), Fail> {
-    let alloc = rt.alloc();
-    let mut blocks = Vec::new(alloc);
-    blocks.push(block_of(5))?;
-    blocks.push(block_of(6))?;
-    let mut device = MemDisk::from_blocks(alloc, blocks)?;
-    assert_eq!(rt; device.blocks(), 2);
-    let mut into = Block::zero();
-    assert_eq!(rt; device.read(Pbn(1), &mut into), Ok(()));
-    assert_eq!(rt; into.bytes[0], 6);
-    assert_eq!(rt; device.write(Pbn(0), &block_of(7)), Ok(()));
-    assert_eq!(rt; device.flush(), Ok(()));
-    assert_eq!(rt; device.unkept(), 0);
-    let calls = device.calls();
-    assert_eq!(rt; calls.len(), 3);
-    assert!(rt;
-        matches!(&calls[0], Call::Read { at, bytes, ok: true } if at.0 == 1 && bytes.bytes[0] == 6)
-    );
-    assert!(rt;
-        matches!(&calls[1], Call::Write { at, bytes, ok: true } if at.0 == 0 && bytes.bytes[0] == 7)
-    );
-    assert!(rt; matches!(&calls[2], Call::Flush { ok: true }));
+    let mut device = device_of_two(rt.alloc())?;
+    let size = device.blocks();
+    let done = call_three(&mut device);
+    let calls = three_calls(device.calls());
+    let wanted = [('r', 1, 6, true), ('w', 0, 7, true), ('f', 0, 0, true)];
     images_of_a_log();
     faults_of_a_plan();
+    assert!(rt;
+        size == 2
+            && done == ([Ok(()), Ok(()), Ok(())], 6)
+            && device.unkept() == 0
+            && calls == Some(wanted)
+    );
     Ok(())
+}
+
+// What four takes give of the source, and what they leave.
+fn take_four(source: &mut MemSource) -> ([Result<usize, Failed>; 4], [u8; 2]) {
+    let mut into = [0; 2];
+    let taken = [
+        source.take(&mut into),
+        source.take(&mut into),
+        source.take(&mut into),
+        source.take(&mut into),
+    ];
+    (taken, into)
 }
 
 #[test]
 fn a_source(rt: HostRuntime) -> Result<(), Fail> {
     let mut source = MemSource::new(b"abc".to_vec(rt.alloc())?, Some(1));
-    let mut into = [0; 2];
-    for (number, answer) in [Ok(2), Err(Failed), Ok(1), Ok(0)].iter().enumerate() {
-        assert_eq!(rt; source.take(&mut into), *answer, "take {number}");
-    }
-    assert_eq!(rt; into, *b"cb");
+    let taken = take_four(&mut source);
+    assert!(rt; taken == ([Ok(2), Err(Failed), Ok(1), Ok(0)], *b"cb"));
     Ok(())
+}
+
+// The second put goes past the room of four, and the third puts nothing.
+fn put_three(sink: &mut MemSink) -> [Result<(), Failed>; 3] {
+    [
+        sink.put(b"abc".as_slice()),
+        sink.put(b"de".as_slice()),
+        sink.put(b"".as_slice()),
+    ]
 }
 
 #[test]
 fn a_sink(rt: HostRuntime) -> Result<(), Fail> {
     let mut sink = MemSink::new(rt.alloc(), 4)?;
-    assert_eq!(rt; sink.put(b"abc".as_slice()), Ok(()));
-    assert_eq!(rt; sink.put(b"de".as_slice()), Err(Failed));
-    assert_eq!(rt; sink.bytes(), b"abcd".as_slice());
-    assert_eq!(rt; sink.put(b"".as_slice()), Ok(()));
+    let put = put_three(&mut sink);
     OpenGate.before(ZoneId::Device, 0);
+    assert!(rt; put == [Ok(()), Err(Failed), Ok(())] && sink.bytes() == b"abcd".as_slice());
     Ok(())
 }

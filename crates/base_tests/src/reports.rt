@@ -1,10 +1,10 @@
 use blk_base::{Lba, Request, Writer};
+use std::alloc::{AllocError, Global};
 use std::test::Fail;
 use vdo_model::{Placed, Requests, Rows};
 
 #[test]
 fn lists_are_kept(rt: HostRuntime) -> Result<(), Fail> {
-    let alloc = rt.alloc();
     let placed = Placed {
         request: Writer {
             stream: 0,
@@ -13,22 +13,24 @@ fn lists_are_kept(rt: HostRuntime) -> Result<(), Fail> {
         zone: 0,
         place: 7,
     };
-    let rows = Rows::from_vec(vec![in alloc; placed]?);
-    assert_eq!(rt; rows.as_slice(), [placed].as_slice());
-    let none: Rows<Placed> = Rows::new(alloc);
-    assert_eq!(rt; none.as_slice().len(), 0);
+    let none: Rows<Placed> = Rows::new(rt.alloc());
+    let rows = Rows::from_vec(vec![in rt.alloc(); placed]?);
+    assert!(rt; rows.as_slice() == [placed].as_slice() && none.as_slice().len() == 0);
     Ok(())
+}
+
+fn stream_of_two(alloc: Global) -> Result<Requests, AllocError> {
+    let mut row = Vec::new(alloc);
+    row.push(Request::Read(Lba(5)))?;
+    row.push(Request::Flush)?;
+    Requests::of_stream(alloc, row)
 }
 
 #[test]
 fn streams_are_kept(rt: HostRuntime) -> Result<(), Fail> {
-    let alloc = rt.alloc();
-    let mut row = Vec::new(alloc);
-    row.push(Request::Read(Lba(5)))?;
-    row.push(Request::Flush)?;
-    let requests = Requests::of_stream(alloc, row)?;
-    assert_eq!(rt; requests.stream(0).len(), 2);
-    assert_eq!(rt; requests.stream(1).len(), 0);
-    assert_eq!(rt; Requests::new(alloc).stream(0).len(), 0);
+    let requests = stream_of_two(rt.alloc())?;
+    let lengths = [requests.stream(0).len(), requests.stream(1).len()];
+    let of_none = Requests::new(rt.alloc()).stream(0).len();
+    assert!(rt; lengths == [2, 0] && of_none == 0);
     Ok(())
 }

@@ -1,6 +1,6 @@
 use blk_base::{Answer, Block, Lba, Request, Writer};
 use disk_model::{Failed, MemSink, MemSource, Source};
-use std::alloc::Global;
+use std::alloc::{AllocError, Global};
 use std::test::Fail;
 use stream_text::{ReadScript, ScriptFault, put_answers, put_number, read_script};
 use vdo_model::{DeskLine, Placed, Requests, Rows, RunReport};
@@ -66,104 +66,158 @@ fn reads(
     Ok(told(&whole) == want && told(&pieces) == want)
 }
 
-const fn refused(line: u64) -> Result<(usize, u8, u32, u8), ReadScript> {
+fn refused(line: u64) -> Result<(usize, u8, u32, u8), ReadScript> {
     Err(ReadScript::Script(ScriptFault::Later { line }))
+}
+
+const FIRST_IS_REFUSED: Result<(usize, u8, u32, u8), ReadScript> = Err(ReadScript::Script(
+    ScriptFault::Later { line: 1 },
+));
+
+/// The texts of some scripts, and how they read.
+const SCRIPTS: [(&[u8], Result<(usize, u8, u32, u8), ReadScript>); 10] = [
+    (b"", Ok((0, b'?', 0, 0))),
+    (b"0 read 5", Ok((1, b'r', 5, 0))),
+    (b"0 read 0005", Ok((1, b'r', 5, 0))),
+    (b"0 read 999\n", Ok((1, b'r', 999, 0))),
+    (b"0 write 5 4096*61", Ok((1, b'w', 5, 97))),
+    (b"0 write 5 4096*aF\n0 flush", Ok((2, b'w', 5, 175))),
+    (b"0 flush", Ok((1, b'f', 0, 0))),
+    (
+        b"0 read 00000000000000000000000000000000000000000000000000000000005\n",
+        FIRST_IS_REFUSED,
+    ),
+    (
+        b"0 read 0000000000000000000000000000000000000000000000000000000005\n",
+        FIRST_IS_REFUSED,
+    ),
+    (
+        b"0 read 000000000000000000000000000000000000000000000000000000005\n",
+        Ok((1, b'r', 5, 0)),
+    ),
+];
+
+/// How many of the scripts read so before the first that doesn't.
+fn count_read(alloc: Global) -> Result<usize, Fail> {
+    let mut count: usize = 0;
+    for &(text, want) in &SCRIPTS {
+        if !reads(alloc, text, want)? {
+            return Ok(count);
+        }
+        count = count.saturating_add(1);
+    }
+    Ok(count)
 }
 
 #[test]
 fn lines_are_read(rt: HostRuntime) -> Result<(), Fail> {
-    for (text, want) in [
-        (b"".as_slice(), Ok((0, b'?', 0, 0))),
-        (b"0 read 5", Ok((1, b'r', 5, 0))),
-        (b"0 read 0005", Ok((1, b'r', 5, 0))),
-        (b"0 read 999\n", Ok((1, b'r', 999, 0))),
-        (b"0 write 5 4096*61", Ok((1, b'w', 5, 97))),
-        (b"0 write 5 4096*aF\n0 flush", Ok((2, b'w', 5, 175))),
-        (b"0 flush", Ok((1, b'f', 0, 0))),
-        (
-            b"0 read 00000000000000000000000000000000000000000000000000000000005\n",
-            refused(1),
-        ),
-        (
-            b"0 read 0000000000000000000000000000000000000000000000000000000005\n",
-            refused(1),
-        ),
-        (
-            b"0 read 000000000000000000000000000000000000000000000000000000005\n",
-            Ok((1, b'r', 5, 0)),
-        ),
-    ] {
-        assert!(rt; reads(rt.alloc(), text, want)?, "at {}", text.len());
-    }
+    assert!(rt; count_read(rt.alloc())? == 10);
     Ok(())
+}
+
+const REFUSED: [&[u8]; 22] = [
+    b"0 discard 5 1",
+    b"\n",
+    b"# x",
+    b"0 read",
+    b"0 read ",
+    b"0  read 5",
+    b"0 read 5 ",
+    b" 0 read 5",
+    b"0 read 5\r\n",
+    b"0 read -5",
+    b"0 read +5",
+    b"0 read 1000",
+    b"0 read 18446744073709551621",
+    b"1 read 5",
+    b"00 read 5",
+    b"0 write 5 4095*61",
+    b"0 write 5 4096*6",
+    b"0 write 5 4096*6g",
+    b"0 write 5 4096*616",
+    b"0 write 5",
+    b"0 flush 5",
+    b"0 Flush",
+];
+
+/// Whether the line is refused as the first, and as the third behind two that are served.
+fn is_refused(alloc: Global, line: &[u8]) -> Result<bool, Fail> {
+    let alone = reads(alloc, line, refused(1))?;
+    let mut text = Vec::from_slice(alloc, b"0 flush\n0 read 5\n")?;
+    text.extend_from_slice(line)?;
+    Ok(reads(alloc, &text, refused(3))? && alone)
+}
+
+/// How many of the lines are refused before the first that isn't.
+fn count_refused(alloc: Global) -> Result<usize, Fail> {
+    let mut count: usize = 0;
+    for line in REFUSED {
+        if !is_refused(alloc, line)? {
+            return Ok(count);
+        }
+        count = count.saturating_add(1);
+    }
+    Ok(count)
 }
 
 #[test]
 fn lines_are_refused(rt: HostRuntime) -> Result<(), Fail> {
-    for line in [
-        b"0 discard 5 1".as_slice(),
-        b"\n",
-        b"# x",
-        b"0 read",
-        b"0 read ",
-        b"0  read 5",
-        b"0 read 5 ",
-        b" 0 read 5",
-        b"0 read 5\r\n",
-        b"0 read -5",
-        b"0 read +5",
-        b"0 read 1000",
-        b"0 read 18446744073709551621",
-        b"1 read 5",
-        b"00 read 5",
-        b"0 write 5 4095*61",
-        b"0 write 5 4096*6",
-        b"0 write 5 4096*6g",
-        b"0 write 5 4096*616",
-        b"0 write 5",
-        b"0 flush 5",
-        b"0 Flush",
-    ] {
-        assert!(rt; reads(rt.alloc(), line, refused(1))?, "at {}", line.len());
-        let mut text = Vec::from_slice(rt.alloc(), b"0 flush\n0 read 5\n")?;
-        text.extend_from_slice(line)?;
-        assert!(rt; reads(rt.alloc(), &text, refused(3))?);
+    assert!(rt; count_refused(rt.alloc())? == 22);
+    Ok(())
+}
+
+fn put_flushes(text: &mut Vec<u8>, count: u32) -> Result<(), AllocError> {
+    for _ in 0..count {
+        text.extend_from_slice(b"0 flush\n")?;
     }
     Ok(())
+}
+
+/// Whether a script of 1024 requests reads so, and one of 1025 is refused at the last.
+fn reads_at_most_1024(alloc: Global, text: &mut Vec<u8>) -> Result<bool, Fail> {
+    put_flushes(text, 1024)?;
+    let most = reads(alloc, text, Ok((1024, b'f', 0, 0)))?;
+    text.extend_from_slice(b"0 flush")?;
+    Ok(reads(alloc, text, refused(1025))? && most)
 }
 
 #[test]
 fn a_script_has_1024_requests(rt: HostRuntime) -> Result<(), Fail> {
     let mut text = Vec::new(rt.alloc());
-    for _ in 0..1024 {
-        text.extend_from_slice(b"0 flush\n")?;
-    }
-    assert!(rt; reads(rt.alloc(), &text, Ok((1024, b'f', 0, 0)))?);
-    text.extend_from_slice(b"0 flush")?;
-    assert!(rt; reads(rt.alloc(), &text, refused(1025))?);
+    let right = reads_at_most_1024(rt.alloc(), &mut text)?;
+    assert!(rt; right);
     Ok(())
+}
+
+/// What becomes of a script whose source fails at the take with this number.
+fn told_failing(
+    alloc: Global,
+    fails_at: u64,
+) -> Result<Result<(usize, u8, u32, u8), ReadScript>, Fail> {
+    let mut failing = source(alloc, b"0 flush\n", Some(fails_at))?;
+    Ok(told(&read_script(alloc, &mut failing, 1000)))
 }
 
 #[test]
 fn a_source_fails(rt: HostRuntime) -> Result<(), Fail> {
-    let alloc = rt.alloc();
-    for fails_at in 0..2 {
-        let mut failing = source(alloc, b"0 flush\n", Some(fails_at))?;
-        assert_eq!(rt;
-            told(&read_script(alloc, &mut failing, 1000)),
-            Err(ReadScript::Read)
-        );
-    }
-    for (fault, text) in [
-        (
-            ReadScript::Script(ScriptFault::Later { line: 3 }),
-            "script line 3: later",
-        ),
-        (ReadScript::Read, "read fault"),
-        (ReadScript::Memory, "no memory"),
-    ] {
-        assert_eq!(rt; format!(in alloc; "{fault}")?.as_str(), text);
-    }
+    let told = [told_failing(rt.alloc(), 0)?, told_failing(rt.alloc(), 1)?];
+    assert!(rt; told == [Err(ReadScript::Read); 2]);
+    Ok(())
+}
+
+fn prints(alloc: Global, fault: ReadScript, text: &str) -> Result<bool, AllocError> {
+    Ok(format!(in alloc; "{fault}")?.as_str() == text)
+}
+
+#[test]
+fn faults_are_printed(rt: HostRuntime) -> Result<(), Fail> {
+    let line = ReadScript::Script(ScriptFault::Later { line: 3 });
+    let printed = [
+        prints(rt.alloc(), line, "script line 3: later")?,
+        prints(rt.alloc(), ReadScript::Read, "read fault")?,
+        prints(rt.alloc(), ReadScript::Memory, "no memory")?,
+    ];
+    assert!(rt; printed == [true; 3]);
     Ok(())
 }
 
@@ -175,57 +229,6 @@ fn block(first: u8, rest: u8) -> Block {
     block
 }
 
-/// A report of ten requests, of which the last has no answer.
-fn report(alloc: Global) -> Result<RunReport, Fail> {
-    let mut requests = Vec::new(alloc);
-    let mut desk = Vec::new(alloc);
-    let mut places = Vec::new(alloc);
-    for (number, request, answer, place) in [
-        (0, write(5), Answer::Ok, Some((0, 0))),
-        (
-            1,
-            Request::Read(Lba(5)),
-            Answer::Bytes(block(97, 97)),
-            Some((0, 1)),
-        ),
-        (2, Request::Flush, Answer::Stopped, None),
-        (
-            3,
-            Request::Read(Lba(5)),
-            Answer::Bytes(block(65, 0)),
-            Some((0, 3)),
-        ),
-        (4, Request::Read(Lba(5)), Answer::ReadFault, Some((0, 4))),
-        (5, Request::Discard(Lba(7)), Answer::Damaged, Some((12, 0))),
-        (6, Request::Read(Lba(4000)), Answer::Range, None),
-        (7, write(8), Answer::NoSpace, Some((0, 7))),
-        (8, write(8), Answer::Full, Some((0, 8))),
-    ] {
-        let name = Writer { stream: 0, number };
-        requests.push(request)?;
-        desk.push(DeskLine::Begin { request: name })?;
-        desk.push(DeskLine::Answer {
-            request: name,
-            answer,
-        })?;
-        if let Some((zone, place)) = place {
-            places.push(Placed {
-                request: name,
-                zone,
-                place,
-            })?;
-        }
-    }
-    requests.push(Request::Flush)?;
-    Ok(RunReport {
-        requests: Requests::of_stream(alloc, requests)?,
-        desk: Rows::from_vec(desk),
-        marks: Rows::new(alloc),
-        places: Rows::from_vec(places),
-        histories: Rows::new(alloc),
-    })
-}
-
 fn write(address: u32) -> Request {
     Request::Write {
         at: Lba(address),
@@ -234,12 +237,101 @@ fn write(address: u32) -> Request {
     }
 }
 
-#[test]
-fn answers_are_put(rt: HostRuntime) -> Result<(), Fail> {
-    let report = report(rt.alloc())?;
-    let mut out = MemSink::new(rt.alloc(), 1000)?;
-    put_answers(&report.requests, &report, &mut out)?;
-    let text = b"0 0 write 5 ok z0:0
+fn requests(alloc: Global) -> Result<Requests, AllocError> {
+    let mut requests = Vec::new(alloc);
+    for request in [
+        write(5),
+        Request::Read(Lba(5)),
+        Request::Flush,
+        Request::Read(Lba(5)),
+        Request::Read(Lba(5)),
+        Request::Discard(Lba(7)),
+        Request::Read(Lba(4000)),
+        write(8),
+        write(8),
+        Request::Flush,
+    ] {
+        requests.push(request)?;
+    }
+    Requests::of_stream(alloc, requests)
+}
+
+fn name(number: u32) -> Writer {
+    Writer { stream: 0, number }
+}
+
+/// Each request but the last begins and gets its answer.
+fn desk_lines(alloc: Global) -> Result<Rows<DeskLine>, AllocError> {
+    let mut lines = Vec::new(alloc);
+    for (number, answer) in [
+        (0, Answer::Ok),
+        (1, Answer::Bytes(block(97, 97))),
+        (2, Answer::Stopped),
+        (3, Answer::Bytes(block(65, 0))),
+        (4, Answer::ReadFault),
+        (5, Answer::Damaged),
+        (6, Answer::Range),
+        (7, Answer::NoSpace),
+        (8, Answer::Full),
+    ] {
+        let request = name(number);
+        lines.push(DeskLine::Begin { request })?;
+        lines.push(DeskLine::Answer { request, answer })?;
+    }
+    Ok(Rows::from_vec(lines))
+}
+
+/// The number of a request, and the zone and place in which it was served.
+const PLACES: [(u32, u32, u64); 7] = [
+    (0, 0, 0),
+    (1, 0, 1),
+    (3, 0, 3),
+    (4, 0, 4),
+    (5, 12, 0),
+    (7, 0, 7),
+    (8, 0, 8),
+];
+
+fn places(alloc: Global) -> Result<Rows<Placed>, AllocError> {
+    let mut places = Vec::new(alloc);
+    for (number, zone, place) in PLACES {
+        places.push(Placed {
+            request: name(number),
+            zone,
+            place,
+        })?;
+    }
+    Ok(Rows::from_vec(places))
+}
+
+/// A report of ten requests, of which the last has no answer.
+fn report(alloc: Global) -> Result<RunReport, AllocError> {
+    let requests = requests(alloc)?;
+    let desk = desk_lines(alloc)?;
+    let places = places(alloc)?;
+    Ok(RunReport {
+        requests,
+        desk,
+        marks: Rows::new(alloc),
+        places,
+        histories: Rows::new(alloc),
+    })
+}
+
+/// Puts the answers of the report into both sinks.
+fn put_report(
+    alloc: Global,
+    out: &mut MemSink,
+    small: &mut MemSink,
+) -> Result<[Result<(), Failed>; 2], AllocError> {
+    let report = report(alloc)?;
+    Ok([
+        put_answers(&report.requests, &report, out),
+        put_answers(&report.requests, &report, small),
+    ])
+}
+
+const ANSWERS: &[u8] = b"0 0 write 5 ok z0:0
 0 1 read 5 4096*61 z0:1
 0 2 flush stopped
 0 3 read 5 1*41+4095*00 z0:3
@@ -249,15 +341,24 @@ fn answers_are_put(rt: HostRuntime) -> Result<(), Fail> {
 0 7 write 8 no space z0:7
 0 8 write 8 full z0:8
 ";
-    assert!(rt; out.bytes() == text.as_slice());
+
+#[test]
+fn answers_are_put(rt: HostRuntime) -> Result<(), Fail> {
+    let mut out = MemSink::new(rt.alloc(), 1000)?;
     let mut small = MemSink::new(rt.alloc(), 10)?;
-    assert_eq!(rt;
-        put_answers(&report.requests, &report, &mut small),
-        Err(Failed)
+    let put = put_report(rt.alloc(), &mut out, &mut small)?;
+    assert!(rt;
+        put == [Ok(()), Err(Failed)]
+            && out.bytes() == ANSWERS
+            && small.bytes() == b"0 0 write ".as_slice()
     );
-    assert!(rt; small.bytes() == b"0 0 write ".as_slice());
-    let mut numbers = MemSink::new(rt.alloc(), 30)?;
-    put_number(18446744073709551615, &mut numbers)?;
-    assert!(rt; numbers.bytes() == b"18446744073709551615".as_slice());
+    Ok(())
+}
+
+#[test]
+fn a_number_is_put(rt: HostRuntime) -> Result<(), Fail> {
+    let mut out = MemSink::new(rt.alloc(), 30)?;
+    put_number(18446744073709551615, &mut out)?;
+    assert!(rt; out.bytes() == b"18446744073709551615".as_slice());
     Ok(())
 }
