@@ -13,8 +13,8 @@ fn lists_are_kept(rt: HostRuntime) -> Result<(), Fail> {
         zone: 0,
         place: 7,
     };
-    let none: Rows<Placed> = Rows::new(rt.alloc());
     let rows = Rows::from_vec(vec![in rt.alloc(); placed]?);
+    let none: Rows<Placed> = Rows::new(rt.alloc());
     assert!(rt; rows.as_slice() == [placed].as_slice() && none.as_slice().len() == 0);
     Ok(())
 }
