@@ -24,14 +24,28 @@ fn fields_side_by_side(rt: HostRuntime) {
     let mut out = [0xee; 24];
     put_numbers(&mut out);
     put_texts(&mut out);
-    assert_eq!(rt; out, WRITTEN);
+    assert!(rt; out == WRITTEN);
+}
+
+// Numbers at the start, at the end and across the fields.
+fn read_numbers() -> [u64; 5] {
+    [
+        read_u64(&WRITTEN, 0),
+        read_u64(&WRITTEN, 1),
+        u64::from(read_u32(&WRITTEN, 15)),
+        u64::from(read_u16(&WRITTEN, 22)),
+        u64::from(read_u8(&WRITTEN, 23)),
+    ]
 }
 
 #[test]
 fn fields_at_any_place(rt: HostRuntime) {
-    assert_eq!(rt; read_u64(&WRITTEN, 0), 0x0807_0605_0403_0201);
-    assert_eq!(rt; read_u64(&WRITTEN, 1), 0x0a08_0706_0504_0302);
-    assert_eq!(rt; read_u32(&WRITTEN, 15), 0x3153_4a56);
-    assert_eq!(rt; read_u16(&WRITTEN, 22), 0xeeee);
-    assert_eq!(rt; read_u8(&WRITTEN, 23), 0xee);
+    let want = [
+        0x0807_0605_0403_0201,
+        0x0a08_0706_0504_0302,
+        0x3153_4a56,
+        0xeeee,
+        0xee,
+    ];
+    assert!(rt; read_numbers() == want);
 }

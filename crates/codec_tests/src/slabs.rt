@@ -1,9 +1,9 @@
-use crate::shared::{stands_at, weighed};
+use crate::shared::{is_spelled, with_added, with_byte};
 use blk_base::{Block, Point};
 use slab_codec::{
-    COUNTERS, CounterPlace, ReferenceBlock, ReferenceSector, SlabEntries, SlabEntry,
-    SlabJournalBlock, counter_place, encode_reference, encode_slab, reference_sector,
-    sector_counters, slab_sector,
+    COUNTERS, ReferenceBlock, ReferenceSector, SlabEntries, SlabEntry, SlabJournalBlock,
+    SlabSector, counter_place, encode_reference, encode_slab, reference_sector, sector_counters,
+    slab_sector,
 };
 
 // The bytes of these tests were computed from the tables of `slab_codec` by a program of another language.
@@ -45,63 +45,81 @@ fn spelled_counters() -> Block {
     block
 }
 
+// Parts of the block of counters.
+const COUNTER_PARTS: [(usize, &[u8]); 3] = [
+    (0, b"\x00\x07\x06\x05\x04\x03\x02\x01\x00\x03\x06\x09"),
+    (504, b"\xe9\xec\xef\xf2\xf5\xf8\x00\x03\x01\x07\x06\x05"),
+    (3584, b"\x07\x07\x06\x05\x04\x03\x02\x01\x31\x34\x37\x3a"),
+];
+
 #[test]
 fn counters_are_spelled(rt: HostRuntime) {
-    let block = spelled_counters();
-    assert_eq!(rt; weighed(&block), 1_035_179_652);
-    for (at, want) in [
-        (0, b"\x00\x07\x06\x05\x04\x03\x02\x01\x00\x03\x06\x09"),
-        (504, b"\xe9\xec\xef\xf2\xf5\xf8\x00\x03\x01\x07\x06\x05"),
-        (3584, b"\x07\x07\x06\x05\x04\x03\x02\x01\x31\x34\x37\x3a"),
-    ] {
-        assert!(rt; stands_at(&block, at, want), "at {at}");
+    assert!(rt; is_spelled(&spelled_counters(), 1_035_179_652, &COUNTER_PARTS));
+}
+
+fn are_counted(block: &Block) -> bool {
+    for j in 0..8 {
+        if reference_sector(block, j) != counted(j) {
+            return false;
+        }
     }
+    true
 }
 
 #[test]
 fn counters_are_read_back(rt: HostRuntime) {
-    let block = spelled_counters();
-    for j in 0..8 {
-        assert_eq!(rt; reference_sector(&block, j), counted(j), "sector {j}");
-    }
+    assert!(rt; are_counted(&spelled_counters()));
 }
 
 #[test]
 fn any_bytes_are_counters(rt: HostRuntime) {
-    let sector = reference_sector(&Block { bytes: [255; 4096] }, 7);
-    assert_eq!(rt; sector.commit, Point(u64::MAX));
-    assert_eq!(rt; sector.counters, [255; COUNTERS]);
+    let want = ReferenceSector {
+        commit: Point(u64::MAX),
+        counters: [255; COUNTERS],
+    };
+    assert!(rt; reference_sector(&Block { bytes: [255; 4096] }, 7) == want);
+}
+
+// An offset, and the block, the sector and the place in it where its counter stands.
+const PLACE_ROWS: [(u32, u32, u16, u16); 6] = [
+    (0, 0, 0, 0),
+    (503, 0, 0, 503),
+    (504, 0, 1, 0),
+    (4031, 0, 7, 503),
+    (4032, 1, 0, 0),
+    (32767, 8, 1, 7),
+];
+
+fn are_places(rows: &[(u32, u32, u16, u16)]) -> bool {
+    for &(offset, block, sector, counter) in rows {
+        let place = counter_place(offset);
+        if (place.block, place.sector, place.counter) != (block, sector, counter) {
+            return false;
+        }
+    }
+    true
 }
 
 #[test]
 fn places_of_counters(rt: HostRuntime) {
-    for (offset, block, sector, counter) in [
-        (0, 0, 0, 0),
-        (503, 0, 0, 503),
-        (504, 0, 1, 0),
-        (4031, 0, 7, 503),
-        (4032, 1, 0, 0),
-        (32767, 8, 1, 7),
-    ] {
-        let place = CounterPlace {
-            block,
-            sector,
-            counter,
-        };
-        assert_eq!(rt; counter_place(offset), place, "offset {offset}");
-    }
+    assert!(rt; are_places(&PLACE_ROWS));
 }
 
-// A slab of 600 data blocks.
+// The counters of a slab of 600 data blocks, in three sectors.
+fn counters_of_600() -> [[u8; COUNTERS]; 3] {
+    let counters = [9; 600];
+    [
+        sector_counters(&counters, 0),
+        sector_counters(&counters, 1),
+        sector_counters(&counters, 2),
+    ]
+}
+
 #[test]
 fn zeros_past_the_end_of_a_slab(rt: HostRuntime) {
-    let counters = [9; 600];
-    assert_eq!(rt; sector_counters(&counters, 0), [9; COUNTERS]);
-    let second = sector_counters(&counters, 1);
-    let mut want = [0; COUNTERS];
-    want[0..96].fill(9);
-    assert_eq!(rt; second, want);
-    assert_eq!(rt; sector_counters(&counters, 2), [0; COUNTERS]);
+    let mut second = [0; COUNTERS];
+    second[0..96].fill(9);
+    assert!(rt; counters_of_600() == [[9; COUNTERS], second, [0; COUNTERS]]);
 }
 
 fn spelled(sequence: u64, slab: u32, entries: SlabEntries<320>) -> Block {
@@ -134,23 +152,32 @@ fn entries<const N: usize>(first: u16, count: u16) -> SlabEntries<N> {
     entries
 }
 
-#[test]
-fn a_block_of_42_entries(rt: HostRuntime) {
-    let block = spelled(5, 7, entries(0, 42));
-    assert_eq!(rt; weighed(&block), 15_341_481);
-    let head =
-        b"\x88\x77\x66\x55\x44\x33\x22\x11\x05\0\0\0\0\0\0\0\x07\0\0\0\0\0\x28\0VSS1\0\0\0\0";
-    assert!(rt; stands_at(&block, 0, head));
-    let first = b"\x00\x16\x0c\0\0\0\0\0\x14\0\0\0\x03\x16\x0c\0\0\0\0\0\x15\0\x01\0";
-    assert!(rt; stands_at(&block, 32, first));
-    let last = b"\x75\x16\x0c\0\0\0\0\0\x3b\0\x01\0\x88\x77";
-    assert!(rt; stands_at(&block, 500, last));
-    assert!(rt; stands_at(&block, 532, b"\x01\0\x02\0VSS1\0\0\0\0\x78\x16\x0c\0\0"));
-    assert!(rt; stands_at(&block, 1044, b"\x02\0\0\0VSS1\0\0\0\0\0\0\0\0\0"));
+// Block 5 of slab 7, with so many entries.
+fn of_entries(count: u16) -> Block {
+    spelled(5, 7, entries(0, count))
 }
 
+// Parts of the block of 42 entries.
+const ENTRY_PARTS: [(usize, &[u8]); 5] = [
+    (
+        0,
+        b"\x88\x77\x66\x55\x44\x33\x22\x11\x05\0\0\0\0\0\0\0\x07\0\0\0\0\0\x28\0VSS1\0\0\0\0",
+    ),
+    (
+        32,
+        b"\x00\x16\x0c\0\0\0\0\0\x14\0\0\0\x03\x16\x0c\0\0\0\0\0\x15\0\x01\0",
+    ),
+    (500, b"\x75\x16\x0c\0\0\0\0\0\x3b\0\x01\0\x88\x77"),
+    (532, b"\x01\0\x02\0VSS1\0\0\0\0\x78\x16\x0c\0\0"),
+    (1044, b"\x02\0\0\0VSS1\0\0\0\0\0\0\0\0\0"),
+];
+
 #[test]
-fn the_greatest_numbers(rt: HostRuntime) {
+fn a_block_of_42_entries(rt: HostRuntime) {
+    assert!(rt; is_spelled(&of_entries(42), 15_341_481, &ENTRY_PARTS));
+}
+
+fn greatest_entries() -> SlabEntries<320> {
     let mut entries = SlabEntries::new();
     for (point, offset) in [(u64::MAX, u16::MAX), (0, 0)] {
         if !entries.is_full() {
@@ -160,42 +187,67 @@ fn the_greatest_numbers(rt: HostRuntime) {
             });
         }
     }
-    let block = spelled(u64::MAX, 1023, entries);
-    assert_eq!(rt; weighed(&block), 46_519_678);
-    let sector = slab_sector(&block, 0, NONCE, 1023, u32::MAX).expect(&rt, "a sector");
-    assert_eq!(rt; sector.sequence, u64::MAX);
-    assert_eq!(rt; sector.entries.len(), 2);
+    entries
 }
 
-fn is_read_as(block: &Block, number: u16, want: &SlabEntries<40>) -> bool {
-    match slab_sector(block, number, NONCE, 7, 400) {
-        Some(sector) => sector.sequence == 5 && sector.entries.as_slice() == want.as_slice(),
+// The sequence of the first sector, and how many entries it has.
+fn sequence_and_count(block: &Block) -> Option<(u64, usize)> {
+    let sector = slab_sector(block, 0, NONCE, 1023, u32::MAX)?;
+    Some((sector.sequence, sector.entries.len()))
+}
+
+#[test]
+fn the_greatest_numbers(rt: HostRuntime) {
+    let block = spelled(u64::MAX, 1023, greatest_entries());
+    assert!(rt; is_spelled(&block, 46_519_678, &[]));
+    assert!(rt; sequence_and_count(&block) == Some((u64::MAX, 2)));
+}
+
+fn holds(sector: Option<SlabSector>, sequence: u64, want: &SlabEntries<40>) -> bool {
+    match sector {
+        Some(sector) => {
+            sector.sequence == sequence && sector.entries.as_slice() == want.as_slice()
+        }
         None => false,
     }
 }
 
+// Whether a sector of slab 7 is read as so many entries of block 5, from this one on.
+fn is_read_as(block: &Block, number: u16, first: u16, count: u16) -> bool {
+    holds(
+        slab_sector(block, number, NONCE, 7, 400),
+        5,
+        &entries(first, count),
+    )
+}
+
+// Whether there is no sector of another nonce or slab, and none behind the block.
+fn is_nothing_else(block: &Block) -> bool {
+    slab_sector(block, 1, NONCE - 1, 7, 400).is_none()
+        && slab_sector(block, 1, NONCE, 6, 400).is_none()
+        && slab_sector(block, 8, NONCE, 7, 400).is_none()
+}
+
+fn is_read_back(block: &Block, in_1: u16, in_7: u16) -> bool {
+    is_read_as(block, 1, 40, in_1) && is_read_as(block, 7, 280, in_7) && is_nothing_else(block)
+}
+
 #[test]
 fn sectors_are_read_back(rt: HostRuntime) {
-    for (count, in_1, in_7) in [(42, 2, 0), (320, 40, 40)] {
-        let block = spelled(5, 7, entries(0, count));
-        assert!(rt; is_read_as(&block, 1, &entries(40, in_1)));
-        assert!(rt; is_read_as(&block, 7, &entries(280, in_7)));
-        assert!(rt; slab_sector(&block, 1, NONCE - 1, 7, 400).is_none());
-        assert!(rt; slab_sector(&block, 1, NONCE, 6, 400).is_none());
-        assert!(rt; slab_sector(&block, 8, NONCE, 7, 400).is_none());
-    }
+    assert!(rt; is_read_back(&of_entries(42), 2, 0));
+    assert!(rt; is_read_back(&of_entries(320), 40, 40));
 }
 
 // A sector is read by itself, and its sequence may be any.
+fn second_alone_is_read(block: &Block) -> bool {
+    slab_sector(block, 0, NONCE, 7, 64).is_none()
+        && holds(slab_sector(block, 1, NONCE, 7, 64), 0, &entries(40, 2))
+}
+
 #[test]
 fn a_sector_by_itself(rt: HostRuntime) {
-    let mut block = spelled(0, 7, entries(0, 42));
-    block.bytes[0] = 0;
-    let first = slab_sector(&block, 0, NONCE, 7, 64);
-    let second = slab_sector(&block, 1, NONCE, 7, 64).expect(&rt, "a sector");
-    assert!(rt; first.is_none());
-    assert_eq!(rt; second.sequence, 0);
-    assert_eq!(rt; second.entries.as_slice(), entries::<40>(40, 2).as_slice());
+    let block = with_byte(spelled(0, 7, entries(0, 42)), 0, 0);
+    assert!(rt; second_alone_is_read(&block));
 }
 
 // A byte of sector 1, what is added to it, and whether the sector is still valid. The slab has 64 data blocks, and the
@@ -230,16 +282,21 @@ const FIELD_ROWS: [(usize, u8, bool); 27] = [
     (511, 1, false), // the last byte
 ];
 
+fn is_valid_with(at: usize, add: u8) -> bool {
+    let block = with_added(of_entries(42), 512 + at % 512, add);
+    slab_sector(&block, 1, NONCE, 7, 64).is_some()
+}
+
+fn is_each_valid(rows: &[(usize, u8, bool)]) -> bool {
+    for &(at, add, valid) in rows {
+        if is_valid_with(at, add) != valid {
+            return false;
+        }
+    }
+    true
+}
+
 #[test]
 fn each_field_is_looked_at(rt: HostRuntime) {
-    for &(at, add, valid) in &FIELD_ROWS {
-        let mut block = spelled(5, 7, entries(0, 42));
-        let place = 512 + (at % 512);
-        block.bytes[place] = block.bytes[place].wrapping_add(add);
-        assert_eq!(rt;
-            slab_sector(&block, 1, NONCE, 7, 64).is_some(),
-            valid,
-            "byte {at} and {add}"
-        );
-    }
+    assert!(rt; is_each_valid(&FIELD_ROWS));
 }
