@@ -1,10 +1,8 @@
-ghost use Rattle.std.specs.Prelude.{◌<◌};
-
-use crate::runs::{DEFAULT, Ran, fresh, has_calls, puts, run_on};
-use blk_base::{Block, Layout, Pbn};
+use crate::runs::{DEFAULT, Ran, fresh, puts, run_on};
+use blk_base::{Block, Layout};
 use disk_model::{Call, MemDisk};
 use image_layout::first_image;
-use std::alloc::Global;
+use std::alloc::{AllocError, Global};
 use std::process::Abort;
 use std::sync::Wait;
 use std::test::Fail;
@@ -45,7 +43,7 @@ const SHOWN: [(usize, usize, &[u8]); 5] = [
 
 // Whether a stop after so many calls of the session may show this.
 fn is_allowed(count: usize, text: &[u8]) -> bool {
-    for (first, last, shown) in SHOWN {
+    for &(first, last, shown) in &SHOWN {
         if first <= count && count <= last && text == shown {
             return true;
         }
@@ -53,99 +51,104 @@ fn is_allowed(count: usize, text: &[u8]) -> bool {
     false
 }
 
-// The blocks of a device with a fresh image after these calls, each of which worked whole.
-fn blocks_after(alloc: Global, calls: &[Call]) -> Result<Vec<Block>, Fail> {
-    let mut blocks = first_image(alloc, &DEFAULT, &Layout::of(&DEFAULT))?;
-    for call in calls {
-        if let Call::Write { at, bytes, .. } = call
-            && let Some(block) = blocks.get_mut(at.0 as usize)
-        {
-            block.copy_from(bytes);
-        }
-    }
-    Ok(blocks)
+// How much of a write reached the device.
+#[derive(Clone, Copy)]
+enum Reached {
+    Whole,
+    Nothing,
+    OneSector(usize),
+    AllButOneSector(usize),
 }
 
 // Puts a sector of one block into another.
-fn put_sector(into: &mut Block, from: &Block, sector: usize)
-    requires { sector < 8 }
-{
-    let start = 512 * sector;
+fn put_sector(into: &mut Block, from: &Block, sector: usize) {
+    let start = 512 * (sector % 8);
     into.bytes[start..start + 512].copy_from_slice(&from.bytes[start..start + 512]);
 }
 
-// The run ended well, and put what a stop after so many calls may show.
-fn shows_allowed<R: Abort>(rt: &R, ran: &Ran, count: usize) {
-    assert!(rt; is_allowed(count, ran.sink.bytes()));
-    assert_eq!(rt; ran.status, 0);
+fn put_other_sectors(into: &mut Block, from: &Block, sector: usize) {
+    let mut rest = Block::zero();
+    rest.copy_from(from);
+    put_sector(&mut rest, into, sector);
+    into.copy_from(&rest);
 }
 
-// A run on these blocks reads what a stop after so many calls may show.
-fn opens<R: Threads + Wait + Sync + Abort>(
+fn put(into: &mut Block, from: &Block, reached: Reached) {
+    match reached {
+        Reached::Whole => into.copy_from(from),
+        Reached::Nothing => {}
+        Reached::OneSector(sector) => put_sector(into, from, sector),
+        Reached::AllButOneSector(sector) => put_other_sectors(into, from, sector),
+    }
+}
+
+// Writes what a call wrote, if it did.
+fn apply(blocks: &mut [Block], call: &Call, reached: Reached) {
+    if let Call::Write { at, bytes, .. } = call
+        && let Some(block) = blocks.get_mut(at.0 as usize)
+    {
+        put(block, bytes, reached);
+    }
+}
+
+// The calls, of which all but the last worked whole.
+fn apply_all(blocks: &mut [Block], calls: &[Call], reached: Reached) {
+    if let [before @ .., last] = calls {
+        for call in before {
+            apply(blocks, call, Reached::Whole);
+        }
+        apply(blocks, last, reached);
+    }
+}
+
+// A device with what is on one with a fresh image after these calls.
+fn device_after(alloc: Global, calls: &[Call], reached: Reached) -> Result<MemDisk, AllocError> {
+    let mut blocks = first_image(alloc, &DEFAULT, &Layout::of(&DEFAULT))?;
+    apply_all(&mut blocks, calls, reached);
+    MemDisk::from_blocks(alloc, blocks)
+}
+
+// Whether the run ended well, and put what a stop after so many calls may show.
+fn shows_allowed(ran: &Ran, count: usize) -> bool {
+    ran.status == 0 && is_allowed(count, ran.sink.bytes())
+}
+
+// Whether a run after these calls reads what a stop after so many calls may show.
+fn is_open<R: Threads + Wait + Sync>(
     rt: &R,
     alloc: Global,
-    blocks: Vec<Block>,
+    calls: &[Call],
+    reached: Reached,
     count: usize,
-) -> Result<(), Fail> {
-    let device = MemDisk::from_blocks(alloc, blocks)?;
+) -> Result<bool, AllocError> {
+    let device = device_after(alloc, calls, reached)?;
     let ran = run_on(rt, alloc, device, b"0 read 1\n0 read 2\n", None, 2000)?;
-    shows_allowed(rt, &ran, count);
-    Ok(())
+    Ok(shows_allowed(&ran, count))
 }
 
-// The blocks after these calls, and a write at this block of which a sector alone is new.
-fn with_sector(
-    alloc: Global,
-    calls: &[Call],
-    at: Pbn,
-    bytes: &Block,
-    sector: usize,
-) -> Result<Vec<Block>, Fail>
-    requires { sector < 8 }
-{
-    let mut blocks = blocks_after(alloc, calls)?;
-    if let Some(block) = blocks.get_mut(at.0 as usize) {
-        put_sector(block, bytes, sector);
-    }
-    Ok(blocks)
-}
+// What may be of the last write: nothing, or a sector alone is new, or old.
+const TORN: [Reached; 17] = [
+    Reached::Nothing,
+    Reached::OneSector(0),
+    Reached::OneSector(1),
+    Reached::OneSector(2),
+    Reached::OneSector(3),
+    Reached::OneSector(4),
+    Reached::OneSector(5),
+    Reached::OneSector(6),
+    Reached::OneSector(7),
+    Reached::AllButOneSector(0),
+    Reached::AllButOneSector(1),
+    Reached::AllButOneSector(2),
+    Reached::AllButOneSector(3),
+    Reached::AllButOneSector(4),
+    Reached::AllButOneSector(5),
+    Reached::AllButOneSector(6),
+    Reached::AllButOneSector(7),
+];
 
-// The blocks after these calls, and a write at this block of which a sector alone is old.
-fn without_sector(
-    alloc: Global,
-    calls: &[Call],
-    at: Pbn,
-    bytes: &Block,
-    sector: usize,
-) -> Result<Vec<Block>, Fail>
-    requires { sector < 8 }
-{
-    let mut blocks = blocks_after(alloc, calls)?;
-    if let Some(block) = blocks.get_mut(at.0 as usize) {
-        let mut rest = Block::zero();
-        rest.copy_from(bytes);
-        put_sector(&mut rest, block, sector);
-        block.copy_from(&rest);
-    }
-    Ok(blocks)
-}
-
-// The last write after these calls is torn: a sector alone is new, or old.
-fn opens_torn<R: Threads + Wait + Sync + Abort>(
-    rt: &R,
-    alloc: Global,
-    calls: &[Call],
-    at: Pbn,
-    bytes: &Block,
-    count: usize,
-) -> Result<(), Fail> {
-    for sector in 0..8 {
-        let new = with_sector(alloc, calls, at, bytes, sector)?;
-        opens(rt, alloc, new, count)?;
-        let old = without_sector(alloc, calls, at, bytes, sector)?;
-        opens(rt, alloc, old, count)?;
-    }
-    Ok(())
+fn ends_with_write(calls: &[Call]) -> bool {
+    matches!(calls.last(), Some(Call::Write { .. }))
 }
 
 // A stop after so many calls of the session. Each write of a session is flushed before the next one, so the last alone is
@@ -156,10 +159,11 @@ fn stops_after<R: Threads + Wait + Sync + Abort>(
     calls: &[Call],
     count: usize,
 ) -> Result<(), Fail> {
-    opens(rt, alloc, blocks_after(alloc, calls)?, count)?;
-    if let [before @ .., Call::Write { at, bytes, .. }] = calls {
-        opens(rt, alloc, blocks_after(alloc, before)?, count)?;
-        opens_torn(rt, alloc, before, *at, bytes, count)?;
+    assert!(rt; is_open(rt, alloc, calls, Reached::Whole, count)?);
+    if ends_with_write(calls) {
+        for &reached in &TORN {
+            assert!(rt; is_open(rt, alloc, calls, reached, count)?);
+        }
     }
     Ok(())
 }
@@ -181,6 +185,6 @@ fn stops_anywhere<R: Threads + Wait + Sync + Abort>(
 #[test]
 fn a_stop_at_any_moment(rt: HostRuntime) -> Result<(), Fail> {
     let device = puts(&rt, rt.alloc(), fresh(rt.alloc())?, SCRIPT, ANSWERS, 0)?;
-    has_calls(&rt, &device, OPENING + SESSION);
+    assert!(rt; device.calls().len() == OPENING + SESSION);
     stops_anywhere(&rt, rt.alloc(), device.calls())
 }

@@ -1,22 +1,22 @@
-use crate::runs::{Case, DEFAULT, fresh, puts};
-use blk_base::{Block, Layout};
-use disk_model::{Call, MemDisk};
-use image_layout::first_image;
-use std::alloc::{AllocError, Global};
+use crate::runs::{Calls, Case, Device, End, Part, each_is_right, fresh, puts};
+use std::alloc::Global;
 use std::process::Abort;
 use std::sync::Wait;
 use std::test::Fail;
 use std::thread::Threads;
 
+// A script, the text that the run of it puts, and its status.
+type Step = (&'static [u8], &'static [u8], u8);
+
 // These scripts are run one after the other on the same device, which has a fresh image first.
 fn in_turn<R: Threads + Wait + Sync + Abort>(
     rt: &R,
     alloc: Global,
-    cases: &[Case],
+    steps: &[Step],
 ) -> Result<(), Fail> {
     let mut device = fresh(alloc)?;
-    for (script, text, status) in cases {
-        device = puts(rt, alloc, device, script, text, *status)?;
+    for &(script, text, status) in steps {
+        device = puts(rt, alloc, device, script, text, status)?;
     }
     Ok(())
 }
@@ -73,9 +73,6 @@ fn a_later_run_uses_the_last_journal_blocks(rt: HostRuntime) -> Result<(), Fail>
     )
 }
 
-// A block of an image, and the bytes that it begins with; the others are zeros.
-type Part = (usize, &'static [u8]);
-
 // Journal blocks, as bytes that were computed apart: sequence, head and entries are in their comments.
 
 // 1, 1, address 5 to block 85
@@ -108,114 +105,68 @@ const NO_BLOCK: &[u8] =
 const PAGE: &[u8] =
     b"\x01\0\0\0\0\0\0\0\x01\0\0\0\0\0\0\0\x01\0\0\0\0\0\0\0\0\0\x01\0VJS1\x01\x03\x01\0\0\0\0\0\0\0\0\0\0\x01V";
 
-// A device with an image of the default sizes, of which some blocks are these.
-fn image_with(alloc: Global, parts: &[Part]) -> Result<MemDisk, AllocError> {
-    let layout = Layout::of(&DEFAULT);
-    let mut blocks = first_image(alloc, &DEFAULT, &layout)?;
-    for (at, bytes) in parts {
-        let mut block = Block::zero();
-        for (i, byte) in bytes.iter().enumerate() {
-            if i < block.bytes.len() {
-                block.bytes[i] = *byte;
-            }
-        }
-        if let Some(old) = blocks.get_mut(*at) {
-            old.copy_from(&block);
-        }
-    }
-    MemDisk::from_blocks(alloc, blocks)
-}
+const WRITE: &[u8] = b"0 write 5 4096*61\n";
 
-// The window of an image with these blocks is refused with this text, and nothing is written.
-fn each_is_refused<R: Threads + Wait + Sync + Abort>(
-    rt: &R,
-    alloc: Global,
-    rows: &[(&[Part], &[u8])],
-) -> Result<(), Fail> {
-    for (parts, text) in rows {
-        let device = image_with(alloc, parts)?;
-        let device = puts(rt, alloc, device, b"0 write 5 4096*61\n", text, 4)?;
-        assert!(rt; only_reads(device.calls()));
-    }
-    Ok(())
-}
+// The window is refused, and nothing is written.
+const WINDOW_1: End = (b"bad image: window 1\n", 4, Calls::OnlyReads);
 
-const WINDOW_1: &[u8] = b"bad image: window 1\n";
+const WINDOW_2: End = (b"bad image: window 2\n", 4, Calls::OnlyReads);
 
-const WINDOW_2: &[u8] = b"bad image: window 2\n";
+const REFUSED_BLOCKS: [Case; 4] = [
+    // A hole: block 2 stands there, and block 1 doesn't.
+    (Device::With(&[(3, SECOND)]), WRITE, WINDOW_1),
+    (Device::With(&[(2, HEAD_0)]), WRITE, WINDOW_1),
+    (Device::With(&[(2, TWO)]), WRITE, WINDOW_1),
+    (Device::With(&[(2, WRITTEN), (3, NONE)]), WRITE, WINDOW_2),
+];
 
 #[test]
 fn windows_whose_blocks_are_refused(rt: HostRuntime) -> Result<(), Fail> {
-    each_is_refused(
-        &rt,
-        rt.alloc(),
-        &[
-            // A hole: block 2 stands there, and block 1 doesn't.
-            (&[(3, SECOND)], WINDOW_1),
-            (&[(2, HEAD_0)], WINDOW_1),
-            (&[(2, TWO)], WINDOW_1),
-            (&[(2, WRITTEN), (3, NONE)], WINDOW_2),
-        ],
-    )
+    each_is_right(&rt, rt.alloc(), &REFUSED_BLOCKS)
 }
+
+const REFUSED_ENTRIES: [Case; 5] = [
+    (
+        Device::With(&[(2, WRITTEN), (3, ADDRESS_1000)]),
+        WRITE,
+        WINDOW_2,
+    ),
+    (Device::With(&[(2, BLOCK_84)]), WRITE, WINDOW_1),
+    (Device::With(&[(2, BLOCK_149)]), WRITE, WINDOW_1),
+    (Device::With(&[(2, NO_BLOCK)]), WRITE, WINDOW_1),
+    (Device::With(&[(2, PAGE)]), WRITE, WINDOW_1),
+];
 
 #[test]
 fn windows_whose_entries_are_refused(rt: HostRuntime) -> Result<(), Fail> {
-    each_is_refused(
-        &rt,
-        rt.alloc(),
-        &[
-            (&[(2, WRITTEN), (3, ADDRESS_1000)], WINDOW_2),
-            (&[(2, BLOCK_84)], WINDOW_1),
-            (&[(2, BLOCK_149)], WINDOW_1),
-            (&[(2, NO_BLOCK)], WINDOW_1),
-            (&[(2, PAGE)], WINDOW_1),
-        ],
-    )
+    each_is_right(&rt, rt.alloc(), &REFUSED_ENTRIES)
 }
 
-// Whether nothing was written or flushed.
-fn only_reads(calls: &[Call]) -> bool {
-    let mut reads = true;
-    for call in calls {
-        if !matches!(call, Call::Read { .. }) {
-            reads = false;
-        }
-    }
-    reads
-}
-
-// What an image with these blocks gives at address 5.
-fn each_is_read<R: Threads + Wait + Sync + Abort>(
-    rt: &R,
-    alloc: Global,
-    rows: &[(&[Part], &[u8])],
-) -> Result<(), Fail> {
-    for (parts, text) in rows {
-        let device = image_with(alloc, parts)?;
-        puts(rt, alloc, device, b"0 read 5\n", text, 0)?;
-    }
-    Ok(())
-}
+const READ: &[u8] = b"0 read 5\n";
 
 // The content of block 85, and what a read then gives.
 const VALUE: Part = (85, b"\x6a");
 
-const FOUND: &[u8] = b"0 0 read 5 1*6a+4095*00 z0:0\n";
+const FOUND: End = (b"0 0 read 5 1*6a+4095*00 z0:0\n", 0, Calls::Any);
+
+const ZEROS: End = (b"0 0 read 5 4096*00 z0:0\n", 0, Calls::Any);
 
 // What stands in the window is read, and a block of the journal in another slot isn't.
+const READ_WINDOWS: [Case; 3] = [
+    (Device::With(&[(2, WRITTEN), VALUE]), READ, FOUND),
+    (
+        Device::With(&[(2, WRITTEN), (3, SECOND), VALUE]),
+        READ,
+        FOUND,
+    ),
+    (
+        Device::With(&[(3, WRITTEN), (4, SECOND), VALUE]),
+        READ,
+        ZEROS,
+    ),
+];
+
 #[test]
 fn windows_that_are_read(rt: HostRuntime) -> Result<(), Fail> {
-    each_is_read(
-        &rt,
-        rt.alloc(),
-        &[
-            (&[(2, WRITTEN), VALUE], FOUND),
-            (&[(2, WRITTEN), (3, SECOND), VALUE], FOUND),
-            (
-                &[(3, WRITTEN), (4, SECOND), VALUE],
-                b"0 0 read 5 4096*00 z0:0\n",
-            ),
-        ],
-    )
+    each_is_right(&rt, rt.alloc(), &READ_WINDOWS)
 }
