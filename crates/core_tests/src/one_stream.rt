@@ -1,6 +1,8 @@
-use crate::runs::{Ask, Given, answer_of, first, fresh, in_order, places, play_out, sizes};
+use crate::runs::{Ask, Given, are_answers, fresh, in_order, places, played, sizes};
 use blk_base::{Pbn, Writer};
-use disk_model::{CallKind, FaultAt};
+use core_steps::{Event, StepFault};
+use disk_model::{CallKind, FaultAt, MemDisk};
+use std::alloc::{AllocError, Global};
 use std::test::Fail;
 use vdo_model::Placed;
 
@@ -61,56 +63,74 @@ const ROWS: [Row; 4] = [
     },
 ];
 
+// The fault of the first write of this block, if any.
+fn plan(alloc: Global, fails: Option<u32>) -> Result<Vec<FaultAt>, AllocError> {
+    let mut plan = Vec::new(alloc);
+    if let Some(at) = fails {
+        plan.push(FaultAt {
+            kind: CallKind::Write,
+            at: Pbn(at),
+            nth: 0,
+            effect: false,
+        })?;
+    }
+    Ok(plan)
+}
+
+fn failing(alloc: Global, fails: Option<u32>) -> Result<MemDisk, AllocError> {
+    let plan = plan(alloc, fails)?;
+    let mut disk = fresh(alloc)?;
+    disk.set_faults(plan);
+    Ok(disk)
+}
+
+// Whether the row's requests are answered so.
+fn is_answered(alloc: Global, events: &[Event], row: &Row) -> Result<bool, StepFault> {
+    let mut disk = failing(alloc, row.fails)?;
+    let zones = played(alloc, &sizes(1, 1), &[row.asks], events, &mut disk)?;
+    Ok(are_answers(zones.as_slice(), 0, row.gives))
+}
+
 #[test]
 fn one_request_after_the_other(rt: HostRuntime) -> Result<(), Fail> {
-    let alloc = rt.alloc();
-    let sizes = sizes(1, 1);
-    let events = in_order(alloc, 5)?;
+    let events = in_order(rt.alloc(), 5)?;
     for row in &ROWS {
-        let mut disk = fresh(alloc)?;
-        if let Some(at) = row.fails {
-            disk.set_faults(vec![in alloc;
-                FaultAt {
-                    kind: CallKind::Write,
-                    at: Pbn(at),
-                    nth: 0,
-                    effect: false
-                },
-            ]?);
-        }
-        let mut zones = first(alloc, &sizes, &[row.asks])?;
-        play_out(alloc, &sizes, &mut zones, &events, &mut disk)?;
-        for (number, gives) in row.gives.iter().enumerate() {
-            let answer = answer_of(zones.as_slice(), 0, number as u32);
-            assert_eq!(rt; answer, Some(*gives), "request {number}");
-        }
+        assert!(rt; is_answered(rt.alloc(), &events, row)?);
     }
     Ok(())
+}
+
+const PLACES: [Placed; 2] = [
+    Placed {
+        request: Writer {
+            stream: 0,
+            number: 0,
+        },
+        zone: 0,
+        place: 0,
+    },
+    Placed {
+        request: Writer {
+            stream: 0,
+            number: 1,
+        },
+        zone: 0,
+        place: 1,
+    },
+];
+
+// Whether two requests draw these places.
+fn are_drawn(alloc: Global, events: &[Event]) -> Result<bool, StepFault> {
+    let asks: &[Ask] = &[Ask::Write(5, 0x61), Ask::Read(5)];
+    let mut disk = fresh(alloc)?;
+    let zones = played(alloc, &sizes(1, 1), &[asks], events, &mut disk)?;
+    Ok(places(zones.as_slice()) == PLACES.as_slice())
 }
 
 // The requests of a stream draw the places of a zone in their order.
 #[test]
 fn places_in_order(rt: HostRuntime) -> Result<(), Fail> {
-    let alloc = rt.alloc();
-    let sizes = sizes(1, 1);
-    let events = in_order(alloc, 5)?;
-    let mut disk = fresh(alloc)?;
-    let asks: &[Ask] = &[Ask::Write(5, 0x61), Ask::Read(5)];
-    let mut zones = first(alloc, &sizes, &[asks])?;
-    play_out(alloc, &sizes, &mut zones, &events, &mut disk)?;
-    for (number, place) in [(0, 0), (1, 1)] {
-        let request = Writer { stream: 0, number };
-        let zone = 0;
-        let drawn = places(zones.as_slice()).get(place as usize).copied();
-        assert_eq!(rt;
-            drawn,
-            Some(Placed {
-                request,
-                zone,
-                place
-            })
-        );
-    }
-    assert_eq!(rt; places(zones.as_slice()).len(), 2);
+    let events = in_order(rt.alloc(), 5)?;
+    assert!(rt; are_drawn(rt.alloc(), &events)?);
     Ok(())
 }

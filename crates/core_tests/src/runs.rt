@@ -1,7 +1,7 @@
 use blk_base::{Answer, Block, Geometry, Layout, Lba, Pbn, Request, Writer};
 use core_laws::{Sizes, Zone, ZoneData};
 use core_steps::{Event, StepFault, Stepped, Zones, begin, play};
-use disk_model::MemDisk;
+use disk_model::{Disk, MemDisk};
 use image_layout::first_image;
 use std::alloc::{AllocError, Global};
 use vdo_model::{DeskLine, Placed, Requests};
@@ -26,7 +26,7 @@ pub(crate) enum Ask {
 }
 
 // An answer, with the first byte of a block.
-#[derive(Clone, Copy, Debug, PartialEq, Eq)]
+#[derive(Clone, Copy, PartialEq, Eq)]
 pub(crate) enum Given {
     Ok,
     Bytes(u8),
@@ -52,23 +52,31 @@ pub(crate) fn sizes(zones: u32, depth: u32) -> Sizes {
     }
 }
 
+fn push<T: Drop>(items: &mut Vec<T>, item: T) -> Result<(), AllocError> {
+    match items.push(item) {
+        Ok(()) => Ok(()),
+        Err(_) => Err(AllocError),
+    }
+}
+
+fn request(ask: Ask) -> Request {
+    match ask {
+        Ask::Read(at) => Request::Read(Lba(at)),
+        Ask::Write(at, byte) => Request::Write {
+            at: Lba(at),
+            block: Block {
+                bytes: [byte; 4096],
+            },
+            fua: false,
+        },
+        Ask::Flush => Request::Flush,
+    }
+}
+
 fn requests(alloc: Global, asks: &[Ask]) -> Result<Vec<Request>, AllocError> {
     let mut requests = Vec::new(alloc);
-    for ask in asks {
-        let request = match *ask {
-            Ask::Read(at) => Request::Read(Lba(at)),
-            Ask::Write(at, byte) => Request::Write {
-                at: Lba(at),
-                block: Block {
-                    bytes: [byte; 4096],
-                },
-                fua: false,
-            },
-            Ask::Flush => Request::Flush,
-        };
-        let Ok(()) = requests.push(request) else {
-            return Err(AllocError);
-        };
+    for &ask in asks {
+        push(&mut requests, request(ask))?;
     }
     Ok(requests)
 }
@@ -76,9 +84,7 @@ fn requests(alloc: Global, asks: &[Ask]) -> Result<Vec<Request>, AllocError> {
 fn script(alloc: Global, streams: &[&[Ask]]) -> Result<Requests, AllocError> {
     let mut script = Vec::new(alloc);
     for asks in streams {
-        let Ok(()) = script.push(requests(alloc, asks)?) else {
-            return Err(AllocError);
-        };
+        push(&mut script, requests(alloc, asks)?)?;
     }
     Ok(Requests::of_streams(script))
 }
@@ -94,7 +100,7 @@ fn data_blocks(alloc: Global) -> Result<Vec<Pbn>, AllocError> {
 }
 
 // A core at the start of a session on a fresh image.
-pub(crate) fn first(alloc: Global, sizes: &Sizes, streams: &[&[Ask]]) -> Result<Zones, StepFault> {
+fn first(alloc: Global, sizes: &Sizes, streams: &[&[Ask]]) -> Result<Zones, StepFault> {
     let script = script(alloc, streams)?;
     let free = data_blocks(alloc)?;
     Ok(begin(alloc, sizes, script, &[], free)?)
@@ -113,12 +119,12 @@ pub(crate) fn in_order(alloc: Global, zones: u32) -> Result<Vec<Event>, AllocErr
 }
 
 // Plays these events again and again, until there is no work for any of them.
-pub(crate) fn play_out(
+fn play_out<D: Disk>(
     alloc: Global,
     sizes: &Sizes,
     zones: &mut Zones,
     events: &[Event],
-    disk: &mut MemDisk,
+    disk: &mut D,
 ) -> Result<(), StepFault> {
     for _ in 0..1000_u32 {
         match play(alloc, sizes, zones, events, disk)? {
@@ -127,6 +133,19 @@ pub(crate) fn play_out(
         }
     }
     Err(StepFault::Numbers)
+}
+
+// The core after these events, again and again, on a device with what these streams ask.
+pub(crate) fn played<D: Disk>(
+    alloc: Global,
+    sizes: &Sizes,
+    streams: &[&[Ask]],
+    events: &[Event],
+    disk: &mut D,
+) -> Result<Zones, StepFault> {
+    let mut zones = first(alloc, sizes, streams)?;
+    play_out(alloc, sizes, &mut zones, events, disk)?;
+    Ok(zones)
 }
 
 fn shown(answer: &Answer) -> Given {
@@ -139,27 +158,48 @@ fn shown(answer: &Answer) -> Given {
     }
 }
 
-// What the desk answered to a request.
-pub(crate) fn answer_of(zones: &[Zone], stream: u8, number: u32) -> Option<Given> {
-    let desk = match zones {
+fn desk(zones: &[Zone]) -> &[DeskLine] {
+    match zones {
         [
             Zone {
                 keeps: ZoneData::Desk(desk),
                 ..
             },
             ..
-        ] => desk,
-        _ => return None,
-    };
-    let asked = Writer { stream, number };
-    for line in desk.log.as_slice() {
-        if let DeskLine::Answer { request, answer } = line
-            && *request == asked
-        {
-            return Some(shown(answer));
+        ] => desk.log.as_slice(),
+        _ => &[],
+    }
+}
+
+// What a line says of a request, if it is its answer.
+fn answer_in(line: &DeskLine, asked: Writer) -> Option<Given> {
+    match line {
+        DeskLine::Answer { request, answer } if *request == asked => Some(shown(answer)),
+        _ => None,
+    }
+}
+
+// What the desk answered to a request.
+fn answer_of(lines: &[DeskLine], asked: Writer) -> Option<Given> {
+    for line in lines {
+        let answer = answer_in(line, asked);
+        if answer.is_some() {
+            return answer;
         }
     }
     None
+}
+
+// Whether the desk answered this to the requests of a stream, from the first one on.
+pub(crate) fn are_answers(zones: &[Zone], stream: u8, gives: &[Given]) -> bool {
+    let mut asked = Writer { stream, number: 0 };
+    for &given in gives {
+        if answer_of(desk(zones), asked) != Some(given) {
+            return false;
+        }
+        asked.number = asked.number.wrapping_add(1);
+    }
+    true
 }
 
 // The places of logical zone 0, the oldest first.
