@@ -9,7 +9,7 @@ pub struct Sizes {
     /// How many entries the window had when the session began.
     pub opened: u32,
     /// How many logical zones there are.
-    pub zones: u32,
+    pub zones: u8,
     /// How many requests of a stream are under way at most.
     pub depth: u32,
 }

@@ -36,7 +36,7 @@ pub struct Desk {
 #[derive(Drop)]
 pub struct LogicalZone {
     /// The number of the zone among the logical ones.
-    pub zone: u32,
+    pub zone: u8,
     pub told: bool,
     /// The place that is drawn next.
     pub next: u64,

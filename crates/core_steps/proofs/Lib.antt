@@ -4,4 +4,5 @@ pub mod DeskLaws
 pub mod Ends
 pub mod PlayLaws
 pub mod StartLaws
+pub mod StrayLaws
 pub mod ZoneLaws

@@ -1,4 +1,5 @@
 pub mod Acts
+pub mod Causes
 pub mod DeviceLog
 pub mod Moves
 pub mod Plays

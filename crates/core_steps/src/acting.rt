@@ -1,6 +1,8 @@
-ghost use Rattle.std.specs.Prelude.{◌≡◌, [], ◌∷◌, IfOk};
+ghost use Rattle.std.specs.Prelude.{◌≡◌, [], ◌∷◌, IfOk, IfErr};
 ghost use Rattle.core_laws.specs.declared.zones.ZoneData.TheVariants as at;
+ghost use Rattle.core_laws.specs.Steps.{Act};
 ghost use Rattle.core_steps.specs.Acts.{Acts, ActsAlone};
+ghost use Rattle.core_steps.specs.Causes.{CanCount, NoRule, Strays};
 
 use crate::StepFault;
 use crate::desk::{hear_desk, serve_desk};
@@ -15,7 +17,9 @@ use std::alloc::Global;
 
 // What the desk does with an item.
 fn act_desk(alloc: Global, sizes: &Sizes, desk: &mut Desk, item: Item) -> Result<Posts, StepFault>
-    ensures { IfOk result (λ posts. ActsAlone sizes.now (at.Desk desk.old) (item ∷ []) (at.Desk desk.new) posts) }
+    requires { CanCount sizes.now (at.Desk desk.old) }
+    ensures ok { IfOk result (λ posts. ActsAlone sizes.now (at.Desk desk.old) (item ∷ []) (at.Desk desk.new) posts) }
+    ensures err { IfErr result (Strays (NoRule (Act sizes.now (at.Desk desk.old) (item ∷ [])))) }
 {
     let _sizes = sizes;
     match item {
@@ -32,7 +36,9 @@ fn act_logical(
     zone: &mut LogicalZone,
     item: Item,
 ) -> Result<Posts, StepFault>
-    ensures { IfOk result (λ posts. ActsAlone sizes.now (at.Logical zone.old) (item ∷ []) (at.Logical zone.new) posts) }
+    requires { CanCount sizes.now (at.Logical zone.old) }
+    ensures ok { IfOk result (λ posts. ActsAlone sizes.now (at.Logical zone.old) (item ∷ []) (at.Logical zone.new) posts) }
+    ensures err { IfErr result (Strays (NoRule (Act sizes.now (at.Logical zone.old) (item ∷ [])))) }
 {
     let _sizes = sizes;
     match item {
@@ -49,7 +55,8 @@ fn act_physical(
     zone: &mut PhysicalZone,
     item: Item,
 ) -> Result<Posts, StepFault>
-    ensures { IfOk result (λ posts. ActsAlone sizes.now (at.Physical zone.old) (item ∷ []) (at.Physical zone.new) posts) }
+    ensures ok { IfOk result (λ posts. ActsAlone sizes.now (at.Physical zone.old) (item ∷ []) (at.Physical zone.new) posts) }
+    ensures err { IfErr result (Strays (NoRule (Act sizes.now (at.Physical zone.old) (item ∷ [])))) }
 {
     let _sizes = sizes;
     match item {
@@ -66,7 +73,9 @@ fn act_journal(
     zone: &mut JournalZone,
     item: Item,
 ) -> Result<Posts, StepFault>
-    ensures { IfOk result (λ posts. ActsAlone sizes.now (at.Journal zone.old) (item ∷ []) (at.Journal zone.new) posts) }
+    requires { CanCount sizes.now (at.Journal zone.old) }
+    ensures ok { IfOk result (λ posts. ActsAlone sizes.now (at.Journal zone.old) (item ∷ []) (at.Journal zone.new) posts) }
+    ensures err { IfErr result (Strays (NoRule (Act sizes.now (at.Journal zone.old) (item ∷ [])))) }
 {
     match item {
         Item::Request(vio) => Ok(serve_journal(alloc, sizes, zone, vio)?),
@@ -83,9 +92,11 @@ fn act_device<D: Disk>(
     item: Item,
     disk: &mut D,
 ) -> Result<Posts, StepFault>
+    requires { CanCount sizes.now (at.Device zone.old) }
     ensures size { D.size disk.new ≡ D.size disk.old }
     ensures opening { D.opening disk.new ≡ D.opening disk.old }
     ensures acts { IfOk result (λ posts. Acts D.tells sizes.now (at.Device zone.old) (item ∷ []) (at.Device zone.new) posts (D.log disk.old) (D.log disk.new)) }
+    ensures err { IfErr result (Strays (NoRule (Act sizes.now (at.Device zone.old) (item ∷ [])))) }
 {
     let _sizes = sizes;
     match item {
@@ -103,9 +114,11 @@ pub(crate) fn act<D: Disk>(
     item: Item,
     disk: &mut D,
 ) -> Result<Posts, StepFault>
+    requires { CanCount sizes.now keeps.old }
     ensures size { D.size disk.new ≡ D.size disk.old }
     ensures opening { D.opening disk.new ≡ D.opening disk.old }
     ensures acts { IfOk result (λ posts. Acts D.tells sizes.now keeps.old (item ∷ []) keeps.new posts (D.log disk.old) (D.log disk.new)) }
+    ensures err { IfErr result (Strays (NoRule (Act sizes.now keeps.old (item ∷ [])))) }
 {
     let _sizes = sizes;
     match keeps {

@@ -1,4 +1,4 @@
-ghost use Rattle.std.specs.Prelude.{◌≡◌, ◌<◌, ◌∷◌, [], ℕ, IfOk, IfSome, IfNone, Some, None};
+ghost use Rattle.std.specs.Prelude.{◌≡◌, ◌<◌, ◌∷◌, [], ℕ, IfOk, IfSome, IfNone, length};
 ghost use Rattle.vdo_model.specs.DeskLog.{IsNextLine};
 ghost use Rattle.vdo_model.specs.Scripts.{request_at};
 ghost use Rattle.vdo_model.specs.declared.report.DeskLine.TheVariants as line;
@@ -8,8 +8,8 @@ ghost use Rattle.core_laws.specs.DeskRows as rows;
 ghost use Rattle.core_laws.specs.Steps.{MayBegin};
 ghost use Rattle.core_laws.specs.Trace.{Trace};
 ghost use Rattle.core_laws.specs.Vios as vios;
+ghost use Rattle.core_steps.specs.Causes.{CanCount};
 
-use crate::StepFault;
 use crate::counts::{answered, begun};
 use crate::desk::{answer, is_told};
 use crate::numbers::{device_zone, logical_zone};
@@ -17,28 +17,20 @@ use crate::posts::Posts;
 use crate::vios::turned;
 use blk_base::{Answer, Block, Lba, Mapping, Pbn, Request, Writer};
 use core_laws::{Asks, Desk, Item, Phase, Sizes, Vio};
-use std::alloc::Global;
+use std::alloc::{AllocError, Global};
 use vdo_model::DeskLine;
 
 // A request for an address when it is begun.
-fn begun_vio(
-    sizes: &Sizes,
-    request: Writer,
-    asks: Asks,
-    at: Lba,
-    bytes: Block,
-) -> Result<Vio, StepFault>
-    ensures { IfOk result (λ vio. vio ≡ vios.begun_vio sizes.now request asks at bytes) }
+fn begun_vio(sizes: &Sizes, request: Writer, asks: Asks, at: Lba, bytes: Block) -> Vio
+    requires { 0 < sizes.now.zones }
+    ensures { result ≡ vios.begun_vio sizes.now request asks at bytes }
 {
-    let tree = at.0 / 812 % 60;
-    let Some(zone) = tree.checked_rem(sizes.zones) else {
-        return Err(StepFault::Numbers);
-    };
-    Ok(Vio {
+    let tree = (at.0 / 812 % 60) as u8;
+    Vio {
         request,
         asks,
         at,
-        home: logical_zone(zone)?,
+        home: logical_zone(tree % sizes.zones),
         phase: Phase::Arrive,
         bytes,
         place: 0,
@@ -47,31 +39,32 @@ fn begun_vio(
         block: Pbn(0),
         answer: None,
         calls: 0,
-    })
+    }
 }
 
 // The request as it is under way.
-fn vio_of(sizes: &Sizes, request: Writer, asked: &Request) -> Result<Vio, StepFault>
-    ensures { IfOk result (λ vio. vio ≡ rows.vio_of sizes.now request asked.now) }
+fn vio_of(sizes: &Sizes, request: Writer, asked: &Request) -> Vio
+    requires { 0 < sizes.now.zones }
+    ensures { result ≡ rows.vio_of sizes.now request asked.now }
 {
     match asked {
         Request::Read(at) => {
             let zeros = Block::zero();
-            Ok(begun_vio(sizes, request, Asks::Read, *at, zeros)?)
+            begun_vio(sizes, request, Asks::Read, *at, zeros)
         }
         Request::Write { at, block, .. } => {
             let mut bytes = Block::zero();
             bytes.copy_from(block);
-            Ok(begun_vio(sizes, request, Asks::Write, *at, bytes)?)
+            begun_vio(sizes, request, Asks::Write, *at, bytes)
         }
         Request::Discard(at) => {
             let zeros = Block::zero();
-            Ok(begun_vio(sizes, request, Asks::Write, *at, zeros)?)
+            begun_vio(sizes, request, Asks::Write, *at, zeros)
         }
         Request::Flush => {
             let zeros = Block::zero();
-            let vio = begun_vio(sizes, request, Asks::Flush, Lba(0), zeros)?;
-            Ok(turned(vio, Phase::Flush))
+            let vio = begun_vio(sizes, request, Asks::Flush, Lba(0), zeros);
+            turned(vio, Phase::Flush)
         }
     }
 }
@@ -103,49 +96,46 @@ fn at_once(sizes: &Sizes, told: bool, asked: &Request) -> Option<Answer>
 }
 
 // A block request goes to the logical zone of its address, a flush to the device.
-fn first_zone(sizes: &Sizes, vio: &Vio) -> Result<u32, StepFault>
-    ensures { IfOk result (λ number. number ≡ rows.first_zone sizes.now vio.now) }
+fn first_zone(sizes: &Sizes, vio: &Vio) -> u32
+    ensures { result ≡ rows.first_zone sizes.now vio.now }
 {
     match vio.asks {
-        Asks::Read | Asks::Write => Ok(vio.home),
-        Asks::Flush => Ok(device_zone(sizes)?),
+        Asks::Read | Asks::Write => vio.home,
+        Asks::Flush => device_zone(sizes),
     }
 }
 
 // The number of the next request of a stream, where it may be begun.
-fn next_of(sizes: &Sizes, desk: &Desk, stream: u8) -> Result<Option<u32>, StepFault>
-    ensures may { IfOk result (λ next. IfSome next (λ number.
-        IsNextLine sizes.now.depth desk.now.requests (line.Begin (record { stream = stream; number = number })) desk.now.log)) }
-    ensures none { IfOk result (λ next. IfNone next (
-        (number : ℕ) → IsNextLine sizes.now.depth desk.now.requests (line.Begin (record { stream = stream; number = number })) desk.now.log → ⊥)) }
+fn next_of(sizes: &Sizes, desk: &Desk, stream: u8) -> Option<u32>
+    requires { length desk.now.log < 4294967296 }
+    ensures may { IfSome result (λ number.
+        IsNextLine sizes.now.depth desk.now.requests (line.Begin (record { stream = stream; number = number })) desk.now.log) }
+    ensures none { IfNone result (
+        (number : ℕ) → IsNextLine sizes.now.depth desk.now.requests (line.Begin (record { stream = stream; number = number })) desk.now.log → ⊥) }
 {
     let lines = desk.log.as_slice();
     let next = begun(stream, lines);
     let done = answered(stream, lines);
     let requests = desk.requests.stream(stream);
     if next >= requests.len() || next as u64 >= done as u64 + u64::from(sizes.depth) {
-        return Ok(None);
+        return None;
     }
-    match u32::try_from(next) {
-        Ok(number) => Ok(Some(number)),
-        Err(_) => Err(StepFault::Numbers),
-    }
+    Some(next as u32)
 }
 
 // The next request of the lowest stream that may begin one.
-fn lowest(sizes: &Sizes, desk: &Desk) -> Result<Option<Writer>, StepFault>
-    ensures may { IfOk result (λ next. IfSome next (λ request. IsNextLine sizes.now.depth desk.now.requests (line.Begin request) desk.now.log)) }
-    ensures none { IfOk result (λ next. IfNone next (MayBegin sizes.now (at.Desk desk.now) → ⊥)) }
+fn lowest(sizes: &Sizes, desk: &Desk) -> Option<Writer>
+    requires { CanCount sizes.now (at.Desk desk.now) }
+    ensures may { IfSome result (λ request. IsNextLine sizes.now.depth desk.now.requests (line.Begin request) desk.now.log) }
+    ensures none { IfNone result (MayBegin sizes.now (at.Desk desk.now) → ⊥) }
 {
     for number in 0..desk.requests.count() {
-        let Ok(stream) = u8::try_from(number) else {
-            return Err(StepFault::Numbers);
-        };
-        if let Some(number) = next_of(sizes, desk, stream)? {
-            return Ok(Some(Writer { stream, number }));
+        let stream = number as u8;
+        if let Some(number) = next_of(sizes, desk, stream) {
+            return Some(Writer { stream, number });
         }
     }
-    Ok(None)
+    None
 }
 
 // A request is begun, and sent on.
@@ -155,13 +145,13 @@ fn send(
     desk: &mut Desk,
     request: Writer,
     vio: Vio,
-) -> Result<Posts, StepFault>
-    ensures desk { IfOk result (λ posts. desk.new ≡ record desk.old { log = line.Begin request ∷ desk.old.log }) }
-    ensures posts { IfOk result (λ posts. posts ≡ (rows.first_zone sizes.now vio, item.Request vio) ∷ []) }
+) -> Result<Posts, AllocError>
+    ensures { IfOk result (λ posts. (desk.new ≡ record desk.old { log = line.Begin request ∷ desk.old.log })
+        × (posts ≡ (rows.first_zone sizes.now vio, item.Request vio) ∷ [])) }
 {
     desk.log.push(DeskLine::Begin { request })?;
-    let to = first_zone(sizes, &vio)?;
-    Ok(Posts::one(alloc, to, Item::Request(vio))?)
+    let to = first_zone(sizes, &vio);
+    Posts::one(alloc, to, Item::Request(vio))
 }
 
 // A request is begun, and answered at once or sent on.
@@ -170,15 +160,14 @@ fn begin_one(
     sizes: &Sizes,
     desk: &mut Desk,
     request: Writer,
-) -> Result<Posts, StepFault>
-    requires { IsNextLine sizes.now.depth desk.old.requests (line.Begin request) desk.old.log }
+) -> Result<Posts, AllocError>
+    requires zones { 0 < sizes.now.zones }
+    requires next { IsNextLine sizes.now.depth desk.old.requests (line.Begin request) desk.old.log }
     ensures { IfOk result (λ posts. (made : Trace) × rows.DeskBegins sizes.now desk.old desk.new made posts) }
 {
     let told = is_told(sizes, desk);
     let requests = desk.requests.stream(request.stream);
-    let Some(asked) = requests.get(request.number as usize) else {
-        return Err(StepFault::Numbers);
-    };
+    let asked = &requests[request.number as usize];
     match at_once(sizes, told, asked) {
         Some(given) => {
             desk.log.push(DeskLine::Begin { request })?;
@@ -186,8 +175,8 @@ fn begin_one(
             Ok(Posts::none(alloc))
         }
         None => {
-            let vio = vio_of(sizes, request, asked)?;
-            Ok(send(alloc, sizes, desk, request, vio)?)
+            let vio = vio_of(sizes, request, asked);
+            send(alloc, sizes, desk, request, vio)
         }
     }
 }
@@ -197,12 +186,13 @@ pub(crate) fn begin_next(
     alloc: Global,
     sizes: &Sizes,
     desk: &mut Desk,
-) -> Result<Option<Posts>, StepFault>
+) -> Result<Option<Posts>, AllocError>
+    requires { CanCount sizes.now (at.Desk desk.old) }
     ensures begun { IfOk result (λ begun. IfSome begun (λ posts. (made : Trace) × rows.DeskBegins sizes.now desk.old desk.new made posts)) }
     ensures same { IfOk result (λ begun. IfNone begun (desk.new ≡ desk.old)) }
     ensures none { IfOk result (λ begun. IfNone begun (MayBegin sizes.now (at.Desk desk.old) → ⊥)) }
 {
-    match lowest(sizes, desk)? {
+    match lowest(sizes, desk) {
         Some(request) => Ok(Some(begin_one(alloc, sizes, desk, request)?)),
         None => Ok(None),
     }

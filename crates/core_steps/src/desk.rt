@@ -1,24 +1,25 @@
-ghost use Rattle.std.specs.Prelude.{◌≡◌, [], ◌∷◌, ◌++◌, ◌+◌, IfOk, OnOk, Some, true, false};
+ghost use Rattle.std.specs.Prelude.{◌≡◌, ◌<◌, [], ◌∷◌, ◌+◌, IfOk, IfErr, OnOk, Some, None, true};
 ghost use Rattle.blk_base.specs.declared.request.Answer.{Answer};
 ghost use Rattle.blk_base.specs.declared.request.Answer.TheVariants.{Ok};
 ghost use Rattle.core_laws.specs.declared.items.Phase.TheVariants.{Reply};
 ghost use Rattle.vdo_model.specs.declared.report.DeskLine.TheVariants as line;
 ghost use Rattle.core_laws.specs.DeskRows as rows;
 ghost use Rattle.core_laws.specs.Trace.{Trace};
+ghost use Rattle.core_steps.specs.Causes.{NoRule, Strays};
 
 use crate::StepFault;
 use crate::lists::wake_all;
 use crate::posts::Posts;
 use blk_base::{Answer, Writer};
 use core_laws::{Asks, Desk, Fifo, Phase, Sizes, Vio};
-use std::alloc::Global;
+use std::alloc::{AllocError, Global};
 use vdo_model::{DeskLine, FlushMark};
 
 /// Whether every zone has told the desk that the session is stopped.
 pub(crate) fn is_told(sizes: &Sizes, desk: &Desk) -> bool
     ensures { result ≡ rows.is_told sizes.now desk.now }
 {
-    u64::from(sizes.zones) + 1 < u64::from(desk.told)
+    u32::from(sizes.zones) + 1 < desk.told
 }
 
 // Whether an answer is that of a flush that returned.
@@ -36,7 +37,7 @@ fn is_stopped(answer: &Answer) -> bool
 }
 
 /// A request is answered.
-pub(crate) fn answer(desk: &mut Desk, request: Writer, answer: Answer) -> Result<(), StepFault>
+pub(crate) fn answer(desk: &mut Desk, request: Writer, answer: Answer) -> Result<(), AllocError>
     ensures { OnOk result (desk.new ≡ record desk.old { log = line.Answer request answer ∷ desk.old.log }) }
 {
     desk.log.push(DeskLine::Answer { request, answer })?;
@@ -44,7 +45,7 @@ pub(crate) fn answer(desk: &mut Desk, request: Writer, answer: Answer) -> Result
 }
 
 // A flush is answered, with its mark.
-fn mark(desk: &mut Desk, mark: FlushMark) -> Result<(), StepFault>
+fn mark(desk: &mut Desk, mark: FlushMark) -> Result<(), AllocError>
     ensures { OnOk result (desk.new ≡ record desk.old { log = line.Answer mark.request Ok ∷ desk.old.log; marks = mark ∷ desk.old.marks }) }
 {
     answer(desk, mark.request, Answer::Ok)?;
@@ -56,7 +57,8 @@ fn mark(desk: &mut Desk, mark: FlushMark) -> Result<(), StepFault>
 fn reply(alloc: Global, sizes: &Sizes, desk: &mut Desk, vio: Vio) -> Result<Posts, StepFault>
     requires phase { vio.phase ≡ Reply }
     requires told { (given : Answer) → vio.answer ≡ Some given → rows.is_stopped given ≡ true → rows.is_told sizes.now desk.old ≡ true }
-    ensures { IfOk result (λ posts. (made : Trace) × rows.DeskServes sizes.now desk.old vio desk.new made posts) }
+    ensures ok { IfOk result (λ posts. (made : Trace) × rows.DeskServes sizes.now desk.old vio desk.new made posts) }
+    ensures err { IfErr result (Strays (vio.answer ≡ None)) }
 {
     let _sizes = sizes;
     let Vio {
@@ -87,7 +89,8 @@ pub(crate) fn serve_desk(
     desk: &mut Desk,
     vio: Vio,
 ) -> Result<Posts, StepFault>
-    ensures { IfOk result (λ posts. (made : Trace) × rows.DeskServes sizes.now desk.old vio desk.new made posts) }
+    ensures ok { IfOk result (λ posts. (made : Trace) × rows.DeskServes sizes.now desk.old vio desk.new made posts) }
+    ensures err { IfErr result (Strays (NoRule (rows.DeskServes sizes.now desk.old vio))) }
 {
     let Phase::Reply = vio.phase else {
         return Err(StepFault::Stray);
@@ -104,14 +107,12 @@ pub(crate) fn serve_desk(
 }
 
 /// A zone has told of the stop: those that wait for it look again.
-pub(crate) fn hear_desk(alloc: Global, desk: &mut Desk) -> Result<Posts, StepFault>
+pub(crate) fn hear_desk(alloc: Global, desk: &mut Desk) -> Result<Posts, AllocError>
+    requires { desk.old.told < 4294967295 }
     ensures desk { OnOk result (desk.new ≡ rows.with_word desk.old) }
     ensures posts { IfOk result (λ posts. posts ≡ rows.woken desk.old.parked) }
 {
-    let Some(told) = desk.told.checked_add(1) else {
-        return Err(StepFault::Numbers);
-    };
-    desk.told = told;
+    desk.told += 1;
     let parked = std::mem::replace(&mut desk.parked, Fifo::new(alloc));
     let mut posts = Posts::none(alloc);
     wake_all(parked, &mut posts)?;

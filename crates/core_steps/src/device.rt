@@ -1,4 +1,4 @@
-ghost use Rattle.std.specs.Prelude.{◌≡◌, ◌+◌, ◌++◌, [], ◌∷◌, true, false, Some, IfOk, OnOk, OnErr, IsTrue};
+ghost use Rattle.std.specs.Prelude.{◌≡◌, ◌<◌, ◌++◌, [], ◌∷◌, true, false, Some, IfOk, IfErr, OnOk, OnErr};
 ghost use Rattle.disk_model.specs.declared.call.Call.{Call};
 ghost use Rattle.disk_model.specs.declared.call.Call.TheVariants as call;
 ghost use Rattle.core_laws.specs.DeviceRows as rows;
@@ -7,6 +7,7 @@ ghost use Rattle.core_laws.specs.Numbers as zones;
 ghost use Rattle.core_laws.specs.Trace.{Trace, Calls};
 ghost use Rattle.core_laws.specs.Vios as vios;
 ghost use Rattle.core_laws.specs.declared.items.Phase.TheVariants as phase;
+ghost use Rattle.core_steps.specs.Causes.{NoRule, Strays};
 ghost use Rattle.core_steps.specs.DeviceLog as log;
 ghost use Rattle.core_steps.specs.DeviceLog.{HasLogged};
 
@@ -17,7 +18,7 @@ use blk_base::{Answer, Block, Entry, Mapping, Pbn};
 use core_laws::{DeviceZone, Item, Phase, SealedBlock, Sizes, Stage, Vio};
 use disk_model::{Disk, Failed};
 use journal_codec::{Entries, JournalBlock, encode};
-use std::alloc::Global;
+use std::alloc::{AllocError, Global};
 
 /// Reads a block. One that the device doesn't have can't be read.
 fn read_block<D: Disk>(disk: &mut D, at: Pbn, into: &mut Block) -> Result<(), Failed>
@@ -55,21 +56,11 @@ fn flush<D: Disk>(disk: &mut D) -> Result<(), Failed>
     disk.flush()
 }
 
-/// How many calls have succeeded once the next one has.
-fn next_count(zone: &DeviceZone) -> Result<u64, StepFault>
-    ensures { IfOk result (λ count. count ≡ zone.now.calls + 1) }
-{
-    match zone.calls.checked_add(1) {
-        Some(count) => Ok(count),
-        None => Err(StepFault::Numbers),
-    }
-}
-
 /// The word that the session is stopped, to every zone that passes it on.
-fn tell_all(sizes: &Sizes, posts: &mut Posts) -> Result<(), StepFault>
+fn tell_all(sizes: &Sizes, posts: &mut Posts) -> Result<(), AllocError>
     ensures { OnOk result (posts.new ≡ posts.old ++ rows.notices (zones.tellers sizes.now)) }
 {
-    let mut number = numbers::added(2, sizes.zones)?;
+    let mut number = numbers::tellers(sizes);
     while number > 0 {
         posts.push(number, Item::Notice)?;
         number -= 1;
@@ -84,7 +75,7 @@ fn halt(
     zone: &mut DeviceZone,
     to: u32,
     item: Item,
-) -> Result<Posts, StepFault>
+) -> Result<Posts, AllocError>
     ensures zone { zone.new ≡ rows.halted zone.old }
     ensures posts { IfOk result (λ posts. posts ≡ (to, item) ∷ rows.notices (zones.tellers sizes.now)) }
 {
@@ -101,27 +92,26 @@ fn store<D: Disk>(
     zone: &mut DeviceZone,
     vio: Vio,
     disk: &mut D,
-) -> Result<Posts, StepFault>
-    requires { vio.phase ≡ phase.Store }
+) -> Result<Posts, AllocError>
+    requires phase { vio.phase ≡ phase.Store }
+    requires counts { zone.old.calls < 18446744073709551615 }
     ensures size { D.size disk.new ≡ D.size disk.old }
     ensures opening { D.opening disk.new ≡ D.opening disk.old }
     ensures serves { IfOk result (λ posts. (made : Trace) × DeviceServes sizes.now zone.old vio zone.new made posts
         × HasLogged D.tells (D.log disk.old) (D.log disk.new) made) }
 {
-    let journal = numbers::journal_zone(sizes)?;
-    let physical = numbers::physical_zone(sizes)?;
+    let physical = numbers::physical_zone(sizes);
     if zone.stopped {
         let unmade = ended(vio, Phase::Return, Answer::Stopped);
-        return Ok(Posts::one(alloc, physical, Item::Request(unmade))?);
+        return Posts::one(alloc, physical, Item::Request(unmade));
     }
-    let count = next_count(zone)?;
     let Ok(()) = write_block(disk, vio.block, &vio.bytes) else {
         let failed = ended(vio, Phase::Return, Answer::Stopped);
-        return Ok(halt(alloc, sizes, zone, physical, Item::Request(failed))?);
+        return halt(alloc, sizes, zone, physical, Item::Request(failed));
     };
-    zone.calls = count;
+    zone.calls += 1;
     let stored = turned(vio, Phase::Enter);
-    Ok(Posts::one(alloc, journal, Item::Request(stored))?)
+    Posts::one(alloc, numbers::journal_zone(sizes), Item::Request(stored))
 }
 
 /// The block of a read.
@@ -131,8 +121,9 @@ fn load<D: Disk>(
     zone: &mut DeviceZone,
     mut vio: Vio,
     disk: &mut D,
-) -> Result<Posts, StepFault>
-    requires { vio.phase ≡ phase.Load }
+) -> Result<Posts, AllocError>
+    requires phase { vio.phase ≡ phase.Load }
+    requires counts { zone.old.calls < 18446744073709551615 }
     ensures size { D.size disk.new ≡ D.size disk.old }
     ensures opening { D.opening disk.new ≡ D.opening disk.old }
     ensures serves { IfOk result (λ posts. (made : Trace) × DeviceServes sizes.now zone.old vio zone.new made posts
@@ -140,16 +131,15 @@ fn load<D: Disk>(
 {
     let _sizes = sizes;
     let home = vio.home;
-    let count = next_count(zone)?;
     let mut bytes = Block::zero();
     let Ok(()) = read_block(disk, vio.block, &mut bytes) else {
         let failed = ended(vio, Phase::Leave, Answer::ReadFault);
-        return Ok(Posts::one(alloc, home, Item::Request(failed))?);
+        return Posts::one(alloc, home, Item::Request(failed));
     };
-    zone.calls = count;
+    zone.calls += 1;
     vio.phase = Phase::Loaded;
     vio.bytes = bytes;
-    Ok(Posts::one(alloc, home, Item::Request(vio))?)
+    Posts::one(alloc, home, Item::Request(vio))
 }
 
 /// A flush request.
@@ -159,8 +149,9 @@ fn flush_for<D: Disk>(
     zone: &mut DeviceZone,
     mut vio: Vio,
     disk: &mut D,
-) -> Result<Posts, StepFault>
-    requires { vio.phase ≡ phase.Flush }
+) -> Result<Posts, AllocError>
+    requires phase { vio.phase ≡ phase.Flush }
+    requires counts { zone.old.calls < 18446744073709551615 }
     ensures size { D.size disk.new ≡ D.size disk.old }
     ensures opening { D.opening disk.new ≡ D.opening disk.old }
     ensures serves { IfOk result (λ posts. (made : Trace) × DeviceServes sizes.now zone.old vio zone.new made posts
@@ -168,19 +159,18 @@ fn flush_for<D: Disk>(
 {
     if zone.stopped {
         let unmade = ended(vio, Phase::Reply, Answer::Stopped);
-        return Ok(Posts::one(alloc, DESK, Item::Request(unmade))?);
+        return Posts::one(alloc, DESK, Item::Request(unmade));
     }
-    let count = next_count(zone)?;
     let flushed = flush(disk);
     let Ok(()) = flushed else {
         let failed = ended(vio, Phase::Reply, Answer::Stopped);
-        return Ok(halt(alloc, sizes, zone, DESK, Item::Request(failed))?);
+        return halt(alloc, sizes, zone, DESK, Item::Request(failed));
     };
-    zone.calls = count;
+    zone.calls += 1;
     vio.phase = Phase::Reply;
     vio.answer = Some(Answer::Ok);
-    vio.calls = count;
-    Ok(Posts::one(alloc, DESK, Item::Request(vio))?)
+    vio.calls = zone.calls;
+    Posts::one(alloc, DESK, Item::Request(vio))
 }
 
 /// What the device's zone does with a request in front of its inbox. Where the device tells, its log then begins with
@@ -192,10 +182,12 @@ pub fn call_device<D: Disk>(
     vio: Vio,
     disk: &mut D,
 ) -> Result<Posts, StepFault>
+    requires { zone.old.calls < 18446744073709551615 }
     ensures size { D.size disk.new ≡ D.size disk.old }
     ensures opening { D.opening disk.new ≡ D.opening disk.old }
     ensures serves { IfOk result (λ posts. (made : Trace) × DeviceServes sizes.now zone.old vio zone.new made posts
         × HasLogged D.tells (D.log disk.old) (D.log disk.new) made) }
+    ensures err { IfErr result (Strays (NoRule (DeviceServes sizes.now zone.old vio))) }
 {
     match vio.phase {
         Phase::Store => Ok(store(alloc, sizes, zone, vio, disk)?),
@@ -229,14 +221,12 @@ fn sealed_bytes(sizes: &Sizes, block: &SealedBlock) -> Block
 }
 
 /// The block of the journal where a sealed block stands.
-fn slot_of(sizes: &Sizes, block: &SealedBlock) -> Result<Pbn, StepFault>
-    ensures { IfOk result (λ slot. IsItsSlot sizes.now block.now slot) }
+fn slot_of(sizes: &Sizes, block: &SealedBlock) -> Pbn
+    requires { 0 < sizes.now.geometry.journal }
+    ensures { IsItsSlot sizes.now block.now result }
 {
-    let journal = u64::from(sizes.geometry.journal);
-    if journal == 0 {
-        return Err(StepFault::Numbers);
-    }
-    Ok(Pbn(numbers::added(1, (block.sequence % journal) as u32)?))
+    let slot = block.sequence % u64::from(sizes.geometry.journal);
+    Pbn(1 + slot as u32)
 }
 
 /// Whether a sealed block at this stage needs a call of the device.
@@ -262,12 +252,12 @@ fn next_stage(stage: Stage) -> Stage
 }
 
 /// The zone that a sealed block goes to when it leaves this stage.
-fn next_zone(sizes: &Sizes, stage: Stage) -> Result<u32, StepFault>
-    ensures { IfOk result (λ zone. zone ≡ rows.next_zone sizes.now stage) }
+fn next_zone(sizes: &Sizes, stage: Stage) -> u32
+    ensures { result ≡ rows.next_zone sizes.now stage }
 {
     match stage {
-        Stage::Cover | Stage::Write => Ok(numbers::device_zone(sizes)?),
-        Stage::Harden | Stage::Commit | Stage::Fail => Ok(numbers::journal_zone(sizes)?),
+        Stage::Cover | Stage::Write => numbers::device_zone(sizes),
+        Stage::Harden | Stage::Commit | Stage::Fail => numbers::journal_zone(sizes),
     }
 }
 
@@ -320,27 +310,29 @@ pub fn work_block<D: Disk>(
     block: SealedBlock,
     disk: &mut D,
 ) -> Result<Posts, StepFault>
+    requires journal { 0 < sizes.now.geometry.journal }
+    requires counts { zone.old.calls < 18446744073709551615 }
     ensures size { D.size disk.new ≡ D.size disk.old }
     ensures opening { D.opening disk.new ≡ D.opening disk.old }
     ensures works { IfOk result (λ posts. (made : Trace) × DeviceWorks sizes.now zone.old block zone.new made posts
         × HasLogged D.tells (D.log disk.old) (D.log disk.new) made) }
+    ensures err { IfErr result (Strays (NoRule (DeviceWorks sizes.now zone.old block))) }
 {
     if !needs_call(block.stage) {
         return Err(StepFault::Stray);
     }
-    let slot = slot_of(sizes, &block)?;
-    let journal = numbers::journal_zone(sizes)?;
+    let slot = slot_of(sizes, &block);
+    let journal = numbers::journal_zone(sizes);
     if zone.stopped {
         let unmade = staged(block, Stage::Fail);
         return Ok(Posts::one(alloc, journal, Item::Block(unmade))?);
     }
-    let count = next_count(zone)?;
     let stage = next_stage(block.stage);
-    let to = next_zone(sizes, block.stage)?;
+    let to = next_zone(sizes, block.stage);
     let Ok(()) = make_call(sizes, &block, slot, disk) else {
         let failed = staged(block, Stage::Fail);
         return Ok(halt(alloc, sizes, zone, journal, Item::Block(failed))?);
     };
-    zone.calls = count;
+    zone.calls += 1;
     Ok(Posts::one(alloc, to, Item::Block(staged(block, stage)))?)
 }

@@ -1,6 +1,7 @@
-ghost use Rattle.std.specs.Prelude.{◌≡◌, Some, IfOk, OnOk, slice_get};
+ghost use Rattle.std.specs.Prelude.{◌≡◌, Some, IfOk, IfErr, OnOk, slice_get};
 ghost use Rattle.core_laws.specs.declared.zones.Zone.{Zone};
 ghost use Rattle.core_laws.specs.Steps.{IsIdle};
+ghost use Rattle.core_steps.specs.Causes.{OneFalters, FaltersAfter};
 ghost use Rattle.core_steps.specs.Plays.{Steps, LeadsTo};
 ghost use Rattle.core_steps.specs.declared.fault.Stepped.TheVariants.{Did, Idle};
 
@@ -36,6 +37,7 @@ pub fn step<D: Disk>(
     ensures busy { IfOk result (λ stepped. stepped ≡ Did → (zone : Zone) → slice_get zones.old number ≡ Some zone → IsIdle sizes.now zone → ⊥) }
     ensures same { IfOk result (λ stepped. stepped ≡ Idle → zones.new ≡ zones.old) }
     ensures silent { IfOk result (λ stepped. stepped ≡ Idle → D.log disk.new ≡ D.log disk.old) }
+    ensures err { IfErr result (OneFalters sizes.now zones.old) }
 {
     let Some(zone) = zones.zones.get_mut(number as usize) else {
         return Ok(Stepped::Idle);
@@ -55,6 +57,7 @@ fn play_one<D: Disk>(
     ensures opening { D.opening disk.new ≡ D.opening disk.old }
     ensures leads { OnOk result (LeadsTo D.tells sizes.now zones.old zones.new (D.log disk.old) (D.log disk.new)) }
     ensures same { IfOk result (λ stepped. stepped ≡ Idle → zones.new ≡ zones.old) }
+    ensures err { IfErr result (OneFalters sizes.now zones.old) }
 {
     let _sizes = sizes;
     match event {
@@ -86,6 +89,7 @@ pub fn play<D: Disk>(
     ensures opening { D.opening disk.new ≡ D.opening disk.old }
     ensures leads { OnOk result (LeadsTo D.tells sizes.now zones.old zones.new (D.log disk.old) (D.log disk.new)) }
     ensures same { IfOk result (λ stepped. stepped ≡ Idle → zones.new ≡ zones.old) }
+    ensures err { IfErr result (FaltersAfter D.tells sizes.now zones.old (D.log disk.old)) }
 {
     let mut any = Stepped::Idle;
     for event in events {

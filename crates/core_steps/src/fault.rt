@@ -1,3 +1,6 @@
+ghost use Rattle.std.specs.Prelude.{◌≡◌};
+ghost use Rattle.core_steps.specs.declared.fault.StepFault.TheVariants.{Memory};
+
 use std::alloc::AllocError;
 
 /// Why an event came to no end. Nothing is said of the zones after it.
@@ -5,13 +8,15 @@ use std::alloc::AllocError;
 pub enum StepFault {
     /// No memory was found for the next item of a list.
     Memory,
-    /// A number was the last of its type, or there is no logical zone.
+    /// What the zone counts is the last number of its type, or the sizes have no logical zone or no block of the journal.
     Numbers,
-    /// The item in front of the inbox has no business in a zone of this kind, or what was posted none in any zone.
+    /// No rule applies to the item in front of the inbox, or what one posts goes to no zone.
     Stray,
 }
 
 impl From<AllocError> for StepFault {
+    ghost from_gives = { λ _ fault. fault ≡ Memory };
+
     fn from(_: AllocError) -> StepFault {
         StepFault::Memory
     }

@@ -1,4 +1,4 @@
-ghost use Rattle.std.specs.Prelude.{◌≡◌, ◌+◌, [], ◌∷◌, ◌++◌, true, false, length, IfOk, OnOk};
+ghost use Rattle.std.specs.Prelude.{◌≡◌, ◌+◌, [], ◌∷◌, ◌++◌, true, false, length, IfOk, IfErr, OnOk};
 ghost use Rattle.core_laws.specs.Numbers.{desk_zone, device_zone};
 ghost use Rattle.core_laws.specs.JournalRows as rows;
 ghost use Rattle.core_laws.specs.JournalRows.{JournalServes, JournalEnds};
@@ -8,6 +8,8 @@ ghost use Rattle.core_laws.specs.declared.items.Item.TheVariants.{Request, Block
 ghost use Rattle.core_laws.specs.declared.items.Phase.TheVariants.{Enter, Spend};
 ghost use Rattle.core_laws.specs.declared.items.Stage.TheVariants.{Commit, Fail};
 ghost use Rattle.blk_base.specs.declared.request.Answer.TheVariants.{Stopped};
+ghost use Rattle.core_laws.specs.declared.zones.ZoneData.TheVariants as at;
+ghost use Rattle.core_steps.specs.Causes.{CanCount, NoRule, Strays};
 ghost use Rattle.core_steps.specs.Refusals.{answer_of};
 ghost use Rattle.core_steps.specs.declared.journal.Refusal.TheVariants as refusal;
 
@@ -16,7 +18,7 @@ use crate::vios::{ended, logged, turned};
 use crate::{Posts, StepFault};
 use blk_base::Answer;
 use core_laws::{Fifo, Item, JournalZone, Phase, SealedBlock, Sizes, Stage, Vio};
-use std::alloc::Global;
+use std::alloc::{AllocError, Global};
 
 /// Why an entry isn't handed in.
 #[derive(Clone, Copy)]
@@ -36,11 +38,11 @@ fn answered(refusal: Refusal) -> Answer
 }
 
 /// A request ends undone, by way of the physical zone.
-fn refuse(sizes: &Sizes, refusal: Refusal, vio: Vio, posts: &mut Posts) -> Result<(), StepFault>
+fn refuse(sizes: &Sizes, refusal: Refusal, vio: Vio, posts: &mut Posts) -> Result<(), AllocError>
     ensures { OnOk result (posts.new ≡ posts.old ++ rows.refused sizes.now (answer_of refusal) vio ∷ []) }
 {
     let refused = ended(vio, Phase::Return, answered(refusal));
-    posts.push(numbers::physical_zone(sizes)?, Item::Request(refused))
+    posts.push(numbers::physical_zone(sizes), Item::Request(refused))
 }
 
 /// Those that wait end undone.
@@ -49,7 +51,7 @@ fn refuse_all(
     refusal: Refusal,
     waiting: &mut Fifo<Vio>,
     posts: &mut Posts,
-) -> Result<(), StepFault>
+) -> Result<(), AllocError>
     ensures waiting { OnOk result (waiting.new ≡ []) }
     ensures posts { OnOk result (posts.new ≡ posts.old ++ rows.all_refused sizes.now (answer_of refusal) waiting.old) }
 {
@@ -60,30 +62,27 @@ fn refuse_all(
 }
 
 /// How many entries the journal has: those of the window, and those that were handed in since.
-fn entry_count(sizes: &Sizes, zone: &JournalZone) -> Result<u64, StepFault>
-    ensures { IfOk result (λ count. count ≡ sizes.now.opened + length zone.now.entered) }
+fn entry_count(sizes: &Sizes, zone: &JournalZone) -> u64
+    requires { CanCount sizes.now (at.Journal zone.now) }
+    ensures { result ≡ sizes.now.opened + length zone.now.entered }
 {
-    match u64::from(sizes.opened).checked_add(zone.entered.len() as u64) {
-        Some(count) => Ok(count),
-        None => Err(StepFault::Numbers),
-    }
+    u64::from(sizes.opened) + zone.entered.len() as u64
 }
 
 /// Whether there is a block of the journal for one more entry.
-fn has_block(sizes: &Sizes, zone: &JournalZone) -> Result<bool, StepFault>
-    ensures { IfOk result (λ has. has ≡ rows.has_block sizes.now zone.now) }
+fn has_block(sizes: &Sizes, zone: &JournalZone) -> bool
+    requires { CanCount sizes.now (at.Journal zone.now) }
+    ensures { result ≡ rows.has_block sizes.now zone.now }
 {
-    Ok(entry_count(sizes, zone)? < u64::from(sizes.geometry.journal))
+    entry_count(sizes, zone) < u64::from(sizes.geometry.journal)
 }
 
 /// The sequence of the block that is sealed next.
-fn next_sequence(sizes: &Sizes, zone: &JournalZone) -> Result<u64, StepFault>
-    ensures { IfOk result (λ sequence. sequence ≡ sizes.now.start + (sizes.now.opened + length zone.now.entered)) }
+fn next_sequence(sizes: &Sizes, zone: &JournalZone) -> u64
+    requires { CanCount sizes.now (at.Journal zone.now) }
+    ensures { result ≡ sizes.now.start + (sizes.now.opened + length zone.now.entered) }
 {
-    match sizes.start.checked_add(entry_count(sizes, zone)?) {
-        Some(sequence) => Ok(sequence),
-        None => Err(StepFault::Numbers),
-    }
+    sizes.start + entry_count(sizes, zone)
 }
 
 /// The entry of a request is handed in, and a block is sealed with it.
@@ -92,11 +91,12 @@ fn hand_in(
     zone: &mut JournalZone,
     vio: Vio,
     posts: &mut Posts,
-) -> Result<(), StepFault>
+) -> Result<(), AllocError>
+    requires { CanCount sizes.now (at.Journal zone.old) }
     ensures zone { OnOk result (zone.new ≡ rows.entered_by vio zone.old) }
     ensures posts { OnOk result (posts.new ≡ posts.old ++ (device_zone sizes.now, Block (rows.sealed sizes.now zone.old vio)) ∷ []) }
 {
-    let sequence = next_sequence(sizes, zone)?;
+    let sequence = next_sequence(sizes, zone);
     zone.entered.push(logged(&vio))?;
     zone.busy = true;
     let block = SealedBlock {
@@ -104,12 +104,18 @@ fn hand_in(
         sequence,
         vio,
     };
-    posts.push(numbers::device_zone(sizes)?, Item::Block(block))
+    posts.push(numbers::device_zone(sizes), Item::Block(block))
 }
 
 /// An entry is refused, or waits for the block under way, or is handed in.
-fn enter(alloc: Global, sizes: &Sizes, zone: &mut JournalZone, vio: Vio) -> Result<Posts, StepFault>
-    requires { vio.phase ≡ Enter }
+fn enter(
+    alloc: Global,
+    sizes: &Sizes,
+    zone: &mut JournalZone,
+    vio: Vio,
+) -> Result<Posts, AllocError>
+    requires phase { vio.phase ≡ Enter }
+    requires counts { CanCount sizes.now (at.Journal zone.old) }
     ensures { IfOk result (λ posts. (made : Trace) × JournalServes sizes.now zone.old vio zone.new made posts) }
 {
     let mut posts = Posts::none(alloc);
@@ -121,7 +127,7 @@ fn enter(alloc: Global, sizes: &Sizes, zone: &mut JournalZone, vio: Vio) -> Resu
         zone.waiting.push(vio)?;
         return Ok(posts);
     }
-    if !has_block(sizes, zone)? {
+    if !has_block(sizes, zone) {
         refuse(sizes, Refusal::Full, vio, &mut posts)?;
         return Ok(posts);
     }
@@ -136,7 +142,9 @@ pub fn serve_journal(
     zone: &mut JournalZone,
     vio: Vio,
 ) -> Result<Posts, StepFault>
-    ensures { IfOk result (λ posts. (made : Trace) × JournalServes sizes.now zone.old vio zone.new made posts) }
+    requires { CanCount sizes.now (at.Journal zone.old) }
+    ensures ok { IfOk result (λ posts. (made : Trace) × JournalServes sizes.now zone.old vio zone.new made posts) }
+    ensures err { IfErr result (Strays (NoRule (JournalServes sizes.now zone.old vio))) }
 {
     match vio.phase {
         Phase::Enter => Ok(enter(alloc, sizes, zone, vio)?),
@@ -145,7 +153,7 @@ pub fn serve_journal(
 }
 
 /// The entry of a block is committed.
-fn commit(zone: &mut JournalZone, vio: &Vio) -> Result<(), StepFault>
+fn commit(zone: &mut JournalZone, vio: &Vio) -> Result<(), AllocError>
     ensures { OnOk result (zone.new ≡ rows.committed_by vio.now zone.old) }
 {
     zone.committed.push(logged(vio))?;
@@ -159,15 +167,16 @@ fn end_committed(
     sizes: &Sizes,
     zone: &mut JournalZone,
     block: SealedBlock,
-) -> Result<Posts, StepFault>
-    requires { block.stage ≡ Commit }
+) -> Result<Posts, AllocError>
+    requires stage { block.stage ≡ Commit }
+    requires counts { CanCount sizes.now (at.Journal zone.old) }
     ensures { IfOk result (λ posts. (made : Trace) × JournalEnds sizes.now zone.old block zone.new made posts) }
 {
     commit(zone, &block.vio)?;
     let home = block.vio.home;
     let settling = turned(block.vio, Phase::Settle);
     let mut posts = Posts::one(alloc, home, Item::Request(settling))?;
-    if !has_block(sizes, zone)? {
+    if !has_block(sizes, zone) {
         refuse_all(sizes, Refusal::Full, &mut zone.waiting, &mut posts)?;
         return Ok(posts);
     }
@@ -186,15 +195,14 @@ fn end_failed(
     sizes: &Sizes,
     zone: &mut JournalZone,
     block: SealedBlock,
-) -> Result<Posts, StepFault>
+) -> Result<Posts, AllocError>
     requires { block.stage ≡ Fail }
     ensures { IfOk result (λ posts. JournalEnds sizes.now zone.old block zone.new [] posts) }
 {
     zone.busy = false;
     zone.broken = true;
     let spent = ended(block.vio, Phase::Spend, Answer::Stopped);
-    let physical = numbers::physical_zone(sizes)?;
-    let mut posts = Posts::one(alloc, physical, Item::Request(spent))?;
+    let mut posts = Posts::one(alloc, numbers::physical_zone(sizes), Item::Request(spent))?;
     refuse_all(sizes, Refusal::Stopped, &mut zone.waiting, &mut posts)?;
     Ok(posts)
 }
@@ -206,7 +214,9 @@ pub fn end_block(
     zone: &mut JournalZone,
     block: SealedBlock,
 ) -> Result<Posts, StepFault>
-    ensures { IfOk result (λ posts. (made : Trace) × JournalEnds sizes.now zone.old block zone.new made posts) }
+    requires { CanCount sizes.now (at.Journal zone.old) }
+    ensures ok { IfOk result (λ posts. (made : Trace) × JournalEnds sizes.now zone.old block zone.new made posts) }
+    ensures err { IfErr result (Strays (NoRule (JournalEnds sizes.now zone.old block))) }
 {
     match block.stage {
         Stage::Commit => Ok(end_committed(alloc, sizes, zone, block)?),
@@ -216,7 +226,7 @@ pub fn end_block(
 }
 
 /// The journal hears that the session is stopped, and passes it on. Those that wait end undone.
-pub fn hear_stop(alloc: Global, sizes: &Sizes, zone: &mut JournalZone) -> Result<Posts, StepFault>
+pub fn hear_stop(alloc: Global, sizes: &Sizes, zone: &mut JournalZone) -> Result<Posts, AllocError>
     ensures zone { OnOk result (zone.new ≡ record zone.old { told = true; waiting = [] }) }
     ensures posts { IfOk result (λ posts. posts ≡ (desk_zone, Notice) ∷ rows.all_refused sizes.now Stopped zone.old.waiting) }
 {

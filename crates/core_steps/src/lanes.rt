@@ -1,5 +1,7 @@
-ghost use Rattle.std.specs.Prelude.{◌≡◌, OnOk};
+ghost use Rattle.std.specs.Prelude.{◌≡◌, ◌≤◌, OnOk, IfErr, length};
+ghost use Rattle.std.specs.List.{AllByRecursion};
 ghost use Rattle.core_laws.specs.Steps.{posted, sent, delivered};
+ghost use Rattle.core_steps.specs.Causes.{HasLane, Strays};
 
 use crate::StepFault;
 use crate::posts::Posts;
@@ -7,7 +9,8 @@ use core_laws::{Fifo, Item, Zone};
 
 // An item goes behind those of one outbox.
 fn post(outboxes: &mut Fifo<Fifo<Item>>, to: u32, item: Item) -> Result<(), StepFault>
-    ensures { OnOk result (outboxes.new ≡ posted to item outboxes.old) }
+    ensures ok { OnOk result (outboxes.new ≡ posted to item outboxes.old) }
+    ensures err { IfErr result (Strays (length outboxes.old ≤ to)) }
 {
     let to = to as usize;
     if to >= outboxes.items.len() {
@@ -20,7 +23,8 @@ fn post(outboxes: &mut Fifo<Fifo<Item>>, to: u32, item: Item) -> Result<(), Step
 
 // What a zone posts to itself goes to its own inbox.
 fn send(zone: &mut Zone, to: u32, item: Item) -> Result<(), StepFault>
-    ensures { OnOk result (zone.new ≡ sent (to, item) zone.old) }
+    ensures ok { OnOk result (zone.new ≡ sent (to, item) zone.old) }
+    ensures err { IfErr result (Strays (HasLane zone.old (to, item) → ⊥)) }
 {
     if to == zone.number {
         zone.inbox.push(item)?;
@@ -33,7 +37,8 @@ fn send(zone: &mut Zone, to: u32, item: Item) -> Result<(), StepFault>
 
 /// The posts go to their lanes, in their order.
 pub(crate) fn deliver(zone: &mut Zone, mut posts: Posts) -> Result<(), StepFault>
-    ensures { OnOk result (zone.new ≡ delivered posts zone.old) }
+    ensures ok { OnOk result (zone.new ≡ delivered posts zone.old) }
+    ensures err { IfErr result (Strays (AllByRecursion (HasLane zone.old) posts → ⊥)) }
 {
     while let Some((to, item)) = posts.pop() {
         send(zone, to, item)?;

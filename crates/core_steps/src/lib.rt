@@ -4,6 +4,7 @@
 
 mod acting;
 mod beginning;
+mod counting;
 mod counts;
 mod desk;
 mod device;

@@ -3,13 +3,12 @@ ghost use Rattle.core_laws.specs.DeskRows.{woken};
 ghost use Rattle.core_laws.specs.LogicalRows as rows;
 ghost use Rattle.core_laws.specs.Trace.{newest, of_address};
 
-use crate::StepFault;
 use crate::numbers::DESK;
 use crate::posts::Posts;
 use crate::vios::ended;
 use blk_base::{Answer, Lba};
 use core_laws::{Fifo, Item, Lock, Logged, Phase, Vio};
-use std::alloc::Global;
+use std::alloc::{AllocError, Global};
 
 /// Whether an address is among these.
 pub(crate) fn is_among(at: Lba, dead: &[Lba]) -> bool
@@ -32,7 +31,11 @@ pub(crate) fn is_held(at: Lba, held: &[Lock]) -> bool
 }
 
 /// The locks but that of this address.
-pub(crate) fn without(alloc: Global, at: Lba, mut held: Fifo<Lock>) -> Result<Fifo<Lock>, StepFault>
+pub(crate) fn without(
+    alloc: Global,
+    at: Lba,
+    mut held: Fifo<Lock>,
+) -> Result<Fifo<Lock>, AllocError>
     ensures { IfOk result (λ rest. rest ≡ rows.without at.0 held) }
 {
     let mut rest = Fifo::new(alloc);
@@ -69,7 +72,7 @@ pub(crate) fn take_first(
     alloc: Global,
     at: Lba,
     mut waiting: Fifo<Vio>,
-) -> Result<FirstOf, StepFault>
+) -> Result<FirstOf, AllocError>
     ensures first { IfOk result (λ taken. taken.first ≡ rows.first_for at.0 waiting) }
     ensures rest { IfOk result (λ taken. taken.rest ≡ rows.but_first_for at.0 waiting) }
     ensures none { IfOk result (λ taken. IfNone taken.first (taken.rest ≡ waiting)) }
@@ -99,7 +102,7 @@ pub(crate) struct Parted {
 }
 
 /// Parts those that wait for an address from those that wait for others.
-pub(crate) fn part(alloc: Global, at: Lba, mut waiting: Fifo<Vio>) -> Result<Parted, StepFault>
+pub(crate) fn part(alloc: Global, at: Lba, mut waiting: Fifo<Vio>) -> Result<Parted, AllocError>
     ensures wanted { IfOk result (λ parted. parted.wanted ≡ rows.all_for at.0 waiting) }
     ensures rest { IfOk result (λ parted. parted.rest ≡ rows.none_for at.0 waiting) }
 {
@@ -116,7 +119,7 @@ pub(crate) fn part(alloc: Global, at: Lba, mut waiting: Fifo<Vio>) -> Result<Par
 }
 
 /// All of these are answered as stopped: posts behind those that are there.
-pub(crate) fn stop_all(mut waiting: Fifo<Vio>, posts: &mut Posts) -> Result<(), StepFault>
+pub(crate) fn stop_all(mut waiting: Fifo<Vio>, posts: &mut Posts) -> Result<(), AllocError>
     ensures { OnOk result (posts.new ≡ posts.old ++ rows.all_stopped waiting) }
 {
     while let Some(vio) = waiting.pop() {
@@ -127,7 +130,7 @@ pub(crate) fn stop_all(mut waiting: Fifo<Vio>, posts: &mut Posts) -> Result<(), 
 }
 
 /// All of these look again whether they are answered: posts behind those that are there.
-pub(crate) fn wake_all(mut parked: Fifo<Vio>, posts: &mut Posts) -> Result<(), StepFault>
+pub(crate) fn wake_all(mut parked: Fifo<Vio>, posts: &mut Posts) -> Result<(), AllocError>
     ensures { OnOk result (posts.new ≡ posts.old ++ woken parked) }
 {
     while let Some(vio) = parked.pop() {

@@ -1,10 +1,11 @@
-ghost use Rattle.std.specs.Prelude.{◌≡◌, [], ◌∷◌, ◌++◌, ◌+◌, IfOk, OnOk, true};
+ghost use Rattle.std.specs.Prelude.{◌≡◌, ◌<◌, [], ◌∷◌, ◌++◌, IfOk, IfErr, OnOk, true};
 ghost use Rattle.core_laws.specs.declared.items.Item.TheVariants as item;
 ghost use Rattle.core_laws.specs.declared.items.Phase.TheVariants as phase;
 ghost use Rattle.core_laws.specs.LogicalRows as rows;
 ghost use Rattle.core_laws.specs.Numbers.{desk_zone};
 ghost use Rattle.core_laws.specs.Trace.{Trace, Draws, Gives, Sets};
 ghost use Rattle.core_laws.specs.Vios as vios;
+ghost use Rattle.core_steps.specs.Causes.{NoRule, Strays};
 
 use crate::StepFault;
 use crate::lists::{
@@ -16,55 +17,47 @@ use crate::vios::{ended, logged, turned};
 use blk_base::{Answer, Block, Lba, Mapping};
 use core_laws::{Asks, Fifo, Item, Lock, LogicalZone, Phase, Sizes, Vio};
 use image_layout::mapping_at;
-use std::alloc::Global;
+use std::alloc::{AllocError, Global};
 use vdo_model::Placed;
 
 // The request with the zone's next place, which is drawn.
-fn draw(zone: &mut LogicalZone, mut vio: Vio) -> Result<Vio, StepFault>
+fn draw(zone: &mut LogicalZone, mut vio: Vio) -> Result<Vio, AllocError>
+    requires { zone.old.next < 18446744073709551615 }
     ensures zone { OnOk result (zone.new ≡ rows.drawn_by zone.old vio) }
     ensures vio { IfOk result (λ drawn. drawn ≡ rows.placed zone.old vio) }
 {
     let place = zone.next;
-    let Some(next) = place.checked_add(1) else {
-        return Err(StepFault::Numbers);
-    };
-    let request = vio.request;
     zone.places.push(Placed {
-        request,
-        zone: zone.zone,
+        request: vio.request,
+        zone: u32::from(zone.zone),
         place,
     })?;
-    zone.next = next;
+    zone.next += 1;
     vio.place = place;
     Ok(vio)
 }
 
 // Where a read goes that has the lock of its address: it reads the mapped block, or is given zeros.
-fn read_next(
-    sizes: &Sizes,
-    zone: &LogicalZone,
-    mut vio: Vio,
-    mapping: Mapping,
-) -> Result<(u32, Item), StepFault>
-    ensures { IfOk result (λ post. post ≡ rows.read_next sizes.now zone.now vio mapping) }
+fn read_next(sizes: &Sizes, zone: &LogicalZone, mut vio: Vio, mapping: Mapping) -> (u32, Item)
+    ensures { result ≡ rows.read_next sizes.now zone.now vio mapping }
 {
     match mapping {
         Mapping::At(block) => {
             vio.phase = Phase::Load;
             vio.block = block;
-            Ok((device_zone(sizes)?, Item::Request(vio)))
+            (device_zone(sizes), Item::Request(vio))
         }
         Mapping::Unmapped | Mapping::Zero => {
             vio.phase = Phase::Loaded;
             vio.bytes = Block::zero();
-            Ok((logical_zone(zone.zone)?, Item::Request(vio)))
+            (logical_zone(zone.zone), Item::Request(vio))
         }
     }
 }
 
 // Where a request goes that has the lock of its address. It knows now what is mapped there.
-fn goes_on(sizes: &Sizes, zone: &LogicalZone, mut vio: Vio) -> Result<(u32, Item), StepFault>
-    ensures { IfOk result (λ post. post ≡ rows.goes_on sizes.now zone.now vio) }
+fn goes_on(sizes: &Sizes, zone: &LogicalZone, mut vio: Vio) -> (u32, Item)
+    ensures { result ≡ rows.goes_on sizes.now zone.now vio }
 {
     vio.latest = latest(zone.slots.as_slice(), vio.at);
     vio.old = match vio.latest {
@@ -73,10 +66,10 @@ fn goes_on(sizes: &Sizes, zone: &LogicalZone, mut vio: Vio) -> Result<(u32, Item
     };
     let mapping = vio.old;
     match vio.asks {
-        Asks::Read => Ok(read_next(sizes, zone, vio, mapping)?),
+        Asks::Read => read_next(sizes, zone, vio, mapping),
         Asks::Write | Asks::Flush => {
             let claims = turned(vio, Phase::Claim);
-            Ok((physical_zone(sizes)?, Item::Request(claims)))
+            (physical_zone(sizes), Item::Request(claims))
         }
     }
 }
@@ -88,7 +81,7 @@ fn release(
     zone: &mut LogicalZone,
     at: Lba,
     posts: &mut Posts,
-) -> Result<(), StepFault>
+) -> Result<(), AllocError>
     ensures zone { OnOk result (zone.new ≡ rows.released at.0 zone.old) }
     ensures posts { OnOk result (posts.new ≡ posts.old ++ rows.granted sizes.now at.0 zone.old) }
 {
@@ -102,7 +95,7 @@ fn release(
         Some(vio) => {
             let place = vio.place;
             zone.held.push_front(Lock { at: vio.at, place })?;
-            let (to, item) = goes_on(sizes, zone, vio)?;
+            let (to, item) = goes_on(sizes, zone, vio);
             posts.push(to, item)?;
             Ok(())
         }
@@ -110,13 +103,13 @@ fn release(
 }
 
 // A request takes the lock of its address, which nobody holds.
-fn take_lock(sizes: &Sizes, zone: &mut LogicalZone, vio: Vio) -> Result<(u32, Item), StepFault>
+fn take_lock(sizes: &Sizes, zone: &mut LogicalZone, vio: Vio) -> Result<(u32, Item), AllocError>
     ensures zone { OnOk result (zone.new ≡ record zone.old { held = rows.lock_of vio ∷ zone.old.held }) }
     ensures post { IfOk result (λ post. post ≡ rows.goes_on sizes.now zone.old vio) }
 {
     let place = vio.place;
     zone.held.push_front(Lock { at: vio.at, place })?;
-    Ok(goes_on(sizes, zone, vio)?)
+    Ok(goes_on(sizes, zone, vio))
 }
 
 // A request draws its place, and takes the lock of its address or waits for it.
@@ -125,22 +118,23 @@ fn arrive(
     sizes: &Sizes,
     zone: &mut LogicalZone,
     vio: Vio,
-) -> Result<Posts, StepFault>
-    requires { vio.phase ≡ phase.Arrive }
+) -> Result<Posts, AllocError>
+    requires phase { vio.phase ≡ phase.Arrive }
+    requires counts { zone.old.next < 18446744073709551615 }
     ensures { IfOk result (λ posts. rows.LogicalServes sizes.now zone.old vio zone.new (Draws (rows.place_of_vio zone.old vio) ∷ []) posts) }
 {
     let at = vio.at;
     let drawn = draw(zone, vio)?;
     if is_among(at, zone.dead.as_slice()) {
         let stopped = ended(drawn, Phase::Reply, Answer::Stopped);
-        return Ok(Posts::one(alloc, DESK, Item::Request(stopped))?);
+        return Posts::one(alloc, DESK, Item::Request(stopped));
     }
     if is_held(at, zone.held.as_slice()) {
         zone.waiting.push(turned(drawn, Phase::Wait))?;
         return Ok(Posts::none(alloc));
     }
     let (to, item) = take_lock(sizes, zone, drawn)?;
-    Ok(Posts::one(alloc, to, item)?)
+    Posts::one(alloc, to, item)
 }
 
 // The entry of a write is committed: its slot is set, and the lock released.
@@ -149,7 +143,7 @@ fn settle(
     sizes: &Sizes,
     zone: &mut LogicalZone,
     vio: Vio,
-) -> Result<Posts, StepFault>
+) -> Result<Posts, AllocError>
     requires { vio.phase ≡ phase.Settle }
     ensures { IfOk result (λ posts. rows.LogicalServes sizes.now zone.old vio zone.new (Sets (vios.logged vio) ∷ []) posts) }
 {
@@ -162,7 +156,7 @@ fn settle(
 }
 
 // A read is given its bytes, and the lock is released.
-fn give(alloc: Global, sizes: &Sizes, zone: &mut LogicalZone, vio: Vio) -> Result<Posts, StepFault>
+fn give(alloc: Global, sizes: &Sizes, zone: &mut LogicalZone, vio: Vio) -> Result<Posts, AllocError>
     requires { vio.phase ≡ phase.Loaded }
     ensures { IfOk result (λ posts. rows.LogicalServes sizes.now zone.old vio zone.new (Gives (vios.gift vio) ∷ []) posts) }
 {
@@ -176,7 +170,12 @@ fn give(alloc: Global, sizes: &Sizes, zone: &mut LogicalZone, vio: Vio) -> Resul
 }
 
 // A request ends undone, and the lock is released.
-fn leave(alloc: Global, sizes: &Sizes, zone: &mut LogicalZone, vio: Vio) -> Result<Posts, StepFault>
+fn leave(
+    alloc: Global,
+    sizes: &Sizes,
+    zone: &mut LogicalZone,
+    vio: Vio,
+) -> Result<Posts, AllocError>
     requires { vio.phase ≡ phase.Leave }
     ensures { IfOk result (λ posts. rows.LogicalServes sizes.now zone.old vio zone.new [] posts) }
 {
@@ -188,7 +187,7 @@ fn leave(alloc: Global, sizes: &Sizes, zone: &mut LogicalZone, vio: Vio) -> Resu
 }
 
 // A write whose entry was handed in ends: the lock of its address is never released.
-fn die(alloc: Global, sizes: &Sizes, zone: &mut LogicalZone, vio: Vio) -> Result<Posts, StepFault>
+fn die(alloc: Global, sizes: &Sizes, zone: &mut LogicalZone, vio: Vio) -> Result<Posts, AllocError>
     requires { vio.phase ≡ phase.Die }
     ensures { IfOk result (λ posts. rows.LogicalServes sizes.now zone.old vio zone.new [] posts) }
 {
@@ -213,7 +212,9 @@ pub(crate) fn serve_logical(
     zone: &mut LogicalZone,
     vio: Vio,
 ) -> Result<Posts, StepFault>
-    ensures { IfOk result (λ posts. (made : Trace) × rows.LogicalServes sizes.now zone.old vio zone.new made posts) }
+    requires { zone.old.next < 18446744073709551615 }
+    ensures ok { IfOk result (λ posts. (made : Trace) × rows.LogicalServes sizes.now zone.old vio zone.new made posts) }
+    ensures err { IfErr result (Strays (NoRule (rows.LogicalServes sizes.now zone.old vio))) }
 {
     match vio.phase {
         Phase::Arrive => Ok(arrive(alloc, sizes, zone, vio)?),
@@ -226,10 +227,10 @@ pub(crate) fn serve_logical(
 }
 
 /// The session is stopped: a logical zone passes the word on.
-pub(crate) fn hear_logical(alloc: Global, zone: &mut LogicalZone) -> Result<Posts, StepFault>
+pub(crate) fn hear_logical(alloc: Global, zone: &mut LogicalZone) -> Result<Posts, AllocError>
     ensures zone { zone.new ≡ record zone.old { told = true } }
     ensures posts { IfOk result (λ posts. posts ≡ (desk_zone, item.Notice) ∷ []) }
 {
     zone.told = true;
-    Ok(Posts::one(alloc, DESK, Item::Notice)?)
+    Posts::one(alloc, DESK, Item::Notice)
 }

@@ -4,10 +4,10 @@ ghost use Rattle.core_steps.specs.Moves.{HasNothing, has_items};
 ghost use Rattle.core_steps.specs.Plays.{Moves};
 ghost use Rattle.core_steps.specs.declared.fault.Stepped.TheVariants.{Did, Idle};
 
+use crate::Stepped;
 use crate::zones::Zones;
-use crate::{StepFault, Stepped};
 use core_laws::{Fifo, Item, Zone};
-use std::alloc::Global;
+use std::alloc::{AllocError, Global};
 
 // Whether a list has items.
 fn has_any(items: &[Item]) -> bool
@@ -39,7 +39,7 @@ fn empty(alloc: Global, outboxes: &mut Fifo<Fifo<Item>>, to: usize) -> Fifo<Item
 }
 
 // The whole outbox of one zone becomes the tail of the inbox of another.
-fn carry(alloc: Global, zones: &mut Zones, from: usize, to: usize) -> Result<(), StepFault>
+fn carry(alloc: Global, zones: &mut Zones, from: usize, to: usize) -> Result<(), AllocError>
     requires apart { from ≢ to }
     requires source { from < length zones.old }
     requires target { to < length zones.old }
@@ -59,7 +59,7 @@ pub fn move_items(
     zones: &mut Zones,
     from: u32,
     to: u32,
-) -> Result<Stepped, StepFault>
+) -> Result<Stepped, AllocError>
     ensures did { IfOk result (λ stepped. stepped ≡ Did → Moves zones.old zones.new) }
     ensures busy { IfOk result (λ stepped. stepped ≡ Did → HasNothing zones.old from to → ⊥) }
     ensures idle { IfOk result (λ stepped. stepped ≡ Idle → HasNothing zones.old from to) }

@@ -1,46 +1,49 @@
-ghost use Rattle.std.specs.Prelude.{◌≡◌, ◌+◌, IfOk};
+ghost use Rattle.std.specs.Prelude.{◌≡◌};
 ghost use Rattle.core_laws.specs.Numbers as numbers;
 
-use crate::StepFault;
 use core_laws::Sizes;
 
 /// The number of the desk.
 pub(crate) const DESK: u32 = 0;
 
-/// The sum, where it isn't past the last number.
-pub(crate) fn added(a: u32, b: u32) -> Result<u32, StepFault>
-    ensures { IfOk result (λ sum. sum ≡ a + b) }
-{
-    match a.checked_add(b) {
-        Some(sum) => Ok(sum),
-        None => Err(StepFault::Numbers),
-    }
-}
-
 /// The number of a logical zone among all zones.
-pub(crate) fn logical_zone(zone: u32) -> Result<u32, StepFault>
-    ensures { IfOk result (λ number. number ≡ numbers.logical_zone zone) }
+pub(crate) fn logical_zone(zone: u8) -> u32
+    ensures { result ≡ numbers.logical_zone zone }
 {
-    Ok(added(1, zone)?)
+    1 + u32::from(zone)
 }
 
 /// The number of the physical zone.
-pub(crate) fn physical_zone(sizes: &Sizes) -> Result<u32, StepFault>
-    ensures { IfOk result (λ number. number ≡ numbers.physical_zone sizes.now) }
+pub(crate) fn physical_zone(sizes: &Sizes) -> u32
+    ensures { result ≡ numbers.physical_zone sizes.now }
 {
-    Ok(added(1, sizes.zones)?)
+    1 + u32::from(sizes.zones)
 }
 
 /// The number of the journal's zone.
-pub(crate) fn journal_zone(sizes: &Sizes) -> Result<u32, StepFault>
-    ensures { IfOk result (λ number. number ≡ numbers.journal_zone sizes.now) }
+pub(crate) fn journal_zone(sizes: &Sizes) -> u32
+    ensures { result ≡ numbers.journal_zone sizes.now }
 {
-    Ok(added(2, sizes.zones)?)
+    2 + u32::from(sizes.zones)
 }
 
 /// The number of the device's zone.
-pub(crate) fn device_zone(sizes: &Sizes) -> Result<u32, StepFault>
-    ensures { IfOk result (λ number. number ≡ numbers.device_zone sizes.now) }
+pub(crate) fn device_zone(sizes: &Sizes) -> u32
+    ensures { result ≡ numbers.device_zone sizes.now }
 {
-    Ok(added(3, sizes.zones)?)
+    3 + u32::from(sizes.zones)
+}
+
+/// How many zones there are.
+pub(crate) fn zone_count(sizes: &Sizes) -> u32
+    ensures { result ≡ numbers.zone_count sizes.now }
+{
+    4 + u32::from(sizes.zones)
+}
+
+/// How many zones pass the word on that the session is stopped.
+pub(crate) fn tellers(sizes: &Sizes) -> u32
+    ensures { result ≡ numbers.tellers sizes.now }
+{
+    2 + u32::from(sizes.zones)
 }

@@ -1,16 +1,17 @@
-ghost use Rattle.std.specs.Prelude.{◌≡◌, [], ◌∷◌, true, IfOk};
+ghost use Rattle.std.specs.Prelude.{◌≡◌, [], ◌∷◌, true, IfOk, IfErr};
 ghost use Rattle.core_laws.specs.Numbers.{desk_zone};
 ghost use Rattle.core_laws.specs.JournalRows.{PhysicalServes};
 ghost use Rattle.core_laws.specs.Vios as vios;
 ghost use Rattle.core_laws.specs.declared.items.Item.TheVariants.{Request, Notice};
 ghost use Rattle.core_laws.specs.declared.items.Phase.TheVariants.{Claim};
+ghost use Rattle.core_steps.specs.Causes.{NoRule, Strays};
 
 use crate::numbers::{DESK, device_zone};
 use crate::vios::{ended, turned};
 use crate::{Posts, StepFault};
 use blk_base::Answer;
 use core_laws::{Item, Phase, PhysicalZone, Sizes, Vio};
-use std::alloc::Global;
+use std::alloc::{AllocError, Global};
 
 /// A write takes the first free block, or there is none.
 fn claim(
@@ -18,7 +19,7 @@ fn claim(
     sizes: &Sizes,
     zone: &mut PhysicalZone,
     mut vio: Vio,
-) -> Result<Posts, StepFault>
+) -> Result<Posts, AllocError>
     requires { vio.phase ≡ Claim }
     ensures { IfOk result (λ posts. PhysicalServes sizes.now zone.old vio zone.new [] posts) }
 {
@@ -27,17 +28,17 @@ fn claim(
         Some(block) => {
             vio.phase = Phase::Store;
             vio.block = block;
-            Ok(Posts::one(alloc, device_zone(sizes)?, Item::Request(vio))?)
+            Posts::one(alloc, device_zone(sizes), Item::Request(vio))
         }
         None => {
             let full = ended(vio, Phase::Leave, Answer::Full);
-            Ok(Posts::one(alloc, home, Item::Request(full))?)
+            Posts::one(alloc, home, Item::Request(full))
         }
     }
 }
 
 /// A request goes back to its logical zone.
-fn go_home(alloc: Global, vio: Vio, phase: Phase) -> Result<Posts, StepFault>
+fn go_home(alloc: Global, vio: Vio, phase: Phase) -> Result<Posts, AllocError>
     ensures { IfOk result (λ posts. posts ≡ (vio.home, Request (vios.turned phase vio)) ∷ []) }
 {
     let home = vio.home;
@@ -51,7 +52,8 @@ pub fn serve_physical(
     zone: &mut PhysicalZone,
     vio: Vio,
 ) -> Result<Posts, StepFault>
-    ensures { IfOk result (λ posts. PhysicalServes sizes.now zone.old vio zone.new [] posts) }
+    ensures ok { IfOk result (λ posts. PhysicalServes sizes.now zone.old vio zone.new [] posts) }
+    ensures err { IfErr result (Strays (NoRule (PhysicalServes sizes.now zone.old vio))) }
 {
     match vio.phase {
         Phase::Claim => Ok(claim(alloc, sizes, zone, vio)?),
@@ -62,7 +64,7 @@ pub fn serve_physical(
 }
 
 /// The physical zone hears that the session is stopped, and passes it on.
-pub fn hear_stop(alloc: Global, zone: &mut PhysicalZone) -> Result<Posts, StepFault>
+pub fn hear_stop(alloc: Global, zone: &mut PhysicalZone) -> Result<Posts, AllocError>
     ensures zone { zone.new ≡ record zone.old { told = true } }
     ensures posts { IfOk result (λ posts. posts ≡ (desk_zone, Notice) ∷ []) }
 {

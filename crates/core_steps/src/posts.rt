@@ -1,8 +1,7 @@
 ghost use Rattle.std.specs.Prelude.{◌≡◌, [], ◌∷◌, ◌++◌, OnOk, IfOk, IfSome, IfNone};
 
-use crate::StepFault;
 use core_laws::{Fifo, Item};
-use std::alloc::Global;
+use std::alloc::{AllocError, Global};
 use std::marker::Model;
 
 /// What a step posts: items in their order, each with the number of the zone that it goes to.
@@ -31,7 +30,7 @@ impl Posts {
     }
 
     /// One item is posted.
-    pub fn one(alloc: Global, to: u32, item: Item) -> Result<Posts, StepFault>
+    pub fn one(alloc: Global, to: u32, item: Item) -> Result<Posts, AllocError>
         ensures { IfOk result (λ posts. posts ≡ (to, item) ∷ []) }
     {
         let mut posts = Fifo::new(alloc);
@@ -40,7 +39,7 @@ impl Posts {
     }
 
     /// One more item, behind the others.
-    pub fn push(&mut self, to: u32, item: Item) -> Result<(), StepFault>
+    pub fn push(&mut self, to: u32, item: Item) -> Result<(), AllocError>
         ensures { OnOk result (self.new ≡ self.old ++ (to, item) ∷ []) }
     {
         self.posts.push((to, item))?;

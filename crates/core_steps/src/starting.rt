@@ -8,8 +8,7 @@ ghost use Rattle.core_laws.specs.Sums.{Each};
 ghost use Rattle.core_steps.specs.Plays.{core_of};
 ghost use Rattle.core_steps.specs.Starts.{IsOf, AreEmptyLanes};
 
-use crate::StepFault;
-use crate::numbers::{DESK, added, device_zone, journal_zone, logical_zone, physical_zone};
+use crate::numbers::{DESK, device_zone, journal_zone, logical_zone, physical_zone, zone_count};
 use crate::zones::Zones;
 use blk_base::{Entry, Pbn};
 use core_laws::{
@@ -19,19 +18,18 @@ use std::alloc::{AllocError, Global};
 use vdo_model::{Requests, Rows};
 
 // Lanes to every zone, with nothing in them.
-fn empty_lanes(alloc: Global, sizes: &Sizes) -> Result<Fifo<Fifo<Item>>, StepFault>
+fn empty_lanes(alloc: Global, sizes: &Sizes) -> Result<Fifo<Fifo<Item>>, AllocError>
     ensures { IfOk result (AreEmptyLanes sizes.now) }
 {
-    let count = added(4, sizes.zones)?;
     let mut lanes = Fifo::new(alloc);
-    for made in 0..count {
+    for made in 0..zone_count(sizes) {
         lanes.push(Fifo::new(alloc))?;
     }
     Ok(lanes)
 }
 
 // A copy of the entries, the oldest first.
-fn copied(alloc: Global, window: &[Entry]) -> Result<Rows<Entry>, StepFault>
+fn copied(alloc: Global, window: &[Entry]) -> Result<Rows<Entry>, AllocError>
     ensures { IfOk result (λ rows. rows ≡ reverse window.now) }
 {
     let mut rows = Rows::new(alloc);
@@ -42,7 +40,7 @@ fn copied(alloc: Global, window: &[Entry]) -> Result<Rows<Entry>, StepFault>
 }
 
 // A logical zone that drew nothing and has set nothing, with these entries of the window.
-fn first_logical(alloc: Global, zone: u32, window: Rows<Entry>) -> LogicalZone
+fn first_logical(alloc: Global, zone: u8, window: Rows<Entry>) -> LogicalZone
     ensures { (s : Session) → s.window ≡ window → zone < s.sizes.zones → IsFirstData s (numbers.logical_zone zone) (at.Logical result) }
 {
     LogicalZone {
@@ -141,13 +139,13 @@ fn add_logical(
     sizes: &Sizes,
     window: &[Entry],
     zones: &mut Vec<Zone>,
-) -> Result<(), StepFault>
+) -> Result<(), AllocError>
     requires { length zones.old.items ≡ 1 }
     ensures count { OnOk result (length zones.new.items ≡ 1 + sizes.now.zones) }
     ensures first { OnOk result ((s : Session) → s.sizes ≡ sizes.now → s.window ≡ reverse window.now → Each (IsFirstZone s) zones.old.items → Each (IsFirstZone s) zones.new.items) }
 {
     for zone in 0..sizes.zones {
-        let number = logical_zone(zone)?;
+        let number = logical_zone(zone);
         let lanes = empty_lanes(alloc, sizes)?;
         let window = copied(alloc, window)?;
         let logical = ZoneData::Logical(first_logical(alloc, zone, window));
@@ -162,20 +160,20 @@ fn add_others(
     sizes: &Sizes,
     free: Vec<Pbn>,
     zones: &mut Vec<Zone>,
-) -> Result<(), StepFault>
+) -> Result<(), AllocError>
     requires { length zones.old.items ≡ numbers.physical_zone sizes.now }
     ensures count { OnOk result (length zones.new.items ≡ numbers.zone_count sizes.now) }
     ensures first { OnOk result ((s : Session) → s.sizes ≡ sizes.now → AllByRecursion (IsFresh s) free.items → AreDistinct free.items → Each (IsFirstZone s) zones.old.items → Each (IsFirstZone s) zones.new.items) }
 {
-    let (number, lanes) = (physical_zone(sizes)?, empty_lanes(alloc, sizes)?);
+    let lanes = empty_lanes(alloc, sizes)?;
     let physical = ZoneData::Physical(first_physical(free));
-    add(alloc, number, physical, lanes, zones)?;
-    let (number, lanes) = (journal_zone(sizes)?, empty_lanes(alloc, sizes)?);
+    add(alloc, physical_zone(sizes), physical, lanes, zones)?;
+    let lanes = empty_lanes(alloc, sizes)?;
     let journal = ZoneData::Journal(first_journal(alloc));
-    add(alloc, number, journal, lanes, zones)?;
-    let (number, lanes) = (device_zone(sizes)?, empty_lanes(alloc, sizes)?);
+    add(alloc, journal_zone(sizes), journal, lanes, zones)?;
+    let lanes = empty_lanes(alloc, sizes)?;
     let device = ZoneData::Device(first_device());
-    add(alloc, number, device, lanes, zones)?;
+    add(alloc, device_zone(sizes), device, lanes, zones)?;
     Ok(())
 }
 
@@ -187,7 +185,7 @@ pub fn begin(
     requests: Requests,
     window: &[Entry],
     free: Vec<Pbn>,
-) -> Result<Zones, StepFault>
+) -> Result<Zones, AllocError>
     ensures { IfOk result (λ zones. (s : Session) → IsOf s sizes.now requests (reverse window.now) free.items → IsFirst s (core_of zones [])) }
 {
     let lanes = empty_lanes(alloc, sizes)?;

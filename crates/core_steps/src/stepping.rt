@@ -1,27 +1,30 @@
-ghost use Rattle.std.specs.Prelude.{◌≡◌, [], IfOk, IfSome, IfNone};
+ghost use Rattle.std.specs.Prelude.{◌≡◌, [], IfOk, IfErr, IfSome, IfNone};
 ghost use Rattle.core_laws.specs.Steps.{IsIdle, MayBegin};
 ghost use Rattle.core_steps.specs.Acts.{ActsAlone};
+ghost use Rattle.core_steps.specs.Causes.{CanCount, Falters};
 ghost use Rattle.core_steps.specs.Plays.{ZoneSteps};
 ghost use Rattle.core_steps.specs.declared.fault.Stepped.TheVariants.{Did, Idle};
 
 use crate::acting::act;
 use crate::beginning::begin_next;
+use crate::counting::can_count;
 use crate::lanes::deliver;
 use crate::posts::Posts;
 use crate::{StepFault, Stepped};
 use core_laws::{Sizes, Zone, ZoneData};
 use disk_model::Disk;
-use std::alloc::Global;
+use std::alloc::{AllocError, Global};
 
 // With no item the desk begins a request, where one may begin.
-fn begin(alloc: Global, sizes: &Sizes, keeps: &mut ZoneData) -> Result<Option<Posts>, StepFault>
+fn begin(alloc: Global, sizes: &Sizes, keeps: &mut ZoneData) -> Result<Option<Posts>, AllocError>
+    requires { CanCount sizes.now keeps.old }
     ensures begun { IfOk result (λ begun. IfSome begun (ActsAlone sizes.now keeps.old [] keeps.new)) }
     ensures might { IfOk result (λ begun. IfSome begun (λ posts. MayBegin sizes.now keeps.old)) }
     ensures same { IfOk result (λ begun. IfNone begun (keeps.new ≡ keeps.old)) }
     ensures none { IfOk result (λ begun. IfNone begun (MayBegin sizes.now keeps.old → ⊥)) }
 {
     match keeps {
-        ZoneData::Desk(desk) => Ok(begin_next(alloc, sizes, desk)?),
+        ZoneData::Desk(desk) => begin_next(alloc, sizes, desk),
         ZoneData::Logical(_) | ZoneData::Physical(_) | ZoneData::Journal(_) | ZoneData::Device(_) =>
             Ok(None),
     }
@@ -43,7 +46,11 @@ pub fn step_zone<D: Disk>(
     ensures idle { IfOk result (λ stepped. stepped ≡ Idle → IsIdle sizes.now zone.old) }
     ensures same { IfOk result (λ stepped. stepped ≡ Idle → zone.new ≡ zone.old) }
     ensures silent { IfOk result (λ stepped. stepped ≡ Idle → D.log disk.new ≡ D.log disk.old) }
+    ensures err { IfErr result (Falters sizes.now zone.old) }
 {
+    if !can_count(sizes, &zone.keeps) {
+        return Err(StepFault::Numbers);
+    }
     match zone.inbox.pop() {
         Some(item) => {
             let posts = act(alloc, sizes, &mut zone.keeps, item, disk)?;

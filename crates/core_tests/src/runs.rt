@@ -42,7 +42,7 @@ pub(crate) fn fresh(alloc: Global) -> Result<MemDisk, AllocError> {
     MemDisk::from_blocks(alloc, blocks)
 }
 
-pub(crate) fn sizes(zones: u32, depth: u32) -> Sizes {
+pub(crate) fn sizes(zones: u8, depth: u32) -> Sizes {
     Sizes {
         geometry: DEFAULT,
         start: 1,

@@ -6,14 +6,14 @@ use Rattle.core_laws.specs.Trace.{Says, Flushes}
 use Rattle.core_steps.proofs.DeskLaws.{marked_answer}
 use Rattle.core_steps.proofs.desk.reply.Goals as goal
 
-pub returns-in_ok-mark-in-Some : goal.returns-in_ok-mark-in-Some
-returns-in_ok-mark-in-Some c =
+pub returns-in_ok-mark-in-Some-clause-ok : goal.returns-in_ok-mark-in-Some-clause-ok
+returns-in_ok-mark-in-Some-clause-ok c =
     let marked : is_marked c.args.vio.asks c.in-Some.given ≡ true = search rules in
     let is = marked_answer c.args.vio.asks c.in-Some.given marked in
     (Flushes (mark_of_vio c.args.vio) ∷ [], marks (search rules) is.0 (c.in-Some.is ∙ ap Some is.1) (search rules) (search rules) (search rules))
 
-pub returns-in_ok-answer-in-Some : goal.returns-in_ok-answer-in-Some
-returns-in_ok-answer-in-Some c = (
+pub returns-in_ok-answer-in-Some-clause-ok : goal.returns-in_ok-answer-in-Some-clause-ok
+returns-in_ok-answer-in-Some-clause-ok c = (
   Says (line.Answer c.args.vio.request c.in-Some.given) ∷ [],
   answers c.in-Some.given (search rules) (search rules) (c.requires.told c.in-Some.given (search rules)) (search rules) (search rules) (search rules) (search rules),
 )

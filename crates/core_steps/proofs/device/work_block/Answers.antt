@@ -10,9 +10,9 @@ use Rattle.core_steps.proofs.device.work_block.Goals as goal
 pub returns-then-zone-clause-works : goal.returns-then-zone-clause-works
 returns-then-zone-clause-works g c =
     let needed : needs_call c.args.block.stage ≡ true = sym c.needs_call.ensures ∙ c.if-not-needs_call.false in
-    let some = some_call c.args.sizes.now c.args.block c.in_ok-slot.slot false c.args.block.stage needed in (
+    let some = some_call c.args.sizes.now c.args.block c.slot_of-slot.result false c.args.block.stage needed in (
       [],
-      unmade some.0 c.in_ok-slot.slot some.1 c.if-zone.true refl refl (block_post _ _ _ _ _ _ c.in_ok-one.ensures c.in_ok-journal.ensures c.staged-unmade.ensures),
+      unmade some.0 c.slot_of-slot.result some.1 c.if-zone.true refl refl (block_post _ _ _ _ _ _ c.in_ok-one.ensures c.journal_zone-journal.ensures c.staged-unmade.ensures),
       λ _. refl,
     )
 
@@ -20,8 +20,8 @@ pub returns-in_default-clause-works : goal.returns-in_default-clause-works
 returns-in_default-clause-works g c =
     let made = c.in_default.ensures.err in (
       made.1,
-      fails made.0 c.in_ok-slot.slot c.in_ok-slot.ensures made.2 c.if-zone.false c.halt.ensures.zone made.3
-          (block_post _ _ _ _ _ _ c.in_ok-halt.ensures.posts c.in_ok-journal.ensures c.staged-failed.ensures),
+      fails made.0 c.slot_of-slot.result c.slot_of-slot.ensures made.2 c.if-zone.false c.halt.ensures.zone made.3
+          (block_post _ _ _ _ _ _ c.in_ok-halt.ensures.posts c.journal_zone-journal.ensures c.staged-failed.ensures),
       made.4,
     )
 
@@ -29,7 +29,7 @@ pub returns-clause-works : goal.returns-clause-works
 returns-clause-works g c =
     let made = c.in-Ok.ensures.ok in (
       Calls made.0 ∷ [],
-      makes made.0 c.in_ok-slot.slot c.in_ok-slot.ensures made.1 c.if-zone.false (search rules) refl
-          (block_post _ _ _ _ _ _ c.in_ok-one-2.ensures c.in_ok-to.ensures (c.staged.ensures ∙ ap (λ (s : Stage). staged s c.args.block) c.next_stage-stage.ensures)),
+      makes made.0 c.slot_of-slot.result c.slot_of-slot.ensures made.1 c.if-zone.false (search rules) refl
+          (block_post _ _ _ _ _ _ c.in_ok-one-2.ensures c.next_zone-to.ensures (c.staged.ensures ∙ ap (λ (s : Stage). staged s c.args.block) c.next_stage-stage.ensures)),
       made.2,
     )

@@ -1,4 +1,6 @@
 use Rattle.std.proofs.Common.{refl, ◌∙◌}
+use Rattle.core_steps.specs.Causes.{FaltersAfter}
+use Rattle.core_steps.proofs.StrayLaws.{passed_on}
 use Rattle.core_steps.proofs.PlayLaws.{nothing, leads_further}
 use Rattle.core_steps.proofs.events.play.Goals as goal
 
@@ -20,3 +22,8 @@ loop-event-preserved g c =
       leads = leads_further g.D.Disk.tells c.args.sizes.now c.args.zones.now c.loop-event.zones c.play_one.new.zones _ _ _ before.leads after.leads;
       same = λ idle. after.same (c.either-any.ensures.second idle) ∙ before.same (c.either-any.ensures.first idle);
     }
+
+pub returns-in_err-stepped-clause-err : goal.returns-in_err-stepped-clause-err
+returns-in_err-stepped-clause-err g c =
+    passed_on c.from_residual.result (FaltersAfter g.D.Disk.tells c.args.sizes.now c.args.zones.now (g.D.Disk.log c.args.disk.now)) c.in_err-stepped.field-0.0 c.from_residual.ensures.1
+    (c.loop-event.zones, g.D.Disk.log c.loop-event.disk, c.loop-event.invariant.leads, c.in_err-stepped.ensures.err)

@@ -1,9 +1,14 @@
 use Rattle.std.proofs.Common.{◌≡◌, length}
+use Rattle.std.specs.List.{AllByRecursion}
 use Rattle.core_laws.specs.Steps.{delivered}
+use Rattle.core_steps.specs.Causes.{HasLane}
 use Rattle.core_steps.proofs.lanes.deliver.Given as goal
 
 abbrev pub invariant-loop-to : goal.invariant-loop-to
-invariant-loop-to l = delivered l.fn.posts l.fn.zone ≡ delivered l.posts l.zone
+invariant-loop-to l = record {
+  delivers : delivered l.fn.posts l.fn.zone ≡ delivered l.posts l.zone;
+  lanes : AllByRecursion (HasLane l.fn.zone) l.fn.posts → AllByRecursion (HasLane l.zone) l.posts;
+}
 
 abbrev pub decreases-loop-to : goal.decreases-loop-to
 decreases-loop-to l = length l.posts

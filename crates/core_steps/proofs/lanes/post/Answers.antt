@@ -4,7 +4,7 @@ use Rattle.std.proofs.lemmas.Option.{gets}
 use Rattle.core_steps.proofs.ZoneLaws.{posted_is}
 use Rattle.core_steps.proofs.lanes.post.Goals as goal
 
-pub returns : goal.returns
-returns c =
+pub returns-clause-ok : goal.returns-clause-ok
+returns-clause-ok c =
     let got : slice_get c.args.outboxes.now c.args.to ≡ Some c.index_mut-outbox.result.now = grind (arith, common_steps, gets) in
     rw (c.outboxes.view_is, c.in_ok-push.ensures) (posted_is c.args.to c.args.item c.index_mut-outbox.result.now c.args.outboxes.now got)

@@ -1,4 +1,4 @@
-use Rattle.std.proofs.Common.{arith, ◌≡◌, ◌<◌, ◌+◌, ap, length, ◌∙◌, sym}
+use Rattle.std.proofs.Common.{arith, ◌≡◌, ◌<◌, ap, ◌∙◌, sym}
 use Rattle.core_laws.specs.declared.sizes.Sizes.{Sizes}
 use Rattle.core_laws.specs.declared.zones.ZoneData.TheVariants as at
 use Rattle.core_steps.proofs.StartLaws.{lanes_of, numbered}
@@ -12,7 +12,7 @@ loop-zone-preserved c =
       count = omega (arith, longer, count);
       first = λ s sizes window each.
           (let among : c.loop-zone.zone < s.sizes.zones = (let most : s.sizes.zones ≡ c.args.sizes.now.zones = ap (λ (x : Sizes). x.zones) sizes in omega (arith, most)) in
-          let first = numbered s _ c.in_ok-number.number (at.Logical c.first_logical.result) c.in_ok-number.ensures (c.first_logical.ensures s (window ∙ sym c.in_ok-window.ensures) among) in
+          let first = numbered s _ c.logical_zone-number.result (at.Logical c.first_logical.result) c.logical_zone-number.ensures (c.first_logical.ensures s (window ∙ sym c.in_ok-window.ensures) among) in
           let lanes = lanes_of s c.args.sizes.now c.in_ok-lanes.lanes sizes c.in_ok-lanes.ensures in
           c.in_ok-add.ensures.first s lanes first (c.loop-zone.invariant.first s sizes window each));
     }

@@ -1,4 +1,4 @@
-use Rattle.std.proofs.Common.{◌≡◌, ap, length, ◌∙◌, refl, sym}
+use Rattle.std.proofs.Common.{ap, length, ◌∙◌, refl, sym}
 use Rattle.core_laws.specs.Numbers.{zone_count}
 use Rattle.core_steps.proofs.StartLaws.{lanes_of, no_zone}
 use Rattle.core_steps.proofs.starting.begin.Goals as goal

@@ -1,13 +1,33 @@
+use Rattle.std.proofs.Common.{[], ◌∷◌, ap, take}
+use Rattle.core_steps.specs.Causes.{Falters}
+use Rattle.core_steps.proofs.StrayLaws.{act_falters, passed_on, posts_falter}
 use Rattle.core_steps.proofs.ZoneLaws.{stepped, begun}
 use Rattle.core_steps.proofs.stepping.step_zone.Goals as goal
 
 pub returns-in_ok-deliver-in-Some-clause-did : goal.returns-in_ok-deliver-in-Some-clause-did
 returns-in_ok-deliver-in-Some-clause-did g c did =
     stepped g.D.Disk.tells c.args.sizes.now c.args.zone.now c.deliver.new.zone c.act.new.keeps c.in-Some.item c.pop.new.self c.in_ok-posts-in-Some.posts _ _
-    c.in-Some.ensures.some c.in_ok-posts-in-Some.ensures.acts c.in_ok-deliver-in-Some.ensures
+    c.in-Some.ensures.some c.in_ok-posts-in-Some.ensures.acts c.in_ok-deliver-in-Some.ensures.ok
 
 pub returns-in_ok-deliver-in-Some-2-clause-did : goal.returns-in_ok-deliver-in-Some-2-clause-did
 returns-in_ok-deliver-in-Some-2-clause-did g c did =
     let acts = rw c.in-Some-2.is at c.in_ok-posts-in-None.ensures.begun in
     begun g.D.Disk.tells c.args.sizes.now c.args.zone.now c.deliver-in-Some-2.new.zone c.begin.new.keeps c.pop.new.self c.in-Some-2.posts _
-    c.in-None.ensures.none.0 c.in-None.ensures.none.1 acts c.in_ok-deliver-in-Some-2.ensures
+    c.in-None.ensures.none.0 c.in-None.ensures.none.1 acts c.in_ok-deliver-in-Some-2.ensures.ok
+
+pub returns-in_err-posts-in-Some-clause-err : goal.returns-in_err-posts-in-Some-clause-err
+returns-in_err-posts-in-Some-clause-err g c =
+    let why = act_falters c.args.sizes.now c.args.zone.now c.in-Some.item c.pop.new.self _ c.in-Some.ensures.some c.in_err-posts-in-Some.ensures.err in
+    passed_on c.from_residual.result (Falters c.args.sizes.now c.args.zone.now) c.in_err-posts-in-Some.field-0.0 c.from_residual.ensures.1 why
+
+pub returns-in_err-deliver-in-Some-clause-err : goal.returns-in_err-deliver-in-Some-clause-err
+returns-in_err-deliver-in-Some-clause-err g c =
+    let acts = c.in_ok-posts-in-Some.ensures.acts in
+    let why = posts_falter c.args.sizes.now c.args.zone.now (c.in-Some.item ∷ []) c.act.new.keeps acts.0 _ _ (ap (take 1) c.in-Some.ensures.some) acts.1 c.in_err-deliver-in-Some.ensures.err in
+    passed_on c.from_residual-in_err-deliver-in-Some.result (Falters c.args.sizes.now c.args.zone.now) c.in_err-deliver-in-Some.field-0.0 c.from_residual-in_err-deliver-in-Some.ensures.1 why
+
+pub returns-in_err-deliver-in-Some-2-clause-err : goal.returns-in_err-deliver-in-Some-2-clause-err
+returns-in_err-deliver-in-Some-2-clause-err g c =
+    let acts = rw c.in-Some-2.is at c.in_ok-posts-in-None.ensures.begun in
+    let why = posts_falter c.args.sizes.now c.args.zone.now [] c.begin.new.keeps acts.0 _ _ (ap (take 1) c.in-None.ensures.none.0) acts.1 c.in_err-deliver-in-Some-2.ensures.err in
+    passed_on c.from_residual-in_err-deliver-in-Some-2.result (Falters c.args.sizes.now c.args.zone.now) c.in_err-deliver-in-Some-2.field-0.0 c.from_residual-in_err-deliver-in-Some-2.ensures.1 why
