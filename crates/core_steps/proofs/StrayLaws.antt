@@ -23,7 +23,7 @@ use Rattle.core_laws.specs.Steps.{Act, posted, sent_to}
 use Rattle.core_laws.specs.Steps.Act.{answers, serves, takes, enters, ends, calls, works}
 use Rattle.core_laws.specs.Trace.{Trace}
 use Rattle.core_laws.specs.Vios.{Post}
-use Rattle.core_steps.specs.Causes.{NoRule, Strays, HasLane, Falters}
+use Rattle.core_steps.specs.Causes.{NoRule, Strays, HasLane, Falters, FaltersAt, OneFalters}
 use Rattle.core_steps.specs.declared.fault.StepFault.{StepFault}
 use Rattle.core_steps.specs.declared.fault.StepFault.TheVariants as fault
 
@@ -96,3 +96,9 @@ posts_falter sizes z front new made posts fault.Memory taken act why = tt
 posts_falter sizes z front new made posts fault.Numbers taken act why = absurd why
 posts_falter sizes z front new made posts fault.Stray taken act why =
     inr (new, made, posts, subst (λ (items : List Item). Act sizes z.keeps items new made posts) (sym taken) act, why)
+
+-- a zone that falters is one of the core
+pub one_falters : (sizes : Sizes) (zones : List Zone) (number : ℕ) (f : StepFault) → FaltersAt sizes zones number f → OneFalters sizes zones f
+one_falters sizes zones number fault.Memory why = tt
+one_falters sizes zones number fault.Numbers why = (number, why)
+one_falters sizes zones number fault.Stray why = (number, why)

@@ -50,11 +50,15 @@ Falters sizes z fault.Memory = ⊤
 Falters sizes z fault.Numbers = CanCount sizes z.keeps → ⊥
 Falters sizes z fault.Stray = IsStray sizes z
 
--- a zone of the core does, where it isn't want of memory
+-- why the zone of a number doesn't
+abbrev pub FaltersAt : Sizes → List Zone → ℕ → StepFault → Type 0
+FaltersAt sizes zones number fault = (z : Zone) × (slice_get zones number ≡ Some z) × Falters sizes z fault
+
+-- why some zone doesn't; what moves between two fails for want of memory alone
 abbrev pub OneFalters : Sizes → List Zone → StepFault → Type 0
 OneFalters sizes zones fault.Memory = ⊤
-OneFalters sizes zones fault.Numbers = (number : ℕ) × (z : Zone) × (slice_get zones number ≡ Some z) × Falters sizes z fault.Numbers
-OneFalters sizes zones fault.Stray = (number : ℕ) × (z : Zone) × (slice_get zones number ≡ Some z) × Falters sizes z fault.Stray
+OneFalters sizes zones fault.Numbers = (number : ℕ) × FaltersAt sizes zones number fault.Numbers
+OneFalters sizes zones fault.Stray = (number : ℕ) × FaltersAt sizes zones number fault.Stray
 
 -- one does after some events
 abbrev pub FaltersAfter : Bool → Sizes → List Zone → List Call → StepFault → Type 0

@@ -1,7 +1,7 @@
 ghost use Rattle.std.specs.Prelude.{◌≡◌, Some, IfOk, IfErr, OnOk, slice_get};
 ghost use Rattle.core_laws.specs.declared.zones.Zone.{Zone};
 ghost use Rattle.core_laws.specs.Steps.{IsIdle};
-ghost use Rattle.core_steps.specs.Causes.{OneFalters, FaltersAfter};
+ghost use Rattle.core_steps.specs.Causes.{FaltersAt, OneFalters, FaltersAfter};
 ghost use Rattle.core_steps.specs.Plays.{Steps, LeadsTo};
 ghost use Rattle.core_steps.specs.declared.fault.Stepped.TheVariants.{Did, Idle};
 
@@ -22,7 +22,7 @@ pub enum Event {
     Move(u32, u32),
 }
 
-/// One zone of a core steps. It is idle where no zone has the number.
+/// One zone of a core steps. It is idle where no zone has the number, and fails as `step_zone` does.
 pub fn step<D: Disk>(
     alloc: Global,
     sizes: &Sizes,
@@ -37,7 +37,7 @@ pub fn step<D: Disk>(
     ensures busy { IfOk result (λ stepped. stepped ≡ Did → (zone : Zone) → slice_get zones.old number ≡ Some zone → IsIdle sizes.now zone → ⊥) }
     ensures same { IfOk result (λ stepped. stepped ≡ Idle → zones.new ≡ zones.old) }
     ensures silent { IfOk result (λ stepped. stepped ≡ Idle → D.log disk.new ≡ D.log disk.old) }
-    ensures err { IfErr result (OneFalters sizes.now zones.old) }
+    ensures err { IfErr result (FaltersAt sizes.now zones.old number) }
 {
     let Some(zone) = zones.zones.get_mut(number as usize) else {
         return Ok(Stepped::Idle);
@@ -77,7 +77,8 @@ fn either(first: Stepped, second: Stepped) -> Stepped
     }
 }
 
-/// Events one after another, and whether there was work for any of them.
+/// Events one after another, and whether there was work for any of them. They end at the first that fails, as `step` and
+/// `move_items` do.
 pub fn play<D: Disk>(
     alloc: Global,
     sizes: &Sizes,

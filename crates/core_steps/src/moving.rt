@@ -53,7 +53,8 @@ fn carry(alloc: Global, zones: &mut Zones, from: usize, to: usize) -> Result<(),
     Ok(())
 }
 
-/// What one zone posted to another moves from the outbox to the tail of the inbox, all of it.
+/// What one zone posted to another moves from the outbox to the tail of the inbox, all of it. It fails where no memory is
+/// found for that.
 pub fn move_items(
     alloc: Global,
     zones: &mut Zones,

@@ -178,7 +178,7 @@ fn add_others(
 }
 
 /// The core at the start of a session: it has the requests, no one of which is begun, the entries of the window, the
-/// oldest first, and the free data blocks.
+/// oldest first, and the free data blocks. It fails where no memory is found for them.
 pub fn begin(
     alloc: Global,
     sizes: &Sizes,

@@ -33,6 +33,9 @@ fn begin(alloc: Global, sizes: &Sizes, keeps: &mut ZoneData) -> Result<Option<Po
 /// One step of a zone: it takes the item in front of its inbox, or, where it is the desk and has none, begins the next
 /// request of the lowest stream that may begin one. It is idle exactly where there is neither. Where the device tells,
 /// the calls that it made stand in its log.
+///
+/// It fails with `Memory` where no memory is found for the next item of a list, with `Numbers` where the zone can't count
+/// on, and with `Stray` where no rule applies to the item or what one posts goes to no zone.
 pub fn step_zone<D: Disk>(
     alloc: Global,
     sizes: &Sizes,

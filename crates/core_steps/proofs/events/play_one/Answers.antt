@@ -1,3 +1,5 @@
+use Rattle.core_steps.specs.Causes.{OneFalters}
+use Rattle.core_steps.proofs.StrayLaws.{one_falters, passed_on}
 use Rattle.core_steps.proofs.PlayLaws.{step_leads, move_leads}
 use Rattle.core_steps.proofs.events.play_one.Goals as goal
 
@@ -10,3 +12,8 @@ pub returns-in_ok-move_items-in-Move-clause-leads : goal.returns-in_ok-move_item
 returns-in_ok-move_items-in-Move-clause-leads g c =
     let e = c.in_ok-move_items-in-Move.ensures in
     move_leads g.D.Disk.tells c.args.sizes.now c.args.zones.now c.move_items.new.zones _ c.in_ok-move_items-in-Move.field-0 e.did e.same
+
+pub returns-in_err-step-in-Step-clause-err : goal.returns-in_err-step-in-Step-clause-err
+returns-in_err-step-in-Step-clause-err g c =
+    passed_on c.from_residual.result (OneFalters c.args.sizes.now c.args.zones.now) c.in_err-step-in-Step.field-0.0 c.from_residual.ensures.1
+    (one_falters _ _ _ _ c.in_err-step-in-Step.ensures.err)
