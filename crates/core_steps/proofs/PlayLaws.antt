@@ -1,14 +1,19 @@
 -- Events one after another.
-use Rattle.std.proofs.Common.{◌≡◌, ℕ, zero, suc, Bool, List, [], ◌∷◌, ◌++◌, Some, slice_get, slice_set, refl, sym, ap, ◌∙◌, append_assoc}
+use Rattle.std.proofs.Math.Seq.{drop-cons}
+use Rattle.std.proofs.Common.{arith, subst, ◌<◌, ◌≤◌, ◌+◌, length, drop, get_or, ◌≡◌, ℕ, zero, suc, Bool, List, [], ◌∷◌, ◌++◌, Some, slice_get, slice_set, refl, sym, ap, ◌∙◌, append_assoc, inl, inr}
+use Rattle.std.proofs.lemmas.List.{append-nil, drop_all}
 use Rattle.std.proofs.lemmas.Option.{same_Some}
 use Rattle.disk_model.specs.declared.call.Call.{Call}
 use Rattle.core_laws.specs.declared.sizes.Sizes.{Sizes}
 use Rattle.core_laws.specs.declared.zones.Zone.{Zone}
-use Rattle.core_laws.specs.Steps.{Core, Leads}
+use Rattle.core_laws.specs.Steps.{Core, IsIdle, Leads}
 use Rattle.core_laws.specs.Steps.Leads.{rests, steps, moves}
 use Rattle.core_laws.specs.Trace.{Trace, calls}
 use Rattle.core_laws.proofs.Parts.{calls_append}
-use Rattle.core_steps.specs.Plays.{core_of, ZoneSteps, Steps, Moves, LeadsTo}
+use Rattle.core_steps.specs.Moves.{HasNothing}
+use Rattle.core_steps.specs.Plays.{core_of, StepsAt, MovesAll, PlaysOne, Plays, LeadsTo}
+use Rattle.core_steps.specs.declared.events.Event.{Event}
+use Rattle.core_steps.specs.declared.events.Event.TheVariants as event
 use Rattle.core_steps.specs.declared.fault.Stepped.{Stepped}
 use Rattle.core_steps.specs.declared.fault.Stepped.TheVariants.{Did, Idle}
 
@@ -17,12 +22,6 @@ pub put_same : {X : Type 0} (xs : List X) (n : ℕ) (x : X) → slice_get xs n �
 put_same [] n x h = refl
 put_same (y ∷ ys) zero x h = ap (λ z. z ∷ ys) (sym (same_Some _ _ h))
 put_same (y ∷ ys) (suc n) x h = ap (λ zs. y ∷ zs) (put_same ys n x h)
-
--- a step of a zone is one of the core
-pub core_steps : (tells : Bool) (sizes : Sizes) (zones : List Zone) (n : ℕ) (old new : Zone) (before after : List Call)
-    → slice_get zones n ≡ Some old → ZoneSteps tells sizes old new before after → Steps tells sizes zones (slice_set zones n new) before after
-core_steps tells sizes zones n old new before after had (made, step, log) =
-    (made, λ (t : Trace). record { number = n; zone = old; zone' = new; made = made; had = had; step = step; has = refl }, log)
 
 leads_on : (sizes : Sizes) (first middle last : Core) → Leads sizes first middle → Leads sizes middle last → Leads sizes first last
 leads_on sizes first middle last early rests = early
@@ -44,16 +43,71 @@ leads_further tells sizes a b c log log' log'' (made, early, told) (more, late, 
       (λ tells_it. told' tells_it ∙ ap (λ (cs : List Call). calls more ++ cs) (told tells_it) ∙ regroup ∙ both),
     )
 
-pub stepped_leads : (tells : Bool) (sizes : Sizes) (a b : List Zone) (log log' : List Call) → Steps tells sizes a b log log' → LeadsTo tells sizes a b log log'
-stepped_leads tells sizes a b log log' (made, step, told) = (made, (λ (t : Trace). steps (step t) rests), told)
+-- a step of a zone is one of the core
+pub stepped_leads : (tells : Bool) (sizes : Sizes) (n : ℕ) (a b : List Zone) (log log' : List Call) → StepsAt tells sizes n a b log log' → LeadsTo tells sizes a b log log'
+stepped_leads tells sizes n a b log log' at = (
+  at.step.0,
+  (λ (t : Trace). steps (record {
+    number = n;
+    zone = at.zone;
+    zone' = at.zone';
+    made = at.step.0;
+    had = at.had;
+    step = at.step.1;
+    has = ap (λ (zs : List Zone). core_of zs (at.step.0 ++ t)) at.has;
+  }) rests),
+  at.step.2,
+)
+
+-- a move is one of the core
+moved_leads : (tells : Bool) (sizes : Sizes) (from to : ℕ) (a b : List Zone) (log : List Call) → MovesAll from to a b → LeadsTo tells sizes a b log log
+moved_leads tells sizes from to a b log all = (
+  [],
+  (λ (t : Trace). moves (record {
+    from = from;
+    to = to;
+    source = all.source;
+    target = all.target;
+    part = all.part;
+    left = [];
+    apart = all.apart;
+    had_source = all.had_source;
+    had_target = all.had_target;
+    outbox = rw append-nil all.outbox;
+    has = ap (λ (zs : List Zone). core_of zs t) all.has;
+  }) rests),
+  λ told. refl,
+)
 
 -- after an event, whether there was work or not
-pub step_leads : (tells : Bool) (sizes : Sizes) (a b : List Zone) (log log' : List Call) (stepped : Stepped)
-    → (stepped ≡ Did → Steps tells sizes a b log log') → (stepped ≡ Idle → b ≡ a) → (stepped ≡ Idle → log' ≡ log) → LeadsTo tells sizes a b log log'
-step_leads tells sizes a b log log' Did did same silent = stepped_leads tells sizes a b log log' (did refl)
-step_leads tells sizes a b log log' Idle did same silent = rw (same refl, silent refl) (nothing tells sizes a log)
+pub step_plays : (tells : Bool) (sizes : Sizes) (n : ℕ) (a b : List Zone) (log log' : List Call) (stepped : Stepped)
+    → (stepped ≡ Did → StepsAt tells sizes n a b log log') → (stepped ≡ Idle → (z : Zone) → slice_get a n ≡ Some z → IsIdle sizes z)
+    → (stepped ≡ Idle → b ≡ a) → (stepped ≡ Idle → log' ≡ log) → PlaysOne tells sizes (event.Step n) a b log log'
+step_plays tells sizes n a b log log' Did did idle same silent = inl (did refl)
+step_plays tells sizes n a b log log' Idle did idle same silent = inr (idle refl, same refl, silent refl)
 
-pub move_leads : (tells : Bool) (sizes : Sizes) (a b : List Zone) (log : List Call) (stepped : Stepped)
-    → (stepped ≡ Did → Moves a b) → (stepped ≡ Idle → b ≡ a) → LeadsTo tells sizes a b log log
-move_leads tells sizes a b log Did did same = ([], (λ (t : Trace). moves (did refl t) rests), λ told. refl)
-move_leads tells sizes a b log Idle did same = rw (same refl) (nothing tells sizes a log)
+pub move_plays : (tells : Bool) (sizes : Sizes) (from to : ℕ) (a b : List Zone) (log : List Call) (stepped : Stepped)
+    → (stepped ≡ Did → MovesAll from to a b) → (stepped ≡ Idle → HasNothing a from to) → (stepped ≡ Idle → b ≡ a) → PlaysOne tells sizes (event.Move from to) a b log log
+move_plays tells sizes from to a b log Did did idle same = inl (did refl, refl)
+move_plays tells sizes from to a b log Idle did idle same = inr (idle refl, same refl, refl)
+
+-- what an event does leads on
+pub played_leads : (tells : Bool) (sizes : Sizes) (e : Event) (a b : List Zone) (log log' : List Call) → PlaysOne tells sizes e a b log log' → LeadsTo tells sizes a b log log'
+played_leads tells sizes (event.Step n) a b log log' (inl at) = stepped_leads tells sizes n a b log log' at
+played_leads tells sizes (event.Step n) a b log log' (inr (idle, same, silent)) = rw (same, silent) (nothing tells sizes a log)
+played_leads tells sizes (event.Move from to) a b log log' (inl (all, silent)) = rw silent (moved_leads tells sizes from to a b log all)
+played_leads tells sizes (event.Move from to) a b log log' (inr (idle, same, silent)) = rw (same, silent) (nothing tells sizes a log)
+
+-- an event before those that are left
+pub next_plays : (tells : Bool) (sizes : Sizes) (events : List Event) (n : ℕ) (d : Event) (a b later : List Zone) (log log' log'' : List Call)
+    → n < length events → PlaysOne tells sizes (get_or events n d) a b log log' → Plays tells sizes (drop (n + 1) events) b later log' log''
+    → Plays tells sizes (drop n events) a later log log''
+next_plays tells sizes events n d a b later log log' log'' within one rest =
+    let next : n + 1 ≡ suc n = omega (arith) in
+    let left = subst (λ (m : ℕ). Plays tells sizes (drop m events) b later log' log'') next rest in
+    subst (λ (es : List Event). Plays tells sizes es a later log log'') (sym (drop-cons events n d within)) (b, log', one, left)
+
+-- no event is left
+pub none_left : (tells : Bool) (sizes : Sizes) (events : List Event) (n : ℕ) (a : List Zone) (log : List Call)
+    → length events ≤ n → Plays tells sizes (drop n events) a a log log
+none_left tells sizes events n a log past = subst (λ (es : List Event). Plays tells sizes es a a log log) (sym (drop_all n events past)) (refl, refl)

@@ -1,11 +1,15 @@
--- What becomes of a core by events, with the trace that they make, whatever happened before them.
-use Rattle.std.specs.Prelude.{Bool, List, ◌++◌}
+-- What becomes of a core by an event, by a list of them, and with the trace that they make, whatever happened before.
+use Rattle.std.specs.Prelude.{ℕ, ◌≡◌, ◌≢◌, ◌⊎◌, Bool, Some, List, [], ◌∷◌, ◌++◌, slice_get, slice_set}
 use Rattle.disk_model.specs.declared.call.Call.{Call}
+use Rattle.core_laws.specs.declared.items.Item.{Item}
 use Rattle.core_laws.specs.declared.sizes.Sizes.{Sizes}
 use Rattle.core_laws.specs.declared.zones.Zone.{Zone}
-use Rattle.core_laws.specs.Steps.{Core, ZoneStep, StepOf, MoveOf, Leads}
+use Rattle.core_laws.specs.Steps.{Core, IsIdle, ZoneStep, Leads}
 use Rattle.core_laws.specs.Trace.{Trace}
 use Rattle.core_steps.specs.DeviceLog.{HasLogged}
+use Rattle.core_steps.specs.Moves.{HasNothing}
+use Rattle.core_steps.specs.declared.events.Event.{Event}
+use Rattle.core_steps.specs.declared.events.Event.TheVariants as event
 
 abbrev pub core_of : List Zone → Trace → Core
 core_of zones t = record { zones = zones; trace = t }
@@ -14,13 +18,37 @@ core_of zones t = record { zones = zones; trace = t }
 abbrev pub ZoneSteps : Bool → Sizes → Zone → Zone → List Call → List Call → Type 0
 ZoneSteps tells sizes old new before after = (made : Trace) × ZoneStep sizes old new made × HasLogged tells before after made
 
--- a zone of the core steps
-abbrev pub Steps : Bool → Sizes → List Zone → List Zone → List Call → List Call → Type 0
-Steps tells sizes old new before after = (made : Trace) × ((t : Trace) → StepOf sizes (core_of old t) (core_of new (made ++ t))) × HasLogged tells before after made
+-- the zone of this number steps, and all others stay
+pub record StepsAt (tells : Bool) (sizes : Sizes) (number : ℕ) (old new : List Zone) (before after : List Call) : Type 0 where
+  pub zone : Zone
+  pub zone' : Zone
+  pub had : slice_get old number ≡ Some zone
+  pub step : ZoneSteps tells sizes zone zone' before after
+  pub has : new ≡ slice_set old number zone'
 
--- items move between zones of the core
-abbrev pub Moves : List Zone → List Zone → Type 0
-Moves old new = (t : Trace) → MoveOf (core_of old t) (core_of new t)
+-- what one zone posted to another moves, all of it, to the tail of its inbox
+pub record MovesAll (from to : ℕ) (old new : List Zone) : Type 0 where
+  pub source : Zone
+  pub target : Zone
+  pub part : List Item
+  pub apart : from ≢ to
+  pub had_source : slice_get old from ≡ Some source
+  pub had_target : slice_get old to ≡ Some target
+  pub outbox : slice_get source.outboxes to ≡ Some part
+  pub has : new ≡ slice_set (slice_set old from (record source { outboxes = slice_set source.outboxes to [] })) to (record target { inbox = target.inbox ++ part })
+
+-- an event: the zone steps, or all moves; or nothing happens, where there is no work for it
+abbrev pub PlaysOne : Bool → Sizes → Event → List Zone → List Zone → List Call → List Call → Type 0
+PlaysOne tells sizes (event.Step number) old new before after =
+    StepsAt tells sizes number old new before after ⊎ (((z : Zone) → slice_get old number ≡ Some z → IsIdle sizes z) × (new ≡ old) × (after ≡ before))
+PlaysOne tells sizes (event.Move from to) old new before after =
+    (MovesAll from to old new × (after ≡ before)) ⊎ (HasNothing old from to × (new ≡ old) × (after ≡ before))
+
+-- all of these, one after another
+abbrev pub Plays : Bool → Sizes → List Event → List Zone → List Zone → List Call → List Call → Type 0
+Plays tells sizes [] old new before after = (new ≡ old) × (after ≡ before)
+Plays tells sizes (e ∷ events) old new before after =
+    (between : List Zone) × (log : List Call) × PlaysOne tells sizes e old between before log × Plays tells sizes events between new log after
 
 -- events lead from one core to another
 abbrev pub LeadsTo : Bool → Sizes → List Zone → List Zone → List Call → List Call → Type 0

@@ -2,7 +2,7 @@ ghost use Rattle.std.specs.Prelude.{◌≡◌, Some, IfOk, IfErr, OnOk, slice_ge
 ghost use Rattle.core_laws.specs.declared.zones.Zone.{Zone};
 ghost use Rattle.core_laws.specs.Steps.{IsIdle};
 ghost use Rattle.core_steps.specs.Causes.{FaltersAt, OneFalters, FaltersAfter};
-ghost use Rattle.core_steps.specs.Plays.{Steps, LeadsTo};
+ghost use Rattle.core_steps.specs.Plays.{StepsAt, PlaysOne, Plays, LeadsTo};
 ghost use Rattle.core_steps.specs.declared.fault.Stepped.TheVariants.{Did, Idle};
 
 use crate::moving::move_items;
@@ -32,7 +32,7 @@ pub fn step<D: Disk>(
 ) -> Result<Stepped, StepFault>
     ensures size { D.size disk.new ≡ D.size disk.old }
     ensures opening { D.opening disk.new ≡ D.opening disk.old }
-    ensures did { IfOk result (λ stepped. stepped ≡ Did → Steps D.tells sizes.now zones.old zones.new (D.log disk.old) (D.log disk.new)) }
+    ensures did { IfOk result (λ stepped. stepped ≡ Did → StepsAt D.tells sizes.now number zones.old zones.new (D.log disk.old) (D.log disk.new)) }
     ensures idle { IfOk result (λ stepped. stepped ≡ Idle → (zone : Zone) → slice_get zones.old number ≡ Some zone → IsIdle sizes.now zone) }
     ensures busy { IfOk result (λ stepped. stepped ≡ Did → (zone : Zone) → slice_get zones.old number ≡ Some zone → IsIdle sizes.now zone → ⊥) }
     ensures same { IfOk result (λ stepped. stepped ≡ Idle → zones.new ≡ zones.old) }
@@ -55,6 +55,7 @@ fn play_one<D: Disk>(
 ) -> Result<Stepped, StepFault>
     ensures size { D.size disk.new ≡ D.size disk.old }
     ensures opening { D.opening disk.new ≡ D.opening disk.old }
+    ensures plays { OnOk result (PlaysOne D.tells sizes.now event zones.old zones.new (D.log disk.old) (D.log disk.new)) }
     ensures leads { OnOk result (LeadsTo D.tells sizes.now zones.old zones.new (D.log disk.old) (D.log disk.new)) }
     ensures same { IfOk result (λ stepped. stepped ≡ Idle → zones.new ≡ zones.old) }
     ensures err { IfErr result (OneFalters sizes.now zones.old) }
@@ -88,6 +89,7 @@ pub fn play<D: Disk>(
 ) -> Result<Stepped, StepFault>
     ensures size { D.size disk.new ≡ D.size disk.old }
     ensures opening { D.opening disk.new ≡ D.opening disk.old }
+    ensures plays { OnOk result (Plays D.tells sizes.now events.now zones.old zones.new (D.log disk.old) (D.log disk.new)) }
     ensures leads { OnOk result (LeadsTo D.tells sizes.now zones.old zones.new (D.log disk.old) (D.log disk.new)) }
     ensures same { IfOk result (λ stepped. stepped ≡ Idle → zones.new ≡ zones.old) }
     ensures err { IfErr result (FaltersAfter D.tells sizes.now zones.old (D.log disk.old)) }

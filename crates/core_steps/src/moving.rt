@@ -1,7 +1,7 @@
 ghost use Rattle.std.specs.Prelude.{◌≡◌, ◌≢◌, ◌<◌, [], Some, IfOk, OnOk, length, slice_get, slice_set};
 ghost use Rattle.core_laws.specs.declared.zones.Zone.{Zone};
 ghost use Rattle.core_steps.specs.Moves.{HasNothing, has_items};
-ghost use Rattle.core_steps.specs.Plays.{Moves};
+ghost use Rattle.core_steps.specs.Plays.{MovesAll};
 ghost use Rattle.core_steps.specs.declared.fault.Stepped.TheVariants.{Did, Idle};
 
 use crate::Stepped;
@@ -44,7 +44,7 @@ fn carry(alloc: Global, zones: &mut Zones, from: usize, to: usize) -> Result<(),
     requires source { from < length zones.old }
     requires target { to < length zones.old }
     requires outbox { (source : Zone) → slice_get zones.old from ≡ Some source → to < length source.outboxes }
-    ensures { OnOk result (Moves zones.old zones.new) }
+    ensures { OnOk result (MovesAll from to zones.old zones.new) }
 {
     let source = &mut zones.zones[from];
     let part = empty(alloc, &mut source.outboxes, to);
@@ -61,7 +61,7 @@ pub fn move_items(
     from: u32,
     to: u32,
 ) -> Result<Stepped, AllocError>
-    ensures did { IfOk result (λ stepped. stepped ≡ Did → Moves zones.old zones.new) }
+    ensures did { IfOk result (λ stepped. stepped ≡ Did → MovesAll from to zones.old zones.new) }
     ensures busy { IfOk result (λ stepped. stepped ≡ Did → HasNothing zones.old from to → ⊥) }
     ensures idle { IfOk result (λ stepped. stepped ≡ Idle → HasNothing zones.old from to) }
     ensures same { IfOk result (λ stepped. stepped ≡ Idle → zones.new ≡ zones.old) }

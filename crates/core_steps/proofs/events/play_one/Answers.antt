@@ -1,17 +1,25 @@
 use Rattle.core_steps.specs.Causes.{OneFalters}
 use Rattle.core_steps.proofs.StrayLaws.{one_falters, passed_on}
-use Rattle.core_steps.proofs.PlayLaws.{step_leads, move_leads}
+use Rattle.core_steps.proofs.PlayLaws.{step_plays, move_plays, played_leads}
 use Rattle.core_steps.proofs.events.play_one.Goals as goal
+
+pub returns-in_ok-step-in-Step-clause-plays : goal.returns-in_ok-step-in-Step-clause-plays
+returns-in_ok-step-in-Step-clause-plays g c =
+    let e = c.in_ok-step-in-Step.ensures in
+    rw c.in-Step.is (step_plays g.D.Disk.tells c.args.sizes.now _ c.args.zones.now c.step.new.zones _ _ c.in_ok-step-in-Step.field-0 e.did e.idle e.same e.silent)
 
 pub returns-in_ok-step-in-Step-clause-leads : goal.returns-in_ok-step-in-Step-clause-leads
 returns-in_ok-step-in-Step-clause-leads g c =
-    let e = c.in_ok-step-in-Step.ensures in
-    step_leads g.D.Disk.tells c.args.sizes.now c.args.zones.now c.step.new.zones _ _ c.in_ok-step-in-Step.field-0 e.did e.same e.silent
+    played_leads g.D.Disk.tells c.args.sizes.now c.args.event c.args.zones.now c.step.new.zones _ _ (returns-in_ok-step-in-Step-clause-plays g c)
+
+pub returns-in_ok-move_items-in-Move-clause-plays : goal.returns-in_ok-move_items-in-Move-clause-plays
+returns-in_ok-move_items-in-Move-clause-plays g c =
+    let e = c.in_ok-move_items-in-Move.ensures in
+    rw c.in-Move.is (move_plays g.D.Disk.tells c.args.sizes.now _ _ c.args.zones.now c.move_items.new.zones _ c.in_ok-move_items-in-Move.field-0 e.did e.idle e.same)
 
 pub returns-in_ok-move_items-in-Move-clause-leads : goal.returns-in_ok-move_items-in-Move-clause-leads
 returns-in_ok-move_items-in-Move-clause-leads g c =
-    let e = c.in_ok-move_items-in-Move.ensures in
-    move_leads g.D.Disk.tells c.args.sizes.now c.args.zones.now c.move_items.new.zones _ c.in_ok-move_items-in-Move.field-0 e.did e.same
+    played_leads g.D.Disk.tells c.args.sizes.now c.args.event c.args.zones.now c.move_items.new.zones _ _ (returns-in_ok-move_items-in-Move-clause-plays g c)
 
 pub returns-in_err-step-in-Step-clause-err : goal.returns-in_err-step-in-Step-clause-err
 returns-in_err-step-in-Step-clause-err g c =

@@ -4,7 +4,6 @@ use Rattle.core_laws.specs.declared.zones.Zone.{Zone}
 use Rattle.core_laws.specs.Steps.{IsIdle}
 use Rattle.core_steps.specs.Causes.{FaltersAt}
 use Rattle.core_steps.proofs.StrayLaws.{passed_on}
-use Rattle.core_steps.proofs.PlayLaws.{core_steps}
 use Rattle.core_steps.proofs.events.step.Goals as goal
 
 pub returns-clause-did : goal.returns-clause-did
@@ -12,7 +11,13 @@ returns-clause-did g c did =
     let item = c.in-Some.ensures.item in
     let within : c.args.number < length c.zones.inside.zones.items = search rules in
     let had : slice_get c.zones.inside.zones.items c.args.number ≡ Some c.in-Some.zone.now = slice_get_read _ _ _ _ refl within item.1 in
-    rw (← c.zones.view_is) (core_steps g.D.Disk.tells c.args.sizes.now c.zones.inside.zones.items c.args.number _ c.step_zone.new.zone _ _ had (c.in_ok-step_zone.ensures.did did))
+    rw (← c.zones.view_is) (record {
+      zone = c.in-Some.zone.now;
+      zone' = c.step_zone.new.zone;
+      had = had;
+      step = c.in_ok-step_zone.ensures.did did;
+      has = refl;
+    })
 
 pub returns-clause-idle : goal.returns-clause-idle
 returns-clause-idle g c idle zone got =
