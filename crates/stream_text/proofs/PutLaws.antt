@@ -1,9 +1,10 @@
 -- A text that is put piece by piece.
-use Rattle.std.specs.Prelude.{ℕ, ◌≡◌, ◌+◌, ◌≤◌, min, List, [], ◌++◌, length, take, Result, Ok, Err, OnOk, OnErr, refl}
+use Rattle.std.specs.Prelude.{ℕ, ◌≡◌, ◌<◌, ◌+◌, ◌≤◌, suc, min, List, [], ◌++◌, length, get_or, map, take, drop, Result, Ok, Err, OnOk, OnErr, refl}
+use Rattle.std.specs.List.{concat}
 use Rattle.std.proofs.Common.{sym, ◌∙◌, ap, arith, inl, inr}
 use Rattle.std.proofs.lemmas.Bool.{cases_lt}
 use Rattle.std.proofs.lemmas.List.{append_assoc, append-nil, take-append-le, take_all}
-use Rattle.std.proofs.Math.Seq.{take-append-add, take-append_seam}
+use Rattle.std.proofs.Math.Seq.{drop-cons, take-append-add, take-append_seam}
 use Rattle.disk_model.specs.Causes.{Rose, HasCause}
 use Rattle.stream_text.specs.Puts.{PutsPart}
 
@@ -88,3 +89,46 @@ lost result first mid last before later rose = record { later = omega arith; fai
 pub at_last : {T E : Type 0} (result : Result T E) (first mid last : ℕ) → first ≤ mid → HasCause mid last result → HasCause first last result
 at_last (Ok x) first mid last before cause = record { later = omega (arith, cause.later); failed = tt }
 at_last (Err e) first mid last before cause = record { later = omega (arith, cause.later); failed = omega (arith, cause.failed) }
+
+-- the next of some pieces
+pub pieces-next : {T : Type 0} (text : T → List ℕ) (pieces : List T) (n : ℕ) (piece : T) → n < length pieces
+    → concat (map text (drop n pieces)) ≡ text (get_or pieces n piece) ++ concat (map text (drop (n + 1) pieces))
+pieces-next text pieces n piece within =
+    let next : suc n ≡ n + 1 = omega arith in
+    ap (λ t. concat (map text t)) (drop-cons pieces n piece within)
+    ∙ ap (λ (k : ℕ). text (get_or pieces n piece) ++ concat (map text (drop k pieces))) next
+
+-- a text under another name
+pub part_same : (old new text said : List ℕ) → text ≡ said → PutsPart old new text → PutsPart old new said
+part_same old new text said same part = (part.0, part.1 ∙ ap (λ t. old ++ take part.0 t) same)
+
+pub put_so : {T E : Type 0} (result : Result T E) (old new text said : List ℕ) → text ≡ said
+    → OnOk result (new ≡ old ++ text) → OnOk result (new ≡ old ++ said)
+put_so (Ok x) old new text said same put = put ∙ ap (λ t. old ++ t) same
+put_so (Err e) old new text said same put = tt
+
+pub part_so : {T E : Type 0} (result : Result T E) (old new text said : List ℕ) → text ≡ said
+    → OnErr result (PutsPart old new text) → OnErr result (PutsPart old new said)
+part_so (Ok x) old new text said same part = tt
+part_so (Err e) old new text said same part = part_same old new text said same part
+
+-- the texts that are put as some pieces, of which those of numbers are known by what they write
+pub command_pieces : (command address space : List ℕ) (digits : List ℕ) → address ≡ digits
+    → command ++ (address ++ (space ++ [])) ≡ command ++ digits ++ space
+command_pieces command address space digits same = rw same (simp (append_assoc, append-nil) refl)
+
+pub name_pieces : (one space two last : List ℕ) (stream number : List ℕ) → one ≡ stream → two ≡ number
+    → one ++ (space ++ (two ++ (last ++ []))) ≡ stream ++ space ++ number ++ last
+name_pieces one space two last stream number first second = rw (first, second) (simp (append_assoc, append-nil) refl)
+
+pub place_pieces : (before one between two end : List ℕ) (zone place : List ℕ) → one ≡ zone → two ≡ place
+    → before ++ (one ++ (between ++ (two ++ (end ++ [])))) ≡ before ++ zone ++ between ++ place ++ end
+place_pieces before one between two end zone place first second = rw (first, second) (simp (append_assoc, append-nil) refl)
+
+pub run_pieces : (before count times byte : List ℕ) (number digits : List ℕ) → count ≡ number → byte ≡ digits
+    → before ++ (count ++ (times ++ (byte ++ []))) ≡ before ++ (number ++ times ++ digits)
+run_pieces before count times byte number digits first second = rw (first, second) (simp (append_assoc, append-nil) refl)
+
+pub line_pieces : (name request space answer place end : List ℕ)
+    → name ++ (request ++ space) ++ answer ++ (place ++ end) ≡ name ++ request ++ space ++ answer ++ place ++ end
+line_pieces name request space answer place end = simp append_assoc refl

@@ -5,7 +5,7 @@ ghost use Rattle.vdo_model.specs.Places.{place_of};
 ghost use Rattle.stream_text.specs.Puts.{PutsPart};
 ghost use Rattle.stream_text.specs.Texts.{request_text, answer_text, place_text, line_text, stream_text, answers_text, writer};
 
-use crate::puts::put_number;
+use crate::puts::put_all;
 use crate::runs::put_runs;
 use crate::search::{find_answer, find_place};
 use blk_base::{Answer, Lba, Request};
@@ -13,24 +13,26 @@ use disk_model::{Failed, Sink};
 use vdo_model::{DeskLine, Placed, Requests, RunReport};
 
 fn put_command<K: Sink>(command: &[u8], at: Lba, out: &mut K) -> Result<(), Failed>
-    ensures ok { IsTrue K.tells → OnOk result (K.holds out.new ≡ K.holds out.old ++ (command.now ++ decimal at.0)) }
-    ensures err { IsTrue K.tells → OnErr result (PutsPart (K.holds out.old) (K.holds out.new) (command.now ++ decimal at.0)) }
+    ensures ok { IsTrue K.tells → OnOk result (K.holds out.new ≡ K.holds out.old ++ (command.now ++ decimal at.0 ++ codes " ")) }
+    ensures err { IsTrue K.tells → OnErr result (PutsPart (K.holds out.old) (K.holds out.new) (command.now ++ decimal at.0 ++ codes " ")) }
     ensures cause { HasCause (K.faults out.old) (K.faults out.new) result }
 {
-    out.put(command)?;
-    put_number(at.0 as u64, out)
+    let mut address = itoa::Buffer::new();
+    let pieces = [command, address.format(at.0).as_bytes(), b" "];
+    put_all(&pieces, out)
 }
 
+// Puts what was asked for, and a space.
 fn put_request<K: Sink>(request: &Request, out: &mut K) -> Result<(), Failed>
-    ensures ok { IsTrue K.tells → OnOk result (K.holds out.new ≡ K.holds out.old ++ request_text request.now) }
-    ensures err { IsTrue K.tells → OnErr result (PutsPart (K.holds out.old) (K.holds out.new) (request_text request.now)) }
+    ensures ok { IsTrue K.tells → OnOk result (K.holds out.new ≡ K.holds out.old ++ (request_text request.now ++ codes " ")) }
+    ensures err { IsTrue K.tells → OnErr result (PutsPart (K.holds out.old) (K.holds out.new) (request_text request.now ++ codes " ")) }
     ensures cause { HasCause (K.faults out.old) (K.faults out.new) result }
 {
     match request {
         Request::Read(at) => put_command(b"read ", *at, out),
         Request::Write { at, .. } => put_command(b"write ", *at, out),
         Request::Discard(at) => put_command(b"discard ", *at, out),
-        Request::Flush => out.put(b"flush"),
+        Request::Flush => out.put(b"flush "),
     }
 }
 
@@ -52,26 +54,31 @@ fn put_answer<K: Sink>(answer: &Answer, out: &mut K) -> Result<(), Failed>
 }
 
 fn put_placed<K: Sink>(placed: Placed, out: &mut K) -> Result<(), Failed>
-    ensures ok { IsTrue K.tells → OnOk result (K.holds out.new
-        ≡ K.holds out.old ++ (codes " z" ++ decimal placed.zone ++ codes ":" ++ decimal placed.place)) }
-    ensures err { IsTrue K.tells → OnErr result (PutsPart (K.holds out.old) (K.holds out.new)
-        (codes " z" ++ decimal placed.zone ++ codes ":" ++ decimal placed.place)) }
+    ensures ok { IsTrue K.tells → OnOk result (K.holds out.new ≡ K.holds out.old ++ (place_text (Some placed) ++ codes "\n")) }
+    ensures err { IsTrue K.tells → OnErr result (PutsPart (K.holds out.old) (K.holds out.new) (place_text (Some placed) ++ codes "\n")) }
     ensures cause { HasCause (K.faults out.old) (K.faults out.new) result }
 {
-    out.put(b" z")?;
-    put_number(placed.zone as u64, out)?;
-    out.put(b":")?;
-    put_number(placed.place, out)
+    let mut zone = itoa::Buffer::new();
+    let mut place = itoa::Buffer::new();
+    let pieces: [&[u8]; 5] = [
+        b" z",
+        zone.format(placed.zone).as_bytes(),
+        b":",
+        place.format(placed.place).as_bytes(),
+        b"\n",
+    ];
+    put_all(&pieces, out)
 }
 
-fn put_place<K: Sink>(place: Option<Placed>, out: &mut K) -> Result<(), Failed>
-    ensures ok { IsTrue K.tells → OnOk result (K.holds out.new ≡ K.holds out.old ++ place_text place) }
-    ensures err { IsTrue K.tells → OnErr result (PutsPart (K.holds out.old) (K.holds out.new) (place_text place)) }
+// Puts the place, and the end of the line.
+fn put_ending<K: Sink>(place: Option<Placed>, out: &mut K) -> Result<(), Failed>
+    ensures ok { IsTrue K.tells → OnOk result (K.holds out.new ≡ K.holds out.old ++ (place_text place ++ codes "\n")) }
+    ensures err { IsTrue K.tells → OnErr result (PutsPart (K.holds out.old) (K.holds out.new) (place_text place ++ codes "\n")) }
     ensures cause { HasCause (K.faults out.old) (K.faults out.new) result }
 {
     match place {
         Some(placed) => put_placed(placed, out),
-        None => Ok(()),
+        None => out.put(b"\n"),
     }
 }
 
@@ -80,10 +87,15 @@ fn put_name<K: Sink>(stream: u8, number: usize, out: &mut K) -> Result<(), Faile
     ensures err { IsTrue K.tells → OnErr result (PutsPart (K.holds out.old) (K.holds out.new) (decimal stream ++ codes " " ++ decimal number ++ codes " ")) }
     ensures cause { HasCause (K.faults out.old) (K.faults out.new) result }
 {
-    put_number(stream as u64, out)?;
-    out.put(b" ")?;
-    put_number(number as u64, out)?;
-    out.put(b" ")
+    let mut row = itoa::Buffer::new();
+    let mut column = itoa::Buffer::new();
+    let pieces = [
+        row.format(stream).as_bytes(),
+        b" ",
+        column.format(number).as_bytes(),
+        b" ",
+    ];
+    put_all(&pieces, out)
 }
 
 fn put_line<K: Sink>(
@@ -102,10 +114,8 @@ fn put_line<K: Sink>(
 {
     put_name(stream, number, out)?;
     put_request(request, out)?;
-    out.put(b" ")?;
     put_answer(answer, out)?;
-    put_place(place, out)?;
-    out.put(b"\n")
+    put_ending(place, out)
 }
 
 fn put_answered<K: Sink>(

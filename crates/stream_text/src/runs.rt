@@ -3,7 +3,7 @@ ghost use Rattle.disk_model.specs.Causes.{HasCause};
 ghost use Rattle.stream_text.specs.Puts.{PutsPart};
 ghost use Rattle.stream_text.specs.Runs.{run_text, runs_of, runs_text, later_text};
 
-use crate::puts::put_number;
+use crate::puts::put_all;
 use disk_model::{Failed, Sink};
 
 /// How often the first byte stands at the front.
@@ -22,18 +22,19 @@ fn first_run(bytes: &[u8]) -> usize
     bytes.len()
 }
 
-fn put_run<K: Sink>(count: usize, byte: u8, out: &mut K) -> Result<(), Failed>
-    ensures ok { IsTrue K.tells → OnOk result (K.holds out.new ≡ K.holds out.old ++ run_text (record { count = count; byte = byte })) }
-    ensures err { IsTrue K.tells → OnErr result (PutsPart (K.holds out.old) (K.holds out.new) (run_text (record { count = count; byte = byte }))) }
+// Puts a run, and what stands before it.
+fn put_run<K: Sink>(before: &[u8], count: usize, byte: u8, out: &mut K) -> Result<(), Failed>
+    ensures ok { IsTrue K.tells → OnOk result (K.holds out.new ≡ K.holds out.old ++ (before.now ++ run_text (record { count = count; byte = byte }))) }
+    ensures err { IsTrue K.tells → OnErr result (PutsPart (K.holds out.old) (K.holds out.new) (before.now ++ run_text (record { count = count; byte = byte }))) }
     ensures cause { HasCause (K.faults out.old) (K.faults out.new) result }
 {
     let mut digits = [0; 2];
     let Ok(()) = hex::encode_to_slice([byte], &mut digits) else {
         unreachable!()
     };
-    put_number(count as u64, out)?;
-    out.put(b"*")?;
-    out.put(&digits)
+    let mut times = itoa::Buffer::new();
+    let pieces = [before, times.format(count).as_bytes(), b"*", &digits];
+    put_all(&pieces, out)
 }
 
 fn put_later_runs<K: Sink>(bytes: &[u8], out: &mut K) -> Result<(), Failed>
@@ -44,19 +45,10 @@ fn put_later_runs<K: Sink>(bytes: &[u8], out: &mut K) -> Result<(), Failed>
     let mut at = 0;
     while at < bytes.len() {
         let count = first_run(&bytes[at..]);
-        put_later_run(count, bytes[at], out)?;
+        put_run(b"+", count, bytes[at], out)?;
         at += count;
     }
     Ok(())
-}
-
-fn put_later_run<K: Sink>(count: usize, byte: u8, out: &mut K) -> Result<(), Failed>
-    ensures ok { IsTrue K.tells → OnOk result (K.holds out.new ≡ K.holds out.old ++ (codes "+" ++ run_text (record { count = count; byte = byte }))) }
-    ensures err { IsTrue K.tells → OnErr result (PutsPart (K.holds out.old) (K.holds out.new) (codes "+" ++ run_text (record { count = count; byte = byte }))) }
-    ensures cause { HasCause (K.faults out.old) (K.faults out.new) result }
-{
-    out.put(b"+")?;
-    put_run(count, byte, out)
 }
 
 /// Puts bytes as their longest runs.
@@ -69,6 +61,6 @@ pub fn put_runs<K: Sink>(bytes: &[u8], out: &mut K) -> Result<(), Failed>
         return Ok(());
     }
     let count = first_run(bytes);
-    put_run(count, bytes[0], out)?;
+    put_run(b"", count, bytes[0], out)?;
     put_later_runs(&bytes[count..], out)
 }

@@ -1,28 +1,17 @@
-use Rattle.std.proofs.Common.{arith}
-use Rattle.stream_text.proofs.PutLaws.{on_err, second_failed, second_put, both_pieces, part_of_first, part_of_second, lost, at_last}
+use Rattle.std.proofs.Common.{◌∙◌}
+use Rattle.std.specs.Prelude.{codes}
+use Rattle.stream_text.proofs.PutLaws.{put_so, part_so, run_pieces}
 use Rattle.stream_text.proofs.runs.put_run.Goals as goal
-
-pub returns-in_err-put_number-clause-err : goal.returns-in_err-put_number-clause-err
-returns-in_err-put_number-clause-err g c = λ tells.
-    on_err c.from_residual.result _ (part_of_first _ _ _ _ (part_of_first _ _ _ _ (c.in_err-put_number.ensures.err tells)))
-
-pub returns-in_err-put-clause-err : goal.returns-in_err-put-clause-err
-returns-in_err-put-clause-err g c = λ tells.
-    on_err c.from_residual-in_err-put.result _ (part_of_first _ _ _ _ (part_of_second _ _ _ _ _ (c.in_ok-put_number.ensures.ok tells) (c.in_err-put.ensures.err tells)))
-
-pub returns-clause-err : goal.returns-clause-err
-returns-clause-err g c = λ tells.
-    second_failed c.put-2.result _ _ _ _ _ (both_pieces _ _ _ _ _ (c.in_ok-put_number.ensures.ok tells) (c.in_ok-put.ensures.ok tells)) (rw c.in-Ok.ensures.written at (c.put-2.ensures.err tells))
-
-pub returns-in_err-put_number-clause-cause : goal.returns-in_err-put_number-clause-cause
-returns-in_err-put_number-clause-cause g c = lost c.from_residual.result _ _ _ (omega arith) c.put_number.ensures.cause.later c.in_err-put_number.ensures.cause.failed
-
-pub returns-in_err-put-clause-cause : goal.returns-in_err-put-clause-cause
-returns-in_err-put-clause-cause g c = lost c.from_residual-in_err-put.result _ _ _ c.put_number.ensures.cause.later c.put.ensures.cause.later c.in_err-put.ensures.cause.failed
 
 pub returns-clause-ok : goal.returns-clause-ok
 returns-clause-ok g c = λ tells.
-    second_put c.put-2.result _ _ _ _ _ (both_pieces _ _ _ _ _ (c.in_ok-put_number.ensures.ok tells) (c.in_ok-put.ensures.ok tells)) (rw c.in-Ok.ensures.written at (c.put-2.ensures.ok tells))
+    let same = run_pieces c.args.before.now _ (codes "*") _ _ _ (c.as_bytes.ensures.value ∙ c.format.ensures.text) c.in-Ok.ensures.written in
+    put_so c.put_all.result _ _ _ _ same (c.put_all.ensures.ok tells)
+
+pub returns-clause-err : goal.returns-clause-err
+returns-clause-err g c = λ tells.
+    let same = run_pieces c.args.before.now _ (codes "*") _ _ _ (c.as_bytes.ensures.value ∙ c.format.ensures.text) c.in-Ok.ensures.written in
+    part_so c.put_all.result _ _ _ _ same (c.put_all.ensures.err tells)
 
 pub returns-clause-cause : goal.returns-clause-cause
-returns-clause-cause g c = at_last c.put-2.result _ _ _ (omega (arith, c.put_number.ensures.cause.later, c.put.ensures.cause.later)) c.put-2.ensures.cause
+returns-clause-cause g c = c.put_all.ensures.cause
