@@ -99,16 +99,17 @@ pub fn put_fault<K: Sink>(fault: &Fault, out: &mut K) -> Result<(), Failed>
     ensures err { IsTrue K.tells → OnErr result (PutsPart (K.holds out.old) (K.holds out.new) (fault_text fault.now)) }
     ensures cause { HasCause (K.faults out.old) (K.faults out.new) result }
 {
-    match fault {
-        Fault::Usage => out.put(b"usage\n"),
-        Fault::Script(why) => put_script_fault(*why, out),
-        Fault::Device => out.put(b"device fault\n"),
-        Fault::Image(ImageFault::Super(why)) => put_super_fault(*why, out),
-        Fault::Image(ImageFault::Window { sequence }) => put_window_fault(*sequence, out),
-        Fault::Memory => out.put(b"no memory\n"),
-        Fault::Read => out.put(b"read fault\n"),
-        Fault::Sink => out.put(b""),
-    }
+    let line: &[u8] = match fault {
+        Fault::Script(why) => return put_script_fault(*why, out),
+        Fault::Image(ImageFault::Super(why)) => return put_super_fault(*why, out),
+        Fault::Image(ImageFault::Window { sequence }) => return put_window_fault(*sequence, out),
+        Fault::Usage => b"usage\n",
+        Fault::Device => b"device fault\n",
+        Fault::Memory => b"no memory\n",
+        Fault::Read => b"read fault\n",
+        Fault::Sink => b"",
+    };
+    out.put(line)
 }
 
 /// The status of a fault.

@@ -1,10 +1,34 @@
+use Rattle.std.proofs.Common.{◌≡◌, refl}
+use Rattle.vdo_cli.specs.Texts.{fault_text}
+use Rattle.vdo_cli.proofs.ending.put_fault.Goals.{in-Usage, in-Device, in-Memory, in-Read, in-Sink}
 use Rattle.vdo_cli.proofs.ending.put_fault.Goals as goal
 
-pub returns-in-Usage-clause-ok : goal.returns-in-Usage-clause-ok
-returns-in-Usage-clause-ok g c tells = rw c.in-Usage.is (c.put.ensures.ok tells)
+pub returns-clause-ok : goal.returns-clause-ok
+returns-clause-ok g c tells =
+    let same : c.match-fault.line.now ≡ fault_text c.args.fault.now =
+    elim c.match-fault.branch [
+      | in-Usage w ↦ rw (w.line-is, w.in-Usage.is) refl
+      | in-Device w ↦ rw (w.line-is, w.in-Device.is) refl
+      | in-Memory w ↦ rw (w.line-is, w.in-Memory.is) refl
+      | in-Read w ↦ rw (w.line-is, w.in-Read.is) refl
+      | in-Sink w ↦ rw (w.line-is, w.in-Sink.is) refl
+    ] in
+    rw same at (c.put.ensures.ok tells)
 
-pub returns-in-Usage-clause-err : goal.returns-in-Usage-clause-err
-returns-in-Usage-clause-err g c tells = rw c.in-Usage.is (c.put.ensures.err tells)
+pub returns-clause-err : goal.returns-clause-err
+returns-clause-err g c tells =
+    let same : c.match-fault.line.now ≡ fault_text c.args.fault.now =
+    elim c.match-fault.branch [
+      | in-Usage w ↦ rw (w.line-is, w.in-Usage.is) refl
+      | in-Device w ↦ rw (w.line-is, w.in-Device.is) refl
+      | in-Memory w ↦ rw (w.line-is, w.in-Memory.is) refl
+      | in-Read w ↦ rw (w.line-is, w.in-Read.is) refl
+      | in-Sink w ↦ rw (w.line-is, w.in-Sink.is) refl
+    ] in
+    rw same at (c.put.ensures.err tells)
+
+pub returns-clause-cause : goal.returns-clause-cause
+returns-clause-cause g c = c.put.ensures.cause
 
 pub returns-in-Script-clause-ok : goal.returns-in-Script-clause-ok
 returns-in-Script-clause-ok g c tells = rw c.in-Script.is (c.put_script_fault.ensures.ok tells)
@@ -12,20 +36,5 @@ returns-in-Script-clause-ok g c tells = rw c.in-Script.is (c.put_script_fault.en
 pub returns-in-Script-clause-err : goal.returns-in-Script-clause-err
 returns-in-Script-clause-err g c tells = rw c.in-Script.is (c.put_script_fault.ensures.err tells)
 
-pub returns-in-Device-clause-ok : goal.returns-in-Device-clause-ok
-returns-in-Device-clause-ok g c tells = rw c.in-Device.is (c.put-in-Device.ensures.ok tells)
-
-pub returns-in-Device-clause-err : goal.returns-in-Device-clause-err
-returns-in-Device-clause-err g c tells = rw c.in-Device.is (c.put-in-Device.ensures.err tells)
-
-pub returns-in-Memory-clause-ok : goal.returns-in-Memory-clause-ok
-returns-in-Memory-clause-ok g c tells = rw c.in-Memory.is (c.put-in-Memory.ensures.ok tells)
-
-pub returns-in-Memory-clause-err : goal.returns-in-Memory-clause-err
-returns-in-Memory-clause-err g c tells = rw c.in-Memory.is (c.put-in-Memory.ensures.err tells)
-
-pub returns-in-Read-clause-ok : goal.returns-in-Read-clause-ok
-returns-in-Read-clause-ok g c tells = rw c.in-Read.is (c.put-in-Read.ensures.ok tells)
-
-pub returns-in-Read-clause-err : goal.returns-in-Read-clause-err
-returns-in-Read-clause-err g c tells = rw c.in-Read.is (c.put-in-Read.ensures.err tells)
+pub returns-in-Script-clause-cause : goal.returns-in-Script-clause-cause
+returns-in-Script-clause-cause g c = c.put_script_fault.ensures.cause

@@ -6,8 +6,13 @@ use Rattle.vdo_cli.proofs.EndingLaws.{not_opened}
 use Rattle.vdo_cli.proofs.StopLaws.{happens}
 use Rattle.vdo_cli.proofs.playing.play.Goals as goal
 
-pub returns-in-Err-Read-clause-fault : goal.returns-in-Err-Read-clause-fault
-returns-in-Err-Read-clause-fault g c = (c.in-Ok.opened.head, c.in-Ok.ensures.head, search rules)
+pub returns-in-Err-Read : goal.returns-in-Err-Read
+returns-in-Err-Read g c = record {
+  session = tt;
+  fault = (c.in-Ok.opened.head, c.in-Ok.ensures.head, c.read_script.ensures.read (search rules));
+  untouched = c.open.ensures.untouched;
+  later = c.read_script.ensures.later;
+}
 
 pub serve_requests-requires-clause-one_stream : goal.serve_requests-requires-clause-one_stream
 serve_requests-requires-clause-one_stream g c = rw c.in-Ok-read_script.ensures.shape.1 refl
@@ -42,22 +47,27 @@ returns-in-Ok-serve_requests-clause-session g c =
     }
 
 pub returns-in-Ok-serve_requests-clause-fault : goal.returns-in-Ok-serve_requests-clause-fault
-returns-in-Ok-serve_requests-clause-fault g c = search rules
+returns-in-Ok-serve_requests-clause-fault g c = tt
 
 pub returns-in-Ok-serve_requests-clause-untouched : goal.returns-in-Ok-serve_requests-clause-untouched
-returns-in-Ok-serve_requests-clause-untouched g c = search rules
+returns-in-Ok-serve_requests-clause-untouched g c = tt
 
-pub returns-in-Err-clause-fault : goal.returns-in-Err-clause-fault
-returns-in-Err-clause-fault g c =
+pub returns-in-Ok-serve_requests-clause-later : goal.returns-in-Ok-serve_requests-clause-later
+returns-in-Ok-serve_requests-clause-later g c = c.read_script.ensures.later
+
+pub returns-in-Err : goal.returns-in-Err
+returns-in-Err g c =
     let disk = g.D.Disk in
     let source = g.S.Source in
     let script = c.args.script.now in
-    not_opened disk.tells disk.honest source.tells (disk.opening c.args.device.now) (seen (disk.log c.args.device.now) (disk.faults c.args.device.now) (disk.unkept c.args.device.now))
-    (seen (disk.log c.open.new.device) (disk.faults c.open.new.device) (disk.unkept c.open.new.device)) (source.left script) (source.faults script) (source.faults script)
-    c.in-Err.fault c.in-Err.ensures.fault
-
-pub returns-in-Err-clause-untouched : goal.returns-in-Err-clause-untouched
-returns-in-Err-clause-untouched g c = c.open.ensures.untouched
+    record {
+      session = tt;
+      fault = not_opened disk.tells disk.honest source.tells (disk.opening c.args.device.now) (seen (disk.log c.args.device.now) (disk.faults c.args.device.now) (disk.unkept c.args.device.now))
+          (seen (disk.log c.open.new.device) (disk.faults c.open.new.device) (disk.unkept c.open.new.device)) (source.left script) (source.faults script) (source.faults script)
+          c.in-Err.fault c.in-Err.ensures.fault;
+      untouched = c.open.ensures.untouched;
+      later = omega arith;
+    }
 
 pub serve_requests-requires-clause-sizes : goal.serve_requests-requires-clause-sizes
 serve_requests-requires-clause-sizes g c = c.in-Ok.ensures.sizes
@@ -80,8 +90,16 @@ serve_requests-requires-clause-size g c = omega (arith, c.in-Ok.ensures.room, c.
 pub returns-in-Err-Script-clause-untouched : goal.returns-in-Err-Script-clause-untouched
 returns-in-Err-Script-clause-untouched g c = c.open.ensures.untouched
 
-pub returns-in-Err-Read-clause-untouched : goal.returns-in-Err-Read-clause-untouched
-returns-in-Err-Read-clause-untouched g c = c.open.ensures.untouched
+pub returns-in-Err-Script-clause-session : goal.returns-in-Err-Script-clause-session
+returns-in-Err-Script-clause-session g c = tt
 
-pub returns-in-Err-Memory-clause-untouched : goal.returns-in-Err-Memory-clause-untouched
-returns-in-Err-Memory-clause-untouched g c = c.open.ensures.untouched
+pub returns-in-Err-Script-clause-later : goal.returns-in-Err-Script-clause-later
+returns-in-Err-Script-clause-later g c = c.read_script.ensures.later
+
+pub returns-in-Err-Memory : goal.returns-in-Err-Memory
+returns-in-Err-Memory g c = record {
+  session = tt;
+  fault = tt;
+  untouched = c.open.ensures.untouched;
+  later = c.read_script.ensures.later;
+}
