@@ -41,16 +41,17 @@ fn put_answer<K: Sink>(answer: &Answer, out: &mut K) -> Result<(), Failed>
     ensures err { IsTrue K.tells → OnErr result (PutsPart (K.holds out.old) (K.holds out.new) (answer_text answer.now)) }
     ensures cause { HasCause (K.faults out.old) (K.faults out.new) result }
 {
-    match answer {
-        Answer::Ok => out.put(b"ok"),
-        Answer::Bytes(block) => put_runs(&block.bytes, out),
-        Answer::Range => out.put(b"range"),
-        Answer::NoSpace => out.put(b"no space"),
-        Answer::Full => out.put(b"full"),
-        Answer::ReadFault => out.put(b"read fault"),
-        Answer::Stopped => out.put(b"stopped"),
-        Answer::Damaged => out.put(b"damaged"),
-    }
+    let word: &[u8] = match answer {
+        Answer::Bytes(block) => return put_runs(&block.bytes, out),
+        Answer::Ok => b"ok",
+        Answer::Range => b"range",
+        Answer::NoSpace => b"no space",
+        Answer::Full => b"full",
+        Answer::ReadFault => b"read fault",
+        Answer::Stopped => b"stopped",
+        Answer::Damaged => b"damaged",
+    };
+    out.put(word)
 }
 
 fn put_placed<K: Sink>(placed: Placed, out: &mut K) -> Result<(), Failed>

@@ -1,43 +1,35 @@
+use Rattle.std.proofs.Common.{◌≡◌, refl}
+use Rattle.stream_text.specs.Texts.{answer_text}
+use Rattle.stream_text.proofs.answers.put_answer.Given.{Over}
+use Rattle.stream_text.proofs.answers.put_answer.Goals.{After-put, in-Ok, in-Range, in-NoSpace, in-Full, in-ReadFault, in-Stopped, in-Damaged}
 use Rattle.stream_text.proofs.answers.put_answer.Goals as goal
 
-pub returns-in-Ok-clause-ok : goal.returns-in-Ok-clause-ok
-returns-in-Ok-clause-ok g c = λ tells. rw c.in-Ok.is (c.put.ensures.ok tells)
+word_of : (g : Over) (c : After-put g) → c.match-answer.word.now ≡ answer_text c.args.answer.now
+word_of g c =
+    elim c.match-answer.branch [
+      | in-Ok w ↦ rw (w.word-is, w.in-Ok.is) refl
+      | in-Range w ↦ rw (w.word-is, w.in-Range.is) refl
+      | in-NoSpace w ↦ rw (w.word-is, w.in-NoSpace.is) refl
+      | in-Full w ↦ rw (w.word-is, w.in-Full.is) refl
+      | in-ReadFault w ↦ rw (w.word-is, w.in-ReadFault.is) refl
+      | in-Stopped w ↦ rw (w.word-is, w.in-Stopped.is) refl
+      | in-Damaged w ↦ rw (w.word-is, w.in-Damaged.is) refl
+    ]
 
-pub returns-in-Ok-clause-err : goal.returns-in-Ok-clause-err
-returns-in-Ok-clause-err g c = λ tells. rw c.in-Ok.is (c.put.ensures.err tells)
+pub returns-clause-ok : goal.returns-clause-ok
+returns-clause-ok g c = λ tells. rw (word_of g c) at (c.put.ensures.ok tells)
 
-pub returns-in-Range-clause-ok : goal.returns-in-Range-clause-ok
-returns-in-Range-clause-ok g c = λ tells. rw c.in-Range.is (c.put-in-Range.ensures.ok tells)
+pub returns-clause-err : goal.returns-clause-err
+returns-clause-err g c = λ tells. rw (word_of g c) at (c.put.ensures.err tells)
 
-pub returns-in-Range-clause-err : goal.returns-in-Range-clause-err
-returns-in-Range-clause-err g c = λ tells. rw c.in-Range.is (c.put-in-Range.ensures.err tells)
+pub returns-clause-cause : goal.returns-clause-cause
+returns-clause-cause g c = c.put.ensures.cause
 
-pub returns-in-NoSpace-clause-ok : goal.returns-in-NoSpace-clause-ok
-returns-in-NoSpace-clause-ok g c = λ tells. rw c.in-NoSpace.is (c.put-in-NoSpace.ensures.ok tells)
+pub returns-in-Bytes-clause-ok : goal.returns-in-Bytes-clause-ok
+returns-in-Bytes-clause-ok g c = λ tells. rw (c.in-Bytes.is, ← c.block.view_is) (c.put_runs.ensures.ok tells)
 
-pub returns-in-NoSpace-clause-err : goal.returns-in-NoSpace-clause-err
-returns-in-NoSpace-clause-err g c = λ tells. rw c.in-NoSpace.is (c.put-in-NoSpace.ensures.err tells)
+pub returns-in-Bytes-clause-err : goal.returns-in-Bytes-clause-err
+returns-in-Bytes-clause-err g c = λ tells. rw (c.in-Bytes.is, ← c.block.view_is) (c.put_runs.ensures.err tells)
 
-pub returns-in-Full-clause-ok : goal.returns-in-Full-clause-ok
-returns-in-Full-clause-ok g c = λ tells. rw c.in-Full.is (c.put-in-Full.ensures.ok tells)
-
-pub returns-in-Full-clause-err : goal.returns-in-Full-clause-err
-returns-in-Full-clause-err g c = λ tells. rw c.in-Full.is (c.put-in-Full.ensures.err tells)
-
-pub returns-in-ReadFault-clause-ok : goal.returns-in-ReadFault-clause-ok
-returns-in-ReadFault-clause-ok g c = λ tells. rw c.in-ReadFault.is (c.put-in-ReadFault.ensures.ok tells)
-
-pub returns-in-ReadFault-clause-err : goal.returns-in-ReadFault-clause-err
-returns-in-ReadFault-clause-err g c = λ tells. rw c.in-ReadFault.is (c.put-in-ReadFault.ensures.err tells)
-
-pub returns-in-Stopped-clause-ok : goal.returns-in-Stopped-clause-ok
-returns-in-Stopped-clause-ok g c = λ tells. rw c.in-Stopped.is (c.put-in-Stopped.ensures.ok tells)
-
-pub returns-in-Stopped-clause-err : goal.returns-in-Stopped-clause-err
-returns-in-Stopped-clause-err g c = λ tells. rw c.in-Stopped.is (c.put-in-Stopped.ensures.err tells)
-
-pub returns-in-Damaged-clause-ok : goal.returns-in-Damaged-clause-ok
-returns-in-Damaged-clause-ok g c = λ tells. rw c.in-Damaged.is (c.put-in-Damaged.ensures.ok tells)
-
-pub returns-in-Damaged-clause-err : goal.returns-in-Damaged-clause-err
-returns-in-Damaged-clause-err g c = λ tells. rw c.in-Damaged.is (c.put-in-Damaged.ensures.err tells)
+pub returns-in-Bytes-clause-cause : goal.returns-in-Bytes-clause-cause
+returns-in-Bytes-clause-cause g c = c.put_runs.ensures.cause
