@@ -4,7 +4,6 @@ use crate::caches::plain::{PlainCache, PlainEntry, State};
 use blk_base::{Geometry, Mapping, PageId, Pbn, Point};
 use map_page_cache::Cache;
 use page_codec::{MapPage, Mappings, PageHead};
-use std::alloc::AllocError;
 use std::test::Fail;
 
 const GEOMETRY: Geometry = Geometry {
@@ -49,17 +48,6 @@ fn read_page(page: PageId) -> MapPage {
     }
 }
 
-// What the slot of a page says, as the number of its block; 0 where it isn't mapped.
-fn block_in(page: &MapPage, slot: u16) -> u64 {
-    if slot >= 812 {
-        return 0;
-    }
-    match page.mappings.get(slot) {
-        Mapping::At(block) => u64::from(block.0),
-        _ => 0,
-    }
-}
-
 // Whether the page was taken; `None` where it is there already.
 fn install(cache: &mut Cache, page: u32) -> Option<u64> {
     let id = leaf(page);
@@ -100,9 +88,16 @@ fn take_expired(cache: &mut Cache, point: u64) -> Option<u64> {
     Some(u64::from(page.index))
 }
 
+// The number of the block that a slot of the page leads to; 0 where it isn't mapped.
 fn block(cache: &Cache, page: u32, slot: u16) -> Option<u64> {
     let found = cache.get(leaf(page))?;
-    Some(block_in(found, slot))
+    if slot >= 812 {
+        return Some(0);
+    }
+    match found.mappings.get(slot) {
+        Mapping::At(block) => Some(u64::from(block.0)),
+        _ => Some(0),
+    }
 }
 
 fn low_point(cache: &Cache) -> Option<u64> {
@@ -196,19 +191,16 @@ fn give_up(cache: &Cache, plain: &mut PlainCache) -> u32 {
 }
 
 // Installs a page in both. Whether both refuse it, or one clean page was given up exactly where no frame was empty.
-fn install_both(cache: &mut Cache, plain: &mut PlainCache, page: u32) -> Result<bool, AllocError> {
-    let (empty, clean, there) = (
-        plain.has_empty_frame(),
-        plain.has_clean_page(),
-        plain.has(page),
-    );
+fn install_both(cache: &mut Cache, plain: &mut PlainCache, page: u32) -> bool {
+    let empty = plain.has_empty_frame();
+    let clean = plain.has_clean_page();
     match install(cache, page) {
-        None => Ok(there),
-        Some(0) => Ok(!empty && !clean),
+        None => plain.has(page),
+        Some(0) => !empty && !clean,
         Some(_) => {
             let given_up = give_up(cache, plain);
-            plain.install(page)?;
-            Ok(given_up == u32::from(!empty))
+            plain.install(page);
+            given_up == u32::from(!empty)
         }
     }
 }
@@ -226,55 +218,46 @@ fn hand_out_both(cache: &mut Cache, plain: &mut PlainCache, point: u64) -> bool 
     }
 }
 
-fn set_both(
-    cache: &mut Cache,
-    plain: &mut PlainCache,
-    page: u32,
-    slot: u16,
-    number: u32,
-) -> Result<bool, AllocError> {
-    let block = number / 512;
-    let point = u64::from(block % 64);
-    plain.set(PlainEntry {
-        page,
-        slot,
-        block: u64::from(block),
-        point,
-        state: State::Set,
-    })?;
-    Ok(set(cache, page, slot, block, point).is_some() == plain.has(page))
-}
-
 // One call of both, which the number chooses, and whether they did alike.
-fn step(cache: &mut Cache, plain: &mut PlainCache, number: u32) -> Result<bool, AllocError> {
+fn step(cache: &mut Cache, plain: &mut PlainCache, call: u32, number: u32) -> bool {
     let page = number / 8 % PAGES;
     match number % 8 {
         0 | 1 => install_both(cache, plain, page),
-        2..=4 => set_both(cache, plain, page, (number / 64 % 4) as u16, number),
-        5 | 6 => Ok(hand_out_both(cache, plain, u64::from(number / 512 % 64))),
-        _ => Ok(written(cache, page).is_some() == plain.written(page)),
+        2..=4 => {
+            let slot = (number / 64 % 4) as u16;
+            let block = number / 512;
+            let point = u64::from(block % 64);
+            let entry = PlainEntry {
+                page,
+                slot,
+                block: u64::from(block),
+                point,
+                state: State::Set,
+            };
+            plain.set(call as usize, entry);
+            set(cache, page, slot, block, point).is_some() == plain.has(page)
+        }
+        5 | 6 => hand_out_both(cache, plain, u64::from(number / 512 % 64)),
+        _ => written(cache, page).is_some() == plain.written(page),
     }
 }
 
-// How many of so many calls, in a fixed order, both answer alike before the first that they don't.
-fn count_alike(cache: &mut Cache, plain: &mut PlainCache, calls: u32) -> Result<u32, AllocError> {
+// How many of 600 calls, in a fixed order, both answer alike before the first that they don't.
+fn count_alike(cache: &mut Cache, plain: &mut PlainCache) -> u32 {
     let mut number: u32 = 1;
-    for call in 0..calls {
+    for call in 0..600_u32 {
         number = number.wrapping_mul(1_664_525).wrapping_add(1_013_904_223);
-        let alike = step(cache, plain, number / 256)?;
-        if !alike || !agree(cache, plain) {
-            return Ok(call);
+        if !step(cache, plain, call, number / 256) || !agree(cache, plain) {
+            return call;
         }
     }
-    Ok(calls)
+    600
 }
 
 // Some hundred calls against a plain list of all entries.
 #[test]
 fn as_a_plain_list(rt: HostRuntime) -> Result<(), Fail> {
     let mut cache = Cache::new(rt.alloc(), 4)?;
-    let mut plain = PlainCache::new(rt.alloc(), 4);
-    let alike = count_alike(&mut cache, &mut plain, 600);
-    assert!(rt; alike == Ok(600));
+    assert!(rt; count_alike(&mut cache, &mut PlainCache::new()) == 600);
     Ok(())
 }

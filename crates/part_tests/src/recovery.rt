@@ -3,7 +3,7 @@ ghost use Rattle.recovery_journal.specs.Log.{IsWriting};
 
 mod plain;
 
-use crate::recovery::plain::PlainJournal;
+use crate::recovery::plain::{PlainJournal, Written};
 use blk_base::{Entry, Geometry, Lba, Mapping, Pbn, Point};
 use recovery_journal::{Journal, no_needed_block_is_overwritten};
 use std::alloc::AllocError;
@@ -42,17 +42,29 @@ fn add(journal: &mut Journal, number: u32) -> Option<(u64, usize)>
     }
 }
 
-// Seals the block and commits it; meanwhile an entry is added to the next block. Gives the block's sequence, its head,
-// and the number of its entries.
-fn write(journal: &mut Journal, number: u32) -> Option<(u64, u64, usize)>
+// No block is sealed while one is written.
+fn seals_none(journal: &mut Journal) -> bool
+    requires { IsWriting journal.old }
+    ensures { journal.new ≡ journal.old }
+{
+    match journal.seal() {
+        Some(_) => false,
+        None => true,
+    }
+}
+
+// Seals the block and commits it; meanwhile an entry is added to the next block.
+fn write(journal: &mut Journal, number: u32) -> Option<Written>
     requires { journal.old.sequence < 2 ^ 54 }
     ensures sequence { journal.new.sequence ≤ journal.old.sequence + 1 }
     ensures zones { length journal.new.marks ≡ length journal.old.marks }
 {
     let block = journal.seal()?;
-    let _ = add(journal, number);
-    journal.committed(block.sequence);
-    Some((block.sequence, block.head, block.entries.len()))
+    let sealed = (block.sequence, block.head, block.entries.len());
+    let seals_none = seals_none(journal);
+    let added = add(journal, number);
+    journal.committed(sealed.0);
+    Some((sealed, seals_none, added))
 }
 
 // Hands out an entry.
@@ -78,17 +90,6 @@ fn reap(journal: &mut Journal, zone: u32, point: u64) -> u64
     below
 }
 
-// No block is sealed while one is written.
-fn seals_none(journal: &mut Journal) -> bool
-    requires { IsWriting journal.old }
-    ensures { journal.new ≡ journal.old }
-{
-    match journal.seal() {
-        Some(_) => false,
-        None => true,
-    }
-}
-
 // An entry that is handed out, with its point, and the point below which entries are reaped then.
 fn hand_out_and_reap(journal: &mut Journal) -> (Option<(Entry, u64)>, u64)
     requires sequence { journal.old.sequence < 2 ^ 55 }
@@ -101,7 +102,7 @@ fn hand_out_and_reap(journal: &mut Journal) -> (Option<(Entry, u64)>, u64)
 }
 
 // Writes so many blocks, and tells of the last.
-fn write_blocks(journal: &mut Journal, first: u32, last: u32) -> Option<(u64, u64, usize)>
+fn write_blocks(journal: &mut Journal, first: u32, last: u32) -> Option<Written>
     requires first { first ≤ last }
     requires sequence { journal.old.sequence ≤ first }
     requires zones { length journal.old.marks ≡ 1 }
@@ -120,7 +121,7 @@ fn fill(
     journal: &mut Journal,
 ) -> (
     Option<(u64, usize)>,
-    [Option<(u64, u64, usize)>; 2],
+    [Option<Written>; 2],
     (Option<(Entry, u64)>, u64),
 )
     requires sequence { journal.old.sequence ≡ 1 }
@@ -156,7 +157,10 @@ fn a_full_ring_waits_for_the_head(rt: HostRuntime) -> Result<(), Fail> {
     let filled = fill(&mut journal);
     let added = reap_and_add(&mut journal);
     no_needed_block_is_overwritten();
-    let written = [Some((1, 1, 1)), Some((8, 2, 1))];
+    let written = [
+        Some(((1, 1, 1), true, Some((2, 0)))),
+        Some(((8, 2, 1), true, None)),
+    ];
     let reaped = (Some((entry(1), 512)), 1024);
     let reaped_next = (Some((entry(2), 1024)), 1536);
     assert!(rt;
@@ -189,27 +193,6 @@ fn add_both(
     Ok(same)
 }
 
-fn write_both(
-    journal: &mut Journal,
-    plain: &mut PlainJournal,
-    number: u32,
-) -> Result<bool, AllocError>
-    requires { journal.old.sequence < 2 ^ 54 }
-    ensures sequence { journal.new.sequence ≤ journal.old.sequence + 1 }
-    ensures zones { length journal.new.marks ≡ length journal.old.marks }
-{
-    let Some(block) = journal.seal() else {
-        return Ok(plain.seal().is_none());
-    };
-    let sealed = plain.seal() == Some((block.sequence, block.head, block.entries.len()));
-    let again = seals_none(journal) && plain.seal().is_none();
-    let place = add(journal, number);
-    journal.committed(block.sequence);
-    plain.committed(block.sequence);
-    let added = place == plain.append(entry(number))?;
-    Ok(sealed && again && added)
-}
-
 fn hand_out_both(journal: &mut Journal, plain: &mut PlainJournal, count: u32) -> bool
     ensures sequence { journal.new.sequence ≡ journal.old.sequence }
     ensures zones { length journal.new.marks ≡ length journal.old.marks }
@@ -221,17 +204,6 @@ fn hand_out_both(journal: &mut Journal, plain: &mut PlainJournal, count: u32) ->
     same
 }
 
-fn reap_both(journal: &mut Journal, plain: &mut PlainJournal, zone: u32, far: u64)
-    requires sequence { journal.old.sequence < 2 ^ 55 }
-    requires zone { zone < length journal.old.marks }
-    ensures sequence { journal.new.sequence ≡ journal.old.sequence }
-    ensures zones { length journal.new.marks ≡ length journal.old.marks }
-{
-    let point = journal.head().saturating_mul(512).saturating_add(far);
-    let below = reap(journal, zone, point);
-    plain.watermark(zone as usize, below);
-}
-
 // One step, which a number chooses.
 fn step(journal: &mut Journal, plain: &mut PlainJournal, number: u64) -> Result<bool, AllocError>
     requires sequence { journal.old.sequence < 2 ^ 54 }
@@ -241,16 +213,20 @@ fn step(journal: &mut Journal, plain: &mut PlainJournal, number: u64) -> Result<
 {
     let rest = number / 4;
     let small = (rest % 250) as u32;
-    let same = match number % 4 {
-        0 => add_both(journal, plain, small, small)?,
-        1 => write_both(journal, plain, small)?,
-        2 => hand_out_both(journal, plain, small),
+    match number % 4 {
+        0 => add_both(journal, plain, small, small),
+        1 => Ok(write(journal, small) == plain.write(entry(small))?),
+        2 => Ok(hand_out_both(journal, plain, small)),
         _ => {
-            reap_both(journal, plain, small % 2, rest % 4096);
-            true
+            let zone = small % 2;
+            let point = journal
+                .head()
+                .saturating_mul(512)
+                .saturating_add(rest % 4096);
+            plain.watermark(zone as usize, reap(journal, zone, point));
+            Ok(true)
         }
-    };
-    Ok(same && journal.head() == plain.head())
+    }
 }
 
 // How many of 300 steps both make alike before the first that they don't.
@@ -263,7 +239,7 @@ fn count_alike(journal: &mut Journal, plain: &mut PlainJournal) -> Result<u64, A
         number = number
             .wrapping_mul(6364136223846793005)
             .wrapping_add(1442695040888963407);
-        if !step(journal, plain, number >> 33)? {
+        if !step(journal, plain, number >> 33)? || journal.head() != plain.head() {
             return Ok(turn);
         }
     }

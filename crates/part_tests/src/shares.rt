@@ -4,28 +4,21 @@ ghost use Rattle.hash_locks.specs.Sharing.{nothing};
 use blk_base::Block;
 use block_names::Name;
 use hash_locks::{HasBlock, HashLocks, Role};
-use std::alloc::{AllocError, Global};
 use std::test::Fail;
 
-// A box with a mark and a block.
+// A mark and a block.
 #[derive(Drop)]
 struct Marked {
     mark: u8,
-    block: Box<Block>,
+    block: Block,
 }
 
 impl HasBlock for Marked {
-    ghost bytes_of = { λ m. m.block.value };
+    ghost bytes_of = { λ m. m.block };
 
     fn block(&self) -> &Block {
         &self.block
     }
-}
-
-fn block_with(alloc: Global, mark: u8, last: u8) -> Result<Marked, AllocError> {
-    let mut block = Box::new(alloc, Block::zero())?;
-    block.bytes[4095] = last;
-    Ok(Marked { mark, block })
 }
 
 // The role as a letter, with the mark of the value that came back.
@@ -38,37 +31,27 @@ fn told(role: Role<Marked>) -> (char, u8) {
 }
 
 // A block arrives with this mark and this last byte.
-fn arrive(
-    locks: &mut HashLocks<Marked>,
-    alloc: Global,
-    name: &Name,
-    mark: u8,
-    last: u8,
-) -> Result<(char, u8), AllocError>
+fn arrive(locks: &mut HashLocks<Marked>, name: &Name, mark: u8, last: u8) -> (char, u8)
     requires { length locks.old.held + length locks.old.waiting < locks.old.room }
     ensures grows { length locks.new.held + length locks.new.waiting ≤ length locks.old.held + length locks.old.waiting + 1 }
     ensures room { locks.new.room ≡ locks.old.room }
 {
-    let block = block_with(alloc, mark, last)?;
-    Ok(told(locks.arrive(name, block)))
+    let mut block = Block::zero();
+    block.bytes[4095] = last;
+    told(locks.arrive(name, Marked { mark, block }))
 }
 
 // Blocks arrive under one name that differ in their last byte alone, and one under another name.
-fn arrive_all(
-    locks: &mut HashLocks<Marked>,
-    alloc: Global,
-    one: &Name,
-    other: &Name,
-) -> Result<[(char, u8); 5], AllocError>
+fn arrive_all(locks: &mut HashLocks<Marked>, one: &Name, other: &Name) -> [(char, u8); 5]
     requires { locks.old ≡ nothing _ 5 }
 {
-    Ok([
-        arrive(locks, alloc, one, 1, 7)?,
-        arrive(locks, alloc, one, 2, 7)?,
-        arrive(locks, alloc, one, 3, 8)?,
-        arrive(locks, alloc, other, 4, 8)?,
-        arrive(locks, alloc, one, 5, 7)?,
-    ])
+    [
+        arrive(locks, one, 1, 7),
+        arrive(locks, one, 2, 7),
+        arrive(locks, one, 3, 8),
+        arrive(locks, other, 4, 8),
+        arrive(locks, one, 5, 7),
+    ]
 }
 
 // The mark of the next that shares the agent's block.
@@ -98,9 +81,9 @@ fn agents_waiters_and_others(rt: HostRuntime) -> Result<(), Fail> {
     let one = Name::new([1; 16]);
     let other = Name::new([2; 16]);
     let mut locks = HashLocks::new(rt.alloc(), 5)?;
-    let arrived = arrive_all(&mut locks, rt.alloc(), &one, &other);
+    let arrived = arrive_all(&mut locks, &one, &other);
     let left = leave_all(&mut locks, &one);
     let roles = [('a', 1), ('w', 0), ('n', 3), ('a', 4), ('w', 0)];
-    assert!(rt; (arrived, left) == (Ok(roles), [Some(2), Some(5), None, None, None]));
+    assert!(rt; (arrived, left) == (roles, [Some(2), Some(5), None, None, None]));
     Ok(())
 }

@@ -66,12 +66,30 @@ fn is_like(tree: &TreeNodes, plain: &Plain, at: Lba) -> bool
         && tree.low_point() == plain.low_point()
 }
 
-// Links the highest page that the path misses.
-fn link_next(
+// Links the highest page that the path misses, if there is one, and gives it.
+fn link_next(tree: &mut TreeNodes, at: Lba, block: Pbn, point: Point) -> Option<PageId>
+    requires form { IsTree tree.old }
+    requires sizes { tree.old.geometry ≡ GEOMETRY }
+    requires inside { at.0 < GEOMETRY.logical }
+    ensures form { IsTree tree.new }
+    ensures sizes { tree.new.geometry ≡ GEOMETRY }
+    ensures out { (page : PageId) → IsWriting tree.old page → IsWriting tree.new page }
+{
+    match tree.find(&path(at, GEOMETRY.height)) {
+        Found::Leaf(_) => None,
+        Found::Missing(level) => {
+            let page = page_at(at, level);
+            tree.link(page, block, point);
+            Some(page)
+        }
+    }
+}
+
+// Links the page in both.
+fn link_both(
     tree: &mut TreeNodes,
     plain: &mut Plain,
     at: Lba,
-    block: Pbn,
     point: Point,
 ) -> Result<(), AllocError>
     requires form { IsTree tree.old }
@@ -81,13 +99,10 @@ fn link_next(
     ensures sizes { tree.new.geometry ≡ GEOMETRY }
     ensures out { (page : PageId) → IsWriting tree.old page → IsWriting tree.new page }
 {
-    match tree.find(&path(at, GEOMETRY.height)) {
-        Found::Leaf(_) => Ok(()),
-        Found::Missing(level) => {
-            let page = page_at(at, level);
-            tree.link(page, block, point);
-            plain.link(page, block, point)
-        }
+    let block = Pbn(at.0 / 7);
+    match link_next(tree, at, block, point) {
+        Some(page) => plain.link(page, block, point),
+        None => Ok(()),
     }
 }
 
@@ -126,7 +141,7 @@ fn cycle(
     ensures form { IsTree tree.new }
     ensures sizes { tree.new.geometry ≡ GEOMETRY }
 {
-    link_next(tree, plain, one, Pbn(one.0 / 7), Point(limit.0 ^ 3))?;
+    link_both(tree, plain, one, Point(limit.0 ^ 3))?;
     let linked = is_like(tree, plain, one);
     let mut into = blank_page();
     let taken = tree.take_expired(limit, &mut into);
@@ -135,7 +150,7 @@ fn cycle(
         return Ok(linked && handed_out);
     };
     let links = count_links(&into.mappings) == plain.count_below(page);
-    link_next(tree, plain, other, Pbn(other.0 / 7), Point(limit.0 ^ 12))?;
+    link_both(tree, plain, other, Point(limit.0 ^ 12))?;
     let written = write_one(tree, plain, limit);
     let still = is_like(tree, plain, other);
     tree.written(page);
@@ -250,23 +265,22 @@ fn find_three(tree: &TreeNodes) -> [Found; 3]
 }
 
 // Links the two pages that the path of an address misses, and finds it then.
-fn link_two(tree: &mut TreeNodes, plain: &mut Plain) -> Result<Found, AllocError>
+fn link_two(tree: &mut TreeNodes) -> Found
     requires form { IsTree tree.old }
     requires sizes { tree.old.geometry ≡ GEOMETRY }
 {
-    link_next(tree, plain, Lba(812), Pbn(92), Point(8))?;
-    link_next(tree, plain, Lba(812), Pbn(93), Point(6))?;
-    Ok(tree.find(&path(Lba(812), 3)))
+    let _ = link_next(tree, Lba(812), Pbn(92), Point(8));
+    let _ = link_next(tree, Lba(812), Pbn(93), Point(6));
+    tree.find(&path(Lba(812), 3))
 }
 
 #[test]
 fn opened_pages_lead_on(rt: HostRuntime) -> Result<(), Fail> {
     let mut tree = small_tree(rt.alloc())?;
-    let mut plain = Plain::new(rt.alloc(), &GEOMETRY);
     let found = find_three(&tree);
     let stand = [tree.at(page_at(Lba(812), 2)), tree.at(page_at(Lba(812), 1))];
     let clean = tree.low_point();
-    let linked = link_two(&mut tree, &mut plain);
+    let linked = link_two(&mut tree);
     let marks = [clean, tree.low_point()];
     let wanted = [Found::Leaf(Pbn(91)), Found::Missing(0), Found::Missing(1)];
     assert!(rt;
@@ -274,23 +288,17 @@ fn opened_pages_lead_on(rt: HostRuntime) -> Result<(), Fail> {
             == (
                 wanted,
                 [Some(Pbn(10)), None],
-                Ok(Found::Leaf(Pbn(93))),
+                Found::Leaf(Pbn(93)),
                 [None, Some(Point(6))]
             )
     );
     Ok(())
 }
 
-// What is handed out to be written.
-#[derive(Clone, Copy, PartialEq, Eq)]
-struct Changed {
-    page: PageId,
-    at: Pbn,
-    mappings: [Mapping; 2],
-    low: Option<Point>,
-}
+// What is handed out to be written: the page, its block and two of its mappings; and the low point then.
+type Changed = (PageId, Pbn, [Mapping; 2], Option<Point>);
 
-// The page that is due at this point, with two of its mappings, is handed out and reported.
+// The page that is due at this point is handed out and reported.
 fn write_changed(tree: &mut TreeNodes, limit: Point) -> Option<Changed>
     requires { IsTree tree.old }
     ensures form { IsTree tree.new }
@@ -299,38 +307,26 @@ fn write_changed(tree: &mut TreeNodes, limit: Point) -> Option<Changed>
     let page = tree.take_expired(limit, &mut into)?;
     let low = tree.low_point();
     tree.written(page);
-    Some(Changed {
-        page,
-        at: into.head.at,
-        mappings: [into.mappings.get(0), into.mappings.get(5)],
-        low,
-    })
+    let mappings = [into.mappings.get(0), into.mappings.get(5)];
+    Some((page, into.head.at, mappings, low))
 }
 
 // A page is linked at point 8: what is due at point 7, at point 8, and the low point then.
-fn link_and_write(
-    tree: &mut TreeNodes,
-    plain: &mut Plain,
-) -> Result<([Option<Changed>; 2], Option<Point>), AllocError>
+fn link_and_write(tree: &mut TreeNodes) -> ([Option<Changed>; 2], Option<Point>)
     requires form { IsTree tree.old }
     requires sizes { tree.old.geometry ≡ GEOMETRY }
 {
-    link_next(tree, plain, Lba(0), Pbn(92), Point(8))?;
+    let _ = link_next(tree, Lba(0), Pbn(92), Point(8));
     let written = [write_changed(tree, Point(7)), write_changed(tree, Point(8))];
-    Ok((written, tree.low_point()))
+    (written, tree.low_point())
 }
 
 #[test]
 fn a_changed_page_is_written(rt: HostRuntime) -> Result<(), Fail> {
     let mut tree = small_tree(rt.alloc())?;
-    let mut plain = Plain::new(rt.alloc(), &GEOMETRY);
-    let written = link_and_write(&mut tree, &mut plain);
-    let changed = Changed {
-        page: page_at(Lba(0), 1),
-        at: Pbn(90),
-        mappings: [Mapping::At(Pbn(92)), Mapping::At(Pbn(91))],
-        low: Some(Point(8)),
-    };
-    assert!(rt; written == Ok(([None, Some(changed)], None)));
+    let written = link_and_write(&mut tree);
+    let mappings = [Mapping::At(Pbn(92)), Mapping::At(Pbn(91))];
+    let changed = (page_at(Lba(0), 1), Pbn(90), mappings, Some(Point(8)));
+    assert!(rt; written == ([None, Some(changed)], None));
     Ok(())
 }

@@ -3,7 +3,7 @@ ghost use Rattle.slab_journal.specs.Slab.{IsWriting};
 
 mod plain;
 
-use crate::updates::plain::PlainJournal;
+use crate::updates::plain::{PlainJournal, Written};
 use blk_base::{Geometry, Pbn, Point};
 use slab_codec::SlabJournalBlock;
 use slab_journal::{SlabJournal, Update};
@@ -49,19 +49,6 @@ fn told(block: &SlabJournalBlock) -> (u64, usize, u64, u64) {
     (block.sequence, block.entries.len(), points, offsets)
 }
 
-// Seals the block, and tells it durable.
-fn write(journal: &mut SlabJournal) -> Option<(u64, usize, u64, u64)>
-    requires small { (journal.old.geometry ≡ SMALL) × (journal.old.slab ≡ 0) }
-    requires sequence { journal.old.sequence < 2 ^ 54 }
-    ensures small { (journal.new.geometry ≡ SMALL) × (journal.new.slab ≡ 0) }
-    ensures sequence { journal.new.sequence ≤ journal.old.sequence + 1 }
-    ensures sectors { length journal.new.commits ≡ length journal.old.commits }
-{
-    let block = journal.seal()?;
-    journal.durable(block.sequence);
-    Some(told(&block))
-}
-
 // No block is sealed while one is written.
 fn seals_none(journal: &mut SlabJournal) -> bool
     requires writing { IsWriting journal.old }
@@ -74,9 +61,23 @@ fn seals_none(journal: &mut SlabJournal) -> bool
     }
 }
 
+// Seals the block, and tells it durable.
+fn write(journal: &mut SlabJournal) -> Option<Written>
+    requires small { (journal.old.geometry ≡ SMALL) × (journal.old.slab ≡ 0) }
+    requires sequence { journal.old.sequence < 2 ^ 54 }
+    ensures small { (journal.new.geometry ≡ SMALL) × (journal.new.slab ≡ 0) }
+    ensures sequence { journal.new.sequence ≤ journal.old.sequence + 1 }
+    ensures sectors { length journal.new.commits ≡ length journal.old.commits }
+{
+    let block = journal.seal()?;
+    let seals_none = seals_none(journal);
+    journal.durable(block.sequence);
+    Some((told(&block), seals_none))
+}
+
 // Two blocks are written, and an update is added to the third. Whether each update was taken, and what was written before
 // any, then, and last.
-fn fill_both_slots(journal: &mut SlabJournal) -> ([bool; 4], [Option<(u64, usize, u64, u64)>; 3])
+fn fill_both_slots(journal: &mut SlabJournal) -> ([bool; 4], [Option<Written>; 3])
     requires small { (journal.old.geometry ≡ SMALL) × (journal.old.slab ≡ 0) }
     requires sequence { journal.old.sequence ≡ 1 }
     ensures small { (journal.new.geometry ≡ SMALL) × (journal.new.slab ≡ 0) }
@@ -98,7 +99,7 @@ fn fill_both_slots(journal: &mut SlabJournal) -> ([bool; 4], [Option<(u64, usize
 
 // Both sectors of the first block are covered, one after the other. Whether its slot may be overwritten before, in
 // between and then, and what is written before and then.
-fn cover_first_block(journal: &mut SlabJournal) -> ([bool; 3], [Option<(u64, usize, u64, u64)>; 2])
+fn cover_first_block(journal: &mut SlabJournal) -> ([bool; 3], [Option<Written>; 2])
     requires small { (journal.old.geometry ≡ SMALL) × (journal.old.slab ≡ 0) }
     requires sequence { journal.old.sequence ≤ 4 }
     requires sectors { length journal.old.commits ≡ 2 }
@@ -120,8 +121,12 @@ fn a_slot_waits_for_its_sectors(rt: HostRuntime) -> Result<(), Fail> {
     let mut journal = SlabJournal::new(rt.alloc(), &SMALL, 0)?;
     let filled = fill_both_slots(&mut journal);
     let covered = cover_first_block(&mut journal);
-    let written = [None, Some((1, 2, 1025, 1007)), Some((2, 1, 514, 999))];
-    let written_then = [None, Some((3, 1, 600, 0))];
+    let written = [
+        None,
+        Some(((1, 2, 1025, 1007), true)),
+        Some(((2, 1, 514, 999), true)),
+    ];
+    let written_then = [None, Some(((3, 1, 600, 0), true))];
     assert!(rt; (filled, covered) == (([true; 4], written), ([false, false, true], written_then)));
     Ok(())
 }
@@ -148,34 +153,6 @@ fn add_both(
     Ok(same)
 }
 
-fn write_both(journal: &mut SlabJournal, plain: &mut PlainJournal) -> bool
-    requires small { (journal.old.geometry ≡ SMALL) × (journal.old.slab ≡ 0) }
-    requires sequence { journal.old.sequence < 2 ^ 54 }
-    ensures small { (journal.new.geometry ≡ SMALL) × (journal.new.slab ≡ 0) }
-    ensures sequence { journal.new.sequence ≤ journal.old.sequence + 1 }
-    ensures sectors { length journal.new.commits ≡ length journal.old.commits }
-{
-    let Some(block) = journal.seal() else {
-        return plain.seal().is_none();
-    };
-    let sealed = plain.seal() == Some(told(&block));
-    let again = seals_none(journal);
-    journal.durable(block.sequence);
-    plain.durable(block.sequence);
-    sealed && again
-}
-
-fn cover_both(journal: &mut SlabJournal, plain: &mut PlainJournal, sector: u32, point: u64)
-    requires small { (journal.old.geometry ≡ SMALL) × (journal.old.slab ≡ 0) }
-    requires sector { sector < length journal.old.commits }
-    ensures small { (journal.new.geometry ≡ SMALL) × (journal.new.slab ≡ 0) }
-    ensures sequence { journal.new.sequence ≡ journal.old.sequence }
-    ensures sectors { length journal.new.commits ≡ length journal.old.commits }
-{
-    journal.reference_durable(sector, Point(point));
-    plain.reference_durable(sector as usize, point);
-}
-
 // One step, which a number chooses. `now` is the point that the updates have reached.
 fn step(
     journal: &mut SlabJournal,
@@ -191,16 +168,17 @@ fn step(
     ensures sectors { length journal.new.commits ≡ 2 }
 {
     let rest = number / 4;
-    let same = match number % 4 {
-        0 => add_both(journal, plain, now, (rest % 250) as u32)?,
-        1 => write_both(journal, plain),
+    match number % 4 {
+        0 => add_both(journal, plain, now, (rest % 250) as u32),
+        1 => Ok(write(journal) == plain.write()),
         _ => {
-            let back = rest / 2 % 1500;
-            cover_both(journal, plain, (rest % 2) as u32, now.saturating_sub(back));
-            true
+            let sector = (rest % 2) as u32;
+            let point = now.saturating_sub(rest / 2 % 1500);
+            journal.reference_durable(sector, Point(point));
+            plain.reference_durable(sector as usize, point);
+            Ok(true)
         }
-    };
-    Ok(same && journal.may_overwrite() == plain.may_overwrite())
+    }
 }
 
 // How many of 300 steps both make alike before the first that they don't.
@@ -214,7 +192,8 @@ fn count_alike(journal: &mut SlabJournal, plain: &mut PlainJournal) -> Result<u6
         number = number
             .wrapping_mul(6364136223846793005)
             .wrapping_add(1442695040888963407);
-        if !step(journal, plain, 512 + turn * 250, number >> 33)? {
+        let alike = step(journal, plain, 512 + turn * 250, number >> 33)?;
+        if !alike || journal.may_overwrite() != plain.may_overwrite() {
             return Ok(turn);
         }
     }

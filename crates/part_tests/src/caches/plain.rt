@@ -1,12 +1,12 @@
-use std::alloc::{AllocError, Global};
+// How many entries it has room for.
+const ENTRIES: usize = 600;
 
-/// The same cache as a plain list of all entries that were set, with how far each of them has come. Pages go by their
-/// number, and mappings by that of their block.
-#[derive(Drop)]
+/// The same cache of four frames as a plain list of all entries that were set, with how far each of them has come. Pages
+/// go by their number, and mappings by that of their block.
+#[derive(Clone, Copy)]
 pub(crate) struct PlainCache {
-    frames: usize,
-    pages: Vec<u32>,
-    entries: Vec<PlainEntry>,
+    frames: [Option<u32>; 4],
+    entries: [PlainEntry; ENTRIES],
 }
 
 #[derive(Clone, Copy)]
@@ -23,19 +23,26 @@ pub(crate) enum State {
     Set,
     HandedOut,
     Durable,
+    Forgotten,
 }
 
 impl PlainCache {
-    pub(crate) fn new(alloc: Global, frames: usize) -> PlainCache {
+    pub(crate) fn new() -> PlainCache {
+        let nothing = PlainEntry {
+            page: 0,
+            slot: 0,
+            block: 0,
+            point: 0,
+            state: State::Forgotten,
+        };
         PlainCache {
-            frames,
-            pages: Vec::new(alloc),
-            entries: Vec::new(alloc),
+            frames: [None; 4],
+            entries: [nothing; ENTRIES],
         }
     }
 
     pub(crate) fn has(&self, page: u32) -> bool {
-        self.pages.contains(&page)
+        self.frames.contains(&Some(page))
     }
 
     /// The block of a slot of a page that is there; 0 where it isn't mapped.
@@ -45,7 +52,7 @@ impl PlainCache {
         }
         let mut block = 0;
         for entry in &self.entries {
-            if entry.page == page && entry.slot == slot {
+            if entry.page == page && entry.slot == slot && entry.state != State::Forgotten {
                 block = entry.block;
             }
         }
@@ -75,47 +82,63 @@ impl PlainCache {
         }
     }
 
+    // Puts the page, or nothing, in the first frame that has this.
+    fn exchange(&mut self, from: Option<u32>, to: Option<u32>) {
+        for frame in &mut self.frames {
+            if *frame == from {
+                *frame = to;
+                return;
+            }
+        }
+    }
+
     pub(crate) fn has_empty_frame(&self) -> bool {
-        self.pages.len() < self.frames
+        self.frames.contains(&None)
     }
 
     pub(crate) fn has_clean_page(&self) -> bool {
-        for page in &self.pages {
-            if self.is_clean(*page) {
+        for frame in self.frames {
+            if let Some(page) = frame
+                && self.is_clean(page)
+            {
                 return true;
             }
         }
         false
     }
 
-    pub(crate) fn install(&mut self, page: u32) -> Result<(), AllocError> {
-        self.pages.push(page)?;
-        Ok(())
+    pub(crate) fn install(&mut self, page: u32) {
+        self.exchange(None, Some(page));
     }
 
     /// Gives up a page. Whether it was there and clean.
     pub(crate) fn give_up(&mut self, page: u32) -> bool {
-        if !self.has(page) || !self.is_clean(page) {
-            return false;
+        let clean = self.has(page) && self.is_clean(page);
+        if clean {
+            self.exchange(Some(page), None);
+            self.change(page, State::Durable, State::Forgotten);
         }
-        self.pages.retain(|other| *other != page);
-        self.entries.retain(|entry| entry.page != page);
-        true
+        clean
     }
 
-    pub(crate) fn set(&mut self, entry: PlainEntry) -> Result<(), AllocError> {
-        if self.has(entry.page) {
-            self.entries.push(entry)?;
+    /// Keeps the entry of this call, if its page is there.
+    pub(crate) fn set(&mut self, call: usize, entry: PlainEntry) {
+        let there = self.has(entry.page);
+        if let Some(kept) = self.entries.get_mut(call)
+            && there
+        {
+            *kept = entry;
         }
-        Ok(())
     }
 
     /// The least first dirty point of the pages that aren't being written.
     pub(crate) fn first_due(&self) -> Option<u64> {
         let mut first = None;
-        for page in &self.pages {
-            if self.least(*page, State::HandedOut).is_none() {
-                first = lesser(first, self.least(*page, State::Set));
+        for frame in self.frames {
+            if let Some(page) = frame
+                && self.least(page, State::HandedOut).is_none()
+            {
+                first = lesser(first, self.least(page, State::Set));
             }
         }
         first
@@ -132,18 +155,16 @@ impl PlainCache {
 
     /// Whether the page was being written. All that was handed out is durable then.
     pub(crate) fn written(&mut self, page: u32) -> bool {
-        if self.least(page, State::HandedOut).is_none() {
-            return false;
-        }
+        let handed_out = self.least(page, State::HandedOut).is_some();
         self.change(page, State::HandedOut, State::Durable);
-        true
+        handed_out
     }
 
     /// The least point of an entry that isn't durable.
     pub(crate) fn low_point(&self) -> Option<u64> {
         let mut low = None;
         for entry in &self.entries {
-            if entry.state != State::Durable {
+            if entry.state == State::Set || entry.state == State::HandedOut {
                 low = lesser(low, Some(entry.point));
             }
         }

@@ -7,6 +7,10 @@ const PER_BLOCK: usize = 192;
 
 const POINTS_PER_BLOCK: u64 = 512;
 
+/// What is told of a block that was written: its sequence, its head and the number of its entries; whether no other could be
+/// sealed meanwhile; and the place of an entry that was added meanwhile, if it was taken.
+pub(crate) type Written = ((u64, u64, usize), bool, Option<(u64, usize)>);
+
 /// A journal as the list of all its entries, which every call looks through.
 #[derive(Drop)]
 pub(crate) struct PlainJournal {
@@ -75,8 +79,8 @@ impl PlainJournal {
         Ok(Some((self.sequence, number)))
     }
 
-    /// The block's sequence, its head and the number of its entries, or `None`.
-    pub(crate) fn seal(&mut self) -> Option<(u64, u64, usize)> {
+    // The block's sequence, its head and the number of its entries, or `None`.
+    fn seal(&mut self) -> Option<(u64, u64, usize)> {
         let count = self.count();
         if count == 0 || self.committed < self.sequence {
             return None;
@@ -86,8 +90,15 @@ impl PlainJournal {
         Some(sealed)
     }
 
-    pub(crate) fn committed(&mut self, sequence: u64) {
-        self.committed = sequence.saturating_add(1);
+    /// Seals the block, adds an entry to the next one, and commits the block.
+    pub(crate) fn write(&mut self, entry: Entry) -> Result<Option<Written>, AllocError> {
+        let Some(sealed) = self.seal() else {
+            return Ok(None);
+        };
+        let seals_none = self.seal().is_none();
+        let added = self.append(entry)?;
+        self.committed = sealed.0.saturating_add(1);
+        Ok(Some((sealed, seals_none, added)))
     }
 
     /// The next entry with its point, or `None`.

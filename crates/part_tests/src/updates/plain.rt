@@ -6,6 +6,10 @@ const PER_BLOCK: usize = 320;
 
 const PER_SECTOR: u32 = 504;
 
+/// What is told of a block that was written: its sequence, the number of its updates and the sums of their points and
+/// offsets; and whether no other could be sealed meanwhile.
+pub(crate) type Written = ((u64, usize, u64, u64), bool);
+
 /// A slab's journal as the list of all its updates, which every call looks through.
 #[derive(Drop)]
 pub(crate) struct PlainJournal {
@@ -79,8 +83,8 @@ impl PlainJournal {
         Ok(true)
     }
 
-    /// The block's sequence, the number of its updates and the sums of their points and offsets, or `None`.
-    pub(crate) fn seal(&mut self) -> Option<(u64, usize, u64, u64)> {
+    // The block's sequence, the number of its updates and the sums of their points and offsets, or `None`.
+    fn seal(&mut self) -> Option<(u64, usize, u64, u64)> {
         let count = self.count();
         if count == 0 || self.durable < self.sequence || !self.may_overwrite() {
             return None;
@@ -98,8 +102,12 @@ impl PlainJournal {
         Some((sequence, count, points, offsets))
     }
 
-    pub(crate) fn durable(&mut self, sequence: u64) {
-        self.durable = sequence.saturating_add(1);
+    /// Seals the block, and tells it durable.
+    pub(crate) fn write(&mut self) -> Option<Written> {
+        let sealed = self.seal()?;
+        let seals_none = self.seal().is_none();
+        self.durable = sealed.0.saturating_add(1);
+        Some((sealed, seals_none))
     }
 
     pub(crate) fn reference_durable(&mut self, sector: usize, point: u64) {
