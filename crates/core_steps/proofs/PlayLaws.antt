@@ -3,6 +3,8 @@ use Rattle.std.proofs.Math.Seq.{drop-cons}
 use Rattle.std.proofs.Common.{arith, subst, ◌<◌, ◌≤◌, ◌+◌, length, drop, get_or, ◌≡◌, ℕ, zero, suc, Bool, List, [], ◌∷◌, ◌++◌, Some, slice_get, slice_set, refl, sym, ap, ◌∙◌, append_assoc, inl, inr}
 use Rattle.std.proofs.lemmas.List.{append-nil, drop_all}
 use Rattle.std.proofs.lemmas.Option.{same_Some}
+use Rattle.std.specs.List.{AllByRecursion}
+use Rattle.std.proofs.lemmas.List.Elements.{All-from_recursion}
 use Rattle.disk_model.specs.declared.call.Call.{Call}
 use Rattle.core_laws.specs.declared.sizes.Sizes.{Sizes}
 use Rattle.core_laws.specs.declared.zones.Zone.{Zone}
@@ -11,7 +13,7 @@ use Rattle.core_laws.specs.Steps.Leads.{rests, steps, moves}
 use Rattle.core_laws.specs.Trace.{Trace, calls}
 use Rattle.core_laws.proofs.Parts.{calls_append}
 use Rattle.core_steps.specs.Moves.{HasNothing}
-use Rattle.core_steps.specs.Plays.{core_of, StepsAt, MovesAll, PlaysOne, Plays, LeadsTo}
+use Rattle.core_steps.specs.Plays.{core_of, StepsAt, MovesAll, HasNoWork, PlaysOne, Plays, LeadsTo}
 use Rattle.core_steps.specs.declared.events.Event.{Event}
 use Rattle.core_steps.specs.declared.events.Event.TheVariants as event
 use Rattle.core_steps.specs.declared.fault.Stepped.{Stepped}
@@ -111,3 +113,27 @@ next_plays tells sizes events n d a b later log log' log'' within one rest =
 pub none_left : (tells : Bool) (sizes : Sizes) (events : List Event) (n : ℕ) (a : List Zone) (log : List Call)
     → length events ≤ n → Plays tells sizes (drop n events) a a log log
 none_left tells sizes events n a log past = subst (λ (es : List Event). Plays tells sizes es a a log log) (sym (drop_all n events past)) (refl, refl)
+
+-- a zone that steps isn't idle, so there was work for its event
+pub step_busy : (tells : Bool) (sizes : Sizes) (n : ℕ) (a b : List Zone) (log log' : List Call) → StepsAt tells sizes n a b log log'
+    → ((z : Zone) → slice_get a n ≡ Some z → IsIdle sizes z → ⊥) → HasNoWork sizes a (event.Step n) → ⊥
+step_busy tells sizes n a b log log' at busy none = busy at.zone at.had (none at.zone at.had)
+
+-- where no zone changed, there is still none
+pub none_still : (sizes : Sizes) (a b : List Zone) (e : Event) → a ≡ b → HasNoWork sizes a e → HasNoWork sizes b e
+none_still sizes a b e same none = subst (λ (zones : List Zone). HasNoWork sizes zones e) same none
+
+-- there is no work for an event of these, and for one before them
+pub next_none : (P : Event → Type 0) (events : List Event) (n : ℕ) (d : Event) → n < length events
+    → P (get_or events n d) → AllByRecursion P (drop (n + 1) events) → AllByRecursion P (drop n events)
+next_none P events n d within one rest =
+    let next : n + 1 ≡ suc n = omega (arith) in
+    subst (AllByRecursion P) (sym (drop-cons events n d within)) (one, subst (λ (m : ℕ). AllByRecursion P (drop m events)) next rest)
+
+-- there is none for those that are left where none is left
+pub none_for_none : (P : Event → Type 0) (events : List Event) (n : ℕ) → length events ≤ n → AllByRecursion P (drop n events)
+none_for_none P events n past = subst (AllByRecursion P) (sym (drop_all n events past)) tt
+
+-- there is none for one of these, where there is none for any
+pub none_for_one : (P : Event → Type 0) (events : List Event) (n : ℕ) (d : Event) → n < length events → AllByRecursion P events → P (get_or events n d)
+none_for_one P events n d within none = All-from_recursion P events none n d within

@@ -37,12 +37,17 @@ pub record MovesAll (from to : ℕ) (old new : List Zone) : Type 0 where
   pub outbox : slice_get source.outboxes to ≡ Some part
   pub has : new ≡ slice_set (slice_set old from (record source { outboxes = slice_set source.outboxes to [] })) to (record target { inbox = target.inbox ++ part })
 
+-- there is no work for an event: no zone of its number can step, or there is nothing to move
+abbrev pub HasNoWork : Sizes → List Zone → Event → Type 0
+HasNoWork sizes zones (event.Step number) = (z : Zone) → slice_get zones number ≡ Some z → IsIdle sizes z
+HasNoWork sizes zones (event.Move from to) = HasNothing zones from to
+
 -- an event: the zone steps, or all moves; or nothing happens, where there is no work for it
 abbrev pub PlaysOne : Bool → Sizes → Event → List Zone → List Zone → List Call → List Call → Type 0
 PlaysOne tells sizes (event.Step number) old new before after =
-    StepsAt tells sizes number old new before after ⊎ (((z : Zone) → slice_get old number ≡ Some z → IsIdle sizes z) × (new ≡ old) × (after ≡ before))
+    StepsAt tells sizes number old new before after ⊎ (HasNoWork sizes old (event.Step number) × (new ≡ old) × (after ≡ before))
 PlaysOne tells sizes (event.Move from to) old new before after =
-    (MovesAll from to old new × (after ≡ before)) ⊎ (HasNothing old from to × (new ≡ old) × (after ≡ before))
+    (MovesAll from to old new × (after ≡ before)) ⊎ (HasNoWork sizes old (event.Move from to) × (new ≡ old) × (after ≡ before))
 
 -- all of these, one after another
 abbrev pub Plays : Bool → Sizes → List Event → List Zone → List Zone → List Call → List Call → Type 0

@@ -1,8 +1,9 @@
-ghost use Rattle.std.specs.Prelude.{◌≡◌, Some, IfOk, IfErr, OnOk, slice_get};
+ghost use Rattle.std.specs.Prelude.{◌≡◌, ◌⊎◌, Some, IfOk, IfErr, OnOk, slice_get};
+ghost use Rattle.std.specs.List.{AllByRecursion};
 ghost use Rattle.core_laws.specs.declared.zones.Zone.{Zone};
 ghost use Rattle.core_laws.specs.Steps.{IsIdle};
 ghost use Rattle.core_steps.specs.Causes.{FaltersAt, OneFalters, FaltersAfter};
-ghost use Rattle.core_steps.specs.Plays.{StepsAt, PlaysOne, Plays, LeadsTo};
+ghost use Rattle.core_steps.specs.Plays.{StepsAt, HasNoWork, PlaysOne, Plays, LeadsTo};
 ghost use Rattle.core_steps.specs.declared.fault.Stepped.TheVariants.{Did, Idle};
 
 use crate::moving::move_items;
@@ -57,6 +58,8 @@ fn play_one<D: Disk>(
     ensures opening { D.opening disk.new ≡ D.opening disk.old }
     ensures plays { OnOk result (PlaysOne D.tells sizes.now event zones.old zones.new (D.log disk.old) (D.log disk.new)) }
     ensures leads { OnOk result (LeadsTo D.tells sizes.now zones.old zones.new (D.log disk.old) (D.log disk.new)) }
+    ensures busy { IfOk result (λ stepped. stepped ≡ Did → HasNoWork sizes.now zones.old event → ⊥) }
+    ensures idle { IfOk result (λ stepped. stepped ≡ Idle → HasNoWork sizes.now zones.old event) }
     ensures same { IfOk result (λ stepped. stepped ≡ Idle → zones.new ≡ zones.old) }
     ensures err { IfErr result (OneFalters sizes.now zones.old) }
 {
@@ -69,6 +72,7 @@ fn play_one<D: Disk>(
 
 // Whether there was work for one of two events.
 fn either(first: Stepped, second: Stepped) -> Stepped
+    ensures did { result ≡ Did → (first ≡ Did) ⊎ ((first ≡ Idle) × (second ≡ Did)) }
     ensures first { result ≡ Idle → first ≡ Idle }
     ensures second { result ≡ Idle → second ≡ Idle }
 {
@@ -78,8 +82,8 @@ fn either(first: Stepped, second: Stepped) -> Stepped
     }
 }
 
-/// Events one after another, and whether there was work for any of them. They end at the first that fails, as `step` and
-/// `move_items` do.
+/// Events one after another. It is idle exactly where there is no work for any of them, and nothing changes then. They
+/// end at the first that fails, as `step` and `move_items` do.
 pub fn play<D: Disk>(
     alloc: Global,
     sizes: &Sizes,
@@ -91,6 +95,8 @@ pub fn play<D: Disk>(
     ensures opening { D.opening disk.new ≡ D.opening disk.old }
     ensures plays { OnOk result (Plays D.tells sizes.now events.now zones.old zones.new (D.log disk.old) (D.log disk.new)) }
     ensures leads { OnOk result (LeadsTo D.tells sizes.now zones.old zones.new (D.log disk.old) (D.log disk.new)) }
+    ensures busy { IfOk result (λ stepped. stepped ≡ Did → AllByRecursion (HasNoWork sizes.now zones.old) events.now → ⊥) }
+    ensures idle { IfOk result (λ stepped. stepped ≡ Idle → AllByRecursion (HasNoWork sizes.now zones.old) events.now) }
     ensures same { IfOk result (λ stepped. stepped ≡ Idle → zones.new ≡ zones.old) }
     ensures err { IfErr result (FaltersAfter D.tells sizes.now zones.old (D.log disk.old)) }
 {

@@ -1,6 +1,6 @@
 use Rattle.core_steps.specs.Causes.{OneFalters}
 use Rattle.core_steps.proofs.StrayLaws.{one_falters, passed_on}
-use Rattle.core_steps.proofs.PlayLaws.{step_plays, move_plays, played_leads}
+use Rattle.core_steps.proofs.PlayLaws.{step_plays, step_busy, move_plays, played_leads}
 use Rattle.core_steps.proofs.events.play_one.Goals as goal
 
 pub returns-in_ok-step-in-Step-clause-plays : goal.returns-in_ok-step-in-Step-clause-plays
@@ -12,6 +12,14 @@ pub returns-in_ok-step-in-Step-clause-leads : goal.returns-in_ok-step-in-Step-cl
 returns-in_ok-step-in-Step-clause-leads g c =
     played_leads g.D.Disk.tells c.args.sizes.now c.args.event c.args.zones.now c.step.new.zones _ _ (returns-in_ok-step-in-Step-clause-plays g c)
 
+pub returns-in_ok-step-in-Step-clause-busy : goal.returns-in_ok-step-in-Step-clause-busy
+returns-in_ok-step-in-Step-clause-busy g c did =
+    let e = c.in_ok-step-in-Step.ensures in
+    rw c.in-Step.is (step_busy g.D.Disk.tells c.args.sizes.now _ c.args.zones.now c.step.new.zones _ _ (e.did did) (e.busy did))
+
+pub returns-in_ok-step-in-Step-clause-idle : goal.returns-in_ok-step-in-Step-clause-idle
+returns-in_ok-step-in-Step-clause-idle g c idle = rw c.in-Step.is (c.in_ok-step-in-Step.ensures.idle idle)
+
 pub returns-in_ok-move_items-in-Move-clause-plays : goal.returns-in_ok-move_items-in-Move-clause-plays
 returns-in_ok-move_items-in-Move-clause-plays g c =
     let e = c.in_ok-move_items-in-Move.ensures in
@@ -20,6 +28,12 @@ returns-in_ok-move_items-in-Move-clause-plays g c =
 pub returns-in_ok-move_items-in-Move-clause-leads : goal.returns-in_ok-move_items-in-Move-clause-leads
 returns-in_ok-move_items-in-Move-clause-leads g c =
     played_leads g.D.Disk.tells c.args.sizes.now c.args.event c.args.zones.now c.move_items.new.zones _ _ (returns-in_ok-move_items-in-Move-clause-plays g c)
+
+pub returns-in_ok-move_items-in-Move-clause-busy : goal.returns-in_ok-move_items-in-Move-clause-busy
+returns-in_ok-move_items-in-Move-clause-busy g c did = rw c.in-Move.is (c.in_ok-move_items-in-Move.ensures.busy did)
+
+pub returns-in_ok-move_items-in-Move-clause-idle : goal.returns-in_ok-move_items-in-Move-clause-idle
+returns-in_ok-move_items-in-Move-clause-idle g c idle = rw c.in-Move.is (c.in_ok-move_items-in-Move.ensures.idle idle)
 
 pub returns-in_err-step-in-Step-clause-err : goal.returns-in_err-step-in-Step-clause-err
 returns-in_err-step-in-Step-clause-err g c =
