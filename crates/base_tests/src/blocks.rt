@@ -1,15 +1,5 @@
+use crate::shared::DEFAULT;
 use blk_base::{Block, DataPlace, Geometry, Half, Layout, Pbn, Point, regions_are_apart};
-
-const DEFAULT: Geometry = Geometry {
-    logical: 1000,
-    slabs: 1,
-    slab_blocks: 64,
-    journal: 8,
-    index: 16,
-    slab_journal: 4,
-    height: 2,
-    nonce: 1,
-};
 
 // These four have the table of the default image in docs/DESIGN.md.
 #[test]

@@ -1,4 +1,5 @@
-//! Tests of the crates that speak of blocks, devices, reports and texts: each public call on known input.
+//! Tests of the crates that speak of blocks, devices, reports and texts, and of the formats, with bytes that another
+//! program computed: each public call on known input.
 #![tactic(auto)]
 
 #[cfg(test)]
@@ -6,6 +7,18 @@ mod blocks;
 #[cfg(test)]
 mod devices;
 #[cfg(test)]
+mod fields;
+#[cfg(test)]
+mod images;
+#[cfg(test)]
+mod journals;
+#[cfg(test)]
+mod pages;
+#[cfg(test)]
 mod reports;
+#[cfg(test)]
+mod shared;
+#[cfg(test)]
+mod slabs;
 #[cfg(test)]
 mod texts;

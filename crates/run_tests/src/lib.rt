@@ -1,9 +1,16 @@
-//! Tests of whole runs: scripts with faults, runs one after the other on one device, refused images, and stops.
+//! Tests of whole runs: scripts with faults, runs one after the other on one device, refused images, and stops; and of
+//! the interpreter of the core's events: what requests are answered with, by events in several orders.
 #![tactic(auto)]
 
+#[cfg(test)]
+mod cores;
+#[cfg(test)]
+mod one_stream;
 #[cfg(test)]
 mod runs;
 #[cfg(test)]
 mod stops;
+#[cfg(test)]
+mod two_streams;
 #[cfg(test)]
 mod windows;

@@ -1,21 +1,10 @@
-use blk_base::{Answer, Block, Geometry, Layout, Lba, Pbn, Request, Writer};
+use crate::runs::DEFAULT;
+use blk_base::{Answer, Block, Layout, Lba, Pbn, Request, Writer};
 use core_laws::{Sizes, Zone, ZoneData};
 use core_steps::{Event, StepFault, Stepped, Zones, begin, play};
-use disk_model::{Disk, MemDisk};
-use image_layout::first_image;
+use disk_model::Disk;
 use std::alloc::{AllocError, Global};
 use vdo_model::{DeskLine, Placed, Requests};
-
-pub(crate) const DEFAULT: Geometry = Geometry {
-    logical: 1000,
-    slabs: 1,
-    slab_blocks: 64,
-    journal: 8,
-    index: 16,
-    slab_journal: 4,
-    height: 2,
-    nonce: 1,
-};
 
 // A request, with blocks of one byte each.
 #[derive(Clone, Copy)]
@@ -33,13 +22,6 @@ pub(crate) enum Given {
     Full,
     Stopped,
     Other,
-}
-
-// A device with a fresh image of the default sizes.
-pub(crate) fn fresh(alloc: Global) -> Result<MemDisk, AllocError> {
-    let layout = Layout::of(&DEFAULT);
-    let blocks = first_image(alloc, &DEFAULT, &layout)?;
-    MemDisk::from_blocks(alloc, blocks)
 }
 
 pub(crate) fn sizes(zones: u8, depth: u32) -> Sizes {

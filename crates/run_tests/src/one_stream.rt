@@ -1,4 +1,5 @@
-use crate::runs::{Ask, Given, are_answers, fresh, in_order, places, played, sizes};
+use crate::cores::{Ask, Given, are_answers, in_order, places, played, sizes};
+use crate::runs::fresh;
 use blk_base::{Pbn, Writer};
 use core_steps::{Event, StepFault};
 use disk_model::{CallKind, FaultAt, MemDisk};

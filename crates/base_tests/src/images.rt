@@ -1,4 +1,4 @@
-use crate::shared::{are_shown_as, with_byte};
+use crate::shared::{DEFAULT, are_shown_as, with_byte};
 use blk_base::{Block, Entry, Geometry, Layout, Lba, Mapping, PageId, Pbn, Super};
 use image_layout::SuperFault::{BadField, NotAnImage, Version};
 use image_layout::{
@@ -6,17 +6,6 @@ use image_layout::{
     value_at, windows_are_one, write_super,
 };
 use journal_codec::{Entries, JournalBlock, encode};
-
-const DEFAULT: Geometry = Geometry {
-    logical: 1000,
-    slabs: 1,
-    slab_blocks: 64,
-    journal: 8,
-    index: 16,
-    slab_journal: 4,
-    height: 2,
-    nonce: 1,
-};
 
 const HEAD: Super = Super {
     geometry: DEFAULT,

@@ -1,6 +1,18 @@
-//! What the tests of several formats share.
-use blk_base::Block;
+//! What the tests of several crates share.
+use blk_base::{Block, Geometry};
 use std::fmt::Display;
+
+/// The sizes of the default image.
+pub(crate) const DEFAULT: Geometry = Geometry {
+    logical: 1000,
+    slabs: 1,
+    slab_blocks: 64,
+    journal: 8,
+    index: 16,
+    slab_journal: 4,
+    height: 2,
+    nonce: 1,
+};
 
 // The bytes, each times its place from 1 on: a byte that is another or elsewhere changes the sum.
 fn weighed(block: &Block) -> u64 {

@@ -1,4 +1,5 @@
-use crate::runs::{Ask, Given, are_answers, fresh, in_order, played, sizes};
+use crate::cores::{Ask, Given, are_answers, in_order, played, sizes};
+use crate::runs::fresh;
 use core_steps::{Event, StepFault};
 use std::alloc::{AllocError, Global};
 use std::test::Fail;
