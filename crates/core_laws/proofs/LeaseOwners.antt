@@ -103,7 +103,7 @@ module _ (s : Session) (t : Trace) (a : ℕ) where
 -- A request served at a logical zone with a lock is served at its home.
 at_home : (sizes : Sizes) (n zone home : ℕ) (q : Phase) → n ≡ logical_zone zone → zone < sizes.zones → n ≡ zone_at sizes home q → holds q ≡ true → n ≡ home
 at_home sizes n zone home phase.Arrive is below to h = to
-at_home sizes n zone home phase.Wait is below to h = to
+at_home sizes n zone home phase.Wait is below to h = absurd (omega (arith, is, below, to))
 at_home sizes n zone home phase.Claim is below to h = absurd (omega (arith, is, below, to))
 at_home sizes n zone home phase.Store is below to h = absurd (omega (arith, is, below, to))
 at_home sizes n zone home phase.Enter is below to h = absurd (omega (arith, is, below, to))

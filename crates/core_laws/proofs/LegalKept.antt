@@ -99,7 +99,8 @@ module _ (s : Session) (session : IsSession s) (old new : Core) (legal : Legal s
   zone_ok : ZoneOk s old.trace st.number st.zone
   zone_ok = legal.each st.number st.zone st.had
 
-  goes : Within (length st.zone.outboxes) st.step.posts
+  -- each post has a lane
+  pub goes : Within (length st.zone.outboxes) st.step.posts
   goes = every-map {P = PostOk s t'} {Q = λ (p : Post). p.0 < length st.zone.outboxes} (λ p k. subst (λ (m : ℕ). p.0 < m) (sym zone_ok.lanes) k.0) st.step.posts act_ok.0.posts_ok
 
   lanes_ok : LanesOk s t' st.number st.zone'

@@ -56,6 +56,7 @@ pub mod Seats
 pub mod ShownHistories
 pub mod ShownImages
 pub mod Spared
+pub mod Rules
 pub mod StandsOn
 pub mod StopsOfTrace
 pub mod TurnsOfTrace

@@ -42,10 +42,10 @@ use Rattle.core_laws.specs.Tokens.{lock_weight}
 use Rattle.core_laws.specs.Trace.{Trace, moments, lines, calls, marks, places, entered, committed, settled, of_address, newest, logged_of}
 use Rattle.core_laws.specs.Vios.{request_of, logged}
 
--- the zone where a phase is done
+-- the zone where a phase is done; one that waits is in no lane, so none to a zone's number
 abbrev pub zone_at : Sizes → ℕ → Phase → ℕ
 zone_at sizes home phase.Arrive = home
-zone_at sizes home phase.Wait = home
+zone_at sizes home phase.Wait = zone_count sizes
 zone_at sizes home phase.Claim = physical_zone sizes
 zone_at sizes home phase.Store = device_zone sizes
 zone_at sizes home phase.Enter = journal_zone sizes

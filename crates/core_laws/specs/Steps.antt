@@ -42,6 +42,10 @@ pub data Act (sizes : Sizes) : ZoneData → List Item → ZoneData → Trace →
   calls : {old new : DeviceZone} {v : Vio} {made : Trace} {posts : List Post} → DeviceServes sizes old v new made posts → Act sizes (at.Device old) (Request v ∷ []) (at.Device new) made posts
   works : {old new : DeviceZone} {b : SealedBlock} {made : Trace} {posts : List Post} → DeviceWorks sizes old b new made posts → Act sizes (at.Device old) (Block b ∷ []) (at.Device new) made posts
 
+-- a rule applies to it
+abbrev pub HasAct : Sizes → ZoneData → List Item → Type 0
+HasAct sizes keeps front = (new : ZoneData) × (made : Trace) × (posts : List Post) × Act sizes keeps front new made posts
+
 -- an item behind those of one of the lists
 abbrev pub posted : ℕ → Item → List (List Item) → List (List Item)
 posted to item [] = []

@@ -1,6 +1,7 @@
 //! The laws of the core that other crates stand on.
 
-ghost use Rattle.std.specs.Prelude.{◌≡◌, ◌<◌, ◌≤◌, ◌⊎◌, ℕ, Bool, true, length, Some, IsSome, List, slice_get, slice_set, ◌++◌};
+ghost use Rattle.std.specs.Prelude.{◌≡◌, ◌<◌, ◌≤◌, ◌⊎◌, ℕ, Bool, true, length, Some, IsSome, List, [], ◌∷◌, slice_get, slice_set, ◌++◌};
+ghost use Rattle.std.specs.List.{AllByRecursion};
 ghost use Rattle.blk_base.specs.declared.request.Answer.TheVariants.{Stopped};
 ghost use Rattle.blk_base.specs.declared.request.Request.{Request};
 ghost use Rattle.blk_base.specs.declared.request.Writer.{Writer};
@@ -16,6 +17,7 @@ ghost use Rattle.core_laws.specs.declared.zones.Desk.{Desk as DeskData};
 ghost use Rattle.core_laws.specs.declared.zones.DeviceZone.{DeviceZone};
 ghost use Rattle.core_laws.specs.declared.zones.LogicalZone.{LogicalZone};
 ghost use Rattle.core_laws.specs.declared.zones.Zone.{Zone};
+ghost use Rattle.core_laws.specs.declared.zones.ZoneData.{ZoneData};
 ghost use Rattle.core_laws.specs.declared.items.Item.{Item};
 ghost use Rattle.core_laws.specs.declared.sizes.Sizes.{Sizes};
 ghost use Rattle.core_laws.specs.Facts.{places_in};
@@ -24,9 +26,10 @@ ghost use Rattle.core_laws.specs.Tokens.{queued};
 ghost use Rattle.core_laws.specs.Reports.{HasValues, handed_in, opening_values, report_of};
 ghost use Rattle.core_laws.specs.Sessions.{Session, IsSession, IsHonest};
 ghost use Rattle.core_laws.specs.Start.{IsFirst};
-ghost use Rattle.core_laws.specs.Steps.{Core, Leads, MoveOf, StepOf, ZoneStep};
+ghost use Rattle.core_laws.specs.Steps.{Act, Core, HasAct, Leads, MoveOf, StepOf, ZoneStep};
 ghost use Rattle.core_laws.specs.Trace.{Trace, calls, lines, marks, moments, places};
 ghost use Rattle.core_laws.specs.Views.{core_of};
+ghost use Rattle.core_laws.specs.Vios.{Post};
 
 /// A core is legal when a session begins, and every list of events keeps it so.
 pub fn every_event_keeps_a_core_legal()
@@ -34,6 +37,16 @@ pub fn every_event_keeps_a_core_legal()
     ensures step { (s : Session) (old new : Core) → IsSession s → StepOf s.sizes old new → Legal s old → Legal s new }
     ensures moved { (s : Session) (old new : Core) → MoveOf old new → Legal s old → Legal s new }
     ensures leads { (s : Session) (first core : Core) → IsSession s → Leads s.sizes first core → Legal s first → Legal s core }
+{}
+
+/// In a legal core a rule applies to the item in front of each inbox, and what a rule posts goes to a zone: so no item and
+/// no post is ever stray.
+pub fn a_legal_core_goes_on()
+    ensures rule { (s : Session) (core : Core) (n : ℕ) (z : Zone) (front : Item) (rest : List Item) → IsSession s → Legal s core
+        → slice_get core.zones n ≡ Some z → z.inbox ≡ front ∷ rest → HasAct s.sizes z.keeps (front ∷ []) }
+    ensures lanes { (s : Session) (core : Core) (n : ℕ) (z : Zone) (front rest : List Item) (new : ZoneData) (made : Trace) (posts : List Post) → IsSession s → Legal s core
+        → slice_get core.zones n ≡ Some z → z.inbox ≡ front ++ rest → (front ≡ [] → rest ≡ []) → Act s.sizes z.keeps front new made posts
+        → AllByRecursion (λ (post : Post). post.0 < length z.outboxes) posts }
 {}
 
 /// What was begun and answered in a legal core is in order, and so are the places; the desk and the logical zones have

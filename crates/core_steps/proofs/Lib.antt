@@ -2,6 +2,7 @@ pub mod ActLaws
 pub mod Calls
 pub mod DeskLaws
 pub mod Ends
+pub mod NoStrays
 pub mod PlayLaws
 pub mod StartLaws
 pub mod StrayLaws

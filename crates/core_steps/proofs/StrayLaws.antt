@@ -87,7 +87,7 @@ pub act_falters : (sizes : Sizes) (z : Zone) (front : Item) (rest : List Item) (
     → z.inbox ≡ front ∷ rest → Strays (NoRule (Act sizes z.keeps (front ∷ []))) f → Falters sizes z f
 act_falters sizes z front rest fault.Memory taken why = tt
 act_falters sizes z front rest fault.Numbers taken why = absurd why
-act_falters sizes z front rest fault.Stray taken why = inl (subst (λ (items : List Item). NoRule (Act sizes z.keeps items)) (sym (ap (take 1) taken)) why)
+act_falters sizes z front rest fault.Stray taken why = inl (front, rest, taken, why)
 
 -- a rule posts to no zone
 pub posts_falter : (sizes : Sizes) (z : Zone) (front : List Item) (new : ZoneData) (made : Trace) (posts : List Post) (f : StepFault)

@@ -1,5 +1,5 @@
 -- Why an event comes to no end.
-use Rattle.std.specs.Prelude.{ℕ, ⊤, ◌≡◌, ◌<◌, ◌≤◌, ◌+◌, ◌⊎◌, Bool, List, Some, length, take, slice_get}
+use Rattle.std.specs.Prelude.{ℕ, ⊤, ◌≡◌, ◌<◌, ◌≤◌, ◌+◌, ◌⊎◌, Bool, List, [], ◌∷◌, Some, length, take, slice_get}
 use Rattle.std.specs.List.{AllByRecursion}
 use Rattle.disk_model.specs.declared.call.Call.{Call}
 use Rattle.core_laws.specs.declared.items.Item.{Item}
@@ -40,9 +40,13 @@ CanCount sizes (at.Device d) = (0 < sizes.geometry.journal) × (d.calls < 184467
 abbrev pub GoesAstray : Sizes → Zone → List Item → Type 0
 GoesAstray sizes z front = (new : ZoneData) × (made : Trace) × (posts : List Post) × Act sizes z.keeps front new made posts × (AllByRecursion (HasLane z) posts → ⊥)
 
--- no rule applies to the item in front of the inbox, or what one posts goes to no zone
+-- no rule applies to the item in front of the inbox
+abbrev pub NoneApplies : Sizes → Zone → Type 0
+NoneApplies sizes z = (front : Item) × (rest : List Item) × (z.inbox ≡ front ∷ rest) × NoRule (Act sizes z.keeps (front ∷ []))
+
+-- that is so, or what a rule posts goes to no zone
 abbrev pub IsStray : Sizes → Zone → Type 0
-IsStray sizes z = NoRule (Act sizes z.keeps (take 1 z.inbox)) ⊎ GoesAstray sizes z (take 1 z.inbox)
+IsStray sizes z = NoneApplies sizes z ⊎ GoesAstray sizes z (take 1 z.inbox)
 
 -- why a zone comes to no end of its step
 abbrev pub Falters : Sizes → Zone → StepFault → Type 0

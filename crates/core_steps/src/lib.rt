@@ -12,6 +12,7 @@ mod events;
 mod fault;
 mod journal;
 mod lanes;
+mod laws;
 mod lists;
 mod logical;
 mod moving;
@@ -25,6 +26,7 @@ mod zones;
 
 pub use events::{Event, play, step};
 pub use fault::{StepFault, Stepped};
+pub use laws::a_legal_core_has_no_strays;
 pub use moving::move_items;
 pub use posts::Posts;
 pub use starting::begin;

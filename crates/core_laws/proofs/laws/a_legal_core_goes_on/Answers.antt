@@ -1,0 +1,8 @@
+use Rattle.core_laws.proofs.Rules.{has_rule, has_lanes}
+use Rattle.core_laws.proofs.laws.a_legal_core_goes_on.Goals as goal
+
+pub returns-clause-rule : goal.returns-clause-rule
+returns-clause-rule c = λ s core n z front rest session legal had. has_rule s session core legal n z had front rest
+
+pub returns-clause-lanes : goal.returns-clause-lanes
+returns-clause-lanes c = λ s core n z front rest new made posts session legal had. has_lanes s session core legal n z had front rest new made posts

@@ -1,0 +1,38 @@
+-- In a legal core nothing is stray.
+use Rattle.std.proofs.Common.{◌≡◌, ℕ, Bool, Some, List, [], ◌∷◌, ◌++◌, ◌<◌, length, take, drop, slice_get, refl, inl, inr}
+use Rattle.std.specs.List.{AllByRecursion}
+use Rattle.disk_model.specs.declared.call.Call.{Call}
+use Rattle.core_laws.specs.declared.items.Item.{Item}
+use Rattle.core_laws.specs.declared.zones.Zone.{Zone}
+use Rattle.core_laws.specs.Legal.{Legal}
+use Rattle.core_laws.specs.Sessions.{Session, IsSession}
+use Rattle.core_laws.specs.Steps.{Core}
+use Rattle.core_laws.specs.Trace.{Trace}
+use Rattle.core_laws.specs.Vios.{Post}
+use Rattle.core_laws.proofs.LegalMoves.{legal_leads}
+use Rattle.core_laws.proofs.Rules.{has_rule, has_lanes}
+use Rattle.core_steps.specs.Causes.{HasLane, IsStray, FaltersAfter}
+use Rattle.core_steps.specs.Plays.{core_of}
+use Rattle.core_steps.specs.declared.fault.StepFault.TheVariants as fault
+
+-- a list is its first item and the others
+first_and_others : (items : List Item) → items ≡ take 1 items ++ drop 1 items
+first_and_others [] = refl
+first_and_others (it ∷ rest) = refl
+
+none_behind : (items : List Item) → take 1 items ≡ [] → drop 1 items ≡ []
+none_behind [] none = refl
+none_behind (it ∷ rest) none = absurd cc
+
+have_lanes : (z : Zone) (posts : List Post) → AllByRecursion (λ (post : Post). post.0 < length z.outboxes) posts → AllByRecursion (HasLane z) posts
+have_lanes z [] all = tt
+have_lanes z (post ∷ posts) all = (inr all.0, have_lanes z posts all.1)
+
+pub none_stray : (s : Session) (core : Core) (n : ℕ) (z : Zone) → IsSession s → Legal s core → slice_get core.zones n ≡ Some z → IsStray s.sizes z → ⊥
+none_stray s core n z session legal had (inl (front, rest, taken, none)) = let (new, made, posts, act) = has_rule s session core legal n z had front rest taken in none new made posts act
+none_stray s core n z session legal had (inr (new, made, posts, act, astray)) =
+    astray (have_lanes z posts (has_lanes s session core legal n z had (take 1 z.inbox) (drop 1 z.inbox) new made posts (first_and_others z.inbox) (none_behind z.inbox) act))
+
+pub none_after : (tells : Bool) (s : Session) (zones : List Zone) (t : Trace) (before : List Call) → IsSession s → Legal s (core_of zones t) → FaltersAfter tells s.sizes zones before fault.Stray → ⊥
+none_after tells s zones t before session legal (between, log, (made, leads, told), (number, (z, had, stray))) =
+    none_stray s (core_of between (made ++ t)) number z session (legal_leads s (core_of zones t) (core_of between (made ++ t)) session (leads t) legal) had stray
