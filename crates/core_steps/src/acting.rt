@@ -122,10 +122,10 @@ pub(crate) fn act<D: Disk>(
 {
     let _sizes = sizes;
     match keeps {
-        ZoneData::Desk(desk) => Ok(act_desk(alloc, sizes, desk, item)?),
-        ZoneData::Logical(zone) => Ok(act_logical(alloc, sizes, zone, item)?),
-        ZoneData::Physical(zone) => Ok(act_physical(alloc, sizes, zone, item)?),
-        ZoneData::Journal(zone) => Ok(act_journal(alloc, sizes, zone, item)?),
-        ZoneData::Device(zone) => Ok(act_device(alloc, sizes, zone, item, disk)?),
+        ZoneData::Desk(desk) => act_desk(alloc, sizes, desk, item),
+        ZoneData::Logical(zone) => act_logical(alloc, sizes, zone, item),
+        ZoneData::Physical(zone) => act_physical(alloc, sizes, zone, item),
+        ZoneData::Journal(zone) => act_journal(alloc, sizes, zone, item),
+        ZoneData::Device(zone) => act_device(alloc, sizes, zone, item, disk),
     }
 }

@@ -102,7 +102,7 @@ pub(crate) fn serve_desk(
         desk.parked.push(vio)?;
         Ok(Posts::none(alloc))
     } else {
-        Ok(reply(alloc, sizes, desk, vio)?)
+        reply(alloc, sizes, desk, vio)
     }
 }
 
