@@ -1,1 +1,2 @@
-mod RegionLaws
+pub mod RegionLaws
+pub mod PageIdLaws

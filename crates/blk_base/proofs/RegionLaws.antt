@@ -4,7 +4,7 @@ use Rattle.std.proofs.lemmas.Nat.{same_from_place, mul-add-lt, mod_below, div_be
 use Rattle.std.proofs.lemmas.Bool.{cases_lt}
 use Rattle.std.proofs.Math.Nat.{mul-zero}
 use Rattle.blk_base.specs.declared.geometry.Geometry.{Geometry}
-use Rattle.blk_base.specs.Regions.{Place, Superblock, JournalSlot, Root, IndexBlock, DataBlock, ReferenceBlock, SlabJournalSlot, IsPlace, block_of, needed_blocks, references_of, slab_stride_of, first_slab_of}
+use Rattle.blk_base.specs.Regions.{Place, Superblock, JournalSlot, Root, IndexBlock, DataBlock, ReferenceBlock, SlabJournalSlot, IsPlace, IsDataBlock, block_of, needed_blocks, references_of, slab_stride_of, first_index_of, first_slab_of}
 
 -- two places of slabs that stand at one block
 same_place : (g : Geometry) (slab within slab' within' : ℕ) → within < slab_stride_of g → within' < slab_stride_of g
@@ -43,6 +43,13 @@ inside g (ReferenceBlock slab i) is = omega (arith, mul-add-lt slab (slab_stride
 inside g (SlabJournalSlot slab s) is = omega (arith, mul-add-lt slab (slab_stride_of g) (g.slab_blocks + references_of g + s) g.slabs is.0 (omega arith))
 inside g _ is = omega arith
 
+-- a data block stands behind the index, and inside the image
+pub data_block_high : (g : Geometry) (b : ℕ) → IsDataBlock g b → first_slab_of g ≤ b
+data_block_high g b is = omega (arith, is.stands)
+
+pub data_block_inside : (g : Geometry) (b : ℕ) → IsDataBlock g b → b < needed_blocks g
+data_block_inside g b is = omega (arith, is.stands, inside g (DataBlock is.slab is.offset) is.inside)
+
 -- a number is below another, or not
 split : (m n : ℕ) → (m < n) ⊎ (n ≤ m)
 split m n = cases_lt m n
@@ -70,10 +77,10 @@ filled g b below = elim (split b 1) [
   | inl first ↦ (Superblock, tt, omega arith)
   | inr past_super ↦ elim (split b (1 + g.journal)) [
     | inl in_journal ↦ (JournalSlot (b - 1), omega arith, omega arith)
-    | inr past_journal ↦ elim (split b (61 + g.journal)) [
+    | inr past_journal ↦ elim (split b (first_index_of g)) [
       | inl in_roots ↦ (Root (b - (1 + g.journal)), omega arith, omega arith)
       | inr past_roots ↦ elim (split b (first_slab_of g)) [
-        | inl in_index ↦ (IndexBlock (b - (61 + g.journal)), omega arith, omega arith)
+        | inl in_index ↦ (IndexBlock (b - (first_index_of g)), omega arith, omega arith)
         | inr past_index ↦
             let n = b - first_slab_of g in
             let p = in_slab g n (omega arith) (some_stride g n (omega arith)) in

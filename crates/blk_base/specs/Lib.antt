@@ -2,4 +2,5 @@ pub mod Sectors
 pub mod SectorLaws
 pub mod Points
 pub mod Limits
+pub mod Counters
 pub mod Regions

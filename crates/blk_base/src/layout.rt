@@ -1,22 +1,31 @@
-ghost use Rattle.std.specs.Prelude.{◌≡◌, ◌≢◌, ◌<◌, ◌≤◌, ◌%◌, ◌+◌, ℕ, IfSome, IfNone};
+ghost use Rattle.std.specs.Prelude.{◌≡◌, ◌<◌, ◌≤◌, ◌+◌, ◌*◌, ◌↔◌, ℕ, IsTrue, IfSome, IfNone};
 ghost use Rattle.blk_base.specs.Limits.{IsGeometry};
-ghost use Rattle.blk_base.specs.Regions.{Place, IsPlace, block_of, needed_blocks, references_of, slab_stride_of, first_slab_of, slab_start_of};
-ghost use Rattle.blk_base.specs.Regions.{JournalSlot, Root, IndexBlock, DataBlock, ReferenceBlock, SlabJournalSlot};
+ghost use Rattle.blk_base.specs.Counters.{limit_of, counters_per_sector, sectors_per_slab, sector_of_offset};
+ghost use Rattle.blk_base.specs.Regions.{Place, IsPlace, IsDataBlock, block_of, slab_slot_of, journal_block_of, needed_blocks, references_of, slab_stride_of, first_index_of, first_slab_of, slab_start_of};
+ghost use Rattle.blk_base.specs.Regions.{Root, IndexBlock, DataBlock, ReferenceBlock, SlabJournalSlot};
 ghost use Rattle.blk_base.specs.declared.geometry.Geometry.{Geometry};
 
+use crate::sizes::{SECTOR_COUNTERS, TREES};
 use crate::{Geometry, Pbn};
 
-/// Block map trees of an image, whose roots stand behind the journal.
-const TREES: u32 = 60;
-
-/// Reference counts that one reference block has.
-const COUNTERS: u32 = 4032;
+/// How many sectors a block has.
+const SECTORS: u32 = 8;
 
 /// A data block by its slab and its place there.
 #[derive(Clone, Copy, Debug, PartialEq, Eq)]
 pub struct DataPlace {
     pub slab: u32,
     pub offset: u32,
+}
+
+/// Where the counter of a data block stands: a reference block of its slab, a sector there, and a counter of it.
+#[derive(Clone, Copy, Debug, PartialEq, Eq)]
+pub struct CounterPlace {
+    pub block: u32,
+    /// 0 to 7.
+    pub sector: u16,
+    /// Below the number of counters of a sector.
+    pub counter: u16,
 }
 
 /// Where the parts of an image stand: the superblock, the recovery journal, the 60 roots of the block map, the index,
@@ -47,10 +56,9 @@ impl Layout {
 
     /// The block of the recovery journal for a sequence.
     pub fn journal_slot(&self, sequence: u64) -> Pbn
-        ensures block { result.0 ≡ block_of self.now.geometry (JournalSlot (sequence % self.now.geometry.journal)) }
+        ensures block { result.0 ≡ journal_block_of self.now.geometry sequence }
         ensures inside { result.0 < needed_blocks self.now.geometry }
     {
-        let _needed = self.needed();
         let slot = sequence % u64::from(self.geometry.journal);
         Pbn(1 + slot as u32)
     }
@@ -61,7 +69,6 @@ impl Layout {
         ensures block { result.0 ≡ block_of self.now.geometry (Root tree) }
         ensures inside { result.0 < needed_blocks self.now.geometry }
     {
-        let _needed = self.needed();
         Pbn(1 + self.geometry.journal + u32::from(tree))
     }
 
@@ -71,8 +78,7 @@ impl Layout {
         ensures block { result.0 ≡ block_of self.now.geometry (IndexBlock i) }
         ensures inside { result.0 < needed_blocks self.now.geometry }
     {
-        let _needed = self.needed();
-        Pbn(1 + self.geometry.journal + TREES + i)
+        Pbn(self.first_index() + i)
     }
 
     /// A data block of a slab.
@@ -96,7 +102,7 @@ impl Layout {
     /// The block of a slab's journal for a sequence.
     pub fn slab_journal_slot(&self, slab: u32, sequence: u64) -> Pbn
         requires { slab < self.now.geometry.slabs }
-        ensures block { result.0 ≡ block_of self.now.geometry (SlabJournalSlot slab (sequence % self.now.geometry.slab_journal)) }
+        ensures block { result.0 ≡ block_of self.now.geometry (SlabJournalSlot slab (slab_slot_of self.now.geometry sequence)) }
         ensures inside { result.0 < needed_blocks self.now.geometry }
     {
         let slot = sequence % u64::from(self.geometry.slab_journal);
@@ -107,8 +113,7 @@ impl Layout {
     pub fn place(&self, at: Pbn) -> Option<DataPlace>
         ensures some { IfSome result (λ p. IsPlace self.now.geometry (DataBlock p.slab p.offset)
             × (block_of self.now.geometry (DataBlock p.slab p.offset) ≡ at.0)) }
-        ensures none { IfNone result ((slab offset : ℕ) → IsPlace self.now.geometry (DataBlock slab offset)
-            → block_of self.now.geometry (DataBlock slab offset) ≢ at.0) }
+        ensures none { IfNone result (IsDataBlock self.now.geometry at.0 → ⊥) }
     {
         let first = self.first_slab();
         if at.0 < first || self.needed() <= at.0 {
@@ -127,11 +132,64 @@ impl Layout {
         }
     }
 
+    /// Whether a data block of the image stands at a block of the device.
+    pub fn is_data_block(&self, at: Pbn) -> bool
+        ensures { IsTrue result ↔ IsDataBlock self.now.geometry at.0 }
+    {
+        self.place(at).is_some()
+    }
+
+    /// The greatest count of a data block, with the claims on it.
+    pub fn limit(&self) -> u16
+        ensures { result ≡ limit_of self.now.geometry }
+    {
+        254
+    }
+
+    /// How many reference counters a sector has.
+    pub fn counters_per_sector(&self) -> u32
+        ensures { result ≡ counters_per_sector self.now.geometry }
+    {
+        SECTOR_COUNTERS as u32
+    }
+
+    /// How many sectors have the counters of a slab.
+    pub fn sectors_per_slab(&self) -> u32
+        ensures { result ≡ sectors_per_slab self.now.geometry }
+    {
+        self.geometry
+            .slab_blocks
+            .div_ceil(self.counters_per_sector())
+    }
+
+    /// Which of its slab's sectors has the counter of the data block with this offset.
+    pub fn sector_of_offset(&self, offset: u32) -> u32
+        ensures { result ≡ sector_of_offset self.now.geometry offset }
+    {
+        offset / self.counters_per_sector()
+    }
+
+    /// Where the counter of the data block with this offset in its slab stands.
+    pub fn counter_place(&self, offset: u32) -> CounterPlace
+        ensures sector { result.block * 8 + result.sector ≡ sector_of_offset self.now.geometry offset }
+        ensures counter { offset ≡ (result.block * 8 + result.sector) * counters_per_sector self.now.geometry + result.counter }
+        ensures within { (result.sector < 8) × (result.counter < counters_per_sector self.now.geometry) }
+    {
+        let sector = self.sector_of_offset(offset);
+        CounterPlace {
+            block: sector / SECTORS,
+            sector: (sector % SECTORS) as u16,
+            counter: (offset % self.counters_per_sector()) as u16,
+        }
+    }
+
     // Reference blocks of a slab.
     fn references(&self) -> u32
         ensures { result ≡ references_of self.now.geometry }
     {
-        self.geometry.slab_blocks.div_ceil(COUNTERS)
+        self.geometry
+            .slab_blocks
+            .div_ceil(SECTORS * self.counters_per_sector())
     }
 
     // Blocks of a slab: data, reference counts, journal.
@@ -143,12 +201,20 @@ impl Layout {
         self.geometry.slab_blocks + self.references() + self.geometry.slab_journal
     }
 
+    // The first block of the index.
+    fn first_index(&self) -> u32
+        ensures first { result ≡ first_index_of self.now.geometry }
+        ensures small { result ≤ 1085 }
+    {
+        1 + u32::from(TREES) + self.geometry.journal
+    }
+
     // The first block of the first slab.
     fn first_slab(&self) -> u32
         ensures first { result ≡ first_slab_of self.now.geometry }
         ensures small { result ≤ 2109 }
     {
-        1 + self.geometry.journal + TREES + self.geometry.index
+        self.first_index() + self.geometry.index
     }
 
     // The first block of a slab.

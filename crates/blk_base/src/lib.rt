@@ -3,17 +3,27 @@
 #![tactic(auto)]
 
 mod block;
+mod default_sizes;
 mod geometry;
+mod has_block;
 mod journal_entry;
 mod layout;
+mod mappings;
+mod opened;
 mod place;
 mod point;
 mod request;
+mod sizes;
 
 pub use block::Block;
+pub use default_sizes::default_sizes_are_within_limits;
 pub use geometry::{Geometry, Super};
-pub use journal_entry::Entry;
-pub use layout::{DataPlace, Layout, regions_are_apart};
+pub use has_block::HasBlock;
+pub use journal_entry::{CommittedEntry, Entry, Update};
+pub use layout::{CounterPlace, DataPlace, Layout, regions_are_apart};
+pub use mappings::Mappings;
+pub use opened::{Opened, OpenedPage};
 pub use place::{Lba, Mapping, PageId, Pbn, ZoneId};
 pub use point::{Half, Point};
 pub use request::{Answer, Request, Writer};
+pub use sizes::{PAGE_SLOTS, SECTOR_COUNTERS, TREES};

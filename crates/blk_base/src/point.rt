@@ -11,7 +11,7 @@ pub enum Half {
 
 /// A place in the recovery journal: a sequence, an entry of its block, and a half of that entry, as one number.
 /// Points are ordered as these triples.
-#[derive(Clone, Copy, Debug, PartialEq, Eq, PartialOrd, Ord)]
+#[derive(Clone, Copy, Debug, Default, PartialEq, Eq, PartialOrd, Ord)]
 pub struct Point(pub u64);
 
 impl Point {

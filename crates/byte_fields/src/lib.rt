@@ -4,8 +4,10 @@
 //! writers, each at the end of the one before, spells the bytes that a format's definition joins with `++`.
 #![tactic(auto)]
 
+mod mapping;
 mod read;
 mod write;
 
+pub use mapping::{put_mapping, read_mapping};
 pub use read::{read_u8, read_u16, read_u32, read_u64};
 pub use write::{put, put_u8, put_u16, put_u32, put_u64, put_zeros};

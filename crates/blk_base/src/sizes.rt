@@ -1,0 +1,8 @@
+/// How many trees the block map of an image has.
+pub const TREES: u8 = 60;
+
+/// How many slots a page of the block map has.
+pub const PAGE_SLOTS: u16 = 812;
+
+/// How many counters a sector of reference counts has.
+pub const SECTOR_COUNTERS: usize = 504;
