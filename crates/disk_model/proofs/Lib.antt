@@ -1,6 +1,9 @@
+pub mod CausePins
 pub mod Honest
 pub mod ImageLaws
 pub mod OneImageLaws
 pub mod PlanLaws
 pub mod RetainLaws
+pub mod SeenLaws
+pub mod SinceLaws
 pub mod Taken

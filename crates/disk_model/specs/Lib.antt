@@ -1,7 +1,9 @@
 pub mod Causes
 pub mod Log
 pub mod Images
+pub mod Seen
 pub mod Telling
+pub mod Since
 pub mod Plans
 pub mod Memory
 pub mod Streams

@@ -8,6 +8,7 @@ use Rattle.disk_model.specs.declared.faults.FaultAt.{FaultAt}
 use Rattle.disk_model.specs.Images.{OneOf}
 use Rattle.disk_model.specs.Log.{Blocks, block_at, settled}
 use Rattle.disk_model.specs.Plans.{named, takes_effect, counted}
+use Rattle.disk_model.specs.Seen.{Seen}
 
 -- what a contract sees of it
 pub record Memory : Type 0 where
@@ -17,6 +18,10 @@ pub record Memory : Type 0 where
   pub plan : List FaultAt
   pub faults : ℕ
   pub unkept : ℕ
+
+-- what a device shows, in memory or not
+abbrev pub seen_of : Memory → Seen
+seen_of memory = record { opening = memory.opening; size = length memory.blocks; log = memory.log; faults = memory.faults; unkept = memory.unkept }
 
 -- a device whose log begins at these blocks
 abbrev pub fresh : Blocks → Memory
@@ -72,7 +77,7 @@ abbrev pub Fails : Memory → Memory → Call → Blocks → Type 0
 Fails old new call blocks = ((is_planned old call ≡ true) × (new ≡ after_fault old call blocks)) ⊎ (new ≡ after_want old call)
 
 -- the blocks that stand are what the log says
-pub record IsHonest (opening : Blocks) (log : List Call) (blocks : Blocks) : Type 0 where
+pub record HoldsSettled (opening : Blocks) (log : List Call) (blocks : Blocks) : Type 0 where
   pub size : length blocks ≡ length opening
   pub small : length blocks < 2 ^ 32
   pub honest : (b : ℕ) → b < length blocks → OneOf (λ content. block_at blocks b ≡ content) (settled opening log b)

@@ -5,7 +5,8 @@ ghost use Rattle.disk_model.specs.declared.call.Call.TheVariants.{Read, Write, F
 ghost use Rattle.disk_model.specs.Causes.{Rose, HasCause};
 ghost use Rattle.disk_model.specs.Images.{IsMixOf};
 ghost use Rattle.disk_model.specs.Log.{block_at, settled};
-ghost use Rattle.disk_model.specs.Memory.{fresh, after_failed_write, Succeeds, Fails};
+ghost use Rattle.disk_model.specs.Memory.{fresh, after_failed_write, seen_of, Succeeds, Fails};
+ghost use Rattle.disk_model.specs.Seen.{Stays};
 ghost use Rattle.disk_model.specs.Telling.{FailedInLog};
 
 use crate::faults::take_course;
@@ -28,7 +29,7 @@ pub struct MemDisk {
 
 impl Model for MemDisk {
     ghost use Rattle.std.specs.Prelude.{reverse};
-    ghost use Rattle.disk_model.specs.Memory.{Memory, IsHonest};
+    ghost use Rattle.disk_model.specs.Memory.{Memory, HoldsSettled};
 
     ghost Value = { Memory };
 
@@ -41,7 +42,7 @@ impl Model for MemDisk {
       unkept = d.unkept;
     } };
 
-    ghost invariant = { λ d. IsHonest d.opening.items (reverse d.calls.items) d.blocks.items };
+    ghost invariant = { λ d. HoldsSettled d.opening.items (reverse d.calls.items) d.blocks.items };
 }
 
 fn copy_all(alloc: Global, blocks: &[Block]) -> Result<Vec<Block>, AllocError>
@@ -120,21 +121,14 @@ impl MemDisk {
 }
 
 impl Disk for MemDisk {
-    ghost use Rattle.std.specs.Prelude.{true, length};
+    ghost use Rattle.std.specs.Prelude.{true};
+    ghost use Rattle.disk_model.specs.Memory.{seen_of};
 
     ghost tells = { true };
 
     ghost honest = { true };
 
-    ghost opening = { λ d. d.opening };
-
-    ghost log = { λ d. d.log };
-
-    ghost faults = { λ d. d.faults };
-
-    ghost unkept = { λ d. d.unkept };
-
-    ghost size = { λ d. length d.blocks };
+    ghost seen = { seen_of };
 
     fn blocks(&self) -> u32
         ensures size { result ≡ length self.now.blocks }
@@ -145,8 +139,7 @@ impl Disk for MemDisk {
 
     fn read(&mut self, at: Pbn, into: &mut Block) -> Result<(), Failed>
         requires { at.0 < length self.old.blocks }
-        ensures size { length self.new.blocks ≡ length self.old.blocks }
-        ensures opening { self.new.opening ≡ self.old.opening }
+        ensures stays { Stays (seen_of self.old) (seen_of self.new) }
         ensures given { OnOk result (IsMixOf (settled self.old.opening self.old.log at.0) into.new) }
         ensures ok { OnOk result (self.new.log ≡ Read at into.new true ∷ self.old.log) }
         ensures err { OnErr result (FailedInLog self.old.log self.new.log (Read at into.new false)
@@ -184,8 +177,7 @@ impl Disk for MemDisk {
 
     fn write(&mut self, at: Pbn, from: &Block) -> Result<(), Failed>
         requires { at.0 < length self.old.blocks }
-        ensures size { length self.new.blocks ≡ length self.old.blocks }
-        ensures opening { self.new.opening ≡ self.old.opening }
+        ensures stays { Stays (seen_of self.old) (seen_of self.new) }
         ensures ok { OnOk result (self.new.log ≡ Write at from.now true ∷ self.old.log) }
         ensures err { OnErr result (FailedInLog self.old.log self.new.log (Write at from.now false)
             (Rose self.old.unkept self.new.unkept)) }
@@ -220,8 +212,7 @@ impl Disk for MemDisk {
     }
 
     fn flush(&mut self) -> Result<(), Failed>
-        ensures size { length self.new.blocks ≡ length self.old.blocks }
-        ensures opening { self.new.opening ≡ self.old.opening }
+        ensures stays { Stays (seen_of self.old) (seen_of self.new) }
         ensures ok { OnOk result (self.new.log ≡ Flush true ∷ self.old.log) }
         ensures err { OnErr result (FailedInLog self.old.log self.new.log (Flush false)
             (Rose self.old.unkept self.new.unkept)) }

@@ -1,0 +1,57 @@
+-- What was done to a device since a moment.
+use Rattle.std.specs.Prelude.{ℕ, ◌≡◌, ◌+◌, Bool, true, false, IsTrue, List, [], ◌∷◌, ◌++◌, length}
+use Rattle.disk_model.specs.declared.call.Call.{Call}
+use Rattle.disk_model.specs.declared.call.Call.TheVariants.{Read, Write, Flush}
+use Rattle.disk_model.specs.Causes.{Rose}
+use Rattle.disk_model.specs.Images.{IsMixOf}
+use Rattle.disk_model.specs.Log.{settled}
+use Rattle.disk_model.specs.Seen.{Seen, Stays, Later}
+use Rattle.disk_model.specs.Telling.{FailedInLog}
+
+-- the calls since the log was the first one
+abbrev pub SinceThen : (List Call → Type 0) → List Call → List Call → Type 0
+SinceThen P first now = (calls : List Call) × (now ≡ calls ++ first) × P calls
+
+-- only reads
+abbrev pub OnlyReads : List Call → Type 0
+OnlyReads [] = Unit {0}
+OnlyReads (Read at bytes ok ∷ older) = OnlyReads older
+OnlyReads (Write at bytes ok ∷ older) = ⊥
+OnlyReads (Flush ok ∷ older) = ⊥
+
+-- nothing was written since
+pub record IsUntouched (tells : Bool) (before now : Seen) : Type 0 where
+  pub stays : Stays before now
+  pub later : Later before now
+  pub reads : IsTrue tells → SinceThen OnlyReads before.log now.log
+
+-- the calls that read these blocks, from this number on; the newest stands first
+abbrev pub reads_of : ℕ → List (List ℕ) → List Call
+reads_of from [] = []
+reads_of from (bytes ∷ older) = Read (record { 0 = from + length older }) bytes true ∷ reads_of from older
+
+-- reads at this moment may give these blocks, from this number on: of an honest device each is a mix of what was settled
+abbrev pub AreGiven : Bool → Bool → ℕ → Seen → List (List ℕ) → Type 0
+AreGiven tells honest from before [] = Unit {0}
+AreGiven tells honest from before (bytes ∷ older) =
+    (length bytes ≡ 4096)
+    × (IsTrue tells → IsTrue honest → IsMixOf (settled before.opening before.log (from + length older)) bytes)
+    × AreGiven tells honest from before older
+
+-- These blocks were read since, from this number on, and nothing else was done. The newest stands first. (A device that
+-- tells has as many opening blocks as it has blocks.)
+pub record WereRead (tells honest : Bool) (from : ℕ) (before now : Seen) (blocks : List (List ℕ)) : Type 0 where
+  pub told : IsTrue tells → length before.opening ≡ before.size
+  pub stays : Stays before now
+  pub later : Later before now
+  pub given : AreGiven tells honest from before blocks
+  pub logged : IsTrue tells → now.log ≡ reads_of from blocks ++ before.log
+
+-- These blocks were read since, and then a read of the next one failed: the log has that call, where there was memory for it.
+pub record NextFailed (tells honest : Bool) (from : ℕ) (before now : Seen) (blocks : List (List ℕ)) : Type 0 where
+  pub stays : Stays before now
+  pub later : Later before now
+  pub given : AreGiven tells honest from before blocks
+  pub rose : Rose before.faults now.faults
+  pub logged : IsTrue tells → (bytes : List ℕ)
+      × FailedInLog (reads_of from blocks ++ before.log) now.log (Read (record { 0 = from + length blocks }) bytes false) (Rose before.unkept now.unkept)
