@@ -1,2 +1,13 @@
-pub mod WorkedRows
+pub mod NameLaws
+pub mod ZoneOrderLaws
+pub mod Example
+pub mod ScriptRows
+pub mod DeskLogRows
+pub mod PlaceRows
+pub mod HistoryRows
+pub mod ReadRows
+pub mod MarkRows
 pub mod StopRows
+pub mod AfterStopRows
+pub mod RunRows
+pub mod ServableRows

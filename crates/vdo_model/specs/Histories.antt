@@ -13,18 +13,19 @@ use Rattle.vdo_model.specs.declared.report.Placed.{Placed}
 use Rattle.vdo_model.specs.Scripts.{Script, request_at}
 use Rattle.vdo_model.specs.DeskLog.{answer_of}
 
--- the mark of an answered request, by its answer and whether its journal entry was handed in
-abbrev pub mark_of : Option Reply → Bool → Mark
-mark_of (Some reply.Ok) handed = Settled
-mark_of (Some reply.Stopped) true = Unsettled
-mark_of (Some reply.Stopped) false = Refused
-mark_of (Some (reply.Bytes bytes)) handed = Refused
-mark_of (Some reply.Range) handed = Refused
-mark_of (Some reply.NoSpace) handed = Refused
-mark_of (Some reply.Full) handed = Refused
-mark_of (Some reply.ReadFault) handed = Refused
-mark_of (Some reply.Damaged) handed = Refused
-mark_of None handed = Refused
+-- how far each write and discard has come: whether its slot is set, and whether its journal entry was handed in
+pub record Progress : Type 0 where
+  pub is_set : Writer → Bool
+  pub is_handed : Writer → Bool
+
+-- the mark of a write or discard: by its answer once it has one; until then settled where its slot is set, else unsettled
+-- where its journal entry was handed in
+abbrev pub mark_of : Option Reply → (is_set is_handed : Bool) → Mark
+mark_of (Some reply.Ok) is_set is_handed = Settled
+mark_of (Some reply.Stopped) is_set true = Unsettled
+mark_of None true is_handed = Settled
+mark_of None false true = Unsettled
+mark_of other is_set is_handed = Refused
 
 -- what a request adds to the history of its address
 abbrev pub entry_of : Option Request → Writer → Mark → List HistoryEntry
@@ -35,10 +36,11 @@ entry_of (Some Flush) w mark = []
 entry_of None w mark = []
 
 -- the histories of all addresses: each write and discard that has a place, with its mark
-abbrev pub histories_of : Script → List DeskLine → (Writer → Bool) → List Placed → List HistoryEntry
-histories_of script desk handed [] = []
-histories_of script desk handed (p ∷ older) =
-    entry_of (request_at script p.request) p.request (mark_of (answer_of desk p.request) (handed p.request)) ++ histories_of script desk handed older
+abbrev pub histories_of : Script → List DeskLine → Progress → List Placed → List HistoryEntry
+histories_of script desk progress [] = []
+histories_of script desk progress (p ∷ older) =
+    entry_of (request_at script p.request) p.request (mark_of (answer_of desk p.request) (progress.is_set p.request) (progress.is_handed p.request))
+    ++ histories_of script desk progress older
 
 -- the history of one address, behind its opening value
 abbrev pub history_of : List HistoryEntry → ℕ → List HistoryEntry

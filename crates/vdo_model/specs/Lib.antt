@@ -1,6 +1,7 @@
 pub mod Scripts
 pub mod DeskLog
 pub mod Places
+pub mod ZoneOrder
 pub mod Histories
 pub mod RightReads
 pub mod FlushMarks

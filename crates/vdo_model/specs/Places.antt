@@ -1,17 +1,20 @@
 -- Places: the number that a block request draws in its logical zone. The newest place stands first.
-use Rattle.std.specs.Prelude.{ℕ, ◌≡◌, ◌⊎◌, ◌+◌, ◌<◌, ◌/◌, ◌%◌, ◌==◌, List, [], ◌∷◌, Option, Some, None, IsSome, IsNone, if◌then◌else◌}
+use Rattle.std.specs.Prelude.{ℕ, ◌≡◌, ◌⊎◌, ◌+◌, ◌<◌, ◌/◌, ◌%◌, ◌==◌, ◌++◌, List, [], ◌∷◌, Option, Some, None, IsSome, IsNone, if◌then◌else◌}
+use Rattle.blk_base.specs.declared.sizes.TheConstants.{PAGE_SLOTS, TREES}
 use Rattle.std.specs.List.{AllByRecursion}
 use Rattle.blk_base.specs.declared.request.Request.{Request}
+use Rattle.blk_base.specs.declared.request.Answer.{Answer}
 use Rattle.blk_base.specs.declared.request.Answer.TheVariants.{Stopped}
 use Rattle.blk_base.specs.declared.request.Writer.{Writer}
 use Rattle.vdo_model.specs.declared.report.DeskLine.{DeskLine}
+use Rattle.vdo_model.specs.declared.report.DeskLine.TheVariants as line
 use Rattle.vdo_model.specs.declared.report.Placed.{Placed}
 use Rattle.vdo_model.specs.Scripts.{Script, request_at, address_of, same_writer}
 use Rattle.vdo_model.specs.DeskLog.{answer_of, before_begin}
 
 -- the logical zone of an address: the trees, of which each has every 60th leaf, are dealt out to the zones
 abbrev pub zone_of : ℕ → ℕ → ℕ
-zone_of zones a = a / 812 % 60 % zones
+zone_of zones a = a / PAGE_SLOTS % TREES % zones
 
 -- how many places of a zone are drawn
 abbrev pub drawn : ℕ → List Placed → ℕ
@@ -46,8 +49,15 @@ abbrev pub AreDrawn : ℕ → ℕ → Script → List DeskLine → List Placed �
 AreDrawn zones logical script desk [] = Unit {0}
 AreDrawn zones logical script desk (p ∷ older) = IsNextPlace zones logical script desk p older × AreDrawn zones logical script desk older
 
--- the places are right: each block request below the logical size has one, but where it was stopped at the desk
+-- A request was answered so as soon as it was begun: it reached no zone.
+pub record IsAnsweredAtOnce (desk : List DeskLine) (w : Writer) (answer : Answer) : Type 0 where
+  pub later : List DeskLine
+  pub older : List DeskLine
+  pub at : desk ≡ later ++ (line.Answer w answer ∷ line.Begin w ∷ older)
+
+-- the places are right: each block request below the logical size that is answered has one, but where it was stopped
+-- before it reached its zone
 pub record ArePlaces (zones logical : ℕ) (script : Script) (desk : List DeskLine) (places : List Placed) : Type 0 where
   pub places_drawn : AreDrawn zones logical script desk places
   pub all : (w : Writer) (r : Request) (a : ℕ) → request_at script w ≡ Some r → address_of r ≡ Some a → a < logical
-      → IsSome (place_of places w) ⊎ (answer_of desk w ≡ Some Stopped)
+      → IsSome (answer_of desk w) → IsSome (place_of places w) ⊎ IsAnsweredAtOnce desk w Stopped

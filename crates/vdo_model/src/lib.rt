@@ -5,7 +5,9 @@
 mod report;
 mod requests;
 mod rows;
+mod zone_order;
 
 pub use report::{DeskLine, FlushMark, HistoryEntry, Mark, Placed, RunReport};
 pub use requests::Requests;
 pub use rows::Rows;
+pub use zone_order::zones_may_be_listed_in_any_order;

@@ -1,4 +1,4 @@
-ghost use Rattle.std.specs.Prelude.{◌≡◌, [], ◌∷◌, OnOk, length, reverse};
+ghost use Rattle.std.specs.Prelude.{◌≡◌, [], ◌∷◌, OnOk, OnErr, length, reverse};
 
 use std::alloc::{AllocError, Global};
 use std::marker::Model;
@@ -35,9 +35,10 @@ impl<T: Drop> Rows<T> {
         Rows { rows }
     }
 
-    /// One more item, the newest.
+    /// One more item, the newest. It fails where memory runs out, and then changes nothing.
     pub fn push(&mut self, item: T) -> Result<(), AllocError>
-        ensures { OnOk result (self.new ≡ item ∷ self.old) }
+        ensures ok { OnOk result (self.new ≡ item ∷ self.old) }
+        ensures err { OnErr result (self.new ≡ self.old) }
     {
         self.rows.push(item)?;
         Ok(())
