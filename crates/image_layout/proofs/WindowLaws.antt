@@ -20,6 +20,12 @@ pub sector_there : (nonce : ℕ) (journal : List (List ℕ)) (slot : ℕ) (block
 sector_there nonce journal slot block s h es inside here is =
     subst (λ (b : List ℕ). IsSector nonce 0 (sector 0 b) s h es) (here ∙ get_or_default journal slot block zero_block inside) is
 
+pub none_found : (nonce : ℕ) (journal : List (List ℕ)) (slot : ℕ) (block : List ℕ) → slot < length journal → block ≡ get_or journal slot block
+    → ((s h : ℕ) (es : List Entry) → IsSector nonce 0 (sector 0 block) s h es → ⊥)
+    → (s h : ℕ) (es : List Entry) → IsSector nonce 0 (sector 0 (get_or journal slot zero_block)) s h es → ⊥
+none_found nonce journal slot block inside here none s h es is =
+    none s h es (subst (λ (b : List ℕ). IsSector nonce 0 (sector 0 b) s h es) (sym (here ∙ get_or_default journal slot block zero_block inside)) is)
+
 -- a slot without a valid sector has no block
 pub none_there : (g : Geometry) (journal : List (List ℕ)) (slot : ℕ)
     → ((sequence head : ℕ) (entries : List Entry) → IsSector g.nonce 0 (sector 0 (get_or journal slot zero_block)) sequence head entries → ⊥)

@@ -2,4 +2,5 @@ pub mod Faults
 pub mod Superblock
 pub mod FirstImage
 pub mod Window
+pub mod Opened
 pub mod WindowCount

@@ -1,7 +1,7 @@
 -- The window of the recovery journal: the blocks that earlier runs wrote. `journal` has the journal's blocks, in the order
 -- of their slots; the block with sequence m is in slot m mod J.
-use Rattle.std.specs.Prelude.{ℕ, suc, ◌≡◌, ◌⊎◌, ◌+◌, ◌<◌, ◌≤◌, ◌^◌, ◌%◌, ◌==◌, List, [], ◌∷◌, length, take, drop, get_or, if◌then◌else◌}
-use Rattle.blk_base.specs.Regions.{DataBlock, IsPlace, block_of}
+use Rattle.std.specs.Prelude.{ℕ, suc, ◌≡◌, ◌⊎◌, ◌+◌, ◌<◌, ◌≤◌, ◌^◌, ◌==◌, List, [], ◌∷◌, length, take, drop, get_or, if◌then◌else◌}
+use Rattle.blk_base.specs.Regions.{IsDataBlock, journal_slot_of}
 use Rattle.blk_base.specs.Sectors.{sector, zero_block}
 use Rattle.blk_base.specs.declared.geometry.Geometry.{Geometry}
 use Rattle.blk_base.specs.declared.journal_entry.Entry.{Entry}
@@ -19,11 +19,7 @@ journal_of g image = take g.journal (drop 1 image)
 -- the journal has the block of this sequence: sector 0 of its slot is valid and has the sequence, with this head and entries
 abbrev pub HasBlock : Geometry → List (List ℕ) → ℕ → ℕ → List Entry → Type 0
 HasBlock g journal sequence head entries =
-    IsSector g.nonce 0 (sector 0 (get_or journal (sequence % g.journal) zero_block)) sequence head entries
-
--- a data block of the image stands at this block
-abbrev pub IsDataBlock : Geometry → ℕ → Type 0
-IsDataBlock g b = (slab : ℕ) × (offset : ℕ) × IsPlace g (DataBlock slab offset) × (block_of g (DataBlock slab offset) ≡ b)
+    IsSector g.nonce 0 (sector 0 (get_or journal (journal_slot_of g sequence) zero_block)) sequence head entries
 
 -- an entry that maps an address below the logical size to a data block
 abbrev pub IsMapped : Geometry → Entry → Type 0

@@ -2,7 +2,7 @@ ghost use Rattle.std.specs.Prelude.{◌≡◌, ◌≤◌, ◌<◌, ◌+◌, ◌^
 ghost use Rattle.blk_base.specs.Limits.{IsGeometry};
 ghost use Rattle.blk_base.specs.declared.geometry.Geometry.{Geometry};
 ghost use Rattle.blk_base.specs.declared.journal_entry.Entry.{Entry};
-ghost use Rattle.image_layout.specs.Window.{IsDataBlock, IsMapped, IsWritten, IsCount, IsWindow, IsFaulty, IsRefused, mapping_of, value_of};
+ghost use Rattle.image_layout.specs.Window.{IsMapped, IsWritten, IsCount, IsWindow, IsFaulty, IsRefused, mapping_of, value_of};
 ghost use Rattle.image_layout.specs.WindowCount.{IsCounted};
 
 use crate::WindowFault;
@@ -146,19 +146,8 @@ fn is_mapped(layout: &Layout, entry: &Entry) -> bool
             at,
             old: _,
             new: Mapping::At(block),
-        } => at.0 < layout.geometry.logical && is_data_block(layout, block),
+        } => at.0 < layout.geometry.logical && layout.is_data_block(block),
         _ => false,
-    }
-}
-
-// Whether a data block of the image stands at this block.
-fn is_data_block(layout: &Layout, block: Pbn) -> bool
-    ensures yes { IsTrue result → IsDataBlock layout.now.geometry block.0 }
-    ensures no { result ≡ false → IsDataBlock layout.now.geometry block.0 → ⊥ }
-{
-    match layout.place(block) {
-        None => false,
-        Some(_) => true,
     }
 }
 

@@ -1,3 +1,3 @@
-pub mod SpellingLaws
+pub mod FieldLaws
 pub mod ReadLaws
 pub mod PrefixLaws

@@ -1,16 +1,15 @@
 -- Runs of sectors, the prefix of a block, and what a stop within a write leaves of it.
-use Rattle.std.specs.Prelude.{ℕ, zero, suc, ◌≡◌, ◌⊎◌, ◌<◌, ◌≤◌, ◌+◌, ◌-◌, ◌*◌, ◌↔◌, Bool, true, false, IsTrue, All, List, [], ◌++◌, length, take, drop, flat_map, refl}
+use Rattle.std.specs.Prelude.{ℕ, zero, suc, ◌≡◌, ◌⊎◌, ◌<◌, ◌≤◌, ◌+◌, ◌-◌, ◌*◌, ◌↔◌, Bool, true, false, IsTrue, All, List, [], ◌++◌, length, take, drop, refl}
 use Rattle.std.proofs.Common.{sym, ◌∙◌, ap, ap₂, subst, inl, inr, arith, length-append, length-drop}
 use Rattle.std.proofs.lemmas.Bool.{cases_lt}
 use Rattle.std.proofs.lemmas.List.{length-take, take-append-drop, drop-drop, drop-take, take-take, take-append-le, drop-append-le, drop_at, drop_all, take_all, take_min, append-nil, nil_from_length}
 use Rattle.std.proofs.lemmas.List.Elements.{All-nil, All-append, All-same, All-take, All-drop}
 use Rattle.blk_base.specs.declared.journal_entry.Entry.{Entry}
 use Rattle.blk_base.specs.Sectors.{sector}
-use Rattle.byte_fields.proofs.FieldLaws.{record_at}
-use Rattle.journal_codec.specs.Spelling.{sector_bytes, entries_in, sector_of, sector_numbers, block_bytes}
+use Rattle.sector_records.proofs.SectorLaws.{few_in, written_sector}
+use Rattle.journal_codec.specs.Spelling.{entries_in, block_bytes}
 use Rattle.journal_codec.specs.Grammar.{joined, HoldsEntry, HoldsBlock, IsSector, IsRun, IsPrefix, IsTorn}
-use Rattle.journal_codec.proofs.SpellingLaws.{few_in, length-sector_of, count_of_sectors, sector_number}
-use Rattle.journal_codec.proofs.ReadLaws.{one_reading}
+use Rattle.journal_codec.proofs.ReadLaws.{length-sector_bytes, one_reading}
 
 -- the parts of a list of entries
 
@@ -262,21 +261,13 @@ one_prefix nonce block s h s' h' es es' w w' is is' =
 
 -- what is written is read back
 
-pub written_sector : (nonce s h : ℕ) (es : List Entry) (i : ℕ) → i < 8 → sector i (block_bytes nonce s h es) ≡ sector_bytes nonce s h i (entries_in i es)
-unfolding block_bytes
-written_sector nonce s h es i lt =
-    let form = sector_of nonce s h es in
-    let count = count_of_sectors in
-    ap (λ b. take 512 (drop (512 * i) b)) (sym (append-nil (flat_map form sector_numbers)))
-    ∙ record_at form 512 (length-sector_of nonce s h es) sector_numbers i [] 0 (omega arith)
-    ∙ ap form (sector_number i lt)
-
 pub written : (nonce s h : ℕ) (es : List Entry) (i : ℕ) → HoldsBlock s h es → i < 8 → IsSector nonce i (sector i (block_bytes nonce s h es)) s h (entries_in i es)
+unfolding block_bytes
 written nonce s h es i holds lt = record {
-  spelled = written_sector nonce s h es i lt;
+  spelled = written_sector _ i (λ n. length-sector_bytes nonce s h n (entries_in n es) (few_in 24 n es)) lt;
   named = holds.named;
   head_below = holds.head_below;
-  few = few_in i es;
+  few = few_in 24 i es;
   each = All-take HoldsEntry 24 (drop (24 * i) es) (All-drop HoldsEntry (24 * i) es holds.each);
 }
 

@@ -1,22 +1,17 @@
 -- When a sector of the journal is valid, and what the prefix of a block is.
 use Rattle.std.specs.Prelude.{ℕ, zero, suc, ◌≡◌, ◌*◌, ◌<◌, ◌≤◌, ◌^◌, ◌↔◌, ◌⊎◌, Bool, IsTrue, List, [], ◌++◌, length, All}
-use Rattle.blk_base.specs.declared.place.Mapping.{Mapping}
-use Rattle.blk_base.specs.declared.place.Mapping.TheVariants.{Unmapped, Zero, At}
+use Rattle.blk_base.specs.declared.place.Mapping.TheVariants.{At}
 use Rattle.blk_base.specs.declared.journal_entry.Entry.{Entry}
 use Rattle.blk_base.specs.declared.journal_entry.Entry.TheVariants.{Remap, NewPage}
 use Rattle.blk_base.specs.Sectors.{sector}
+use Rattle.blk_base.specs.declared.sizes.TheConstants.{TREES}
+use Rattle.byte_fields.specs.Mappings.{HoldsMapping}
 use Rattle.journal_codec.specs.Spelling.{sector_bytes, entries_in}
 
--- what the form can hold: block 0 stands for zeros, so no mapping leads there
-abbrev pub HoldsMapping : Mapping → Type 0
-HoldsMapping Unmapped = Unit {0}
-HoldsMapping Zero = Unit {0}
-HoldsMapping (At block) = (1 ≤ block.0) × (block.0 < 2 ^ 32)
-
--- and a new page is one of the 60 trees
+-- what the form can hold: mappings, and a new page of one of the trees
 abbrev pub HoldsEntry : Entry → Type 0
 HoldsEntry (Remap at old new) = (at.0 < 2 ^ 32) × HoldsMapping old × HoldsMapping new
-HoldsEntry (NewPage page at) = (page.tree < 60) × (page.level < 2 ^ 8) × (page.index < 2 ^ 32) × HoldsMapping (At at)
+HoldsEntry (NewPage page at) = (page.tree < TREES) × (page.level < 2 ^ 8) × (page.index < 2 ^ 32) × HoldsMapping (At at)
 
 -- a sequence is below 2 ^ 55 and not 0, and no head is above it
 pub record HoldsBlock (sequence head : ℕ) (entries : List Entry) : Type 0 where

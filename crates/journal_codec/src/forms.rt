@@ -1,4 +1,8 @@
-use crate::Entries;
+use blk_base::Entry;
+use sector_records::Records;
+
+/// At most `N` entries of the journal.
+pub type Entries<const N: usize> = Records<Entry, N>;
 
 /// A block of the journal, as it is to be written: the image's nonce, the block's sequence, the least sequence that
 /// is still needed (`head`), and its entries.

@@ -31,14 +31,13 @@
 //! 0's sequence and head, and have no entries behind a sector with fewer than 24. It is whole if it has all eight.
 #![tactic(auto)]
 
-mod entries;
+mod format;
 mod forms;
 mod laws;
 mod reading;
 mod writing;
 
-pub use entries::Entries;
-pub use forms::{JournalBlock, Prefix, Sector};
+pub use forms::{Entries, JournalBlock, Prefix, Sector};
 pub use laws::{
     a_run_is_its_sectors, a_torn_write_leaves_a_prefix, bytes_have_one_reading,
     what_is_written_is_read,

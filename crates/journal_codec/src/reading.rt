@@ -1,17 +1,14 @@
-ghost use Rattle.std.specs.Prelude.{◌≡◌, ◌≢◌, ◌+◌, ◌*◌, ◌^◌, ◌<◌, ◌≤◌, ◌↔◌, ◌⊎◌, ◌++◌, ℕ, List, false, Some, IsTrue, IfSome, IfNone, All, length, drop, flat_map};
-ghost use Rattle.blk_base.specs.declared.place.Mapping.{Mapping};
+ghost use Rattle.std.specs.Prelude.{◌≡◌, ◌+◌, ◌*◌, ◌^◌, ◌<◌, ◌≤◌, ◌↔◌, ◌⊎◌, ℕ, List, false, IsTrue, IfSome, IfNone, All, length};
 ghost use Rattle.blk_base.specs.declared.journal_entry.Entry.{Entry};
 ghost use Rattle.blk_base.specs.Sectors.{sector};
-ghost use Rattle.journal_codec.specs.Spelling.{mapping_bytes, entry_bytes};
-ghost use Rattle.journal_codec.specs.Grammar.{HoldsMapping, HoldsEntry, IsSector, IsRun, IsPrefix};
+ghost use Rattle.byte_fields.specs.Mappings.{HoldsMapping};
+ghost use Rattle.journal_codec.specs.Grammar.{HoldsEntry, IsSector, IsRun, IsPrefix};
 
-use crate::writing::{PER_SECTOR, put_sector};
+use crate::format::{JournalHead, PER_SECTOR};
 use crate::{Entries, Prefix, Sector};
-use blk_base::{Block, Entry, Lba, Mapping, PageId, Pbn};
-use byte_fields::{read_u8, read_u16, read_u32, read_u64};
-
-/// How many trees the block map has.
-const TREES: u8 = 60;
+use blk_base::{Block, Entry, Mapping, TREES};
+use byte_fields::{read_u16, read_u64};
+use sector_records::{bytes_of_sector, is_sector, read_records};
 
 /// Sequences are below this.
 const SEQUENCES: u64 = 1 << 55;
@@ -21,20 +18,7 @@ pub fn sector(block: &Block, i: u16, nonce: u64) -> Option<Sector>
     ensures some { IfSome result (λ found. IsSector nonce i (sector i block.now) found.sequence found.head found.entries) }
     ensures none { IfNone result ((sequence head : ℕ) (entries : List Entry) → IsSector nonce i (sector i block.now) sequence head entries → ⊥) }
 {
-    let _bytes = &block.bytes;
-    if i >= 8 {
-        return None;
-    }
-    read_sector(bytes_of_sector(block, i), i, nonce)
-}
-
-fn bytes_of_sector(block: &Block, i: u16) -> &[u8]
-    requires { i < 8 }
-    ensures bytes { result.now ≡ sector i block.now }
-    ensures size { length result.now ≡ 512 }
-{
-    let start = 512 * i as usize;
-    &block.bytes[start..start + 512]
+    read_sector(bytes_of_sector(block, i)?, i, nonce)
 }
 
 fn read_sector(bytes: &[u8], number: u16, nonce: u64) -> Option<Sector>
@@ -43,33 +27,25 @@ fn read_sector(bytes: &[u8], number: u16, nonce: u64) -> Option<Sector>
     ensures none { IfNone result ((sequence head : ℕ) (entries : List Entry) → IsSector nonce number bytes.now sequence head entries → ⊥) }
 {
     let sequence = read_u64(bytes, 8);
-    let head = read_u64(bytes, 16);
+    let oldest = read_u64(bytes, 16);
     let count = read_u16(bytes, 26);
-    if !is_head(sequence, head, count) {
+    if !is_head(sequence, oldest, count) {
         return None;
     }
-    match read_entries(bytes, count) {
-        None => None,
-        Some(entries) => {
-            let mut spelled = [0; 512];
-            put_sector(
-                &mut spelled,
-                nonce,
-                sequence,
-                head,
-                number,
-                entries.as_slice(),
-            );
-            if bytes == spelled.as_slice() {
-                Some(Sector {
-                    sequence,
-                    head,
-                    entries,
-                })
-            } else {
-                None
-            }
-        }
+    let head = JournalHead {
+        nonce,
+        sequence,
+        head: oldest,
+    };
+    let entries = read_records::<JournalHead, 24>(bytes, count);
+    if are_held(entries.as_slice()) && is_sector(bytes, &head, number, entries.as_slice()) {
+        Some(Sector {
+            sequence,
+            head: oldest,
+            entries,
+        })
+    } else {
+        None
     }
 }
 
@@ -80,24 +56,11 @@ fn is_head(sequence: u64, head: u64, count: u16) -> bool
     sequence != 0 && sequence < SEQUENCES && head <= sequence && usize::from(count) <= PER_SECTOR
 }
 
-// The entries that the sector's bytes say, if it has this many.
-fn read_entries(bytes: &[u8], count: u16) -> Option<Entries<24>>
-    requires size { length bytes.now ≡ 512 }
-    requires few { count ≤ 24 }
-    ensures some { IfSome result (λ entries. (length entries ≡ count) × All HoldsEntry entries) }
-    ensures read { (entries : List Entry) (rest : List ℕ) → All HoldsEntry entries → length entries ≡ count
-        → drop 32 bytes.now ≡ flat_map entry_bytes entries ++ rest → result ≡ Some entries }
+// Whether the format can hold each of these entries.
+fn are_held(entries: &[Entry]) -> bool
+    ensures { IsTrue result ↔ All HoldsEntry entries.now }
 {
-    let mut entries = Entries::new();
-    for k in 0..count {
-        let start = 32 + 20 * k as usize;
-        let entry = read_entry(&bytes[start..start + 20]);
-        if !is_held(entry) {
-            return None;
-        }
-        entries.push(entry);
-    }
-    Some(entries)
+    entries.iter().all(|entry| is_held(*entry))
 }
 
 // Whether the format can hold the entry.
@@ -116,46 +79,6 @@ fn is_held_mapping(mapping: Mapping) -> bool
     match mapping {
         Mapping::Unmapped | Mapping::Zero => true,
         Mapping::At(block) => block.0 != 0,
-    }
-}
-
-// The entry that 20 bytes say, if they are one.
-fn read_entry(bytes: &[u8]) -> Entry
-    requires { length bytes.now ≡ 20 }
-    ensures { (entry : Entry) → HoldsEntry entry → bytes.now ≡ entry_bytes entry → result ≡ entry }
-{
-    let number = read_u32(bytes, 4);
-    let new = read_mapping(&bytes[13..18]);
-    if read_u8(bytes, 0) == 0 {
-        Entry::Remap {
-            at: Lba(number),
-            old: read_mapping(&bytes[8..13]),
-            new,
-        }
-    } else {
-        Entry::NewPage {
-            page: PageId {
-                tree: read_u8(bytes, 1),
-                level: read_u8(bytes, 2),
-                index: number,
-            },
-            at: Pbn(read_u32(bytes, 14)),
-        }
-    }
-}
-
-// The mapping that 5 bytes say, if they are one.
-fn read_mapping(bytes: &[u8]) -> Mapping
-    requires { length bytes.now ≡ 5 }
-    ensures { (mapping : Mapping) → HoldsMapping mapping → bytes.now ≡ mapping_bytes mapping → result ≡ mapping }
-{
-    let block = read_u32(bytes, 1);
-    if read_u8(bytes, 0) == 0 {
-        Mapping::Unmapped
-    } else if block == 0 {
-        Mapping::Zero
-    } else {
-        Mapping::At(Pbn(block))
     }
 }
 

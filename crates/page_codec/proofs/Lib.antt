@@ -2,3 +2,4 @@ pub mod SpellingLaws
 pub mod ReadLaws
 pub mod HeadLaws
 pub mod TornLaws
+pub mod HeldLaws

@@ -5,13 +5,11 @@ use Rattle.std.proofs.lemmas.List.{take_at, drop_at, drop-drop, append-nil, nil_
 use Rattle.blk_base.specs.declared.place.Mapping.{Mapping}
 use Rattle.blk_base.specs.declared.place.Mapping.TheVariants.{Unmapped}
 use Rattle.byte_fields.proofs.FieldLaws.{length-le, record_at, parts}
+use Rattle.byte_fields.proofs.MappingLaws.{length-mapping}
 use Rattle.page_codec.specs.declared.forms.PageHead.{PageHead}
-use Rattle.page_codec.specs.Spelling.{mapping_bytes, head_bytes, page_bytes}
+use Rattle.byte_fields.specs.Mappings.{mapping_bytes}
+use Rattle.page_codec.specs.Spelling.{head_bytes, page_bytes}
 use Rattle.page_codec.specs.Grammar.{slot_bytes}
-
-pub length-mapping : (m : Mapping) → length (mapping_bytes m) ≡ 5
-unfolding mapping_bytes
-length-mapping m = simp (length-append, length-le)
 
 pub length-head : (head : PageHead) → length (head_bytes head) ≡ 36
 unfolding head_bytes

@@ -1,34 +1,33 @@
 -- When a block is a page of the block map, and what is wrong with one that isn't.
 use Rattle.std.specs.Prelude.{ℕ, ◌≡◌, ◌+◌, ◌*◌, ◌%◌, ◌<◌, ◌≤◌, ◌^◌, ◌⊎◌, List, length, take, drop, All}
+use Rattle.blk_base.specs.declared.sizes.TheConstants.{PAGE_SLOTS}
 use Rattle.blk_base.specs.declared.geometry.Geometry.{Geometry}
 use Rattle.blk_base.specs.declared.place.Mapping.{Mapping}
 use Rattle.blk_base.specs.declared.place.Mapping.TheVariants.{Unmapped, Zero, At}
-use Rattle.blk_base.specs.Regions.{DataBlock, IsPlace, block_of}
+use Rattle.blk_base.specs.Regions.{IsDataBlock}
 use Rattle.blk_base.specs.Sectors.{sector}
 use Rattle.byte_fields.specs.Fields.{number_at}
 use Rattle.page_codec.specs.declared.forms.PageHead.{PageHead}
 use Rattle.page_codec.specs.declared.fault.PageFault.{PageFault}
 use Rattle.page_codec.specs.declared.fault.PageFault.TheVariants.{Header, Compressed, OutOfRange}
-use Rattle.page_codec.specs.Spelling.{mapping_bytes, head_bytes, page_bytes}
+use Rattle.byte_fields.specs.Mappings.{mapping_bytes}
+use Rattle.page_codec.specs.Spelling.{head_bytes, page_bytes}
 
--- a data block of a slab stands there
-pub record IsDataBlock (g : Geometry) (block : ℕ) : Type 0 where
-  pub slab : ℕ
-  pub offset : ℕ
-  pub inside : IsPlace g (DataBlock slab offset)
-  pub stands : block_of g (DataBlock slab offset) ≡ block
+-- what a page of a level can hold: zeros only in a leaf, and only data blocks
+abbrev pub HoldsMapping : Geometry → ℕ → Mapping → Type 0
+HoldsMapping g level Unmapped = Unit {0}
+HoldsMapping g level Zero = level ≡ 0
+HoldsMapping g level (At block) = IsDataBlock g block.0 × (block.0 < 2 ^ 32)
 
--- what a page can hold: zeros only in a leaf, and only data blocks
-abbrev pub HoldsMapping : PageHead → Mapping → Type 0
-HoldsMapping head Unmapped = Unit {0}
-HoldsMapping head Zero = head.page.level ≡ 0
-HoldsMapping head (At block) = IsDataBlock head.geometry block.0 × (block.0 < 2 ^ 32)
+-- mappings that a page of a level can hold, one for each slot
+pub record AreHeld (g : Geometry) (level : ℕ) (mappings : List Mapping) : Type 0 where
+  pub count : length mappings ≡ PAGE_SLOTS
+  pub each : All (HoldsMapping g level) mappings
 
 -- the block is this page, with these mappings: it is spelled so, and holds what a page can hold
 pub record IsPage (head : PageHead) (block : List ℕ) (mappings : List Mapping) : Type 0 where
   pub spelled : block ≡ page_bytes head mappings
-  pub count : length mappings ≡ 812
-  pub each : All (HoldsMapping head) mappings
+  pub held : AreHeld head.geometry head.page.level mappings
 
 -- the numbers of a head are within their types
 pub record IsHead (head : PageHead) : Type 0 where
@@ -48,7 +47,7 @@ slot_bytes slot block = take 5 (drop (36 + 5 * slot) block)
 pub record IsSlot (head : PageHead) (block : List ℕ) (slot : ℕ) (mapping : Mapping) : Type 0 where
   pub headed : HasHead head block
   pub spelled : slot_bytes slot block ≡ mapping_bytes mapping
-  pub held : HoldsMapping head mapping
+  pub held : HoldsMapping head.geometry head.page.level mapping
 
 -- its state, the low half of its first byte
 abbrev pub state_in : ℕ → List ℕ → ℕ
@@ -65,7 +64,7 @@ IsSlotFault head block slot (OutOfRange named) =
 -- why a block isn't this page: the fault of its least slot that says no mapping
 pub record IsPageFault (head : PageHead) (block : List ℕ) (fault : PageFault) : Type 0 where
   pub slot : ℕ
-  pub inside : slot < 812
+  pub inside : slot < PAGE_SLOTS
   pub before : (i : ℕ) → i < slot → (mapping : Mapping) × IsSlot head block i mapping
   pub of_slot : IsSlotFault head block slot fault
 

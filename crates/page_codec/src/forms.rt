@@ -1,5 +1,4 @@
-use crate::Mappings;
-use blk_base::{Geometry, PageId, Pbn};
+use blk_base::{Geometry, Mappings, PageId, Pbn};
 
 /// Which page it is: of an image of these sizes, with this place in the block map, at this block.
 #[derive(Clone, Copy, Debug, PartialEq, Eq)]

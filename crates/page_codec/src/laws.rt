@@ -1,10 +1,10 @@
-ghost use Rattle.std.specs.Prelude.{◌≡◌, ◌<◌, ◌⊎◌, ℕ, List, All, length, slice_index_or};
+ghost use Rattle.std.specs.Prelude.{◌≡◌, ◌<◌, ◌⊎◌, ℕ, List, length, slice_index_or};
 ghost use Rattle.blk_base.specs.declared.place.Mapping.{Mapping};
 ghost use Rattle.blk_base.specs.declared.place.Mapping.TheVariants.{Unmapped};
 ghost use Rattle.page_codec.specs.declared.forms.PageHead.{PageHead};
 ghost use Rattle.page_codec.specs.declared.fault.PageFault.{PageFault};
 ghost use Rattle.page_codec.specs.Spelling.{page_bytes};
-ghost use Rattle.page_codec.specs.Grammar.{HoldsMapping, IsPage, IsHead, HasHead, IsSlot, IsSlotFault, IsPageFault, IsTorn, IsFrom};
+ghost use Rattle.page_codec.specs.Grammar.{AreHeld, IsPage, IsHead, HasHead, IsSlot, IsSlotFault, IsPageFault, IsTorn, IsFrom};
 
 /// A block is a page exactly where each of its slots says a mapping, and the page has these mappings.
 pub fn a_page_is_its_slots()
@@ -31,8 +31,7 @@ pub fn bytes_have_one_reading()
 
 /// A page that the format can hold is read back as it was written.
 pub fn what_is_written_is_read()
-    ensures { (head : PageHead) (mappings : List Mapping) → length mappings ≡ 812 → All (HoldsMapping head) mappings
-        → IsPage head (page_bytes head mappings) mappings }
+    ensures { (head : PageHead) (mappings : List Mapping) → AreHeld head.geometry head.page.level mappings → IsPage head (page_bytes head mappings) mappings }
 {}
 
 /// A stop within the write of a page leaves in each sector the bytes before or the new ones. A slot whose bytes are all

@@ -33,7 +33,6 @@
 mod fault;
 mod forms;
 mod laws;
-mod mappings;
 mod reading;
 mod writing;
 
@@ -43,6 +42,5 @@ pub use laws::{
     a_page_is_its_slots, a_torn_page_keeps_whole_slots, bytes_have_one_reading,
     what_is_written_is_read,
 };
-pub use mappings::Mappings;
 pub use reading::{decode, slot};
 pub use writing::encode;

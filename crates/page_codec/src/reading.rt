@@ -2,12 +2,12 @@ ghost use Rattle.std.specs.Prelude.{◌≡◌, ◌<◌, ◌≤◌, ◌↔◌, Li
 ghost use Rattle.blk_base.specs.declared.place.Mapping.{Mapping};
 ghost use Rattle.blk_base.specs.declared.place.Mapping.TheVariants.{Unmapped};
 ghost use Rattle.blk_base.specs.Limits.{IsGeometry};
-ghost use Rattle.page_codec.specs.Spelling.{state_of, target_of};
-ghost use Rattle.page_codec.specs.Grammar.{IsDataBlock, HoldsMapping, IsPage, HasHead, IsSlot, IsSlotFault, IsPageFault};
+ghost use Rattle.byte_fields.specs.Mappings.{state_of, target_of};
+ghost use Rattle.page_codec.specs.Grammar.{HoldsMapping, IsPage, HasHead, IsSlot, IsSlotFault, IsPageFault};
 
 use crate::writing::{HEAD, WIDTH, put_head};
-use crate::{MapPage, Mappings, PageFault, PageHead};
-use blk_base::{Block, Layout, Mapping, Pbn};
+use crate::{MapPage, PageFault, PageHead};
+use blk_base::{Block, Layout, Mapping, Mappings, Pbn};
 use byte_fields::{read_u8, read_u32};
 
 /// Reads a page. The fault is that the block begins as another page does, or else that of the least slot that has one.
@@ -57,10 +57,7 @@ fn read_page(bytes: &[u8], want: &PageHead, into: &mut Mappings) -> Result<(), P
     }
     into.clear();
     for slot in 0..812 {
-        match read_slot(bytes, want, slot) {
-            Ok(mapping) => into.set(slot, mapping),
-            Err(fault) => return Err(fault),
-        }
+        into.set(slot, read_slot(bytes, want, slot)?);
     }
     Ok(())
 }
@@ -99,23 +96,16 @@ fn read_slot(bytes: &[u8], want: &PageHead, slot: u16) -> Result<Mapping, PageFa
 // The mapping that has this first byte and this block, if the page can hold it.
 fn mapping_of(first: u8, block: u32, want: &PageHead) -> Option<Mapping>
     requires { IsGeometry want.now.geometry }
-    ensures some { IfSome result (λ m. (state_of m ≡ first) × (target_of m ≡ block) × HoldsMapping want.now m) }
-    ensures none { IfNone result ((m : Mapping) → state_of m ≡ first → target_of m ≡ block → HoldsMapping want.now m → ⊥) }
+    ensures some { IfSome result (λ m. (state_of m ≡ first) × (target_of m ≡ block) × HoldsMapping want.now.geometry want.now.page.level m) }
+    ensures none { IfNone result ((m : Mapping) → state_of m ≡ first → target_of m ≡ block → HoldsMapping want.now.geometry want.now.page.level m → ⊥) }
 {
     if first == 0 && block == 0 {
         Some(Mapping::Unmapped)
     } else if first == 1 && block == 0 && want.page.level == 0 {
         Some(Mapping::Zero)
-    } else if first == 1 && is_data_block(Pbn(block), want) {
+    } else if first == 1 && Layout::of(&want.geometry).is_data_block(Pbn(block)) {
         Some(Mapping::At(Pbn(block)))
     } else {
         None
     }
-}
-
-fn is_data_block(at: Pbn, want: &PageHead) -> bool
-    requires { IsGeometry want.now.geometry }
-    ensures { IsTrue result ↔ IsDataBlock want.now.geometry at.0 }
-{
-    Layout::of(&want.geometry).place(at).is_some()
 }

@@ -1,10 +1,10 @@
 ghost use Rattle.std.specs.Prelude.{◌≡◌, ◌+◌, ◌*◌, ◌≤◌, ◌++◌, length, take, flat_map};
-ghost use Rattle.byte_fields.specs.Fields.{le};
-ghost use Rattle.page_codec.specs.Spelling.{mapping_bytes, head_bytes, page_bytes};
+ghost use Rattle.byte_fields.specs.Mappings.{mapping_bytes};
+ghost use Rattle.page_codec.specs.Spelling.{head_bytes, page_bytes};
 
 use crate::{MapPage, PageHead};
 use blk_base::{Block, Mapping};
-use byte_fields::{put, put_u8, put_u16, put_u32, put_u64};
+use byte_fields::{put, put_mapping, put_u8, put_u16, put_u32, put_u64};
 
 /// How many bytes stand before the first slot.
 pub(crate) const HEAD: usize = 36;
@@ -41,26 +41,6 @@ fn put_slots(page: &mut [u8], mappings: &[Mapping])
     ensures { take (36 + 5 * length mappings.now) page.new ≡ take 36 page.old ++ flat_map mapping_bytes mappings.now }
 {
     for (slot, mapping) in mappings.iter().enumerate() {
-        put(page, HEAD + WIDTH * slot, &bytes_of_mapping(*mapping));
+        put_mapping(page, HEAD + WIDTH * slot, *mapping);
     }
-}
-
-#[tactic(auto, unfolding(crate::specs::Spelling::mapping_bytes))]
-fn bytes_of_mapping(mapping: Mapping) -> [u8; 5]
-    ensures { result ≡ mapping_bytes mapping }
-{
-    match mapping {
-        Mapping::Unmapped => state_and_block(0, 0),
-        Mapping::Zero => state_and_block(1, 0),
-        Mapping::At(block) => state_and_block(1, block.0),
-    }
-}
-
-fn state_and_block(state: u8, block: u32) -> [u8; 5]
-    ensures { result ≡ le 1 state ++ le 4 block }
-{
-    let mut bytes = [0; 5];
-    put_u8(&mut bytes, 0, state);
-    put_u32(&mut bytes, 1, block);
-    bytes
 }

@@ -7,10 +7,11 @@ use Rattle.std.proofs.lemmas.Bool.{cases_lt}
 use Rattle.std.proofs.Math.Seq.{take-append-add, get_or-append_right}
 use Rattle.std.proofs.lemmas.List.Elements.{All-head, All-tail}
 use Rattle.blk_base.specs.Sectors.{sector}
+use Rattle.blk_base.specs.declared.sizes.TheConstants.{SECTOR_COUNTERS}
 use Rattle.byte_fields.specs.Fields.{le, number_at}
 use Rattle.byte_fields.proofs.FieldLaws.{length-le, le-injective, le-number_at, parts}
 use Rattle.slab_codec.specs.declared.forms.ReferenceSector.{ReferenceSector}
-use Rattle.slab_codec.specs.Reference.{reference_sector_bytes, reference_bytes, counters_in}
+use Rattle.slab_codec.specs.Reference.{reference_sector_bytes, reference_bytes}
 
 abbrev made : ℕ → List ℕ → ReferenceSector
 made commit counters = record { commit = record { 0 = commit }; counters = counters }
@@ -30,26 +31,26 @@ unfolding reference_sector_bytes
 sector_spelled bytes s fits small commit counters =
     parts 8 bytes (le 8 s.commit.0) s.counters (sym (le-number_at 8 0 bytes (omega arith) small) ∙ ap (le 8) (sym commit)) (sym counters)
 
-length-reference : (s : ReferenceSector) → length s.counters ≡ 504 → length (reference_sector_bytes s) ≡ 512
+length-reference : (s : ReferenceSector) → length s.counters ≡ SECTOR_COUNTERS → length (reference_sector_bytes s) ≡ 512
 unfolding reference_sector_bytes
 length-reference s size = simp (length-append, length-le) (omega (arith, size))
 
-one_of : (sectors : List ReferenceSector) (i : ℕ) (d : ReferenceSector) → All (λ s. length s.counters ≡ 504) sectors → i < length sectors
+one_of : (sectors : List ReferenceSector) (i : ℕ) (d : ReferenceSector) → All (λ s. length s.counters ≡ SECTOR_COUNTERS) sectors → i < length sectors
     → take 512 (drop (512 * i) (flat_map reference_sector_bytes sectors)) ≡ reference_sector_bytes (slice_index_or sectors i d)
 one_of [] i d sized lt = absurd (omega arith)
 one_of (s ∷ ss) zero d sized lt =
-    let size = length-reference s (All-head (λ s. length s.counters ≡ 504) s ss sized) in
+    let size = length-reference s (All-head (λ s. length s.counters ≡ SECTOR_COUNTERS) s ss sized) in
     take_at (reference_sector_bytes s) (flat_map reference_sector_bytes ss) 512 size
 one_of (s ∷ ss) (suc i) d sized lt =
-    let size = length-reference s (All-head (λ s. length s.counters ≡ 504) s ss sized) in
+    let size = length-reference s (All-head (λ s. length s.counters ≡ SECTOR_COUNTERS) s ss sized) in
     let place : 512 * suc i ≡ 512 + 512 * i = omega arith in
     let all = reference_sector_bytes s ++ flat_map reference_sector_bytes ss in
     ap (λ (n : ℕ). take 512 (drop n all)) place ∙ ap (take 512) (sym (drop-drop (512 * i) 512 all))
     ∙ ap (λ b. take 512 (drop (512 * i) b)) (drop_at (reference_sector_bytes s) (flat_map reference_sector_bytes ss) 512 size)
-    ∙ one_of ss i d (All-tail (λ s. length s.counters ≡ 504) s ss sized) (omega arith)
+    ∙ one_of ss i d (All-tail (λ s. length s.counters ≡ SECTOR_COUNTERS) s ss sized) (omega arith)
 
 -- what is written is read back
-pub written_counters : (sectors : List ReferenceSector) (i : ℕ) (d : ReferenceSector) → All (λ s. length s.counters ≡ 504) sectors → i < length sectors
+pub written_counters : (sectors : List ReferenceSector) (i : ℕ) (d : ReferenceSector) → All (λ s. length s.counters ≡ SECTOR_COUNTERS) sectors → i < length sectors
     → sector i (reference_bytes sectors) ≡ reference_sector_bytes (slice_index_or sectors i d)
 unfolding reference_bytes
 written_counters sectors i d sized lt = one_of sectors i d sized lt
@@ -69,20 +70,21 @@ pad n r = elim (cases_lt (length r) n) [
 ]
 
 -- counters that were put in front of zeros
-pub padded : (r t out : List ℕ) (k : ℕ) → t ≡ take 504 r → k ≡ length t → take k out ≡ t → drop k out ≡ drop k (replicate 504 0)
-    → out ≡ take 504 (r ++ replicate 504 0)
-padded r t out k t_is k_is front back =
-    parts k out t (drop k (replicate 504 0)) front back
-    ∙ ap (λ b. t ++ b) (drop-replicate k 504 0 ∙ ap (λ (n : ℕ). replicate (504 - n) 0) (k_is ∙ ap length t_is))
-    ∙ ap (λ f. f ++ replicate (504 - length (take 504 r)) 0) t_is
-    ∙ sym (pad 504 r)
+pub padded : (width : ℕ) (r t out : List ℕ) (k : ℕ) → t ≡ take width r → k ≡ length t → take k out ≡ t → drop k out ≡ drop k (replicate width 0)
+    → out ≡ take width (r ++ replicate width 0)
+padded width r t out k t_is k_is front back =
+    parts k out t (drop k (replicate width 0)) front back
+    ∙ ap (λ b. t ++ b) (drop-replicate k width 0 ∙ ap (λ (n : ℕ). replicate (width - n) 0) (k_is ∙ ap length t_is))
+    ∙ ap (λ f. f ++ replicate (width - length (take width r)) 0) t_is
+    ∙ sym (pad width r)
 
--- a counter at its place
-pub counter_at : (counters : List ℕ) (n k : ℕ) → k < 504 → slice_index_or (counters_in n counters) k 0 ≡ slice_index_or counters (504 * n + k) 0
-counter_at counters n k lt =
-    let r = drop (504 * n) counters in
-    let one : slice_index_or (r ++ replicate 504 0) k 0 ≡ slice_index_or r k 0 = elim (cases_lt k (length r)) [
-      | inl inside ↦ get_or-append r (replicate 504 0) 0 k inside
-      | inr past ↦ get_or-append_right r (replicate 504 0) k 0 past ∙ get_or-replicate 504 (k - length r) 0 0 (omega arith) ∙ sym (get_or_past r k 0 past)
+-- a counter at its place, among so many in each sector
+pub counter_at : (width : ℕ) (counters : List ℕ) (n k : ℕ) → k < width
+    → slice_index_or (take width (drop (width * n) counters ++ replicate width 0)) k 0 ≡ slice_index_or counters (width * n + k) 0
+counter_at width counters n k lt =
+    let r = drop (width * n) counters in
+    let one : slice_index_or (r ++ replicate width 0) k 0 ≡ slice_index_or r k 0 = elim (cases_lt k (length r)) [
+      | inl inside ↦ get_or-append r (replicate width 0) 0 k inside
+      | inr past ↦ get_or-append_right r (replicate width 0) k 0 past ∙ get_or-replicate width (k - length r) 0 0 (omega arith) ∙ sym (get_or_past r k 0 past)
     ] in
-    get_or-take 504 (r ++ replicate 504 0) k 0 lt ∙ one ∙ get_or-drop (504 * n) counters k 0
+    get_or-take width (r ++ replicate width 0) k 0 lt ∙ one ∙ get_or-drop (width * n) counters k 0

@@ -1,3 +1,4 @@
 pub mod Reference
 pub mod Spelling
 pub mod Grammar
+pub mod Lengths

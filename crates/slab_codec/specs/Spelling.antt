@@ -1,6 +1,7 @@
 -- A block of a slab's journal as bytes. The reader goes by the same definitions as the writer.
-use Rattle.std.specs.Prelude.{ℕ, ◌-◌, ◌*◌, ◌%◌, List, [], ◌∷◌, ◌++◌, length, take, drop, replicate, flat_map}
+use Rattle.std.specs.Prelude.{ℕ, ◌%◌, List, [], ◌∷◌, ◌++◌, length}
 use Rattle.byte_fields.specs.Fields.{le}
+use Rattle.sector_records.specs.Spelling.{sector_form, records_in, sector_of, eight_sectors}
 use Rattle.slab_codec.specs.declared.forms.SlabEntry.{SlabEntry}
 
 -- an entry, 12 bytes: its point, the data block's offset in the slab, the point's half, a zero
@@ -12,22 +13,14 @@ unfoldable pub head_bytes : ℕ → ℕ → ℕ → ℕ → ℕ → List ℕ
 head_bytes nonce sequence slab number count =
     le 8 nonce ++ le 8 sequence ++ le 4 slab ++ le 2 number ++ le 2 count ++ (86 ∷ 83 ∷ 83 ∷ 49 ∷ []) ++ le 4 0
 
--- a sector, 512 bytes: behind its head its entries, at most 40, and zeros
-unfoldable pub sector_bytes : ℕ → ℕ → ℕ → ℕ → List SlabEntry → List ℕ
-sector_bytes nonce sequence slab number entries =
-    head_bytes nonce sequence slab number (length entries) ++ flat_map entry_bytes entries ++ replicate (480 - 12 * length entries) 0
+-- a sector: behind its head its entries, at most 40, and zeros
+abbrev pub sector_bytes : ℕ → ℕ → ℕ → ℕ → List SlabEntry → List ℕ
+sector_bytes nonce sequence slab number entries = sector_form entry_bytes (head_bytes nonce sequence slab number (length entries)) entries
 
 -- the entries of a block fill sector after sector, 40 of them in each
 abbrev pub entries_in : ℕ → List SlabEntry → List SlabEntry
-entries_in number entries = take 40 (drop (40 * number) entries)
+entries_in number entries = records_in 40 number entries
 
--- one sector of a block
-abbrev pub sector_of : ℕ → ℕ → ℕ → List SlabEntry → ℕ → List ℕ
-sector_of nonce sequence slab entries number = sector_bytes nonce sequence slab number (entries_in number entries)
-
-unfoldable pub sector_numbers : List ℕ
-sector_numbers = 0 ∷ 1 ∷ 2 ∷ 3 ∷ 4 ∷ 5 ∷ 6 ∷ 7 ∷ []
-
--- a block, 4096 bytes: its eight sectors
+-- a block: its eight sectors
 unfoldable pub block_bytes : ℕ → ℕ → ℕ → List SlabEntry → List ℕ
-block_bytes nonce sequence slab entries = flat_map (sector_of nonce sequence slab entries) sector_numbers
+block_bytes nonce sequence slab entries = eight_sectors (sector_of entry_bytes (head_bytes nonce sequence slab) 40 entries)

@@ -1,45 +1,21 @@
-ghost use Rattle.std.specs.Prelude.{◌≡◌, ◌+◌, ◌*◌, ◌<◌, length};
+ghost use Rattle.std.specs.Prelude.{◌≡◌, ◌*◌, ◌<◌, length};
 ghost use Rattle.blk_base.specs.Sectors.{sector};
 ghost use Rattle.slab_codec.specs.Reference.{reference_sector_bytes, reference_bytes, counters_in};
 
-use crate::reading::bytes_of_sector;
-use crate::{COUNTERS, ReferenceBlock, ReferenceSector};
-use blk_base::{Block, Point};
+use crate::{ReferenceBlock, ReferenceSector};
+use blk_base::{Block, Layout, Point, SECTOR_COUNTERS};
 use byte_fields::{put, put_u64, read_u64};
 
-/// How many counters a block has.
-const PER_BLOCK: u32 = 4032;
-
-/// Where the counter of a data block stands: a reference block of its slab, a sector there, and a counter of it.
-#[derive(Clone, Copy, Debug, PartialEq, Eq)]
-pub struct CounterPlace {
-    pub block: u32,
-    pub sector: u16,
-    pub counter: u16,
-}
-
-/// Where the counter of the data block with this offset stands.
-pub fn counter_place(offset: u32) -> CounterPlace
-    ensures whole { offset ≡ (result.block * 8 + result.sector) * 504 + result.counter }
-    ensures within { (result.sector < 8) × (result.counter < 504) }
+/// The counters of sector `n` of a slab, of all its reference blocks in a row: those of the slab from the first offset of
+/// the sector on, and zeros past the slab's end.
+pub fn sector_counters(layout: &Layout, counters: &[u8], n: u32) -> [u8; SECTOR_COUNTERS]
+    ensures { result ≡ counters_in layout.now.geometry n counters.now }
 {
-    let within = offset % PER_BLOCK;
-    CounterPlace {
-        block: offset / PER_BLOCK,
-        sector: (within / COUNTERS as u32) as u16,
-        counter: (within % COUNTERS as u32) as u16,
-    }
-}
-
-/// The counters of sector `n` of a slab, of all its reference blocks in a row: those of the slab from offset 504 × `n`
-/// on, and zeros past the slab's end.
-pub fn sector_counters(counters: &[u8], n: u32) -> [u8; COUNTERS]
-    ensures { result ≡ counters_in n counters.now }
-{
-    let first = (COUNTERS * n as usize).min(counters.len());
+    let width = layout.counters_per_sector() as usize;
+    let first = (width * n as usize).min(counters.len());
     let rest = &counters[first..];
-    let count = COUNTERS.min(rest.len());
-    let mut result = [0; COUNTERS];
+    let count = width.min(rest.len());
+    let mut result = [0; SECTOR_COUNTERS];
     put(&mut result, 0, &rest[..count]);
     result
 }
@@ -56,7 +32,8 @@ pub fn reference_sector(block: &Block, i: u16) -> ReferenceSector
     requires { i < 8 }
     ensures { sector i block.now ≡ reference_sector_bytes result }
 {
-    read_reference(bytes_of_sector(block, i))
+    let start = 512 * i as usize;
+    read_reference(&block.bytes[start..start + 512])
 }
 
 fn put_sectors(bytes: &mut [u8], sectors: &[ReferenceSector])
@@ -82,7 +59,7 @@ fn read_reference(bytes: &[u8]) -> ReferenceSector
     requires { length bytes.now ≡ 512 }
     ensures { bytes.now ≡ reference_sector_bytes result }
 {
-    let mut counters = [0; COUNTERS];
+    let mut counters = [0; SECTOR_COUNTERS];
     counters.copy_from_slice(&bytes[8..512]);
     ReferenceSector {
         commit: Point(read_u64(bytes, 0)),

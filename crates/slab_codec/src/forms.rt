@@ -1,14 +1,11 @@
-use crate::SlabEntries;
-use blk_base::Point;
-
-/// How many counters a sector of them has.
-pub const COUNTERS: usize = 504;
+use blk_base::{Point, SECTOR_COUNTERS};
+use sector_records::Records;
 
 /// A sector of reference counters: each has all updates of its block up to the commit point, and no later one.
 #[derive(Clone, Copy, Debug, PartialEq, Eq)]
 pub struct ReferenceSector {
     pub commit: Point,
-    pub counters: [u8; COUNTERS],
+    pub counters: [u8; SECTOR_COUNTERS],
 }
 
 /// A block of reference counters.
@@ -18,11 +15,14 @@ pub struct ReferenceBlock {
 }
 
 /// An update of a counter: the half of a journal entry that it comes from, and the data block's offset in its slab.
-#[derive(Clone, Copy, Debug, PartialEq, Eq)]
+#[derive(Clone, Copy, Debug, Default, PartialEq, Eq)]
 pub struct SlabEntry {
     pub point: Point,
     pub offset: u16,
 }
+
+/// At most `N` entries of a slab's journal.
+pub type SlabEntries<const N: usize> = Records<SlabEntry, N>;
 
 /// What a valid sector of a slab's journal says. It has at most 40 entries.
 #[derive(Drop)]

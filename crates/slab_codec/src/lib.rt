@@ -33,18 +33,15 @@
 #![tactic(auto)]
 
 mod counters;
-mod entries;
+mod format;
 mod forms;
 mod laws;
 mod reading;
 mod writing;
 
-pub use counters::{
-    CounterPlace, counter_place, encode_reference, reference_sector, sector_counters,
-};
-pub use entries::SlabEntries;
+pub use counters::{encode_reference, reference_sector, sector_counters};
 pub use forms::{
-    COUNTERS, ReferenceBlock, ReferenceSector, SlabEntry, SlabJournalBlock, SlabSector,
+    ReferenceBlock, ReferenceSector, SlabEntries, SlabEntry, SlabJournalBlock, SlabSector,
 };
 pub use laws::{a_counter_stands_at_its_place, bytes_have_one_reading, what_is_written_is_read};
 pub use reading::slab_sector;

@@ -1,16 +1,18 @@
-use Rattle.std.proofs.Common.{ℕ, ◌≡◌, ◌∙◌, ◌-◌, ◌*◌, length, drop, replicate, true, ap, ap₂, sym, arith}
-use Rattle.std.specs.Str.{bytes_eq}
-use Rattle.std.proofs.lemmas.Slice.Eq.{bytes_eq-Decides}
+use Rattle.std.proofs.Common.{ℕ, ◌∙◌, List, ap, ap₂, sym, subst, arith}
+use Rattle.std.specs.Prelude.{All}
+use Rattle.blk_base.specs.declared.journal_entry.Entry.{Entry}
 use Rattle.journal_codec.specs.Spelling.{sector_bytes}
-use Rattle.journal_codec.proofs.ReadLaws.{fields_of, entries_read}
+use Rattle.journal_codec.specs.Grammar.{HoldsEntry}
+use Rattle.journal_codec.proofs.ReadLaws.{fields_of}
 use Rattle.journal_codec.proofs.reading.read_sector.Goals as goal
+use Rattle.journal_codec.proofs.reading.read_sector.Goals.{else-are_held-via-then-are_held+else-is_sector, else-are_held-via-else-are_held}
 
 pub returns-then-not-is_head-clause-none : goal.returns-then-not-is_head-clause-none
 returns-then-not-is_head-clause-none c s h es is =
     let f = fields_of c.args.nonce c.args.number c.args.bytes.now s h es is in
-    let sequence = c.read_u64-sequence.ensures ∙ f.0 in
-    let head = c.read_u64-head.ensures ∙ f.1 in
-    let count = c.read_u16-count.ensures ∙ f.2 in
+    let sequence = c.read_u64-sequence.ensures ∙ f.sequence in
+    let head = c.read_u64-oldest.ensures ∙ f.head in
+    let count = c.read_u16-count.ensures ∙ f.count in
     let named = is.named in
     let few = is.few in
     let below = is.head_below in
@@ -18,27 +20,20 @@ returns-then-not-is_head-clause-none c s h es is =
     let not = c.if-not-is_head.true in
     absurd (cc (right, not))
 
-pub returns-in-None-clause-none : goal.returns-in-None-clause-none
-returns-in-None-clause-none c s h es is =
-    let f = fields_of c.args.nonce c.args.number c.args.bytes.now s h es is in
-    let found = c.read_entries.ensures.read es (replicate (480 - 20 * length es) 0) is.each (sym (c.read_u16-count.ensures ∙ f.2))
-    (ap (drop 32) is.spelled ∙ entries_read c.args.nonce s h c.args.number es) in
-    let none = c.in-None.is in
-    absurd (cc (found, none))
-
-pub returns-else-eq-clause-none : goal.returns-else-eq-clause-none
-returns-else-eq-clause-none c s h es is =
-    let f = fields_of c.args.nonce c.args.number c.args.bytes.now s h es is in
-    let found = c.read_entries.ensures.read es (replicate (480 - 20 * length es) 0) is.each (sym (c.read_u16-count.ensures ∙ f.2))
-    (ap (drop 32) is.spelled ∙ entries_read c.args.nonce s h c.args.number es) in
-    let some = c.in-Some.is in
-    let entries : c.in-Some.entries ≡ es = cc (found, some) in
-    let sequence = c.read_u64-sequence.ensures ∙ f.0 in
-    let head = c.read_u64-head.ensures ∙ f.1 in
-    let spelled = c.as_slice-in-Some.ensures ∙ c.put_sector.ensures
-    ∙ ap (sector_bytes c.args.nonce c.read_u64-sequence.result c.read_u64-head.result c.args.number) (c.as_slice.ensures.value ∙ entries)
-    ∙ ap₂ (λ (q p : ℕ). sector_bytes c.args.nonce q p c.args.number es) sequence head ∙ sym is.spelled in
-    let same : bytes_eq c.args.bytes.now c.as_slice-in-Some.result.now ≡ true = (bytes_eq-Decides c.args.bytes.now c.as_slice-in-Some.result.now).1 (sym spelled) in
-    let answer = c.eq.ensures in
-    let not = c.if-eq.false in
-    absurd (cc (answer, same, not))
+pub returns-else-are_held-clause-none : goal.returns-else-are_held-clause-none
+returns-else-are_held-clause-none c s h es is =
+    let a = c.args in
+    let f = fields_of a.nonce a.number a.bytes.now s h es is in
+    let sequence = c.read_u64-sequence.ensures ∙ f.sequence in
+    let head = c.read_u64-oldest.ensures ∙ f.head in
+    let read = c.read_records-entries.ensures.read es _ is.each (sym (c.read_u16-count.ensures ∙ f.count)) f.entries in
+    elim c.else-are_held.branch [
+      | else-are_held-via-else-are_held w ↦
+          let held = c.are_held.ensures.1 (subst (λ (xs : List Entry). All HoldsEntry xs) (sym (c.as_slice.ensures.value ∙ read)) is.each) in
+          absurd (cc (held, w.if-are_held.false))
+      | else-are_held-via-then-are_held+else-is_sector w ↦
+          let spelled = is.spelled ∙ ap₂ (λ (q p : ℕ). sector_bytes a.nonce q p a.number es) (sym sequence) (sym head)
+          ∙ ap (λ (xs : List Entry). sector_bytes a.nonce c.read_u64-sequence.result c.read_u64-oldest.result a.number xs) (sym (w.as_slice-then-are_held.ensures.value ∙ read)) in
+          let right = w.is_sector.ensures.1 spelled in
+          absurd (cc (right, w.if-is_sector.false))
+    ]

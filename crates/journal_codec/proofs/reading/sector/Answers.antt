@@ -1,10 +1,10 @@
-use Rattle.std.proofs.Common.{◌∙◌, length, ap, arith, length-drop}
-use Rattle.std.proofs.lemmas.List.{length-take}
-use Rattle.journal_codec.proofs.SpellingLaws.{length-sector}
+use Rattle.std.proofs.Common.{◌∙◌, length, ap, arith}
+use Rattle.sector_records.proofs.SectorLaws.{none_of}
+use Rattle.journal_codec.proofs.ReadLaws.{length-sector_bytes}
 use Rattle.journal_codec.proofs.reading.sector.Goals as goal
 
-pub returns-then-i-ge8-clause-none : goal.returns-then-i-ge8-clause-none
-returns-then-i-ge8-clause-none c s h es is =
-    let size = simp (length-take, length-drop) at (ap length is.spelled ∙ length-sector c.args.nonce s h c.args.i es is.few) in
-    let whole = ap length c.block.view_is in
-    omega (arith, size, whole)
+pub returns-in_err-bytes_of_sector-clause-none : goal.returns-in_err-bytes_of_sector-clause-none
+returns-in_err-bytes_of_sector-clause-none c =
+    let short = c.in_err-bytes_of_sector.ensures.none in
+    none_of c.from_residual.result _
+    (λ s h es is. let size = ap length is.spelled ∙ length-sector_bytes c.args.nonce s h c.args.i es is.few in omega (arith, size, short))

@@ -1,5 +1,6 @@
 use Rattle.std.proofs.Common.{◌∙◌, ◌+◌, ◌*◌, refl, sym, arith}
-use Rattle.page_codec.proofs.ReadLaws.{state_at, target_at, spelled_by_fields}
+use Rattle.byte_fields.proofs.MappingLaws.{state_at, target_at, spelled_by_fields}
+use Rattle.page_codec.proofs.ReadLaws.{page_holds}
 use Rattle.page_codec.proofs.reading.read_slot.Goals as goal
 
 pub returns-in-Some-clause-ok : goal.returns-in-Some-clause-ok
@@ -20,5 +21,5 @@ returns-in-None-clause-fault c =
       refl,
       omega (arith, first),
       λ m is. c.in-None.ensures.none m (sym (state_at at c.args.bytes.now m is.spelled) ∙ sym first)
-          (sym (target_at c.args.want.now at c.args.bytes.now m is.held is.spelled) ∙ sym c.read_u32.ensures) is.held,
+          (sym (target_at at c.args.bytes.now m (page_holds c.args.want.now m is.held) is.spelled) ∙ sym c.read_u32.ensures) is.held,
     )

@@ -1,5 +1,5 @@
 use Rattle.std.proofs.Common.{◌≡◌, ◌+◌, ◌*◌, ◌++◌, take, flat_map}
-use Rattle.page_codec.specs.Spelling.{mapping_bytes}
+use Rattle.byte_fields.specs.Mappings.{mapping_bytes}
 use Rattle.page_codec.proofs.writing.put_slots.Given as goal
 
 abbrev pub invariant-loop-slot : goal.invariant-loop-slot

@@ -1,0 +1,16 @@
+//! Blocks of eight sectors that hold records, one list of them over all sectors.
+//!
+//! A sector has 512 bytes: a head of 32, then its records, each of one width, and zeros. A block's records fill sector
+//! after sector. What heads and records a format has is said by `Format`; how they are laid out, written and read is
+//! the same for each.
+#![tactic(auto)]
+
+mod forms;
+mod reading;
+mod records;
+mod writing;
+
+pub use forms::Format;
+pub use reading::{bytes_of_sector, is_sector, read_records};
+pub use records::Records;
+pub use writing::{put_block, put_sector};
