@@ -1,1 +1,3 @@
 mod SharingLaws
+mod CodeLaws
+mod CallLaws

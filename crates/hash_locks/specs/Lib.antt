@@ -1,2 +1,2 @@
-pub mod Lock
 pub mod Sharing
+pub mod Calls

@@ -1,9 +1,16 @@
 -- Which names are locked with which bytes, and who waits for them.
-use Rattle.std.specs.Prelude.{ℕ, ◌≡◌, ◌≢◌, ◌<◌, ◌+◌, ◌⊎◌, List, [], ◌∷◌, ◌++◌, length, All, Contains, slice_index_or}
-use Rattle.hash_locks.specs.Lock.{Lock}
+use Rattle.std.specs.Prelude.{ℕ, ◌≡◌, ◌≢◌, ◌<◌, ◌≤◌, ◌+◌, List, [], ◌∷◌, ◌++◌, length, All, Option, None, Some}
+use Rattle.std.specs.List.{find}
+use Rattle.std.specs.Str.{bytes_eq}
+use Rattle.plain_laws.specs.Firsts.{but_first}
 use Rattle.hash_locks.specs.declared.role.Role.{Role}
 use Rattle.hash_locks.specs.declared.role.Role.TheVariants.{Agent, Waits, Alone}
 use Rattle.hash_locks.specs.declared.waiter.Waiter.{Waiter}
+
+-- a lock: its name, and the bytes of its agent
+pub record Lock : Type 0 where
+  pub name : List ℕ
+  pub bytes : List ℕ
 
 -- the locks that are held, and whoever waits for them, in order
 pub record Sharing (V : Type 0) : Type 0 where
@@ -19,61 +26,53 @@ nothing V room = record { room = room; held = []; waiting = [] }
 abbrev pub HasRoom : {V : Type 0} → Sharing V → Type 0
 HasRoom locks = length locks.held + length locks.waiting < locks.room
 
--- none of the locks is of this name
-abbrev pub NoLock : List Lock → List ℕ → Type 0
-NoLock held name = All (λ lock. lock.name ≢ name) held
+-- the lock of a name, and the others
+abbrev pub lock_of : List ℕ → List Lock → Option Lock
+lock_of name held = find (λ lock. bytes_eq lock.name name) held
 
--- no two locks are of one name
-abbrev pub AreDistinct : List Lock → Type 0
-AreDistinct [] = Unit {0}
-AreDistinct (lock ∷ locks) = NoLock locks lock.name × AreDistinct locks
+abbrev pub but_lock_of : List ℕ → List Lock → List Lock
+but_lock_of name held = but_first (λ lock. bytes_eq lock.name name) held
 
--- none of these waits for the name
-abbrev pub NoneWaits : {V : Type 0} → List (Waiter V) → List ℕ → Type 0
-NoneWaits waiting name = All (λ waiter. waiter.name ≢ name) waiting
+-- the first that waits for a name, and those who wait but this one
+abbrev pub first_for : {V : Type 0} → List ℕ → List (Waiter V) → Option (Waiter V)
+first_for name waiting = find (λ waiter. bytes_eq waiter.name name) waiting
+
+abbrev pub but_first_for : {V : Type 0} → List ℕ → List (Waiter V) → List (Waiter V)
+but_first_for name waiting = but_first (λ waiter. bytes_eq waiter.name name) waiting
+
+-- the lock for which one with this name and this block may wait
+abbrev pub lock_with : {V : Type 0} → (V → List ℕ) → List ℕ → V → Lock
+lock_with bytes_of name vio = record { name = name; bytes = bytes_of vio }
 
 -- What an arrival did, by its role. As agent it holds the name, which was free. It waits behind all others where the lock
 -- has its bytes. It goes alone, and nothing changes, where the lock has other bytes.
 abbrev pub Arrives : {V : Type 0} → (V → List ℕ) → Sharing V → Sharing V → List ℕ → V → Role V → Type 0
 Arrives bytes_of old new name vio (Agent back) =
-    (back ≡ vio) × NoLock old.held name × (new ≡ record old { held = old.held ++ record { name = name; bytes = bytes_of vio } ∷ [] })
+    (back ≡ vio) × (lock_of name old.held ≡ None) × (new ≡ record old { held = old.held ++ lock_with bytes_of name vio ∷ [] })
 Arrives bytes_of old new name vio Waits =
-    Contains old.held (record { name = name; bytes = bytes_of vio }) × (new ≡ record old { waiting = old.waiting ++ record { name = name; vio = vio } ∷ [] })
+    (lock_of name old.held ≡ Some (lock_with bytes_of name vio)) × (new ≡ record old { waiting = old.waiting ++ record { name = name; vio = vio } ∷ [] })
 Arrives bytes_of old new name vio (Alone back) =
-    (back ≡ vio) × ((bytes : List ℕ) × Contains old.held (record { name = name; bytes = bytes }) × (bytes ≢ bytes_of vio)) × (new ≡ old)
+    (back ≡ vio) × ((lock : Lock) × (lock_of name old.held ≡ Some lock) × (lock.bytes ≢ bytes_of vio)) × (new ≡ old)
 
 -- This was the first that waited for the name, and waits no longer. The lock of the name is held, and has its bytes.
 pub record Leaves {V : Type 0} (bytes_of : V → List ℕ) (old new : Sharing V) (waiter : Waiter V) : Type 0 where
-  pub before : List (Waiter V)
-  pub behind : List (Waiter V)
-  pub stood : old.waiting ≡ before ++ waiter ∷ behind
-  pub first : NoneWaits before waiter.name
-  pub left : new ≡ record old { waiting = before ++ behind }
-  pub bytes : Contains new.held (record { name = waiter.name; bytes = bytes_of waiter.vio })
+  pub first : first_for waiter.name old.waiting ≡ Some waiter
+  pub left : new ≡ record old { waiting = but_first_for waiter.name old.waiting }
+  pub bytes : lock_of waiter.name old.held ≡ Some (lock_with bytes_of waiter.name waiter.vio)
 
--- these locks but that of the name, if there is one
-abbrev pub LessLock : List Lock → List Lock → List ℕ → Type 0
-LessLock old new name = (NoLock old name × (new ≡ old))
-    ⊎ ((before behind : List Lock) × (lock : Lock) × (old ≡ before ++ lock ∷ behind) × (lock.name ≡ name) × (new ≡ before ++ behind))
-
--- nobody waited for the name, and its lock is gone
+-- nobody waited for the name, and its lock, if there was one, is gone
 pub record Frees {V : Type 0} (old new : Sharing V) (name : List ℕ) : Type 0 where
-  pub none_waits : NoneWaits old.waiting name
-  pub less : LessLock old.held new.held name
-  pub gone : NoLock new.held name
-  pub kept : new ≡ record old { held = new.held }
+  pub none_waits : first_for name old.waiting ≡ None
+  pub less : new ≡ record old { held = but_lock_of name old.held }
+  pub gone : lock_of name new.held ≡ None
 
--- each waiter's lock is held, and has the waiter's bytes
-abbrev pub WaitersMatch : {V : Type 0} → (V → List ℕ) → List Lock → List (Waiter V) → Type 0
-WaitersMatch bytes_of held waiting = All (λ waiter. Contains held (record { name = waiter.name; bytes = bytes_of waiter.vio })) waiting
+-- no two locks are of one name
+abbrev pub AreDistinct : List Lock → Type 0
+AreDistinct [] = Unit {0}
+AreDistinct (lock ∷ locks) = (lock_of lock.name locks ≡ None) × AreDistinct locks
 
--- the place of the first that waits for the name
-pub record IsFirstFor {V : Type 0} (waiting : List (Waiter V)) (name : List ℕ) (place : ℕ) : Type 0 where
-  pub inside : place < length waiting
-  pub here : (d : Waiter V) → (slice_index_or waiting place d).name ≡ name
-  pub others : (k : ℕ) (d : Waiter V) → k < place → (slice_index_or waiting k d).name ≢ name
-
--- the place of a lock of the name
-pub record IsLockAt (held : List Lock) (name : List ℕ) (place : ℕ) : Type 0 where
-  pub inside : place < length held
-  pub here : (d : Lock) → (slice_index_or held place d).name ≡ name
+-- no more than there is room for; one lock for a name; and whoever waits has the bytes of the lock for which it waits
+pub record AreInOrder {V : Type 0} (bytes_of : V → List ℕ) (locks : Sharing V) : Type 0 where
+  pub filled : length locks.held + length locks.waiting ≤ locks.room
+  pub distinct : AreDistinct locks.held
+  pub matched : All (λ waiter. lock_of waiter.name locks.held ≡ Some (lock_with bytes_of waiter.name waiter.vio)) locks.waiting

@@ -1,4 +1,5 @@
-ghost use Rattle.std.specs.Prelude.{◌≡◌, ◌↔◌, IsTrue};
+ghost use Rattle.std.specs.Prelude.{◌≡◌};
+ghost use Rattle.std.specs.Str.{bytes_eq};
 
 use blk_base::Block;
 use block_names::Name;
@@ -13,7 +14,7 @@ pub(crate) struct Held {
 }
 
 impl Model for Held {
-    ghost use Rattle.hash_locks.specs.Lock.{Lock};
+    ghost use Rattle.hash_locks.specs.Sharing.{Lock};
 
     ghost Value = { Lock };
 
@@ -31,13 +32,13 @@ impl Held {
     }
 
     pub(crate) fn is_of(&self, name: &Name) -> bool
-        ensures { IsTrue result ↔ (self.now.name ≡ name.now) }
+        ensures { result ≡ bytes_eq self.now.name name.now }
     {
-        are_same(&self.name, name)
+        self.name == *name
     }
 
     pub(crate) fn has(&self, block: &Block) -> bool
-        ensures { IsTrue result ↔ (self.now.bytes ≡ block.now) }
+        ensures { result ≡ bytes_eq self.now.bytes block.now }
     {
         equal(&self.bytes, block)
     }
@@ -47,11 +48,4 @@ impl Held {
         let Held { name: _, bytes } = self;
         bytes
     }
-}
-
-// Whether the names are equal.
-pub(crate) fn are_same(left: &Name, right: &Name) -> bool
-    ensures { IsTrue result ↔ (left.now ≡ right.now) }
-{
-    left.as_bytes() == right.as_bytes()
 }

@@ -1,9 +1,11 @@
-ghost use Rattle.std.specs.Prelude.{◌≡◌, ◌+◌, ◌<◌, ◌≤◌, ◌↔◌, ◌∷◌, ◌++◌, [], length, vec_len, vec_capacity, IfOk, IfSome, IfNone};
-ghost use Rattle.hash_locks.specs.Sharing.{nothing, HasRoom, Arrives, Leaves, Frees, NoLock, NoneWaits, IsFirstFor, IsLockAt};
+ghost use Rattle.std.specs.Prelude.{ℕ, List, ◌≡◌, ◌+◌, ◌<◌, ◌≤◌, ◌∷◌, ◌++◌, [], length, position, vec_len, vec_capacity, IfOk, IfSome, IfNone};
+ghost use Rattle.std.specs.Option.{option_map};
+ghost use Rattle.std.specs.Str.{bytes_eq};
+ghost use Rattle.hash_locks.specs.Sharing.{nothing, HasRoom, Arrives, Leaves, Frees, lock_of, first_for};
 
-use crate::held::{Held, are_same};
-use crate::{HasBlock, Role, Waiter};
-use blk_base::Block;
+use crate::held::Held;
+use crate::{Role, Waiter};
+use blk_base::{Block, HasBlock};
 use block_names::Name;
 use std::alloc::{AllocError, Global};
 use std::marker::Model;
@@ -25,7 +27,7 @@ pub struct HashLocks<V: HasBlock> {
 
 impl<V: HasBlock> Model for HashLocks<V> {
     ghost use Rattle.std.specs.Prelude.{◌≡◌, ◌+◌, ◌≤◌, vec_len, vec_capacity};
-    ghost use Rattle.hash_locks.specs.Sharing.{Sharing, AreDistinct, WaitersMatch};
+    ghost use Rattle.hash_locks.specs.Sharing.{Sharing, AreInOrder};
 
     ghost Value = { Sharing V };
 
@@ -36,8 +38,7 @@ impl<V: HasBlock> Model for HashLocks<V> {
       spare_room : l.room ≤ vec_capacity l.spare;
       held_room : l.room ≤ vec_capacity l.held;
       waiting_room : l.room ≤ vec_capacity l.waiting;
-      distinct : AreDistinct l.held.items;
-      bytes : WaitersMatch V.bytes_of l.held.items l.waiting.items;
+      order : AreInOrder V.bytes_of (record { room = l.room; held = l.held.items; waiting = l.waiting.items });
     } };
 }
 
@@ -66,15 +67,12 @@ impl<V: HasBlock + Drop> HashLocks<V> {
         ensures grows { length self.new.held + length self.new.waiting ≤ length self.old.held + length self.old.waiting + 1 }
         ensures room { self.new.room ≡ self.old.room }
     {
-        match lock_at(&self.held, name) {
-            Some(place) => {
-                if self.held[place].has(vio.block()) {
-                    self.waiting.push_reserved(Waiter { name: *name, vio });
-                    Role::Waits
-                } else {
-                    Role::Alone(vio)
-                }
+        match has_lock(&self.held, name, vio.block()) {
+            Some(true) => {
+                self.waiting.push_reserved(Waiter { name: *name, vio });
+                Role::Waits
             }
+            Some(false) => Role::Alone(vio),
             None => {
                 hold(&mut self.held, &mut self.spare, name, vio.block());
                 Role::Agent(vio)
@@ -86,10 +84,25 @@ impl<V: HasBlock + Drop> HashLocks<V> {
     /// where nobody waits, and then nothing changes.
     pub fn settle(&mut self, name: &Name) -> Option<V>
         ensures some { IfSome result (λ vio. Leaves V.bytes_of self.old self.new (record { name = name.now; vio = vio })) }
-        ensures none { IfNone result (NoneWaits self.old.waiting name.now × (self.new ≡ self.old)) }
+        ensures none { IfNone result ((first_for name.now self.old.waiting ≡ None) × (self.new ≡ self.old)) }
     {
-        let first = first_waiter(&self.waiting, name)?;
+        let first = first_for(&self.waiting, name)?;
         let Waiter { name: _, vio } = self.waiting.remove(first);
+        Some(vio)
+    }
+
+    /// Whoever has waited longest, for any name, waits no longer; `None` exactly where nobody waits. Once the agents don't
+    /// come back, this is how those who wait for them are ended.
+    pub fn next_waiter(&mut self) -> Option<V>
+        ensures some { IfSome result (λ vio. (name : List ℕ) × (self.old ≡ record self.new {
+          waiting = record { name = name; vio = vio } ∷ self.new.waiting;
+        })) }
+        ensures none { IfNone result ((self.old.waiting ≡ []) × (self.new ≡ self.old)) }
+    {
+        if self.waiting.is_empty() {
+            return None;
+        }
+        let Waiter { name: _, vio } = self.waiting.remove(0);
         Some(vio)
     }
 
@@ -99,20 +112,23 @@ impl<V: HasBlock + Drop> HashLocks<V> {
         ensures some { IfSome result (λ vio. Leaves V.bytes_of self.old self.new (record { name = name.now; vio = vio })) }
         ensures none { IfNone result (Frees self.old self.new name.now) }
     {
-        match first_waiter(&self.waiting, name) {
-            Some(place) => {
-                let Waiter { name: _, vio } = self.waiting.remove(place);
-                Some(vio)
-            }
+        match self.settle(name) {
+            Some(vio) => Some(vio),
             None => {
-                let place = match lock_at(&self.held, name) {
-                    Some(place) => place,
-                    None => return None,
-                };
-                let lock = self.held.remove(place);
-                self.spare.push_reserved(lock.into_room());
+                self.free(name);
                 None
             }
+        }
+    }
+
+    // The lock of a name, for which nobody waits, is gone.
+    fn free(&mut self, name: &Name)
+        requires { first_for name.now self.old.waiting ≡ None }
+        ensures { Frees self.old self.new name.now }
+    {
+        if let Some(place) = lock_at(&self.held, name) {
+            let lock = self.held.remove(place);
+            self.spare.push_reserved(lock.into_room());
         }
     }
 }
@@ -129,30 +145,26 @@ fn blocks(alloc: Global, count: u32) -> Result<Vec<Box<Block>>, AllocError>
     Ok(blocks)
 }
 
-// The place of the lock of a name.
-fn lock_at(held: &[Held], name: &Name) -> Option<usize>
-    ensures some { IfSome result (IsLockAt held.now name.now) }
-    ensures none { IfNone result (NoLock held.now name.now) }
+// Whether the lock of a name has these bytes; `None` where no lock of the name is held.
+fn has_lock(held: &[Held], name: &Name, block: &Block) -> Option<bool>
+    ensures { result ≡ option_map (λ lock. bytes_eq lock.bytes block.now) (lock_of name.now held.now) }
 {
-    for (place, lock) in held.iter().enumerate() {
-        if lock.is_of(name) {
-            return Some(place);
-        }
-    }
-    None
+    let lock = held.iter().find(|lock| lock.is_of(name))?;
+    Some(lock.has(block))
 }
 
-// The place of the first that waits for a name.
-fn first_waiter<V>(waiting: &[Waiter<V>], name: &Name) -> Option<usize>
-    ensures some { IfSome result (IsFirstFor waiting.now name.now) }
-    ensures none { IfNone result (NoneWaits waiting.now name.now) }
+// The index of the lock of a name.
+fn lock_at(held: &[Held], name: &Name) -> Option<usize>
+    ensures { result ≡ position (λ lock. bytes_eq lock.name name.now) held.now }
 {
-    for (place, waiter) in waiting.iter().enumerate() {
-        if are_same(&waiter.name, name) {
-            return Some(place);
-        }
-    }
-    None
+    held.iter().position(|lock| lock.is_of(name))
+}
+
+// The index of the first that waits for a name.
+fn first_for<V>(waiting: &[Waiter<V>], name: &Name) -> Option<usize>
+    ensures { result ≡ position (λ waiter. bytes_eq waiter.name name.now) waiting.now }
+{
+    waiting.iter().position(|waiter| waiter.name == *name)
 }
 
 // Holds the lock of a name, with one of the spare blocks.

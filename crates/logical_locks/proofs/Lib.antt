@@ -1,1 +1,2 @@
 mod LockLaws
+mod CallLaws

@@ -1,8 +1,7 @@
-ghost use Rattle.std.specs.Prelude.{◌≡◌, ℕ, ◌<◌, ◌≢◌, ◌↔◌, length, All, Contains, IsTrue, IfOk, IfSome, IfNone, slice_index_or, vec_capacity};
-ghost use Rattle.logical_locks.specs.Holders.{nobody, HasRoom, NoneWaits, Takes, Waits, HoldsNext, Frees, IsFirstFor, without};
-ghost use Rattle.logical_locks.specs.declared.waiter.Waiter.{Waiter};
+ghost use Rattle.std.specs.Prelude.{◌≡◌, ◌≤◌, ◌==◌, ℕ, position, vec_len, vec_capacity, IfOk, IfSome, IfNone};
+ghost use Rattle.logical_locks.specs.Holders.{nobody, HasRoom, Takes, Waits, HoldsNext, Frees, is_held, without};
 
-use crate::Waiter;
+use crate::{Lock, Waiter};
 use blk_base::Lba;
 use std::alloc::{AllocError, Global};
 use std::marker::Model;
@@ -10,18 +9,18 @@ use std::marker::Model;
 /// The locks on the addresses of one zone. An address has one holder at most, and those who wait for it get it first
 /// come, first served.
 ///
-/// The locks know the addresses, and not who holds them: each value is either with its owner or kept here as a waiter.
+/// A lock knows the place of its holder, and not the holder: each value is either with its owner or kept here as a waiter.
 #[derive(Drop)]
 pub struct Locks<V> {
     room: u32,
     next: u64,
-    held: Vec<Lba>,
-    // Whoever waits, for any address, in the order in which they came.
+    held: Vec<Lock>,
+    // Whoever waits, for any address, in the order of their places.
     waiting: Vec<Waiter<V>>,
 }
 
 impl<V> Model for Locks<V> {
-    ghost use Rattle.std.specs.Prelude.{ℕ, ◌+◌, ◌≤◌, vec_capacity, vec_len};
+    ghost use Rattle.std.specs.Prelude.{◌+◌, ◌≤◌, vec_capacity, vec_len};
     ghost use Rattle.logical_locks.specs.Holders.{Holders};
 
     ghost Value = { Holders V };
@@ -36,6 +35,7 @@ impl<V> Model for Locks<V> {
     ghost invariant = { λ l. record {
       held_room : l.room ≤ vec_capacity l.held;
       waiting_room : l.room ≤ vec_capacity l.waiting;
+      filled : vec_len l.held + vec_len l.waiting ≤ l.room;
     } };
 }
 
@@ -57,69 +57,53 @@ impl<V: Drop> Locks<V> {
     pub fn ask(&mut self, at: Lba, vio: V) -> (u64, Option<V>)
         requires { HasRoom self.old }
         ensures place { result.0 ≡ self.old.next }
-        ensures taken { IfSome result.1 (λ back. (back ≡ vio) × Takes self.old self.new at) }
-        ensures waits { IfNone result.1 (Waits self.old self.new (record { at = at; vio = vio })) }
+        ensures taken { IfSome result.1 (λ back. (back ≡ vio) × Takes self.old self.new (record { at = at; place = result.0 })) }
+        ensures waits { IfNone result.1 (Waits self.old self.new (record { at = at; place = result.0; vio = vio })) }
     {
         let place = self.next;
         self.next += 1;
-        if is_among(&self.held, at) {
-            self.waiting.push_reserved(Waiter { at, vio });
+        if is_held(&self.held, at) {
+            self.waiting.push_reserved(Waiter { at, place, vio });
             (place, None)
         } else {
-            self.held.push_reserved(at);
+            self.held.push_reserved(Lock { at, place });
             (place, Some(vio))
         }
     }
 
-    /// The holder of an address lets it go. It gives the next that waits for it, who now holds it; `None` exactly where
-    /// nobody waits, and the address is free.
+    /// The holder of an address lets it go. It gives the next that waits for it, who now holds it with its own place;
+    /// `None` exactly where nobody waits, and the address is free.
     pub fn release(&mut self, at: Lba) -> Option<V>
-        ensures next { IfSome result (λ vio. HoldsNext self.old self.new (record { at = at; vio = vio })) }
+        ensures next { IfSome result (λ vio. (place : ℕ) × HoldsNext self.old self.new (record { at = at; place = place; vio = vio })) }
         ensures none { IfNone result (Frees self.old self.new at) }
     {
-        match first_waiter(&self.waiting, at) {
-            Some(place) => {
-                let Waiter { at: _, vio } = self.waiting.remove(place);
-                Some(vio)
-            }
-            None => {
-                leave_out(&mut self.held, at);
-                None
-            }
-        }
+        leave_out(&mut self.held, at);
+        let next = first_for(&self.waiting, at)?;
+        let Waiter { at, place, vio } = self.waiting.remove(next);
+        self.held.push_reserved(Lock { at, place });
+        Some(vio)
     }
 }
 
-// Whether the address is among these.
-fn is_among(held: &[Lba], at: Lba) -> bool
-    ensures { IsTrue result ↔ Contains held.now at }
+// Whether the address is held.
+fn is_held(held: &[Lock], at: Lba) -> bool
+    ensures { result ≡ is_held at held.now }
 {
-    for held_address in held {
-        if held_address.0 == at.0 {
-            return true;
-        }
-    }
-    false
+    held.iter().any(|lock| lock.at.0 == at.0)
 }
 
-// The place of the first that waits for the address.
-fn first_waiter<V>(waiting: &[Waiter<V>], at: Lba) -> Option<usize>
-    ensures some { IfSome result (IsFirstFor waiting.now at) }
-    ensures none { IfNone result (NoneWaits waiting.now at) }
-{
-    for (place, waiter) in waiting.iter().enumerate() {
-        if waiter.at.0 == at.0 {
-            return Some(place);
-        }
-    }
-    None
-}
-
-// Leaves out the address.
-fn leave_out(held: &mut Vec<Lba>, at: Lba)
+// Leaves out the lock of the address.
+fn leave_out(held: &mut Vec<Lock>, at: Lba)
     ensures items { held.new.items ≡ without at held.old.items }
+    ensures len { vec_len held.new ≤ vec_len held.old }
     ensures capacity { vec_capacity held.new ≡ vec_capacity held.old }
 {
-    let number = at.0;
-    held.retain(|address| address.0 != number);
+    held.retain(|lock| lock.at.0 != at.0);
+}
+
+// The index of the first that waits for the address.
+fn first_for<V>(waiting: &[Waiter<V>], at: Lba) -> Option<usize>
+    ensures { result ≡ position (λ waiter. waiter.at.0 == at.0) waiting.now }
+{
+    waiting.iter().position(|waiter| waiter.at.0 == at.0)
 }

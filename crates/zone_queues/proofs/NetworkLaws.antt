@@ -1,5 +1,5 @@
 -- What a change of one zone's boxes is in the network, and that the network stays fit.
-use Rattle.std.specs.Prelude.{ℕ, zero, suc, ◌≡◌, ◌≢◌, ◌<◌, ◌≤◌, ◌+◌, List, [], ◌∷◌, ◌++◌, length, map, replicate, refl, Option, Some, None, IfSome, Bool, true, false, not, IsTrue, ◌↔◌}
+use Rattle.std.specs.Prelude.{ℕ, zero, suc, ◌≡◌, ◌≢◌, ◌<◌, ◌≤◌, ◌+◌, List, [], ◌∷◌, ◌++◌, length, map, replicate, refl, Option, Some, None, IfSome, Bool, not, IsTrue, ◌↔◌}
 use Rattle.std.proofs.Common.{ap, ◌∙◌, sym, subst, arith, get_or, set, inl, inr, length-append, take}
 use Rattle.std.proofs.Math.Seq.{take-length}
 use Rattle.std.proofs.lemmas.List.{get_or-set_same, get_or-set_other, length-set, set-set, set-get_or, map-set, length-map, get_or-map, get_or-replicate, length-replicate}
@@ -243,9 +243,6 @@ module _ {V : Type 0} where
       ∙ ap (λ (r : List ℕ). record { inboxes = map (empty V) r; outboxes = replicate (length room) (map (empty V) room) }) (take-length room) in
       subst (λ (s : Network V). IsFit s) (sym whole) (IsFit-opening room)
 
-  -- whether there is an item, from whether there is none
-  pub some_items : (items : List V) (none : Bool) → (IsTrue none ↔ (items ≡ [])) → IsTrue (not none) ↔ (0 < length items)
-  some_items [] true said = ((λ some. absurd (cc some)), λ below. absurd (omega (arith, below)))
-  some_items [] false said = ((λ some. absurd (cc (said.1 refl))), λ below. absurd (omega (arith, below)))
-  some_items (item ∷ items) true said = ((λ some. omega arith), λ below. absurd (cc (said.0 refl)))
-  some_items (item ∷ items) false said = ((λ some. omega arith), λ below. refl)
+-- whether there is an item, from whether there is none
+pub some_items : (n : ℕ) (none : Bool) → (IsTrue none ↔ (n ≡ 0)) → IsTrue (not none) ↔ (0 < n)
+some_items n none said = grind arith

@@ -1,4 +1,4 @@
-ghost use Rattle.std.specs.Prelude.{◌≡◌, ◌∷◌, ◌++◌, [], IfOk, IfSome, IfNone, IsTrue, ◌↔◌};
+ghost use Rattle.std.specs.Prelude.{◌≡◌, ◌∷◌, ◌++◌, [], length, IfOk, IfSome, IfNone, IsTrue, ◌↔◌};
 ghost use Rattle.zone_queues.specs.Queues.{empty, HasRoom, HasRoomFor, with_more};
 
 use std::alloc::{AllocError, Global};
@@ -47,7 +47,7 @@ impl<V: Drop> Lane<V> {
 
     /// Whether there is no item.
     pub fn is_empty(&self) -> bool
-        ensures { IsTrue result ↔ (self.now.items ≡ []) }
+        ensures { IsTrue result ↔ (length self.now.items ≡ 0) }
     {
         self.items.is_empty()
     }

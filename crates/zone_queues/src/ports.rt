@@ -1,4 +1,4 @@
-ghost use Rattle.std.specs.Prelude.{◌≡◌, ◌<◌, ◌∷◌, ◌++◌, [], length, map, IfOk, IfSome, IfNone};
+ghost use Rattle.std.specs.Prelude.{◌≡◌, ◌<◌, ◌∷◌, ◌++◌, [], length, map, IfOk, IfSome, IfNone, IsTrue, ◌↔◌};
 ghost use Rattle.zone_queues.specs.Queues.{Boxes, empty, HasRoom, HasRoomFor, with_more, outbox_to, with_outbox};
 
 use crate::Lane;
@@ -61,6 +61,21 @@ impl<V: Drop> Ports<V> {
         ensures none { IfNone result ((self.old.inbox.items ≡ []) × (self.new ≡ self.old)) }
     {
         self.inbox.take()
+    }
+
+    /// Whether an item is in the inbox.
+    pub fn has_item(&self) -> bool
+        ensures { IsTrue result ↔ (0 < length self.now.inbox.items) }
+    {
+        !self.inbox.is_empty()
+    }
+
+    /// Whether an item is in the outbox to a zone.
+    pub fn has_posts(&self, to: u32) -> bool
+        requires { to < length self.now.outboxes }
+        ensures { IsTrue result ↔ (0 < length (outbox_to self.now to).items) }
+    {
+        !self.outboxes[to as usize].is_empty()
     }
 
     /// Hands out the outbox to a zone with all its items, and puts this list in its place.

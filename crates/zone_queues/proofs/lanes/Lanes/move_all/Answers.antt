@@ -43,4 +43,4 @@ pub returns-clause-some : goal.returns-clause-some
 returns-clause-some g c =
     let some = not c.is_empty-some.result in
     subst (λ (s : Network _). IsTrue some ↔ (0 < length (outbox_at s c.args.from c.args.to).items)) c.self.view_is
-    (subst (λ (q : Queue _). IsTrue some ↔ (0 < length q.items)) c.exchange_at-batch.ensures.out (some_items c.exchange_at-batch.result.items c.is_empty-some.result c.is_empty-some.ensures))
+    (subst (λ (q : Queue _). IsTrue some ↔ (0 < length q.items)) c.exchange_at-batch.ensures.out (some_items (length c.exchange_at-batch.result.items) c.is_empty-some.result c.is_empty-some.ensures))
