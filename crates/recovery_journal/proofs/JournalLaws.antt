@@ -1,15 +1,39 @@
 -- What is true of a journal stays true over each call, and what the calls say of it.
-use Rattle.std.specs.Prelude.{ℕ, ◌≡◌, ◌+◌, ◌-◌, ◌*◌, ◌/◌, ◌<◌, ◌≤◌, ◌⊎◌, List, [], ◌∷◌, ◌++◌, length, take, drop, max, All, Any, refl}
+use Rattle.std.specs.Prelude.{ℕ, ◌≡◌, ◌+◌, ◌-◌, ◌*◌, ◌/◌, ◌<◌, ◌≤◌, ◌^◌, ◌⊎◌, List, [], ◌∷◌, ◌++◌, length, take, drop, max, All, Any, refl}
 use Rattle.std.proofs.Common.{arith, sym, subst, ap, ◌∙◌, inl, inr, get_or, length-append}
 use Rattle.std.proofs.lemmas.Bool.{cases_lt}
 use Rattle.std.proofs.lemmas.List.{drop_more, drop-drop, drop-append-le, take-append-drop, length-take-le, get_or-take, get_or-drop, length-drop, length-set}
-use Rattle.std.proofs.lemmas.List.Elements.{All-nil, All-cons, All-head, All-rest, All-weaker, All-append, All-set, All-same}
+use Rattle.std.proofs.lemmas.List.Elements.{All-nil, All-cons, All-head, All-tail, All-rest, All-push, All-drop, All-weaker, All-append, All-set, All-same}
 use Rattle.blk_base.specs.declared.point.Point.{Point}
 use Rattle.blk_base.specs.declared.journal_entry.Entry.{Entry}
-use Rattle.recovery_journal.specs.declared.forms.CommittedEntry.{CommittedEntry}
-use Rattle.recovery_journal.specs.Log.{Log, point_at, first_sequence, head_of, placed, unhanded, IsNeeded, IsDurable, IsHead, HandsOut, NoneCommitted, IsBehind, raised, Advances}
+use Rattle.blk_base.specs.declared.journal_entry.CommittedEntry.{CommittedEntry}
+use Rattle.recovery_journal.specs.Log.{Log, IsHeld, point_at, first_sequence, head_of, placed, unhanded, IsNeeded, IsDurable, IsHead, HandsOut, NoneCommitted, IsBehind, raised, Advances}
+use Rattle.journal_codec.specs.Grammar.{HoldsEntry, HoldsBlock}
 use Rattle.recovery_journal.specs.Kept.{rank, AreRising, AreBelow, IsKept}
 use Rattle.recovery_journal.proofs.RisingLaws.{length-AreRising, AreRising-from, AreRising-append, AreRising-drop, AreRising-placed, points_above, points_from_first, few_entries, first_reached, first_rises}
+
+-- adding an entry
+
+pub kept_added : (log : Log) (e : Entry) → IsKept log → HoldsEntry e → log.sequence < 2 ^ 55 → log.sequence + 2 ≤ head_of log + log.size
+    → IsKept (record log { filling = log.filling ++ e ∷ [] })
+kept_added log e kept held number room =
+    record {
+      zones = kept.zones;
+      size = kept.size;
+      first = kept.first;
+      number = kept.number;
+      number_filling = λ some. number;
+      rising = kept.rising;
+      held_filling = All-push HoldsEntry log.filling e kept.held_filling held;
+      held = kept.held;
+      handed = kept.handed;
+      committed = kept.committed;
+      ring = kept.ring;
+      ring_filling = λ some. room;
+      marks = kept.marks;
+      unhanded = kept.unhanded;
+      needed = kept.needed;
+    }
 
 -- the head is the least sequence that some zone needs
 
@@ -67,9 +91,12 @@ kept_handed log e kept inside is =
     record {
       zones = kept.zones;
       size = kept.size;
+      first = kept.first;
       number = kept.number;
       number_filling = kept.number_filling;
       rising = kept.rising;
+      held_filling = kept.held_filling;
+      held = kept.held;
       handed = omega arith;
       committed = kept.committed;
       ring = kept.ring;
@@ -112,6 +139,12 @@ placed_from sequence number p (f ∷ fs) below =
     All-cons (λ (e : CommittedEntry). p ≤ e.point.0) (record { entry = f; point = record { 0 = point_at sequence number } }) (placed sequence (number + 1) fs) below
     (placed_from sequence (number + 1) p fs (omega arith))
 
+placed_held : (sequence number : ℕ) (filling : List Entry) → 1 ≤ sequence → All HoldsEntry filling → All IsHeld (placed sequence number filling)
+placed_held sequence number [] some held = All-nil IsHeld
+placed_held sequence number (f ∷ fs) some held =
+    All-cons IsHeld (record { entry = f; point = record { 0 = point_at sequence number } }) (placed sequence (number + 1) fs)
+    (record { holds = All-head HoldsEntry f fs held; named = omega arith }) (placed_held sequence (number + 1) fs some (All-tail HoldsEntry f fs held))
+
 needed_by_first : (marks : List Point) (point : Point) → 0 < length marks → All (λ mark. mark.0 ≤ point.0) marks → IsNeeded marks point
 needed_by_first [] point some below = absurd (omega arith)
 needed_by_first (mark ∷ marks) point some below = (0, mark, omega arith, refl, below 0 mark (omega arith))
@@ -128,10 +161,13 @@ kept_sealed log kept waits few written =
     record {
       zones = kept.zones;
       size = kept.size;
+      first = kept.first;
       number = omega (arith, kept.number_filling waits);
       number_filling = λ some. absurd (omega (arith, some));
       rising = AreRising-append 0 log.entries (log.sequence * 192) new ((log.sequence + 1) * 192) kept.rising
           (AreRising-from (log.sequence * 192 + 0) (log.sequence * 192) new ((log.sequence + 1) * 192) (omega arith) (AreRising-placed log.sequence 0 log.filling (omega arith)));
+      held_filling = All-nil HoldsEntry;
+      held = All-append IsHeld log.entries new kept.held (placed_held log.sequence 0 log.filling (omega (arith, kept.first, kept.committed.0)) kept.held_filling);
       handed = omega (arith, length-append log.entries new, kept.handed);
       committed = (omega (arith, kept.committed.0), omega arith);
       ring = omega (arith, head, kept.ring_filling waits);
@@ -212,8 +248,11 @@ module _ (log : Log) (zone : ℕ) (point : Point) (least count : ℕ) (kept : Is
       record {
         zones = omega (arith, length-set log.marks zone (record { 0 = max (get_or log.marks zone point).0 point.0 }), kept.zones);
         size = kept.size;
+        first = kept.first;
         number = kept.number;
         number_filling = kept.number_filling;
+        held_filling = kept.held_filling;
+        held = All-drop IsHeld count log.entries kept.held;
         rising = AreRising-drop count 0 log.entries (log.sequence * 192) kept.rising;
         handed = omega (arith, length-drop count log.entries, kept.handed);
         committed = kept.committed;
@@ -270,3 +309,19 @@ pub advanced_as : (log : Log) (zone : ℕ) (point : Point) (count : ℕ) (marks 
 advanced_as log zone point count marks es risen left =
     ap (λ (ms : List Point). record log { entries = es; handed = log.handed - count; marks = ms }) risen
     ∙ ap (λ (l : List CommittedEntry). record log { entries = l; handed = log.handed - count; marks = raised log.marks zone point }) left
+
+-- a list that isn't empty has an element
+pub some_wait : (es : List Entry) → ¬ (es ≡ []) → 0 < length es
+some_wait [] none = absurd (none refl)
+some_wait (e ∷ es) none = omega arith
+
+-- the block that is sealed is one that the format can hold
+pub block_held : (log : Log) (head : ℕ) (entries : List Entry) → IsKept log → 0 < length log.filling → length log.filling ≤ 192 → head ≡ head_of log → entries ≡ log.filling
+    → HoldsBlock log.sequence head entries
+block_held log head entries kept waits few head_is same =
+    subst (λ (es : List Entry). HoldsBlock log.sequence head es) (sym same) (record {
+      named = (omega (arith, kept.first, kept.committed.0), kept.number_filling waits);
+      head_below = omega (arith, head_is, head_reached log kept);
+      few = few;
+      each = kept.held_filling;
+    })

@@ -7,19 +7,23 @@ use Rattle.blk_base.specs.Limits.{IsGeometry}
 use Rattle.blk_base.specs.declared.geometry.Geometry.{Geometry}
 use Rattle.blk_base.specs.declared.point.Point.{Point}
 use Rattle.blk_base.specs.declared.journal_entry.Entry.{Entry}
-use Rattle.recovery_journal.specs.declared.forms.CommittedEntry.{CommittedEntry}
-use Rattle.recovery_journal.specs.Log.{Log, IsNeeded, opening, point_at}
+use Rattle.blk_base.specs.declared.journal_entry.CommittedEntry.{CommittedEntry}
+use Rattle.journal_codec.specs.Grammar.{HoldsEntry}
+use Rattle.recovery_journal.specs.Log.{Log, IsHeld, IsNeeded, opening, point_at}
 use Rattle.recovery_journal.specs.Kept.{AreBelow, IsKept}
 
-pub kept_opening : (geometry : Geometry) (start zones : ℕ) → IsGeometry geometry → start < 2 ^ 55 → 0 < zones → IsKept (opening geometry start zones)
+pub kept_opening : (geometry : Geometry) (start zones : ℕ) → IsGeometry geometry → (1 ≤ start) × (start < 2 ^ 55) → 0 < zones → IsKept (opening geometry start zones)
 kept_opening geometry start zones sizes early some =
     let first : Point = record { 0 = point_at start 0 } in
     record {
       zones = omega (arith, length-replicate zones first);
       size = omega (arith, sizes.journal);
-      number = omega arith;
+      first = early.0;
+      number = omega (arith, early.1);
       number_filling = λ waits. absurd (omega (arith, waits));
       rising = omega arith;
+      held_filling = All-nil HoldsEntry;
+      held = All-nil IsHeld;
       handed = omega arith;
       committed = (omega arith, omega arith);
       ring = omega (arith, sizes.journal);

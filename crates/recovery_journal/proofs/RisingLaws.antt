@@ -5,7 +5,7 @@ use Rattle.std.proofs.lemmas.List.{take_more, length-take-le}
 use Rattle.std.proofs.lemmas.List.Elements.{All-nil, All-cons, All-weaker}
 use Rattle.blk_base.specs.declared.journal_entry.Entry.{Entry}
 use Rattle.blk_base.specs.declared.point.Point.{Point}
-use Rattle.recovery_journal.specs.declared.forms.CommittedEntry.{CommittedEntry}
+use Rattle.blk_base.specs.declared.journal_entry.CommittedEntry.{CommittedEntry}
 use Rattle.recovery_journal.specs.Log.{point_at, first_sequence, placed}
 use Rattle.recovery_journal.specs.Kept.{rank, AreRising}
 

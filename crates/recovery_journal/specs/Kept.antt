@@ -1,7 +1,8 @@
 -- What is true of a recovery journal at every moment.
 use Rattle.std.specs.Prelude.{ℕ, ◌+◌, ◌*◌, ◌/◌, ◌%◌, ◌^◌, ◌<◌, ◌≤◌, List, [], ◌∷◌, length, All}
-use Rattle.recovery_journal.specs.declared.forms.CommittedEntry.{CommittedEntry}
-use Rattle.recovery_journal.specs.Log.{Log, IsNeeded, point_at, head_of, unhanded}
+use Rattle.blk_base.specs.declared.journal_entry.CommittedEntry.{CommittedEntry}
+use Rattle.journal_codec.specs.Grammar.{HoldsEntry}
+use Rattle.recovery_journal.specs.Log.{Log, IsHeld, IsNeeded, point_at, head_of, unhanded}
 
 -- how many places of blocks stand before a point: each block has 192
 abbrev pub rank : ℕ → ℕ
@@ -19,9 +20,12 @@ AreBelow log point = All (λ mark. mark.0 ≤ point) log.marks
 pub record IsKept (log : Log) : Type 0 where
   pub zones : 0 < length log.marks
   pub size : log.size ≤ 1024
+  pub first : 1 ≤ log.committed
   pub number : log.sequence ≤ 2 ^ 55
   pub number_filling : 0 < length log.filling → log.sequence < 2 ^ 55
   pub rising : AreRising 0 log.entries (log.sequence * 192)
+  pub held_filling : All HoldsEntry log.filling
+  pub held : All IsHeld log.entries
   pub handed : log.handed ≤ length log.entries
   pub committed : (log.committed ≤ log.sequence) × (log.sequence ≤ log.committed + 1)
   pub ring : log.sequence + 1 ≤ head_of log + log.size

@@ -6,8 +6,9 @@ use Rattle.blk_base.specs.declared.geometry.Geometry.{Geometry}
 use Rattle.blk_base.specs.declared.point.Point.{Point}
 use Rattle.blk_base.specs.declared.point.Half.TheVariants.{Increment}
 use Rattle.blk_base.specs.declared.journal_entry.Entry.{Entry}
+use Rattle.journal_codec.specs.Grammar.{HoldsEntry}
 use Rattle.journal_codec.specs.declared.forms.JournalBlock.{JournalBlock}
-use Rattle.recovery_journal.specs.declared.forms.CommittedEntry.{CommittedEntry}
+use Rattle.blk_base.specs.declared.journal_entry.CommittedEntry.{CommittedEntry}
 
 -- `size` is how many blocks the ring on the device has. `sequence` is that of the block being filled, and `filling` its
 -- entries. `entries` are those of sealed blocks that some zone still needs, in the order of their points; the first
@@ -40,6 +41,11 @@ opening geometry start zones =
       committed = start;
       marks = replicate zones (record { 0 = point_at start 0 });
     }
+
+-- the format can hold the entry, and its block has a sequence of at least 1
+pub record IsHeld (entry : CommittedEntry) : Type 0 where
+  pub holds : HoldsEntry entry.entry
+  pub named : point_at 1 0 ≤ entry.point.0
 
 -- some zone's part of the entry at this point isn't durable
 abbrev pub IsNeeded : List Point → Point → Type 0

@@ -2,8 +2,7 @@ ghost use Rattle.std.specs.Prelude.{◌≡◌, ◌+◌, ◌<◌, ◌≤◌, ◌^
 ghost use Rattle.std.specs.VecDeque.{deque_len, deque_capacity};
 ghost use Rattle.recovery_journal.specs.Log.{placed};
 
-use crate::CommittedEntry;
-use blk_base::{Entry, Half, Point};
+use blk_base::{CommittedEntry, Entry, Half, Point};
 use std::collections::VecDeque;
 
 /// Adds the entries of a block with their points.

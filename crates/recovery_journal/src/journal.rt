@@ -1,11 +1,12 @@
 ghost use Rattle.std.specs.Prelude.{◌≡◌, ◌+◌, ◌<◌, ◌≤◌, ◌^◌, ◌∷◌, ◌++◌, [], ◌⊎◌, length, IfOk, IfErr, IfSome, IfNone, OnOk, OnErr};
 ghost use Rattle.blk_base.specs.Limits.{IsGeometry};
-ghost use Rattle.recovery_journal.specs.Log.{opening, head_of, first_point, unhanded, IsHead, HasRoom, HasNoRoom, IsWriting, Seals, HandsOut, NoneCommitted, IsBehind, Advances};
+ghost use Rattle.journal_codec.specs.Grammar.{HoldsEntry, HoldsBlock};
+ghost use Rattle.recovery_journal.specs.Log.{opening, head_of, first_point, unhanded, IsHead, HasRoom, HasNoRoom, IsWriting, Seals, HandsOut, NoneCommitted, IsBehind, IsHeld, Advances};
 
+use crate::Place;
 use crate::entering::enter;
 use crate::marking::{count_below, first_sequence, least, leave_out, marks_at, raise, sequence_of};
-use crate::{CommittedEntry, Place};
-use blk_base::{Entry, Geometry, Half, Point};
+use blk_base::{CommittedEntry, Entry, Geometry, Half, Point};
 use journal_codec::{Entries, JournalBlock};
 use std::alloc::{AllocError, Global};
 use std::collections::VecDeque;
@@ -52,7 +53,7 @@ impl Model for Journal {
 }
 
 impl Journal {
-    /// An empty journal whose first block has the sequence `start`, below 2^55, for so many zones, at least one. Takes
+    /// An empty journal whose first block has the sequence `start`, 1 to 2^55 − 1, for so many zones, at least one. Takes
     /// the room for the entries of a full ring.
     pub fn new(
         alloc: Global,
@@ -61,7 +62,7 @@ impl Journal {
         zones: u32,
     ) -> Result<Journal, AllocError>
         requires geometry { IsGeometry geometry.now }
-        requires start { start < 2 ^ 55 }
+        requires start { (1 ≤ start) × (start < 2 ^ 55) }
         requires zones { 0 < zones }
         ensures { IfOk result (λ journal. journal ≡ opening geometry.now start zones) }
     {
@@ -80,10 +81,11 @@ impl Journal {
         })
     }
 
-    /// Adds an entry to the block being filled, whose sequence is below 2^55, and gives the entry's place. The entry
-    /// comes back exactly where that block holds 192, or where the head is below its sequence + 2 − J.
+    /// Adds an entry that a block can hold to the block being filled, whose sequence is below 2^55, and gives the entry's
+    /// place. The entry comes back exactly where that block holds 192, or where the head is below its sequence + 2 − J.
     pub fn append(&mut self, entry: Entry) -> Result<Place, Entry>
-        requires { self.old.sequence < 2 ^ 55 }
+        requires sequence { self.old.sequence < 2 ^ 55 }
+        requires held { HoldsEntry entry }
         ensures place { IfOk result (λ place. place ≡ record { sequence = self.old.sequence; entry = length self.old.filling }) }
         ensures added { OnOk result (self.new ≡ record self.old { filling = self.old.filling ++ entry ∷ [] }) }
         ensures room { OnOk result (HasRoom self.old) }
@@ -107,11 +109,11 @@ impl Journal {
     pub fn seal(&mut self) -> Option<JournalBlock>
         ensures some { IfSome result (Seals self.old self.new) }
         ensures ring { IfSome result (λ block. block.sequence + 2 ≤ block.head + self.old.size) }
-        ensures below { IfSome result (λ block. block.head ≤ block.sequence) }
+        ensures held { IfSome result (λ block. HoldsBlock block.sequence block.head block.entries) }
         ensures head { head_of self.new ≡ head_of self.old }
         ensures none { IfNone result (((self.old.filling ≡ []) ⊎ IsWriting self.old) × (self.new ≡ self.old)) }
     {
-        if self.filling.len() == 0 || self.committed < self.sequence {
+        if self.filling.is_empty() || self.committed < self.sequence {
             return None;
         }
         let sequence = self.sequence;
@@ -140,6 +142,7 @@ impl Journal {
     /// one is left.
     pub fn next_committed(&mut self) -> Option<CommittedEntry>
         ensures some { IfSome result (HandsOut self.old self.new) }
+        ensures held { IfSome result IsHeld }
         ensures none { IfNone result (NoneCommitted self.old × (self.new ≡ self.old)) }
     {
         if self.handed == self.entries.len() {

@@ -14,6 +14,6 @@ mod journal;
 mod laws;
 mod marking;
 
-pub use forms::{CommittedEntry, Place};
+pub use forms::Place;
 pub use journal::Journal;
 pub use laws::no_needed_block_is_overwritten;

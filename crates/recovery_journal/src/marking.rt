@@ -2,8 +2,7 @@ ghost use Rattle.std.specs.Prelude.{◌≡◌, ◌/◌, ◌<◌, ◌≤◌, All,
 ghost use Rattle.std.specs.VecDeque.{deque_len, deque_capacity};
 ghost use Rattle.recovery_journal.specs.Log.{first_sequence, raised};
 
-use crate::CommittedEntry;
-use blk_base::Point;
+use blk_base::{CommittedEntry, Point};
 use std::alloc::{AllocError, Global};
 use std::cmp;
 use std::collections::VecDeque;

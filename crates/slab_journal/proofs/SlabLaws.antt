@@ -1,20 +1,20 @@
 -- What is true of a slab's journal stays true over each call, and no update that isn't covered is lost.
 use Rattle.std.specs.Prelude.{ℕ, ◌≡◌, ◌+◌, ◌-◌, ◌%◌, ◌<◌, ◌≤◌, ◌^◌, List, [], ◌∷◌, ◌++◌, length, take, replicate, All, Contains, Bool, IsTrue, ◌↔◌}
-use Rattle.std.proofs.Common.{arith, sym, subst, ap, ◌∙◌, inl, inr, get_or, set}
+use Rattle.std.proofs.Common.{arith, sym, subst, ap, ◌∙◌, refl, inl, inr, get_or, set}
 use Rattle.std.proofs.lemmas.Bool.{cases_eq}
 use Rattle.std.proofs.lemmas.Nat.{mod_below}
 use Rattle.std.proofs.lemmas.List.{length-set, length-replicate, get_or_default, get_or-set_other}
-use Rattle.std.proofs.lemmas.List.Elements.{All-nil, All-replicate, All-more, All-push, All-set, All-contains, All-get_or, Contains-append_left}
+use Rattle.std.proofs.lemmas.List.Elements.{All-nil, All-head, All-weaker, All-replicate, All-more, All-push, All-set, All-contains, All-get_or, Contains-append_left}
 use Rattle.std.proofs.lemmas.List.Quantifiers.{any-set}
 use Rattle.blk_base.specs.Regions.{slab_start_of}
 use Rattle.blk_base.specs.Limits.{IsGeometry}
 use Rattle.blk_base.specs.declared.geometry.Geometry.{Geometry}
 use Rattle.blk_base.specs.declared.point.Point.{Point}
 use Rattle.slab_codec.specs.Grammar.{HoldsEntry}
-use Rattle.slab_codec.specs.Reference.{sector_of_offset}
+use Rattle.blk_base.specs.Counters.{sectors_per_slab, sector_of_offset}
 use Rattle.slab_codec.specs.declared.forms.SlabEntry.{SlabEntry}
-use Rattle.slab_journal.specs.Slab.{Slab, opening, sectors_of, IsOfSlab, IsCovered, Keeps, MayOverwrite, next_slot, next_block}
-use Rattle.slab_journal.specs.Kept.{AreOfSlab, IsKept}
+use Rattle.slab_journal.specs.Slab.{Slab, opening, IsOfSlab, IsCovered, Keeps, MayOverwrite, next_slot, next_block}
+use Rattle.slab_journal.specs.Kept.{AreOfSlab, IsKept, first_of}
 
 -- opening
 
@@ -24,41 +24,60 @@ kept_opening geometry slab sizes inside =
       geometry = sizes;
       slab = inside;
       ring = length-replicate {A = List SlabEntry} geometry.slab_journal [];
-      sectors = length-replicate {A = Point} (sectors_of geometry) (record { 0 = 0 });
+      sectors = length-replicate {A = Point} (sectors_per_slab geometry) (record { 0 = 0 });
+      last = omega arith;
       number = omega arith;
+      number_filling = λ some. absurd (omega (arith, some));
       durable = (omega arith, omega arith);
       filling = All-nil (HoldsEntry geometry.slab_blocks);
+      taken = All-nil (λ (e : SlabEntry). e.point.0 ≤ 511);
+      rising = All-nil (λ (e : SlabEntry). 511 ≤ e.point.0);
       blocks = All-replicate (AreOfSlab (opening geometry slab)) geometry.slab_journal [] (All-nil (HoldsEntry geometry.slab_blocks));
     }
 
 -- the fields of a new journal, from what made them
-pub is_opening : (geometry : Geometry) (slab sectors : ℕ) (filling : List SlabEntry) (slots : List (List SlabEntry)) (commits : List Point)
-    → sectors ≡ sectors_of geometry → filling ≡ [] → slots ≡ replicate geometry.slab_journal [] → commits ≡ replicate sectors (record { 0 = 0 })
-    → ◌≡◌ {A = Slab} (record { geometry = geometry; slab = slab; sequence = 1; filling = filling; slots = slots; durable = 1; commits = commits }) (opening geometry slab)
-is_opening geometry slab sectors filling slots commits count none empty zero =
-    let made : List SlabEntry → List (List SlabEntry) → List Point → Slab = λ fs ss cs. record (opening geometry slab) { filling = fs; slots = ss; commits = cs } in
-    ap (λ (fs : List SlabEntry). made fs slots commits) none
-    ∙ ap (λ (ss : List (List SlabEntry)). made [] ss commits) empty
-    ∙ ap (λ (cs : List Point). made [] (replicate geometry.slab_journal []) cs) zero
-    ∙ ap (λ (n : ℕ). made [] (replicate geometry.slab_journal []) (replicate n (record { 0 = 0 }))) count
+pub is_opening : (geometry sizes : Geometry) (slab sectors : ℕ) (filling : List SlabEntry) (slots : List (List SlabEntry)) (commits : List Point)
+    → sizes ≡ geometry → sectors ≡ sectors_per_slab sizes → filling ≡ [] → slots ≡ replicate geometry.slab_journal [] → commits ≡ replicate sectors (record { 0 = 0 })
+    → ◌≡◌ {A = Slab} (record { geometry = sizes; slab = slab; sequence = 1; filling = filling; last = record { 0 = 511 }; slots = slots; durable = 1; commits = commits }) (opening geometry slab)
+is_opening geometry sizes slab sectors filling slots commits same count none empty zero =
+    let made : Geometry → List SlabEntry → List (List SlabEntry) → List Point → Slab
+    = λ g fs ss cs. record (opening geometry slab) { geometry = g; filling = fs; slots = ss; commits = cs } in
+    let none_durable : ℕ → List Point = λ n. replicate n (record { 0 = 0 }) in
+    ap (λ (g : Geometry). made g filling slots commits) same
+    ∙ ap (λ (fs : List SlabEntry). made geometry fs slots commits) none
+    ∙ ap (λ (ss : List (List SlabEntry)). made geometry [] ss commits) empty
+    ∙ ap (λ (cs : List Point). made geometry [] (replicate geometry.slab_journal []) cs) (zero ∙ ap none_durable (count ∙ ap sectors_per_slab same))
 
 -- adding
 
-pub kept_added : (log : Slab) (e : SlabEntry) → IsKept log → HoldsEntry log.geometry.slab_blocks e → IsKept (record log { filling = log.filling ++ e ∷ [] })
-kept_added log e kept held =
+rising_added : (es : List SlabEntry) (e : SlabEntry) (last : ℕ) → All (λ f. f.point.0 ≤ last) es → last < e.point.0 → All (λ f. first_of es last ≤ f.point.0) es
+    → All (λ f. first_of (es ++ e ∷ []) e.point.0 ≤ f.point.0) (es ++ e ∷ [])
+rising_added [] e last taken above rising = All-push (λ (f : SlabEntry). e.point.0 ≤ f.point.0) [] e (All-nil (λ (f : SlabEntry). e.point.0 ≤ f.point.0)) (omega arith)
+rising_added (x ∷ xs) e last taken above rising =
+    let first = All-head (λ (f : SlabEntry). f.point.0 ≤ last) x xs taken in
+    All-push (λ (f : SlabEntry). x.point.0 ≤ f.point.0) (x ∷ xs) e rising (omega (arith, first, above))
+
+pub kept_added : (log : Slab) (e : SlabEntry) → IsKept log → HoldsEntry log.geometry.slab_blocks e → log.last.0 < e.point.0
+    → IsKept (record log { filling = log.filling ++ e ∷ []; last = e.point })
+kept_added log e kept held above =
     record {
       geometry = kept.geometry;
       slab = kept.slab;
       ring = kept.ring;
       sectors = kept.sectors;
-      number = kept.number;
+      last = held.0;
+      number = omega (arith, kept.number, above);
+      number_filling = λ some. omega (arith, kept.number, above);
       durable = kept.durable;
       filling = All-push (HoldsEntry log.geometry.slab_blocks) log.filling e kept.filling held;
+      taken = All-push (λ (f : SlabEntry). f.point.0 ≤ e.point.0) log.filling e
+          (All-weaker (λ (f : SlabEntry). f.point.0 ≤ log.last.0) (λ (f : SlabEntry). f.point.0 ≤ e.point.0) (λ f below. omega (arith, below, above)) log.filling kept.taken) (omega arith);
+      rising = rising_added log.filling e log.last.0 kept.taken above kept.rising;
       blocks = kept.blocks;
     }
 
-pub keeps_added : (log : Slab) (more : List SlabEntry) → Keeps log (record log { filling = log.filling ++ more })
-keeps_added log more entry held uncovered =
+pub keeps_added : (log : Slab) (more : List SlabEntry) (last : Point) → Keeps log (record log { filling = log.filling ++ more; last = last })
+keeps_added log more last entry held uncovered =
     elim held [
       | inl waits ↦ inl (Contains-append_left log.filling more entry waits)
       | inr stands ↦ inr stands
@@ -75,16 +94,20 @@ slot_inside log kept =
 abbrev pub sealed : Slab → Slab
 sealed log = record log { sequence = log.sequence + 1; filling = []; slots = set log.slots (next_slot log) log.filling }
 
-pub kept_sealed : (log : Slab) → IsKept log → log.sequence < 2 ^ 55 → log.sequence ≤ log.durable → IsKept (sealed log)
-kept_sealed log kept number written =
+pub kept_sealed : (log : Slab) → IsKept log → 0 < length log.filling → log.sequence ≤ log.durable → IsKept (sealed log)
+kept_sealed log kept waits written =
     record {
       geometry = kept.geometry;
       slab = kept.slab;
       ring = length-set log.slots (next_slot log) log.filling ∙ kept.ring;
       sectors = kept.sectors;
-      number = omega arith;
+      last = kept.last;
+      number = omega (arith, kept.number_filling waits);
+      number_filling = λ some. absurd (omega (arith, some));
       durable = (omega (arith, kept.durable.0), omega arith);
       filling = All-nil (HoldsEntry log.geometry.slab_blocks);
+      taken = All-nil (λ (e : SlabEntry). e.point.0 ≤ log.last.0);
+      rising = All-nil (λ (e : SlabEntry). log.last.0 ≤ e.point.0);
       blocks = All-set (AreOfSlab log) log.slots (next_slot log) log.filling kept.filling kept.blocks;
     }
 
@@ -98,7 +121,7 @@ keeps_sealed log kept covered entry held uncovered =
         | inl same ↦
             let block : stands.1 ≡ next_block log
             = sym stands.3 ∙ get_or_default log.slots stands.0 stands.1 [] stands.2 ∙ ap (λ (k : ℕ). get_or log.slots k []) same in
-            absurd (uncovered (All-contains (IsCovered log.commits) (next_block log) entry covered (subst P block stands.4)))
+            absurd (uncovered (All-contains (IsCovered log.geometry log.commits) (next_block log) entry covered (subst P block stands.4)))
         | inr other ↦ inr (
           stands.0,
           stands.1,
@@ -114,26 +137,26 @@ keeps_sealed log kept covered entry held uncovered =
 pub block_held : (log : Slab) → IsKept log → AreOfSlab log (next_block log)
 block_held log kept = All-get_or (AreOfSlab log) log.slots (next_slot log) [] (slot_inside log kept) kept.blocks
 
-pub sectors_inside : (log : Slab) (entries : List SlabEntry) → IsKept log → AreOfSlab log entries → All (λ entry. sector_of_offset entry.offset < length log.commits) entries
+pub sectors_inside : (log : Slab) (entries : List SlabEntry) → IsKept log → AreOfSlab log entries → All (λ entry. sector_of_offset log.geometry entry.offset < length log.commits) entries
 sectors_inside log entries kept held k d inside = omega (arith, kept.sectors, (held k d inside).2)
 
 -- the same, as the code comes to it
 
-pub covered_more : (commits : List Point) (entries : List SlabEntry) (index offset : ℕ) (d : SlabEntry) → index < length entries
-    → All (IsCovered commits) (take index entries) → offset ≡ (get_or entries index d).offset
-    → (get_or entries index d).point.0 ≤ (get_or commits (sector_of_offset offset) (record { 0 = 0 })).0 → All (IsCovered commits) (take (index + 1) entries)
-covered_more commits entries index offset d inside all same here =
-    All-more (IsCovered commits) entries index d inside all
-    (subst (λ (n : ℕ). (get_or entries index d).point.0 ≤ (get_or commits (sector_of_offset n) (record { 0 = 0 })).0) same here)
+pub covered_more : (g : Geometry) (commits : List Point) (entries : List SlabEntry) (index sector : ℕ) (d : SlabEntry) → index < length entries
+    → All (IsCovered g commits) (take index entries) → sector ≡ sector_of_offset g (get_or entries index d).offset
+    → (get_or entries index d).point.0 ≤ (get_or commits sector (record { 0 = 0 })).0 → All (IsCovered g commits) (take (index + 1) entries)
+covered_more g commits entries index sector d inside all same here =
+    All-more (IsCovered g commits) entries index d inside all
+    (subst (λ (n : ℕ). (get_or entries index d).point.0 ≤ (get_or commits n (record { 0 = 0 })).0) same here)
 
 pub may_overwrite_as : (log now : Slab) (block entries : List SlabEntry) (commits : List Point) (size : ℕ) (result : Bool) → IsKept log → log ≡ now → commits ≡ log.commits → entries ≡ block
-    → size ≡ log.geometry.slab_journal → block ≡ get_or log.slots (log.sequence % size) block → (IsTrue result ↔ All (IsCovered commits) entries) → IsTrue result ↔ MayOverwrite now
+    → size ≡ log.geometry.slab_journal → block ≡ get_or log.slots (log.sequence % size) block → (IsTrue result ↔ All (IsCovered log.geometry commits) entries) → IsTrue result ↔ MayOverwrite now
 may_overwrite_as log now block entries commits size result kept is same read number stands answer =
     let next : entries ≡ next_block log
     = read ∙ stands ∙ ap (λ (n : ℕ). get_or log.slots (log.sequence % n) block) number ∙ get_or_default log.slots (next_slot log) block [] (slot_inside log kept) in
     subst (λ (l : Slab). IsTrue result ↔ MayOverwrite l) is
-    (subst (λ (es : List SlabEntry). IsTrue result ↔ All (IsCovered log.commits) es) next
-    (subst (λ (cs : List Point). IsTrue result ↔ All (IsCovered cs) entries) same answer))
+    (subst (λ (es : List SlabEntry). IsTrue result ↔ All (IsCovered log.geometry log.commits) es) next
+    (subst (λ (cs : List Point). IsTrue result ↔ All (IsCovered log.geometry cs) entries) same answer))
 
 pub keeps_sealed_as : (log now : Slab) (left : List SlabEntry) (slots : List (List SlabEntry)) → log ≡ now → IsKept log → MayOverwrite log → left ≡ []
     → slots ≡ set log.slots (next_slot log) log.filling → Keeps now (record log { sequence = log.sequence + 1; filling = left; slots = slots })
@@ -142,15 +165,20 @@ keeps_sealed_as log now left slots is kept covered empty stands =
     (subst (λ (es : List SlabEntry). Keeps log (record log { sequence = log.sequence + 1; filling = es; slots = slots })) (sym empty)
     (subst (λ (blocks : List (List SlabEntry)). Keeps log (record log { sequence = log.sequence + 1; filling = []; slots = blocks })) (sym stands) (keeps_sealed log kept covered)))
 
-pub kept_sealed_as : (log : Slab) (left : List SlabEntry) (slots : List (List SlabEntry)) → IsKept log → log.sequence < 2 ^ 55 → log.sequence ≤ log.durable → left ≡ []
+pub kept_sealed_as : (log : Slab) (left : List SlabEntry) (slots : List (List SlabEntry)) → IsKept log → 0 < length log.filling → log.sequence ≤ log.durable → left ≡ []
     → slots ≡ set log.slots (next_slot log) log.filling → IsKept (record log { sequence = log.sequence + 1; filling = left; slots = slots })
-kept_sealed_as log left slots kept number written empty stands =
+kept_sealed_as log left slots kept waits written empty stands =
     subst (λ (es : List SlabEntry). IsKept (record log { sequence = log.sequence + 1; filling = es; slots = slots })) (sym empty)
-    (subst (λ (blocks : List (List SlabEntry)). IsKept (record log { sequence = log.sequence + 1; filling = []; slots = blocks })) (sym stands) (kept_sealed log kept number written))
+    (subst (λ (blocks : List (List SlabEntry)). IsKept (record log { sequence = log.sequence + 1; filling = []; slots = blocks })) (sym stands) (kept_sealed log kept waits written))
 
-pub entry_held : (log now : Slab) (at first : ℕ) (point : Point) → log ≡ now → IsKept log → first ≡ slab_start_of log.geometry log.slab → IsOfSlab now (record { 0 = at }) → point.0 < 2 ^ 64
+pub entry_held : (log now : Slab) (at first : ℕ) (point : Point) → log ≡ now → IsKept log → first ≡ slab_start_of log.geometry log.slab + 0 → IsOfSlab now (record { 0 = at }) → point.0 < 2 ^ 64
     → HoldsEntry log.geometry.slab_blocks (record { point = point; offset = at - first })
 entry_held log now at first point is kept start inside fits =
     let here = subst (λ (l : Slab). IsOfSlab l (record { 0 = at })) (sym is) inside in
     let size = kept.geometry.slab_blocks in
     (fits, omega (arith, here.0, here.1, size.1), omega (arith, here.0, here.1))
+
+-- a list that isn't empty has an element
+pub some_wait : (es : List SlabEntry) → ¬ (es ≡ []) → 0 < length es
+some_wait [] none = absurd (none refl)
+some_wait (e ∷ es) none = omega arith

@@ -1,20 +1,30 @@
 -- What is true of a slab's journal at every moment.
-use Rattle.std.specs.Prelude.{◌≡◌, ◌+◌, ◌<◌, ◌≤◌, ◌^◌, List, length, All}
+use Rattle.std.specs.Prelude.{ℕ, ◌≡◌, ◌+◌, ◌<◌, ◌≤◌, ◌^◌, List, [], ◌∷◌, length, All}
+use Rattle.blk_base.specs.Counters.{sectors_per_slab}
 use Rattle.blk_base.specs.Limits.{IsGeometry}
 use Rattle.slab_codec.specs.Grammar.{HoldsEntry}
 use Rattle.slab_codec.specs.declared.forms.SlabEntry.{SlabEntry}
-use Rattle.slab_journal.specs.Slab.{Slab, sectors_of}
+use Rattle.slab_journal.specs.Slab.{Slab}
 
 -- each is an update of a data block of the slab
 abbrev pub AreOfSlab : Slab → List SlabEntry → Type 0
 AreOfSlab log entries = All (HoldsEntry log.geometry.slab_blocks) entries
 
+-- the point of the first of these, or else this one
+abbrev pub first_of : List SlabEntry → ℕ → ℕ
+first_of [] point = point
+first_of (entry ∷ entries) point = entry.point.0
+
 pub record IsKept (log : Slab) : Type 0 where
   pub geometry : IsGeometry log.geometry
   pub slab : log.slab < log.geometry.slabs
   pub ring : length log.slots ≡ log.geometry.slab_journal
-  pub sectors : length log.commits ≡ sectors_of log.geometry
-  pub number : log.sequence ≤ 2 ^ 55
+  pub sectors : length log.commits ≡ sectors_per_slab log.geometry
+  pub last : log.last.0 < 2 ^ 64
+  pub number : log.sequence ≤ log.last.0
+  pub number_filling : 0 < length log.filling → log.sequence < log.last.0
   pub durable : (log.durable ≤ log.sequence) × (log.sequence ≤ log.durable + 1)
   pub filling : AreOfSlab log log.filling
+  pub taken : All (λ entry. entry.point.0 ≤ log.last.0) log.filling
+  pub rising : All (λ entry. first_of log.filling log.last.0 ≤ entry.point.0) log.filling
   pub blocks : All (AreOfSlab log) log.slots

@@ -5,10 +5,11 @@ use Rattle.slab_journal.specs.declared.journal.SlabJournal.TheInside.{Inside}
 abbrev pub log_of : Inside → Slab
 log_of journal =
     record {
-      geometry = journal.geometry;
+      geometry = journal.layout.geometry;
       slab = journal.slab;
       sequence = journal.sequence;
       filling = journal.filling;
+      last = journal.last;
       slots = journal.slots.items;
       durable = journal.durable;
       commits = journal.commits.items;

@@ -1,18 +1,19 @@
 ghost use Rattle.std.specs.Prelude.{◌≡◌, ◌<◌, ◌↔◌, IsTrue, All, length};
-ghost use Rattle.slab_codec.specs.Reference.{sector_of_offset};
+ghost use Rattle.blk_base.specs.Counters.{sector_of_offset};
 ghost use Rattle.slab_journal.specs.Slab.{IsCovered, raised};
 
-use blk_base::Point;
-use slab_codec::{COUNTERS, SlabEntry};
+use blk_base::{Layout, Point};
+use slab_codec::SlabEntry;
 use std::cmp;
 
 /// Whether the counters on the device include each of these updates.
-pub(crate) fn are_covered(entries: &[SlabEntry], commits: &[Point]) -> bool
-    requires { All (λ entry. sector_of_offset entry.offset < length commits.now) entries.now }
-    ensures { IsTrue result ↔ All (IsCovered commits.now) entries.now }
+pub(crate) fn are_covered(layout: &Layout, entries: &[SlabEntry], commits: &[Point]) -> bool
+    requires { All (λ entry. sector_of_offset layout.now.geometry entry.offset < length commits.now) entries.now }
+    ensures { IsTrue result ↔ All (IsCovered layout.now.geometry commits.now) entries.now }
 {
     for entry in entries {
-        if commits[usize::from(entry.offset) / COUNTERS].0 < entry.point.0 {
+        let sector = layout.sector_of_offset(u32::from(entry.offset));
+        if commits[sector as usize].0 < entry.point.0 {
             return false;
         }
     }

@@ -5,10 +5,10 @@ use slab_codec::{SlabEntries, SlabEntry};
 use std::alloc::{AllocError, Global};
 
 /// How many updates a block has at most.
-pub(crate) const PER_BLOCK: usize = 320;
+pub const UPDATES_PER_BLOCK: usize = 320;
 
 /// The updates of a block.
-pub(crate) type Updates = SlabEntries<PER_BLOCK>;
+pub(crate) type Updates = SlabEntries<UPDATES_PER_BLOCK>;
 
 /// So many slots of the ring, where no update stands.
 pub(crate) fn empty_slots(alloc: Global, count: u32) -> Result<Vec<Updates>, AllocError>

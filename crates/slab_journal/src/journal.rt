@@ -1,27 +1,30 @@
 ghost use Rattle.std.specs.Prelude.{◌≡◌, ◌+◌, ◌<◌, ◌≤◌, ◌^◌, ◌↔◌, ◌∷◌, ◌++◌, [], ◌⊎◌, length, IsTrue, IfOk, IfSome, IfNone, OnOk, OnErr};
 ghost use Rattle.blk_base.specs.Limits.{IsGeometry};
 ghost use Rattle.slab_codec.specs.Grammar.{HoldsBlock};
-ghost use Rattle.slab_journal.specs.Slab.{opening, entry_of, raised, IsOfSlab, MayOverwrite, IsWriting, Keeps, Seals};
+ghost use Rattle.slab_journal.specs.Slab.{opening, entry_of, raised, IsOfSlab, IsFirst, MayOverwrite, IsWriting, Keeps, Seals};
 
+use crate::Full;
 use crate::covering::{are_covered, raise};
 use crate::entries::{Updates, copy_of, empty_slots, opening_commits, slab_entry};
-use crate::{Full, Update};
-use blk_base::{Geometry, Layout, Point};
-use slab_codec::{COUNTERS, SlabEntries, SlabJournalBlock};
+use blk_base::{Geometry, Layout, Point, Update};
+use slab_codec::{SlabEntries, SlabJournalBlock};
 use std::alloc::{AllocError, Global};
 use std::marker::Model;
 use std::mem::replace;
 
+/// The first point that a journal gives: sequences begin at 1.
+const FIRST_POINT: u64 = 512;
+
 /// The journal of a slab in a session.
 #[derive(Drop)]
 pub struct SlabJournal {
-    geometry: Geometry,
+    layout: Layout,
     slab: u32,
-    // The first data block of the slab.
-    first: u32,
     // The sequence of the block being filled, and its updates.
     sequence: u64,
     filling: Updates,
+    // The point of the last update that was taken.
+    last: Point,
     // For each slot of the ring, the updates of the block that stands there.
     slots: Vec<Updates>,
     // The blocks below this sequence are durable.
@@ -31,8 +34,6 @@ pub struct SlabJournal {
 }
 
 impl Model for SlabJournal {
-    ghost use Rattle.std.specs.Prelude.{◌≡◌};
-    ghost use Rattle.blk_base.specs.Regions.{slab_start_of};
     ghost use Rattle.slab_journal.specs.Slab.{Slab};
 
     ghost Value = { Slab };
@@ -42,10 +43,7 @@ impl Model for SlabJournal {
 
     ghost view = { log_of };
 
-    ghost invariant = { λ j. record {
-      kept : IsKept (log_of j);
-      first : j.first ≡ slab_start_of j.geometry j.slab;
-    } };
+    ghost invariant = { λ j. IsKept (log_of j) };
 }
 
 impl SlabJournal {
@@ -56,24 +54,25 @@ impl SlabJournal {
         requires slab { slab < geometry.now.slabs }
         ensures { IfOk result (λ journal. journal ≡ opening geometry.now slab) }
     {
-        let sectors = geometry.slab_blocks.div_ceil(COUNTERS as u32);
+        let layout = Layout::of(geometry);
         Ok(SlabJournal {
-            geometry: *geometry,
+            layout,
             slab,
-            first: Layout::of(geometry).data_block(slab, 0).0,
             sequence: 1,
             filling: SlabEntries::new(),
+            last: Point(FIRST_POINT - 1),
             slots: empty_slots(alloc, geometry.slab_journal)?,
             durable: 1,
-            commits: opening_commits(alloc, sectors)?,
+            commits: opening_commits(alloc, layout.sectors_per_slab())?,
         })
     }
 
-    /// Adds an update of a data block of this slab to the block being filled. It is refused exactly where that block has
-    /// 320.
+    /// Adds an update of a data block of this slab to the block being filled. Its point is above those of all updates
+    /// before, and of a block with a sequence of at least 1. It is refused exactly where the block being filled has 320.
     pub fn add(&mut self, update: &Update) -> Result<(), Full>
-        requires { IsOfSlab self.old update.now.at }
-        ensures added { OnOk result (self.new ≡ record self.old { filling = self.old.filling ++ entry_of self.old update.now ∷ [] }) }
+        requires place { IsOfSlab self.old update.now.at }
+        requires rises { self.old.last.0 < update.now.point.0 }
+        ensures added { OnOk result (self.new ≡ record self.old { filling = self.old.filling ++ entry_of self.old update.now ∷ []; last = update.now.point }) }
         ensures fewer { OnOk result (length self.old.filling < 320) }
         ensures full { OnErr result ((length self.old.filling ≡ 320) × (self.new ≡ self.old)) }
         ensures kept { Keeps self.old self.new }
@@ -81,30 +80,49 @@ impl SlabJournal {
         if self.filling.is_full() {
             return Err(Full);
         }
-        let entry = slab_entry(update.point.0, update.at.0 - self.first);
+        let entry = slab_entry(
+            update.point.0,
+            update.at.0 - self.layout.data_block(self.slab, 0).0,
+        );
         self.filling.push(entry);
+        self.last = update.point;
         Ok(())
     }
 
+    /// How many updates wait in the block being filled. It takes no more once these are 320.
+    pub fn waiting(&self) -> usize
+        ensures value { result ≡ length self.now.filling }
+        ensures most { result ≤ 320 }
+    {
+        self.filling.len()
+    }
+
+    /// The least point of the updates in the block being filled, that of its first; `None` exactly where it has none.
+    pub fn first_point(&self) -> Option<Point>
+        ensures some { IfSome result (IsFirst self.now.filling) }
+        ensures none { IfNone result (self.now.filling ≡ []) }
+    {
+        self.filling.as_slice().first().map(|entry| entry.point)
+    }
+
     /// Seals the block being filled, to be written; the next one is filled from here on. `None` exactly where no update
-    /// waits, a sealed block isn't durable yet, or its slot can't be overwritten. Its sequence is below 2^55.
+    /// waits, a sealed block isn't durable yet, or its slot can't be overwritten.
     pub fn seal(&mut self) -> Option<SlabJournalBlock>
-        requires { self.old.sequence < 2 ^ 55 }
         ensures some { IfSome result (Seals self.old self.new) }
         ensures held { IfSome result (λ block. HoldsBlock self.old.geometry.slab_blocks block.sequence block.entries) }
         ensures none { IfNone result (((self.old.filling ≡ []) ⊎ (IsWriting self.old ⊎ (¬ MayOverwrite self.old))) × (self.new ≡ self.old)) }
         ensures kept { Keeps self.old self.new }
     {
-        if self.filling.len() == 0 || self.durable < self.sequence || !self.may_overwrite() {
+        if self.filling.is_empty() || self.durable < self.sequence || !self.may_overwrite() {
             return None;
         }
         let sequence = self.sequence;
-        let slot = (sequence % u64::from(self.geometry.slab_journal)) as usize;
+        let slot = (sequence % u64::from(self.layout.geometry.slab_journal)) as usize;
         let entries = copy_of(&self.filling);
         self.slots[slot] = replace(&mut self.filling, SlabEntries::new());
         self.sequence += 1;
         Some(SlabJournalBlock {
-            nonce: self.geometry.nonce,
+            nonce: self.layout.geometry.nonce,
             sequence,
             slab: self.slab,
             entries,
@@ -127,9 +145,9 @@ impl SlabJournal {
     pub fn may_overwrite(&self) -> bool
         ensures { IsTrue result ↔ MayOverwrite self.now }
     {
-        let slot = (self.sequence % u64::from(self.geometry.slab_journal)) as usize;
+        let slot = (self.sequence % u64::from(self.layout.geometry.slab_journal)) as usize;
         let block = &self.slots[slot];
-        are_covered(block.as_slice(), &self.commits)
+        are_covered(&self.layout, block.as_slice(), &self.commits)
     }
 
     /// The sector of counters with this number in the slab, from 0, is durable with this commit point. A report that says

@@ -12,5 +12,6 @@ mod entries;
 mod forms;
 mod journal;
 
-pub use forms::{Full, Update};
+pub use entries::UPDATES_PER_BLOCK;
+pub use forms::Full;
 pub use journal::SlabJournal;

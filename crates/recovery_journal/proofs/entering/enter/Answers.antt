@@ -1,6 +1,6 @@
 use Rattle.std.proofs.Common.{◌∙◌, List, length, take, arith, ap, length-append}
 use Rattle.std.proofs.lemmas.List.{length-take-le}
-use Rattle.recovery_journal.specs.declared.forms.CommittedEntry.{CommittedEntry}
+use Rattle.blk_base.specs.declared.journal_entry.CommittedEntry.{CommittedEntry}
 use Rattle.recovery_journal.specs.Log.{placed}
 use Rattle.recovery_journal.proofs.RisingLaws.{length-placed, placed_more}
 use Rattle.recovery_journal.proofs.entering.enter.Goals as goal

@@ -2,7 +2,7 @@ use Rattle.std.proofs.Common.{◌≡◌, ◌<◌, ◌≤◌, ℕ, List, [], leng
 use Rattle.std.specs.Prelude.{All}
 use Rattle.std.proofs.lemmas.List.{drop_all}
 use Rattle.std.proofs.lemmas.List.Elements.{All-nil, All-cons, All-more}
-use Rattle.recovery_journal.specs.declared.forms.CommittedEntry.{CommittedEntry}
+use Rattle.blk_base.specs.declared.journal_entry.CommittedEntry.{CommittedEntry}
 use Rattle.recovery_journal.proofs.JournalLaws.{rest_is}
 use Rattle.recovery_journal.proofs.marking.count_below.Goals as goal
 
