@@ -1,7 +1,6 @@
 pub mod PageLaws
 pub mod TreeLaws
 pub mod StepLaws
-pub mod ScanLaws
 pub mod FindLaws
 pub mod OpeningLaws
 pub mod HistoryLaws

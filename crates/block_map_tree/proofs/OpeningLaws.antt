@@ -1,20 +1,25 @@
 -- The pages of an image as a tree.
-use Rattle.std.specs.Prelude.{ℕ, ◌≡◌, ◌<◌, ◌≤◌, ◌+◌, List, [], length, None, Some, All, slice_index_or, slice_set, replicate, refl}
+use Rattle.std.specs.Prelude.{ℕ, ◌≡◌, ◌≢◌, ◌<◌, ◌≤◌, ◌+◌, ◌-◌, ◌*◌, ◌/◌, ◌⊎◌, List, [], ◌∷◌, length, All, Contains, slice_index_or, slice_set, replicate, refl, zero, suc}
 use Rattle.std.proofs.Common.{sym, ◌∙◌, ap, subst, inl, inr, arith}
 use Rattle.std.proofs.lemmas.Bool.Decides.{eqb_tells, leb_tells}
 use Rattle.std.proofs.lemmas.List.{length-set, length-replicate, get_or-replicate, get_or_default}
+use Rattle.std.proofs.lemmas.List.Elements.{All-set, All-replicate}
 use Rattle.std.proofs.Math.ListN.{get_or-eq_default}
+use Rattle.std.proofs.Math.Nat.{mul-le-mul_right}
 use Rattle.blk_base.specs.declared.place.PageId.{PageId}
 use Rattle.blk_base.specs.declared.place.Mapping.{Mapping}
 use Rattle.blk_base.specs.declared.place.Mapping.TheVariants.{Unmapped}
-use Rattle.blk_base.specs.declared.geometry.Geometry.{Geometry}
-use Rattle.blk_base.specs.Limits.{IsGeometry}
-use Rattle.block_map_tree.specs.declared.forms.OpenedPage.{OpenedPage}
-use Rattle.block_map_tree.specs.declared.marks.Marks.{Marks}
-use Rattle.block_map_tree.specs.Pages.{IsOnPath, above, slot_of}
-use Rattle.block_map_tree.specs.Tree.{Tree, as_root, by_link, HasPoint, by_change, by_writing, clean, number_of, most_pages, mappings_of, IsOpened, IsOpening, placed_root, placed_below}
-use Rattle.block_map_tree.specs.Opening.{blank, IsTakenOver}
-use Rattle.block_map_tree.proofs.PageLaws.{at_set, one_number}
+use Rattle.blk_base.specs.declared.opened.OpenedPage.{OpenedPage}
+use Rattle.blk_base.proofs.PageIdLaws.{same_or_not}
+use Rattle.page_codec.specs.Grammar.{AreHeld}
+use Rattle.page_codec.proofs.HeldLaws.{held_unmapped, held_above}
+use Rattle.dirty_pages.specs.declared.marks.Marks.{Marks}
+use Rattle.dirty_pages.specs.Marks.{HasPoint, clean, marks_at}
+use Rattle.block_map_tree.specs.declared.forms.Forest.{Forest}
+use Rattle.block_map_tree.specs.Pages.{IsForest, IsTreeOf, IsOnPath, IsRoot, IsLower, IsInner, above, slot_of}
+use Rattle.block_map_tree.specs.Tree.{Tree, as_root, by_link, trees_of, row_of, number_of, most_rows, mappings_of, mapping_of}
+use Rattle.block_map_tree.specs.Opening.{all_trees, IsListed, IsOpened, IsOpening, AreEnough, blank, IsTakenOver}
+use Rattle.block_map_tree.proofs.PageLaws.{at_set, one_number, row_root, row_lower, row_on_path, in_row, middle, above_inner}
 
 -- a place of a list that repeats what is past its end
 get_or-replicate_past : {X : Type 0} (n i : ℕ) (x : X) → slice_index_or (replicate n x) i x ≡ x
@@ -25,44 +30,58 @@ get_or-replicate_past {X} n i x =
     ]
 
 -- one more page is taken over
-pub taken_more : (height k n : ℕ) (opened : List OpenedPage) (old now : List (List Mapping)) (o : OpenedPage) (row : List Mapping)
-    → IsTakenOver height opened k old now → o ≡ slice_index_or opened k o → k < length opened → n ≡ number_of height o.page → n < length now
-    → row ≡ o.mappings → length row ≡ 812 → IsTakenOver height opened (k + 1) old (slice_set now n row)
-taken_more height k n opened old now o row taken o_is inside number place row_is row_width =
+pub taken_more : (f : Forest) (k n : ℕ) (opened : List OpenedPage) (old now : List (List Mapping)) (o : OpenedPage) (row : List Mapping)
+    → IsOpened f opened → IsTakenOver f opened k old now → o ≡ slice_index_or opened k o → k < length opened → IsTreeOf f o.page.tree
+    → n ≡ number_of f o.page → n < length now → row ≡ o.mappings → IsTakenOver f opened (k + 1) old (slice_set now n row)
+taken_more f k n opened old now o row is_opened taken o_is inside own number place row_is =
     let this : (d : OpenedPage) → slice_index_or opened k d ≡ o = λ d. get_or_default opened k d o inside ∙ sym o_is in
+    let own' : IsTreeOf f (slice_index_or opened k o).page.tree = subst (λ (q : OpenedPage). IsTreeOf f q.page.tree) o_is own in
+    let inner : IsInner f o.page = subst (λ (q : OpenedPage). IsInner f q.page) (sym o_is) (is_opened.inner k o inside own') in
+    let held : AreHeld f.geometry o.page.level o.mappings = subst (λ (q : OpenedPage). AreHeld f.geometry q.page.level q.mappings) (sym o_is) (is_opened.held k o inside own') in
     record {
       size = length-set now n row ∙ taken.size;
-      width = λ wide j d below. elim (at_set now n j row d place) [
-        | inl hit ↦ ap length hit.1 ∙ row_width
-        | inr miss ↦ ap length miss.1 ∙ taken.width wide j d (let size = length-set now n row in omega arith)
-      ];
-      taken = λ j d below later. elim (eqb_tells j k) [
+      held = λ all. All-set (AreHeld f.geometry 1) now n row (subst (λ (r : List Mapping). AreHeld f.geometry 1 r) (sym row_is) (held_above f.geometry o.page.level 1 o.mappings inner.level held)) (taken.held all);
+      taken = λ j d below own_j later. elim (eqb_tells j k) [
         | inl same ↦
             let page : slice_index_or opened j d ≡ o = ap (λ (i : ℕ). slice_index_or opened i d) same.1 ∙ this d in
-            elim (at_set now n (number_of height (slice_index_or opened j d).page) row [] place) [
+            elim (at_set now n (number_of f (slice_index_or opened j d).page) row [] place) [
               | inl hit ↦ hit.1 ∙ row_is ∙ ap (λ (q : OpenedPage). q.mappings) (sym page)
-              | inr miss ↦ absurd (miss.0 (ap (λ (q : OpenedPage). number_of height q.page) page ∙ sym number))
+              | inr miss ↦ absurd (miss.0 (ap (λ (q : OpenedPage). number_of f q.page) page ∙ sym number))
             ]
         | inr before ↦
             let less : j < k = let b = before.1 in omega arith in
-            elim (at_set now n (number_of height (slice_index_or opened j d).page) row [] place) [
-              | inl hit ↦ absurd (later k less (omega arith) (ap (λ (q : OpenedPage). number_of height q.page) (this d) ∙ sym number ∙ sym hit.0))
-              | inr miss ↦ miss.1 ∙ taken.taken j d less (λ i up low same. later i up (omega arith) same)
+            elim (at_set now n (number_of f (slice_index_or opened j d).page) row [] place) [
+              | inl hit ↦ absurd (later k less (omega arith) (subst (λ (q : OpenedPage). IsTreeOf f q.page.tree) (sym (this d)) own)
+                  (ap (λ (q : OpenedPage). number_of f q.page) (this d) ∙ sym number ∙ sym hit.0))
+              | inr miss ↦ miss.1 ∙ taken.taken j d less own_j (λ i up low own_i same. later i up (omega arith) own_i same)
             ]
       ];
       others = λ m none. elim (at_set now n m row [] place) [
-        | inl hit ↦ absurd (none k o (omega arith) (ap (λ (q : OpenedPage). number_of height q.page) (this o) ∙ sym number ∙ sym hit.0))
-        | inr miss ↦ miss.1 ∙ taken.others m (λ i d low same. none i d (omega arith) same)
+        | inl hit ↦ absurd (none k o (omega arith) own' (ap (λ (q : OpenedPage). number_of f q.page) (this o) ∙ sym number ∙ sym hit.0))
+        | inr miss ↦ miss.1 ∙ taken.others m (λ i d low own_i same. none i d (omega arith) own_i same)
       ];
     }
 
-pub taken_none : (height : ℕ) (opened : List OpenedPage) (old : List (List Mapping)) → IsTakenOver height opened 0 old old
-taken_none height opened old = record { size = refl; width = λ wide. wide; taken = λ k d below later. absurd (omega arith); others = λ n none. refl }
+-- a page of another zone's trees is passed over
+pub taken_past : (f : Forest) (k : ℕ) (opened : List OpenedPage) (old now : List (List Mapping)) (o : OpenedPage)
+    → IsTakenOver f opened k old now → o ≡ slice_index_or opened k o → k < length opened → (IsTreeOf f o.page.tree → ⊥) → IsTakenOver f opened (k + 1) old now
+taken_past f k opened old now o taken o_is inside foreign =
+    let other : (j : ℕ) (d : OpenedPage) → j < k + 1 → IsTreeOf f (slice_index_or opened j d).page.tree → j < k =
+    λ j d below own. elim (eqb_tells j k) [
+      | inl same ↦ absurd (foreign (subst (λ (q : OpenedPage). IsTreeOf f q.page.tree)
+          (ap (λ (i : ℕ). slice_index_or opened i d) same.1 ∙ get_or_default opened k d o inside ∙ sym o_is) own))
+      | inr before ↦ let b = before.1 in omega arith
+    ] in
+    record {
+      size = taken.size;
+      held = taken.held;
+      taken = λ j d below own later. taken.taken j d (other j d below own) own (λ i up low own_i same. later i up (omega arith) own_i same);
+      others = λ m none. taken.others m (λ i d low own_i same. none i d (omega arith) own_i same);
+    }
 
-blank_width : (count : ℕ) → All (λ row. length row ≡ 812) (replicate count blank)
-unfolding blank
-blank_width count k d below =
-    ap length (get_or-replicate count k blank d (let size = length-replicate count blank in omega arith)) ∙ length-replicate 812 Unmapped
+pub taken_none : (f : Forest) (opened : List OpenedPage) (old : List (List Mapping)) → IsTakenOver f opened 0 old old
+taken_none f opened old =
+    record { size = refl; held = λ all. all; taken = λ k d below own later. absurd (omega arith); others = λ n none. refl }
 
 blank_slot : (count n slot : ℕ) → slice_index_or (slice_index_or (replicate count blank) n []) slot Unmapped ≡ Unmapped
 unfolding blank
@@ -76,46 +95,174 @@ blank_slot count n slot =
           ∙ get_or-replicate_past 812 slot Unmapped
     ]
 
-pub opening : (g : Geometry) (opened : List OpenedPage) (count : ℕ) (rows pages : List (List Mapping)) (marks : List Marks) → IsGeometry g → IsOpened g opened
-    → count ≤ most_pages g.height → ((page : PageId) → IsOnPath g page → 1 ≤ page.level → number_of g.height page < count)
-    → rows ≡ replicate count blank → IsTakenOver g.height opened (length opened) rows pages → marks ≡ replicate count clean
-    → IsOpening g opened (record { geometry = g; pages = pages; marks = marks })
-opening g opened count rows pages marks sizes is_opened most paths rows_are taken marks_are =
-    let tree : Tree = record { geometry = g; pages = pages; marks = marks } in
+blank_held : (f : Forest) (count : ℕ) → All (AreHeld f.geometry 1) (replicate count blank)
+unfolding blank
+blank_held f count = All-replicate (AreHeld f.geometry 1) count blank (held_unmapped f.geometry 1)
+
+-- whether a page is one of a list
+listed_or_not : (opened : List OpenedPage) (page : PageId) → IsListed opened page ⊎ (IsListed opened page → ⊥)
+listed_or_not [] page = inr (λ listed. omega (arith, listed.1.1))
+listed_or_not (o ∷ opened) page =
+    elim (same_or_not o.page page) [
+      | inl here ↦ inl (o, (0, omega arith, refl), here)
+      | inr other ↦ elim (listed_or_not opened page) [
+        | inl behind ↦ inl (behind.0, (suc behind.1.0, omega (arith, behind.1.1), behind.1.2), behind.2)
+        | inr none ↦ inr (λ listed. not_here o opened page other none listed.0 listed.1.0 listed.1.1 listed.1.2 listed.2)
+      ]
+    ]
+  where
+    not_here : (o : OpenedPage) (opened : List OpenedPage) (page : PageId) → o.page ≢ page → (IsListed opened page → ⊥) → (p : OpenedPage) (k : ℕ) → k < length (o ∷ opened)
+        → slice_index_or (o ∷ opened) k p ≡ p → p.page ≡ page → ⊥
+    not_here o opened page other none p zero inside is named = other (ap (λ (q : OpenedPage). q.page) is ∙ named)
+    not_here o opened page other none p (suc k) inside is named = none (p, (k, omega arith, is), named)
+
+-- there are enough rows at height 2
+pub enough_roots : (f : Forest) (opened : List OpenedPage) → IsForest f → All (λ o. IsTreeOf f o.page.tree → IsInner f o.page) opened
+    → f.geometry.height ≡ 2 → AreEnough f opened 1
+enough_roots f opened forest inner two =
+    let row : (page : PageId) → IsInner f page → row_of f page < 1 = λ page is. elim is.there [
+      | inl root ↦ let r = row_root f page root in omega arith
+      | inr lower ↦ absurd (let l = lower.level in let one = is.level in omega arith)
+    ] in
+    record {
+      most = omega arith;
+      paths = λ page on level. row_on_path f page 1 forest on level (omega arith) (λ three. absurd (omega arith));
+      opened_too = λ k d inside own. row (slice_index_or opened k d).page (inner k d inside own);
+    }
+
+-- and at height 3 once all pages are looked at
+pub enough_rows : (f : Forest) (opened : List OpenedPage) (rows : ℕ) → IsForest f → All (λ o. IsTreeOf f o.page.tree → IsInner f o.page) opened
+    → f.geometry.height ≢ 2 → rows ≤ 813 → (f.geometry.logical - 1) / 812 / 60 / 812 + 1 < rows
+    → ((k : ℕ) (d : OpenedPage) → k < length opened → IsTreeOf f (slice_index_or opened k d).page.tree → (slice_index_or opened k d).page.level ≡ 1
+    → (slice_index_or opened k d).page.index + 1 < rows) → AreEnough f opened rows
+enough_rows f opened rows forest inner two most logical listed =
+    let heights = forest.sizes.height in
+    let three : f.geometry.height ≡ 3 = omega arith in
+    record {
+      most = omega arith;
+      paths = λ page on level. row_on_path f page rows forest on level (omega arith) (λ is. logical);
+      opened_too = λ k d inside own.
+          let page = (slice_index_or opened k d).page in
+          let is = inner k d inside own in
+          elim is.there [
+            | inl root ↦ let r = row_root f page root in omega arith
+            | inr lower ↦
+                let m = middle f page forest is.level lower in
+                let r = row_lower f page lower in
+                let i = listed k d inside own m.1 in
+                omega arith
+          ];
+    }
+
+pub numbers_inside : (f : Forest) (opened : List OpenedPage) (rows count : ℕ) → IsForest f → AreEnough f opened rows → count ≡ rows * trees_of f
+    → (count ≤ most_rows f.geometry.height * trees_of f) × ((page : PageId) → IsOnPath f page → 1 ≤ page.level → number_of f page < count)
+    × All (λ o. IsTreeOf f o.page.tree → number_of f o.page < count) opened
+numbers_inside f opened rows count forest enough is = (
+  subst (λ (n : ℕ). n ≤ most_rows f.geometry.height * trees_of f) (sym is) (mul-le-mul_right {m = rows} {n = most_rows f.geometry.height} (trees_of f) enough.most),
+  (λ page on level. subst (λ (n : ℕ). number_of f page < n) (sym is) (in_row f page rows forest on.tree (enough.paths page on level))),
+  λ k d inside own. subst (λ (n : ℕ). number_of f (slice_index_or opened k d).page < n) (sym is)
+      (in_row f (slice_index_or opened k d).page rows forest own (enough.opened_too k d inside own)),
+)
+
+pub opening : (f : Forest) (opened : List OpenedPage) (count : ℕ) (rows pages : List (List Mapping)) (marks : List Marks) → IsForest f → IsOpened f opened
+    → count ≤ most_rows f.geometry.height * trees_of f → ((page : PageId) → IsOnPath f page → 1 ≤ page.level → number_of f page < count)
+    → rows ≡ replicate count blank → IsTakenOver f opened (length opened) rows pages → marks ≡ replicate count clean
+    → IsOpening f opened (record { forest = f; pages = pages; marks = marks })
+opening f opened count rows pages marks forest is_opened most paths rows_are taken marks_are =
+    let tree : Tree = record { forest = f; pages = pages; marks = marks } in
     let wide : length pages ≡ count = taken.size ∙ ap length rows_are ∙ length-replicate count blank in
     let marked : length marks ≡ count = ap length marks_are ∙ length-replicate count clean in
-    let no_marks : (page : PageId) → slice_index_or marks (number_of g.height page) clean ≡ clean =
-    λ page. ap (λ (m : List Marks). slice_index_or m (number_of g.height page) clean) marks_are ∙ get_or-replicate_past count (number_of g.height page) clean in
-    let whole : (k : ℕ) (d : OpenedPage) → k < length opened → mappings_of tree (slice_index_or opened k d).page ≡ (slice_index_or opened k d).mappings =
-    λ k d below. taken.taken k d below (λ j later inside same. is_opened.once k j d later inside
-    (one_number g (slice_index_or opened k d).page (slice_index_or opened j d).page sizes (is_opened.inner k d below) (is_opened.inner j d inside) (sym same))) in
+    let no_marks : (number : ℕ) → marks_at marks number ≡ clean =
+    λ number. ap (λ (m : List Marks). marks_at m number) marks_are ∙ get_or-replicate_past count number clean in
+    let whole : (k : ℕ) (d : OpenedPage) → k < length opened → IsTreeOf f (slice_index_or opened k d).page.tree
+    → mappings_of tree (slice_index_or opened k d).page ≡ (slice_index_or opened k d).mappings =
+    λ k d below own. taken.taken k d below own (λ j later inside own_j same. is_opened.once k j d later inside
+    (one_number f (slice_index_or opened k d).page (slice_index_or opened j d).page forest (is_opened.inner k d below own) (is_opened.inner j d inside own_j) (sym same))) in
+    let listed : (o : OpenedPage) → Contains opened o → IsTreeOf f o.page.tree → mappings_of tree o.page ≡ o.mappings =
+    λ o there own. subst (λ (q : OpenedPage). mappings_of tree q.page ≡ q.mappings) there.2
+    (whole there.0 o there.1 (subst (λ (q : OpenedPage). IsTreeOf f q.page.tree) (sym there.2) own)) in
+    let empty : (page : PageId) (slot : ℕ) → IsInner f page → (IsListed opened page → ⊥) → mapping_of tree page slot ≡ Unmapped =
+    λ page slot inner none.
+    let n = number_of f page in
+    let row : slice_index_or pages n [] ≡ slice_index_or rows n [] =
+    taken.others n (λ k d below own same. none (
+      slice_index_or opened k d,
+      (k, below, get_or_default opened k (slice_index_or opened k d) d below),
+      one_number f (slice_index_or opened k d).page page forest (is_opened.inner k d below own) inner same,
+    )) in
+    ap (λ (r : List Mapping). slice_index_or r slot Unmapped) row
+    ∙ ap (λ (all : List (List Mapping)). slice_index_or (slice_index_or all n []) slot Unmapped) rows_are ∙ blank_slot count n slot in
     record {
-      geometry = refl;
+      forest = refl;
       form = record {
-        sizes = sizes;
+        forest = forest;
         room = λ page on level. let p = paths page on level in omega arith;
-        most = omega arith;
-        width = taken.width (subst (λ (r : List (List Mapping)). All (λ row. length row ≡ 812) r) (sym rows_are) (blank_width count));
+        most = let m = most in subst (λ (n : ℕ). n ≤ most_rows f.geometry.height * trees_of f) (sym wide) m;
+        held = taken.held (subst (λ (r : List (List Mapping)). All (AreHeld f.geometry 1) r) (sym rows_are) (blank_held f count));
         marks = marked ∙ sym wide;
-        there = λ page point inner has. absurd (elim (subst (λ (m : Marks). HasPoint m point) (no_marks page) has) [
-          | by_change e ↦ (let wrong : None ≡ Some point = e in cc)
-          | by_writing e ↦ (let wrong : None ≡ Some point = e in cc)
-        ]);
+        there = λ page point inner has. absurd (elim (subst (λ (m : Marks). HasPoint m point) (no_marks (number_of f page)) has) [ inl dirty ↦ cc | inr writing ↦ cc ]);
       };
       taken = whole;
-      placed = λ k d below. elim (is_opened.placed k d below) [
-        | placed_root r e ↦ as_root r e
-        | placed_below l j parent inside is page leads ↦
-            let row : mappings_of tree (above (slice_index_or opened k d).page) ≡ parent.mappings =
-            ap (λ (p : PageId). mappings_of tree p) (sym page) ∙ ap (λ (o : OpenedPage). mappings_of tree o.page) is ∙ whole j parent inside
-            ∙ ap (λ (o : OpenedPage). o.mappings) (sym is) in
-            by_link l (ap (λ (r : List Mapping). slice_index_or r (slot_of (slice_index_or opened k d).page) Unmapped) row ∙ leads)
+      placed = λ k d below own.
+          let o = slice_index_or opened k d in
+          elim (is_opened.placed k d below own) [
+            | inl root ↦ as_root root.0 root.1
+            | inr low ↦
+                let parent = low.1.parent in
+                let own' : IsTreeOf f parent.page.tree = subst (λ (p : PageId). IsTreeOf f p.tree) (sym low.1.named) own in
+                let row : mappings_of tree (above o.page) ≡ parent.mappings = ap (λ (p : PageId). mappings_of tree p) (sym low.1.named) ∙ listed parent low.1.listed own' in
+                by_link low.0 (ap (λ (r : List Mapping). slice_index_or r (slot_of o.page) Unmapped) row ∙ low.1.leads)
+          ];
+      only = λ page inner there. elim there.stands [
+        | as_root root e ↦ is_opened.roots page root
+        | by_link lower e ↦ elim (listed_or_not opened (above page)) [
+          | inl parent ↦
+              let own : IsTreeOf f parent.0.page.tree = subst (λ (p : PageId). IsTreeOf f p.tree) (sym parent.2) lower.tree in
+              let row : mappings_of tree (above page) ≡ parent.0.mappings = ap (λ (p : PageId). mappings_of tree p) (sym parent.2) ∙ listed parent.0 parent.1 own in
+              is_opened.linked page there.at inner (record {
+                parent = parent.0;
+                listed = parent.1;
+                named = parent.2;
+                leads = ap (λ (r : List Mapping). slice_index_or r (slot_of page) Unmapped) (sym row) ∙ e;
+              })
+          | inr none ↦ absurd (let unmapped = empty (above page) (slot_of page) (above_inner f page forest lower) none in cc)
+        ]
       ];
-      empty = λ page slot inner none.
-          let n = number_of g.height page in
-          let row : slice_index_or pages n [] ≡ slice_index_or rows n [] =
-          taken.others n (λ k d below same. none k d below (one_number g (slice_index_or opened k d).page page sizes (is_opened.inner k d below) inner same)) in
-          ap (λ (r : List Mapping). slice_index_or r slot Unmapped) row
-          ∙ ap (λ (all : List (List Mapping)). slice_index_or (slice_index_or all n []) slot Unmapped) rows_are ∙ blank_slot count n slot;
-      unmarked = no_marks;
+      empty = empty;
+      clean = no_marks;
     }
+
+-- what is opened of all trees is opened of those of a zone
+back_root : (f : Forest) (page : PageId) → IsTreeOf f page.tree → IsRoot (all_trees f.geometry) page → IsRoot f page
+back_root f page own root = record { tree = own; level = root.level; index = root.index }
+
+back_lower : (f : Forest) (page : PageId) → IsTreeOf f page.tree → IsLower (all_trees f.geometry) page → IsLower f page
+back_lower f page own lower = record { tree = own; level = lower.level; index = lower.index }
+
+of_all : (f : Forest) (tree : ℕ) → IsTreeOf f tree → IsTreeOf (all_trees f.geometry) tree
+of_all f tree own = record { inside = own.inside; own = omega arith }
+
+on_root : (f : Forest) (page : PageId) → IsRoot f page → IsRoot (all_trees f.geometry) page
+on_root f page root = record { tree = of_all f page.tree root.tree; level = root.level; index = root.index }
+
+pub opened_in_zone : (f : Forest) (opened : List OpenedPage) → IsOpened (all_trees f.geometry) opened → IsOpened f opened
+opened_in_zone f opened all = record {
+  once = all.once;
+  inner = λ k d inside own.
+      let is = all.inner k d inside (of_all f _ own) in
+      record { level = is.level; there = elim is.there [ inl root ↦ inl (back_root f _ own root) | inr lower ↦ inr (back_lower f _ own lower) ] };
+  placed = λ k d inside own. elim (all.placed k d inside (of_all f _ own)) [
+    | inl root ↦ inl (back_root f _ own root.0, root.1)
+    | inr lower ↦ inr (back_lower f _ own lower.0, lower.1)
+  ];
+  held = λ k d inside own. all.held k d inside (of_all f _ own);
+  roots = λ page root. all.roots page (on_root f page root);
+  linked = λ page at inner led. all.linked page at
+      (record {
+        level = inner.level;
+        there = elim inner.there [
+          | inl root ↦ inl (on_root f page root)
+          | inr lower ↦ inr (record { tree = of_all f page.tree lower.tree; level = lower.level; index = lower.index })
+        ];
+      }) led;
+}

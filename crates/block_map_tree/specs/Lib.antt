@@ -1,5 +1,4 @@
 pub mod Pages
 pub mod Tree
-pub mod Scans
-pub mod History
 pub mod Opening
+pub mod History

@@ -1,32 +1,34 @@
 -- The pages of the block map's trees, and which of them lead to an address.
 use Rattle.std.specs.Prelude.{ℕ, zero, suc, ◌≡◌, ◌<◌, ◌≤◌, ◌+◌, ◌-◌, ◌*◌, ◌/◌, ◌%◌, ◌^◌, ◌⊎◌, List, [], ◌∷◌, ◌++◌, length, take, All}
+use Rattle.blk_base.specs.declared.sizes.TheConstants.{PAGE_SLOTS, TREES}
 use Rattle.blk_base.specs.declared.place.PageId.{PageId}
-use Rattle.blk_base.specs.declared.geometry.Geometry.{Geometry}
+use Rattle.blk_base.specs.Limits.{IsGeometry}
+use Rattle.block_map_tree.specs.declared.forms.Forest.{Forest}
 use Rattle.block_map_tree.specs.declared.forms.Path.{Path}
 
 -- so many digits of a number in base 812, the highest first
 abbrev pub digits_of : ℕ → ℕ → List ℕ
 digits_of zero q = []
-digits_of (suc n) q = digits_of n (q / 812) ++ (q % 812) ∷ []
+digits_of (suc n) q = digits_of n (q / PAGE_SLOTS) ++ (q % PAGE_SLOTS) ∷ []
 
 -- the number that these digits in base 812 spell, behind those that spell the first argument
 abbrev pub spelled_behind : ℕ → List ℕ → ℕ
 spelled_behind n [] = n
-spelled_behind n (digit ∷ digits) = spelled_behind (n * 812 + digit) digits
+spelled_behind n (digit ∷ digits) = spelled_behind (n * PAGE_SLOTS + digit) digits
 
 -- The path of an address. Its leaf is the page number p = address / 812 of all leaves, which go round the 60 trees. The
 -- slots lead from the root down: the digits of p / 60, and then the slot in the leaf.
 abbrev pub path_of : ℕ → ℕ → Path
 path_of height address = record {
-  tree = address / 812 % 60;
-  slots = digits_of (height - 1) (address / 812 / 60) ++ (address % 812) ∷ [];
+  tree = address / PAGE_SLOTS % TREES;
+  slots = digits_of (height - 1) (address / PAGE_SLOTS / TREES) ++ (address % PAGE_SLOTS) ∷ [];
 }
 
 -- a path in trees of this height
 pub record IsPath (height : ℕ) (path : Path) : Type 0 where
-  pub tree : path.tree < 60
+  pub tree : path.tree < TREES
   pub count : length path.slots ≡ height
-  pub slots : All (λ slot. slot < 812) path.slots
+  pub slots : All (λ slot. slot < PAGE_SLOTS) path.slots
 
 -- the page of a level to which a path leads
 abbrev pub page_on : Path → ℕ → ℕ → PageId
@@ -39,38 +41,50 @@ page_on path height level = record {
 -- the page of a level above an address
 abbrev pub page_at : ℕ → ℕ → PageId
 page_at level address = record {
-  tree = address / 812 % 60;
+  tree = address / PAGE_SLOTS % TREES;
   level = level;
-  index = address / 812 / 60 / 812 ^ level;
+  index = address / PAGE_SLOTS / TREES / PAGE_SLOTS ^ level;
 }
 
+-- an image's sizes within their limits, and one of its zones
+pub record IsForest (f : Forest) : Type 0 where
+  pub sizes : IsGeometry f.geometry
+  pub zone : f.zone < f.zones
+  pub zones : f.zones ≤ TREES
+
+-- the zone has this tree
+pub record IsTreeOf (f : Forest) (tree : ℕ) : Type 0 where
+  pub inside : tree < TREES
+  pub own : tree % f.zones ≡ f.zone
+
 -- it is above an address of the logical size, or its leaf
-pub record IsOnPath (g : Geometry) (page : PageId) : Type 0 where
+pub record IsOnPath (f : Forest) (page : PageId) : Type 0 where
   pub address : ℕ
-  pub inside : address < g.logical
-  pub level : page.level < g.height
+  pub inside : address < f.geometry.logical
+  pub level : page.level < f.geometry.height
   pub there : page ≡ page_at page.level address
+  pub tree : IsTreeOf f page.tree
 
 -- the root of a tree
-pub record IsRoot (g : Geometry) (page : PageId) : Type 0 where
-  pub tree : page.tree < 60
-  pub level : page.level + 1 ≡ g.height
+pub record IsRoot (f : Forest) (page : PageId) : Type 0 where
+  pub tree : IsTreeOf f page.tree
+  pub level : page.level + 1 ≡ f.geometry.height
   pub index : page.index ≡ 0
 
 -- a page below a root, which has 812 pages of the next level, and each of these 812 again
-pub record IsLower (g : Geometry) (page : PageId) : Type 0 where
-  pub tree : page.tree < 60
-  pub level : page.level + 1 < g.height
-  pub index : page.index < 812 ^ (g.height - 1 - page.level)
+pub record IsLower (f : Forest) (page : PageId) : Type 0 where
+  pub tree : IsTreeOf f page.tree
+  pub level : page.level + 1 < f.geometry.height
+  pub index : page.index < PAGE_SLOTS ^ (f.geometry.height - 1 - page.level)
 
 -- a page whose slots lead to other pages: one that is no leaf
-pub record IsInner (g : Geometry) (page : PageId) : Type 0 where
+pub record IsInner (f : Forest) (page : PageId) : Type 0 where
   pub level : 1 ≤ page.level
-  pub there : IsRoot g page ⊎ IsLower g page
+  pub there : IsRoot f page ⊎ IsLower f page
 
 -- the page that leads to a page that is no root, and the slot there
 abbrev pub above : PageId → PageId
-above page = record { tree = page.tree; level = page.level + 1; index = page.index / 812 }
+above page = record { tree = page.tree; level = page.level + 1; index = page.index / PAGE_SLOTS }
 
 abbrev pub slot_of : PageId → ℕ
-slot_of page = page.index % 812
+slot_of page = page.index % PAGE_SLOTS

@@ -1,6 +1,5 @@
 use crate::Slots;
-use blk_base::{PageId, Pbn};
-use page_codec::Mappings;
+use blk_base::{Geometry, Pbn};
 
 /// Which slots lead to an address: of which tree, and from its root down. The last one is the slot in the leaf.
 #[derive(Drop)]
@@ -20,10 +19,12 @@ pub enum Found {
     Missing(u8),
 }
 
-/// A page of an image that is no leaf, as it was read: which one, its block, and what its slots lead to.
-#[derive(Drop)]
-pub struct OpenedPage {
-    pub page: PageId,
-    pub at: Pbn,
-    pub mappings: Mappings,
+/// Which trees of an image a zone has: each one whose number leaves that of the zone by the number of zones.
+#[derive(Clone, Copy, Debug, PartialEq, Eq)]
+pub struct Forest {
+    pub geometry: Geometry,
+    /// Below the number of zones.
+    pub zone: u32,
+    /// 1 to 60.
+    pub zones: u32,
 }

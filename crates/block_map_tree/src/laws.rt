@@ -3,16 +3,29 @@ ghost use Rattle.blk_base.specs.declared.place.PageId.{PageId};
 ghost use Rattle.blk_base.specs.declared.place.Pbn.{Pbn};
 ghost use Rattle.blk_base.specs.declared.point.Point.{Point};
 ghost use Rattle.page_codec.specs.declared.forms.MapPage.{MapPage};
+ghost use Rattle.blk_base.specs.declared.opened.OpenedPage.{OpenedPage};
+ghost use Rattle.block_map_tree.specs.declared.forms.Forest.{Forest};
 ghost use Rattle.block_map_tree.specs.declared.forms.Found.{Found};
 ghost use Rattle.block_map_tree.specs.declared.forms.Found.TheVariants.{Missing};
 ghost use Rattle.block_map_tree.specs.declared.forms.Path.{Path};
-ghost use Rattle.block_map_tree.specs.Pages.{above, page_on, page_at};
-ghost use Rattle.block_map_tree.specs.Tree.{Tree, IsTree, IsAt, IsThere, IsFound, IsLinkable, Links, Expires, IsWriting, Writes, IsLowPoint, IsWritten};
-ghost use Rattle.block_map_tree.specs.History.{Event, LeadTo, IsWaiting, IsUnwritten, IsChangedSince};
+ghost use Rattle.block_map_tree.specs.Pages.{IsTreeOf, IsRoot, above, page_on, page_at};
+ghost use Rattle.block_map_tree.specs.Tree.{Tree, IsTree, IsAt, IsThere, IsFound, IsLinkable, Links, Expires, IsWriting, Writes, marks_of};
+ghost use Rattle.block_map_tree.specs.Opening.{IsOpened, all_trees};
+ghost use Rattle.block_map_tree.specs.History.{Call, LeadTo, events_of};
+ghost use Rattle.blk_base.specs.Regions.{IsDataBlock};
+ghost use Rattle.dirty_pages.specs.Marks.{IsLowPoint, AreClean};
+ghost use Rattle.dirty_pages.specs.History.{IsWaiting, IsUnwritten, IsUnreported, AtMost};
 
-/// A page stands at one block, and a path leads to one thing.
+/// What is opened of all trees of an image is opened of those of each zone.
+pub fn an_image_is_opened_by_zones()
+    ensures { (f : Forest) (opened : List OpenedPage) → IsOpened (all_trees f.geometry) opened → IsOpened f opened }
+{}
+
+/// A page stands at one block, which is a data block for one that is no root, and a path leads to one thing.
 pub fn a_walk_finds_one_thing()
     ensures place { (tree : Tree) (page : PageId) (at other : Pbn) → IsAt tree page at → IsAt tree page other → at ≡ other }
+    ensures block { (tree : Tree) (page : PageId) (at : Pbn) → IsTree tree → (IsRoot tree.forest page → ⊥) → IsAt tree page at
+        → IsDataBlock tree.forest.geometry at.0 }
     ensures walk { (tree : Tree) (path : Path) (found other : Found) → IsFound tree path found → IsFound tree path other → found ≡ other }
 {}
 
@@ -29,31 +42,28 @@ pub fn a_link_adds_one_page()
 
 /// The highest page that the path of an address misses may be linked: it is no root, and the page above it is there.
 pub fn a_missing_page_may_be_linked()
-    ensures { (tree : Tree) (path : Path) (address level : ℕ) → IsTree tree → address < tree.geometry.logical
-        → ((l : ℕ) → l < tree.geometry.height → page_on path tree.geometry.height l ≡ page_at l address) → IsFound tree path (Missing level)
+    ensures { (tree : Tree) (path : Path) (address level : ℕ) → IsTree tree → address < tree.forest.geometry.logical
+        → IsTreeOf tree.forest path.tree → ((l : ℕ) → l < tree.forest.geometry.height → page_on path tree.forest.geometry.height l ≡ page_at l address) → IsFound tree path (Missing level)
         → IsLinkable tree (page_at level address) × IsThere tree (above (page_at level address)) }
 {}
 
-/// A page that was handed out is to be reported once: it stays so over links, and over the hand-out and the report of other
-/// pages.
+/// A page that was handed out is being written until it is reported: over all calls from any tree on, and so it isn't
+/// handed out again before.
 pub fn a_page_is_out_until_it_is_written()
     ensures taken { (old new : Tree) (page : PageId) (point : Point) (into : MapPage) → Expires old new point page into → IsWriting new page }
-    ensures link { (old new : Tree) (page : PageId) (at : Pbn) (point : Point) → IsTree old → IsLinkable old page → Links old new page at point
-        → (out : PageId) → IsWriting old out → IsWriting new out }
-    ensures other { (old new : Tree) (page : PageId) (point : Point) (into : MapPage) → Expires old new point page into
-        → (out : PageId) → IsWriting old out → IsWriting new out × (out ≡ page → ⊥) }
-    ensures written { (old new : Tree) (page : PageId) → IsTree old → IsWriting old page → Writes old new page
-        → (out : PageId) → (out ≡ page → ⊥) → IsWriting old out → IsWriting new out }
+    ensures kept { (old new : Tree) (calls : List Call) (page : PageId) → IsTree old → LeadTo old calls new
+        → IsUnreported (events_of calls) page → IsWriting old page → IsWriting new page }
+    ensures idle { (old new : Tree) (page : PageId) (point : Point) (into : MapPage) → Expires old new point page into → IsWriting old page → ⊥ }
 {}
 
 /// A link is kept until it is on the device: over all calls from any tree on, one that was made since and isn't written
-/// since it was handed out isn't below the low point, and the page that it changed will be handed out again unless it was
+/// since the page above was handed out isn't below the low point, and that page will be handed out again unless it was
 /// handed out since.
 pub fn no_link_is_lost()
-    ensures low { (old new : Tree) (events : List Event) (page : PageId) (point low : Point) → IsTree old → LeadTo old events new
-        → IsUnwritten events page point → IsLowPoint new low → low.0 ≤ point.0 }
-    ensures some { (old new : Tree) (events : List Event) (page : PageId) (point : Point) → IsTree old → LeadTo old events new
-        → IsUnwritten events page point → IsWritten new → ⊥ }
-    ensures kept { (old new : Tree) (events : List Event) (page : PageId) (point : Point) → IsTree old → LeadTo old events new
-        → IsWaiting events page point → IsChangedSince new (above page) point }
+    ensures low { (old new : Tree) (calls : List Call) (page : PageId) (point low : Point) → IsTree old → LeadTo old calls new
+        → IsUnwritten (events_of calls) page point → IsLowPoint new.marks low → low.0 ≤ point.0 }
+    ensures some { (old new : Tree) (calls : List Call) (page : PageId) (point : Point) → IsTree old → LeadTo old calls new
+        → IsUnwritten (events_of calls) page point → AreClean new.marks → ⊥ }
+    ensures kept { (old new : Tree) (calls : List Call) (page : PageId) (point : Point) → IsTree old → LeadTo old calls new
+        → IsWaiting (events_of calls) page point → AtMost (marks_of new page).dirty point }
 {}

@@ -1,6 +1,6 @@
-//! The trees of the block map: their pages that are no leaves, held in memory.
+//! The trees of the block map that one zone has: their pages that are no leaves, held in memory.
 //!
-//! Each of the 60 trees has a root, which stands at a block of its own from the start (docs/DESIGN.md, "Layout"). A page
+//! Each of the 60 trees is of the zone with its number by the number of zones. It has a root, which stands at a block of its own from the start (docs/DESIGN.md, "Layout"). A page
 //! has 812 slots. The slots of a leaf are those of addresses, and those of a page above lead to the pages below it. A
 //! page that nothing leads to isn't there yet. Leaves have level 0, roots the level height - 1.
 //!
@@ -16,17 +16,16 @@
 
 mod forms;
 mod laws;
-mod marks;
 mod nodes;
 mod numbers;
 mod opening;
 mod paths;
 mod slots;
 
-pub use forms::{Found, OpenedPage, Path};
+pub use forms::{Forest, Found, Path};
 pub use laws::{
     a_link_adds_one_page, a_missing_page_may_be_linked, a_page_is_out_until_it_is_written,
-    a_walk_finds_one_thing, no_link_is_lost,
+    a_walk_finds_one_thing, an_image_is_opened_by_zones, no_link_is_lost,
 };
 pub use nodes::TreeNodes;
 pub use paths::path;

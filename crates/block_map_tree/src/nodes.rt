@@ -3,29 +3,32 @@ ghost use Rattle.blk_base.specs.declared.place.Pbn.{Pbn};
 ghost use Rattle.blk_base.specs.declared.point.Point.{Point};
 ghost use Rattle.blk_base.specs.declared.place.PageId.{PageId};
 ghost use Rattle.blk_base.specs.Limits.{IsGeometry};
-ghost use Rattle.block_map_tree.specs.Pages.{IsPath, above};
-ghost use Rattle.block_map_tree.specs.Tree.{IsOpened, IsOpening, IsAt, IsThere, IsFound, IsLinkable, Links, IsDue, Expires, IsWriting, Writes, IsWritten, IsLowPoint, mapping_of};
+ghost use Rattle.blk_base.specs.Regions.{IsDataBlock};
+ghost use Rattle.dirty_pages.specs.Marks.{NoneIsDue, IsLowPoint, AreClean};
+ghost use Rattle.block_map_tree.specs.Pages.{IsTreeOf, IsPath, above};
+ghost use Rattle.block_map_tree.specs.Tree.{IsAt, IsThere, IsFound, IsLinkable, Links, Expires, IsWriting, Writes, mapping_of};
+ghost use Rattle.block_map_tree.specs.Opening.{IsOpened, IsOpening, forest_of};
 
-use crate::marks::{Marks, first_due, least_point, with_point};
-use crate::numbers::{SLOTS, TREES, number, page_above, page_numbered, slot, width};
-use crate::opening::{blank_pages, clean_marks, count_pages, take_over};
-use crate::{Found, OpenedPage, Path};
-use blk_base::{Geometry, Layout, Mapping, PageId, Pbn, Point};
-use page_codec::{MapPage, Mappings, PageHead};
+use crate::numbers::{SLOTS, has_tree, number, page_above, page_numbered, slot, width};
+use crate::opening::{blank_pages, count_pages, take_over};
+use crate::{Forest, Found, Path};
+use blk_base::{Layout, Mapping, Mappings, Opened, PageId, Pbn, Point};
+use dirty_pages::DirtyPages;
+use page_codec::{MapPage, PageHead};
 use std::alloc::{AllocError, Global};
 use std::marker::Model;
 
-/// The pages of the block map that are no leaves: which pages there are, at which blocks, and which of the links isn't on
+/// The pages of a zone's trees that are no leaves: which pages there are, at which blocks, and which of the links isn't on
 /// the device yet.
 ///
 /// A page that a link changed is handed out to be written, and reported when that is on the device. Links that come in
 /// between are kept for the next time.
 #[derive(Drop)]
 pub struct TreeNodes {
-    geometry: Geometry,
+    forest: Forest,
     // By number: a page that isn't there leads nowhere.
     pages: Vec<Mappings>,
-    marks: Vec<Marks>,
+    marks: DirtyPages,
 }
 
 impl Model for TreeNodes {
@@ -33,46 +36,56 @@ impl Model for TreeNodes {
 
     ghost Value = { Tree };
 
-    ghost view = { λ t. record { geometry = t.geometry; pages = t.pages.items; marks = t.marks.items } };
+    ghost view = { λ t. record { forest = t.forest; pages = t.pages.items; marks = t.marks } };
 
-    ghost invariant = { λ t. IsTree (record { geometry = t.geometry; pages = t.pages.items; marks = t.marks.items }) };
+    ghost invariant = { λ t. IsTree (record { forest = t.forest; pages = t.pages.items; marks = t.marks }) };
 }
 
 impl TreeNodes {
-    /// The pages of an image with these sizes, which are within their limits: its roots, and each page that is linked and no
-    /// leaf, once and at its block. It takes the room for every page that a later link can bring.
+    /// The trees that a zone has of an image, whose sizes are within their limits; there are 1 to 60 zones. The opened pages
+    /// of these trees are the roots and each page that is linked and no leaf, once and at its block. It takes the room for
+    /// every page that a later link to these trees can bring.
     pub fn from_opened(
         alloc: Global,
-        geometry: &Geometry,
-        opened: &[OpenedPage],
+        opened: &Opened,
+        zone: u32,
+        zones: u32,
     ) -> Result<TreeNodes, AllocError>
-        requires sizes { IsGeometry geometry.now }
-        requires opened { IsOpened geometry.now opened.now }
-        ensures { IfOk result (IsOpening geometry.now opened.now) }
+        requires sizes { IsGeometry opened.now.head.geometry }
+        requires zone { zone < zones }
+        requires zones { zones ≤ 60 }
+        requires opened { IsOpened (forest_of opened.now zone zones) opened.now.pages.items }
+        ensures { IfOk result (IsOpening (forest_of opened.now zone zones) opened.now.pages.items) }
     {
-        let count = count_pages(geometry, opened);
-        let marks = clean_marks(alloc, count)?;
+        let forest = Forest {
+            geometry: opened.head.geometry,
+            zone,
+            zones,
+        };
+        let count = count_pages(&forest, &opened.pages);
+        let marks = DirtyPages::new(alloc, count as u32)?;
         let mut pages = blank_pages(alloc, count)?;
-        take_over(&mut pages, opened, geometry.height);
+        take_over(&mut pages, &opened.pages, &forest);
         Ok(TreeNodes {
-            geometry: *geometry,
+            forest,
             pages,
             marks,
         })
     }
 
     /// Follows a path from its root down: to the leaf, or to the highest page that isn't there. The path is one for trees of
-    /// this height.
+    /// this height, and its tree is one of the zone's.
     pub fn find(&self, path: &Path) -> Found
-        requires { IsPath self.now.geometry.height path.now }
+        requires path { IsPath self.now.forest.geometry.height path.now }
+        requires tree { IsTreeOf self.now.forest path.now.tree }
         ensures { IsFound self.now path.now result }
     {
         let slots = path.slots.as_slice();
-        let mut found = Layout::of(&self.geometry).root(path.tree);
+        let mut found = Layout::of(&self.forest.geometry).root(path.tree);
         let mut index = 0;
-        for depth in 0..self.geometry.height - 1 {
+        for depth in 0..self.forest.geometry.height - 1 {
             index = index * SLOTS + u32::from(slots[depth as usize]);
-            let level = (self.geometry.height - 2 - depth) as u8;
+            let level = (self.forest.geometry.height - 2 - depth) as u8;
             let below = PageId {
                 tree: path.tree,
                 level,
@@ -86,38 +99,35 @@ impl TreeNodes {
         Found::Leaf(found)
     }
 
-    /// Links a page, which stands at this block from now on, at a point of the journal. The page is on a path of the logical
-    /// size, is no root, and the page above it is there. That page is then to be written.
+    /// Links a page, which stands at this data block from now on, at a point of the journal. The page is on a path of the
+    /// logical size, is no root, and the page above it is there. That page is then to be written.
     pub fn link(&mut self, page: PageId, at: Pbn, point: Point)
         requires page { IsLinkable self.old page }
         requires above { IsThere self.old (above page) }
+        requires at { IsDataBlock self.old.forest.geometry at.0 }
         ensures { Links self.old self.new page at point }
     {
-        let height = self.geometry.height;
-        let number = number(page_above(page), height);
-        let marks = self.marks[number];
-        set_mapping(&mut self.pages, number, slot(page), Mapping::At(at));
-        self.marks[number] = Marks {
-            changed: Some(with_point(marks.changed, point)),
-            writing: marks.writing,
-        };
+        let forest = self.forest;
+        let number = number(page_above(page), &forest);
+        self.pages[number].set(slot(page), Mapping::At(at));
+        self.marks.change(number, point);
     }
 
-    /// The block of a page; `None` exactly where the page is no root and isn't linked.
+    /// The block of a page; `None` exactly where the page is no root and isn't linked, or is of another zone's trees.
     pub fn at(&self, page: PageId) -> Option<Pbn>
         ensures some { IfSome result (IsAt self.now page) }
         ensures none { IfNone result ((at : Pbn) → IsAt self.now page at → ⊥) }
     {
-        let height = self.geometry.height;
+        let height = self.forest.geometry.height;
         let level = u32::from(page.level);
-        if u32::from(page.tree) >= TREES
+        if !has_tree(&self.forest, page.tree)
             || level >= height
             || page.index >= width(height - 1 - level)
         {
             return None;
         }
         if level + 1 == height {
-            return Some(Layout::of(&self.geometry).root(page.tree));
+            return Some(Layout::of(&self.forest.geometry).root(page.tree));
         }
         match self.mapping(page_above(page), slot(page)) {
             Mapping::At(at) => Some(at),
@@ -129,24 +139,20 @@ impl TreeNodes {
     /// handed out. `None` exactly where no page that isn't being written has such a point at or below `point`.
     pub fn take_expired(&mut self, point: Point, into: &mut MapPage) -> Option<PageId>
         ensures some { IfSome result (λ page. Expires self.old self.new point page into.new) }
-        ensures none { IfNone result ((page : PageId) (first : Point) → IsDue self.old page first point.0 → ⊥) }
+        ensures none { IfNone result (NoneIsDue self.old.marks point) }
         ensures same { IfNone result ((self.new ≡ self.old) × (into.new ≡ into.old)) }
     {
-        let due = first_due(&self.marks, point)?;
-        let page = page_numbered(due.number, self.geometry.height);
+        let number = self.marks.take_expired(point)?;
+        let page = page_numbered(number, &self.forest);
         let Some(at) = self.at(page) else {
             unreachable!()
         };
         into.head = PageHead {
-            geometry: self.geometry,
+            geometry: self.forest.geometry,
             page,
             at,
         };
-        into.mappings.copy_from(&self.pages[due.number]);
-        self.marks[due.number] = Marks {
-            changed: None,
-            writing: Some(due.first),
-        };
+        into.mappings.copy_from(&self.pages[number]);
         Some(page)
     }
 
@@ -155,16 +161,15 @@ impl TreeNodes {
         requires { IsWriting self.old page }
         ensures { Writes self.old self.new page }
     {
-        let number = number(page, self.geometry.height);
-        self.marks[number].writing = None;
+        self.marks.written(number(page, &self.forest));
     }
 
     /// The point below which no link is unwritten; `None` exactly where none is.
     pub fn low_point(&self) -> Option<Point>
-        ensures some { IfSome result (IsLowPoint self.now) }
-        ensures none { IfNone result (IsWritten self.now) }
+        ensures some { IfSome result (IsLowPoint self.now.marks) }
+        ensures none { IfNone result (AreClean self.now.marks) }
     {
-        least_point(&self.marks)
+        self.marks.low_point()
     }
 
     // What a slot of a page leads to.
@@ -172,18 +177,9 @@ impl TreeNodes {
         requires { slot < 812 }
         ensures { result ≡ mapping_of self.now page slot }
     {
-        match self.pages.get(number(page, self.geometry.height)) {
+        match self.pages.get(number(page, &self.forest)) {
             Some(mappings) => mappings.get(slot),
             None => Mapping::Unmapped,
         }
     }
-}
-
-// Lets a slot of a page lead there.
-fn set_mapping(pages: &mut Vec<Mappings>, number: usize, slot: u16, mapping: Mapping)
-    requires page { number < length pages.old.items }
-    requires slot { slot < 812 }
-    ensures { pages.new.items ≡ slice_set pages.old.items number (slice_set (slice_index_or pages.old.items number []) slot mapping) }
-{
-    pages[number].set(slot, mapping);
 }

@@ -1,36 +1,42 @@
-ghost use Rattle.std.specs.Prelude.{◌≡◌, ◌<◌, ◌≤◌, ◌+◌, ◌*◌, ℕ, All, IfOk, length, replicate, slice_index_or};
+ghost use Rattle.std.specs.Prelude.{◌≡◌, ◌<◌, ◌≤◌, ◌*◌, All, IfOk, length, replicate};
 ghost use Rattle.blk_base.specs.declared.place.PageId.{PageId};
-ghost use Rattle.blk_base.specs.Limits.{IsGeometry};
-ghost use Rattle.block_map_tree.specs.Pages.{IsOnPath, IsInner};
-ghost use Rattle.block_map_tree.specs.Tree.{IsOpened, clean, number_of, most_pages};
-ghost use Rattle.block_map_tree.specs.Opening.{blank, IsTakenOver};
+ghost use Rattle.block_map_tree.specs.Pages.{IsForest, IsTreeOf, IsOnPath, IsInner};
+ghost use Rattle.block_map_tree.specs.Tree.{number_of, trees_of, most_rows};
+ghost use Rattle.block_map_tree.specs.Opening.{IsOpened, AreEnough, blank, IsTakenOver};
 
-use crate::OpenedPage;
-use crate::marks::Marks;
-use crate::numbers::{SLOTS, TREES, number};
-use blk_base::Geometry;
-use page_codec::Mappings;
+use crate::Forest;
+use crate::numbers::{SLOTS, TREES, count_trees, has_tree, number};
+use blk_base::{Mappings, OpenedPage};
 use std::alloc::{AllocError, Global};
 
 /// How many pages there is to be room for: the roots, and at height 3 those below them, up to the last that is on a path of
 /// the logical size or is there.
-pub(crate) fn count_pages(geometry: &Geometry, opened: &[OpenedPage]) -> usize
-    requires sizes { IsGeometry geometry.now }
-    requires inner { All (λ o. IsInner geometry.now o.page) opened.now }
-    ensures most { result ≤ most_pages geometry.now.height }
-    ensures paths { (page : PageId) → IsOnPath geometry.now page → 1 ≤ page.level → number_of geometry.now.height page < result }
-    ensures opened { All (λ o. number_of geometry.now.height o.page < result) opened.now }
+pub(crate) fn count_pages(forest: &Forest, opened: &[OpenedPage]) -> usize
+    requires forest { IsForest forest.now }
+    requires inner { All (λ o. IsTreeOf forest.now o.page.tree → IsInner forest.now o.page) opened.now }
+    ensures most { result ≤ most_rows forest.now.geometry.height * trees_of forest.now }
+    ensures paths { (page : PageId) → IsOnPath forest.now page → 1 ≤ page.level → number_of forest.now page < result }
+    ensures opened { All (λ o. IsTreeOf forest.now o.page.tree → number_of forest.now o.page < result) opened.now }
 {
-    if geometry.height == 2 {
-        return 60;
+    count_rows(forest, opened) as usize * count_trees(forest)
+}
+
+// How many rows of pages, the roots among them.
+fn count_rows(forest: &Forest, opened: &[OpenedPage]) -> u32
+    requires forest { IsForest forest.now }
+    requires inner { All (λ o. IsTreeOf forest.now o.page.tree → IsInner forest.now o.page) opened.now }
+    ensures { AreEnough forest.now opened.now result }
+{
+    if forest.geometry.height == 2 {
+        return 1;
     }
-    let mut rows = (geometry.logical - 1) / SLOTS / TREES / SLOTS + 1;
+    let mut rows = (forest.geometry.logical - 1) / SLOTS / TREES / SLOTS + 2;
     for page in opened {
-        if page.page.level == 1 {
-            rows = rows.max(page.page.index + 1);
+        if has_tree(forest, page.page.tree) && page.page.level == 1 {
+            rows = rows.max(page.page.index + 2);
         }
     }
-    60 + 60 * rows as usize
+    rows
 }
 
 /// So many pages that lead nowhere.
@@ -45,35 +51,16 @@ pub(crate) fn blank_pages(alloc: Global, count: usize) -> Result<Vec<Mappings>, 
     Ok(pages)
 }
 
-/// So many pages without an unwritten link.
-pub(crate) fn clean_marks(alloc: Global, count: usize) -> Result<Vec<Marks>, AllocError>
-    ensures { IfOk result (λ marks. marks.items ≡ replicate count clean) }
-{
-    let mut marks = Vec::with_capacity(alloc, count)?;
-    for made in 0..count {
-        marks.push_reserved(Marks {
-            changed: None,
-            writing: None,
-        });
-    }
-    Ok(marks)
-}
-
-/// Takes over what the pages of an image lead to.
-pub(crate) fn take_over(pages: &mut Vec<Mappings>, opened: &[OpenedPage], height: u32)
-    requires inside { All (λ o. number_of height o.page < length pages.old.items) opened.now }
-    ensures { IsTakenOver height opened.now (length opened.now) pages.old.items pages.new.items }
+/// Takes over what the pages of a zone's trees lead to.
+pub(crate) fn take_over(pages: &mut Vec<Mappings>, opened: &[OpenedPage], forest: &Forest)
+    requires forest { IsForest forest.now }
+    requires opened { IsOpened forest.now opened.now }
+    requires inside { All (λ o. IsTreeOf forest.now o.page.tree → number_of forest.now o.page < length pages.old.items) opened.now }
+    ensures { IsTakenOver forest.now opened.now (length opened.now) pages.old.items pages.new.items }
 {
     for page in opened {
-        copy(&mut pages[number(page.page, height)], &page.mappings);
+        if has_tree(forest, page.page.tree) {
+            pages[number(page.page, forest)].copy_from(&page.mappings);
+        }
     }
-}
-
-// Copies the mappings of a page, of which there are 812.
-fn copy(into: &mut Mappings, from: &Mappings)
-    ensures mappings { into.new ≡ from.now }
-    ensures width { length into.new ≡ 812 }
-{
-    into.copy_from(from);
-    let _slots = into.as_slice();
 }

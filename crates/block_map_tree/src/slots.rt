@@ -1,22 +1,20 @@
 ghost use Rattle.std.specs.Prelude.{◌≡◌, ◌<◌, [], ◌∷◌, ◌++◌, length};
 
+use arrayvec::ArrayVec;
 use std::marker::Model;
 
 /// At most 3 slots, which a contract sees as a list. They lie in the value itself.
 #[derive(Drop)]
 pub struct Slots {
-    items: [u16; 3],
-    len: usize,
+    items: ArrayVec<u16, 3>,
 }
 
 impl Model for Slots {
-    ghost use Rattle.std.specs.Prelude.{◌≤◌, ℕ, List, take};
+    ghost use Rattle.std.specs.Prelude.{ℕ, List};
 
     ghost Value = { List ℕ };
 
-    ghost view = { λ list. take list.len list.items };
-
-    ghost invariant = { λ list. list.len ≤ 3 };
+    ghost view = { λ list. list.items.items };
 }
 
 impl Slots {
@@ -25,8 +23,7 @@ impl Slots {
         ensures { result ≡ [] }
     {
         Slots {
-            items: [0; 3],
-            len: 0,
+            items: ArrayVec::new(),
         }
     }
 
@@ -35,14 +32,13 @@ impl Slots {
         requires { length self.old < 3 }
         ensures { self.new ≡ self.old ++ slot ∷ [] }
     {
-        self.items[self.len] = slot;
-        self.len += 1;
+        self.items.push(slot);
     }
 
     /// The slots, that of the root first.
     pub fn as_slice(&self) -> &[u16]
         ensures { result.now ≡ self.now }
     {
-        &self.items[..self.len]
+        self.items.as_slice()
     }
 }

@@ -1,310 +1,220 @@
--- The pages of a cache by their slots: what the index and the queues tell of them, and what a change of one slot is.
-use Rattle.std.specs.Prelude.{ℕ, suc, ◌≡◌, ◌≢◌, ◌<◌, ◌≤◌, ◌-◌, true, false, List, [], ◌∷◌, ◌++◌, length, take, drop, All, None, Some, refl}
-use Rattle.std.proofs.Common.{ap, ◌∙◌, sym, subst, arith, get_or, set, inl, inr, drop-cons, length-append}
+-- What the calls keep of a cache.
+use Rattle.std.specs.Prelude.{ℕ, ◌≡◌, ◌≢◌, ◌<◌, ◌≤◌, ◌+◌, Bool, true, false, List, [], ◌∷◌, ◌++◌, length, All, replicate}
+use Rattle.std.proofs.Common.{ap, ◌∙◌, sym, subst, arith, get_or, set, inl, inr, length-append}
 use Rattle.std.proofs.lemmas.Bool.{cases_eq, cases_lt}
-use Rattle.std.proofs.lemmas.List.{get_or_default, get_or-set_same, get_or-set_other, length-set, take-append-drop, set_split, get_or_append_left, get_or-append_right}
+use Rattle.std.proofs.lemmas.List.{get_or_default, get_or-set_same, get_or-set_other, length-set, length-replicate, get_or-replicate, get_or_append_left}
+use Rattle.std.proofs.Math.Seq.{get_or-append_seam}
+use Rattle.std.proofs.lemmas.List.Elements.{All-set}
+use Rattle.std.proofs.Math.ListN.{get_or-eq_default}
 use Rattle.blk_base.specs.declared.place.PageId.{PageId}
-use Rattle.blk_base.specs.declared.point.Point.{Point}
+use Rattle.blk_base.specs.declared.place.Mapping.{Mapping}
+use Rattle.blk_base.specs.declared.geometry.Geometry.{Geometry}
 use Rattle.page_codec.specs.declared.forms.MapPage.{MapPage}
-use Rattle.map_page_cache.specs.declared.frame.Frame.{Frame}
-use Rattle.map_page_cache.specs.Minima.{key_at, IsLeast}
-use Rattle.map_page_cache.specs.Index.{Index, no_entries, HasSlot, HaveOneSlot, Adds, Removes}
-use Rattle.map_page_cache.specs.CachedPages.{CachedPages, IsThere, IsAbsent, AreApart, IsClean, GivesUp, Changes, IsDue, NoneIsDue, HandsOut, IsLowPoint, handed_out}
-use Rattle.map_page_cache.specs.Slots.{due_of, unwritten_of, clean_of, by_slot, IsAt, Follows}
-use Rattle.map_page_cache.proofs.SlotLaws.{by_slot-inside, by_slot-past}
-use Rattle.map_page_cache.proofs.FrameLaws.{due-some, due-is, unwritten-some, unwritten-least, unwritten-none, clean-true, clean-false}
+use Rattle.page_codec.specs.Grammar.{HoldsMapping}
+use Rattle.page_codec.proofs.HeldLaws.{held-set}
+use Rattle.dirty_pages.specs.declared.marks.Marks.{Marks}
+use Rattle.dirty_pages.specs.Marks.{IsBeingWritten, clean, marks_at, with_marks, clean_of}
+use Rattle.dirty_pages.proofs.MarkLaws.{changed_elsewhere}
+use Rattle.map_page_cache.specs.Index.{Index, HasSlot}
+use Rattle.map_page_cache.specs.CachedPages.{CachedPages, IsCache, IsPageOf, AreApart, IsThere, IsIn, IsWriting, with_mapping}
+use Rattle.map_page_cache.specs.Frames.{IsAt, Follows, AreFlags}
+use Rattle.map_page_cache.proofs.FrameLaws.{page_in, at_by, apart-set}
 
--- a frame of a list that has one
-pub frame_at : (frames : List Frame) (slot : ℕ) → slot < length frames → Frame
-frame_at [] slot inside = absurd (omega arith)
-frame_at (frame ∷ frames) slot inside = frame
+-- a page that is there has a frame, and what is in its frame is there
+pub there_at : (cache : CachedPages) (page : PageId) (content : MapPage) → IsThere cache page content → (frame : ℕ) × IsAt cache.pages page frame
+there_at cache page content there =
+    (there.0.0, at_by cache.pages page there.0.0 content there.0.1 (ap (λ (c : MapPage). c.head.page) there.0.2 ∙ there.1))
 
--- a place has the page whatever the default of the reading is
-pub at_by : (frames : List Frame) (page : PageId) (slot : ℕ) (d : Frame) → slot < length frames → (get_or frames slot d).page ≡ page → IsAt frames page slot
-at_by frames page slot d inside is =
-    record { inside = inside; named = λ e. ap (λ (f : Frame). f.page) (get_or_default frames slot e d inside) ∙ is }
+pub at_there : (cache : CachedPages) (page : PageId) (frame : ℕ) (content : MapPage) → IsAt cache.pages page frame → content ≡ get_or cache.pages frame content
+    → IsThere cache page content
+at_there cache page frame content at is = ((frame, at.inside, sym is), ap (λ (c : MapPage). c.head.page) is ∙ at.named content)
 
--- a page that is there has a slot
-pub there_at : (cache : CachedPages) (page : PageId) (frame : Frame) → IsThere cache page frame → (slot : ℕ) × IsAt cache.kept page slot
-there_at cache page frame there =
-    (there.0.0, at_by cache.kept page there.0.0 frame there.0.1 (ap (λ (f : Frame). f.page) there.0.2 ∙ there.1))
+pub at_in : (cache : CachedPages) (page : PageId) (frame : ℕ) (content : MapPage) → IsAt cache.pages page frame → content ≡ get_or cache.pages frame content
+    → IsIn cache page frame content
+at_in cache page frame content at is = record { inside = at.inside; is = sym is; named = ap (λ (c : MapPage). c.head.page) is ∙ at.named content }
 
--- and what is at its slot is there
-pub at_there : (cache : CachedPages) (page : PageId) (slot : ℕ) (frame : Frame) → IsAt cache.kept page slot → frame ≡ get_or cache.kept slot frame → IsThere cache page frame
-at_there cache page slot frame at is = ((slot, at.inside, sym is), ap (λ (f : Frame). f.page) is ∙ at.named frame)
+pub in_at : (cache : CachedPages) (page : PageId) (frame : ℕ) (content : MapPage) → IsIn cache page frame content → IsAt cache.pages page frame
+in_at cache page frame content is = at_by cache.pages page frame content is.inside (ap (λ (c : MapPage). c.head.page) is.is ∙ is.named)
 
-pub absent_at : (cache : CachedPages) (page : PageId) → IsAbsent cache page → (slot : ℕ) → IsAt cache.kept page slot → ⊥
-absent_at cache page absent slot at =
-    let d = frame_at cache.kept slot at.inside in
-    absent slot d at.inside (at.named d)
+-- a page whose marks have a point of its write
+pub being_written : (cache : CachedPages) (page : PageId) (frame : ℕ) → IsAt cache.pages page frame → IsBeingWritten (marks_at cache.marks frame) → IsWriting cache page
+being_written cache page frame at out =
+    let d = page_in cache.pages frame at.inside in
+    let content = get_or cache.pages frame d in
+    record { frame = frame; content = content; stands = at_in cache page frame content at (sym (get_or_default cache.pages frame content d at.inside)); marks = out }
 
--- a page without a slot isn't there
-pub no_slot_absent : (index : Index) (slots : ℕ) (frames : List Frame) (page : PageId) (cache : CachedPages) → record { frames = slots; kept = frames } ≡ cache
-    → Follows index slots frames → ((slot : ℕ) → HasSlot index page slot → ⊥) → IsAbsent cache page
-no_slot_absent index slots frames page cache is follows none =
-    subst (λ (known : CachedPages). IsAbsent known page) is
-    (λ slot d inside named. none slot (follows.all page slot (at_by frames page slot d inside named)))
+pub one_frame : (pages : List MapPage) (page : PageId) (frame other : ℕ) → AreApart pages → IsAt pages page frame → IsAt pages page other → frame ≡ other
+one_frame pages page frame other apart at at' =
+    let d = page_in pages frame at.inside in
+    apart frame other d at.inside at'.inside (at.named d ∙ sym (at'.named d))
 
--- no page has two slots
-pub apart_by_slots : (index : Index) (slots : ℕ) (frames : List Frame) (cache : CachedPages) → record { frames = slots; kept = frames } ≡ cache
-    → Follows index slots frames → HaveOneSlot index → AreApart cache
-apart_by_slots index slots frames cache is follows single =
-    subst (λ (known : CachedPages). AreApart known) is
-    (λ j k d at_j at_k same.
-    let page = (get_or frames k d).page in
-    single page j k (follows.all page j (at_by frames page j d at_j same)) (follows.all page k (at_by frames page k d at_k refl)))
+pub absent_at : (pages : List MapPage) (page : PageId) → All (λ content. content.head.page ≢ page) pages → (frame : ℕ) → IsAt pages page frame → ⊥
+absent_at pages page absent frame at =
+    let d = page_in pages frame at.inside in
+    absent frame d at.inside (at.named d)
 
--- what is there of a page is one frame
-pub one_frame : (index : Index) (slots : ℕ) (frames : List Frame) (cache : CachedPages) → record { frames = slots; kept = frames } ≡ cache
-    → Follows index slots frames → HaveOneSlot index → (page : PageId) (frame other : Frame) → IsThere cache page frame → IsThere cache page other → frame ≡ other
-one_frame index slots frames cache is follows single page frame other there there' =
-    let apart = apart_by_slots index slots frames cache is follows single in
-    let one = there.0.2 in
-    let two : get_or cache.kept there'.0.0 frame ≡ other = get_or_default cache.kept there'.0.0 frame other there'.0.1 ∙ there'.0.2 in
-    let same = apart there.0.0 there'.0.0 frame there.0.1 there'.0.1
-    (ap (λ (f : Frame). f.page) one ∙ there.1 ∙ sym there'.1 ∙ ap (λ (f : Frame). f.page) (sym two)) in
-    sym one ∙ ap (λ (k : ℕ). get_or cache.kept k frame) same ∙ two
+-- a page without a frame isn't there
+pub no_slot_absent : (index : Index) (frames : ℕ) (pages : List MapPage) (page : PageId) → Follows index frames pages
+    → ((frame : ℕ) → HasSlot index page frame → ⊥) → All (λ content. content.head.page ≢ page) pages
+no_slot_absent index frames pages page follows none k d inside named = none k (follows.all page k (at_by pages page k d inside named))
 
--- the pages of a list of which one is replaced by one of the same page
-page_set : (frames : List Frame) (slot s : ℕ) (frame d : Frame) → slot < length frames → frame.page ≡ (get_or frames slot d).page
-    → (get_or (set frames slot frame) s d).page ≡ (get_or frames s d).page
-page_set frames slot s frame d inside same =
-    elim (cases_eq s slot) [
-      | inl here ↦
-          ap (λ (k : ℕ). (get_or (set frames slot frame) k d).page) here ∙ ap (λ (f : Frame). f.page) (get_or-set_same frames slot frame d inside)
-          ∙ same ∙ ap (λ (k : ℕ). (get_or frames k d).page) (sym here)
-      | inr other ↦ ap (λ (f : Frame). f.page) (get_or-set_other frames slot s frame d other)
-    ]
+-- other marks, none of them of an empty frame
+pub form-marks : (cache : CachedPages) (marks : List Marks) → IsCache cache → length marks ≡ length cache.marks
+    → ((frame : ℕ) → length cache.pages ≤ frame → marks_at marks frame ≡ marks_at cache.marks frame) → IsCache (record cache { marks = marks })
+form-marks cache marks form size same = record {
+  fits = form.fits;
+  marks = size ∙ form.marks;
+  each = form.each;
+  apart = form.apart;
+  empty = λ frame past. same frame past ∙ form.empty frame past;
+}
 
-pub follows-set : (index : Index) (slots : ℕ) (frames : List Frame) (slot : ℕ) (frame : Frame) → Follows index slots frames
-    → IsAt frames frame.page slot → Follows index slots (set frames slot frame)
-follows-set index slots frames slot frame follows at =
-    let size = length-set frames slot frame in
+pub form-change : (cache : CachedPages) (frame : ℕ) (change : Marks → Marks) → IsCache cache → frame < length cache.pages
+    → IsCache (record cache { marks = with_marks cache.marks frame change })
+form-change cache frame change form inside =
+    form-marks cache (with_marks cache.marks frame change) form (length-set cache.marks frame (change (marks_at cache.marks frame)))
+    (λ other past. changed_elsewhere cache.marks frame other change (omega arith))
+
+-- another page in a frame
+pub form-set : (cache : CachedPages) (frame : ℕ) (content : MapPage) → IsCache cache → frame < length cache.pages → IsPageOf cache.geometry content
+    → ((k : ℕ) (d : MapPage) → k < length cache.pages → k ≢ frame → (get_or cache.pages k d).head.page ≢ content.head.page)
+    → IsCache (record cache { pages = set cache.pages frame content })
+form-set cache frame content form inside held differs =
+    let size = length-set cache.pages frame content in
+    let fits = form.fits in
     record {
-      room = follows.room;
-      count = follows.count ∙ sym size;
-      pages = λ page s has. let old = follows.pages page s has in
-          record { inside = omega (arith, size, old.inside); named = λ d. page_set frames slot s frame d at.inside (sym (at.named d)) ∙ old.named d };
-      all = λ page s new. follows.all page s
-          (record { inside = omega (arith, size, new.inside); named = λ d. sym (page_set frames slot s frame d at.inside (sym (at.named d))) ∙ new.named d });
+      fits = omega arith;
+      marks = form.marks;
+      each = All-set (IsPageOf cache.geometry) cache.pages frame content held form.each;
+      apart = apart-set cache.pages frame content form.apart inside differs;
+      empty = λ other past. form.empty other (omega arith);
     }
 
 -- a page behind all others
-pub follows-push : (index index' : Index) (slots slot : ℕ) (frames : List Frame) (frame : Frame) (page : PageId) → Follows index slots frames
-    → Adds index index' page slot → slot ≡ length frames → frame.page ≡ page → Follows index' slots (frames ++ frame ∷ [])
-follows-push index index' slots slot frames frame page follows adds is named =
-    let size = length-append frames (frame ∷ []) in
-    let before : (s : ℕ) (d : Frame) → s < length frames → get_or (frames ++ frame ∷ []) s d ≡ get_or frames s d
-    = λ s d h. get_or_append_left frames (frame ∷ []) d s h in
-    let last : (s : ℕ) (d : Frame) → s ≡ length frames → get_or (frames ++ frame ∷ []) s d ≡ frame
-    = λ s d h.
-    let here : s - length frames ≡ 0 = omega arith in
-    get_or-append_right frames (frame ∷ []) (length frames) s d refl (omega arith) ∙ ap (λ (k : ℕ). get_or (frame ∷ []) k d) here in
+pub form-push : (cache : CachedPages) (content : MapPage) → IsCache cache → length cache.pages < cache.frames → IsPageOf cache.geometry content
+    → All (λ other. other.head.page ≢ content.head.page) cache.pages → IsCache (record cache { pages = cache.pages ++ content ∷ [] })
+form-push cache content form room held absent =
+    let pages = cache.pages in
+    let size = length-append pages (content ∷ []) in
+    let before : (k : ℕ) (d : MapPage) → k < length pages → get_or (pages ++ content ∷ []) k d ≡ get_or pages k d
+    = λ k d inside. get_or_append_left pages (content ∷ []) d k inside in
+    let last : (k : ℕ) (d : MapPage) → k ≡ length pages → get_or (pages ++ content ∷ []) k d ≡ content
+    = λ k d is. ap (λ (n : ℕ). get_or (pages ++ content ∷ []) n d) is ∙ get_or-append_seam pages content [] d in
+    let page : MapPage → PageId = λ c. c.head.page in
     record {
-      room = adds.room ∙ follows.room;
-      count = omega (arith, size, adds.count, follows.count);
-      pages = λ other s has. elim (adds.only other s has) [
-        | inl old ↦ let at = follows.pages other s old in
-            record { inside = omega (arith, size, at.inside); named = λ d. ap (λ (f : Frame). f.page) (before s d at.inside) ∙ at.named d }
-        | inr new ↦
-            let here : s ≡ length frames = new.1 ∙ is in
-            record { inside = omega (arith, size, here); named = λ d. ap (λ (f : Frame). f.page) (last s d here) ∙ named ∙ sym new.0 }
+      fits = omega arith;
+      marks = form.marks;
+      each = λ k d inside. elim (cases_lt k (length pages)) [
+        | inl old ↦ subst (λ (c : MapPage). IsPageOf cache.geometry c) (sym (before k d old)) (form.each k d old)
+        | inr new ↦ let here : k ≡ length pages = omega arith in subst (λ (c : MapPage). IsPageOf cache.geometry c) (sym (last k d here)) held
       ];
-      all = λ other s at. elim (cases_lt s (length frames)) [
-        | inl old ↦ adds.kept other s (follows.all other s
-            (record { inside = old; named = λ d. ap (λ (f : Frame). f.page) (sym (before s d old)) ∙ at.named d }))
-        | inr new ↦
-            let here : s ≡ length frames = omega (arith, size, at.inside) in
-            let same : page ≡ other = sym named ∙ ap (λ (f : Frame). f.page) (sym (last s frame here)) ∙ at.named frame in
-            subst (λ (p : PageId). HasSlot index' p s) same (subst (λ (k : ℕ). HasSlot index' page k) (is ∙ sym here) adds.added)
+      apart = λ j k d at_j at_k same. elim (cases_lt j (length pages)) [
+        | inl one ↦ elim (cases_lt k (length pages)) [
+          | inl two ↦ form.apart j k d one two (sym (ap page (before j d one)) ∙ same ∙ ap page (before k d two))
+          | inr two ↦
+              let is : k ≡ length pages = omega arith in
+              absurd (absent j d one (sym (ap page (before j d one)) ∙ same ∙ ap page (last k d is)))
+        ]
+        | inr one ↦ elim (cases_lt k (length pages)) [
+          | inl two ↦
+              let is : j ≡ length pages = omega arith in
+              absurd (absent k d two (sym (ap page (before k d two)) ∙ sym same ∙ ap page (last j d is)))
+          | inr two ↦ omega arith
+        ]
       ];
+      empty = λ frame past. form.empty frame (omega arith);
     }
 
--- another page in the slot of one that was given up
-pub follows-replace : (index without index' : Index) (slots slot : ℕ) (frames : List Frame) (frame : Frame) (gone page : PageId) → Follows index slots frames
-    → HaveOneSlot index → IsAt frames gone slot → Removes index without gone → Adds without index' page slot
-    → frame.page ≡ page → Follows index' slots (set frames slot frame)
-follows-replace index without index' slots slot frames frame gone page follows single at removes adds named =
-    let size = length-set frames slot frame in
-    record {
-      room = adds.room ∙ removes.room ∙ follows.room;
-      count = omega (arith, size, adds.count, removes.count, follows.count);
-      pages = λ other s has. elim (adds.only other s has) [
-        | inl old ↦
-            let there = follows.pages other s (removes.only other s old) in
-            let apart : s ≢ slot = λ same.
-            let is : other ≡ gone = sym (there.named frame) ∙ ap (λ (k : ℕ). (get_or frames k frame).page) same ∙ at.named frame in
-            removes.gone s (subst (λ (p : PageId). HasSlot without p s) is old) in
-            record { inside = omega (arith, size, there.inside); named = λ d. ap (λ (f : Frame). f.page) (get_or-set_other frames slot s frame d apart) ∙ there.named d }
-        | inr new ↦ record {
-          inside = omega (arith, size, at.inside, new.1);
-          named = λ d. ap (λ (k : ℕ). (get_or (set frames slot frame) k d).page) new.1
-              ∙ ap (λ (f : Frame). f.page) (get_or-set_same frames slot frame d at.inside) ∙ named ∙ sym new.0;
-        }
-      ];
-      all = λ other s new. elim (cases_eq s slot) [
-        | inl here ↦
-            let same : page ≡ other = sym named ∙ ap (λ (f : Frame). f.page) (sym (get_or-set_same frames slot frame frame at.inside))
-            ∙ ap (λ (k : ℕ). (get_or (set frames slot frame) k frame).page) (sym here) ∙ new.named frame in
-            subst (λ (p : PageId). HasSlot index' p s) same (subst (λ (k : ℕ). HasSlot index' page k) (sym here) adds.added)
-        | inr apart ↦
-            let there : IsAt frames other s = record {
-              inside = omega (arith, size, new.inside);
-              named = λ d. ap (λ (f : Frame). f.page) (sym (get_or-set_other frames slot s frame d apart)) ∙ new.named d;
-            } in
-            let has = follows.all other s there in
-            let differs : other ≢ gone = λ is.
-            apart (single gone s slot (subst (λ (p : PageId). HasSlot index p s) is has) (follows.all gone slot at)) in
-            adds.kept other s (removes.kept other s differs has)
-      ];
-    }
-
-parts_at : (frames : List Frame) (slot : ℕ) (frame : Frame) → slot < length frames → frame ≡ get_or frames slot frame
-    → frames ≡ take slot frames ++ frame ∷ drop (suc slot) frames
-parts_at frames slot frame inside is =
-    sym (take-append-drop slot frames) ∙ ap (λ (fs : List Frame). take slot frames ++ fs)
-    (drop-cons frames slot frame inside ∙ ap (λ (f : Frame). f ∷ drop (suc slot) frames) (sym is))
-
-changes_here : (slots slot : ℕ) (frames : List Frame) (page : PageId) (change : Frame → Frame) (frame frame' : Frame)
-    → IsAt frames page slot → frame ≡ get_or frames slot frame → frame' ≡ change frame
-    → Changes (record { frames = slots; kept = frames }) (record { frames = slots; kept = set frames slot frame' }) page change
-changes_here slots slot frames page change frame frame' at read changed = record {
-  before = take slot frames;
-  frame = frame;
-  behind = drop (suc slot) frames;
-  stood = parts_at frames slot frame at.inside read;
-  named = ap (λ (f : Frame). f.page) read ∙ at.named frame;
-  after = ap (λ (fs : List Frame). record { frames = slots; kept = fs })
-      (set_split frames slot frame' at.inside ∙ ap (λ (f : Frame). take slot frames ++ f ∷ drop (suc slot) frames) changed);
+-- a page with another mapping
+pub page-set : (g : Geometry) (slot : ℕ) (mapping : Mapping) (content : MapPage) → IsPageOf g content → HoldsMapping g content.head.page.level mapping
+    → IsPageOf g (with_mapping slot mapping content)
+page-set g slot mapping content is holds = record {
+  geometry = is.geometry;
+  held = held-set g content.head.page.level slot content.mappings mapping is.held holds;
 }
 
--- a page that is changed at its slot
-pub changes : (slots slot : ℕ) (frames : List Frame) (page : PageId) (change : Frame → Frame) (frame frame' : Frame) (cache : CachedPages)
-    → record { frames = slots; kept = frames } ≡ cache → IsAt frames page slot → frame ≡ get_or frames slot frame → frame' ≡ change frame
-    → Changes cache (record { frames = slots; kept = set frames slot frame' }) page change
-changes slots slot frames page change frame frame' cache is at read changed =
-    subst (λ (known : CachedPages). Changes known (record { frames = slots; kept = set frames slot frame' }) page change) is
-    (changes_here slots slot frames page change frame frame' at read changed)
+pub form-entry : (cache : CachedPages) (page : PageId) (frame slot : ℕ) (mapping : Mapping) (content : MapPage) → IsCache cache → IsIn cache page frame content
+    → HoldsMapping cache.geometry page.level mapping → IsCache (record cache { pages = set cache.pages frame (with_mapping slot mapping content) })
+form-entry cache page frame slot mapping content form stood holds =
+    let own = subst (λ (c : MapPage). IsPageOf cache.geometry c) stood.is (form.each frame content stood.inside) in
+    let holds' = subst (λ (p : PageId). HoldsMapping cache.geometry p.level mapping) (sym stood.named) holds in
+    form-set cache frame (with_mapping slot mapping content) form stood.inside (page-set cache.geometry slot mapping content own holds')
+    (λ k d inside other same. other (form.apart k frame d inside stood.inside
+    (same ∙ sym (ap (λ (c : MapPage). c.head.page) (get_or_default cache.pages frame d content stood.inside ∙ stood.is)))))
 
--- a clean page that another one replaces
-pub gives_up : (slots slot : ℕ) (frames : List Frame) (frame frame' fresh : Frame) (cache : CachedPages)
-    → record { frames = slots; kept = frames } ≡ cache → slot < length frames → length frames ≡ slots → frame ≡ get_or frames slot frame
-    → IsClean frame → frame' ≡ fresh → GivesUp cache (record { frames = slots; kept = set frames slot frame' }) fresh
-gives_up slots slot frames frame frame' fresh cache is inside full read clean loaded =
-    subst (λ (known : CachedPages). GivesUp known (record { frames = slots; kept = set frames slot frame' }) fresh) is
-    (record {
-      before = take slot frames;
-      given_up = frame;
-      behind = drop (suc slot) frames;
-      full = full;
-      stood = parts_at frames slot frame inside read;
-      clean = clean;
-      after = ap (λ (fs : List Frame). record { frames = slots; kept = fs })
-          (set_split frames slot frame' inside ∙ ap (λ (f : Frame). take slot frames ++ f ∷ drop (suc slot) frames) loaded);
-    })
+pub form-none : (g : Geometry) (frames : ℕ) → IsCache (record { geometry = g; frames = frames; pages = []; marks = replicate frames clean })
+form-none g frames = record {
+  fits = omega arith;
+  marks = length-replicate frames clean;
+  each = λ k d inside. absurd (omega arith);
+  apart = λ j k d at_j at_k same. absurd (omega arith);
+  empty = λ frame past. elim (cases_lt frame frames) [
+    | inl inside ↦ get_or-replicate frames frame clean clean inside
+    | inr behind ↦ get_or-eq_default (replicate frames clean) clean {n = frame} (let size = length-replicate frames clean in omega arith)
+  ];
+}
 
--- the first in the queue of those that are due
-pub first_due : (slots : ℕ) (frames : List Frame) (slot number : ℕ) → IsLeast (by_slot due_of None slots frames) slot number
-    → (slot < length frames) × ((d : Frame) → IsDue (get_or frames slot d) (record { 0 = number }))
-    × All (λ other. (p : Point) → IsDue other p → number ≤ p.0) frames
-first_due slots frames slot number first =
-    let inside : slot < length frames = elim (cases_lt slot (length frames)) [
-      | inl below ↦ below
-      | inr past ↦ let none = by_slot-past due_of None slots slot frames past in let some = first.here in cc
-    ] in (
-      inside,
-      (λ d. due-some (get_or frames slot d) number (sym (by_slot-inside due_of None slots slot frames d inside) ∙ first.here)),
-      (λ k d below p due. first.least k p.0 (by_slot-inside due_of None slots k frames d below ∙ due-is (get_or frames k d) p due)),
-    )
+-- the flags of the frames with clean pages
 
--- where the queue is empty no page is due
-pub no_due : (slots : ℕ) (frames : List Frame) (point : Point) (cache : CachedPages) → record { frames = slots; kept = frames } ≡ cache
-    → ((slot : ℕ) → key_at (by_slot due_of None slots frames) slot ≡ None) → NoneIsDue cache point
-no_due slots frames point cache is none =
-    subst (λ (known : CachedPages). NoneIsDue known point) is
-    (λ k d below p due.
-    let some : Some p.0 ≡ None = sym (due-is (get_or frames k d) p due) ∙ sym (by_slot-inside due_of None slots k frames d below) ∙ none k in
-    cc)
+pub flags-none : (frames : ℕ) (marks : List Marks) → AreFlags (replicate frames false) frames 0 marks
+flags-none frames marks = record {
+  size = length-replicate frames false;
+  here = λ frame below. absurd (omega arith);
+  empty = λ frame past. elim (cases_lt frame frames) [
+    | inl inside ↦ get_or-replicate frames frame false false inside
+    | inr behind ↦ get_or-eq_default (replicate frames false) false {n = frame} (let size = length-replicate frames false in omega arith)
+  ];
+}
 
--- where the first is above the point no page is due at it
-pub due_later : (slots : ℕ) (frames : List Frame) (slot number : ℕ) (point : Point) (cache : CachedPages) → record { frames = slots; kept = frames } ≡ cache
-    → IsLeast (by_slot due_of None slots frames) slot number → point.0 < number → NoneIsDue cache point
-due_later slots frames slot number point cache is first above =
-    let least = (first_due slots frames slot number first).2 in
-    subst (λ (known : CachedPages). NoneIsDue known point) is (λ k d below p due. omega (arith, above, least k d below p due))
+-- the flag of one frame is set as its marks are now, and those of the others stayed
+pub flags-set : (flags : List Bool) (frames count frame : ℕ) (flag : Bool) (marks marks' : List Marks) → AreFlags flags frames count marks → frame < count → count ≤ frames
+    → flag ≡ clean_of (marks_at marks' frame) → ((other : ℕ) → other ≢ frame → marks_at marks' other ≡ marks_at marks other)
+    → AreFlags (set flags frame flag) frames count marks'
+flags-set flags frames count frame flag marks marks' are inside fits is same =
+    let size = are.size in
+    record {
+      size = length-set flags frame flag ∙ are.size;
+      here = λ other below. elim (cases_eq other frame) [
+        | inl here ↦ ap (λ (k : ℕ). get_or (set flags frame flag) k false) here ∙ get_or-set_same flags frame flag false (omega arith) ∙ is
+            ∙ ap (λ (k : ℕ). clean_of (marks_at marks' k)) (sym here)
+        | inr apart ↦ get_or-set_other flags frame other flag false apart ∙ are.here other below ∙ ap clean_of (sym (same other apart))
+      ];
+      empty = λ other past. get_or-set_other flags frame other flag false (omega arith) ∙ are.empty other past;
+    }
 
--- the first in the queue of those that aren't durable
-pub low : (slots : ℕ) (frames : List Frame) (slot number : ℕ) (cache : CachedPages) → record { frames = slots; kept = frames } ≡ cache
-    → IsLeast (by_slot unwritten_of None slots frames) slot number → IsLowPoint cache (record { 0 = number })
-low slots frames slot number cache is first =
-    let inside : slot < length frames = elim (cases_lt slot (length frames)) [
-      | inl below ↦ below
-      | inr past ↦ let none = by_slot-past unwritten_of None slots slot frames past in let some = first.here in cc
-    ] in
-    let d = frame_at frames slot inside in
-    let frame = get_or frames slot d in
-    subst (λ (known : CachedPages). IsLowPoint known (record { 0 = number })) is
-    (record {
-      frame = frame;
-      there = (slot, inside, get_or_default frames slot frame d inside);
-      unwritten = unwritten-some frame number (sym (by_slot-inside unwritten_of None slots slot frames d inside) ∙ first.here);
-      least = λ k e below p owed.
-          let own = unwritten-least (get_or frames k e) p owed in
-          omega (arith, own.2, first.least k own.0 (by_slot-inside unwritten_of None slots k frames e below ∙ own.1));
-    })
+-- the marks of one frame have changed, but it wasn't clean and isn't
+pub flags-kept : (flags : List Bool) (frames count frame : ℕ) (marks marks' : List Marks) → AreFlags flags frames count marks
+    → clean_of (marks_at marks' frame) ≡ clean_of (marks_at marks frame) → ((other : ℕ) → other ≢ frame → marks_at marks' other ≡ marks_at marks other)
+    → AreFlags flags frames count marks'
+flags-kept flags frames count frame marks marks' are is same = record {
+  size = are.size;
+  here = λ other below. are.here other below ∙ elim (cases_eq other frame) [
+    | inl here ↦ ap (λ (k : ℕ). clean_of (marks_at marks k)) here ∙ sym is ∙ ap (λ (k : ℕ). clean_of (marks_at marks' k)) (sym here)
+    | inr apart ↦ ap clean_of (sym (same other apart))
+  ];
+  empty = are.empty;
+}
 
--- where the queue is empty all is durable
-pub all_clean : (slots : ℕ) (frames : List Frame) (cache : CachedPages) → record { frames = slots; kept = frames } ≡ cache
-    → ((slot : ℕ) → key_at (by_slot unwritten_of None slots frames) slot ≡ None) → All IsClean cache.kept
-all_clean slots frames cache is none =
-    subst (λ (known : CachedPages). All IsClean known.kept) is
-    (λ k d below. unwritten-none (get_or frames k d) (sym (by_slot-inside unwritten_of None slots k frames d below) ∙ none k))
+-- one more frame has a page, which is clean
+pub flags-push : (flags : List Bool) (frames count : ℕ) (marks : List Marks) → AreFlags flags frames count marks → count < frames → marks_at marks count ≡ clean
+    → AreFlags (set flags count true) frames (count + 1) marks
+flags-push flags frames count marks are inside is =
+    let size = are.size in
+    record {
+      size = length-set flags count true ∙ are.size;
+      here = λ other below. elim (cases_eq other count) [
+        | inl here ↦ ap (λ (k : ℕ). get_or (set flags count true) k false) here ∙ get_or-set_same flags count true false (omega arith)
+            ∙ ap clean_of (sym is) ∙ ap (λ (k : ℕ). clean_of (marks_at marks k)) (sym here)
+        | inr apart ↦ get_or-set_other flags count other true false apart ∙ are.here other (omega arith)
+      ];
+      empty = λ other past. get_or-set_other flags count other true false (omega arith) ∙ are.empty other (omega arith);
+    }
 
--- the page of a slot that is flagged is clean
-pub clean_slot : (slots slot : ℕ) (frames : List Frame) → get_or (by_slot clean_of false slots frames) slot false ≡ true
-    → (slot < length frames) × ((d : Frame) → IsClean (get_or frames slot d))
-clean_slot slots slot frames is =
-    let inside : slot < length frames = elim (cases_lt slot (length frames)) [
-      | inl below ↦ below
-      | inr past ↦ let none = by_slot-past clean_of false slots slot frames past in cc
-    ] in
-    (inside, (λ d. clean-true (get_or frames slot d) (sym (by_slot-inside clean_of false slots slot frames d inside) ∙ is)))
-
--- where no slot is flagged no page is clean
-pub none_clean : (slots : ℕ) (frames : List Frame) → ((slot : ℕ) → get_or (by_slot clean_of false slots frames) slot false ≡ false)
-    → All (λ frame. IsClean frame → ⊥) frames
-none_clean slots frames none = λ k d below.
-    clean-false (get_or frames k d) (sym (by_slot-inside clean_of false slots k frames d below) ∙ none k)
-
--- the first in the queue is handed out
-pub hands_out : (slots slot number : ℕ) (frames : List Frame) (frame frame' : Frame) (point : Point) (copy : MapPage) (cache : CachedPages)
-    → record { frames = slots; kept = frames } ≡ cache → IsLeast (by_slot due_of None slots frames) slot number → number ≤ point.0
-    → frame ≡ get_or frames slot frame → frame' ≡ handed_out frame → copy ≡ frame.content
-    → HandsOut cache (record { frames = slots; kept = set frames slot frame' }) point frame'.page copy
-unfolding changes_here
-hands_out slots slot number frames frame frame' point copy cache is first reached read changed copied =
-    let all = first_due slots frames slot number first in
-    let named : frame.page ≡ frame'.page = sym (ap (λ (f : Frame). f.page) changed) in
-    let at : IsAt frames frame'.page slot = at_by frames frame'.page slot frame all.0 (ap (λ (f : Frame). f.page) (sym read) ∙ named) in
-    let due : IsDue frame (record { 0 = number }) = subst (λ (f : Frame). IsDue f (record { 0 = number })) (sym read) (all.1 frame) in
-    subst (λ (known : CachedPages). HandsOut known (record { frames = slots; kept = set frames slot frame' }) point frame'.page copy) is
-    (record {
-      changes = changes_here slots slot frames frame'.page handed_out frame frame' at read changed;
-      first = record { 0 = number };
-      due = due;
-      reached = reached;
-      least = all.2;
-      copied = copied;
-    })
-
--- nothing follows from no frames
-pub follows-none : (slots : ℕ) (index : Index) (frames : List Frame) → index ≡ no_entries slots → frames ≡ [] → Follows index slots frames
-follows-none slots index frames none empty =
-    subst (λ (i : Index). Follows i slots frames) (sym none)
-    (subst (λ (fs : List Frame). Follows (no_entries slots) slots fs) (sym empty)
-    (record {
-      room = refl;
-      count = refl;
-      pages = λ page slot (k, inside, at). absurd (omega (arith, inside));
-      all = λ page slot at. absurd (omega (arith, at.inside));
-    }))
+-- a flag that is set
+pub flagged_inside : (flags : List Bool) (frames count frame : ℕ) (marks : List Marks) → AreFlags flags frames count marks → get_or flags frame false ≡ true
+    → (frame < count) × (clean_of (marks_at marks frame) ≡ true)
+flagged_inside flags frames count frame marks are is =
+    elim (cases_lt frame count) [
+      | inl below ↦ (below, sym (are.here frame below) ∙ is)
+      | inr past ↦ absurd (let none = are.empty frame past in cc)
+    ]

@@ -7,7 +7,7 @@ use Rattle.std.proofs.lemmas.List.{get_or_default}
 use Rattle.std.proofs.lemmas.List.Edits.{get_or-insert_at, get_or-insert_below, get_or-insert_above, get_or-remove_below, get_or-remove_above, length-insert, length-remove}
 use Rattle.blk_base.specs.declared.place.PageId.{PageId}
 use Rattle.map_page_cache.specs.declared.index.IndexEntry.{IndexEntry}
-use Rattle.map_page_cache.specs.Index.{Index, HasSlot, HaveOneSlot, Adds, Removes, order_of, AreInOrder, IsPlaceOf, IsGapFor}
+use Rattle.map_page_cache.specs.Index.{Index, HasSlot, Adds, Removes, order_of, AreInOrder, IsPlaceOf, IsGapFor}
 
 abbrev entry_at : List IndexEntry → ℕ → IndexEntry → ℕ
 entry_at entries k d = order_of (get_or entries k d).page
@@ -85,14 +85,6 @@ one_place entries j k d order at_j at_k is =
         | inr last ↦ let below = order k j d (omega arith) at_j in absurd (omega (arith, below, same))
       ]
     ]
-
-pub one_slot : (index : Index) → AreInOrder index.entries → HaveOneSlot index
-one_slot index order = λ page slot other has has'.
-    let d : IndexEntry = record { page = page; slot = slot } in
-    let e : IndexEntry = record { page = page; slot = other } in
-    let there : get_or index.entries has'.0 d ≡ e = get_or_default index.entries has'.0 d e has'.1 ∙ has'.2 in
-    let same = one_place index.entries has.0 has'.0 d order has.1 has'.1 (ap (λ (i : IndexEntry). i.page) has.2 ∙ sym (ap (λ (i : IndexEntry). i.page) there)) in
-    sym (ap (λ (i : IndexEntry). i.slot) has.2) ∙ ap (λ (k : ℕ). (get_or index.entries k d).slot) same ∙ ap (λ (i : IndexEntry). i.slot) there
 
 -- the elements behind the gap are those from it on
 behind_gap : (entries : List IndexEntry) (place : ℕ) (entry d : IndexEntry) (k j : ℕ) → place ≤ length entries → place ≤ k → j ≡ k + 1

@@ -1,6 +1,5 @@
-pub mod MinimaLaws
 pub mod IndexLaws
-pub mod SlotLaws
 pub mod FrameLaws
 pub mod CacheLaws
 pub mod RunLaws
+pub mod StepLaws

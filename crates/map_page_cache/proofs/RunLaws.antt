@@ -1,397 +1,398 @@
--- After a run each page is what was installed and set, and what isn't durable is at or above the points of its frame.
-use Rattle.std.specs.Prelude.{ℕ, ◌≡◌, ◌≢◌, ◌<◌, ◌≤◌, ◌+◌, List, [], ◌∷◌, ◌++◌, length, All, Option, None, Some, refl}
+-- Over a run of calls: what the pages are, and that what isn't durable is kept.
+use Rattle.std.specs.Prelude.{ℕ, suc, zero, ◌≡◌, ◌≢◌, ◌<◌, ◌≤◌, ◌⊎◌, List, [], ◌∷◌, ◌++◌, length, All, refl}
 use Rattle.std.proofs.Common.{ap, ◌∙◌, sym, subst, arith, get_or, set, inl, inr, length-append}
 use Rattle.std.proofs.Math.Seq.{get_or-append_seam}
 use Rattle.std.proofs.lemmas.Bool.{cases_eq, cases_lt}
-use Rattle.std.proofs.lemmas.List.{get_or-set_same, get_or-set_other, length-set, set_at, get_or_append_left, get_or_default}
+use Rattle.std.proofs.lemmas.List.{get_or-set_same, get_or-set_other, length-set, get_or_append_left, get_or_default}
 use Rattle.blk_base.specs.declared.place.PageId.{PageId}
 use Rattle.blk_base.specs.declared.place.Mapping.{Mapping}
 use Rattle.blk_base.specs.declared.point.Point.{Point}
+use Rattle.blk_base.proofs.PageIdLaws.{same_or_not}
 use Rattle.page_codec.specs.declared.forms.MapPage.{MapPage}
-use Rattle.map_page_cache.specs.declared.frame.Frame.{Frame}
-use Rattle.map_page_cache.specs.CachedPages.{CachedPages, fresh, IsThere, IsClean, IsLowPoint, least_of, with_entry, handed_out, settled}
-use Rattle.map_page_cache.proofs.CacheLaws.{frame_at}
-use Rattle.map_page_cache.specs.Runs.{Call, Installed, Mapped, HandedOut, Written, IsAfter, IsContent, IsSetSince, IsInWrite, IsOwed}
+use Rattle.dirty_pages.specs.declared.marks.Marks.{Marks}
+use Rattle.dirty_pages.specs.Marks.{HasPoint, IsLowPoint, AreClean, clean, marks_at, with_marks, changed_at, handed_out, settled}
+use Rattle.dirty_pages.specs.History.{Changed, HandedOut, Written, IsUnwritten, IsUnreported, Becomes, IsAfter}
+use Rattle.dirty_pages.proofs.MarkLaws.{changed_here, changed_elsewhere, due_inside}
+use Rattle.dirty_pages.proofs.HistoryLaws as dirty
+use Rattle.map_page_cache.specs.CachedPages.{CachedPages, IsCache, IsPageOf, IsThere, IsAbsent, with_mapping, Sets, Expires, IsWriting, Writes}
+use Rattle.map_page_cache.specs.Frames.{IsAt}
+use Rattle.map_page_cache.specs.Runs.{Call, Install, Set, HandOut, Write, Leads, LeadTo, IsContent, events_of}
+use Rattle.map_page_cache.proofs.FrameLaws.{page_in, at_by}
+use Rattle.map_page_cache.proofs.CacheLaws.{at_there, in_at, one_frame, absent_at}
 
--- the point is there and is at most this one
-abbrev AtMost : Option Point → Point → Type 0
-AtMost o point = (first : Point) × (o ≡ Some first) × (first.0 ≤ point.0)
+-- the page is in a frame with these marks, or isn't there and has none
+abbrev HasMarks : CachedPages → PageId → Marks → Type 0
+HasMarks cache page marks = ((frame : ℕ) × IsAt cache.pages page frame × (marks ≡ marks_at cache.marks frame)) ⊎ (IsAbsent cache page × (marks ≡ clean))
 
--- the page is there, and a point of its frame is at most this one
-record Reached (field : Frame → Option Point) (frames : List Frame) (page : PageId) (point : Point) : Type 0 where
-  place : ℕ
-  inside : place < length frames
-  named : (d : Frame) → (get_or frames place d).page ≡ page
-  first : (d : Frame) → AtMost (field (get_or frames place d)) point
-
-abbrev dirty_in : Frame → Option Point
-dirty_in frame = frame.dirty
-
-abbrev writing_in : Frame → Option Point
-writing_in frame = frame.writing
-
-record Agrees (calls : List Call) (frames : List Frame) : Type 0 where
-  apart : (j k : ℕ) (d : Frame) → j < length frames → k < length frames → (get_or frames j d).page ≡ (get_or frames k d).page → j ≡ k
-  content : (k : ℕ) (d : Frame) → k < length frames → IsContent calls (get_or frames k d).page (get_or frames k d).content
-  since : (page : PageId) (point : Point) → IsSetSince calls page point → Reached dirty_in frames page point
-  in_write : (page : PageId) (point : Point) → IsInWrite calls page point → Reached writing_in frames page point
-
--- the frame at a place, and the one that is there instead of it
-record Replaces (old : List Frame) (place : ℕ) (was : Frame) : Type 0 where
-  inside : place < length old
-  read : (d : Frame) → get_or old place d ≡ was
-
-replaces : (old before behind : List Frame) (was : Frame) → old ≡ before ++ was ∷ behind → Replaces old (length before) was
-replaces old before behind was stood =
-    let size : length old ≡ length before + length (was ∷ behind) = ap (λ (fs : List Frame). length fs) stood ∙ length-append before (was ∷ behind) in
-    record {
-      inside = omega (arith, size);
-      read = λ d. ap (λ (fs : List Frame). get_or fs (length before) d) stood ∙ get_or-append_seam before was behind d;
-    }
-
-as_set : (old before behind : List Frame) (was is : Frame) → old ≡ before ++ was ∷ behind → before ++ is ∷ behind ≡ set old (length before) is
-as_set old before behind was is stood =
-    sym (ap (λ (fs : List Frame). set fs (length before) is) stood ∙ set_at before was behind is (length before) refl)
-
-apart-set : (frames : List Frame) (place : ℕ) (frame : Frame)
-    → ((j k : ℕ) (d : Frame) → j < length frames → k < length frames → (get_or frames j d).page ≡ (get_or frames k d).page → j ≡ k)
-    → place < length frames → ((k : ℕ) (d : Frame) → k < length frames → k ≢ place → (get_or frames k d).page ≢ frame.page)
-    → (j k : ℕ) (d : Frame) → j < length (set frames place frame) → k < length (set frames place frame)
-    → (get_or (set frames place frame) j d).page ≡ (get_or (set frames place frame) k d).page → j ≡ k
-apart-set frames place frame apart inside differs = λ j k d at_j at_k same.
-    let size = length-set frames place frame in
-    let here : (i : ℕ) → i ≡ place → (get_or (set frames place frame) i d).page ≡ frame.page
-    = λ i is. ap (λ (n : ℕ). (get_or (set frames place frame) n d).page) is ∙ ap (λ (f : Frame). f.page) (get_or-set_same frames place frame d inside) in
-    let there : (i : ℕ) → i ≢ place → (get_or (set frames place frame) i d).page ≡ (get_or frames i d).page
-    = λ i other. ap (λ (f : Frame). f.page) (get_or-set_other frames place i frame d other) in
-    elim (cases_eq j place) [
-      | inl one ↦ elim (cases_eq k place) [
-        | inl two ↦ one ∙ sym two
-        | inr two ↦ absurd (differs k d (omega (arith, size)) two (sym (there k two) ∙ sym same ∙ here j one))
-      ]
-      | inr one ↦ elim (cases_eq k place) [
-        | inl two ↦ absurd (differs j d (omega (arith, size)) one (sym (there j one) ∙ same ∙ here k two))
-        | inr two ↦ apart j k d (omega (arith, size)) (omega (arith, size)) (sym (there j one) ∙ same ∙ there k two)
+in_or_absent : (pages : List MapPage) (page : PageId) → ((frame : ℕ) × IsAt pages page frame) ⊎ All (λ content. content.head.page ≢ page) pages
+in_or_absent [] page = inr (λ k d inside. absurd (omega arith))
+in_or_absent (content ∷ pages) page =
+    elim (same_or_not content.head.page page) [
+      | inl here ↦ inl (0, record { inside = omega arith; named = λ d. here })
+      | inr other ↦ elim (in_or_absent pages page) [
+        | inl behind ↦ inl (suc behind.0, record { inside = let i = behind.1.inside in omega arith; named = λ d. behind.1.named d })
+        | inr absent ↦ inr (not_here content pages page other absent)
       ]
     ]
+  where
+    not_here : (content : MapPage) (pages : List MapPage) (page : PageId) → content.head.page ≢ page → All (λ c. c.head.page ≢ page) pages
+        → All (λ c. c.head.page ≢ page) (content ∷ pages)
+    not_here content pages page other absent zero d inside = other
+    not_here content pages page other absent (suc k) d inside = absent k d (omega arith)
 
--- what was reached is reached when a frame is replaced, if it still is there
-reached-set : (field : Frame → Option Point) (frames : List Frame) (place : ℕ) (frame : Frame) (page : PageId) (point : Point) → place < length frames
-    → (old : Reached field frames page point) → (old.place ≡ place → (frame.page ≡ page) × AtMost (field frame) point)
-    → Reached field (set frames place frame) page point
-reached-set field frames place frame page point inside old there =
-    let size = length-set frames place frame in
-    elim (cases_eq old.place place) [
-      | inl here ↦ let now = there here in record {
-        place = place;
-        inside = omega (arith, size);
-        named = λ d. ap (λ (f : Frame). f.page) (get_or-set_same frames place frame d inside) ∙ now.0;
-        first = λ d. subst (λ (f : Frame). AtMost (field f) point) (sym (get_or-set_same frames place frame d inside)) now.1;
-      }
-      | inr other ↦ record {
-        place = old.place;
-        inside = omega (arith, size, old.inside);
-        named = λ d. ap (λ (f : Frame). f.page) (get_or-set_other frames place old.place frame d other) ∙ old.named d;
-        first = λ d. subst (λ (f : Frame). AtMost (field f) point) (sym (get_or-set_other frames place old.place frame d other)) (old.first d);
-      }
-    ]
+has_marks : (cache : CachedPages) (page : PageId) → (marks : Marks) × HasMarks cache page marks
+has_marks cache page = elim (in_or_absent cache.pages page) [
+  | inl there ↦ (marks_at cache.marks there.0, inl (there.0, there.1, refl))
+  | inr absent ↦ (clean, inr (absent, refl))
+]
 
--- a frame that is reached now
-reached-here : (field : Frame → Option Point) (frames : List Frame) (place : ℕ) (frame : Frame) (page : PageId) (point : Point) → place < length frames
-    → frame.page ≡ page → AtMost (field frame) point → Reached field (set frames place frame) page point
-reached-here field frames place frame page point inside named first =
-    let size = length-set frames place frame in
-    record {
-      place = place;
-      inside = omega (arith, size);
-      named = λ d. ap (λ (f : Frame). f.page) (get_or-set_same frames place frame d inside) ∙ named;
-      first = λ d. subst (λ (f : Frame). AtMost (field f) point) (sym (get_or-set_same frames place frame d inside)) first;
-    }
+one_marks : (cache : CachedPages) (page : PageId) (frame : ℕ) (marks : Marks) → IsCache cache → IsAt cache.pages page frame → HasMarks cache page marks
+    → marks ≡ marks_at cache.marks frame
+one_marks cache page frame marks form at (inl has) = has.2 ∙ ap (λ (k : ℕ). marks_at cache.marks k) (one_frame cache.pages page has.0 frame form.apart has.1 at)
+one_marks cache page frame marks form at (inr none) = absurd (absent_at cache.pages page none.0 frame at)
 
--- what a reached place says of the frame that was there
-at_place : (field : Frame → Option Point) (frames : List Frame) (place : ℕ) (was : Frame) (page : PageId) (point : Point) → Replaces frames place was
-    → (old : Reached field frames page point) → old.place ≡ place → (was.page ≡ page) × AtMost (field was) point
-at_place field frames place was page point here old same =
-    let is : get_or frames old.place was ≡ was = ap (λ (n : ℕ). get_or frames n was) same ∙ here.read was in
-    (sym (ap (λ (f : Frame). f.page) is) ∙ old.named was, subst (λ (f : Frame). AtMost (field f) point) is (old.first was))
-
-least_of-new : (o : Option Point) (point : Point) → (least_of o point).0 ≤ point.0
-least_of-new None point = omega arith
-least_of-new (Some other) point = omega arith
-
-least_of-old : (o : Option Point) (first point : Point) → o ≡ Some first → (least_of o point).0 ≤ first.0
-least_of-old None first point is = cc
-least_of-old (Some other) first point is =
-    let same : other ≡ first = cc in
-    omega (arith, ap (λ (p : Point). p.0) same)
-
--- the other pages aren't the page that is changed
-others : (calls : List Call) (frames : List Frame) (place : ℕ) (was frame : Frame) → Agrees calls frames → Replaces frames place was → frame.page ≡ was.page
-    → (k : ℕ) (d : Frame) → k < length frames → k ≢ place → (get_or frames k d).page ≢ frame.page
-others calls frames place was frame old here same = λ k d inside other is.
-    other (old.apart k place d inside here.inside (is ∙ same ∙ ap (λ (f : Frame). f.page) (sym (here.read d))))
-
-mapped : (calls : List Call) (frames : List Frame) (place slot : ℕ) (mapping : Mapping) (point : Point) (page : PageId) (was : Frame) → Agrees calls frames
-    → Replaces frames place was → was.page ≡ page → Agrees (Mapped page slot mapping point ∷ calls) (set frames place (with_entry slot mapping point was))
-mapped calls frames place slot mapping point page was old here named =
-    let frame = with_entry slot mapping point was in
-    let size = length-set frames place frame in
-    let differs = others calls frames place was frame old here refl in
-    record {
-      apart = apart-set frames place frame old.apart here.inside differs;
-      content = λ k d inside. elim (cases_eq k place) [
-        | inl same ↦
-            let is : get_or (set frames place frame) k d ≡ frame = ap (λ (n : ℕ). get_or (set frames place frame) n d) same ∙ get_or-set_same frames place frame d here.inside in
-            let before : IsContent calls was.page was.content = subst (λ (f : Frame). IsContent calls f.page f.content) (here.read d) (old.content place d here.inside) in
-            subst (λ (f : Frame). IsContent (Mapped page slot mapping point ∷ calls) f.page f.content) (sym is) (inl (sym named, (was.content, before, refl)))
-        | inr other ↦
-            let within : k < length frames = omega (arith, size) in
-            subst (λ (f : Frame). IsContent (Mapped page slot mapping point ∷ calls) f.page f.content) (sym (get_or-set_other frames place k frame d other))
-            (inr ((λ is. differs k d within other (sym is ∙ sym named)), old.content k d within))
-      ];
-      since = λ q p set_since. elim set_since [
-        | inl now ↦ reached-here dirty_in frames place frame q p here.inside (named ∙ now.0)
-            (least_of was.dirty point, refl, omega (arith, least_of-new was.dirty point, ap (λ (x : Point). x.0) now.1))
-        | inr before ↦
-            let reached = old.since q p before in
-            reached-set dirty_in frames place frame q p here.inside reached (λ same.
-            let at = at_place dirty_in frames place was q p here reached same in
-            (at.0, (least_of was.dirty point, refl, omega (arith, least_of-old was.dirty at.1.0 point at.1.1, at.1.2))))
-      ];
-      in_write = λ q p before.
-          let reached = old.in_write q p before in
-          reached-set writing_in frames place frame q p here.inside reached (λ same. at_place writing_in frames place was q p here reached same);
-    }
-
--- a change that keeps the page and its mappings
-content-set : (calls : List Call) (frames : List Frame) (place : ℕ) (was frame : Frame) → Agrees calls frames → Replaces frames place was
-    → frame.page ≡ was.page → frame.content ≡ was.content
-    → (k : ℕ) (d : Frame) → k < length (set frames place frame) → IsContent calls (get_or (set frames place frame) k d).page (get_or (set frames place frame) k d).content
-content-set calls frames place was frame old here page content = λ k d inside.
-    let size = length-set frames place frame in
+-- the pages of a list of which one is replaced
+set_at : (pages : List MapPage) (place k : ℕ) (content : MapPage) (page : PageId) → place < length pages → IsAt (set pages place content) page k
+    → ((k ≡ place) × (content.head.page ≡ page)) ⊎ ((k ≢ place) × IsAt pages page k)
+set_at pages place k content page inside at =
+    let size = length-set pages place content in
+    let within = at.inside in
     elim (cases_eq k place) [
-      | inl same ↦
-          let is : get_or (set frames place frame) k d ≡ frame = ap (λ (n : ℕ). get_or (set frames place frame) n d) same ∙ get_or-set_same frames place frame d here.inside in
-          let before : IsContent calls was.page was.content = subst (λ (f : Frame). IsContent calls f.page f.content) (here.read d) (old.content place d here.inside) in
-          subst (λ (f : Frame). IsContent calls f.page f.content) (sym is)
-          (subst (λ (p : PageId). IsContent calls p frame.content) (sym page) (subst (λ (c : MapPage). IsContent calls was.page c) (sym content) before))
-      | inr other ↦
-          let within : k < length frames = omega (arith, size) in
-          subst (λ (f : Frame). IsContent calls f.page f.content) (sym (get_or-set_other frames place k frame d other)) (old.content k d within)
+      | inl here ↦ inl (
+        here,
+        sym (ap (λ (c : MapPage). c.head.page) (get_or-set_same pages place content content inside))
+            ∙ ap (λ (n : ℕ). (get_or (set pages place content) n content).head.page) (sym here) ∙ at.named content,
+      )
+      | inr apart ↦ inr (
+        apart,
+        record { inside = omega arith; named = λ d. ap (λ (c : MapPage). c.head.page) (sym (get_or-set_other pages place k content d apart)) ∙ at.named d },
+      )
     ]
 
-handed : (calls : List Call) (frames : List Frame) (place : ℕ) (point : Point) (copy : MapPage) (page : PageId) (was : Frame) → Agrees calls frames
-    → Replaces frames place was → was.page ≡ page → was.writing ≡ None → Agrees (HandedOut page point copy ∷ calls) (set frames place (handed_out was))
-handed calls frames place point copy page was old here named idle =
-    let frame = handed_out was in
-    record {
-      apart = apart-set frames place frame old.apart here.inside (others calls frames place was frame old here refl);
-      content = content-set calls frames place was frame old here refl refl;
-      since = λ q p before.
-          let reached = old.since q p before.1 in
-          reached-set dirty_in frames place frame q p here.inside reached (λ same.
-          let at = at_place dirty_in frames place was q p here reached same in
-          absurd (before.0 (sym named ∙ at.0)));
-      in_write = λ q p before. elim before [
-        | inl now ↦
-            let reached = old.since q p now.1 in
-            let same = old.apart reached.place place was reached.inside here.inside
-            (reached.named was ∙ sym now.0 ∙ sym named ∙ ap (λ (f : Frame). f.page) (sym (here.read was))) in
-            let at = at_place dirty_in frames place was q p here reached same in
-            reached-here writing_in frames place frame q p here.inside at.0 at.1
-        | inr earlier ↦
-            let reached = old.in_write q p earlier in
-            reached-set writing_in frames place frame q p here.inside reached (λ same.
-            let at = at_place writing_in frames place was q p here reached same in
-            let some = at.1.1 in
-            cc)
-      ];
-    }
-
-written : (calls : List Call) (frames : List Frame) (place : ℕ) (page : PageId) (was : Frame) → Agrees calls frames
-    → Replaces frames place was → was.page ≡ page → Agrees (Written page ∷ calls) (set frames place (settled was))
-written calls frames place page was old here named =
-    let frame = settled was in
-    record {
-      apart = apart-set frames place frame old.apart here.inside (others calls frames place was frame old here refl);
-      content = content-set calls frames place was frame old here refl refl;
-      since = λ q p before.
-          let reached = old.since q p before in
-          reached-set dirty_in frames place frame q p here.inside reached (λ same. at_place dirty_in frames place was q p here reached same);
-      in_write = λ q p before.
-          let reached = old.in_write q p before.1 in
-          reached-set writing_in frames place frame q p here.inside reached (λ same.
-          let at = at_place writing_in frames place was q p here reached same in
-          absurd (before.0 (sym named ∙ at.0)));
-    }
-
-replaced : (calls : List Call) (frames : List Frame) (place : ℕ) (page : PageId) (from : MapPage) (was : Frame) → Agrees calls frames
-    → Replaces frames place was → IsClean was → ((k : ℕ) (d : Frame) → k < length frames → (get_or frames k d).page ≢ page)
-    → Agrees (Installed page from ∷ calls) (set frames place (fresh page from))
-replaced calls frames place page from was old here clean absent =
-    let frame = fresh page from in
-    let size = length-set frames place frame in
-    record {
-      apart = apart-set frames place frame old.apart here.inside (λ k d inside other. absent k d inside);
-      content = λ k d inside. elim (cases_eq k place) [
-        | inl same ↦
-            let is : get_or (set frames place frame) k d ≡ frame = ap (λ (n : ℕ). get_or (set frames place frame) n d) same ∙ get_or-set_same frames place frame d here.inside in
-            subst (λ (f : Frame). IsContent (Installed page from ∷ calls) f.page f.content) (sym is) (inl (refl, refl))
-        | inr other ↦
-            let within : k < length frames = omega (arith, size) in
-            subst (λ (f : Frame). IsContent (Installed page from ∷ calls) f.page f.content) (sym (get_or-set_other frames place k frame d other))
-            (inr ((λ is. absent k d within (sym is)), old.content k d within))
-      ];
-      since = λ q p before.
-          let reached = old.since q p before in
-          reached-set dirty_in frames place frame q p here.inside reached (λ same.
-          let at = at_place dirty_in frames place was q p here reached same in
-          let some = at.1.1 in
-          let none = clean.0 in
-          cc);
-      in_write = λ q p before.
-          let reached = old.in_write q p before in
-          reached-set writing_in frames place frame q p here.inside reached (λ same.
-          let at = at_place writing_in frames place was q p here reached same in
-          let some = at.1.1 in
-          let none = clean.1 in
-          cc);
-    }
-
-reached-push : (field : Frame → Option Point) (frames : List Frame) (frame : Frame) (page : PageId) (point : Point) → Reached field frames page point
-    → Reached field (frames ++ frame ∷ []) page point
-reached-push field frames frame page point old =
-    let size = length-append frames (frame ∷ []) in
-    record {
-      place = old.place;
-      inside = omega (arith, size, old.inside);
-      named = λ d. ap (λ (f : Frame). f.page) (get_or_append_left frames (frame ∷ []) d old.place old.inside) ∙ old.named d;
-      first = λ d. subst (λ (f : Frame). AtMost (field f) point) (sym (get_or_append_left frames (frame ∷ []) d old.place old.inside)) (old.first d);
-    }
-
-pushed : (calls : List Call) (frames : List Frame) (page : PageId) (from : MapPage) → Agrees calls frames
-    → ((k : ℕ) (d : Frame) → k < length frames → (get_or frames k d).page ≢ page) → Agrees (Installed page from ∷ calls) (frames ++ fresh page from ∷ [])
-pushed calls frames page from old absent =
-    let frame = fresh page from in
-    let size = length-append frames (frame ∷ []) in
-    let before : (k : ℕ) (d : Frame) → k < length frames → get_or (frames ++ frame ∷ []) k d ≡ get_or frames k d
-    = λ k d inside. get_or_append_left frames (frame ∷ []) d k inside in
-    let last : (k : ℕ) (d : Frame) → k ≡ length frames → get_or (frames ++ frame ∷ []) k d ≡ frame
-    = λ k d is. ap (λ (n : ℕ). get_or (frames ++ frame ∷ []) n d) is ∙ get_or-append_seam frames frame [] d in
-    record {
-      apart = λ j k d at_j at_k same. elim (cases_lt j (length frames)) [
-        | inl one ↦ elim (cases_lt k (length frames)) [
-          | inl two ↦ old.apart j k d one two (sym (ap (λ (f : Frame). f.page) (before j d one)) ∙ same ∙ ap (λ (f : Frame). f.page) (before k d two))
-          | inr two ↦
-              let is : k ≡ length frames = omega (arith, size) in
-              absurd (absent j d one (sym (ap (λ (f : Frame). f.page) (before j d one)) ∙ same ∙ ap (λ (f : Frame). f.page) (last k d is)))
-        ]
-        | inr one ↦ elim (cases_lt k (length frames)) [
-          | inl two ↦
-              let is : j ≡ length frames = omega (arith, size) in
-              absurd (absent k d two (sym (ap (λ (f : Frame). f.page) (before k d two)) ∙ sym same ∙ ap (λ (f : Frame). f.page) (last j d is)))
-          | inr two ↦ omega (arith, size)
-        ]
-      ];
-      content = λ k d inside. elim (cases_lt k (length frames)) [
-        | inl within ↦ subst (λ (f : Frame). IsContent (Installed page from ∷ calls) f.page f.content) (sym (before k d within))
-            (inr ((λ is. absent k d within (sym is)), old.content k d within))
-        | inr past ↦
-            let is : k ≡ length frames = omega (arith, size) in
-            subst (λ (f : Frame). IsContent (Installed page from ∷ calls) f.page f.content) (sym (last k d is)) (inl (refl, refl))
-      ];
-      since = λ q p set_since. reached-push dirty_in frames frame q p (old.since q p set_since);
-      in_write = λ q p in_write. reached-push writing_in frames frame q p (old.in_write q p in_write);
-    }
-
-nothing_yet : Agrees [] []
-nothing_yet = record {
-  apart = λ j k d at_j at_k same. absurd (omega arith);
-  content = λ k d inside. absurd (omega arith);
-  since = λ q p never. absurd never;
-  in_write = λ q p never. absurd never;
+set_other : (pages : List MapPage) (place k : ℕ) (content : MapPage) (page : PageId) → k ≢ place → IsAt pages page k → IsAt (set pages place content) page k
+set_other pages place k content page apart at = record {
+  inside = let size = length-set pages place content in let inside = at.inside in omega arith;
+  named = λ d. ap (λ (c : MapPage). c.head.page) (get_or-set_other pages place k content d apart) ∙ at.named d;
 }
 
-agrees : (frames : ℕ) (calls : List Call) (cache : CachedPages) → IsAfter frames calls cache → Agrees calls cache.kept
-agrees frames [] cache after = subst (λ (known : CachedPages). Agrees [] known.kept) (sym after) nothing_yet
-agrees frames (Installed page from ∷ calls) cache (old, after, (absent, took)) =
-    let earlier = agrees frames calls old after in
-    elim took [
-      | inl fills ↦ subst (λ (known : CachedPages). Agrees (Installed page from ∷ calls) known.kept) (sym fills.after) (pushed calls old.kept page from earlier absent)
-      | inr gives ↦ subst (λ (known : CachedPages). Agrees (Installed page from ∷ calls) known.kept) (sym gives.after)
-          (subst (λ (fs : List Frame). Agrees (Installed page from ∷ calls) fs) (sym (as_set old.kept gives.before gives.behind gives.given_up (fresh page from) gives.stood))
-          (replaced calls old.kept (length gives.before) page from gives.given_up earlier (replaces old.kept gives.before gives.behind gives.given_up gives.stood) gives.clean absent))
-    ]
-agrees frames (Mapped page slot mapping point ∷ calls) cache (old, after, changes) =
-    let earlier = agrees frames calls old after in
-    let frame = with_entry slot mapping point changes.frame in
-    subst (λ (known : CachedPages). Agrees (Mapped page slot mapping point ∷ calls) known.kept) (sym changes.after)
-    (subst (λ (fs : List Frame). Agrees (Mapped page slot mapping point ∷ calls) fs) (sym (as_set old.kept changes.before changes.behind changes.frame frame changes.stood))
-    (mapped calls old.kept (length changes.before) slot mapping point page changes.frame earlier (replaces old.kept changes.before changes.behind changes.frame changes.stood) changes.named))
-agrees frames (HandedOut page point copy ∷ calls) cache (old, after, out) =
-    let earlier = agrees frames calls old after in
-    let changes = out.changes in
-    subst (λ (known : CachedPages). Agrees (HandedOut page point copy ∷ calls) known.kept) (sym changes.after)
-    (subst (λ (fs : List Frame). Agrees (HandedOut page point copy ∷ calls) fs) (sym (as_set old.kept changes.before changes.behind changes.frame (handed_out changes.frame) changes.stood))
-    (handed calls old.kept (length changes.before) point copy page changes.frame earlier (replaces old.kept changes.before changes.behind changes.frame changes.stood) changes.named out.due.idle))
-agrees frames (Written page ∷ calls) cache (old, after, changes) =
-    let earlier = agrees frames calls old after in
-    subst (λ (known : CachedPages). Agrees (Written page ∷ calls) known.kept) (sym changes.after)
-    (subst (λ (fs : List Frame). Agrees (Written page ∷ calls) fs) (sym (as_set old.kept changes.before changes.behind changes.frame (settled changes.frame) changes.stood))
-    (written calls old.kept (length changes.before) page changes.frame earlier (replaces old.kept changes.before changes.behind changes.frame changes.stood) changes.named))
+set_here : (pages : List MapPage) (place : ℕ) (content : MapPage) (page : PageId) → place < length pages → content.head.page ≡ page → IsAt (set pages place content) page place
+set_here pages place content page inside named = record {
+  inside = let size = length-set pages place content in omega arith;
+  named = λ d. ap (λ (c : MapPage). c.head.page) (get_or-set_same pages place content d inside) ∙ named;
+}
 
-pub content_after : (frames : ℕ) (calls : List Call) (cache : CachedPages) → IsAfter frames calls cache
-    → (page : PageId) (frame : Frame) → IsThere cache page frame → IsContent calls page frame.content
-content_after frames calls cache after page frame there =
-    let here = (agrees frames calls cache after).content there.0.0 frame there.0.1 in
-    subst (λ (p : PageId). IsContent calls p frame.content) there.1 (subst (λ (f : Frame). IsContent calls f.page f.content) there.0.2 here)
-
-reached_there : (field : Frame → Option Point) (cache : CachedPages) (page : PageId) (point : Point) → Reached field cache.kept page point
-    → (frame : Frame) × IsThere cache page frame
-reached_there field cache page point reached =
-    let d = frame_at cache.kept reached.place reached.inside in
-    let frame = get_or cache.kept reached.place d in
-    (frame, ((reached.place, reached.inside, get_or_default cache.kept reached.place frame d reached.inside), reached.named d))
-
-pub owed_is_there : (frames : ℕ) (calls : List Call) (cache : CachedPages) → IsAfter frames calls cache
-    → (page : PageId) (point : Point) → IsOwed calls page point → (frame : Frame) × IsThere cache page frame
-owed_is_there frames calls cache after page point owed =
-    let all = agrees frames calls cache after in
-    elim owed [
-      | inl since ↦ reached_there dirty_in cache page point (all.since page point since)
-      | inr in_write ↦ reached_there writing_in cache page point (all.in_write page point in_write)
+push_at : (pages : List MapPage) (k : ℕ) (content : MapPage) (page : PageId) → IsAt (pages ++ content ∷ []) page k
+    → ((k ≡ length pages) × (content.head.page ≡ page)) ⊎ IsAt pages page k
+push_at pages k content page at =
+    let size = length-append pages (content ∷ []) in
+    let within = at.inside in
+    elim (cases_lt k (length pages)) [
+      | inl old ↦ inr (record { inside = old; named = λ d. ap (λ (c : MapPage). c.head.page) (sym (get_or_append_left pages (content ∷ []) d k old)) ∙ at.named d })
+      | inr new ↦
+          let here : k ≡ length pages = omega arith in
+          inl (
+            here,
+            sym (ap (λ (c : MapPage). c.head.page) (ap (λ (n : ℕ). get_or (pages ++ content ∷ []) n content) here ∙ get_or-append_seam pages content [] content))
+                ∙ at.named content,
+          )
     ]
 
-pub owed_from_low : (frames : ℕ) (calls : List Call) (cache : CachedPages) → IsAfter frames calls cache
-    → (page : PageId) (point low : Point) → IsOwed calls page point → IsLowPoint cache low → low.0 ≤ point.0
-owed_from_low frames calls cache after page point low owed is =
-    let all = agrees frames calls cache after in
-    elim owed [
-      | inl since ↦
-          let reached = all.since page point since in
-          let first = reached.first is.frame in
-          omega (arith, first.2, is.least reached.place is.frame reached.inside first.0 (inl first.1))
-      | inr in_write ↦
-          let reached = all.in_write page point in_write in
-          let first = reached.first is.frame in
-          omega (arith, first.2, is.least reached.place is.frame reached.inside first.0 (inr first.1))
+push_old : (pages : List MapPage) (k : ℕ) (content : MapPage) (page : PageId) → IsAt pages page k → IsAt (pages ++ content ∷ []) page k
+push_old pages k content page at = record {
+  inside = let size = length-append pages (content ∷ []) in let inside = at.inside in omega arith;
+  named = λ d. ap (λ (c : MapPage). c.head.page) (get_or_append_left pages (content ∷ []) d k at.inside) ∙ at.named d;
+}
+
+-- a page that is in no frame isn't there
+none_absent : (pages : List MapPage) (page : PageId) → ((frame : ℕ) → IsAt pages page frame → ⊥) → All (λ content. content.head.page ≢ page) pages
+none_absent pages page none k d inside named = none k (at_by pages page k d inside named)
+
+-- an installed page has no marks, and neither had the page that was given up for it
+installed : (old new : CachedPages) (content : MapPage) (page : PageId) (marks : Marks) → IsCache old → Leads old (Install content) new → HasMarks new page marks
+    → HasMarks old page marks
+installed old new content page marks form (absent, inl fills) has = elim (subst (λ (c : CachedPages). HasMarks c page marks) fills.after has) [
+  | inl there ↦ elim (push_at old.pages there.0 content page there.1) [
+    | inl here ↦ inr (
+      subst (λ (p : PageId). IsAbsent old p) here.1 absent,
+      there.2 ∙ form.empty there.0 (let h = here.0 in omega arith),
+    )
+    | inr before ↦ inl (there.0, before, there.2)
+  ]
+  | inr none ↦ inr (
+    none_absent old.pages page (λ frame at. absent_at (old.pages ++ content ∷ []) page none.0 frame (push_old old.pages frame content page at)),
+    none.1,
+  )
+]
+installed old new content page marks form (absent, inr gives) has = elim (subst (λ (c : CachedPages). HasMarks c page marks) gives.after has) [
+  | inl there ↦ elim (set_at old.pages gives.frame there.0 content page gives.inside there.1) [
+    | inl here ↦ inr (
+      subst (λ (p : PageId). IsAbsent old p) here.1 absent,
+      there.2 ∙ ap (λ (k : ℕ). marks_at old.marks k) here.0 ∙ gives.clean,
+    )
+    | inr before ↦ inl (there.0, before.1, there.2)
+  ]
+  | inr none ↦ elim (in_or_absent old.pages page) [
+    | inl before ↦ elim (cases_eq before.0 gives.frame) [
+      | inl here ↦ inl (before.0, before.1, none.1 ∙ sym (ap (λ (k : ℕ). marks_at old.marks k) here ∙ gives.clean))
+      | inr apart ↦ absurd (absent_at (set old.pages gives.frame content) page none.0 before.0 (set_other old.pages gives.frame before.0 content page apart before.1))
+    ]
+    | inr before ↦ inr (before, none.1)
+  ]
+]
+
+-- a call that changes the marks of one page, and moves none
+marked : (old : CachedPages) (pages : List MapPage) (changed : PageId) (place : ℕ) (change : Marks → Marks) (page : PageId) (marks : Marks) → IsCache old
+    → IsAt old.pages changed place → ((other : PageId) (frame : ℕ) → IsAt pages other frame → IsAt old.pages other frame)
+    → ((other : PageId) (frame : ℕ) → IsAt old.pages other frame → IsAt pages other frame)
+    → HasMarks (record old { pages = pages; marks = with_marks old.marks place change }) page marks
+    → (before : Marks) × HasMarks old page before
+    × (((changed ≡ page) × (before ≡ marks_at old.marks place) × (marks ≡ change before)) ⊎ ((changed ≢ page) × (marks ≡ before)))
+marked old pages changed place change page marks form at back on (inl there) =
+    let before = back page there.0 there.1 in
+    let size = form.marks in
+    let fits = form.fits in
+    let inside = at.inside in
+    elim (cases_eq there.0 place) [
+      | inl here ↦
+          let d = page_in old.pages place at.inside in
+          let same : changed ≡ page = sym (at.named d) ∙ ap (λ (k : ℕ). (get_or old.pages k d).head.page) (sym here) ∙ before.named d in (
+            marks_at old.marks place,
+            inl (place, subst (λ (p : PageId). IsAt old.pages p place) same at, refl),
+            inl (
+              same,
+              refl,
+              there.2 ∙ ap (λ (k : ℕ). marks_at (with_marks old.marks place change) k) here ∙ changed_here old.marks place change (omega arith),
+            ),
+          )
+      | inr apart ↦ (
+        marks_at old.marks there.0,
+        inl (there.0, before, refl),
+        inr (
+          (λ same. apart (one_frame old.pages page there.0 place form.apart before (subst (λ (p : PageId). IsAt old.pages p place) same at))),
+          there.2 ∙ changed_elsewhere old.marks place there.0 change apart,
+        ),
+      )
+    ]
+marked old pages changed place change page marks form at back on (inr none) = (
+  clean,
+  inr (none_absent old.pages page (λ frame before. absent_at pages page none.0 frame (on page frame before)), refl),
+  inr ((λ same. absent_at pages page none.0 place (on page place (subst (λ (p : PageId). IsAt old.pages p place) same at))), none.1),
+)
+
+entered : (old new : CachedPages) (changed : PageId) (slot : ℕ) (mapping : Mapping) (point : Point) (page : PageId) (marks : Marks) → IsCache old
+    → Sets old new changed slot mapping point → HasMarks new page marks → (before : Marks) × HasMarks old page before × Becomes (Changed changed point) page before marks
+entered old new changed slot mapping point page marks form sets has =
+    let content = with_mapping slot mapping sets.content in
+    let at = in_at old changed sets.frame sets.content sets.stood in
+    let known = marked old (set old.pages sets.frame content) changed sets.frame (changed_at point) page marks form at
+    (λ other frame there. elim (set_at old.pages sets.frame frame content other sets.stood.inside there) [
+      | inl here ↦ subst (λ (k : ℕ). IsAt old.pages other k) (sym here.0) (subst (λ (p : PageId). IsAt old.pages p sets.frame) (sym sets.stood.named ∙ here.1) at)
+      | inr before ↦ before.1
+    ])
+    (λ other frame there. elim (cases_eq frame sets.frame) [
+      | inl here ↦
+          let at' = subst (λ (k : ℕ). IsAt old.pages other k) here there in
+          let same : content.head.page ≡ other = sets.stood.named ∙ sym (at.named content) ∙ at'.named content in
+          subst (λ (k : ℕ). IsAt (set old.pages sets.frame content) other k) (sym here) (set_here old.pages sets.frame content other sets.stood.inside same)
+      | inr apart ↦ set_other old.pages sets.frame frame content other apart there
+    ])
+    (subst (λ (c : CachedPages). HasMarks c page marks) sets.after has) in
+    (known.0, known.1, elim known.2 [ inl this ↦ inl (this.0, this.2) | inr none ↦ inr none ])
+
+expired : (old new : CachedPages) (out : PageId) (point : Point) (copy : MapPage) (page : PageId) (marks : Marks) → IsCache old
+    → Expires old new point out copy → HasMarks new page marks → (before : Marks) × HasMarks old page before × Becomes (HandedOut out) page before marks
+expired old new out point copy page marks form expires has =
+    let known = marked old old.pages out expires.frame handed_out page marks form (in_at old out expires.frame copy expires.stood) (λ other frame there. there) (λ other frame there. there)
+    (subst (λ (c : CachedPages). HasMarks c page marks) (expires.after ∙ ap (λ (ms : List Marks). record old { marks = ms }) expires.marks.after) has) in (
+      known.0,
+      known.1,
+      elim known.2 [
+        | inl this ↦ inl (this.0, ap (λ (m : Marks). m.writing) this.1 ∙ expires.marks.due.idle, this.2)
+        | inr none ↦ inr none
+      ],
+    )
+
+reported : (old new : CachedPages) (out page : PageId) (marks : Marks) → IsCache old → Writes old new out → HasMarks new page marks
+    → (before : Marks) × HasMarks old page before × Becomes (Written out) page before marks
+reported old new out page marks form writes has =
+    let known = marked old old.pages out writes.frame settled page marks form (in_at old out writes.frame writes.content writes.stood) (λ other frame there. there) (λ other frame there. there)
+    (subst (λ (c : CachedPages). HasMarks c page marks) writes.after has) in
+    (known.0, known.1, elim known.2 [ inl this ↦ inl (this.0, this.2) | inr none ↦ inr none ])
+
+call_keeps : (old new : CachedPages) (call : Call) → Leads old call new → IsCache new
+call_keeps old new (Install content) leads = elim leads.1 [ inl fills ↦ fills.form | inr gives ↦ gives.form ]
+call_keeps old new (Set page slot mapping point) leads = leads.form
+call_keeps old new (HandOut page) leads = leads.2.form
+call_keeps old new (Write page) leads = leads.1.form
+
+pub calls_keep : (old new : CachedPages) (calls : List Call) → IsCache old → LeadTo old calls new → IsCache new
+calls_keep old new [] form same = subst (λ (c : CachedPages). IsCache c) (sym same) form
+calls_keep old new (call ∷ calls) form lead = call_keeps lead.0 new call lead.2
+
+-- the marks of a page follow from what the calls do to it
+after : (old new : CachedPages) (calls : List Call) (page : PageId) (marks : Marks) → IsCache old → LeadTo old calls new → HasMarks new page marks
+    → (before : Marks) × HasMarks old page before × IsAfter before (events_of calls) page marks
+after old new [] page marks form same has = (marks, subst (λ (c : CachedPages). HasMarks c page marks) same has, refl)
+after old new (Install content ∷ calls) page marks form lead has =
+    after old lead.0 calls page marks form lead.1 (installed lead.0 new content page marks (calls_keep old lead.0 calls form lead.1) lead.2 has)
+after old new (Set changed slot mapping point ∷ calls) page marks form lead has =
+    let step = entered lead.0 new changed slot mapping point page marks (calls_keep old lead.0 calls form lead.1) lead.2 has in
+    let past = after old lead.0 calls page step.0 form lead.1 step.1 in
+    (past.0, past.1, (step.0, past.2, step.2))
+after old new (HandOut out ∷ calls) page marks form lead has =
+    let step = expired lead.0 new out lead.2.0 lead.2.1 page marks (calls_keep old lead.0 calls form lead.1) lead.2.2 has in
+    let past = after old lead.0 calls page step.0 form lead.1 step.1 in
+    (past.0, past.1, (step.0, past.2, step.2))
+after old new (Write out ∷ calls) page marks form lead has =
+    let step = reported lead.0 new out page marks (calls_keep old lead.0 calls form lead.1) lead.2.1 has in
+    let past = after old lead.0 calls page step.0 form lead.1 step.1 in
+    (past.0, past.1, (step.0, past.2, step.2))
+
+-- an entry that isn't durable: its page is in a frame whose marks have a point
+owed : (old new : CachedPages) (calls : List Call) (page : PageId) (point : Point) → IsCache old → LeadTo old calls new
+    → IsUnwritten (events_of calls) page point
+    → (frame : ℕ) × IsAt new.pages page frame × ((low : Point) × HasPoint (marks_at new.marks frame) low × (low.0 ≤ point.0))
+owed old new calls page point form lead unwritten =
+    let own = has_marks new page in
+    let past = after old new calls page own.0 form lead own.1 in
+    let has = dirty.has_point past.0 own.0 (events_of calls) page point past.2 unwritten in
+    elim own.1 [
+      | inl there ↦ (there.0, there.1, (has.0, subst (λ (m : Marks). HasPoint m has.0) there.2 has.1, has.2))
+      | inr none ↦ absurd (dirty.not_clean past.0 own.0 (events_of calls) page point past.2 unwritten none.1)
     ]
 
-pub owed_not_clean : (frames : ℕ) (calls : List Call) (cache : CachedPages) → IsAfter frames calls cache
-    → (page : PageId) (point : Point) → IsOwed calls page point → All IsClean cache.kept → ⊥
-owed_not_clean frames calls cache after page point owed clean =
-    let all = agrees frames calls cache after in
-    elim owed [
-      | inl since ↦
-          let reached = all.since page point since in
-          let d = frame_at cache.kept reached.place reached.inside in
-          let some = (reached.first d).1 in
-          let none = (clean reached.place d reached.inside).0 in
-          cc
-      | inr in_write ↦
-          let reached = all.in_write page point in_write in
-          let d = frame_at cache.kept reached.place reached.inside in
-          let some = (reached.first d).1 in
-          let none = (clean reached.place d reached.inside).1 in
-          cc
+pub owed_is_there : (old new : CachedPages) (calls : List Call) (page : PageId) (point : Point) → IsCache old → LeadTo old calls new
+    → IsUnwritten (events_of calls) page point → (content : MapPage) × IsThere new page content
+owed_is_there old new calls page point form lead unwritten =
+    let at = owed old new calls page point form lead unwritten in
+    let d = page_in new.pages at.0 at.1.inside in
+    let content = get_or new.pages at.0 d in
+    (content, at_there new page at.0 content at.1 (get_or_default new.pages at.0 d content at.1.inside))
+
+pub owed_from_low : (old new : CachedPages) (calls : List Call) (page : PageId) (point low : Point) → IsCache old → LeadTo old calls new
+    → IsUnwritten (events_of calls) page point → IsLowPoint new.marks low → low.0 ≤ point.0
+owed_from_low old new calls page point low form lead unwritten is =
+    let at = owed old new calls page point form lead unwritten in
+    let least = is.least at.0 at.2.0 at.2.1 in
+    let early = at.2.2 in
+    omega arith
+
+pub owed_not_clean : (old new : CachedPages) (calls : List Call) (page : PageId) (point : Point) → IsCache old → LeadTo old calls new
+    → IsUnwritten (events_of calls) page point → AreClean new.marks → ⊥
+owed_not_clean old new calls page point form lead unwritten are =
+    let at = owed old new calls page point form lead unwritten in
+    let none = are at.0 in
+    elim at.2.1 [ inl dirty_at ↦ cc | inr out_at ↦ cc ]
+
+-- a page that was handed out is being written until it is reported
+pub is_out : (old new : CachedPages) (page : PageId) (point : Point) (copy : MapPage) → IsCache old → Expires old new point page copy → IsWriting new page
+is_out old new page point copy form expires =
+    let inside = due_inside old.marks expires.frame expires.marks.first expires.marks.due in
+    subst (λ (c : CachedPages). IsWriting c page) (sym expires.after) (record {
+      frame = expires.frame;
+      content = copy;
+      stands = record { inside = expires.stood.inside; is = expires.stood.is; named = expires.stood.named };
+      marks = record {
+        first = expires.marks.first;
+        is = ap (λ (ms : List Marks). (marks_at ms expires.frame).writing) expires.marks.after
+            ∙ ap (λ (m : Marks). m.writing) (changed_here old.marks expires.frame handed_out inside) ∙ expires.marks.due.dirty;
+      };
+    })
+
+pub still_out : (old new : CachedPages) (calls : List Call) (page : PageId) → IsCache old → LeadTo old calls new
+    → IsUnreported (events_of calls) page → IsWriting old page → IsWriting new page
+still_out old new calls page form lead unreported out =
+    let own = has_marks new page in
+    let past = after old new calls page own.0 form lead own.1 in
+    let was = one_marks old page out.frame past.0 form (in_at old page out.frame out.content out.stands) past.1 in
+    let now = dirty.still_out past.0 own.0 (events_of calls) page out.marks.first past.2 unreported (ap (λ (m : Marks). m.writing) was ∙ out.marks.is) in
+    elim own.1 [
+      | inl there ↦
+          let d = page_in new.pages there.0 there.1.inside in
+          let content = get_or new.pages there.0 d in
+          record {
+            frame = there.0;
+            content = content;
+            stands = record { inside = there.1.inside; is = get_or_default new.pages there.0 content d there.1.inside; named = there.1.named d };
+            marks = record { first = out.marks.first; is = ap (λ (m : Marks). m.writing) (sym there.2) ∙ now };
+          }
+      | inr none ↦ absurd (let idle = ap (λ (m : Marks). m.writing) none.1 in cc)
     ]
+
+pub not_out_before : (old new : CachedPages) (page : PageId) (point : Point) (copy : MapPage) → IsCache old → Expires old new point page copy → IsWriting old page → ⊥
+not_out_before old new page point copy form expires out =
+    let same = one_frame old.pages page out.frame expires.frame form.apart (in_at old page out.frame out.content out.stands)
+    (in_at old page expires.frame copy expires.stood) in
+    let idle = ap (λ (k : ℕ). (marks_at old.marks k).writing) same ∙ expires.marks.due.idle in
+    let some = out.marks.is in
+    cc
+
+-- a page has one content
+pub one_content : (cache : CachedPages) (page : PageId) (content other : MapPage) → IsCache cache → IsThere cache page content → IsThere cache page other → content ≡ other
+one_content cache page content other form there there' =
+    let at = at_by cache.pages page there.0.0 content there.0.1 (ap (λ (c : MapPage). c.head.page) there.0.2 ∙ there.1) in
+    let at' = at_by cache.pages page there'.0.0 other there'.0.1 (ap (λ (c : MapPage). c.head.page) there'.0.2 ∙ there'.1) in
+    let same = one_frame cache.pages page there.0.0 there'.0.0 form.apart at at' in
+    sym there.0.2 ∙ ap (λ (k : ℕ). get_or cache.pages k content) same ∙ get_or_default cache.pages there'.0.0 content other there'.0.1 ∙ there'.0.2
+
+pub content_held : (cache : CachedPages) (page : PageId) (content : MapPage) → IsCache cache → IsThere cache page content → IsPageOf cache.geometry content
+content_held cache page content form there = subst (λ (c : MapPage). IsPageOf cache.geometry c) there.0.2 (form.each there.0.0 content there.0.1)
+
+-- what is there after a page was pushed or set
+pushed_there : (pages : List MapPage) (new content : MapPage) (k : ℕ) → k < length (pages ++ new ∷ []) → get_or (pages ++ new ∷ []) k content ≡ content
+    → (content ≡ new) ⊎ ((k < length pages) × (get_or pages k content ≡ content))
+pushed_there pages new content k inside is =
+    let size = length-append pages (new ∷ []) in
+    elim (cases_lt k (length pages)) [
+      | inl old ↦ inr (old, sym (get_or_append_left pages (new ∷ []) content k old) ∙ is)
+      | inr last ↦ let here : k ≡ length pages = omega arith in
+          inl (sym is ∙ ap (λ (n : ℕ). get_or (pages ++ new ∷ []) n content) here ∙ get_or-append_seam pages new [] content)
+    ]
+
+set_there : (pages : List MapPage) (place : ℕ) (new content : MapPage) (k : ℕ) → place < length pages → k < length (set pages place new) → get_or (set pages place new) k content ≡ content
+    → ((k ≡ place) × (content ≡ new)) ⊎ ((k ≢ place) × (k < length pages) × (get_or pages k content ≡ content))
+set_there pages place new content k within inside is =
+    let size = length-set pages place new in
+    elim (cases_eq k place) [
+      | inl here ↦ inl (here, sym is ∙ ap (λ (n : ℕ). get_or (set pages place new) n content) here ∙ get_or-set_same pages place new content within)
+      | inr apart ↦ inr (apart, omega arith, sym (get_or-set_other pages place k new content apart) ∙ is)
+    ]
+
+content_step : (start old new : CachedPages) (calls : List Call) (call : Call) (page : PageId) (content : MapPage) → IsCache old → Leads old call new
+    → ((before : MapPage) → IsThere old page before → IsContent start calls page before) → IsThere new page content → IsContent start (call ∷ calls) page content
+content_step start old new calls (Install from) page content form (absent, inl fills) known there =
+    let there' = subst (λ (c : CachedPages). IsThere c page content) fills.after there in
+    elim (pushed_there old.pages from content there'.0.0 there'.0.1 there'.0.2) [
+      | inl here ↦ inl (ap (λ (c : MapPage). c.head.page) (sym here) ∙ there'.1, here)
+      | inr before ↦ inr ((λ same. absent there'.0.0 content before.0 (ap (λ (c : MapPage). c.head.page) before.1 ∙ there'.1 ∙ sym same)), known content ((there'.0.0, before.0, before.1), there'.1))
+    ]
+content_step start old new calls (Install from) page content form (absent, inr gives) known there =
+    let there' = subst (λ (c : CachedPages). IsThere c page content) gives.after there in
+    elim (set_there old.pages gives.frame from content there'.0.0 gives.inside there'.0.1 there'.0.2) [
+      | inl here ↦ inl (ap (λ (c : MapPage). c.head.page) (sym here.1) ∙ there'.1, here.1)
+      | inr before ↦ inr (
+        (λ same. absent there'.0.0 content before.1 (ap (λ (c : MapPage). c.head.page) before.2 ∙ there'.1 ∙ sym same)),
+        known content ((there'.0.0, before.1, before.2), there'.1),
+      )
+    ]
+content_step start old new calls (Set changed slot mapping point) page content form sets known there =
+    let there' = subst (λ (c : CachedPages). IsThere c page content) sets.after there in
+    elim (set_there old.pages sets.frame (with_mapping slot mapping sets.content) content there'.0.0 sets.stood.inside there'.0.1 there'.0.2) [
+      | inl here ↦
+          let same : changed ≡ page = sym sets.stood.named ∙ ap (λ (c : MapPage). c.head.page) (sym here.1) ∙ there'.1 in
+          inl (same, (sets.content, known sets.content ((sets.frame, sets.stood.inside, sets.stood.is), sets.stood.named ∙ same), here.1))
+      | inr before ↦ inr (
+        (λ same. before.0 (one_frame old.pages page there'.0.0 sets.frame form.apart (at_by old.pages page there'.0.0 content before.1 (ap (λ (c : MapPage). c.head.page) before.2 ∙ there'.1))
+            (subst (λ (p : PageId). IsAt old.pages p sets.frame) same (in_at old changed sets.frame sets.content sets.stood)))),
+        known content ((there'.0.0, before.1, before.2), there'.1),
+      )
+    ]
+content_step start old new calls (HandOut out) page content form leads known there = known content (subst (λ (c : CachedPages). IsThere c page content) leads.2.after there)
+content_step start old new calls (Write out) page content form leads known there = known content (subst (λ (c : CachedPages). IsThere c page content) leads.1.after there)
+
+pub content_after : (old new : CachedPages) (calls : List Call) (page : PageId) (content : MapPage) → IsCache old → LeadTo old calls new
+    → IsThere new page content → IsContent old calls page content
+content_after old new [] page content form same there = subst (λ (c : CachedPages). IsThere c page content) same there
+content_after old new (call ∷ calls) page content form lead there =
+    content_step old lead.0 new calls call page content (calls_keep old lead.0 calls form lead.1) lead.2
+    (λ before was. content_after old lead.0 calls page before form lead.1 was) there

@@ -1,120 +1,113 @@
--- What a cache keeps: pages, and what of each isn't durable yet.
-use Rattle.std.specs.Prelude.{ℕ, ◌≡◌, ◌≢◌, ◌<◌, ◌≤◌, ◌⊎◌, min, List, [], ◌∷◌, ◌++◌, length, All, Contains, Option, None, Some, slice_index_or, slice_set}
+-- What a cache keeps: pages by their frames, and what of each isn't durable yet.
+use Rattle.std.specs.Prelude.{ℕ, ◌≡◌, ◌≢◌, ◌<◌, ◌≤◌, List, [], ◌∷◌, ◌++◌, length, All, Contains, replicate, slice_index_or, slice_set}
 use Rattle.blk_base.specs.declared.place.PageId.{PageId}
 use Rattle.blk_base.specs.declared.place.Mapping.{Mapping}
 use Rattle.blk_base.specs.declared.point.Point.{Point}
+use Rattle.blk_base.specs.declared.geometry.Geometry.{Geometry}
 use Rattle.page_codec.specs.declared.forms.MapPage.{MapPage}
-use Rattle.map_page_cache.specs.declared.frame.Frame.{Frame}
+use Rattle.page_codec.specs.Grammar.{AreHeld}
+use Rattle.dirty_pages.specs.declared.marks.Marks.{Marks}
+use Rattle.dirty_pages.specs.Marks.{clean, marks_at, with_marks, changed_at, settled, HandsOut, IsBeingWritten}
 
--- how many frames there are, and the pages in those that aren't empty
+-- The sizes of the image, how many frames there are, the pages in those that aren't empty, which are the first ones, and
+-- the marks of all frames.
 pub record CachedPages : Type 0 where
+  pub geometry : Geometry
   pub frames : ℕ
-  pub kept : List Frame
+  pub pages : List MapPage
+  pub marks : List Marks
 
 -- each frame is empty
-abbrev pub no_pages : ℕ → CachedPages
-no_pages frames = record { frames = frames; kept = [] }
+abbrev pub no_pages : Geometry → ℕ → CachedPages
+no_pages g frames = record { geometry = g; frames = frames; pages = []; marks = replicate frames clean }
 
--- the page is there, with what the frame has of it
-abbrev pub IsThere : CachedPages → PageId → Frame → Type 0
-IsThere cache page frame = Contains cache.kept frame × (frame.page ≡ page)
+-- a page of an image with these sizes, with what the format of pages can hold
+pub record IsPageOf (g : Geometry) (content : MapPage) : Type 0 where
+  pub geometry : content.head.geometry ≡ g
+  pub held : AreHeld g content.head.page.level content.mappings
+
+-- no page is there twice
+abbrev pub AreApart : List MapPage → Type 0
+AreApart pages =
+    (j k : ℕ) (d : MapPage) → j < length pages → k < length pages
+    → (slice_index_or pages j d).head.page ≡ (slice_index_or pages k d).head.page → j ≡ k
+
+-- Holds of each cache: its pages are of its image, no two are the same, and empty frames have no marks.
+pub record IsCache (cache : CachedPages) : Type 0 where
+  pub fits : length cache.pages ≤ cache.frames
+  pub marks : length cache.marks ≡ cache.frames
+  pub each : All (IsPageOf cache.geometry) cache.pages
+  pub apart : AreApart cache.pages
+  pub empty : (frame : ℕ) → length cache.pages ≤ frame → marks_at cache.marks frame ≡ clean
+
+-- the page is there, with this content
+abbrev pub IsThere : CachedPages → PageId → MapPage → Type 0
+IsThere cache page content = Contains cache.pages content × (content.head.page ≡ page)
 
 -- the page isn't there
 abbrev pub IsAbsent : CachedPages → PageId → Type 0
-IsAbsent cache page = All (λ frame. frame.page ≢ page) cache.kept
-
--- no page is there twice
-abbrev pub AreApart : CachedPages → Type 0
-AreApart cache =
-    (j k : ℕ) (d : Frame) → j < length cache.kept → k < length cache.kept
-    → (slice_index_or cache.kept j d).page ≡ (slice_index_or cache.kept k d).page → j ≡ k
-
--- all that was set in the page is durable
-abbrev pub IsClean : Frame → Type 0
-IsClean frame = (frame.dirty ≡ None) × (frame.writing ≡ None)
-
--- a point of the page from which on entries of it aren't durable
-abbrev pub IsUnwritten : Frame → Point → Type 0
-IsUnwritten frame point = (frame.dirty ≡ Some point) ⊎ (frame.writing ≡ Some point)
-
--- a page that was just read
-abbrev pub fresh : PageId → MapPage → Frame
-fresh page content = record { page = page; content = content; dirty = None; writing = None }
+IsAbsent cache page = All (λ content. content.head.page ≢ page) cache.pages
 
 -- a frame was empty, and the page is in it
-pub record Fills (old new : CachedPages) (frame : Frame) : Type 0 where
-  pub room : length old.kept < old.frames
-  pub after : new ≡ record old { kept = old.kept ++ frame ∷ [] }
+pub record Fills (old new : CachedPages) (content : MapPage) : Type 0 where
+  pub form : IsCache new
+  pub room : length old.pages < old.frames
+  pub after : new ≡ record old { pages = old.pages ++ content ∷ [] }
 
 -- no frame was empty, and the page is in the frame of a clean page, which was given up
-pub record GivesUp (old new : CachedPages) (frame : Frame) : Type 0 where
-  pub before : List Frame
-  pub given_up : Frame
-  pub behind : List Frame
-  pub full : length old.kept ≡ old.frames
-  pub stood : old.kept ≡ before ++ given_up ∷ behind
-  pub clean : IsClean given_up
-  pub after : new ≡ record old { kept = before ++ frame ∷ behind }
+pub record GivesUp (old new : CachedPages) (content : MapPage) : Type 0 where
+  pub form : IsCache new
+  pub full : length old.pages ≡ old.frames
+  pub frame : ℕ
+  pub inside : frame < length old.pages
+  pub clean : marks_at old.marks frame ≡ clean
+  pub after : new ≡ record old { pages = slice_set old.pages frame content }
 
 -- every frame has a page that is dirty or being written
 pub record HasNoFrame (cache : CachedPages) : Type 0 where
-  pub full : length cache.kept ≡ cache.frames
-  pub unclean : All (λ frame. IsClean frame → ⊥) cache.kept
+  pub full : length cache.pages ≡ cache.frames
+  pub unclean : (frame : ℕ) → frame < cache.frames → marks_at cache.marks frame ≡ clean → ⊥
 
--- one page is changed so, and all others are as before
-pub record Changes (old new : CachedPages) (page : PageId) (change : Frame → Frame) : Type 0 where
-  pub before : List Frame
-  pub frame : Frame
-  pub behind : List Frame
-  pub stood : old.kept ≡ before ++ frame ∷ behind
-  pub named : frame.page ≡ page
-  pub after : new ≡ record old { kept = before ++ change frame ∷ behind }
+-- the page is in this frame, with this content
+pub record IsIn (cache : CachedPages) (page : PageId) (frame : ℕ) (content : MapPage) : Type 0 where
+  pub inside : frame < length cache.pages
+  pub is : slice_index_or cache.pages frame content ≡ content
+  pub named : content.head.page ≡ page
 
--- the lesser of a point that may be there and another
-abbrev pub least_of : Option Point → Point → Point
-least_of None point = point
-least_of (Some other) point = record { 0 = min other.0 point.0 }
+-- a page with another mapping in a slot
+abbrev pub with_mapping : ℕ → Mapping → MapPage → MapPage
+with_mapping slot mapping content = record content { mappings = slice_set content.mappings slot mapping }
 
--- a slot is mapped, by the entry of this point
-abbrev pub with_entry : ℕ → Mapping → Point → Frame → Frame
-with_entry slot mapping point frame = record frame {
-  content = record frame.content { mappings = slice_set frame.content.mappings slot mapping };
-  dirty = Some (least_of frame.dirty point);
-}
+-- a slot of the page is mapped, by the entry of this point
+pub record Sets (old new : CachedPages) (page : PageId) (slot : ℕ) (mapping : Mapping) (point : Point) : Type 0 where
+  pub form : IsCache new
+  pub frame : ℕ
+  pub content : MapPage
+  pub stood : IsIn old page frame content
+  pub after : new ≡ record old {
+    pages = slice_set old.pages frame (with_mapping slot mapping content);
+    marks = with_marks old.marks frame (changed_at point);
+  }
 
--- the page is being written: what is set from now on isn't in that write
-abbrev pub handed_out : Frame → Frame
-handed_out frame = record frame { dirty = None; writing = frame.dirty }
-
--- the write is durable
-abbrev pub settled : Frame → Frame
-settled frame = record frame { writing = None }
-
--- the page isn't being written, and has an entry from this point on that isn't durable
-pub record IsDue (frame : Frame) (first : Point) : Type 0 where
-  pub idle : frame.writing ≡ None
-  pub dirty : frame.dirty ≡ Some first
-
--- of the pages that are due the one with the least first point is handed out, if that is at most the point
-pub record HandsOut (old new : CachedPages) (point : Point) (page : PageId) (copy : MapPage) : Type 0 where
-  pub changes : Changes old new page handed_out
-  pub first : Point
-  pub due : IsDue changes.frame first
-  pub reached : first.0 ≤ point.0
-  pub least : All (λ other. (p : Point) → IsDue other p → first.0 ≤ p.0) old.kept
-  pub copied : copy ≡ changes.frame.content
-
--- no page is due at the point
-abbrev pub NoneIsDue : CachedPages → Point → Type 0
-NoneIsDue cache point = All (λ frame. (p : Point) → IsDue frame p → point.0 < p.0) cache.kept
+-- the page that was changed first, of those that are due, is handed out as it is
+pub record Expires (old new : CachedPages) (point : Point) (page : PageId) (copy : MapPage) : Type 0 where
+  pub form : IsCache new
+  pub frame : ℕ
+  pub stood : IsIn old page frame copy
+  pub marks : HandsOut old.marks new.marks point frame
+  pub after : new ≡ record old { marks = new.marks }
 
 -- the page was handed out, and its write isn't durable yet
-abbrev pub IsBeingWritten : CachedPages → PageId → Type 0
-IsBeingWritten cache page = (frame : Frame) × IsThere cache page frame × ((point : Point) × (frame.writing ≡ Some point))
+pub record IsWriting (cache : CachedPages) (page : PageId) : Type 0 where
+  pub frame : ℕ
+  pub content : MapPage
+  pub stands : IsIn cache page frame content
+  pub marks : IsBeingWritten (marks_at cache.marks frame)
 
--- an entry from this point on isn't durable, and all that aren't are from it on
-pub record IsLowPoint (cache : CachedPages) (low : Point) : Type 0 where
-  pub frame : Frame
-  pub there : Contains cache.kept frame
-  pub unwritten : IsUnwritten frame low
-  pub least : All (λ other. (p : Point) → IsUnwritten other p → low.0 ≤ p.0) cache.kept
+-- the page is written, but for what was set since it was handed out
+pub record Writes (old new : CachedPages) (page : PageId) : Type 0 where
+  pub form : IsCache new
+  pub frame : ℕ
+  pub content : MapPage
+  pub stood : IsIn old page frame content
+  pub after : new ≡ record old { marks = with_marks old.marks frame settled }

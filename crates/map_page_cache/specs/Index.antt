@@ -16,10 +16,6 @@ no_entries room = record { room = room; entries = [] }
 abbrev pub HasSlot : Index → PageId → ℕ → Type 0
 HasSlot index page slot = Contains index.entries (record { page = page; slot = slot })
 
--- no page has two slots
-abbrev pub HaveOneSlot : Index → Type 0
-HaveOneSlot index = (page : PageId) (slot other : ℕ) → HasSlot index page slot → HasSlot index page other → slot ≡ other
-
 -- the page gets this slot, and all others keep theirs
 pub record Adds (old new : Index) (page : PageId) (slot : ℕ) : Type 0 where
   pub room : new.room ≡ old.room

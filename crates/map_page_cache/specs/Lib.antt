@@ -1,5 +1,4 @@
 pub mod CachedPages
 pub mod Index
-pub mod Minima
-pub mod Slots
+pub mod Frames
 pub mod Runs

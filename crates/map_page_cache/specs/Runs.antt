@@ -1,56 +1,46 @@
--- Runs of a cache: its calls from the newest back to the oldest, and what of them isn't durable.
-use Rattle.std.specs.Prelude.{ℕ, ◌≡◌, ◌≢◌, ◌⊎◌, List, [], ◌∷◌, slice_set}
+-- Runs of a cache: its calls from the newest back to the oldest.
+use Rattle.std.specs.Prelude.{ℕ, ◌≡◌, ◌≢◌, ◌⊎◌, List, [], ◌∷◌}
 use Rattle.blk_base.specs.declared.place.PageId.{PageId}
 use Rattle.blk_base.specs.declared.place.Mapping.{Mapping}
 use Rattle.blk_base.specs.declared.point.Point.{Point}
 use Rattle.page_codec.specs.declared.forms.MapPage.{MapPage}
-use Rattle.map_page_cache.specs.CachedPages.{CachedPages, no_pages, fresh, IsAbsent, Fills, GivesUp, Changes, with_entry, HandsOut, settled}
+use Rattle.dirty_pages.specs.History.{Event, Changed, HandedOut, Written}
+use Rattle.map_page_cache.specs.CachedPages.{CachedPages, IsThere, IsAbsent, Fills, GivesUp, with_mapping, Sets, Expires, IsWriting, Writes}
 
--- a call that changed the cache
+-- a page is installed, a slot of a page is mapped, a page is handed out to be written, a page is reported as written
 pub data Call : Type 0 where
-  Installed : PageId → MapPage → Call
-  Mapped : PageId → ℕ → Mapping → Point → Call
-  HandedOut : PageId → Point → MapPage → Call
-  Written : PageId → Call
+  Install : MapPage → Call
+  Set : PageId → ℕ → Mapping → Point → Call
+  HandOut : PageId → Call
+  Write : PageId → Call
 
--- what the call does, as its contract says
-abbrev pub Did : Call → CachedPages → CachedPages → Type 0
-Did (Installed page content) old new = IsAbsent old page × (Fills old new (fresh page content) ⊎ GivesUp old new (fresh page content))
-Did (Mapped page slot mapping point) old new = Changes old new page (with_entry slot mapping point)
-Did (HandedOut page point copy) old new = HandsOut old new point page copy
-Did (Written page) old new = Changes old new page settled
+-- a call leads from one cache to another
+abbrev pub Leads : CachedPages → Call → CachedPages → Type 0
+Leads old (Install content) new = IsAbsent old content.head.page × (Fills old new content ⊎ GivesUp old new content)
+Leads old (Set page slot mapping point) new = Sets old new page slot mapping point
+Leads old (HandOut page) new = (point : Point) × (copy : MapPage) × Expires old new point page copy
+Leads old (Write page) new = IsWriting old page × Writes old new page
 
--- a cache of so many frames that is so after these calls
-abbrev pub IsAfter : ℕ → List Call → CachedPages → Type 0
-IsAfter frames [] cache = cache ≡ no_pages frames
-IsAfter frames (call ∷ calls) cache = (old : CachedPages) × IsAfter frames calls old × Did call old cache
+-- calls lead from one cache to another
+abbrev pub LeadTo : CachedPages → List Call → CachedPages → Type 0
+LeadTo old [] new = new ≡ old
+LeadTo old (call ∷ calls) new = (between : CachedPages) × LeadTo old calls between × Leads between call new
 
--- the page as it was installed last, with the entries that were set in it since
-abbrev pub IsContent : List Call → PageId → MapPage → Type 0
-IsContent [] page content = ⊥
-IsContent (Installed other from ∷ calls) page content = ((other ≡ page) × (content ≡ from)) ⊎ ((other ≢ page) × IsContent calls page content)
-IsContent (Mapped other slot mapping point ∷ calls) page content =
-    ((other ≡ page) × ((before : MapPage) × IsContent calls page before × (content ≡ record before { mappings = slice_set before.mappings slot mapping })))
-    ⊎ ((other ≢ page) × IsContent calls page content)
-IsContent (HandedOut other point copy ∷ calls) page content = IsContent calls page content
-IsContent (Written other ∷ calls) page content = IsContent calls page content
+-- what the calls do to pages; a page is installed as it is on the device
+abbrev pub events_of : List Call → List Event
+events_of [] = []
+events_of (Install content ∷ calls) = events_of calls
+events_of (Set page slot mapping point ∷ calls) = Changed page point ∷ events_of calls
+events_of (HandOut page ∷ calls) = HandedOut page ∷ events_of calls
+events_of (Write page ∷ calls) = Written page ∷ events_of calls
 
--- an entry of this point was set in the page since the page was last handed out
-abbrev pub IsSetSince : List Call → PageId → Point → Type 0
-IsSetSince [] page point = ⊥
-IsSetSince (Installed other from ∷ calls) page point = IsSetSince calls page point
-IsSetSince (Mapped other slot mapping set_at ∷ calls) page point = ((other ≡ page) × (set_at ≡ point)) ⊎ IsSetSince calls page point
-IsSetSince (HandedOut other at copy ∷ calls) page point = (other ≢ page) × IsSetSince calls page point
-IsSetSince (Written other ∷ calls) page point = IsSetSince calls page point
-
--- the page was handed out with an entry of this point, and that write isn't durable
-abbrev pub IsInWrite : List Call → PageId → Point → Type 0
-IsInWrite [] page point = ⊥
-IsInWrite (Installed other from ∷ calls) page point = IsInWrite calls page point
-IsInWrite (Mapped other slot mapping set_at ∷ calls) page point = IsInWrite calls page point
-IsInWrite (HandedOut other at copy ∷ calls) page point = ((other ≡ page) × IsSetSince calls page point) ⊎ IsInWrite calls page point
-IsInWrite (Written other ∷ calls) page point = (other ≢ page) × IsInWrite calls page point
-
--- an entry of this point was set in the page, and isn't durable
-abbrev pub IsOwed : List Call → PageId → Point → Type 0
-IsOwed calls page point = IsSetSince calls page point ⊎ IsInWrite calls page point
+-- the page as it was at first, or as it was installed last, with what was set in it since
+abbrev pub IsContent : CachedPages → List Call → PageId → MapPage → Type 0
+IsContent old [] page content = IsThere old page content
+IsContent old (Install from ∷ calls) page content =
+    ((from.head.page ≡ page) × (content ≡ from)) ⊎ ((from.head.page ≢ page) × IsContent old calls page content)
+IsContent old (Set other slot mapping point ∷ calls) page content =
+    ((other ≡ page) × ((before : MapPage) × IsContent old calls page before × (content ≡ with_mapping slot mapping before)))
+    ⊎ ((other ≢ page) × IsContent old calls page content)
+IsContent old (HandOut other ∷ calls) page content = IsContent old calls page content
+IsContent old (Write other ∷ calls) page content = IsContent old calls page content

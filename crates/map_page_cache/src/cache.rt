@@ -1,95 +1,110 @@
-ghost use Rattle.std.specs.Prelude.{◌≡◌, ◌<◌, IfOk, IfErr, OnOk, OnErr, ◌⊎◌, All, IfSome, IfNone, IsTrue, ◌↔◌, length, slice_index_or};
-ghost use Rattle.map_page_cache.specs.declared.frame.Frame.{Frame};
-ghost use Rattle.map_page_cache.specs.CachedPages.{CachedPages, no_pages, IsThere, IsAbsent, AreApart, IsClean, fresh, Fills, GivesUp, HasNoFrame, Changes, with_entry, settled, HandsOut, NoneIsDue, IsBeingWritten, IsLowPoint};
-ghost use Rattle.map_page_cache.specs.Slots.{IsAt};
+ghost use Rattle.std.specs.Prelude.{◌≡◌, ◌<◌, IfOk, OnOk, OnErr, ◌⊎◌, IfSome, IfNone, IsTrue, ◌↔◌, length};
+ghost use Rattle.page_codec.specs.declared.forms.MapPage.{MapPage};
+ghost use Rattle.page_codec.specs.Grammar.{HoldsMapping};
+ghost use Rattle.dirty_pages.specs.Marks.{clean, marks_at, NoneIsDue, IsLowPoint, AreClean};
+ghost use Rattle.map_page_cache.specs.CachedPages.{CachedPages, no_pages, IsPageOf, IsCache, IsThere, IsAbsent, Fills, GivesUp, HasNoFrame, Sets, Expires, IsWriting, Writes};
+ghost use Rattle.map_page_cache.specs.Frames.{IsAt};
 
+use crate::NoFrame;
+use crate::clean::CleanFrames;
 use crate::index::PageIndex;
-use crate::queues::SlotQueues;
-use crate::{Frame, NoFrame};
-use blk_base::{Mapping, PageId, Point};
+use blk_base::{Geometry, Mapping, Mappings, PageId, Point};
+use dirty_pages::DirtyPages;
 use page_codec::MapPage;
 use std::alloc::{AllocError, Global};
 use std::marker::Model;
 
-/// The leaf pages that are in memory, and of each the points from which on it isn't durable.
+/// The leaf pages of an image that are in memory, and of each the points from which on it isn't durable.
+///
+/// A page that was changed is handed out to be written, and reported when that write is durable. What is set in between is
+/// kept for the next time.
 #[derive(Drop)]
 pub struct Cache {
-    frames: Vec<Frame>,
+    geometry: Geometry,
     room: u32,
-    // The place of each page in `frames`, and the places in the orders in which pages are handed out and given up.
+    // By frame; the frames behind these are empty.
+    pages: Vec<MapPage>,
+    marks: DirtyPages,
+    // The frame of each page, and the order in which pages are given up.
     index: PageIndex,
-    queues: SlotQueues,
+    clean: CleanFrames,
 }
 
 impl Model for Cache {
-    ghost use Rattle.std.specs.Prelude.{◌≡◌, ◌≤◌, length, vec_capacity};
-    ghost use Rattle.map_page_cache.specs.CachedPages.{CachedPages};
-    ghost use Rattle.map_page_cache.specs.Slots.{Follows, queues_of};
+    ghost use Rattle.std.specs.Prelude.{◌≤◌, length, vec_capacity};
+    ghost use Rattle.map_page_cache.specs.CachedPages.{CachedPages, IsCache};
+    ghost use Rattle.map_page_cache.specs.Frames.{Follows, AreFlags};
 
     ghost Value = { CachedPages };
 
-    ghost view = { λ c. record { frames = c.room; kept = c.frames.items } };
+    ghost view = { λ c. record { geometry = c.geometry; frames = c.room; pages = c.pages.items; marks = c.marks } };
 
     ghost invariant = { λ c. record {
-      fits : length c.frames.items ≤ c.room;
-      room : c.room ≤ vec_capacity c.frames;
-      index : Follows c.index c.room c.frames.items;
-      queues : c.queues ≡ queues_of c.room c.frames.items;
+      form : IsCache (record { geometry = c.geometry; frames = c.room; pages = c.pages.items; marks = c.marks });
+      room : c.room ≤ vec_capacity c.pages;
+      index : Follows c.index c.room c.pages.items;
+      clean : AreFlags c.clean c.room (length c.pages.items) c.marks;
     } };
 }
 
 impl Cache {
-    /// A cache with so many frames, all of which are empty.
-    pub fn new(alloc: Global, frames: u32) -> Result<Cache, AllocError>
-        ensures { IfOk result (λ cache. cache ≡ no_pages frames) }
+    /// A cache with so many frames for pages of an image with these sizes, all of which are empty.
+    pub fn new(alloc: Global, geometry: &Geometry, frames: u32) -> Result<Cache, AllocError>
+        ensures cache { IfOk result (λ cache. cache ≡ no_pages geometry.now frames) }
+        ensures form { IfOk result IsCache }
     {
         Ok(Cache {
-            frames: Vec::with_capacity(alloc, frames as usize)?,
+            geometry: *geometry,
             room: frames,
+            pages: Vec::with_capacity(alloc, frames as usize)?,
+            marks: DirtyPages::new(alloc, frames)?,
             index: PageIndex::new(alloc, frames)?,
-            queues: SlotQueues::new(alloc, frames)?,
+            clean: CleanFrames::new(alloc, frames)?,
         })
     }
 
     /// The page as it is now, with all entries that were set in it; `None` exactly where it wasn't installed or was given
     /// up since.
     pub fn get(&self, page: PageId) -> Option<&MapPage>
-        ensures some { IfSome result (λ found. (frame : Frame) × IsThere self.now page frame × (found.now ≡ frame.content)) }
+        ensures some { IfSome result (λ found. IsThere self.now page found.now) }
         ensures none { IfNone result (IsAbsent self.now page) }
-        ensures apart { AreApart self.now }
+        ensures form { IsCache self.now }
     {
-        let slot = self.index.find(page)?;
-        Some(&self.frames[slot as usize].content)
+        let frame = self.index.find(page)?;
+        Some(&self.pages[frame as usize])
     }
 
     /// Takes a page that was just read and isn't there. Where no frame is empty, it gives up one clean page: the one that
-    /// has been clean for the longest time.
+    /// has been clean for the longest time. The page is the one that is named, of the cache's image, and as the format of
+    /// pages can hold it.
     ///
     /// It is refused exactly where every frame has a page that is dirty or being written.
     pub fn install(&mut self, page: PageId, from: &MapPage) -> Result<(), NoFrame>
-        requires { IsAbsent self.old page }
-        ensures ok { OnOk result (Fills self.old self.new (fresh page from.now) ⊎ GivesUp self.old self.new (fresh page from.now)) }
+        requires absent { IsAbsent self.old page }
+        requires named { from.now.head.page ≡ page }
+        requires held { IsPageOf self.old.geometry from.now }
+        ensures ok { OnOk result (Fills self.old self.new from.now ⊎ GivesUp self.old self.new from.now) }
         ensures refused { OnErr result (HasNoFrame self.old) }
-        ensures kept { OnErr result (self.new ≡ self.old) }
+        ensures same { OnErr result (self.new ≡ self.old) }
     {
-        if self.frames.len() < self.room as usize {
+        if self.pages.len() < self.room as usize {
             self.fill(page, from);
             return Ok(());
         }
-        let Some(slot) = self.queues.first_clean() else {
+        let Some(frame) = self.clean.first() else {
             return Err(NoFrame);
         };
-        self.replace(slot, page, from);
+        self.replace(frame, page, from);
         Ok(())
     }
 
-    // The place of a page that is there.
-    fn place_of(&self, page: PageId) -> u32
-        requires { (frame : Frame) × IsThere self.now page frame }
-        ensures { IsAt self.now.kept page result }
+    // The frame of a page that is there.
+    fn frame_of(&self, page: PageId) -> usize
+        requires { (content : MapPage) × IsThere self.now page content }
+        ensures { IsAt self.now.pages page result }
     {
         match self.index.find(page) {
-            Some(place) => place,
+            Some(frame) => frame as usize,
             None => unreachable!(),
         }
     }
@@ -97,41 +112,45 @@ impl Cache {
     // Takes a page into an empty frame.
     fn fill(&mut self, page: PageId, from: &MapPage)
         requires absent { IsAbsent self.old page }
-        requires room { length self.old.kept < self.old.frames }
-        ensures { Fills self.old self.new (fresh page from.now) }
+        requires named { from.now.head.page ≡ page }
+        requires held { IsPageOf self.old.geometry from.now }
+        requires room { length self.old.pages < self.old.frames }
+        ensures { Fills self.old self.new from.now }
     {
-        let place = self.frames.len() as u32;
-        let frame = Frame::new(page, from);
-        self.queues.set(place, &frame);
-        self.frames.push_reserved(frame);
-        self.index.insert(page, place);
+        let frame = self.pages.len();
+        self.pages.push_reserved(copy_of(from));
+        self.index.insert(page, frame as u32);
+        self.clean.set(frame, true);
     }
 
-    // Gives up the clean page of this place, and takes a page in its frame.
-    fn replace(&mut self, place: u32, page: PageId, from: &MapPage)
+    // Gives up the clean page of this frame, and takes a page in its place.
+    fn replace(&mut self, frame: usize, page: PageId, from: &MapPage)
         requires absent { IsAbsent self.old page }
-        requires full { length self.old.kept ≡ self.old.frames }
-        requires inside { place < length self.old.kept }
-        requires clean { (d : Frame) → IsClean (slice_index_or self.old.kept place d) }
-        ensures { GivesUp self.old self.new (fresh page from.now) }
+        requires named { from.now.head.page ≡ page }
+        requires held { IsPageOf self.old.geometry from.now }
+        requires full { length self.old.pages ≡ self.old.frames }
+        requires inside { frame < length self.old.pages }
+        requires clean { marks_at self.old.marks frame ≡ clean }
+        ensures { GivesUp self.old self.new from.now }
     {
-        let frame = &mut self.frames[place as usize];
-        self.index.remove(frame.page);
-        self.index.insert(page, place);
-        frame.load(page, from);
-        self.queues.set(place, frame);
+        let content = &mut self.pages[frame];
+        self.index.remove(content.head.page);
+        self.index.insert(page, frame as u32);
+        copy_page(from, content);
+        self.clean.set(frame, true);
     }
 
-    /// Maps a slot of a page that is there, by the entry of this point.
+    /// Maps a slot of a page that is there, by the entry of this point, to what the format of pages can hold there.
     pub fn set(&mut self, page: PageId, slot: u16, mapping: Mapping, point: Point)
-        requires there { (frame : Frame) × IsThere self.old page frame }
+        requires there { (content : MapPage) × IsThere self.old page content }
         requires slot { slot < 812 }
-        ensures { Changes self.old self.new page (with_entry slot mapping point) }
+        requires held { HoldsMapping self.old.geometry page.level mapping }
+        ensures { Sets self.old self.new page slot mapping point }
     {
-        let place = self.place_of(page);
-        let frame = &mut self.frames[place as usize];
-        frame.set(slot, mapping, point);
-        self.queues.set(place, frame);
+        let frame = self.frame_of(page);
+        self.pages[frame].mappings.set(slot, mapping);
+        self.marks.change(frame, point);
+        self.clean.set(frame, false);
     }
 
     /// Hands out a page to be written, with all entries that were set in it: of the pages that aren't being written the one
@@ -140,47 +159,61 @@ impl Cache {
     ///
     /// `None` exactly where no page that isn't being written has a first dirty point at or below this one.
     pub fn take_expired(&mut self, point: Point, into: &mut MapPage) -> Option<PageId>
-        ensures some { IfSome result (λ page. HandsOut self.old self.new point page into.new) }
-        ensures none { IfNone result (NoneIsDue self.old point) }
-        ensures kept { IfNone result ((self.new ≡ self.old) × (into.new ≡ into.old)) }
+        ensures some { IfSome result (λ page. Expires self.old self.new point page into.new) }
+        ensures none { IfNone result (NoneIsDue self.old.marks point) }
+        ensures same { IfNone result ((self.new ≡ self.old) × (into.new ≡ into.old)) }
     {
-        let (place, first) = self.queues.first_due()?;
-        if first > point.0 {
-            return None;
-        }
-        let frame = &mut self.frames[place as usize];
-        frame.hand_out(into);
-        self.queues.set(place, frame);
-        Some(frame.page)
+        let frame = self.marks.take_expired(point)?;
+        copy_page(&self.pages[frame], into);
+        Some(into.head.page)
     }
 
     /// Whether the page was handed out and its write isn't durable yet.
     pub fn is_being_written(&self, page: PageId) -> bool
-        ensures { IsTrue result ↔ IsBeingWritten self.now page }
+        ensures { IsTrue result ↔ IsWriting self.now page }
     {
         match self.index.find(page) {
-            Some(place) => self.frames[place as usize].writing.is_some(),
+            Some(frame) => self.marks.marks(frame as usize).writing.is_some(),
             None => false,
         }
     }
 
     /// The write of a page that was handed out is durable: a flush covers it. What was set since isn't.
     pub fn written(&mut self, page: PageId)
-        requires { IsBeingWritten self.old page }
-        ensures { Changes self.old self.new page settled }
+        requires { IsWriting self.old page }
+        ensures { Writes self.old self.new page }
     {
-        let place = self.place_of(page);
-        let frame = &mut self.frames[place as usize];
-        frame.settle();
-        self.queues.set(place, frame);
+        let frame = self.frame_of(page);
+        self.marks.written(frame);
+        let marks = self.marks.marks(frame);
+        self.clean.set(frame, marks.is_clean());
     }
 
     /// The least point of an entry that isn't durable; `None` exactly where each page is clean.
     pub fn low_point(&self) -> Option<Point>
-        ensures some { IfSome result (IsLowPoint self.now) }
-        ensures none { IfNone result (All IsClean self.now.kept) }
+        ensures some { IfSome result (IsLowPoint self.now.marks) }
+        ensures none { IfNone result (AreClean self.now.marks) }
     {
-        let (_, first) = self.queues.first_unwritten()?;
-        Some(Point(first))
+        self.marks.low_point()
+    }
+}
+
+// Copies a page.
+fn copy_page(from: &MapPage, into: &mut MapPage)
+    ensures { into.new ≡ from.now }
+{
+    into.head = from.head;
+    into.mappings.copy_from(&from.mappings);
+}
+
+// A copy of a page.
+fn copy_of(from: &MapPage) -> MapPage
+    ensures { result ≡ from.now }
+{
+    let mut mappings = Mappings::new();
+    mappings.copy_from(&from.mappings);
+    MapPage {
+        head: from.head,
+        mappings,
     }
 }

@@ -1,6 +1,6 @@
 ghost use Rattle.std.specs.Prelude.{◌≡◌, ◌<◌, ◌↔◌, ℕ, length, IfOk, IfErr, IfSome, IfNone, IsTrue};
 ghost use Rattle.blk_base.specs.declared.place.PageId.{PageId};
-ghost use Rattle.map_page_cache.specs.Index.{no_entries, HasSlot, HaveOneSlot, Adds, Removes, order_of, AreInOrder, IsPlaceOf, IsGapFor};
+ghost use Rattle.map_page_cache.specs.Index.{no_entries, HasSlot, Adds, Removes, order_of, AreInOrder, IsPlaceOf, IsGapFor};
 
 use blk_base::PageId;
 use std::alloc::{AllocError, Global};
@@ -51,7 +51,6 @@ impl PageIndex {
     pub(crate) fn find(&self, page: PageId) -> Option<u32>
         ensures some { IfSome result (λ slot. HasSlot self.now page slot) }
         ensures none { IfNone result ((slot : ℕ) → HasSlot self.now page slot → ⊥) }
-        ensures single { HaveOneSlot self.now }
     {
         match place_of(&self.entries, page) {
             Ok(place) => Some(self.entries[place].slot),
@@ -78,8 +77,7 @@ impl PageIndex {
     /// Takes its slot from a page that has one.
     pub(crate) fn remove(&mut self, page: PageId)
         requires { (slot : ℕ) × HasSlot self.old page slot }
-        ensures removed { Removes self.old self.new page }
-        ensures single { HaveOneSlot self.old }
+        ensures { Removes self.old self.new page }
     {
         match place_of(&self.entries, page) {
             Ok(place) => {
@@ -118,11 +116,5 @@ fn is_before(left: PageId, right: PageId) -> bool
     ensures before { IsTrue result ↔ (order_of left < order_of right) }
     ensures apart { order_of left ≡ order_of right → left ≡ right }
 {
-    if left.tree != right.tree {
-        left.tree < right.tree
-    } else if left.level != right.level {
-        left.level < right.level
-    } else {
-        left.index < right.index
-    }
+    left < right
 }

@@ -1,19 +1,38 @@
-ghost use Rattle.std.specs.Prelude.{◌≡◌, ◌≤◌, ℕ, List, All};
+ghost use Rattle.std.specs.Prelude.{◌≡◌, ◌≤◌, List};
 ghost use Rattle.blk_base.specs.declared.place.PageId.{PageId};
 ghost use Rattle.blk_base.specs.declared.point.Point.{Point};
-ghost use Rattle.map_page_cache.specs.declared.frame.Frame.{Frame};
-ghost use Rattle.map_page_cache.specs.CachedPages.{CachedPages, IsThere, IsClean, IsLowPoint};
-ghost use Rattle.map_page_cache.specs.Runs.{Call, IsAfter, IsContent, IsOwed};
+ghost use Rattle.page_codec.specs.declared.forms.MapPage.{MapPage};
+ghost use Rattle.dirty_pages.specs.Marks.{IsLowPoint, AreClean};
+ghost use Rattle.dirty_pages.specs.History.{IsUnwritten, IsUnreported};
+ghost use Rattle.map_page_cache.specs.CachedPages.{CachedPages, IsPageOf, IsCache, IsThere, Expires, IsWriting};
+ghost use Rattle.map_page_cache.specs.Runs.{Call, LeadTo, IsContent, events_of};
 
-/// Whatever the calls of a cache were: a page in it is as it was installed, with the entries that were set since. A page
-/// with an entry that isn't durable is there, and no such entry is below the low point.
+/// A page that is there has one content, and one that the format of pages can hold. Whatever the calls from any cache on
+/// were: it is as it was then or was installed since, with what was set in it since.
+pub fn a_page_is_as_it_was_set()
+    ensures one { (cache : CachedPages) (page : PageId) (content other : MapPage) → IsCache cache → IsThere cache page content → IsThere cache page other
+        → content ≡ other }
+    ensures held { (cache : CachedPages) (page : PageId) (content : MapPage) → IsCache cache → IsThere cache page content → IsPageOf cache.geometry content }
+    ensures content { (old new : CachedPages) (calls : List Call) (page : PageId) (content : MapPage) → IsCache old → LeadTo old calls new
+        → IsThere new page content → IsContent old calls page content }
+{}
+
+/// An entry is kept until it is on the device: over all calls from any cache on, a page with one that was set since and isn't
+/// written since the page was handed out is there, and the entry isn't below the low point.
 pub fn nothing_unwritten_is_lost()
-    ensures content { (frames : ℕ) (calls : List Call) (cache : CachedPages) → IsAfter frames calls cache
-        → (page : PageId) (frame : Frame) → IsThere cache page frame → IsContent calls page frame.content }
-    ensures kept { (frames : ℕ) (calls : List Call) (cache : CachedPages) → IsAfter frames calls cache
-        → (page : PageId) (point : Point) → IsOwed calls page point → (frame : Frame) × IsThere cache page frame }
-    ensures low { (frames : ℕ) (calls : List Call) (cache : CachedPages) → IsAfter frames calls cache
-        → (page : PageId) (point low : Point) → IsOwed calls page point → IsLowPoint cache low → low.0 ≤ point.0 }
-    ensures clean { (frames : ℕ) (calls : List Call) (cache : CachedPages) → IsAfter frames calls cache
-        → (page : PageId) (point : Point) → IsOwed calls page point → All IsClean cache.kept → ⊥ }
+    ensures there { (old new : CachedPages) (calls : List Call) (page : PageId) (point : Point) → IsCache old → LeadTo old calls new
+        → IsUnwritten (events_of calls) page point → (content : MapPage) × IsThere new page content }
+    ensures low { (old new : CachedPages) (calls : List Call) (page : PageId) (point low : Point) → IsCache old → LeadTo old calls new
+        → IsUnwritten (events_of calls) page point → IsLowPoint new.marks low → low.0 ≤ point.0 }
+    ensures some { (old new : CachedPages) (calls : List Call) (page : PageId) (point : Point) → IsCache old → LeadTo old calls new
+        → IsUnwritten (events_of calls) page point → AreClean new.marks → ⊥ }
+{}
+
+/// A page that was handed out is being written until it is reported: over all calls from any cache on, and so it is there,
+/// and isn't handed out again before.
+pub fn a_page_is_out_until_it_is_written()
+    ensures taken { (old new : CachedPages) (page : PageId) (point : Point) (copy : MapPage) → IsCache old → Expires old new point page copy → IsWriting new page }
+    ensures kept { (old new : CachedPages) (calls : List Call) (page : PageId) → IsCache old → LeadTo old calls new
+        → IsUnreported (events_of calls) page → IsWriting old page → IsWriting new page }
+    ensures idle { (old new : CachedPages) (page : PageId) (point : Point) (copy : MapPage) → IsCache old → Expires old new point page copy → IsWriting old page → ⊥ }
 {}

@@ -1,35 +1,43 @@
 use Rattle.std.proofs.Common.{◌≡◌, Option, Some, None, sym, ◌∙◌, ap, subst, refl, arith, true}
 use Rattle.std.specs.Prelude.{is_some}
 use Rattle.blk_base.specs.declared.point.Point.{Point}
-use Rattle.map_page_cache.specs.declared.frame.Frame.{Frame}
-use Rattle.map_page_cache.specs.CachedPages.{CachedPages, IsThere}
-use Rattle.map_page_cache.proofs.CacheLaws.{at_there, one_frame, no_slot_absent}
+use Rattle.dirty_pages.specs.declared.marks.Marks.{Marks}
+use Rattle.map_page_cache.specs.CachedPages.{CachedPages, IsWriting}
+use Rattle.map_page_cache.proofs.CacheLaws.{absent_at, no_slot_absent, in_at, being_written}
+use Rattle.map_page_cache.proofs.StepLaws.{writing_in}
 use Rattle.map_page_cache.proofs.cache.Cache.is_being_written.Goals as goal
 
 value_of : (o : Option Point) → is_some o ≡ true → (point : Point) × (o ≡ Some point)
 value_of None is = cc
 value_of (Some point) is = (point, refl)
 
-pub index-requires : goal.index-requires
-index-requires c =
-    omega (arith, c.self.inside.frames.ok, (c.self.invariant.index.pages c.args.page c.in-Some.place c.in-Some.ensures.some).inside)
+pub marks-requires : goal.marks-requires
+marks-requires c =
+    let inside = (c.self.invariant.index.pages_at c.args.page c.in-Some.frame c.in-Some.ensures.some).inside in
+    let size = c.self.invariant.form.marks in
+    let fits = c.self.invariant.form.fits in
+    omega arith
 
 pub returns-in-Some : goal.returns-in-Some
 returns-in-Some c =
-    let cache : CachedPages = record { frames = c.self.inside.room; kept = c.self.inside.frames.items } in
-    let at = c.self.invariant.index.pages c.args.page c.in-Some.place c.in-Some.ensures.some in
-    let there = subst (λ (known : CachedPages). IsThere known c.args.page c.index.result.now) c.self.view_is
-    (at_there cache c.args.page c.in-Some.place c.index.result.now at c.index.ensures) in (
-      (λ writes. (c.index.result.now, there, value_of c.index.result.now.writing (sym c.is_some.ensures ∙ writes))),
-      (λ written.
-          let same = one_frame c.self.inside.index c.self.inside.room c.self.inside.frames.items c.args.self.now c.self.view_is c.self.invariant.index c.find.ensures.single
-          c.args.page c.index.result.now written.0 there written.1 in
-          c.is_some.ensures ∙ ap (λ (f : Frame). is_some f.writing) same ∙ ap (λ (o : Option Point). is_some o) written.2.1),
+    let cache : CachedPages = record { geometry = c.self.inside.geometry; frames = c.self.inside.room; pages = c.self.inside.pages.items; marks = c.self.inside.marks } in
+    let at = c.self.invariant.index.pages_at c.args.page c.in-Some.frame c.in-Some.ensures.some in (
+      (λ writes.
+          let some = value_of c.marks.result.writing (sym c.is_some.ensures ∙ writes) in
+          subst (λ (known : CachedPages). IsWriting known c.args.page) c.self.view_is
+          (being_written cache c.args.page c.in-Some.frame at
+          (record { first = some.0; is = ap (λ (m : Marks). m.writing) (sym c.marks.ensures) ∙ some.1 }))),
+      (λ writes.
+          let out = writing_in cache c.args.page c.in-Some.frame c.self.invariant.form at (subst (λ (known : CachedPages). IsWriting known c.args.page) (sym c.self.view_is) writes) in
+          c.is_some.ensures ∙ ap (λ (m : Marks). is_some m.writing) c.marks.ensures ∙ ap (λ (o : Option Point). is_some o) out.is),
     )
 
 pub returns-in-None : goal.returns-in-None
 returns-in-None c =
-    let absent = no_slot_absent c.self.inside.index c.self.inside.room c.self.inside.frames.items c.args.page c.args.self.now c.self.view_is c.self.invariant.index c.in-None.ensures.none in (
+    let cache : CachedPages = record { geometry = c.self.inside.geometry; frames = c.self.inside.room; pages = c.self.inside.pages.items; marks = c.self.inside.marks } in
+    let absent = no_slot_absent c.self.inside.index c.self.inside.room c.self.inside.pages.items c.args.page c.self.invariant.index c.in-None.ensures.none in (
       (λ never. cc),
-      (λ written. absurd (absent written.1.0.0 written.0 written.1.0.1 (ap (λ (f : Frame). f.page) written.1.0.2 ∙ written.1.1))),
+      (λ writes.
+          let out = subst (λ (known : CachedPages). IsWriting known c.args.page) (sym c.self.view_is) writes in
+          absurd (absent_at c.self.inside.pages.items c.args.page absent out.frame (in_at cache c.args.page out.frame out.content out.stands))),
     )

@@ -1,50 +1,53 @@
-use Rattle.std.proofs.Common.{◌≡◌, ◌<◌, length, get_or, ap, ◌∙◌, sym, subst, arith}
-use Rattle.map_page_cache.specs.declared.frame.Frame.{Frame}
-use Rattle.map_page_cache.specs.CachedPages.{CachedPages, IsClean, fresh}
-use Rattle.map_page_cache.specs.Slots.{Queues, IsAt, with_frame}
-use Rattle.map_page_cache.proofs.SlotLaws.{queues-set}
-use Rattle.map_page_cache.proofs.CacheLaws.{at_by, absent_at, follows-replace, gives_up}
+use Rattle.std.proofs.Common.{ℕ, ◌≡◌, ◌<◌, List, Bool, length, ap, ◌∙◌, sym, subst, set, refl, true}
 use Rattle.std.proofs.lemmas.List.{length-set}
+use Rattle.page_codec.specs.declared.forms.MapPage.{MapPage}
+use Rattle.dirty_pages.specs.Marks.{clean_of, marks_at, clean}
+use Rattle.map_page_cache.specs.CachedPages.{CachedPages, IsAbsent}
+use Rattle.map_page_cache.specs.Frames.{AreFlags}
+use Rattle.map_page_cache.proofs.FrameLaws.{at_by, follows-replace}
+use Rattle.map_page_cache.proofs.CacheLaws.{absent_at, flags-set}
+use Rattle.map_page_cache.proofs.StepLaws.{gives_up}
 use Rattle.map_page_cache.proofs.cache.Cache.replace.Goals as goal
 
 pub remove-requires : goal.remove-requires
 remove-requires c =
-    let inside : c.args.place < length c.self.inside.frames.items = omega (arith, c.requires.inside, ap (λ (known : CachedPages). length known.kept) c.self.view_is) in
-    let frame = c.index_mut-frame.result.now in (
-      c.args.place,
-      c.self.invariant.index.all frame.page c.args.place
-          (at_by c.self.inside.frames.items frame.page c.args.place frame inside (ap (λ (f : Frame). f.page) (sym c.index_mut-frame.ensures.value))),
+    let inside = subst (λ (known : CachedPages). c.args.frame < length known.pages) (sym c.self.view_is) c.requires.inside in
+    let content = c.index_mut-content.result.now in (
+      c.args.frame,
+      c.self.invariant.index.all content.head.page c.args.frame
+          (at_by c.self.inside.pages.items content.head.page c.args.frame content inside (ap (λ (m : MapPage). m.head.page) (sym c.index_mut-content.ensures.value))),
     )
 
 pub insert-requires-clause-absent : goal.insert-requires-clause-absent
 insert-requires-clause-absent c = λ s has.
-    absent_at c.args.self.now c.args.page c.requires.absent s
-    (subst (λ (known : CachedPages). IsAt known.kept c.args.page s) c.self.view_is (c.self.invariant.index.pages c.args.page s (c.remove.ensures.removed.only c.args.page s has)))
-
-pub invariant_of-self : goal.invariant_of-self
-invariant_of-self c =
-    let slots = c.self.inside.room in
-    let frames = c.self.inside.frames.items in
-    let frame = c.index_mut-frame.result.now in
-    let loaded = c.load.new.self in
-    let inside : c.args.place < length frames = omega (arith, c.requires.inside, ap (λ (known : CachedPages). length known.kept) c.self.view_is) in
-    let at = at_by frames frame.page c.args.place frame inside (ap (λ (f : Frame). f.page) (sym c.index_mut-frame.ensures.value)) in
-    record {
-      fits = omega (arith, length-set frames c.args.place loaded, c.self.invariant.fits);
-      room = c.self.invariant.room;
-      index = follows-replace c.self.inside.index c.remove.new.self c.insert.new.self slots c.args.place frames loaded frame.page c.args.page
-          c.self.invariant.index c.remove.ensures.single at c.remove.ensures.removed c.insert.ensures (ap (λ (f : Frame). f.page) c.load.ensures);
-      queues = c.set.ensures ∙ ap (λ (q : Queues). with_frame q c.args.place loaded) c.self.invariant.queues ∙ sym (queues-set slots frames c.args.place loaded inside);
-    }
+    absent_at c.self.inside.pages.items c.args.page (subst (λ (known : CachedPages). IsAbsent known c.args.page) (sym c.self.view_is) c.requires.absent) s
+    (c.self.invariant.index.pages_at c.args.page s (c.remove.ensures.only c.args.page s has))
 
 pub returns : goal.returns
 returns c =
-    let frames = c.self.inside.frames.items in
-    let frame = c.index_mut-frame.result.now in
-    let inside : c.args.place < length frames = omega (arith, c.requires.inside, ap (λ (known : CachedPages). length known.kept) c.self.view_is) in
-    let full : length frames ≡ c.self.inside.room
-    = omega (arith, c.requires.full, ap (λ (known : CachedPages). length known.kept) c.self.view_is, ap (λ (known : CachedPages). known.frames) c.self.view_is) in
-    let read : get_or c.args.self.now.kept c.args.place frame ≡ frame
-    = ap (λ (known : CachedPages). get_or known.kept c.args.place frame) (sym c.self.view_is) ∙ sym c.index_mut-frame.ensures.value in
-    gives_up c.self.inside.room c.args.place frames frame c.load.new.self (fresh c.args.page c.args.from.now) c.args.self.now c.self.view_is inside full
-    c.index_mut-frame.ensures.value (subst (λ (f : Frame). IsClean f) read (c.requires.clean frame)) c.load.ensures
+    let cache : CachedPages = record { geometry = c.self.inside.geometry; frames = c.self.inside.room; pages = c.self.inside.pages.items; marks = c.self.inside.marks } in
+    gives_up c.args.self.now cache c.args.page c.args.frame c.args.from.now c.copy_page.new.into c.self.view_is c.self.invariant.form c.requires.absent c.requires.named
+    c.requires.held c.requires.full c.requires.inside c.requires.clean c.copy_page.ensures
+
+pub invariant_of-self : goal.invariant_of-self
+invariant_of-self c =
+    let cache : CachedPages = record { geometry = c.self.inside.geometry; frames = c.self.inside.room; pages = c.self.inside.pages.items; marks = c.self.inside.marks } in
+    let place = c.args.frame in
+    let gone = c.index_mut-content.result.now in
+    let copy = c.copy_page.new.into in
+    let inside = subst (λ (known : CachedPages). place < length known.pages) (sym c.self.view_is) c.requires.inside in
+    let clean_is : marks_at cache.marks place ≡ clean = subst (λ (known : CachedPages). marks_at known.marks place ≡ clean) (sym c.self.view_is) c.requires.clean in
+    let at = at_by cache.pages gone.head.page place gone inside (ap (λ (m : MapPage). m.head.page) (sym c.index_mut-content.ensures.value)) in
+    let named = ap (λ (m : MapPage). m.head.page) c.copy_page.ensures ∙ c.requires.named in
+    let done = gives_up c.args.self.now cache c.args.page place c.args.from.now copy c.self.view_is c.self.invariant.form c.requires.absent c.requires.named
+    c.requires.held c.requires.full c.requires.inside c.requires.clean c.copy_page.ensures in
+    record {
+      form = done.form;
+      room = c.self.invariant.room;
+      index = follows-replace c.self.inside.index c.remove.new.self c.insert.new.self cache.frames place cache.pages copy gone.head.page c.args.page
+          c.self.invariant.index c.self.invariant.form.apart at c.remove.ensures c.insert.ensures named;
+      clean = subst (λ (flags : List Bool). AreFlags flags cache.frames (length (set cache.pages place copy)) cache.marks) (sym c.set.ensures)
+          (subst (λ (n : ℕ). AreFlags (set c.self.inside.clean place true) cache.frames n cache.marks) (sym (length-set cache.pages place copy))
+          (flags-set c.self.inside.clean cache.frames (length cache.pages) place true cache.marks cache.marks c.self.invariant.clean inside c.self.invariant.form.fits
+          (sym (ap clean_of clean_is)) (λ other apart. refl)));
+    }

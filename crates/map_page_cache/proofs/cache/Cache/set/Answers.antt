@@ -1,45 +1,42 @@
-use Rattle.std.proofs.Common.{◌≡◌, length, ap, ◌∙◌, sym, subst, arith}
-use Rattle.blk_base.specs.declared.place.PageId.{PageId}
-use Rattle.map_page_cache.specs.declared.frame.Frame.{Frame}
-use Rattle.map_page_cache.specs.CachedPages.{CachedPages, with_entry}
-use Rattle.map_page_cache.specs.Slots.{Queues, IsAt, with_frame}
-use Rattle.map_page_cache.proofs.SlotLaws.{queues-set, length-queues}
-use Rattle.map_page_cache.proofs.CacheLaws.{follows-set, changes}
+use Rattle.std.proofs.Common.{ℕ, ◌≡◌, length, List, Bool, ap, ◌∙◌, sym, subst, refl, false, set}
 use Rattle.std.proofs.lemmas.List.{length-set}
+use Rattle.blk_base.specs.declared.place.Mapping.{Mapping}
+use Rattle.blk_base.specs.declared.place.PageId.{PageId}
+use Rattle.page_codec.specs.declared.forms.MapPage.{MapPage}
+use Rattle.page_codec.specs.Grammar.{HoldsMapping}
+use Rattle.dirty_pages.specs.Marks.{changed_at}
+use Rattle.map_page_cache.specs.CachedPages.{CachedPages}
+use Rattle.map_page_cache.specs.Frames.{IsAt, AreFlags}
+use Rattle.map_page_cache.proofs.FrameLaws.{follows-set}
+use Rattle.map_page_cache.proofs.CacheLaws.{at_in}
+use Rattle.map_page_cache.proofs.StepLaws.{sets, flags-changed}
 use Rattle.map_page_cache.proofs.cache.Cache.set.Goals as goal
-
-pub index_mut-frame-requires : goal.index_mut-frame-requires
-index_mut-frame-requires c =
-    omega (arith, c.place_of-place.ensures.inside, ap (λ (known : CachedPages). length known.kept) c.self.view_is, c.self.inside.frames.ok)
-
-pub set-requires-2 : goal.set-requires-2
-set-requires-2 c =
-    omega (
-      arith,
-      length-queues c.self.inside.room c.self.inside.frames.items c.self.inside.queues c.self.invariant.fits c.self.invariant.queues,
-      c.place_of-place.ensures.inside,
-      ap (λ (known : CachedPages). length known.kept) c.self.view_is,
-      c.self.invariant.fits,
-    )
-
-pub invariant_of-self : goal.invariant_of-self
-invariant_of-self c =
-    let slots = c.self.inside.room in
-    let frames = c.self.inside.frames.items in
-    let place = c.place_of-place.result in
-    let frame = c.index_mut-frame.result.now in
-    let at = subst (λ (known : CachedPages). IsAt known.kept c.args.page place) (sym c.self.view_is) c.place_of-place.ensures in
-    let page : c.args.page ≡ c.set.new.self.page = sym (ap (λ (f : Frame). f.page) c.set.ensures ∙ ap (λ (f : Frame). f.page) c.index_mut-frame.ensures.value ∙ at.named frame) in
-    record {
-      fits = omega (arith, length-set frames place c.set.new.self, c.self.invariant.fits);
-      room = c.self.invariant.room;
-      index = follows-set c.self.inside.index slots frames place c.set.new.self c.self.invariant.index (subst (λ (p : PageId). IsAt frames p place) page at);
-      queues = c.set-2.ensures ∙ ap (λ (q : Queues). with_frame q place c.set.new.self) c.self.invariant.queues ∙ sym (queues-set slots frames place c.set.new.self at.inside);
-    }
 
 pub returns : goal.returns
 returns c =
-    let place = c.place_of-place.result in
-    let at = subst (λ (known : CachedPages). IsAt known.kept c.args.page place) (sym c.self.view_is) c.place_of-place.ensures in
-    changes c.self.inside.room place c.self.inside.frames.items c.args.page (with_entry c.args.slot c.args.mapping c.args.point) c.index_mut-frame.result.now c.set.new.self
-    c.args.self.now c.self.view_is at c.index_mut-frame.ensures.value c.set.ensures
+    let cache : CachedPages = record { geometry = c.self.inside.geometry; frames = c.self.inside.room; pages = c.self.inside.pages.items; marks = c.self.inside.marks } in
+    let at = subst (λ (known : CachedPages). IsAt known.pages c.args.page c.frame_of-frame.result) (sym c.self.view_is) c.frame_of-frame.ensures in
+    let held = subst (λ (known : CachedPages). HoldsMapping known.geometry c.args.page.level c.args.mapping) (sym c.self.view_is) c.requires.held in
+    sets c.args.self.now cache c.args.page c.frame_of-frame.result c.args.slot c.args.mapping c.args.point c.index_mut.result.now _ c.change.new.self c.self.view_is
+    c.self.invariant.form (at_in cache c.args.page c.frame_of-frame.result c.index_mut.result.now at c.index_mut.ensures.value) held
+    (ap (λ (ms : List Mapping). record { head = c.index_mut.result.now.head; mappings = ms }) c.set.ensures.after) c.change.ensures
+
+pub invariant_of-self : goal.invariant_of-self
+invariant_of-self c =
+    let cache : CachedPages = record { geometry = c.self.inside.geometry; frames = c.self.inside.room; pages = c.self.inside.pages.items; marks = c.self.inside.marks } in
+    let place = c.frame_of-frame.result in
+    let content : MapPage = record { head = c.index_mut.result.now.head; mappings = c.set.new.self } in
+    let at = subst (λ (known : CachedPages). IsAt known.pages c.args.page place) (sym c.self.view_is) c.frame_of-frame.ensures in
+    let held = subst (λ (known : CachedPages). HoldsMapping known.geometry c.args.page.level c.args.mapping) (sym c.self.view_is) c.requires.held in
+    let done = sets cache cache c.args.page place c.args.slot c.args.mapping c.args.point c.index_mut.result.now content c.change.new.self refl
+    c.self.invariant.form (at_in cache c.args.page place c.index_mut.result.now at c.index_mut.ensures.value) held
+    (ap (λ (ms : List Mapping). record { head = c.index_mut.result.now.head; mappings = ms }) c.set.ensures.after) c.change.ensures in
+    let page : c.args.page ≡ content.head.page = sym (ap (λ (m : MapPage). m.head.page) c.index_mut.ensures.value ∙ at.named c.index_mut.result.now) in
+    record {
+      form = done.form;
+      room = c.self.invariant.room;
+      index = follows-set c.self.inside.index cache.frames cache.pages place content c.self.invariant.index (subst (λ (p : PageId). IsAt cache.pages p place) page at);
+      clean = subst (λ (flags : List Bool). AreFlags flags cache.frames (length (set cache.pages place content)) c.change.new.self) (sym c.set-2.ensures)
+          (subst (λ (n : ℕ). AreFlags (set c.self.inside.clean place false) cache.frames n c.change.new.self) (sym (length-set cache.pages place content))
+          (flags-changed cache c.change.new.self place (changed_at c.args.point) false c.self.inside.clean c.self.invariant.form at.inside c.change.ensures refl c.self.invariant.clean));
+    }

@@ -1,48 +1,50 @@
-use Rattle.std.proofs.Common.{◌≡◌, length, ap, ◌∙◌, sym, subst, arith}
-use Rattle.blk_base.specs.declared.place.PageId.{PageId}
-use Rattle.map_page_cache.specs.declared.frame.Frame.{Frame}
-use Rattle.map_page_cache.specs.CachedPages.{CachedPages, settled}
-use Rattle.map_page_cache.specs.Slots.{Queues, IsAt, with_frame}
-use Rattle.map_page_cache.proofs.SlotLaws.{queues-set, length-queues}
-use Rattle.map_page_cache.proofs.CacheLaws.{follows-set, changes}
-use Rattle.std.proofs.lemmas.List.{length-set}
+use Rattle.std.proofs.Common.{length, List, Bool, ap, ◌∙◌, sym, subst, refl, get_or}
+use Rattle.std.proofs.lemmas.List.{get_or_default}
+use Rattle.page_codec.specs.declared.forms.MapPage.{MapPage}
+use Rattle.dirty_pages.specs.declared.marks.Marks.{Marks}
+use Rattle.dirty_pages.specs.Marks.{clean_of, settled, marks_at}
+use Rattle.dirty_pages.proofs.MarkLaws.{changed_here, out_inside}
+use Rattle.map_page_cache.specs.CachedPages.{CachedPages, IsWriting}
+use Rattle.map_page_cache.specs.Frames.{IsAt, AreFlags}
+use Rattle.map_page_cache.proofs.FrameLaws.{page_in}
+use Rattle.map_page_cache.proofs.CacheLaws.{at_in}
+use Rattle.map_page_cache.proofs.StepLaws.{writes, writing_in, flags-changed}
 use Rattle.map_page_cache.proofs.cache.Cache.written.Goals as goal
 
-pub index_mut-frame-requires : goal.index_mut-frame-requires
-index_mut-frame-requires c =
-    omega (arith, c.place_of-place.ensures.inside, ap (λ (known : CachedPages). length known.kept) c.self.view_is, c.self.inside.frames.ok)
-
-pub set-requires : goal.set-requires
-set-requires c =
-    omega (
-      arith,
-      length-queues c.self.inside.room c.self.inside.frames.items c.self.inside.queues c.self.invariant.fits c.self.invariant.queues,
-      c.place_of-place.ensures.inside,
-      ap (λ (known : CachedPages). length known.kept) c.self.view_is,
-      c.self.invariant.fits,
-    )
-
-pub invariant_of-self : goal.invariant_of-self
-invariant_of-self c =
-    let slots = c.self.inside.room in
-    let frames = c.self.inside.frames.items in
-    let place = c.place_of-place.result in
-    let frame = c.index_mut-frame.result.now in
-    let at = subst (λ (known : CachedPages). IsAt known.kept c.args.page place) (sym c.self.view_is) c.place_of-place.ensures in
-    let page : c.args.page ≡ c.settle.new.self.page = sym (ap (λ (f : Frame). f.page) c.settle.ensures ∙ ap (λ (f : Frame). f.page) c.index_mut-frame.ensures.value ∙ at.named frame) in
-    record {
-      fits = omega (arith, length-set frames place c.settle.new.self, c.self.invariant.fits);
-      room = c.self.invariant.room;
-      index = follows-set c.self.inside.index slots frames place c.settle.new.self c.self.invariant.index (subst (λ (p : PageId). IsAt frames p place) page at);
-      queues = c.set.ensures ∙ ap (λ (q : Queues). with_frame q place c.settle.new.self) c.self.invariant.queues ∙ sym (queues-set slots frames place c.settle.new.self at.inside);
-    }
+pub written-requires : goal.written-requires
+written-requires c =
+    let cache : CachedPages = record { geometry = c.self.inside.geometry; frames = c.self.inside.room; pages = c.self.inside.pages.items; marks = c.self.inside.marks } in
+    writing_in cache c.args.page c.frame_of-frame.result c.self.invariant.form
+    (subst (λ (known : CachedPages). IsAt known.pages c.args.page c.frame_of-frame.result) (sym c.self.view_is) c.frame_of-frame.ensures)
+    (subst (λ (known : CachedPages). IsWriting known c.args.page) (sym c.self.view_is) c.requires)
 
 pub returns : goal.returns
 returns c =
-    let place = c.place_of-place.result in
-    let at = subst (λ (known : CachedPages). IsAt known.kept c.args.page place) (sym c.self.view_is) c.place_of-place.ensures in
-    changes c.self.inside.room place c.self.inside.frames.items c.args.page settled c.index_mut-frame.result.now c.settle.new.self
-    c.args.self.now c.self.view_is at c.index_mut-frame.ensures.value c.settle.ensures
+    let cache : CachedPages = record { geometry = c.self.inside.geometry; frames = c.self.inside.room; pages = c.self.inside.pages.items; marks = c.self.inside.marks } in
+    let place = c.frame_of-frame.result in
+    let at = subst (λ (known : CachedPages). IsAt known.pages c.args.page place) (sym c.self.view_is) c.frame_of-frame.ensures in
+    let d = page_in cache.pages place at.inside in
+    let content : MapPage = get_or cache.pages place d in
+    writes c.args.self.now cache c.args.page place content c.written.new.self c.self.view_is c.self.invariant.form
+    (at_in cache c.args.page place content at (sym (get_or_default cache.pages place content d at.inside))) c.written.ensures
 
-pub place_of-place-requires : goal.place_of-place-requires
-place_of-place-requires c = (c.requires.0, c.requires.1)
+pub invariant_of-self : goal.invariant_of-self
+invariant_of-self c =
+    let cache : CachedPages = record { geometry = c.self.inside.geometry; frames = c.self.inside.room; pages = c.self.inside.pages.items; marks = c.self.inside.marks } in
+    let place = c.frame_of-frame.result in
+    let at = subst (λ (known : CachedPages). IsAt known.pages c.args.page place) (sym c.self.view_is) c.frame_of-frame.ensures in
+    let d = page_in cache.pages place at.inside in
+    let content : MapPage = get_or cache.pages place d in
+    let out = writing_in cache c.args.page place c.self.invariant.form at (subst (λ (known : CachedPages). IsWriting known c.args.page) (sym c.self.view_is) c.requires) in
+    let inside = out_inside cache.marks place out in
+    let done = writes cache cache c.args.page place content c.written.new.self refl c.self.invariant.form
+    (at_in cache c.args.page place content at (sym (get_or_default cache.pages place content d at.inside))) c.written.ensures in
+    record {
+      form = done.form;
+      room = c.self.invariant.room;
+      index = c.self.invariant.index;
+      clean = subst (λ (flags : List Bool). AreFlags flags cache.frames (length cache.pages) c.written.new.self) (sym c.set.ensures)
+          (flags-changed cache c.written.new.self place settled c.is_clean.result c.self.inside.clean c.self.invariant.form at.inside c.written.ensures
+          (c.is_clean.ensures ∙ ap clean_of (c.marks-marks.ensures ∙ ap (λ (ms : List Marks). marks_at ms place) c.written.ensures ∙ changed_here cache.marks place settled inside))
+          c.self.invariant.clean);
+    }

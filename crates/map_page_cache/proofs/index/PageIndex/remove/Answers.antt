@@ -1,7 +1,7 @@
 use Rattle.std.proofs.Common.{List, sym, subst, arith}
-use Rattle.map_page_cache.specs.Index.{Index, IsPlaceOf, HaveOneSlot, Removes, AreInOrder}
+use Rattle.map_page_cache.specs.Index.{IsPlaceOf, Removes, AreInOrder}
 use Rattle.map_page_cache.specs.declared.index.IndexEntry.{IndexEntry}
-use Rattle.map_page_cache.proofs.IndexLaws.{removes, order-remove, one_slot}
+use Rattle.map_page_cache.proofs.IndexLaws.{removes, order-remove}
 use Rattle.map_page_cache.proofs.index.PageIndex.remove.Goals as goal
 
 pub invariant_of-self : goal.invariant_of-self
@@ -13,13 +13,8 @@ invariant_of-self c =
           (order-remove c.self.inside.entries.items c.in-Ok.place c.self.invariant.order found.inside);
     }
 
-pub returns-clause-single : goal.returns-clause-single
-returns-clause-single c =
-    let index : Index = record { room = c.self.inside.room; entries = c.self.inside.entries.items } in
-    subst (λ (i : Index). HaveOneSlot i) c.self.view_is (one_slot index c.self.invariant.order)
-
-pub returns-clause-removed : goal.returns-clause-removed
-returns-clause-removed c =
+pub returns : goal.returns
+returns c =
     let found = subst (λ (es : List IndexEntry). IsPlaceOf es c.args.page c.in-Ok.place) c.deref.ensures.value c.in-Ok.ensures.found in
     subst (λ (es : List IndexEntry). Removes c.args.self.now (record { room = c.self.inside.room; entries = es }) c.args.page)
     (sym c.remove-entry.ensures.items)

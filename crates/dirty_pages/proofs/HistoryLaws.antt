@@ -1,0 +1,120 @@
+-- The marks of a page speak of each of its changes that isn't durable.
+use Rattle.std.specs.Prelude.{◌≡◌, ◌≤◌, List, [], ◌∷◌, Option, None, Some, refl}
+use Rattle.std.proofs.Common.{sym, ◌∙◌, ap, subst, inl, inr, arith}
+use Rattle.blk_base.specs.declared.place.PageId.{PageId}
+use Rattle.blk_base.specs.declared.point.Point.{Point}
+use Rattle.dirty_pages.specs.declared.marks.Marks.{Marks}
+use Rattle.dirty_pages.specs.Marks.{clean, least_of, changed_at, handed_out, settled, HasPoint}
+use Rattle.dirty_pages.specs.History.{Event, Changed, HandedOut, Written, IsWaiting, IsInWrite, IsUnwritten, IsUnreported, Becomes, IsAfter, AtMost}
+
+least_of-new : (least : Option Point) (point : Point) → (least_of least point).0 ≤ point.0
+least_of-new None point = omega arith
+least_of-new (Some first) point = omega arith
+
+least_of-old : (least : Option Point) (point later : Point) → AtMost least later → (least_of least point).0 ≤ later.0
+least_of-old None point later is = let none = is.is in cc
+least_of-old (Some first) point later is =
+    let same : first ≡ is.first = let some = is.is in cc in
+    let early = is.early in
+    omega (arith, ap (λ (p : Point). p.0) same)
+
+none_at_most : (least : Option Point) (point : Point) → least ≡ None → AtMost least point → ⊥
+none_at_most least point none is = let some = is.is in cc
+
+-- the marks of a page after an event, where it is about this page and where it isn't
+record Covers (events : List Event) (page : PageId) (marks : Marks) : Type 0 where
+  waiting : (point : Point) → IsWaiting events page point → AtMost marks.dirty point
+  in_write : (point : Point) → IsInWrite events page point → AtMost marks.writing point
+
+covers_same : (events : List Event) (page : PageId) (marks marks' : Marks) → marks' ≡ marks → Covers events page marks → Covers events page marks'
+covers_same events page marks marks' same known = subst (λ (m : Marks). Covers events page m) (sym same) known
+
+covers_changed : (events : List Event) (page : PageId) (point : Point) (marks : Marks) → Covers events page marks
+    → Covers (Changed page point ∷ events) page (changed_at point marks)
+covers_changed events page point marks known = record {
+  waiting = λ later wait. record {
+    first = least_of marks.dirty point;
+    is = refl;
+    early = elim wait [
+      | inl now ↦ omega (arith, least_of-new marks.dirty point, ap (λ (p : Point). p.0) now.1)
+      | inr before ↦ least_of-old marks.dirty point later (known.waiting later before)
+    ];
+  };
+  in_write = known.in_write;
+}
+
+covers_handed_out : (events : List Event) (page : PageId) (marks : Marks) → marks.writing ≡ None → Covers events page marks
+    → Covers (HandedOut page ∷ events) page (handed_out marks)
+covers_handed_out events page marks idle known = record {
+  waiting = λ point wait. absurd (wait.0 refl);
+  in_write = λ point out. elim out [
+    | inl now ↦ known.waiting point now.1
+    | inr before ↦ absurd (none_at_most marks.writing point idle (known.in_write point before))
+  ];
+}
+
+covers_settled : (events : List Event) (page : PageId) (marks : Marks) → Covers events page marks → Covers (Written page ∷ events) page (settled marks)
+covers_settled events page marks known = record { waiting = known.waiting; in_write = λ point out. absurd (out.0 refl) }
+
+covers_more : (event : Event) (events : List Event) (page : PageId) (old new : Marks) → Covers events page old → Becomes event page old new
+    → Covers (event ∷ events) page new
+covers_more (Changed other point) events page old new known step = elim step [
+  | inl this ↦ covers_same _ page _ new this.1 (subst (λ (p : PageId). Covers (Changed p point ∷ events) page (changed_at point old)) (sym this.0) (covers_changed events page point old known))
+  | inr none ↦ covers_same _ page old new none.1 (record {
+    waiting = λ later wait. elim wait [ inl now ↦ absurd (none.0 now.0) | inr before ↦ known.waiting later before ];
+    in_write = known.in_write;
+  })
+]
+covers_more (HandedOut other) events page old new known step = elim step [
+  | inl this ↦ covers_same _ page _ new this.2 (subst (λ (p : PageId). Covers (HandedOut p ∷ events) page (handed_out old)) (sym this.0) (covers_handed_out events page old this.1 known))
+  | inr none ↦ covers_same _ page old new none.1 (record {
+    waiting = λ point wait. known.waiting point wait.1;
+    in_write = λ point out. elim out [ inl now ↦ absurd (none.0 now.0) | inr before ↦ known.in_write point before ];
+  })
+]
+covers_more (Written other) events page old new known step = elim step [
+  | inl this ↦ covers_same _ page _ new this.1 (subst (λ (p : PageId). Covers (Written p ∷ events) page (settled old)) (sym this.0) (covers_settled events page old known))
+  | inr none ↦ covers_same _ page old new none.1 (record { waiting = known.waiting; in_write = λ point out. known.in_write point out.1 })
+]
+
+covers : (old new : Marks) (events : List Event) (page : PageId) → IsAfter old events page new → Covers events page new
+covers old new [] page after = record { waiting = λ point wait. absurd wait; in_write = λ point out. absurd out }
+covers old new (event ∷ events) page after = covers_more event events page after.0 new (covers old after.0 events page after.1) after.2
+
+pub waits : (old new : Marks) (events : List Event) (page : PageId) (point : Point) → IsAfter old events page new → IsWaiting events page point
+    → AtMost new.dirty point
+waits old new events page point after wait = (covers old new events page after).waiting point wait
+
+-- the marks have a point for each change that isn't written
+pub has_point : (old new : Marks) (events : List Event) (page : PageId) (point : Point) → IsAfter old events page new → IsUnwritten events page point
+    → (low : Point) × HasPoint new low × (low.0 ≤ point.0)
+has_point old new events page point after unwritten =
+    let all = covers old new events page after in
+    elim unwritten [
+      | inl wait ↦ let known = all.waiting point wait in (known.first, inl known.is, known.early)
+      | inr out ↦ let known = all.in_write point out in (known.first, inr known.is, known.early)
+    ]
+
+pub not_clean : (old new : Marks) (events : List Event) (page : PageId) (point : Point) → IsAfter old events page new → IsUnwritten events page point
+    → new ≡ clean → ⊥
+not_clean old new events page point after unwritten is =
+    elim (has_point old new events page point after unwritten).1 [ inl dirty ↦ cc | inr writing ↦ cc ]
+
+stays_out : (event : Event) (page : PageId) (old new : Marks) (first : Point) → Becomes event page old new → IsUnreported (event ∷ []) page
+    → old.writing ≡ Some first → new.writing ≡ Some first
+stays_out (Changed other point) page old new first step open_still out = elim step [ inl this ↦ ap (λ (m : Marks). m.writing) this.1 ∙ out | inr none ↦ ap (λ (m : Marks). m.writing) none.1 ∙ out ]
+stays_out (HandedOut other) page old new first step open_still out = elim step [ inl this ↦ (let idle = this.1 in cc) | inr none ↦ ap (λ (m : Marks). m.writing) none.1 ∙ out ]
+stays_out (Written other) page old new first step open_still out = elim step [ inl this ↦ absurd (open_still.0 this.0) | inr none ↦ ap (λ (m : Marks). m.writing) none.1 ∙ out ]
+
+unreported_parts : (event : Event) (events : List Event) (page : PageId) → IsUnreported (event ∷ events) page
+    → IsUnreported (event ∷ []) page × IsUnreported events page
+unreported_parts (Changed other point) events page all = (tt, all)
+unreported_parts (HandedOut other) events page all = (tt, all)
+unreported_parts (Written other) events page all = ((all.0, tt), all.1)
+
+pub still_out : (old new : Marks) (events : List Event) (page : PageId) (first : Point) → IsAfter old events page new → IsUnreported events page
+    → old.writing ≡ Some first → new.writing ≡ Some first
+still_out old new [] page first after none out = ap (λ (m : Marks). m.writing) after ∙ out
+still_out old new (event ∷ events) page first after none out =
+    let parts = unreported_parts event events page none in
+    stays_out event page after.0 new first after.2 parts.0 (still_out old after.0 events page first after.1 parts.1 out)

@@ -1,0 +1,3 @@
+pub mod MinimaLaws
+pub mod MarkLaws
+pub mod HistoryLaws

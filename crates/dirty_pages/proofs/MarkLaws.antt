@@ -1,0 +1,126 @@
+-- What the trees of least numbers tell of the marks.
+use Rattle.std.specs.Prelude.{ℕ, zero, suc, ◌≡◌, ◌≢◌, ◌<◌, ◌≤◌, min, ◌⊎◌, true, false, List, ◌∷◌, length, map, Option, None, Some, replicate, refl}
+use Rattle.std.proofs.Common.{sym, ◌∙◌, ap, inl, inr, arith}
+use Rattle.std.proofs.Math.ListN.{get_or-map, get_or-eq_default}
+use Rattle.std.proofs.lemmas.Bool.{cases_lt}
+use Rattle.std.proofs.lemmas.List.{get_or-set_same, get_or-set_other}
+use Rattle.blk_base.specs.declared.point.Point.{Point}
+use Rattle.dirty_pages.specs.declared.marks.Marks.{Marks}
+use Rattle.dirty_pages.specs.Minima.{key_at, IsLeast}
+use Rattle.dirty_pages.specs.Marks.{clean, HasPoint, IsDue, IsBeingWritten, marks_at, with_marks, handed_out, HandsOut, NoneIsDue, IsLowPoint, AreClean, due_by, due_of, unwritten_by, unwritten_of, clean_by, clean_of}
+
+pub map-replicate : {X Y : Type 0} (f : X → Y) (x : X) (n : ℕ) → map f (replicate n x) ≡ replicate n (f x)
+map-replicate f x zero = refl
+map-replicate f x (suc n) = ap (λ ys. f x ∷ ys) (map-replicate f x n)
+
+-- what a tree has of a page
+due_at : (pages : List Marks) (page : ℕ) → key_at (map due_of pages) page ≡ due_of (marks_at pages page)
+due_at pages page = get_or-map due_of pages page clean
+
+unwritten_at : (pages : List Marks) (page : ℕ) → key_at (map unwritten_of pages) page ≡ unwritten_of (marks_at pages page)
+unwritten_at pages page = get_or-map unwritten_of pages page clean
+
+due-some : (writing dirty : Option Point) (n : ℕ) → due_by writing dirty ≡ Some n → IsDue (record { dirty = dirty; writing = writing }) (record { 0 = n })
+due-some None None n is = cc
+due-some None (Some first) n is = record { idle = refl; dirty = let same : first.0 ≡ n = cc in ap (λ (k : ℕ). Some (record { 0 = k })) same }
+due-some (Some point) dirty n is = cc
+
+due-is : (marks : Marks) (point : Point) → IsDue marks point → due_of marks ≡ Some point.0
+due-is marks point due = ap (λ (w : Option Point). due_by w marks.dirty) due.idle ∙ ap (λ (d : Option Point). due_by None d) due.dirty
+
+unwritten-some : (dirty writing : Option Point) (n : ℕ) → unwritten_by dirty writing ≡ Some n
+    → HasPoint (record { dirty = dirty; writing = writing }) (record { 0 = n })
+unwritten-some None None n is = cc
+unwritten-some None (Some point) n is = inr (let same : point.0 ≡ n = cc in ap (λ (k : ℕ). Some (record { 0 = k })) same)
+unwritten-some (Some first) None n is = inl (let same : first.0 ≡ n = cc in ap (λ (k : ℕ). Some (record { 0 = k })) same)
+unwritten-some (Some first) (Some point) n is =
+    let least : min first.0 point.0 ≡ n = cc in
+    elim (cases_lt point.0 first.0) [
+      | inl later ↦ let same : point.0 ≡ n = omega arith in inr (ap (λ (k : ℕ). Some (record { 0 = k })) same)
+      | inr early ↦ let same : first.0 ≡ n = omega arith in inl (ap (λ (k : ℕ). Some (record { 0 = k })) same)
+    ]
+
+-- the least point is at most each
+unwritten-least : (dirty writing : Option Point) (p : Point) → (dirty ≡ Some p) ⊎ (writing ≡ Some p)
+    → (n : ℕ) × (unwritten_by dirty writing ≡ Some n) × (n ≤ p.0)
+unwritten-least None None p has = elim has [ inl d ↦ cc | inr w ↦ cc ]
+unwritten-least None (Some point) p has = elim has [ inl d ↦ cc | inr w ↦ let same : point ≡ p = cc in (point.0, refl, omega (arith, ap (λ (q : Point). q.0) same)) ]
+unwritten-least (Some first) None p has = elim has [ inl d ↦ let same : first ≡ p = cc in (first.0, refl, omega (arith, ap (λ (q : Point). q.0) same)) | inr w ↦ cc ]
+unwritten-least (Some first) (Some point) p has =
+    let one : (first.0 ≡ p.0) ⊎ (point.0 ≡ p.0) = elim has [ inl d ↦ inl cc | inr w ↦ inr cc ] in
+    (min first.0 point.0, refl, omega (arith, one))
+
+unwritten-none : (dirty writing : Option Point) → unwritten_by dirty writing ≡ None → record { dirty = dirty; writing = writing } ≡ clean
+unwritten-none None None is = refl
+unwritten-none None (Some point) is = cc
+unwritten-none (Some first) None is = cc
+unwritten-none (Some first) (Some point) is = cc
+
+clean_by-true : (dirty writing : Option Point) → clean_by dirty writing ≡ true → record { dirty = dirty; writing = writing } ≡ clean
+clean_by-true None None is = refl
+clean_by-true None (Some point) is = cc
+clean_by-true (Some first) writing is = cc
+
+pub clean-true : (marks : Marks) → clean_of marks ≡ true → marks ≡ clean
+clean-true marks is = clean_by-true marks.dirty marks.writing is
+
+pub clean-false : (marks : Marks) → clean_of marks ≡ false → marks ≡ clean → ⊥
+clean-false marks is clean_is = let here : clean_of marks ≡ true = ap clean_of clean_is in cc
+
+-- a page that is due, or has a point, is none past the last
+pub due_inside : (pages : List Marks) (page : ℕ) (first : Point) → IsDue (marks_at pages page) first → page < length pages
+due_inside pages page first due =
+    elim (cases_lt page (length pages)) [
+      | inl inside ↦ inside
+      | inr past ↦ absurd (let none = ap (λ (m : Marks). m.dirty) (get_or-eq_default pages clean {n = page} (omega arith)) in let some = due.dirty in cc)
+    ]
+
+pub out_inside : (pages : List Marks) (page : ℕ) → IsBeingWritten (marks_at pages page) → page < length pages
+out_inside pages page out =
+    elim (cases_lt page (length pages)) [
+      | inl inside ↦ inside
+      | inr past ↦ absurd (let none = ap (λ (m : Marks). m.writing) (get_or-eq_default pages clean {n = page} (omega arith)) in let some = out.is in cc)
+    ]
+
+-- the marks of a page after a change of one page's
+pub changed_here : (pages : List Marks) (page : ℕ) (change : Marks → Marks) → page < length pages → marks_at (with_marks pages page change) page ≡ change (marks_at pages page)
+changed_here pages page change inside = get_or-set_same pages page (change (marks_at pages page)) clean inside
+
+pub changed_elsewhere : (pages : List Marks) (page other : ℕ) (change : Marks → Marks) → other ≢ page → marks_at (with_marks pages page change) other ≡ marks_at pages other
+changed_elsewhere pages page other change apart = get_or-set_other pages page other (change (marks_at pages page)) clean apart
+
+-- the first of the pages that are due
+pub first_due : (pages : List Marks) (page first : ℕ) → IsLeast (map due_of pages) page first → IsDue (marks_at pages page) (record { 0 = first })
+first_due pages page first is =
+    due-some (marks_at pages page).writing (marks_at pages page).dirty first (sym (due_at pages page) ∙ is.here)
+
+pub hands_out : (pages new : List Marks) (point : Point) (page first : ℕ) → IsLeast (map due_of pages) page first → first ≤ point.0
+    → new ≡ with_marks pages page handed_out → HandsOut pages new point page
+hands_out pages new point page first is reached after = record {
+  first = record { 0 = first };
+  due = first_due pages page first is;
+  reached = reached;
+  least = λ other later due. is.least other later.0 (due_at pages other ∙ due-is (marks_at pages other) later due);
+  after = after;
+}
+
+pub none_is_due : (pages : List Marks) (point : Point) → ((page : ℕ) → key_at (map due_of pages) page ≡ None) → NoneIsDue pages point
+none_is_due pages point none page first due =
+    let some : Some first.0 ≡ None = sym (due-is (marks_at pages page) first due) ∙ sym (due_at pages page) ∙ none page in
+    cc
+
+pub none_is_early : (pages : List Marks) (point : Point) (page first : ℕ) → IsLeast (map due_of pages) page first → point.0 < first → NoneIsDue pages point
+none_is_early pages point page first is late other later due =
+    omega (arith, is.least other later.0 (due_at pages other ∙ due-is (marks_at pages other) later due))
+
+pub low_point : (pages : List Marks) (page low : ℕ) → IsLeast (map unwritten_of pages) page low → IsLowPoint pages (record { 0 = low })
+low_point pages page low is = record {
+  number = page;
+  has = unwritten-some (marks_at pages page).dirty (marks_at pages page).writing low (sym (unwritten_at pages page) ∙ is.here);
+  least = λ other point has.
+      let own = unwritten-least (marks_at pages other).dirty (marks_at pages other).writing point has in
+      omega (arith, own.2, is.least other own.0 (unwritten_at pages other ∙ own.1));
+}
+
+pub are_clean : (pages : List Marks) → ((page : ℕ) → key_at (map unwritten_of pages) page ≡ None) → AreClean pages
+are_clean pages none page = unwritten-none (marks_at pages page).dirty (marks_at pages page).writing (sym (unwritten_at pages page) ∙ none page)

@@ -1,0 +1,97 @@
+-- What of the changes of pages isn't durable yet.
+use Rattle.std.specs.Prelude.{ℕ, ◌≡◌, ◌<◌, ◌≤◌, min, ◌⊎◌, Bool, true, false, List, Option, None, Some, slice_index_or, slice_set}
+use Rattle.blk_base.specs.declared.point.Point.{Point}
+use Rattle.dirty_pages.specs.declared.marks.Marks.{Marks}
+
+-- all changes are durable
+abbrev pub clean : Marks
+clean = record { dirty = None; writing = None }
+
+-- the lesser of a point that may be there and another
+abbrev pub least_of : Option Point → Point → Point
+least_of None point = point
+least_of (Some first) point = record { 0 = min first.0 point.0 }
+
+-- the page is changed at this point
+abbrev pub changed_at : Point → Marks → Marks
+changed_at point marks = record marks { dirty = Some (least_of marks.dirty point) }
+
+-- the page is being written: what changes it from now on isn't in that write
+abbrev pub handed_out : Marks → Marks
+handed_out marks = record { dirty = None; writing = marks.dirty }
+
+-- the write is durable
+abbrev pub settled : Marks → Marks
+settled marks = record marks { writing = None }
+
+-- a point from which on changes of the page aren't durable
+abbrev pub HasPoint : Marks → Point → Type 0
+HasPoint marks point = (marks.dirty ≡ Some point) ⊎ (marks.writing ≡ Some point)
+
+-- the page isn't being written, and was changed first at this point
+pub record IsDue (marks : Marks) (first : Point) : Type 0 where
+  pub idle : marks.writing ≡ None
+  pub dirty : marks.dirty ≡ Some first
+
+-- the page was handed out, and its write isn't durable yet
+pub record IsBeingWritten (marks : Marks) : Type 0 where
+  pub first : Point
+  pub is : marks.writing ≡ Some first
+
+-- the marks of a page by its number; past the last page they are clean
+abbrev pub marks_at : List Marks → ℕ → Marks
+marks_at pages number = slice_index_or pages number clean
+
+-- other marks for a page
+abbrev pub with_marks : List Marks → ℕ → (Marks → Marks) → List Marks
+with_marks pages number change = slice_set pages number (change (marks_at pages number))
+
+-- of the pages that are due the one with the least first point is handed out, if that is at most the point
+pub record HandsOut (old new : List Marks) (point : Point) (number : ℕ) : Type 0 where
+  pub first : Point
+  pub due : IsDue (marks_at old number) first
+  pub reached : first.0 ≤ point.0
+  pub least : (other : ℕ) (later : Point) → IsDue (marks_at old other) later → first.0 ≤ later.0
+  pub after : new ≡ with_marks old number handed_out
+
+-- no page is due at the point
+abbrev pub NoneIsDue : List Marks → Point → Type 0
+NoneIsDue pages point = (number : ℕ) (first : Point) → IsDue (marks_at pages number) first → point.0 < first.0
+
+-- a change from this point on isn't durable, and all that aren't are from it on
+pub record IsLowPoint (pages : List Marks) (low : Point) : Type 0 where
+  pub number : ℕ
+  pub has : HasPoint (marks_at pages number) low
+  pub least : (other : ℕ) (point : Point) → HasPoint (marks_at pages other) point → low.0 ≤ point.0
+
+-- each page is clean
+abbrev pub AreClean : List Marks → Type 0
+AreClean pages = (number : ℕ) → marks_at pages number ≡ clean
+
+-- what the trees of least numbers keep of the marks of a page: the first dirty point where it isn't being written
+abbrev pub due_by : Option Point → Option Point → Option ℕ
+due_by None None = None
+due_by None (Some first) = Some first.0
+due_by (Some point) dirty = None
+
+abbrev pub due_of : Marks → Option ℕ
+due_of marks = due_by marks.writing marks.dirty
+
+-- and the least point of what isn't durable
+abbrev pub unwritten_by : Option Point → Option Point → Option ℕ
+unwritten_by None None = None
+unwritten_by None (Some point) = Some point.0
+unwritten_by (Some first) None = Some first.0
+unwritten_by (Some first) (Some point) = Some (min first.0 point.0)
+
+abbrev pub unwritten_of : Marks → Option ℕ
+unwritten_of marks = unwritten_by marks.dirty marks.writing
+
+-- whether a page is clean
+abbrev pub clean_by : Option Point → Option Point → Bool
+clean_by None None = true
+clean_by None (Some point) = false
+clean_by (Some point) writing = false
+
+abbrev pub clean_of : Marks → Bool
+clean_of marks = clean_by marks.dirty marks.writing

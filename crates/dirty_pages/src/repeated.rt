@@ -1,0 +1,14 @@
+ghost use Rattle.std.specs.Prelude.{◌≡◌, replicate, IfOk};
+
+use std::alloc::{AllocError, Global};
+
+/// A list of so many equal values.
+pub(crate) fn repeated<T: Copy>(alloc: Global, value: T, count: usize) -> Result<Vec<T>, AllocError>
+    ensures { IfOk result (λ list. list.items ≡ replicate count value) }
+{
+    let mut list = Vec::with_capacity(alloc, count)?;
+    for made in 0..count {
+        list.push_reserved(value);
+    }
+    Ok(list)
+}

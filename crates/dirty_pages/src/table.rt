@@ -1,0 +1,110 @@
+ghost use Rattle.std.specs.Prelude.{◌≡◌, ◌<◌, length, replicate, slice_set, IfOk, IfSome, IfNone};
+ghost use Rattle.dirty_pages.specs.Marks.{clean, changed_at, settled, marks_at, with_marks, HandsOut, NoneIsDue, IsBeingWritten, IsLowPoint, AreClean};
+
+use crate::repeated::repeated;
+use crate::{Marks, Minima};
+use blk_base::Point;
+use std::alloc::{AllocError, Global};
+use std::marker::Model;
+
+/// The marks of pages, by their numbers.
+///
+/// A page that was changed is handed out to be written, and reported when that write is durable. What changes it in
+/// between is kept for the next time.
+#[derive(Drop)]
+pub struct DirtyPages {
+    marks: Vec<Marks>,
+    due: Minima,
+    unwritten: Minima,
+}
+
+impl Model for DirtyPages {
+    ghost use Rattle.std.specs.Prelude.{◌≡◌, List, map};
+    ghost use Rattle.dirty_pages.specs.declared.marks.Marks.{Marks};
+    ghost use Rattle.dirty_pages.specs.Marks.{due_of, unwritten_of};
+
+    ghost Value = { List Marks };
+
+    ghost view = { λ d. d.marks.items };
+
+    ghost invariant = { λ d. record {
+      due : d.due ≡ map due_of d.marks.items;
+      unwritten : d.unwritten ≡ map unwritten_of d.marks.items;
+    } };
+}
+
+impl DirtyPages {
+    /// So many pages, each of which is clean.
+    pub fn new(alloc: Global, pages: u32) -> Result<DirtyPages, AllocError>
+        ensures { IfOk result (λ dirty. dirty ≡ replicate pages clean) }
+    {
+        Ok(DirtyPages {
+            marks: repeated(alloc, Marks::clean(), pages as usize)?,
+            due: Minima::new(alloc, pages)?,
+            unwritten: Minima::new(alloc, pages)?,
+        })
+    }
+
+    /// The marks of a page.
+    pub fn marks(&self, page: usize) -> Marks
+        requires { page < length self.now }
+        ensures { result ≡ marks_at self.now page }
+    {
+        self.marks[page]
+    }
+
+    /// A page was changed by the journal's entry of this point.
+    pub fn change(&mut self, page: usize, point: Point)
+        requires { page < length self.old }
+        ensures { self.new ≡ with_marks self.old page (changed_at point) }
+    {
+        let marks = self.marks[page];
+        self.set(page, marks.changed(point));
+    }
+
+    /// Hands out a page to be written: of the pages that aren't being written the one with the least first dirty point, if
+    /// that is at most this point. It is being written from now on, and what changes it isn't in that write.
+    ///
+    /// `None` exactly where no page that isn't being written has a first dirty point at or below this one.
+    pub fn take_expired(&mut self, point: Point) -> Option<usize>
+        ensures some { IfSome result (HandsOut self.old self.new point) }
+        ensures none { IfNone result (NoneIsDue self.old point) }
+        ensures same { IfNone result (self.new ≡ self.old) }
+    {
+        let (page, first) = self.due.least()?;
+        if first > point.0 {
+            return None;
+        }
+        let marks = self.marks[page];
+        self.set(page, marks.handed_out());
+        Some(page)
+    }
+
+    /// The write of a page that was handed out is durable: a flush covers it. What changed the page since isn't.
+    pub fn written(&mut self, page: usize)
+        requires { IsBeingWritten (marks_at self.old page) }
+        ensures { self.new ≡ with_marks self.old page settled }
+    {
+        let marks = self.marks[page];
+        self.set(page, marks.settled());
+    }
+
+    /// The least point of a change that isn't durable; `None` exactly where each page is clean.
+    pub fn low_point(&self) -> Option<Point>
+        ensures some { IfSome result (IsLowPoint self.now) }
+        ensures none { IfNone result (AreClean self.now) }
+    {
+        let (_, low) = self.unwritten.least()?;
+        Some(Point(low))
+    }
+
+    // Gives a page these marks.
+    fn set(&mut self, page: usize, marks: Marks)
+        requires { page < length self.old }
+        ensures { self.new ≡ slice_set self.old page marks }
+    {
+        self.marks[page] = marks;
+        self.due.set(page, marks.due());
+        self.unwritten.set(page, marks.unwritten());
+    }
+}
