@@ -1,11 +1,12 @@
--- What the device zone does: one call of the device.
-use Rattle.std.specs.Prelude.{ℕ, zero, suc, ◌+◌, ◌≡◌, ◌⊎◌, Bool, true, false, Option, Some, List, [], ◌∷◌}
+-- What the device zone does: one call of the device. A failed read has any bytes.
+use Rattle.std.specs.Prelude.{ℕ, zero, suc, ◌+◌, ◌≡◌, ◌<◌, Bool, true, false, Option, Some, List, [], ◌∷◌}
+use Rattle.blk_base.specs.Regions.{journal_slot_of, needed_blocks}
 use Rattle.blk_base.specs.declared.place.Pbn.{Pbn}
 use Rattle.blk_base.specs.declared.request.Answer.TheVariants as reply
 use Rattle.disk_model.specs.declared.call.Call.{Call}
 use Rattle.disk_model.specs.declared.call.Call.TheVariants.{Read, Write, Flush}
 use Rattle.journal_codec.specs.Spelling.{block_bytes}
-use Rattle.stop_laws.specs.Journals.{slot_of, block_of_slot}
+use Rattle.stop_laws.specs.Journals.{block_of_slot}
 use Rattle.core_laws.specs.declared.items.Item.TheVariants as item
 use Rattle.core_laws.specs.declared.items.Phase.TheVariants as phase
 use Rattle.core_laws.specs.declared.items.SealedBlock.{SealedBlock}
@@ -14,8 +15,8 @@ use Rattle.core_laws.specs.declared.items.Stage.TheVariants as stage
 use Rattle.core_laws.specs.declared.items.Vio.{Vio}
 use Rattle.core_laws.specs.declared.sizes.Sizes.{Sizes}
 use Rattle.core_laws.specs.declared.zones.DeviceZone.{DeviceZone}
-use Rattle.core_laws.specs.Numbers.{desk_zone, physical_zone, journal_zone, device_zone, tellers}
-use Rattle.core_laws.specs.Trace.{Trace, Calls, entry_of}
+use Rattle.core_laws.specs.Numbers.{desk_zone, physical_zone, journal_zone, device_zone, notified_zones}
+use Rattle.core_laws.specs.Trace.{Trace, Calls, Fails, entry_of}
 use Rattle.core_laws.specs.Vios.{Post, turned, ended, logged, staged}
 
 -- one more call succeeded
@@ -26,42 +27,42 @@ counted d = record d { calls = d.calls + 1 }
 abbrev pub halted : DeviceZone → DeviceZone
 halted d = record d { stopped = true }
 
--- the word that it is, to the zones of the numbers from 1 to this one
-abbrev pub notices : ℕ → List Post
-notices zero = []
-notices (suc n) = (suc n, item.Notice) ∷ notices n
+-- the notice of that, to the zones of the numbers from 1 to this one
+abbrev pub stop_notices : ℕ → List Post
+stop_notices zero = []
+stop_notices (suc n) = (suc n, item.StopNotice) ∷ stop_notices n
 
--- A call failed. It stands in the log, or found no memory for its place there and had no effect.
-abbrev pub Fails : Call → Trace → Type 0
-Fails call made = (made ≡ Calls call ∷ []) ⊎ (made ≡ [])
+-- the block lies inside the image
+abbrev pub IsInside : Sizes → Pbn → Type 0
+IsInside sizes x = x.0 < needed_blocks sizes.geometry
 
 pub data DeviceServes (sizes : Sizes) (old : DeviceZone) (v : Vio) (new : DeviceZone) (made : Trace) (posts : List Post) : Type 0 where
   -- the data of a write
-  stores : v.phase ≡ phase.Store → old.stopped ≡ false
+  stores : v.phase ≡ phase.Store → old.stopped ≡ false → IsInside sizes v.block
       → new ≡ counted old → made ≡ Calls (Write v.block v.bytes true) ∷ [] → posts ≡ (journal_zone sizes, item.Request (turned phase.Enter v)) ∷ []
       → DeviceServes sizes old v new made posts
-  store_fails : v.phase ≡ phase.Store → old.stopped ≡ false
-      → new ≡ halted old → Fails (Write v.block v.bytes false) made
-      → posts ≡ (physical_zone sizes, item.Request (ended phase.Return reply.Stopped v)) ∷ notices (tellers sizes)
+  store_fails : (kept : Bool) → v.phase ≡ phase.Store → old.stopped ≡ false → IsInside sizes v.block
+      → new ≡ halted old → made ≡ Fails v.request (Write v.block v.bytes false) kept ∷ []
+      → posts ≡ (physical_zone sizes, item.Request (ended phase.AbortClaim reply.Stopped v)) ∷ stop_notices (notified_zones sizes)
       → DeviceServes sizes old v new made posts
   store_unmade : v.phase ≡ phase.Store → old.stopped ≡ true
-      → new ≡ old → made ≡ [] → posts ≡ (physical_zone sizes, item.Request (ended phase.Return reply.Stopped v)) ∷ []
+      → new ≡ old → made ≡ [] → posts ≡ (physical_zone sizes, item.Request (ended phase.AbortClaim reply.Stopped v)) ∷ []
       → DeviceServes sizes old v new made posts
   -- the block of a read
-  loads : (bytes : List ℕ) → v.phase ≡ phase.Load
+  loads : (bytes : List ℕ) → v.phase ≡ phase.Load → IsInside sizes v.block
       → new ≡ counted old → made ≡ Calls (Read v.block bytes true) ∷ [] → posts ≡ (v.home, item.Request (record v { phase = phase.Loaded; bytes = bytes })) ∷ []
       → DeviceServes sizes old v new made posts
-  load_fails : (bytes : List ℕ) → v.phase ≡ phase.Load
-      → new ≡ old → Fails (Read v.block bytes false) made → posts ≡ (v.home, item.Request (ended phase.Leave reply.ReadFault v)) ∷ []
+  load_fails : (bytes : List ℕ) (kept : Bool) → v.phase ≡ phase.Load → IsInside sizes v.block
+      → new ≡ old → made ≡ Fails v.request (Read v.block bytes false) kept ∷ [] → posts ≡ (v.home, item.Request (ended phase.Abort reply.ReadFault v)) ∷ []
       → DeviceServes sizes old v new made posts
   -- a flush request
   flushes : v.phase ≡ phase.Flush → old.stopped ≡ false
       → new ≡ counted old → made ≡ Calls (Flush true) ∷ []
       → posts ≡ (desk_zone, item.Request (record v { phase = phase.Reply; answer = Some reply.Ok; calls = old.calls + 1 })) ∷ []
       → DeviceServes sizes old v new made posts
-  flush_fails : v.phase ≡ phase.Flush → old.stopped ≡ false
-      → new ≡ halted old → Fails (Flush false) made
-      → posts ≡ (desk_zone, item.Request (ended phase.Reply reply.Stopped v)) ∷ notices (tellers sizes)
+  flush_fails : (kept : Bool) → v.phase ≡ phase.Flush → old.stopped ≡ false
+      → new ≡ halted old → made ≡ Fails v.request (Flush false) kept ∷ []
+      → posts ≡ (desk_zone, item.Request (ended phase.Reply reply.Stopped v)) ∷ stop_notices (notified_zones sizes)
       → DeviceServes sizes old v new made posts
   flush_unmade : v.phase ≡ phase.Flush → old.stopped ≡ true
       → new ≡ old → made ≡ [] → posts ≡ (desk_zone, item.Request (ended phase.Reply reply.Stopped v)) ∷ []
@@ -73,7 +74,7 @@ journal_bytes sizes b = block_bytes sizes.geometry.nonce b.sequence sizes.start 
 
 -- the block of the journal where it stands
 abbrev pub IsItsSlot : Sizes → SealedBlock → Pbn → Type 0
-IsItsSlot sizes b slot = slot.0 ≡ block_of_slot (slot_of sizes.geometry b.sequence)
+IsItsSlot sizes b slot = slot.0 ≡ block_of_slot (journal_slot_of sizes.geometry b.sequence)
 
 -- what a sealed block needs of the device at a stage, and the stage behind it
 abbrev pub call_of : Sizes → SealedBlock → Pbn → Bool → Stage → Option Call
@@ -101,8 +102,8 @@ pub data DeviceWorks (sizes : Sizes) (old : DeviceZone) (b : SealedBlock) (new :
   makes : (call : Call) (slot : Pbn) → IsItsSlot sizes b slot → call_of sizes b slot true b.stage ≡ Some call → old.stopped ≡ false
       → new ≡ counted old → made ≡ Calls call ∷ [] → posts ≡ (next_zone sizes b.stage, item.Block (staged (next_stage b.stage) b)) ∷ []
       → DeviceWorks sizes old b new made posts
-  fails : (call : Call) (slot : Pbn) → IsItsSlot sizes b slot → call_of sizes b slot false b.stage ≡ Some call → old.stopped ≡ false
-      → new ≡ halted old → Fails call made → posts ≡ (journal_zone sizes, item.Block (staged stage.Fail b)) ∷ notices (tellers sizes)
+  fails : (call : Call) (slot : Pbn) (kept : Bool) → IsItsSlot sizes b slot → call_of sizes b slot false b.stage ≡ Some call → old.stopped ≡ false
+      → new ≡ halted old → made ≡ Fails b.vio.request call kept ∷ [] → posts ≡ (journal_zone sizes, item.Block (staged stage.Fail b)) ∷ stop_notices (notified_zones sizes)
       → DeviceWorks sizes old b new made posts
   unmade : (call : Call) (slot : Pbn) → call_of sizes b slot false b.stage ≡ Some call → old.stopped ≡ true
       → new ≡ old → made ≡ [] → posts ≡ (journal_zone sizes, item.Block (staged stage.Fail b)) ∷ []

@@ -1,17 +1,18 @@
 -- What a request carries, and what a zone keeps: facts on their own fields and on the trace.
-use Rattle.std.specs.Prelude.{ℕ, ◌+◌, ◌≡◌, ◌⊎◌, ◌<◌, ◌≤◌, ◌==◌, if◌then◌else◌, Bool, true, false, Option, None, Some, IsNone, List, [], ◌∷◌, ◌++◌, length}
+use Rattle.std.specs.Prelude.{ℕ, ◌+◌, ◌≡◌, ◌⊎◌, ◌<◌, ◌≤◌, Bool, true, false, Option, None, Some, IsNone, List, [], ◌∷◌, ◌++◌, length, drop}
 use Rattle.std.specs.List.{AllByRecursion}
 use Rattle.blk_base.specs.declared.place.Mapping.TheVariants.{At}
+use Rattle.blk_base.specs.declared.place.Pbn.{Pbn}
 use Rattle.blk_base.specs.declared.request.Answer.{Answer}
 use Rattle.blk_base.specs.declared.request.Answer.TheVariants as reply
 use Rattle.blk_base.specs.declared.request.Writer.{Writer}
 use Rattle.image_layout.specs.Window.{mapping_of}
-use Rattle.journal_codec.specs.Grammar.{HoldsMapping}
+use Rattle.byte_fields.specs.Mappings.{HoldsMapping}
 use Rattle.vdo_model.specs.DeskLog.{answer_of}
 use Rattle.vdo_model.specs.FlushMarks.{IsMark, successes}
 use Rattle.vdo_model.specs.Places.{drawn, place_of, zone_of}
 use Rattle.vdo_model.specs.Scripts.{request_at}
-use Rattle.vdo_model.specs.declared.report.Placed.{Placed}
+use Rattle.vdo_model.specs.ZoneOrder.{places_in}
 use Rattle.core_laws.specs.declared.items.Asks.{Asks}
 use Rattle.core_laws.specs.declared.items.Asks.TheVariants.{Read, Write, Flush}
 use Rattle.core_laws.specs.declared.items.Item.{Item}
@@ -33,13 +34,15 @@ use Rattle.core_laws.specs.declared.zones.LogicalZone.{LogicalZone}
 use Rattle.core_laws.specs.declared.zones.PhysicalZone.{PhysicalZone}
 use Rattle.core_laws.specs.declared.zones.Zone.{Zone}
 use Rattle.core_laws.specs.DeskRows.{is_marked, mark_of_vio}
+use Rattle.core_laws.specs.DeviceRows.{IsInside}
+use Rattle.core_laws.specs.JournalRows.{is_closed}
 use Rattle.core_laws.specs.LogicalRows.{is_among, is_held, mapped_by, mapping_at}
-use Rattle.core_laws.specs.Numbers.{desk_zone, logical_zone, physical_zone, journal_zone, device_zone, zone_count, tellers}
-use Rattle.core_laws.specs.RightTraces.{IsOpen, Quiet, IsCommitted, AllBelow, HasPlace, HasCause}
-use Rattle.core_laws.specs.Sessions.{Session, IsHonest, IsFresh, Stands, ReadsAs, AtRest, OnItsWay, ReadsEntry, HasPending, value_at}
-use Rattle.core_laws.specs.Sums.{total, Each}
+use Rattle.core_laws.specs.Numbers.{desk_zone, logical_zone, physical_zone, journal_zone, device_zone, zone_count, notified_zones}
+use Rattle.core_laws.specs.RightTraces.{IsOpen, Quiet, IsCommitted, AllBelow, HasPlace, HasBelow, HasCause}
+use Rattle.core_laws.specs.Sessions.{Session, HasHonestReads, IsFresh, Stands, ReadsAs, AtRest, OnItsWay, ReadsEntry, HasPending, value_at}
+use Rattle.plain_laws.specs.Sums.{total, Each}
 use Rattle.core_laws.specs.Tokens.{lock_weight}
-use Rattle.core_laws.specs.Trace.{Trace, moments, lines, calls, marks, places, entered, committed, settled, of_address, newest, logged_of}
+use Rattle.core_laws.specs.Trace.{Trace, moments, lines, calls, marks, places, entered, committed, settled, aborted, taken, has_stopped, of_address, newest, logged_of, entries_of}
 use Rattle.core_laws.specs.Vios.{request_of, logged}
 
 -- the zone where a phase is done; one that waits is in no lane, so none to a zone's number
@@ -52,10 +55,10 @@ zone_at sizes home phase.Enter = journal_zone sizes
 zone_at sizes home phase.Settle = home
 zone_at sizes home phase.Load = device_zone sizes
 zone_at sizes home phase.Loaded = home
-zone_at sizes home phase.Return = physical_zone sizes
-zone_at sizes home phase.Leave = home
-zone_at sizes home phase.Spend = physical_zone sizes
-zone_at sizes home phase.Die = home
+zone_at sizes home phase.AbortClaim = physical_zone sizes
+zone_at sizes home phase.Abort = home
+zone_at sizes home phase.AbortEnteredClaim = physical_zone sizes
+zone_at sizes home phase.AbortEntered = home
 zone_at sizes home phase.Flush = device_zone sizes
 zone_at sizes home phase.Reply = desk_zone
 
@@ -97,6 +100,8 @@ pub record Holds (s : Session) (t : Trace) (v : Vio) : Type 0 where
   pub quiet : Quiet t v.at.0
   pub below : AllBelow t v.at.0 v.place
   pub old_held : HoldsMapping v.old
+  -- it knows what its address is mapped to, by the slots that are set
+  pub old_is : v.old ≡ mapping_of (entries_of s.window (settled t)) v.at.0
 
 -- a read that holds it, and knows the last write of its address
 pub record Looks (s : Session) (t : Trace) (v : Vio) : Type 0 where
@@ -110,6 +115,7 @@ pub record IsEntered (s : Session) (t : Trace) (v : Vio) : Type 0 where
   pub placed : HasPlace s t v.request v.at.0 v.place
   pub entry : logged_of (entered t) v.request ≡ Some (logged v)
   pub unsettled : IsNone (logged_of (settled t) v.request)
+  pub unaborted : IsNone (logged_of (aborted t) v.request)
 
 -- its answer is one that it may have
 abbrev pub IsEarned : Session → Trace → Vio → Answer → Bool → Type 0
@@ -128,12 +134,12 @@ Carries s t v phase.Claim = Holds s t v × (v.asks ≡ Write)
 Carries s t v phase.Store = Holds s t v × (v.asks ≡ Write) × IsFresh s v.block
 Carries s t v phase.Enter = Holds s t v × (v.asks ≡ Write) × IsFresh s v.block × ReadsAs s t v.block.0 v.bytes
 Carries s t v phase.Settle = IsEntered s t v × IsCommitted t (logged v) × AllBelow t v.at.0 v.place × IsFresh s v.block
-Carries s t v phase.Load = Looks s t v × (mapped_by v.latest (mapping_of s.window v.at.0) ≡ At v.block)
-Carries s t v phase.Loaded = Looks s t v × (IsHonest s t → v.bytes ≡ value_at s t v.at.0)
-Carries s t v phase.Return = Holds s t v × MayReply s t v v.answer
-Carries s t v phase.Leave = Holds s t v × MayReply s t v v.answer
-Carries s t v phase.Spend = IsEntered s t v × MayReply s t v v.answer
-Carries s t v phase.Die = IsEntered s t v × MayReply s t v v.answer
+Carries s t v phase.Load = Looks s t v × (mapped_by v.latest (mapping_of s.window v.at.0) ≡ At v.block) × IsInside s.sizes v.block
+Carries s t v phase.Loaded = Looks s t v × (HasHonestReads s t → v.bytes ≡ value_at s t v.at.0)
+Carries s t v phase.AbortClaim = Holds s t v × MayReply s t v v.answer
+Carries s t v phase.Abort = Holds s t v × MayReply s t v v.answer
+Carries s t v phase.AbortEnteredClaim = IsEntered s t v × MayReply s t v v.answer × (has_stopped t ≡ true)
+Carries s t v phase.AbortEntered = IsEntered s t v × MayReply s t v v.answer × (has_stopped t ≡ true)
 Carries s t v phase.Flush = v.asks ≡ Flush
 Carries s t v phase.Reply = MayReply s t v v.answer
 
@@ -143,7 +149,7 @@ StandsAt s t v stage.Cover = AtRest s t (committed t) × ReadsAs s t v.block.0 v
 StandsAt s t v stage.Write = AtRest s t (committed t) × Stands s t v.block.0 v.bytes
 StandsAt s t v stage.Harden = OnItsWay s t (committed t) (logged v) × ReadsEntry s t (committed t) (logged v)
 StandsAt s t v stage.Commit = AtRest s t (logged v ∷ committed t)
-StandsAt s t v stage.Fail = AtRest s t (committed t) ⊎ OnItsWay s t (committed t) (logged v)
+StandsAt s t v stage.Fail = (AtRest s t (committed t) ⊎ OnItsWay s t (committed t) (logged v)) × (has_stopped t ≡ true)
 
 pub record BlockOk (s : Session) (t : Trace) (b : SealedBlock) : Type 0 where
   pub vio : VioOk s t b.vio
@@ -162,16 +168,11 @@ pub record BlockOk (s : Session) (t : Trace) (b : SealedBlock) : Type 0 where
 abbrev pub ItemOk : Session → Trace → ℕ → Item → Type 0
 ItemOk s t to (item.Request v) = VioOk s t v × Carries s t v v.phase × (to ≡ zone_at s.sizes v.home v.phase)
 ItemOk s t to (item.Block b) = BlockOk s t b × (to ≡ zone_of_stage s.sizes b.stage)
-ItemOk s t to item.Notice = to ≤ tellers s.sizes
+ItemOk s t to item.StopNotice = (to ≤ notified_zones s.sizes) × (has_stopped t ≡ true)
 
 -- a request that a zone keeps is in one phase
 abbrev pub KeptOk : Session → Trace → Phase → Vio → Type 0
 KeptOk s t one v = VioOk s t v × Carries s t v v.phase × (v.phase ≡ one)
-
--- the places of one zone
-abbrev pub places_in : ℕ → List Placed → List Placed
-places_in zone [] = []
-places_in zone (p ∷ older) = if p.zone == zone then p ∷ places_in zone older else places_in zone older
 
 -- places rise from each that waits to those behind it
 abbrev pub Rises : List Vio → Type 0
@@ -187,9 +188,10 @@ pub record DeskOk (s : Session) (t : Trace) (number : ℕ) (desk : Desk) : Type 
   pub requests : desk.requests ≡ s.script
   pub log_is : desk.log ≡ lines t
   pub marks_is : desk.marks ≡ marks t
-  -- no request is answered as stopped before every zone has told of the stop
-  pub stops_told : (w : Writer) → answer_of desk.log w ≡ Some reply.Stopped → tellers s.sizes ≤ desk.told
+  -- no request is answered as stopped before the stop notice of every zone has come
+  pub stops_notified : (w : Writer) → answer_of desk.log w ≡ Some reply.Stopped → notified_zones s.sizes ≤ desk.notices
   pub parked : AllByRecursion (KeptOk s t phase.Reply) desk.parked
+  pub notified_so : 0 < desk.notices → has_stopped t ≡ true
 
 -- a request that waits for a lock that is held
 pub record WaitsOk (s : Session) (t : Trace) (number : ℕ) (l : LogicalZone) (v : Vio) : Type 0 where
@@ -207,19 +209,24 @@ pub record LogicalOk (s : Session) (t : Trace) (number : ℕ) (l : LogicalZone) 
   pub slots_are : (a : ℕ) → zone_of s.sizes.zones a ≡ l.zone → of_address a l.slots ≡ of_address a (settled t)
   -- each address is mapped to a block that an entry can hold
   pub mapped : (a : ℕ) → HoldsMapping (mapping_at l a)
+  pub inside : (a : ℕ) (x : Pbn) → mapping_at l a ≡ At x → IsInside s.sizes x
+  -- a lock that is never released: a write of its address was aborted, once the session was stopped
+  pub retired_so : (a : ℕ) → is_among a l.retired ≡ true → (has_stopped t ≡ true) × HasBelow a l.next (aborted t)
   pub below : (a : ℕ) → zone_of s.sizes.zones a ≡ l.zone → AllBelow t a l.next
   pub locks : AllByRecursion (LockOk s l) l.held
   pub once : (a : ℕ) → total (lock_weight a (λ p. true)) l.held ≤ 1
   -- a lock that is free: all entries of its address are settled
-  pub quiet : (a : ℕ) → zone_of s.sizes.zones a ≡ l.zone → is_held a l.held ≡ false → is_among a l.dead ≡ false → Quiet t a
+  pub quiet : (a : ℕ) → zone_of s.sizes.zones a ≡ l.zone → is_held a l.held ≡ false → is_among a l.retired ≡ false → Quiet t a
   -- who waits for a lock came behind its holder, and in the order of places
   pub waiting : AllByRecursion (WaitsOk s t number l) l.waiting
   pub in_line : AllByRecursion (λ (lock : Lock). AllByRecursion (λ v. v.at.0 ≡ lock.at.0 → lock.place < v.place) l.waiting) l.held
   pub in_order : Rises l.waiting
 
-pub record PhysicalOk (s : Session) (number : ℕ) (p : PhysicalZone) : Type 0 where
+pub record PhysicalOk (s : Session) (t : Trace) (number : ℕ) (p : PhysicalZone) : Type 0 where
   pub number_is : number ≡ physical_zone s.sizes
   pub free : AllByRecursion (IsFresh s) p.free
+  -- those that weren't taken
+  pub left : p.free ≡ drop (taken t) s.free
 
 -- What stands on the device while no sealed block is under way.
 abbrev pub RestsAt : Session → Trace → (busy broken : Bool) → Type 0
@@ -233,15 +240,17 @@ pub record JournalOk (s : Session) (t : Trace) (number : ℕ) (j : JournalZone) 
   pub committed_is : j.committed ≡ committed t
   pub waiting : AllByRecursion (KeptOk s t phase.Enter) j.waiting
   pub rests : RestsAt s t j.busy j.broken
+  pub closed_so : is_closed j ≡ true → has_stopped t ≡ true
 
 pub record DeviceOk (s : Session) (t : Trace) (number : ℕ) (d : DeviceZone) : Type 0 where
   pub number_is : number ≡ device_zone s.sizes
   pub calls_is : d.calls ≡ successes (calls t)
+  pub stopped_is : d.stopped ≡ has_stopped t
 
 abbrev pub DataOk : Session → Trace → ℕ → ZoneData → Type 0
 DataOk s t number (at.Desk desk) = DeskOk s t number desk
 DataOk s t number (at.Logical l) = LogicalOk s t number l
-DataOk s t number (at.Physical p) = PhysicalOk s number p
+DataOk s t number (at.Physical p) = PhysicalOk s t number p
 DataOk s t number (at.Journal j) = JournalOk s t number j
 DataOk s t number (at.Device d) = DeviceOk s t number d
 
@@ -255,17 +264,17 @@ arriving phase.Enter w = []
 arriving phase.Settle w = []
 arriving phase.Load w = []
 arriving phase.Loaded w = []
-arriving phase.Return w = []
-arriving phase.Leave w = []
-arriving phase.Spend w = []
-arriving phase.Die w = []
+arriving phase.AbortClaim w = []
+arriving phase.Abort w = []
+arriving phase.AbortEnteredClaim w = []
+arriving phase.AbortEntered w = []
 arriving phase.Flush w = []
 arriving phase.Reply w = []
 
 abbrev pub arrival : Item → List Writer
 arrival (item.Request v) = arriving v.phase v.request
 arrival (item.Block b) = []
-arrival item.Notice = []
+arrival item.StopNotice = []
 
 abbrev pub arrivals : List Item → List Writer
 arrivals [] = []

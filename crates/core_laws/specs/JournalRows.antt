@@ -12,28 +12,28 @@ use Rattle.core_laws.specs.declared.sizes.Sizes.{Sizes}
 use Rattle.core_laws.specs.declared.zones.JournalZone.{JournalZone}
 use Rattle.core_laws.specs.declared.zones.PhysicalZone.{PhysicalZone}
 use Rattle.core_laws.specs.Numbers.{physical_zone, device_zone}
-use Rattle.core_laws.specs.Trace.{Trace, Enters, Commits}
+use Rattle.core_laws.specs.Trace.{Trace, Enters, Commits, Takes}
 use Rattle.core_laws.specs.Vios.{Post, turned, ended, logged}
 
 pub data PhysicalServes (sizes : Sizes) (old : PhysicalZone) (v : Vio) (new : PhysicalZone) (made : Trace) (posts : List Post) : Type 0 where
   -- a write takes the first free block, or there is none
   claims : (x : Pbn) (others : List Pbn) → v.phase ≡ phase.Claim → old.free ≡ x ∷ others
-      → new ≡ record old { free = others } → made ≡ [] → posts ≡ (device_zone sizes, item.Request (record v { phase = phase.Store; block = x })) ∷ []
+      → new ≡ record old { free = others } → made ≡ Takes v.request x ∷ [] → posts ≡ (device_zone sizes, item.Request (record v { phase = phase.Store; block = x })) ∷ []
       → PhysicalServes sizes old v new made posts
   is_full : v.phase ≡ phase.Claim → old.free ≡ []
-      → new ≡ old → made ≡ [] → posts ≡ (v.home, item.Request (ended phase.Leave reply.Full v)) ∷ []
+      → new ≡ old → made ≡ [] → posts ≡ (v.home, item.Request (ended phase.Abort reply.Full v)) ∷ []
       → PhysicalServes sizes old v new made posts
-  -- one that ends passes by
-  returns : v.phase ≡ phase.Return
-      → new ≡ old → made ≡ [] → posts ≡ (v.home, item.Request (turned phase.Leave v)) ∷ []
+  -- one that is aborted passes by
+  aborts_claim : v.phase ≡ phase.AbortClaim
+      → new ≡ old → made ≡ [] → posts ≡ (v.home, item.Request (turned phase.Abort v)) ∷ []
       → PhysicalServes sizes old v new made posts
-  spends : v.phase ≡ phase.Spend
-      → new ≡ old → made ≡ [] → posts ≡ (v.home, item.Request (turned phase.Die v)) ∷ []
+  aborts_entered_claim : v.phase ≡ phase.AbortEnteredClaim
+      → new ≡ old → made ≡ [] → posts ≡ (v.home, item.Request (turned phase.AbortEntered v)) ∷ []
       → PhysicalServes sizes old v new made posts
 
 -- no entry is handed in any more
 abbrev pub is_closed : JournalZone → Bool
-is_closed j = j.told || j.broken
+is_closed j = j.notified || j.broken
 
 -- there is a block of the journal for one more entry
 abbrev pub has_block : Sizes → JournalZone → Bool
@@ -43,9 +43,9 @@ has_block sizes j = nat_lt (sizes.opened + length j.entered) sizes.geometry.jour
 abbrev pub sealed : Sizes → JournalZone → Vio → SealedBlock
 sealed sizes j v = record { stage = stage.Cover; sequence = sizes.start + (sizes.opened + length j.entered); vio = v }
 
--- a request ends undone, by way of the physical zone
+-- a request is aborted, by way of the physical zone
 abbrev pub refused : Sizes → Answer → Vio → Post
-refused sizes answer v = (physical_zone sizes, item.Request (ended phase.Return answer v))
+refused sizes answer v = (physical_zone sizes, item.Request (ended phase.AbortClaim answer v))
 
 abbrev pub all_refused : Sizes → Answer → List Vio → List Post
 all_refused sizes answer [] = []
@@ -92,5 +92,5 @@ pub data JournalEnds (sizes : Sizes) (old : JournalZone) (b : SealedBlock) (new 
   -- the block failed
   fails : b.stage ≡ stage.Fail
       → new ≡ record old { busy = false; broken = true; waiting = [] } → made ≡ []
-      → posts ≡ (physical_zone sizes, item.Request (ended phase.Spend reply.Stopped b.vio)) ∷ all_refused sizes reply.Stopped old.waiting
+      → posts ≡ (physical_zone sizes, item.Request (ended phase.AbortEnteredClaim reply.Stopped b.vio)) ∷ all_refused sizes reply.Stopped old.waiting
       → JournalEnds sizes old b new made posts

@@ -8,11 +8,11 @@ use Rattle.core_laws.specs.declared.zones.ZoneData.TheVariants as at
 use Rattle.core_laws.specs.declared.zones.LogicalZone.{LogicalZone}
 use Rattle.core_laws.specs.declared.zones.Zone.{Zone}
 use Rattle.core_laws.specs.Facts.{ZoneOk, arrivals}
-use Rattle.core_laws.specs.Numbers.{desk_zone, zone_count, tellers}
+use Rattle.core_laws.specs.Numbers.{desk_zone, zone_count, notified_zones}
 use Rattle.core_laws.specs.RightTraces.{RightTrace, GivesRight}
-use Rattle.core_laws.specs.Sessions.{Session, IsHonest}
+use Rattle.core_laws.specs.Sessions.{Session, HasHonestReads}
 use Rattle.core_laws.specs.Steps.{Core}
-use Rattle.core_laws.specs.Sums.{Each}
+use Rattle.plain_laws.specs.Sums.{Each}
 use Rattle.core_laws.specs.Tokens.{Balanced, AtMost, request_token, lease_token, block_token, journal_token, room_token, notice_token}
 use Rattle.core_laws.specs.Trace.{Trace, places}
 
@@ -33,9 +33,9 @@ LanesInOrder t zones =
     → slice_get zones n ≡ Some z → z.keeps ≡ at.Logical l → slice_get zones desk_zone ≡ Some desk → slice_get desk.outboxes n ≡ Some lane
     → InOrder l.zone (places t) (arrivals z.inbox ++ arrivals lane)
 
--- how many items a lane has at most, and how many requests a zone keeps: those under way, and the words of a stop
+-- how many items a lane has at most, and how many requests a zone keeps: those under way, and the stop notices
 abbrev pub share : Session → ℕ
-share s = length s.script * s.sizes.depth + tellers s.sizes
+share s = length s.script * s.sizes.depth + notified_zones s.sizes
 
 -- A legal core: balances of tokens, what each zone with its lanes keeps and carries, and a right trace.
 pub record Legal (s : Session) (core : Core) : Type 0 where
@@ -49,10 +49,10 @@ pub record Legal (s : Session) (core : Core) : Type 0 where
   pub blocks : (x : ℕ) → AtMost (block_token x) core.zones
   -- one sealed block is under way, or the journal is idle
   pub journal : Balanced journal_token core.zones
-  -- no request and no word of a stop is lost or doubled
+  -- no request and no stop notice is lost or doubled
   pub room : Balanced room_token core.zones
-  pub notices : Balanced (notice_token s.sizes) core.zones
+  pub stop_notices : Balanced (notice_token s.sizes) core.zones
   pub in_order : LanesInOrder core.trace core.zones
   pub right : RightTrace s core.trace
   -- on an honest device alone
-  pub gives_right : IsHonest s core.trace → GivesRight s core.trace
+  pub gives_right : HasHonestReads s core.trace → GivesRight s core.trace

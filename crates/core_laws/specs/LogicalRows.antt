@@ -17,7 +17,7 @@ use Rattle.core_laws.specs.declared.zones.Lock.{Lock}
 use Rattle.core_laws.specs.declared.zones.LogicalZone.{LogicalZone}
 use Rattle.core_laws.specs.declared.zones.Logged.{Logged}
 use Rattle.core_laws.specs.Numbers.{desk_zone, logical_zone, physical_zone, device_zone}
-use Rattle.core_laws.specs.Trace.{Trace, Draws, Sets, Gives, of_address, newest}
+use Rattle.core_laws.specs.Trace.{Trace, Draws, Sets, Gives, Aborts, of_address, newest}
 use Rattle.core_laws.specs.Vios.{Post, turned, ended, logged, gift}
 
 -- whether an address is among these
@@ -82,18 +82,18 @@ mapping_at l a = mapped_by (latest_at l a) (mapping_of l.window a)
 abbrev pub looked : LogicalZone → Vio → Vio
 looked l v = record v { old = mapping_at l v.at.0; latest = latest_at l v.at.0 }
 
--- where it goes: a write takes a block, a read reads the mapped one, or is given zeros
+-- where it goes: a write takes a block, a read reads the mapped one, or is given zeros; a flush takes no lock
 abbrev pub read_next : Sizes → LogicalZone → Vio → Mapping → Post
 read_next sizes l v (At x) = (device_zone sizes, item.Request (record v { phase = phase.Load; block = x }))
 read_next sizes l v Unmapped = (logical_zone l.zone, item.Request (record v { phase = phase.Loaded; bytes = zero_block }))
 read_next sizes l v Zero = (logical_zone l.zone, item.Request (record v { phase = phase.Loaded; bytes = zero_block }))
 
-abbrev pub next_for : Sizes → LogicalZone → Vio → Asks → Post
-next_for sizes l v Read = read_next sizes l (looked l v) (mapping_at l v.at.0)
-next_for sizes l v Write = (physical_zone sizes, item.Request (turned phase.Claim (looked l v)))
-next_for sizes l v Flush = (physical_zone sizes, item.Request (turned phase.Claim (looked l v)))
+abbrev pub next_for : Sizes → LogicalZone → Vio → Asks → Option Post
+next_for sizes l v Read = Some (read_next sizes l (looked l v) (mapping_at l v.at.0))
+next_for sizes l v Write = Some (physical_zone sizes, item.Request (turned phase.Claim (looked l v)))
+next_for sizes l v Flush = None
 
-abbrev pub goes_on : Sizes → LogicalZone → Vio → Post
+abbrev pub goes_on : Sizes → LogicalZone → Vio → Option Post
 goes_on sizes l v = next_for sizes l v v.asks
 
 -- The lock of an address goes to the first that waits for it, or is released.
@@ -104,16 +104,21 @@ passed_to a l (Some v) = record l { held = lock_of v ∷ without a l.held; waiti
 abbrev pub released : ℕ → LogicalZone → LogicalZone
 released a l = passed_to a l (first_for a l.waiting)
 
-abbrev pub passes_on : Sizes → LogicalZone → Option Vio → List Post
-passes_on sizes l None = []
-passes_on sizes l (Some v) = goes_on sizes l v ∷ []
+-- what is posted for the one that gets it, where somebody does
+abbrev pub only_post : Option Post → Option (List Post)
+only_post None = None
+only_post (Some post) = Some (post ∷ [])
 
-abbrev pub granted : Sizes → ℕ → LogicalZone → List Post
+abbrev pub passes_on : Sizes → LogicalZone → Option Vio → Option (List Post)
+passes_on sizes l None = Some []
+passes_on sizes l (Some v) = only_post (goes_on sizes l v)
+
+abbrev pub granted : Sizes → ℕ → LogicalZone → Option (List Post)
 granted sizes a l = passes_on sizes l (first_for a l.waiting)
 
 -- The lock of an address is never released: nobody waits for it any more.
-abbrev pub buried : ℕ → LogicalZone → LogicalZone
-buried a l = record l { held = without a l.held; dead = record { 0 = a } ∷ l.dead; waiting = none_for a l.waiting }
+abbrev pub retire : ℕ → LogicalZone → LogicalZone
+retire a l = record l { held = without a l.held; retired = record { 0 = a } ∷ l.retired; waiting = none_for a l.waiting }
 
 abbrev pub all_stopped : List Vio → List Post
 all_stopped [] = []
@@ -125,35 +130,35 @@ with_slot l v = record l { slots = logged v ∷ l.slots }
 
 pub data LogicalServes (sizes : Sizes) (old : LogicalZone) (v : Vio) (new : LogicalZone) (made : Trace) (posts : List Post) : Type 0 where
   -- it draws its place: its address is never released, or free, or held
-  arrives_dead : v.phase ≡ phase.Arrive → is_among v.at.0 old.dead ≡ true
+  arrives_retired : v.phase ≡ phase.Arrive → is_among v.at.0 old.retired ≡ true
       → new ≡ drawn_by old v → made ≡ Draws (place_of_vio old v) ∷ []
       → posts ≡ (desk_zone, item.Request (ended phase.Reply reply.Stopped (placed old v))) ∷ []
       → LogicalServes sizes old v new made posts
-  arrives_free : v.phase ≡ phase.Arrive → is_among v.at.0 old.dead ≡ false → is_held v.at.0 old.held ≡ false
+  arrives_free : (post : Post) → v.phase ≡ phase.Arrive → is_among v.at.0 old.retired ≡ false → is_held v.at.0 old.held ≡ false → goes_on sizes old (placed old v) ≡ Some post
       → new ≡ record (drawn_by old v) { held = lock_of (placed old v) ∷ old.held } → made ≡ Draws (place_of_vio old v) ∷ []
-      → posts ≡ goes_on sizes old (placed old v) ∷ []
+      → posts ≡ post ∷ []
       → LogicalServes sizes old v new made posts
-  arrives_held : v.phase ≡ phase.Arrive → is_among v.at.0 old.dead ≡ false → is_held v.at.0 old.held ≡ true
+  arrives_held : v.phase ≡ phase.Arrive → is_among v.at.0 old.retired ≡ false → is_held v.at.0 old.held ≡ true
       → new ≡ record (drawn_by old v) { waiting = old.waiting ++ turned phase.Wait (placed old v) ∷ [] } → made ≡ Draws (place_of_vio old v) ∷ []
       → posts ≡ []
       → LogicalServes sizes old v new made posts
   -- its slot is set
-  settles : v.phase ≡ phase.Settle
+  settles : (more : List Post) → v.phase ≡ phase.Settle → granted sizes v.at.0 (with_slot old v) ≡ Some more
       → new ≡ released v.at.0 (with_slot old v) → made ≡ Sets (logged v) ∷ []
-      → posts ≡ (desk_zone, item.Request (ended phase.Reply reply.Ok v)) ∷ granted sizes v.at.0 (with_slot old v)
+      → posts ≡ (desk_zone, item.Request (ended phase.Reply reply.Ok v)) ∷ more
       → LogicalServes sizes old v new made posts
   -- it is given its bytes
-  gives : v.phase ≡ phase.Loaded
+  gives : (more : List Post) → v.phase ≡ phase.Loaded → granted sizes v.at.0 old ≡ Some more
       → new ≡ released v.at.0 old → made ≡ Gives (gift v) ∷ []
-      → posts ≡ (desk_zone, item.Request (ended phase.Reply (reply.Bytes v.bytes) v)) ∷ granted sizes v.at.0 old
+      → posts ≡ (desk_zone, item.Request (ended phase.Reply (reply.Bytes v.bytes) v)) ∷ more
       → LogicalServes sizes old v new made posts
-  -- it ends undone
-  leaves : v.phase ≡ phase.Leave
+  -- it is aborted
+  aborts : (more : List Post) → v.phase ≡ phase.Abort → granted sizes v.at.0 old ≡ Some more
       → new ≡ released v.at.0 old → made ≡ []
-      → posts ≡ (desk_zone, item.Request (turned phase.Reply v)) ∷ granted sizes v.at.0 old
+      → posts ≡ (desk_zone, item.Request (turned phase.Reply v)) ∷ more
       → LogicalServes sizes old v new made posts
-  -- it ends with its entry handed in
-  dies : v.phase ≡ phase.Die
-      → new ≡ buried v.at.0 old → made ≡ []
+  -- it is aborted with its entry handed in
+  aborts_entered : v.phase ≡ phase.AbortEntered
+      → new ≡ retire v.at.0 old → made ≡ Aborts (logged v) ∷ []
       → posts ≡ (desk_zone, item.Request (turned phase.Reply v)) ∷ all_stopped (all_for v.at.0 old.waiting)
       → LogicalServes sizes old v new made posts

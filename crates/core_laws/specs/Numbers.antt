@@ -21,6 +21,6 @@ device_zone sizes = 3 + sizes.zones
 abbrev pub zone_count : Sizes → ℕ
 zone_count sizes = 4 + sizes.zones
 
--- how many zones pass the word on that the session is stopped: all but the desk and the device
-abbrev pub tellers : Sizes → ℕ
-tellers sizes = 2 + sizes.zones
+-- how many zones the device notifies of a stop, and each of them the desk: all but these two
+abbrev pub notified_zones : Sizes → ℕ
+notified_zones sizes = 2 + sizes.zones

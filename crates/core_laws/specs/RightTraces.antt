@@ -1,11 +1,17 @@
 -- A right trace: each happening may follow those before it, and at each moment a stop leaves what it may.
-use Rattle.std.specs.Prelude.{ℕ, ◌≡◌, ◌<◌, ◌≤◌, false, Some, IsNone, IsSome, List, [], ◌∷◌}
+use Rattle.std.specs.Prelude.{ℕ, ◌+◌, ◌≡◌, ◌⊎◌, ◌<◌, ◌≤◌, true, false, Some, IsNone, IsSome, List, [], ◌∷◌, length, slice_get}
 use Rattle.std.specs.List.{AllByRecursion}
+use Rattle.blk_base.specs.declared.place.Lba.{Lba}
+use Rattle.blk_base.specs.declared.place.Mapping.TheVariants.{At}
+use Rattle.blk_base.specs.declared.place.Pbn.{Pbn}
 use Rattle.blk_base.specs.declared.request.Answer.{Answer}
 use Rattle.blk_base.specs.declared.request.Answer.TheVariants as reply
 use Rattle.blk_base.specs.declared.request.Request.{Request}
 use Rattle.blk_base.specs.declared.request.Request.TheVariants as request
 use Rattle.blk_base.specs.declared.request.Writer.{Writer}
+use Rattle.disk_model.specs.declared.call.Call.{Call}
+use Rattle.disk_model.specs.declared.call.Call.TheVariants as call
+use Rattle.image_layout.specs.Window.{mapping_of}
 use Rattle.vdo_model.specs.DeskLog.{IsNextLine, begun, answer_of}
 use Rattle.vdo_model.specs.FlushMarks.{IsMark}
 use Rattle.vdo_model.specs.Places.{IsNextPlace, place_of, zone_of}
@@ -15,7 +21,7 @@ use Rattle.vdo_model.specs.declared.report.DeskLine.TheVariants as line
 use Rattle.vdo_model.specs.declared.report.Placed.{Placed}
 use Rattle.core_laws.specs.declared.zones.Logged.{Logged}
 use Rattle.core_laws.specs.Sessions.{Session, Shown, value_at}
-use Rattle.core_laws.specs.Trace.{Happening, Says, Flushes, Draws, Enters, Commits, Sets, Gives, Calls, Trace, Gift, moments, lines, places, entered, committed, settled, gifts, of_address, logged_of, gift_of}
+use Rattle.core_laws.specs.Trace.{Happening, Says, Flushes, Draws, Enters, Commits, Sets, Gives, Takes, Aborts, Calls, Fails, Trace, Gift, moments, lines, places, entered, committed, settled, aborted, gifts, taken, is_read, is_ok, has_stopped, has_read_fault, of_address, logged_of, gift_of, entries_of}
 
 -- a request is begun and not answered
 pub record IsOpen (t : Trace) (w : Writer) : Type 0 where
@@ -51,42 +57,59 @@ pub record IsWrite (s : Session) (t : Trace) (e : Logged) : Type 0 where
   pub asked : request_at s.script e.request ≡ Some (request.Write e.at bytes false)
   pub placed : HasPlace s t e.request e.at.0 e.place
 
+-- one of these writes is of this address, with a lower place
+abbrev pub HasBelow : ℕ → ℕ → List Logged → Type 0
+HasBelow a place [] = ⊥
+HasBelow a place (e ∷ older) = ((e.at.0 ≡ a) × (e.place < place)) ⊎ HasBelow a place older
+
+-- a read has its place, and a write of its address with a lower place was aborted
+pub record FollowsAbort (s : Session) (t : Trace) (w : Writer) (a : ℕ) : Type 0 where
+  pub place : ℕ
+  pub placed : HasPlace s t w a place
+  pub behind : HasBelow a place (aborted t)
+
+-- no block of the journal is left, or no free data block
+abbrev pub IsFull : Session → Trace → Type 0
+IsFull s t = (s.sizes.geometry.journal ≤ s.sizes.opened + length (entered t)) ⊎ (length s.free ≤ taken t)
+
 -- Why a request may be answered so.
 abbrev pub HasCause : Session → Trace → Writer → Request → Answer → Type 0
--- a read: it was given these bytes; its address isn't below the logical size; the session was stopped; a read failed
+-- a read: it was given these bytes; its address isn't below the logical size; the session is stopped, and the lock of
+-- its address is never released; a read of the device that was made for it failed
 HasCause s t w (request.Read at) (reply.Bytes bytes) = (place : ℕ) × (gift_of (gifts t) w ≡ Some (record { request = w; at = at; place = place; bytes = bytes }))
 HasCause s t w (request.Read at) reply.Range = s.sizes.geometry.logical ≤ at.0
-HasCause s t w (request.Read at) reply.Stopped = Unit {0}
-HasCause s t w (request.Read at) reply.ReadFault = IsSome (place_of (places t) w)
-HasCause s t w (request.Read at) reply.Ok = ⊥
-HasCause s t w (request.Read at) reply.NoSpace = ⊥
-HasCause s t w (request.Read at) reply.Full = ⊥
-HasCause s t w (request.Read at) reply.Damaged = ⊥
--- a write: its slot was set; no block was free; and so on
+HasCause s t w (request.Read at) reply.Stopped = (has_stopped t ≡ true) × FollowsAbort s t w at.0
+HasCause s t w (request.Read at) reply.ReadFault = IsSome (place_of (places t) w) × (has_read_fault t w ≡ true)
+HasCause s t w (request.Read at) other = ⊥
+-- a write: its slot was set; its address isn't below the logical size; the session is stopped, and its slot isn't set; no
+-- block is left for it
 HasCause s t w (request.Write at bytes fua) reply.Ok = IsSome (logged_of (settled t) w)
 HasCause s t w (request.Write at bytes fua) reply.Range = s.sizes.geometry.logical ≤ at.0
-HasCause s t w (request.Write at bytes fua) reply.Stopped = IsNone (logged_of (settled t) w)
-HasCause s t w (request.Write at bytes fua) reply.Full = IsNone (logged_of (entered t) w) × IsSome (place_of (places t) w)
-HasCause s t w (request.Write at bytes fua) (reply.Bytes other) = ⊥
-HasCause s t w (request.Write at bytes fua) reply.ReadFault = ⊥
-HasCause s t w (request.Write at bytes fua) reply.NoSpace = ⊥
-HasCause s t w (request.Write at bytes fua) reply.Damaged = ⊥
+HasCause s t w (request.Write at bytes fua) reply.Stopped = (has_stopped t ≡ true) × IsSome (place_of (places t) w) × IsNone (logged_of (settled t) w)
+HasCause s t w (request.Write at bytes fua) reply.Full = IsSome (place_of (places t) w) × IsNone (logged_of (entered t) w) × IsFull s t
+HasCause s t w (request.Write at bytes fua) other = ⊥
 HasCause s t w (request.Discard at) a = ⊥
--- a flush that returned is answered with its mark
-HasCause s t w request.Flush reply.Stopped = Unit {0}
-HasCause s t w request.Flush reply.Ok = ⊥
-HasCause s t w request.Flush (reply.Bytes bytes) = ⊥
-HasCause s t w request.Flush reply.Range = ⊥
-HasCause s t w request.Flush reply.NoSpace = ⊥
-HasCause s t w request.Flush reply.Full = ⊥
-HasCause s t w request.Flush reply.ReadFault = ⊥
-HasCause s t w request.Flush reply.Damaged = ⊥
+-- a flush: the session is stopped; one that returned is answered with its mark
+HasCause s t w request.Flush reply.Stopped = has_stopped t ≡ true
+HasCause s t w request.Flush other = ⊥
+
+-- A write is stopped before it reached its zone: it was just begun.
+pub record IsStoppedAtOnce (t : Trace) (w : Writer) : Type 0 where
+  pub stopped : has_stopped t ≡ true
+  pub unset : IsNone (logged_of (settled t) w)
+  pub older : Trace
+  pub begun_last : t ≡ Says (line.Begin w) ∷ older
+
+-- a request may be answered so: it has its cause, or it is a write that is stopped at once
+abbrev pub MayAnswer : Session → Trace → Writer → Request → Answer → Type 0
+MayAnswer s t w (request.Write at bytes fua) reply.Stopped = HasCause s t w (request.Write at bytes fua) reply.Stopped ⊎ IsStoppedAtOnce t w
+MayAnswer s t w r a = HasCause s t w r a
 
 -- a line may follow this trace
 abbrev pub LineMayFollow : Session → DeskLine → Trace → Type 0
 LineMayFollow s (line.Begin w) t = IsNextLine s.sizes.depth s.script (line.Begin w) (lines t)
 LineMayFollow s (line.Answer w a) t =
-    IsNextLine s.sizes.depth s.script (line.Answer w a) (lines t) × ((r : Request) → request_at s.script w ≡ Some r → HasCause s t w r a)
+    IsNextLine s.sizes.depth s.script (line.Answer w a) (lines t) × ((r : Request) → request_at s.script w ≡ Some r → MayAnswer s t w r a)
 
 -- a place may be drawn
 pub record PlaceMayFollow (s : Session) (p : Placed) (t : Trace) : Type 0 where
@@ -102,6 +125,8 @@ pub record EntryMayFollow (s : Session) (e : Logged) (t : Trace) : Type 0 where
   pub idle : entered t ≡ committed t
   pub quiet : Quiet t e.at.0
   pub below : AllBelow t e.at.0 e.place
+  -- it has what its address is mapped to by the committed entries
+  pub old_is : e.old ≡ mapping_of (entries_of s.window (committed t)) e.at.0
 
 pub record CommitMayFollow (s : Session) (e : Logged) (t : Trace) : Type 0 where
   pub is_open : IsOpen t e.request
@@ -111,6 +136,20 @@ pub record SlotMayFollow (s : Session) (e : Logged) (t : Trace) : Type 0 where
   pub is_open : IsOpen t e.request
   pub is_committed : IsCommitted t e
   pub below : AllBelow t e.at.0 e.place
+  pub unaborted : IsNone (logged_of (aborted t) e.request)
+
+-- a write whose entry was handed in may be aborted, once the session is stopped
+pub record AbortMayFollow (s : Session) (e : Logged) (t : Trace) : Type 0 where
+  pub is_open : IsOpen t e.request
+  pub handed_in : logged_of (entered t) e.request ≡ Some e
+  pub unset : IsNone (logged_of (settled t) e.request)
+  pub stopped : has_stopped t ≡ true
+
+-- a write may take the next free data block
+pub record TakeMayFollow (s : Session) (w : Writer) (x : Pbn) (t : Trace) : Type 0 where
+  pub is_open : IsOpen t w
+  pub asked : (at : Lba) × (bytes : List ℕ) × (request_at s.script w ≡ Some (request.Write at bytes false))
+  pub next : slice_get s.free (taken t) ≡ Some x
 
 -- a read may be given its bytes
 pub record GiftMayFollow (s : Session) (g : Gift) (t : Trace) : Type 0 where
@@ -120,7 +159,28 @@ pub record GiftMayFollow (s : Session) (g : Gift) (t : Trace) : Type 0 where
   pub quiet : Quiet t g.at.0
   pub below : AllBelow t g.at.0 g.place
 
--- each happening by what it is; of a call nothing is asked but what stands after it
+-- no write or flush of the device follows one that failed
+abbrev pub GoesOn : Trace → Call → Type 0
+GoesOn t call = is_read call ≡ false → has_stopped t ≡ false
+
+-- a read of the device is made for a read of an address that is mapped to its block, by the slots that are set
+abbrev pub IsMadeFor : Session → Trace → Writer → Call → Type 0
+IsMadeFor s t w (call.Read x bytes ok) = (at : Lba) × (request_at s.script w ≡ Some (request.Read at)) × (mapping_of (entries_of s.window (settled t)) at.0 ≡ At x)
+IsMadeFor s t w (call.Write x bytes ok) = Unit {0}
+IsMadeFor s t w (call.Flush ok) = Unit {0}
+
+-- a call may succeed, and one that was made for a request may fail
+pub record CallMayFollow (c : Call) (t : Trace) : Type 0 where
+  pub succeeds : is_ok c ≡ true
+  pub goes_on : GoesOn t c
+
+pub record FailureMayFollow (s : Session) (w : Writer) (c : Call) (t : Trace) : Type 0 where
+  pub is_open : IsOpen t w
+  pub fails : is_ok c ≡ false
+  pub goes_on : GoesOn t c
+  pub made_for : IsMadeFor s t w c
+
+-- each happening by what it is
 abbrev pub MayFollow : Session → Happening → Trace → Type 0
 MayFollow s (Says desk_line) t = LineMayFollow s desk_line t
 MayFollow s (Flushes mark) t =
@@ -130,7 +190,10 @@ MayFollow s (Enters e) t = EntryMayFollow s e t
 MayFollow s (Commits e) t = CommitMayFollow s e t
 MayFollow s (Sets e) t = SlotMayFollow s e t
 MayFollow s (Gives g) t = GiftMayFollow s g t
-MayFollow s (Calls call) t = Unit {0}
+MayFollow s (Takes w x) t = TakeMayFollow s w x t
+MayFollow s (Aborts e) t = AbortMayFollow s e t
+MayFollow s (Calls c) t = CallMayFollow c t
+MayFollow s (Fails w c kept) t = FailureMayFollow s w c t
 
 -- the trace is right: at each moment what happened may follow, and the device has what it must
 abbrev pub RightTrace : Session → Trace → Type 0
@@ -140,11 +203,17 @@ RightTrace s (h ∷ t) = MayFollow s h t × Shown s (h ∷ t) × RightTrace s t
 -- each read was given the value of its address
 abbrev pub GivesRight : Session → Trace → Type 0
 GivesRight s [] = Unit {0}
-GivesRight s (Says line ∷ t) = GivesRight s t
-GivesRight s (Flushes mark ∷ t) = GivesRight s t
-GivesRight s (Draws p ∷ t) = GivesRight s t
-GivesRight s (Enters e ∷ t) = GivesRight s t
-GivesRight s (Commits e ∷ t) = GivesRight s t
-GivesRight s (Sets e ∷ t) = GivesRight s t
 GivesRight s (Gives g ∷ t) = (g.bytes ≡ value_at s t g.at.0) × GivesRight s t
-GivesRight s (Calls call ∷ t) = GivesRight s t
+GivesRight s (other ∷ t) = GivesRight s t
+
+-- a write was handed in, and its slot isn't set
+pub record IsHeldBack (t : Trace) (e : Logged) : Type 0 where
+  pub handed_in : logged_of (entered t) e.request ≡ Some e
+  pub unset : IsNone (logged_of (settled t) e.request)
+
+-- no write or flush of the device follows one that failed, at any moment
+abbrev pub StopsAtFailure : Trace → Type 0
+StopsAtFailure [] = Unit {0}
+StopsAtFailure (Calls c ∷ t) = GoesOn t c × StopsAtFailure t
+StopsAtFailure (Fails w c kept ∷ t) = GoesOn t c × StopsAtFailure t
+StopsAtFailure (other ∷ t) = StopsAtFailure t

@@ -2,7 +2,7 @@
 use Rattle.std.specs.Prelude.{ℕ, ◌+◌, ◌≡◌, ◌≢◌, ◌⊎◌, ◌<◌, ◌≤◌, ◌^◌, true, false, Option, None, Some, List, [], ◌∷◌, ◌++◌, length}
 use Rattle.std.specs.List.{AllByRecursion}
 use Rattle.blk_base.specs.Limits.{IsGeometry}
-use Rattle.blk_base.specs.Regions.{needed_blocks}
+use Rattle.blk_base.specs.Regions.{IsDataBlock, journal_slot_of, needed_blocks}
 use Rattle.blk_base.specs.declared.journal_entry.Entry.{Entry}
 use Rattle.blk_base.specs.declared.place.Mapping.TheVariants.{At}
 use Rattle.blk_base.specs.declared.place.Pbn.{Pbn}
@@ -11,16 +11,18 @@ use Rattle.blk_base.specs.declared.request.Request.{Request}
 use Rattle.disk_model.specs.Images.{HasOneImage, IsMixOf}
 use Rattle.disk_model.specs.Log as device
 use Rattle.disk_model.specs.declared.call.Call.{Call}
-use Rattle.disk_model.specs.declared.call.Call.TheVariants.{Read, Write, Flush}
-use Rattle.image_layout.specs.Window.{IsDataBlock, IsWindow, journal_of, mapping_of, value_of}
-use Rattle.stop_laws.specs.Journals.{Surely, IsAtRest, IsUnderWay, HasEntry, block_of_slot, slot_of}
+use Rattle.disk_model.specs.declared.call.Call.TheVariants.{Read}
+use Rattle.image_layout.specs.Window.{IsWindow, journal_of, mapping_of, value_of}
+use Rattle.stop_laws.specs.Journals.{Surely, IsAtRest, IsUnderWay, HasEntry, block_of_slot}
 use Rattle.vdo_model.specs.Scripts.{Script, request_at, value_written}
 use Rattle.core_laws.specs.declared.sizes.Sizes.{Sizes}
 use Rattle.core_laws.specs.declared.zones.Logged.{Logged}
-use Rattle.core_laws.specs.Trace.{Says, Flushes, Draws, Enters, Commits, Sets, Gives, Calls, Trace, calls, entered, committed, settled, of_address, newest, entry_of, entries_of}
+use Rattle.plain_laws.specs.Sums.{total}
+use Rattle.core_laws.specs.Tokens.{is_block}
+use Rattle.core_laws.specs.Trace.{Calls, Trace, calls, entered, committed, settled, of_address, newest, entry_of, entries_of}
 
 -- What is fixed: the sizes, the script, the blocks that the device had when its log began, its log before the session,
--- the one image that a stop left then, and the window of that image.
+-- the one image that a stop left then, the window of that image, and the data blocks that are free in it.
 pub record Session : Type 0 where
   pub sizes : Sizes
   pub script : Script
@@ -28,6 +30,7 @@ pub record Session : Type 0 where
   pub before : List Call
   pub image : device.Blocks
   pub window : List Entry
+  pub free : List Pbn
 
 -- a request that is served as yet
 abbrev pub IsServed : Request → Type 0
@@ -35,6 +38,16 @@ IsServed (request.Read at) = Unit {0}
 IsServed (request.Write at bytes fua) = (length bytes ≡ 4096) × (fua ≡ false)
 IsServed (request.Discard at) = ⊥
 IsServed request.Flush = Unit {0}
+
+-- a data block that no entry of the window names
+pub record IsFresh (s : Session) (x : Pbn) : Type 0 where
+  pub is_data : IsDataBlock s.sizes.geometry x.0
+  pub unnamed : (a : ℕ) (y : Pbn) → mapping_of s.window a ≡ At y → y.0 ≢ x.0
+  pub inside : x.0 < needed_blocks s.sizes.geometry
+
+-- no block is there twice
+abbrev pub AreDistinct : List Pbn → Type 0
+AreDistinct blocks = (x : ℕ) → total (is_block x) blocks ≤ 1
 
 -- the session can be served
 pub record IsSession (s : Session) : Type 0 where
@@ -47,25 +60,18 @@ pub record IsSession (s : Session) : Type 0 where
   pub is_window : IsWindow s.sizes.geometry s.sizes.start (journal_of s.sizes.geometry s.image) s.window
   pub opened : s.sizes.opened ≡ length s.window
   pub few : length s.window ≤ s.sizes.geometry.journal
+  pub free : AllByRecursion (IsFresh s) s.free
+  pub distinct : AreDistinct s.free
 
 -- the device's log
 abbrev pub log : Session → Trace → List Call
 log s t = calls t ++ s.before
 
 -- each read of the session gave what the device had
-abbrev pub IsHonest : Session → Trace → Type 0
-IsHonest s [] = Unit {0}
-IsHonest s (Says line ∷ t) = IsHonest s t
-IsHonest s (Flushes mark ∷ t) = IsHonest s t
-IsHonest s (Draws p ∷ t) = IsHonest s t
-IsHonest s (Enters e ∷ t) = IsHonest s t
-IsHonest s (Commits e ∷ t) = IsHonest s t
-IsHonest s (Sets e ∷ t) = IsHonest s t
-IsHonest s (Gives g ∷ t) = IsHonest s t
-IsHonest s (Calls (Read at bytes true) ∷ t) = (length bytes ≡ 4096) × IsMixOf (device.settled s.blocks (log s t) at.0) bytes × IsHonest s t
-IsHonest s (Calls (Read at bytes false) ∷ t) = IsHonest s t
-IsHonest s (Calls (Write at bytes ok) ∷ t) = IsHonest s t
-IsHonest s (Calls (Flush ok) ∷ t) = IsHonest s t
+abbrev pub HasHonestReads : Session → Trace → Type 0
+HasHonestReads s [] = Unit {0}
+HasHonestReads s (Calls (Read at bytes true) ∷ t) = (length bytes ≡ 4096) × IsMixOf (device.settled s.blocks (log s t) at.0) bytes × HasHonestReads s t
+HasHonestReads s (other ∷ t) = HasHonestReads s t
 
 -- whatever a stop leaves in a block is these bytes; and whatever a read may give is
 abbrev pub Stands : Session → Trace → ℕ → List ℕ → Type 0
@@ -73,12 +79,6 @@ Stands s t x bytes = Surely s.blocks (log s t) x (λ content. content ≡ bytes)
 
 abbrev pub ReadsAs : Session → Trace → ℕ → List ℕ → Type 0
 ReadsAs s t x bytes = AllByRecursion (λ content. content ≡ bytes) (device.settled s.blocks (log s t) x)
-
--- a data block that no entry of the window names
-pub record IsFresh (s : Session) (x : Pbn) : Type 0 where
-  pub is_data : IsDataBlock s.sizes.geometry x.0
-  pub unnamed : (a : ℕ) (y : Pbn) → mapping_of s.window a ≡ At y → y.0 ≢ x.0
-  pub inside : x.0 < needed_blocks s.sizes.geometry
 
 -- what a write gives its address
 abbrev pub bytes_of : Session → Logged → List ℕ
@@ -101,7 +101,7 @@ OnItsWay s t es e = IsUnderWay s.blocks (log s t) s.sizes.geometry s.sizes.start
 abbrev pub ReadsEntry : Session → Trace → List Logged → Logged → Type 0
 ReadsEntry s t es e =
     AllByRecursion (HasEntry s.sizes.geometry s.sizes.start (s.sizes.start + length (entries_of s.window es)) (entry_of e))
-    (device.settled s.blocks (log s t) (block_of_slot (slot_of s.sizes.geometry (s.sizes.start + length (entries_of s.window es)))))
+    (device.settled s.blocks (log s t) (block_of_slot (journal_slot_of s.sizes.geometry (s.sizes.start + length (entries_of s.window es)))))
 
 -- what was there when the session began stands: the superblock, and each block that the window maps an address to
 pub record Kept (s : Session) (t : Trace) : Type 0 where

@@ -1,7 +1,6 @@
 -- The start of a core: nothing is begun, and every lane is empty.
-use Rattle.std.specs.Prelude.{ℕ, ◌≡◌, ◌<◌, ◌≤◌, false, List, [], length}
+use Rattle.std.specs.Prelude.{ℕ, ◌≡◌, ◌<◌, false, [], length}
 use Rattle.std.specs.List.{AllByRecursion}
-use Rattle.blk_base.specs.declared.place.Pbn.{Pbn}
 use Rattle.core_laws.specs.declared.zones.ZoneData.{ZoneData}
 use Rattle.core_laws.specs.declared.zones.ZoneData.TheVariants as at
 use Rattle.core_laws.specs.declared.zones.Desk.{Desk}
@@ -11,10 +10,9 @@ use Rattle.core_laws.specs.declared.zones.LogicalZone.{LogicalZone}
 use Rattle.core_laws.specs.declared.zones.PhysicalZone.{PhysicalZone}
 use Rattle.core_laws.specs.declared.zones.Zone.{Zone}
 use Rattle.core_laws.specs.Numbers.{desk_zone, logical_zone, physical_zone, journal_zone, device_zone, zone_count}
-use Rattle.core_laws.specs.Sessions.{Session, IsFresh}
+use Rattle.core_laws.specs.Sessions.{Session}
 use Rattle.core_laws.specs.Steps.{Core}
-use Rattle.core_laws.specs.Sums.{total, Each}
-use Rattle.core_laws.specs.Tokens.{is_block}
+use Rattle.plain_laws.specs.Sums.{Each}
 
 -- the desk has the script, and began nothing
 pub record IsFirstDesk (s : Session) (number : ℕ) (desk : Desk) : Type 0 where
@@ -22,36 +20,31 @@ pub record IsFirstDesk (s : Session) (number : ℕ) (desk : Desk) : Type 0 where
   pub requests : desk.requests ≡ s.script
   pub log : desk.log ≡ []
   pub marks : desk.marks ≡ []
-  pub told : desk.told ≡ 0
+  pub notices : desk.notices ≡ 0
   pub parked : desk.parked ≡ []
 
 -- a logical zone drew nothing, and has set nothing; it knows the window
 pub record IsFirstLogical (s : Session) (number : ℕ) (l : LogicalZone) : Type 0 where
   pub number_is : number ≡ logical_zone l.zone
   pub among : l.zone < s.sizes.zones
-  pub told : l.told ≡ false
+  pub notified : l.notified ≡ false
   pub next : l.next ≡ 0
   pub places : l.places ≡ []
   pub held : l.held ≡ []
   pub waiting : l.waiting ≡ []
-  pub dead : l.dead ≡ []
+  pub retired : l.retired ≡ []
   pub window : l.window ≡ s.window
   pub slots : l.slots ≡ []
 
--- no block is there twice
-abbrev pub AreDistinct : List Pbn → Type 0
-AreDistinct blocks = (x : ℕ) → total (is_block x) blocks ≤ 1
-
--- the physical zone has free data blocks that the window doesn't name
+-- the physical zone has all the free data blocks
 pub record IsFirstPhysical (s : Session) (number : ℕ) (p : PhysicalZone) : Type 0 where
   pub number_is : number ≡ physical_zone s.sizes
-  pub told : p.told ≡ false
-  pub free : AllByRecursion (IsFresh s) p.free
-  pub distinct : AreDistinct p.free
+  pub notified : p.notified ≡ false
+  pub free : p.free ≡ s.free
 
 pub record IsFirstJournal (s : Session) (number : ℕ) (j : JournalZone) : Type 0 where
   pub number_is : number ≡ journal_zone s.sizes
-  pub told : j.told ≡ false
+  pub notified : j.notified ≡ false
   pub busy : j.busy ≡ false
   pub broken : j.broken ≡ false
   pub waiting : j.waiting ≡ []

@@ -5,7 +5,7 @@ use Rattle.blk_base.specs.declared.request.Writer.{Writer}
 use Rattle.vdo_model.specs.DeskLog.{IsNextLine}
 use Rattle.vdo_model.specs.declared.report.DeskLine.TheVariants as line
 use Rattle.core_laws.specs.declared.items.Item.{Item}
-use Rattle.core_laws.specs.declared.items.Item.TheVariants.{Request, Block, Notice}
+use Rattle.core_laws.specs.declared.items.Item.TheVariants.{Request, Block, StopNotice}
 use Rattle.core_laws.specs.declared.items.SealedBlock.{SealedBlock}
 use Rattle.core_laws.specs.declared.items.Vio.{Vio}
 use Rattle.core_laws.specs.declared.sizes.Sizes.{Sizes}
@@ -20,7 +20,7 @@ use Rattle.core_laws.specs.declared.zones.Zone.{Zone}
 use Rattle.core_laws.specs.Numbers.{desk_zone}
 use Rattle.core_laws.specs.Trace.{Trace}
 use Rattle.core_laws.specs.Vios.{Post}
-use Rattle.core_laws.specs.DeskRows.{DeskBegins, DeskServes, with_word, woken}
+use Rattle.core_laws.specs.DeskRows.{DeskBegins, DeskServes, with_notice, woken}
 use Rattle.core_laws.specs.LogicalRows.{LogicalServes}
 use Rattle.core_laws.specs.JournalRows.{PhysicalServes, JournalServes, JournalEnds, all_refused}
 use Rattle.core_laws.specs.DeviceRows.{DeviceServes, DeviceWorks}
@@ -30,21 +30,26 @@ use Rattle.core_laws.specs.DeviceRows.{DeviceServes, DeviceWorks}
 pub data Act (sizes : Sizes) : ZoneData → List Item → ZoneData → Trace → List Post → Type 0 where
   begins : {old new : Desk} {made : Trace} {posts : List Post} → DeskBegins sizes old new made posts → Act sizes (at.Desk old) [] (at.Desk new) made posts
   answers : {old new : Desk} {v : Vio} {made : Trace} {posts : List Post} → DeskServes sizes old v new made posts → Act sizes (at.Desk old) (Request v ∷ []) (at.Desk new) made posts
-  hears : {old : Desk} → Act sizes (at.Desk old) (Notice ∷ []) (at.Desk (with_word old)) [] (woken old.parked)
+  hears : {old : Desk} → Act sizes (at.Desk old) (StopNotice ∷ []) (at.Desk (with_notice old)) [] (woken old.parked)
   serves : {old new : LogicalZone} {v : Vio} {made : Trace} {posts : List Post} → LogicalServes sizes old v new made posts → Act sizes (at.Logical old) (Request v ∷ []) (at.Logical new) made posts
-  serves_told : {old : LogicalZone} → Act sizes (at.Logical old) (Notice ∷ []) (at.Logical (record old { told = true })) [] ((desk_zone, Notice) ∷ [])
+  serves_notice : {old : LogicalZone} → Act sizes (at.Logical old) (StopNotice ∷ []) (at.Logical (record old { notified = true })) [] ((desk_zone, StopNotice) ∷ [])
   takes : {old new : PhysicalZone} {v : Vio} {made : Trace} {posts : List Post} → PhysicalServes sizes old v new made posts → Act sizes (at.Physical old) (Request v ∷ []) (at.Physical new) made posts
-  takes_told : {old : PhysicalZone} → Act sizes (at.Physical old) (Notice ∷ []) (at.Physical (record old { told = true })) [] ((desk_zone, Notice) ∷ [])
+  takes_notice : {old : PhysicalZone} → Act sizes (at.Physical old) (StopNotice ∷ []) (at.Physical (record old { notified = true })) [] ((desk_zone, StopNotice) ∷ [])
   enters : {old new : JournalZone} {v : Vio} {made : Trace} {posts : List Post} → JournalServes sizes old v new made posts → Act sizes (at.Journal old) (Request v ∷ []) (at.Journal new) made posts
   ends : {old new : JournalZone} {b : SealedBlock} {made : Trace} {posts : List Post} → JournalEnds sizes old b new made posts → Act sizes (at.Journal old) (Block b ∷ []) (at.Journal new) made posts
-  enters_told : {old : JournalZone} → Act sizes (at.Journal old) (Notice ∷ []) (at.Journal (record old { told = true; waiting = [] })) []
-      ((desk_zone, Notice) ∷ all_refused sizes reply.Stopped old.waiting)
+  enters_notice : {old : JournalZone} → Act sizes (at.Journal old) (StopNotice ∷ []) (at.Journal (record old { notified = true; waiting = [] })) []
+      ((desk_zone, StopNotice) ∷ all_refused sizes reply.Stopped old.waiting)
   calls : {old new : DeviceZone} {v : Vio} {made : Trace} {posts : List Post} → DeviceServes sizes old v new made posts → Act sizes (at.Device old) (Request v ∷ []) (at.Device new) made posts
   works : {old new : DeviceZone} {b : SealedBlock} {made : Trace} {posts : List Post} → DeviceWorks sizes old b new made posts → Act sizes (at.Device old) (Block b ∷ []) (at.Device new) made posts
 
 -- a rule applies to it
 abbrev pub HasAct : Sizes → ZoneData → List Item → Type 0
 HasAct sizes keeps front = (new : ZoneData) × (made : Trace) × (posts : List Post) × Act sizes keeps front new made posts
+
+-- the zone calls the device
+abbrev pub CallsDevice : ZoneData → Type 0
+CallsDevice (at.Device d) = Unit {0}
+CallsDevice other = ⊥
 
 -- an item behind those of one of the lists
 abbrev pub posted : ℕ → Item → List (List Item) → List (List Item)

@@ -6,9 +6,9 @@ use Rattle.vdo_model.specs.Scripts.{same_writer}
 use Rattle.vdo_model.specs.declared.report.DeskLine.{DeskLine}
 use Rattle.vdo_model.specs.declared.report.DeskLine.TheVariants.{Begin, Answer}
 use Rattle.core_laws.specs.declared.items.Item.{Item}
-use Rattle.core_laws.specs.declared.items.Item.TheVariants.{Request, Block, Notice}
+use Rattle.core_laws.specs.declared.items.Item.TheVariants.{Request, Block, StopNotice}
 use Rattle.core_laws.specs.declared.items.Phase.{Phase}
-use Rattle.core_laws.specs.declared.items.Phase.TheVariants.{Arrive, Wait, Claim, Store, Enter, Settle, Load, Loaded, Return, Leave, Spend, Die, Flush, Reply}
+use Rattle.core_laws.specs.declared.items.Phase.TheVariants.{Arrive, Wait, Claim, Store, Enter, Settle, Load, Loaded, AbortClaim, Abort, AbortEnteredClaim, AbortEntered, Flush, Reply}
 use Rattle.core_laws.specs.declared.items.Vio.{Vio}
 use Rattle.core_laws.specs.declared.sizes.Sizes.{Sizes}
 use Rattle.core_laws.specs.declared.zones.ZoneData.{ZoneData}
@@ -16,8 +16,8 @@ use Rattle.core_laws.specs.declared.zones.ZoneData.TheVariants as at
 use Rattle.core_laws.specs.declared.zones.Lock.{Lock}
 use Rattle.core_laws.specs.declared.zones.Logged.{Logged}
 use Rattle.core_laws.specs.declared.zones.Zone.{Zone}
-use Rattle.core_laws.specs.Numbers.{tellers}
-use Rattle.core_laws.specs.Sums.{total, bit}
+use Rattle.core_laws.specs.Numbers.{notified_zones}
+use Rattle.plain_laws.specs.Sums.{total, bit}
 
 -- a kind of token: what an item weighs, what a zone's data weighs beside the requests that it keeps, and what it gave out
 pub record Token : Type 0 where
@@ -51,7 +51,7 @@ AtMost t zones = total (weight t) zones ≤ total (given t) zones
 abbrev pub of_vio : (Vio → ℕ) → Item → ℕ
 of_vio f (Request v) = f v
 of_vio f (Block b) = f b.vio
-of_vio f Notice = 0
+of_vio f StopNotice = 0
 
 -- a number of the data of one kind of zone
 abbrev pub none : ZoneData → ℕ
@@ -86,10 +86,10 @@ holds Enter = true
 holds Settle = true
 holds Load = true
 holds Loaded = true
-holds Return = true
-holds Leave = true
-holds Spend = true
-holds Die = true
+holds AbortClaim = true
+holds Abort = true
+holds AbortEnteredClaim = true
+holds AbortEntered = true
 holds Flush = false
 holds Reply = false
 
@@ -119,17 +119,17 @@ claims Enter = true
 claims Settle = false
 claims Load = false
 claims Loaded = false
-claims Return = false
-claims Leave = false
-claims Spend = false
-claims Die = false
+claims AbortClaim = false
+claims Abort = false
+claims AbortEnteredClaim = false
+claims AbortEntered = false
 claims Flush = false
 claims Reply = false
 
 abbrev pub claim_weight : ℕ → Item → ℕ
 claim_weight x (Request v) = bit (claims v.phase && v.block.0 == x)
 claim_weight x (Block b) = 0
-claim_weight x Notice = 0
+claim_weight x StopNotice = 0
 
 abbrev pub is_block : ℕ → Pbn → ℕ
 is_block x p = bit (p.0 == x)
@@ -158,7 +158,7 @@ block_token x = record { item = claim_weight x; own = blocks_at x; gave = one_ph
 abbrev pub is_sealed : Item → ℕ
 is_sealed (Request v) = 0
 is_sealed (Block b) = 1
-is_sealed Notice = 0
+is_sealed StopNotice = 0
 
 abbrev pub idle_at : ZoneData → ℕ
 idle_at (at.Desk desk) = 0
@@ -192,21 +192,21 @@ room_token = record { item = of_vio (λ v. 1); own = in_log is_answer; gave = in
 abbrev pub is_word : Item → ℕ
 is_word (Request v) = 0
 is_word (Block b) = 0
-is_word Notice = 1
+is_word StopNotice = 1
 
 abbrev pub heard_at : ZoneData → ℕ
-heard_at (at.Desk desk) = desk.told
+heard_at (at.Desk desk) = desk.notices
 heard_at (at.Logical l) = 0
 heard_at (at.Physical p) = 0
 heard_at (at.Journal j) = 0
 heard_at (at.Device d) = 0
 
-abbrev pub told_by : Sizes → ZoneData → ℕ
-told_by sizes (at.Desk desk) = 0
-told_by sizes (at.Logical l) = 0
-told_by sizes (at.Physical p) = 0
-told_by sizes (at.Journal j) = 0
-told_by sizes (at.Device d) = cond d.stopped (tellers sizes) 0
+abbrev pub notified_by : Sizes → ZoneData → ℕ
+notified_by sizes (at.Desk desk) = 0
+notified_by sizes (at.Logical l) = 0
+notified_by sizes (at.Physical p) = 0
+notified_by sizes (at.Journal j) = 0
+notified_by sizes (at.Device d) = cond d.stopped (notified_zones sizes) 0
 
 abbrev pub notice_token : Sizes → Token
-notice_token sizes = record { item = is_word; own = heard_at; gave = told_by sizes }
+notice_token sizes = record { item = is_word; own = heard_at; gave = notified_by sizes }

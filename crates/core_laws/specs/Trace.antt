@@ -1,13 +1,15 @@
 -- What happens in a session, in order: its trace. The newest happening stands first. Each list that a zone only adds to
 -- is a part of the trace.
-use Rattle.std.specs.Prelude.{ℕ, ◌==◌, Option, None, Some, List, [], ◌∷◌, if◌then◌else◌}
+use Rattle.std.specs.Prelude.{ℕ, suc, ◌==◌, Bool, true, false, not, ◌&&◌, ◌||◌, Option, None, Some, List, [], ◌∷◌, if◌then◌else◌}
 use Rattle.blk_base.specs.declared.journal_entry.Entry.{Entry}
 use Rattle.blk_base.specs.declared.journal_entry.Entry.TheVariants.{Remap}
 use Rattle.blk_base.specs.declared.place.Lba.{Lba}
 use Rattle.blk_base.specs.declared.place.Mapping.TheVariants.{At}
+use Rattle.blk_base.specs.declared.place.Pbn.{Pbn}
 use Rattle.blk_base.specs.declared.request.Answer.TheVariants.{Ok}
 use Rattle.blk_base.specs.declared.request.Writer.{Writer}
 use Rattle.disk_model.specs.declared.call.Call.{Call}
+use Rattle.disk_model.specs.declared.call.Call.TheVariants.{Read, Write, Flush}
 use Rattle.vdo_model.specs.declared.report.DeskLine.{DeskLine}
 use Rattle.vdo_model.specs.declared.report.DeskLine.TheVariants.{Answer}
 use Rattle.vdo_model.specs.declared.report.FlushMark.{FlushMark}
@@ -36,23 +38,31 @@ pub data Happening : Type 0 where
   Sets : Logged → Happening
   -- a read is given its bytes
   Gives : Gift → Happening
-  -- the device is called
+  -- a write takes a free data block
+  Takes : Writer → Pbn → Happening
+  -- a write whose entry was handed in is aborted: its slot is never set
+  Aborts : Logged → Happening
+  -- the device is called, and the call succeeds
   Calls : Call → Happening
+  -- a call that was made for a request fails; it is kept in the device's log, or found no memory for its place there
+  Fails : Writer → Call → (kept : Bool) → Happening
 
 abbrev pub Trace : Type 0
 Trace = List Happening
 
--- the lines of the desk log and the calls of the device, in their order
+-- a failed call stands in the log where it is kept
+abbrev pub failed_call : Bool → Call → List Moment → List Moment
+failed_call true call older = Device call ∷ older
+failed_call false call older = older
+
+-- the lines of the desk log and the calls in the device's log, in their order
 abbrev pub moments : Trace → List Moment
 moments [] = []
 moments (Says line ∷ t) = Desk line ∷ moments t
 moments (Flushes mark ∷ t) = Desk (Answer mark.request Ok) ∷ moments t
-moments (Draws p ∷ t) = moments t
-moments (Enters e ∷ t) = moments t
-moments (Commits e ∷ t) = moments t
-moments (Sets e ∷ t) = moments t
-moments (Gives g ∷ t) = moments t
 moments (Calls call ∷ t) = Device call ∷ moments t
+moments (Fails w call kept ∷ t) = failed_call kept call (moments t)
+moments (other ∷ t) = moments t
 
 abbrev pub lines : Trace → List DeskLine
 lines t = lines_of (moments t)
@@ -63,74 +73,73 @@ calls t = calls_of (moments t)
 -- the marks of the flushes that were answered Ok
 abbrev pub marks : Trace → List FlushMark
 marks [] = []
-marks (Says line ∷ t) = marks t
 marks (Flushes mark ∷ t) = mark ∷ marks t
-marks (Draws p ∷ t) = marks t
-marks (Enters e ∷ t) = marks t
-marks (Commits e ∷ t) = marks t
-marks (Sets e ∷ t) = marks t
-marks (Gives g ∷ t) = marks t
-marks (Calls call ∷ t) = marks t
+marks (other ∷ t) = marks t
 
 -- the places that were drawn
 abbrev pub places : Trace → List Placed
 places [] = []
-places (Says line ∷ t) = places t
-places (Flushes mark ∷ t) = places t
 places (Draws p ∷ t) = p ∷ places t
-places (Enters e ∷ t) = places t
-places (Commits e ∷ t) = places t
-places (Sets e ∷ t) = places t
-places (Gives g ∷ t) = places t
-places (Calls call ∷ t) = places t
+places (other ∷ t) = places t
 
 -- the writes whose entry was handed in
 abbrev pub entered : Trace → List Logged
 entered [] = []
-entered (Says line ∷ t) = entered t
-entered (Flushes mark ∷ t) = entered t
-entered (Draws p ∷ t) = entered t
 entered (Enters e ∷ t) = e ∷ entered t
-entered (Commits e ∷ t) = entered t
-entered (Sets e ∷ t) = entered t
-entered (Gives g ∷ t) = entered t
-entered (Calls call ∷ t) = entered t
+entered (other ∷ t) = entered t
 
 -- those whose entry was committed
 abbrev pub committed : Trace → List Logged
 committed [] = []
-committed (Says line ∷ t) = committed t
-committed (Flushes mark ∷ t) = committed t
-committed (Draws p ∷ t) = committed t
-committed (Enters e ∷ t) = committed t
 committed (Commits e ∷ t) = e ∷ committed t
-committed (Sets e ∷ t) = committed t
-committed (Gives g ∷ t) = committed t
-committed (Calls call ∷ t) = committed t
+committed (other ∷ t) = committed t
 
 -- those whose slot was set
 abbrev pub settled : Trace → List Logged
 settled [] = []
-settled (Says line ∷ t) = settled t
-settled (Flushes mark ∷ t) = settled t
-settled (Draws p ∷ t) = settled t
-settled (Enters e ∷ t) = settled t
-settled (Commits e ∷ t) = settled t
 settled (Sets e ∷ t) = e ∷ settled t
-settled (Gives g ∷ t) = settled t
-settled (Calls call ∷ t) = settled t
+settled (other ∷ t) = settled t
+
+-- those that were aborted
+abbrev pub aborted : Trace → List Logged
+aborted [] = []
+aborted (Aborts e ∷ t) = e ∷ aborted t
+aborted (other ∷ t) = aborted t
 
 -- the reads that were given their bytes
 abbrev pub gifts : Trace → List Gift
 gifts [] = []
-gifts (Says line ∷ t) = gifts t
-gifts (Flushes mark ∷ t) = gifts t
-gifts (Draws p ∷ t) = gifts t
-gifts (Enters e ∷ t) = gifts t
-gifts (Commits e ∷ t) = gifts t
-gifts (Sets e ∷ t) = gifts t
 gifts (Gives g ∷ t) = g ∷ gifts t
-gifts (Calls call ∷ t) = gifts t
+gifts (other ∷ t) = gifts t
+
+-- how many free data blocks were taken
+abbrev pub taken : Trace → ℕ
+taken [] = 0
+taken (Takes w x ∷ t) = suc (taken t)
+taken (other ∷ t) = taken t
+
+-- a call of the device that reads, and one that succeeds
+abbrev pub is_read : Call → Bool
+is_read (Read at bytes ok) = true
+is_read (Write at bytes ok) = false
+is_read (Flush ok) = false
+
+abbrev pub is_ok : Call → Bool
+is_ok (Read at bytes ok) = ok
+is_ok (Write at bytes ok) = ok
+is_ok (Flush ok) = ok
+
+-- the session is stopped: a write or flush of the device failed
+abbrev pub has_stopped : Trace → Bool
+has_stopped [] = false
+has_stopped (Fails w call kept ∷ t) = not (is_read call) || has_stopped t
+has_stopped (other ∷ t) = has_stopped t
+
+-- a read of the device that was made for a request failed
+abbrev pub has_read_fault : Trace → Writer → Bool
+has_read_fault [] w = false
+has_read_fault (Fails v call kept ∷ t) w = (is_read call && same_writer v w) || has_read_fault t w
+has_read_fault (other ∷ t) w = has_read_fault t w
 
 -- those of one address
 abbrev pub of_address : ℕ → List Logged → List Logged

@@ -29,14 +29,14 @@ pub enum Phase {
     Load,
     /// Logical: a read has its bytes, and the lock is released.
     Loaded,
-    /// Physical: a write that ends undone gives back what it has there.
-    Return,
-    /// Logical: a request that ends undone releases the lock.
-    Leave,
-    /// Physical: a write whose entry was handed in ends: its block stays taken.
-    Spend,
-    /// Logical: a write whose entry was handed in ends: the lock of its address is never released.
-    Die,
+    /// Physical: a write that took a block is aborted, and passes by. Its block stays taken.
+    AbortClaim,
+    /// Logical: a request is aborted: it releases the lock.
+    Abort,
+    /// Physical: a write whose entry was handed in is aborted, and passes by. Its block stays taken.
+    AbortEnteredClaim,
+    /// Logical: a write whose entry was handed in is aborted: the lock of its address is never released.
+    AbortEntered,
     /// Device: the flush of a flush request is made.
     Flush,
     /// Desk: it is answered.
@@ -97,6 +97,6 @@ pub struct SealedBlock {
 pub enum Item {
     Request(Vio),
     Block(SealedBlock),
-    /// The device zone's word that the session is stopped.
-    Notice,
+    /// A stop notice: the session is stopped. The device zone sends it to the zones, and each of them to the desk.
+    StopNotice,
 }

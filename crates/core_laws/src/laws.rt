@@ -1,17 +1,19 @@
 //! The laws of the core that other crates stand on.
 
-ghost use Rattle.std.specs.Prelude.{◌≡◌, ◌<◌, ◌≤◌, ◌⊎◌, ℕ, Bool, true, length, Some, IsSome, List, [], ◌∷◌, slice_get, slice_set, ◌++◌};
+ghost use Rattle.std.specs.Prelude.{◌≡◌, ◌<◌, ◌≤◌, ◌⊎◌, ℕ, Bool, true, false, length, Some, IsSome, List, [], ◌∷◌, slice_get, slice_set, ◌++◌};
 ghost use Rattle.std.specs.List.{AllByRecursion};
 ghost use Rattle.blk_base.specs.declared.request.Answer.TheVariants.{Stopped};
 ghost use Rattle.blk_base.specs.declared.request.Request.{Request};
 ghost use Rattle.blk_base.specs.declared.request.Writer.{Writer};
+ghost use Rattle.disk_model.specs.declared.call.Call.{Call};
 ghost use Rattle.vdo_model.specs.DeskLog.{IsDeskLog, AllAnswered, answer_of};
 ghost use Rattle.vdo_model.specs.FlushMarks.{AreFlushMarks};
-ghost use Rattle.vdo_model.specs.Places.{AreDrawn, place_of};
+ghost use Rattle.vdo_model.specs.Places.{AreDrawn, IsAnsweredAtOnce, place_of};
 ghost use Rattle.vdo_model.specs.RightReads.{ReadsRight};
 ghost use Rattle.vdo_model.specs.RightRuns.{RunRight};
 ghost use Rattle.vdo_model.specs.Scripts.{address_of, request_at};
 ghost use Rattle.vdo_model.specs.Stops.{RightAfterStops};
+ghost use Rattle.vdo_model.specs.ZoneOrder.{places_in};
 ghost use Rattle.core_laws.specs.declared.zones.ZoneData.TheVariants.{Desk, Device, Logical};
 ghost use Rattle.core_laws.specs.declared.zones.Desk.{Desk as DeskData};
 ghost use Rattle.core_laws.specs.declared.zones.DeviceZone.{DeviceZone};
@@ -20,14 +22,14 @@ ghost use Rattle.core_laws.specs.declared.zones.Zone.{Zone};
 ghost use Rattle.core_laws.specs.declared.zones.ZoneData.{ZoneData};
 ghost use Rattle.core_laws.specs.declared.items.Item.{Item};
 ghost use Rattle.core_laws.specs.declared.sizes.Sizes.{Sizes};
-ghost use Rattle.core_laws.specs.Facts.{places_in};
 ghost use Rattle.core_laws.specs.Legal.{Legal, share};
 ghost use Rattle.core_laws.specs.Tokens.{queued};
-ghost use Rattle.core_laws.specs.Reports.{HasValues, handed_in, opening_values, report_of};
-ghost use Rattle.core_laws.specs.Sessions.{Session, IsSession, IsHonest};
+ghost use Rattle.core_laws.specs.Reports.{ShowsValues, opening_values, progress_of, report_of};
+ghost use Rattle.core_laws.specs.RightTraces.{IsHeldBack, StopsAtFailure};
+ghost use Rattle.core_laws.specs.Sessions.{Session, IsSession, HasHonestReads};
 ghost use Rattle.core_laws.specs.Start.{IsFirst};
-ghost use Rattle.core_laws.specs.Steps.{Act, Core, HasAct, Leads, MoveOf, StepOf, ZoneStep};
-ghost use Rattle.core_laws.specs.Trace.{Trace, calls, lines, marks, moments, places};
+ghost use Rattle.core_laws.specs.Steps.{Act, CallsDevice, Core, HasAct, Leads, MayBegin, MoveOf, StepOf, ZoneStep};
+ghost use Rattle.core_laws.specs.Trace.{Trace, aborted, calls, is_ok, is_read, lines, marks, moments, places};
 ghost use Rattle.core_laws.specs.Views.{core_of};
 ghost use Rattle.core_laws.specs.Vios.{Post};
 
@@ -39,11 +41,13 @@ pub fn every_event_keeps_a_core_legal()
     ensures leads { (s : Session) (first core : Core) → IsSession s → Leads s.sizes first core → Legal s first → Legal s core }
 {}
 
-/// In a legal core a rule applies to the item in front of each inbox, and what a rule posts goes to a zone: so no item and
-/// no post is ever stray.
+/// In a legal core a rule applies to the item in front of each inbox, and to a stream that may begin its next request; and
+/// what a rule posts goes to a zone: so nothing is ever stray.
 pub fn a_legal_core_goes_on()
     ensures rule { (s : Session) (core : Core) (n : ℕ) (z : Zone) (front : Item) (rest : List Item) → IsSession s → Legal s core
         → slice_get core.zones n ≡ Some z → z.inbox ≡ front ∷ rest → HasAct s.sizes z.keeps (front ∷ []) }
+    ensures begins { (s : Session) (core : Core) (n : ℕ) (z : Zone) → IsSession s → Legal s core
+        → slice_get core.zones n ≡ Some z → MayBegin s.sizes z.keeps → HasAct s.sizes z.keeps [] }
     ensures lanes { (s : Session) (core : Core) (n : ℕ) (z : Zone) (front rest : List Item) (new : ZoneData) (made : Trace) (posts : List Post) → IsSession s → Legal s core
         → slice_get core.zones n ≡ Some z → z.inbox ≡ front ++ rest → (front ≡ [] → rest ≡ []) → Act s.sizes z.keeps front new made posts
         → AllByRecursion (λ (post : Post). post.0 < length z.outboxes) posts }
@@ -58,7 +62,7 @@ pub fn a_legal_core_is_in_order()
         → AreDrawn s.sizes.zones s.sizes.geometry.logical s.script (lines core.trace) (places core.trace) }
     ensures placed { (s : Session) (core : Core) (w : Writer) (r : Request) (a : ℕ) → Legal s core → request_at s.script w ≡ Some r → address_of r ≡ Some a
         → a < s.sizes.geometry.logical → IsSome (answer_of (lines core.trace) w)
-        → IsSome (place_of (places core.trace) w) ⊎ (answer_of (lines core.trace) w ≡ Some Stopped) }
+        → IsSome (place_of (places core.trace) w) ⊎ IsAnsweredAtOnce (lines core.trace) w Stopped }
     ensures at_desk { (s : Session) (core : Core) (n : ℕ) (z : Zone) (desk : DeskData) → Legal s core → slice_get core.zones n ≡ Some z → z.keeps ≡ Desk desk
         → (desk.log ≡ lines core.trace) × (desk.marks ≡ marks core.trace) }
     ensures at_zone { (s : Session) (core : Core) (n : ℕ) (z : Zone) (l : LogicalZone) → Legal s core → slice_get core.zones n ≡ Some z → z.keeps ≡ Logical l
@@ -66,14 +70,24 @@ pub fn a_legal_core_is_in_order()
     ensures stopped { (s : Session) (core : Core) (w : Writer) (n : ℕ) (z : Zone) (d : DeviceZone) → Legal s core → answer_of (lines core.trace) w ≡ Some Stopped
         → slice_get core.zones n ≡ Some z → z.keeps ≡ Device d → d.stopped ≡ true }
     ensures run { (s : Session) (core : Core) → IsSession s → Legal s core → AllAnswered s.script (lines core.trace)
-        → RunRight s.sizes.zones s.sizes.depth s.sizes.geometry.logical (handed_in core.trace) s.script (lines core.trace) (places core.trace)
-        (report_of s core.trace).histories }
+        → RunRight s.sizes.zones s.sizes.depth s.sizes.geometry.logical (progress_of core.trace) s.script (lines core.trace)
+        (report_of s core.trace).places (report_of s core.trace).histories }
+{}
+
+/// Whatever the device does, no write or flush of it follows one that failed, as it happened and in its log; and a write
+/// that a legal core aborted, for which reads of its address may be answered as stopped, was handed in and its slot is
+/// never set.
+pub fn a_legal_core_stops_at_a_failure()
+    ensures happened { (s : Session) (core : Core) → Legal s core → StopsAtFailure core.trace }
+    ensures logged { (s : Session) (core : Core) (newer older : List Call) (call : Call) → Legal s core → calls core.trace ≡ newer ++ call ∷ older
+        → is_read call ≡ false → AllByRecursion (λ (c : Call). is_read c ≡ false → is_ok c ≡ true) older }
+    ensures aborted { (s : Session) (core : Core) → Legal s core → AllByRecursion (IsHeldBack core.trace) (aborted core.trace) }
 {}
 
 /// On an honest device each read that a legal core answered gave the last settled write before its place.
 pub fn a_legal_core_reads_right()
-    ensures { (s : Session) (core : Core) → IsSession s → Legal s core → IsHonest s core.trace
-        → ReadsRight (opening_values s) s.script (lines core.trace) (places core.trace) (report_of s core.trace).histories }
+    ensures { (s : Session) (core : Core) → IsSession s → Legal s core → HasHonestReads s core.trace
+        → ReadsRight (opening_values s) s.script (lines core.trace) (report_of s core.trace).places (report_of s core.trace).histories }
 {}
 
 /// Each flush that a legal core answered Ok has its mark, and a stop before or within any call of the device leaves each
@@ -81,7 +95,7 @@ pub fn a_legal_core_reads_right()
 pub fn a_legal_core_is_right_after_a_stop()
     ensures marked { (s : Session) (core : Core) → IsSession s → Legal s core → AreFlushMarks s.script (moments core.trace) (marks core.trace) }
     ensures stops { (s : Session) (core : Core) → IsSession s → Legal s core
-        → RightAfterStops (HasValues s) s.blocks s.before s.sizes.geometry.logical (opening_values s) (report_of s core.trace) (calls core.trace) }
+        → RightAfterStops (ShowsValues s) s.blocks s.before s.sizes.geometry.logical (opening_values s) (report_of s core.trace) (calls core.trace) }
 {}
 
 /// In a legal core each lane and each list of requests that a zone keeps is within its share: as many as there may be
@@ -91,6 +105,14 @@ pub fn a_legal_core_has_room()
     ensures lanes { (s : Session) (core : Core) (n : ℕ) (z : Zone) (to : ℕ) (lane : List Item) → Legal s core → slice_get core.zones n ≡ Some z
         → slice_get z.outboxes to ≡ Some lane → length lane ≤ share s }
     ensures kept { (s : Session) (core : Core) (n : ℕ) (z : Zone) → Legal s core → slice_get core.zones n ≡ Some z → queued (λ it. 1) z.keeps ≤ share s }
+{}
+
+/// What a zone does with an item is fixed, and in the device's zone by how the device answered: two acts on the same item
+/// keep, make and post the same. So all freedom lies in the order of the events, and in the device.
+pub fn an_act_has_one_result()
+    ensures { (sizes : Sizes) (keeps : ZoneData) (front : Item) (new new' : ZoneData) (made made' : Trace) (posts posts' : List Post)
+        → Act sizes keeps (front ∷ []) new made posts → Act sizes keeps (front ∷ []) new' made' posts' → (CallsDevice keeps → made ≡ made')
+        → (new ≡ new') × (made ≡ made') × (posts ≡ posts') }
 {}
 
 /// A step of one zone's view is a step of the core that the views and the lanes stand for, whatever the others are by then.

@@ -26,8 +26,8 @@ pub struct Desk {
     pub requests: Requests,
     pub log: Rows<DeskLine>,
     pub marks: Rows<FlushMark>,
-    /// How many zones have passed on the word that the session is stopped.
-    pub told: u32,
+    /// How many zones have passed on the stop notice.
+    pub notices: u32,
     /// Requests to be answered as stopped, which wait until every zone has passed it on.
     pub parked: Fifo<Vio>,
 }
@@ -37,7 +37,8 @@ pub struct Desk {
 pub struct LogicalZone {
     /// The number of the zone among the logical ones.
     pub zone: u8,
-    pub told: bool,
+    /// The stop notice has come.
+    pub notified: bool,
     /// The place that is drawn next.
     pub next: u64,
     pub places: Rows<Placed>,
@@ -45,8 +46,8 @@ pub struct LogicalZone {
     pub held: Fifo<Lock>,
     /// Who waits for a lock, in the order of their places.
     pub waiting: Fifo<Vio>,
-    /// The addresses whose lock is never released.
-    pub dead: Fifo<Lba>,
+    /// The addresses of aborted writes whose entry was handed in: their locks are never released.
+    pub retired: Fifo<Lba>,
     /// The entries of the journal when the session began: where an address is mapped that isn't set since.
     pub window: Rows<Entry>,
     /// The slots that were set since, with whoever set them.
@@ -56,7 +57,8 @@ pub struct LogicalZone {
 /// The data blocks.
 #[derive(Drop)]
 pub struct PhysicalZone {
-    pub told: bool,
+    /// The stop notice has come.
+    pub notified: bool,
     /// The blocks that nobody has taken.
     pub free: Fifo<Pbn>,
 }
@@ -64,7 +66,8 @@ pub struct PhysicalZone {
 /// The recovery journal.
 #[derive(Drop)]
 pub struct JournalZone {
-    pub told: bool,
+    /// The stop notice has come.
+    pub notified: bool,
     /// A sealed block is under way.
     pub busy: bool,
     /// A sealed block failed, and no entry is handed in any more.

@@ -1,33 +1,42 @@
 -- What a call leaves in the log of the device, as a part of the trace.
-use Rattle.std.proofs.Common.{◌≡◌, Bool, true, false, List, [], ◌∷◌, Result, Ok, Err, OnErr, Some, IsTrue, ℕ, refl, ap, sym, ◌∙◌, inl, inr}
+use Rattle.std.proofs.Common.{◌≡◌, ◌≤◌, Bool, true, false, List, [], ◌∷◌, Result, Ok, Err, OnOk, OnErr, Some, IsTrue, ℕ, refl, ap, sym, ◌∙◌, inl, inr, arith}
 use Rattle.blk_base.specs.declared.place.Pbn.{Pbn}
 use Rattle.disk_model.specs.declared.call.Call.{Call}
 use Rattle.disk_model.specs.declared.call.Call.TheVariants as call
+use Rattle.disk_model.specs.Causes.{Rose, HasCause}
+use Rattle.disk_model.specs.Seen.{Seen}
 use Rattle.disk_model.specs.Telling.{FailedInLog}
 use Rattle.core_laws.specs.declared.items.Item.TheVariants as item
 use Rattle.core_laws.specs.declared.items.SealedBlock.{SealedBlock}
 use Rattle.core_laws.specs.declared.items.Stage.{Stage}
 use Rattle.core_laws.specs.declared.items.Stage.TheVariants as stage
 use Rattle.core_laws.specs.declared.sizes.Sizes.{Sizes}
-use Rattle.core_laws.specs.DeviceRows.{Fails, call_of, journal_bytes}
-use Rattle.core_laws.specs.Trace.{Trace, Calls}
+use Rattle.core_laws.specs.DeviceRows.{call_of, journal_bytes}
+use Rattle.core_laws.specs.Trace.{Calls}
 use Rattle.core_laws.specs.Vios.{Post}
-use Rattle.core_steps.specs.DeviceLog.{HasLogged, needs_call}
+use Rattle.core_steps.specs.DeviceLog.{HasCalled, HasFailed, needs_call}
 
-failed : (tells : Bool) (old new : List Call) (call : Call) (R : Type 0) → (IsTrue tells → FailedInLog old new call R)
-    → (made : Trace) × Fails call made × HasLogged tells old new made
-failed true old new call R said = elim (said refl) [
-  | inl logged ↦ (Calls call ∷ [], inl refl, λ _. logged)
-  | inr unlogged ↦ ([], inr refl, λ _. unlogged.0)
+-- a call that succeeded
+pub done_call : {T E : Type 0} (tells : Bool) (before after : Seen) (c : Call) (result : Result T E)
+    → (IsTrue tells → OnOk result (after.log ≡ c ∷ before.log)) → before.faults ≤ after.faults → before.unkept ≤ after.unkept
+    → OnOk result (HasCalled tells before after (Calls c ∷ []))
+done_call tells before after c (Err e) said faults unkept = tt
+done_call tells before after c (Ok x) said faults unkept = record { log = said; faults = omega (arith, faults); unkept = omega (arith, unkept) }
+
+-- a call that failed: it stands in the log, or the count of those without a place rose
+failed : (tells : Bool) (before after : Seen) (c : Call) → (IsTrue tells → FailedInLog before.log after.log c (Rose before.unkept after.unkept))
+    → Rose before.faults after.faults → before.unkept ≤ after.unkept → HasFailed tells before after c
+failed true before after c said rose unkept = elim (said refl) [
+  | inl logged ↦ (true, λ w. record { log = λ notified. logged; faults = omega (arith, rose); unkept = omega (arith, unkept) })
+  | inr lost ↦ (false, λ w. record { log = λ notified. lost.0; faults = omega (arith, rose); unkept = (let more = lost.1 in omega (arith, more)) })
 ]
-failed false old new call R said = (Calls call ∷ [], inl refl, λ (told : false ≡ true). cc)
+failed false before after c said rose unkept = (true, λ w. record { log = λ (notified : false ≡ true). absurd cc; faults = omega (arith, rose); unkept = omega (arith, unkept) })
 
--- a call that failed
-pub failed_call : {T E : Type 0} (tells : Bool) (old new : List Call) (call : Call) (R : Type 0) (result : Result T E)
-    → (IsTrue tells → OnErr result (FailedInLog old new call R))
-    → OnErr result ((made : Trace) × Fails call made × HasLogged tells old new made)
-failed_call tells old new call R (Ok x) said = tt
-failed_call tells old new call R (Err e) said = failed tells old new call R said
+pub failed_call : {T E : Type 0} (tells : Bool) (before after : Seen) (c : Call) (result : Result T E)
+    → (IsTrue tells → OnErr result (FailedInLog before.log after.log c (Rose before.unkept after.unkept))) → HasCause before.faults after.faults result → before.unkept ≤ after.unkept
+    → OnErr result (HasFailed tells before after c)
+failed_call tells before after c (Ok x) said cause unkept = tt
+failed_call tells before after c (Err e) said cause unkept = failed tells before after c said cause.failed unkept
 
 -- the call of a sealed block that is written, and of one that is flushed
 pub write_called : (sizes : Sizes) (b : SealedBlock) (slot : Pbn) (ok : Bool) (bytes : List ℕ) → b.stage ≡ stage.Write

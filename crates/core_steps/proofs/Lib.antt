@@ -1,6 +1,5 @@
 pub mod ActLaws
 pub mod Calls
-pub mod DeskLaws
 pub mod Ends
 pub mod NoStrays
 pub mod PlayLaws

@@ -1,17 +1,19 @@
 -- Events one after another.
 use Rattle.std.proofs.Math.Seq.{drop-cons}
-use Rattle.std.proofs.Common.{arith, subst, ◌<◌, ◌≤◌, ◌+◌, length, drop, get_or, ◌≡◌, ℕ, zero, suc, Bool, List, [], ◌∷◌, ◌++◌, Some, slice_get, slice_set, refl, sym, ap, ◌∙◌, append_assoc, inl, inr}
+use Rattle.std.proofs.Common.{arith, subst, ◌<◌, ◌≤◌, ◌+◌, length, drop, get_or, ◌≡◌, ℕ, zero, suc, Bool, false, List, [], ◌∷◌, ◌++◌, Some, slice_get, slice_set, refl, sym, ap, ◌∙◌, append_assoc, inl, inr}
 use Rattle.std.proofs.lemmas.List.{append-nil, drop_all}
 use Rattle.std.proofs.lemmas.Option.{same_Some}
 use Rattle.std.specs.List.{AllByRecursion}
 use Rattle.std.proofs.lemmas.List.Elements.{All-from_recursion}
+use Rattle.disk_model.specs.Seen.{Seen}
 use Rattle.disk_model.specs.declared.call.Call.{Call}
 use Rattle.core_laws.specs.declared.sizes.Sizes.{Sizes}
 use Rattle.core_laws.specs.declared.zones.Zone.{Zone}
 use Rattle.core_laws.specs.Steps.{Core, IsIdle, Leads}
 use Rattle.core_laws.specs.Steps.Leads.{rests, steps, moves}
-use Rattle.core_laws.specs.Trace.{Trace, calls}
-use Rattle.core_laws.proofs.Parts.{calls_append}
+use Rattle.core_laws.specs.Trace.{Trace, Fails, calls}
+use Rattle.core_laws.proofs.trace.Parts.{calls_append}
+use Rattle.core_steps.specs.DeviceLog.{HasCalled, failed_calls, lost_calls}
 use Rattle.core_steps.specs.Moves.{HasNothing}
 use Rattle.core_steps.specs.Plays.{core_of, StepsAt, MovesAll, HasNoWork, PlaysOne, Plays, LeadsTo}
 use Rattle.core_steps.specs.declared.events.Event.{Event}
@@ -30,23 +32,42 @@ leads_on sizes first middle last early rests = early
 leads_on sizes first middle last early (steps {before = b} step late) = steps step (leads_on sizes first middle b early late)
 leads_on sizes first middle last early (moves {before = b} move late) = moves move (leads_on sizes first middle b early late)
 
+-- the calls of what happens later are called later
+failed_append : (more made : Trace) → failed_calls (more ++ made) ≡ failed_calls more + failed_calls made
+failed_append [] made = omega arith
+failed_append (Fails w c kept ∷ t) made = omega (arith, failed_append t made)
+failed_append (other ∷ t) made = failed_append t made
+
+lost_append : (more made : Trace) → lost_calls (more ++ made) ≡ lost_calls more + lost_calls made
+lost_append [] made = omega arith
+lost_append (Fails w c false ∷ t) made = omega (arith, lost_append t made)
+lost_append (other ∷ t) made = lost_append t made
+
+called_on : (tells : Bool) (a b c : Seen) (made more : Trace) → HasCalled tells a b made → HasCalled tells b c more → HasCalled tells a c (more ++ made)
+called_on tells a b c made more early late = record {
+  log = λ notified. late.log notified ∙ ap (λ (cs : List Call). calls more ++ cs) (early.log notified) ∙ sym (append_assoc (calls more) (calls made) a.log) ∙ ap (λ (cs : List Call). cs ++ a.log) (sym (calls_append more made));
+  faults = (let p = early.faults in let q = late.faults in omega (arith, p, q, failed_append more made));
+  unkept = (let p = early.unkept in let q = late.unkept in omega (arith, p, q, lost_append more made));
+}
+
+pub unchanged : (tells : Bool) (seen : Seen) → HasCalled tells seen seen []
+unchanged tells seen = record { log = λ notified. refl; faults = omega arith; unkept = omega arith }
+
 -- nothing happens
-pub nothing : (tells : Bool) (sizes : Sizes) (zones : List Zone) (log : List Call) → LeadsTo tells sizes zones zones log log
-nothing tells sizes zones log = ([], (λ (t : Trace). rests), λ told. refl)
+pub nothing : (tells : Bool) (sizes : Sizes) (zones : List Zone) (log : Seen) → LeadsTo tells sizes zones zones log log
+nothing tells sizes zones log = ([], (λ (t : Trace). rests), unchanged tells log)
 
 -- one event, and then others
-pub leads_further : (tells : Bool) (sizes : Sizes) (a b c : List Zone) (log log' log'' : List Call)
+pub leads_further : (tells : Bool) (sizes : Sizes) (a b c : List Zone) (log log' log'' : Seen)
     → LeadsTo tells sizes a b log log' → LeadsTo tells sizes b c log' log'' → LeadsTo tells sizes a c log log''
-leads_further tells sizes a b c log log' log'' (made, early, told) (more, late, told') =
-    let regroup : calls more ++ (calls made ++ log) ≡ (calls more ++ calls made) ++ log = rw append_assoc in
-    let both : (calls more ++ calls made) ++ log ≡ calls (more ++ made) ++ log = ap (λ (cs : List Call). cs ++ log) (sym (calls_append more made)) in (
-      more ++ made,
-      (λ (t : Trace). rw append_assoc (leads_on sizes (core_of a t) (core_of b (made ++ t)) (core_of c (more ++ (made ++ t))) (early t) (late (made ++ t)))),
-      (λ tells_it. told' tells_it ∙ ap (λ (cs : List Call). calls more ++ cs) (told tells_it) ∙ regroup ∙ both),
-    )
+leads_further tells sizes a b c log log' log'' (made, early, notified) (more, late, notified') = (
+  more ++ made,
+  (λ (t : Trace). rw append_assoc (leads_on sizes (core_of a t) (core_of b (made ++ t)) (core_of c (more ++ (made ++ t))) (early t) (late (made ++ t)))),
+  called_on tells log log' log'' made more notified notified',
+)
 
 -- a step of a zone is one of the core
-pub stepped_leads : (tells : Bool) (sizes : Sizes) (n : ℕ) (a b : List Zone) (log log' : List Call) → StepsAt tells sizes n a b log log' → LeadsTo tells sizes a b log log'
+pub stepped_leads : (tells : Bool) (sizes : Sizes) (n : ℕ) (a b : List Zone) (log log' : Seen) → StepsAt tells sizes n a b log log' → LeadsTo tells sizes a b log log'
 stepped_leads tells sizes n a b log log' at = (
   at.step.0,
   (λ (t : Trace). steps (record {
@@ -62,7 +83,7 @@ stepped_leads tells sizes n a b log log' at = (
 )
 
 -- a move is one of the core
-moved_leads : (tells : Bool) (sizes : Sizes) (from to : ℕ) (a b : List Zone) (log : List Call) → MovesAll from to a b → LeadsTo tells sizes a b log log
+moved_leads : (tells : Bool) (sizes : Sizes) (from to : ℕ) (a b : List Zone) (log : Seen) → MovesAll from to a b → LeadsTo tells sizes a b log log
 moved_leads tells sizes from to a b log all = (
   [],
   (λ (t : Trace). moves (record {
@@ -78,30 +99,30 @@ moved_leads tells sizes from to a b log all = (
     outbox = rw append-nil all.outbox;
     has = ap (λ (zs : List Zone). core_of zs t) all.has;
   }) rests),
-  λ told. refl,
+  unchanged tells log,
 )
 
 -- after an event, whether there was work or not
-pub step_plays : (tells : Bool) (sizes : Sizes) (n : ℕ) (a b : List Zone) (log log' : List Call) (stepped : Stepped)
+pub step_plays : (tells : Bool) (sizes : Sizes) (n : ℕ) (a b : List Zone) (log log' : Seen) (stepped : Stepped)
     → (stepped ≡ Did → StepsAt tells sizes n a b log log') → (stepped ≡ Idle → (z : Zone) → slice_get a n ≡ Some z → IsIdle sizes z)
     → (stepped ≡ Idle → b ≡ a) → (stepped ≡ Idle → log' ≡ log) → PlaysOne tells sizes (event.Step n) a b log log'
 step_plays tells sizes n a b log log' Did did idle same silent = inl (did refl)
 step_plays tells sizes n a b log log' Idle did idle same silent = inr (idle refl, same refl, silent refl)
 
-pub move_plays : (tells : Bool) (sizes : Sizes) (from to : ℕ) (a b : List Zone) (log : List Call) (stepped : Stepped)
+pub move_plays : (tells : Bool) (sizes : Sizes) (from to : ℕ) (a b : List Zone) (log : Seen) (stepped : Stepped)
     → (stepped ≡ Did → MovesAll from to a b) → (stepped ≡ Idle → HasNothing a from to) → (stepped ≡ Idle → b ≡ a) → PlaysOne tells sizes (event.Move from to) a b log log
 move_plays tells sizes from to a b log Did did idle same = inl (did refl, refl)
 move_plays tells sizes from to a b log Idle did idle same = inr (idle refl, same refl, refl)
 
 -- what an event does leads on
-pub played_leads : (tells : Bool) (sizes : Sizes) (e : Event) (a b : List Zone) (log log' : List Call) → PlaysOne tells sizes e a b log log' → LeadsTo tells sizes a b log log'
+pub played_leads : (tells : Bool) (sizes : Sizes) (e : Event) (a b : List Zone) (log log' : Seen) → PlaysOne tells sizes e a b log log' → LeadsTo tells sizes a b log log'
 played_leads tells sizes (event.Step n) a b log log' (inl at) = stepped_leads tells sizes n a b log log' at
 played_leads tells sizes (event.Step n) a b log log' (inr (idle, same, silent)) = rw (same, silent) (nothing tells sizes a log)
 played_leads tells sizes (event.Move from to) a b log log' (inl (all, silent)) = rw silent (moved_leads tells sizes from to a b log all)
 played_leads tells sizes (event.Move from to) a b log log' (inr (idle, same, silent)) = rw (same, silent) (nothing tells sizes a log)
 
 -- an event before those that are left
-pub next_plays : (tells : Bool) (sizes : Sizes) (events : List Event) (n : ℕ) (d : Event) (a b later : List Zone) (log log' log'' : List Call)
+pub next_plays : (tells : Bool) (sizes : Sizes) (events : List Event) (n : ℕ) (d : Event) (a b later : List Zone) (log log' log'' : Seen)
     → n < length events → PlaysOne tells sizes (get_or events n d) a b log log' → Plays tells sizes (drop (n + 1) events) b later log' log''
     → Plays tells sizes (drop n events) a later log log''
 next_plays tells sizes events n d a b later log log' log'' within one rest =
@@ -110,12 +131,12 @@ next_plays tells sizes events n d a b later log log' log'' within one rest =
     subst (λ (es : List Event). Plays tells sizes es a later log log'') (sym (drop-cons events n d within)) (b, log', one, left)
 
 -- no event is left
-pub none_left : (tells : Bool) (sizes : Sizes) (events : List Event) (n : ℕ) (a : List Zone) (log : List Call)
+pub none_left : (tells : Bool) (sizes : Sizes) (events : List Event) (n : ℕ) (a : List Zone) (log : Seen)
     → length events ≤ n → Plays tells sizes (drop n events) a a log log
 none_left tells sizes events n a log past = subst (λ (es : List Event). Plays tells sizes es a a log log) (sym (drop_all n events past)) (refl, refl)
 
 -- a zone that steps isn't idle, so there was work for its event
-pub step_busy : (tells : Bool) (sizes : Sizes) (n : ℕ) (a b : List Zone) (log log' : List Call) → StepsAt tells sizes n a b log log'
+pub step_busy : (tells : Bool) (sizes : Sizes) (n : ℕ) (a b : List Zone) (log log' : Seen) → StepsAt tells sizes n a b log log'
     → ((z : Zone) → slice_get a n ≡ Some z → IsIdle sizes z → ⊥) → HasNoWork sizes a (event.Step n) → ⊥
 step_busy tells sizes n a b log log' at busy none = busy at.zone at.had (none at.zone at.had)
 

@@ -6,8 +6,8 @@ use Rattle.core_laws.specs.declared.zones.ZoneData.{ZoneData}
 use Rattle.core_laws.specs.declared.zones.Zone.{Zone}
 use Rattle.core_laws.specs.Sessions.{Session}
 use Rattle.core_laws.specs.Start.{IsFirstData, IsFirstZone}
-use Rattle.core_laws.specs.Sums.{Each}
-use Rattle.core_laws.proofs.Lists.{Each-append}
+use Rattle.plain_laws.specs.Sums.{Each}
+use Rattle.plain_laws.proofs.ListLaws.{Each-append}
 use Rattle.core_steps.specs.Starts.{AreEmptyLanes}
 
 -- no zone at all

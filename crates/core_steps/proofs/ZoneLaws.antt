@@ -5,9 +5,9 @@ use Rattle.core_laws.specs.declared.items.Item.{Item}
 use Rattle.core_laws.specs.declared.sizes.Sizes.{Sizes}
 use Rattle.core_laws.specs.declared.zones.ZoneData.{ZoneData}
 use Rattle.core_laws.specs.declared.zones.Zone.{Zone}
-use Rattle.core_laws.proofs.Lift.{delivered_same}
+use Rattle.core_laws.proofs.tokens.Lift.{delivered_same}
 use Rattle.core_laws.specs.Steps.{posted, delivered, Act, ZoneStep}
-use Rattle.disk_model.specs.declared.call.Call.{Call}
+use Rattle.disk_model.specs.Seen.{Seen}
 use Rattle.core_laws.specs.Trace.{Trace}
 use Rattle.core_laws.specs.Vios.{Post}
 use Rattle.core_steps.specs.Acts.{Acts, ActsAlone}
@@ -36,7 +36,7 @@ step_of sizes old new keeps front rest made posts taken in_turn act is =
     }
 
 -- a zone steps with the item in front of its inbox
-pub stepped : (tells : Bool) (sizes : Sizes) (old new : Zone) (keeps : ZoneData) (front : Item) (rest : List Item) (posts : List Post) (before after : List Call)
+pub stepped : (tells : Bool) (sizes : Sizes) (old new : Zone) (keeps : ZoneData) (front : Item) (rest : List Item) (posts : List Post) (before after : Seen)
     → old.inbox ≡ front ∷ rest → Acts tells sizes old.keeps (front ∷ []) keeps posts before after
     → new ≡ delivered posts (record old { keeps = keeps; inbox = rest }) → ZoneSteps tells sizes old new before after
 stepped tells sizes old new keeps front rest posts before after taken (made, act, log) is =
@@ -44,8 +44,8 @@ stepped tells sizes old new keeps front rest posts before after taken (made, act
     (made, step_of sizes old new keeps (front ∷ []) rest made posts taken in_turn act is, log)
 
 -- a zone steps with no item, and doesn't call the device
-pub begun : (tells : Bool) (sizes : Sizes) (old new : Zone) (keeps : ZoneData) (rest : List Item) (posts : List Post) (log : List Call)
+pub begun : (tells : Bool) (sizes : Sizes) (old new : Zone) (keeps : ZoneData) (rest : List Item) (posts : List Post) (seen : Seen)
     → old.inbox ≡ [] → rest ≡ [] → ActsAlone sizes old.keeps [] keeps posts
-    → new ≡ delivered posts (record old { keeps = keeps; inbox = rest }) → ZoneSteps tells sizes old new log log
-begun tells sizes old new keeps rest posts log taken none (made, act, silent) is =
-    (made, step_of sizes old new keeps [] rest made posts (taken ∙ sym none) (λ e. none) act is, λ told. rw silent refl)
+    → new ≡ delivered posts (record old { keeps = keeps; inbox = rest }) → ZoneSteps tells sizes old new seen seen
+begun tells sizes old new keeps rest posts seen taken none (made, act, silent) is =
+    (made, step_of sizes old new keeps [] rest made posts (taken ∙ sym none) (λ e. none) act is, silent tells seen)

@@ -1,13 +1,37 @@
--- What a step leaves in the log of the device.
-use Rattle.std.specs.Prelude.{◌≡◌, Bool, true, false, IsTrue, List, ◌++◌}
+-- What a step leaves of the device.
+use Rattle.std.specs.Prelude.{ℕ, suc, ◌≡◌, ◌+◌, ◌-◌, ◌^◌, ◌≤◌, Bool, true, false, IsTrue, [], ◌∷◌, ◌++◌, min}
+use Rattle.blk_base.specs.declared.request.Writer.{Writer}
 use Rattle.disk_model.specs.declared.call.Call.{Call}
+use Rattle.disk_model.specs.Seen.{Seen}
 use Rattle.core_laws.specs.declared.items.Stage.{Stage}
 use Rattle.core_laws.specs.declared.items.Stage.TheVariants as stage
-use Rattle.core_laws.specs.Trace.{Trace, calls}
+use Rattle.core_laws.specs.Trace.{Trace, Fails, calls}
 
--- a device that tells has the calls of what happened, and those before
-abbrev pub HasLogged : Bool → List Call → List Call → Trace → Type 0
-HasLogged tells old new made = IsTrue tells → new ≡ calls made ++ old
+-- how many calls failed, and how many of these found no memory for a place in the log
+abbrev pub failed_calls : Trace → ℕ
+failed_calls [] = 0
+failed_calls (Fails w call kept ∷ t) = suc (failed_calls t)
+failed_calls (other ∷ t) = failed_calls t
+
+abbrev pub lost_calls : Trace → ℕ
+lost_calls [] = 0
+lost_calls (Fails w call false ∷ t) = suc (lost_calls t)
+lost_calls (other ∷ t) = lost_calls t
+
+-- a count rose by at least so many, or stands at the last value of its type
+abbrev pub RoseBy : ℕ → ℕ → ℕ → Type 0
+RoseBy n before now = min (before + n) (2 ^ 64 - 1) ≤ now
+
+-- What is seen of a device before what happened, and after it: one that tells has the calls in its log. Its count of faults
+-- rose with each call that failed, and its count of those without a place in the log with each that isn't kept there.
+pub record HasCalled (tells : Bool) (before after : Seen) (made : Trace) : Type 0 where
+  pub log : IsTrue tells → after.log ≡ calls made ++ before.log
+  pub faults : RoseBy (failed_calls made) before.faults after.faults
+  pub unkept : RoseBy (lost_calls made) before.unkept after.unkept
+
+-- this call failed, whoever it was made for
+abbrev pub HasFailed : Bool → Seen → Seen → Call → Type 0
+HasFailed tells before after call = (kept : Bool) × ((w : Writer) → HasCalled tells before after (Fails w call kept ∷ []))
 
 -- a sealed block at this stage needs a call of the device
 abbrev pub needs_call : Stage → Bool

@@ -1,12 +1,12 @@
 -- What becomes of a core by an event, by a list of them, and with the trace that they make, whatever happened before.
 use Rattle.std.specs.Prelude.{ℕ, ◌≡◌, ◌≢◌, ◌⊎◌, Bool, Some, List, [], ◌∷◌, ◌++◌, slice_get, slice_set}
-use Rattle.disk_model.specs.declared.call.Call.{Call}
+use Rattle.disk_model.specs.Seen.{Seen}
 use Rattle.core_laws.specs.declared.items.Item.{Item}
 use Rattle.core_laws.specs.declared.sizes.Sizes.{Sizes}
 use Rattle.core_laws.specs.declared.zones.Zone.{Zone}
 use Rattle.core_laws.specs.Steps.{Core, IsIdle, ZoneStep, Leads}
 use Rattle.core_laws.specs.Trace.{Trace}
-use Rattle.core_steps.specs.DeviceLog.{HasLogged}
+use Rattle.core_steps.specs.DeviceLog.{HasCalled}
 use Rattle.core_steps.specs.Moves.{HasNothing}
 use Rattle.core_steps.specs.declared.events.Event.{Event}
 use Rattle.core_steps.specs.declared.events.Event.TheVariants as event
@@ -15,11 +15,11 @@ abbrev pub core_of : List Zone → Trace → Core
 core_of zones t = record { zones = zones; trace = t }
 
 -- one zone steps
-abbrev pub ZoneSteps : Bool → Sizes → Zone → Zone → List Call → List Call → Type 0
-ZoneSteps tells sizes old new before after = (made : Trace) × ZoneStep sizes old new made × HasLogged tells before after made
+abbrev pub ZoneSteps : Bool → Sizes → Zone → Zone → Seen → Seen → Type 0
+ZoneSteps tells sizes old new before after = (made : Trace) × ZoneStep sizes old new made × HasCalled tells before after made
 
 -- the zone of this number steps, and all others stay
-pub record StepsAt (tells : Bool) (sizes : Sizes) (number : ℕ) (old new : List Zone) (before after : List Call) : Type 0 where
+pub record StepsAt (tells : Bool) (sizes : Sizes) (number : ℕ) (old new : List Zone) (before after : Seen) : Type 0 where
   pub zone : Zone
   pub zone' : Zone
   pub had : slice_get old number ≡ Some zone
@@ -43,18 +43,18 @@ HasNoWork sizes zones (event.Step number) = (z : Zone) → slice_get zones numbe
 HasNoWork sizes zones (event.Move from to) = HasNothing zones from to
 
 -- an event: the zone steps, or all moves; or nothing happens, where there is no work for it
-abbrev pub PlaysOne : Bool → Sizes → Event → List Zone → List Zone → List Call → List Call → Type 0
+abbrev pub PlaysOne : Bool → Sizes → Event → List Zone → List Zone → Seen → Seen → Type 0
 PlaysOne tells sizes (event.Step number) old new before after =
     StepsAt tells sizes number old new before after ⊎ (HasNoWork sizes old (event.Step number) × (new ≡ old) × (after ≡ before))
 PlaysOne tells sizes (event.Move from to) old new before after =
     (MovesAll from to old new × (after ≡ before)) ⊎ (HasNoWork sizes old (event.Move from to) × (new ≡ old) × (after ≡ before))
 
 -- all of these, one after another
-abbrev pub Plays : Bool → Sizes → List Event → List Zone → List Zone → List Call → List Call → Type 0
+abbrev pub Plays : Bool → Sizes → List Event → List Zone → List Zone → Seen → Seen → Type 0
 Plays tells sizes [] old new before after = (new ≡ old) × (after ≡ before)
 Plays tells sizes (e ∷ events) old new before after =
-    (between : List Zone) × (log : List Call) × PlaysOne tells sizes e old between before log × Plays tells sizes events between new log after
+    (between : List Zone) × (seen : Seen) × PlaysOne tells sizes e old between before seen × Plays tells sizes events between new seen after
 
 -- events lead from one core to another
-abbrev pub LeadsTo : Bool → Sizes → List Zone → List Zone → List Call → List Call → Type 0
-LeadsTo tells sizes old new before after = (made : Trace) × ((t : Trace) → Leads sizes (core_of old t) (core_of new (made ++ t))) × HasLogged tells before after made
+abbrev pub LeadsTo : Bool → Sizes → List Zone → List Zone → Seen → Seen → Type 0
+LeadsTo tells sizes old new before after = (made : Trace) × ((t : Trace) → Leads sizes (core_of old t) (core_of new (made ++ t))) × HasCalled tells before after made

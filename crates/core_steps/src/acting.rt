@@ -1,8 +1,10 @@
 ghost use Rattle.std.specs.Prelude.{◌≡◌, [], ◌∷◌, IfOk, IfErr};
+ghost use Rattle.disk_model.specs.Seen.{Stays};
 ghost use Rattle.core_laws.specs.declared.zones.ZoneData.TheVariants as at;
 ghost use Rattle.core_laws.specs.Steps.{Act};
 ghost use Rattle.core_steps.specs.Acts.{Acts, ActsAlone};
-ghost use Rattle.core_steps.specs.Causes.{CanCount, NoRule, Strays};
+ghost use Rattle.core_steps.specs.Causes.{CanCount, NoRule, MemoryOrStray};
+ghost use Rattle.core_steps.specs.Starts.{Fits};
 
 use crate::StepFault;
 use crate::desk::{hear_desk, serve_desk};
@@ -19,12 +21,11 @@ use std::alloc::Global;
 fn act_desk(alloc: Global, sizes: &Sizes, desk: &mut Desk, item: Item) -> Result<Posts, StepFault>
     requires { CanCount sizes.now (at.Desk desk.old) }
     ensures ok { IfOk result (λ posts. ActsAlone sizes.now (at.Desk desk.old) (item ∷ []) (at.Desk desk.new) posts) }
-    ensures err { IfErr result (Strays (NoRule (Act sizes.now (at.Desk desk.old) (item ∷ [])))) }
+    ensures err { IfErr result (MemoryOrStray (NoRule (Act sizes.now (at.Desk desk.old) (item ∷ [])))) }
 {
-    let _sizes = sizes;
     match item {
         Item::Request(vio) => Ok(serve_desk(alloc, sizes, desk, vio)?),
-        Item::Notice => Ok(hear_desk(alloc, desk)?),
+        Item::StopNotice => Ok(hear_desk(alloc, desk)?),
         Item::Block(_) => Err(StepFault::Stray),
     }
 }
@@ -38,12 +39,11 @@ fn act_logical(
 ) -> Result<Posts, StepFault>
     requires { CanCount sizes.now (at.Logical zone.old) }
     ensures ok { IfOk result (λ posts. ActsAlone sizes.now (at.Logical zone.old) (item ∷ []) (at.Logical zone.new) posts) }
-    ensures err { IfErr result (Strays (NoRule (Act sizes.now (at.Logical zone.old) (item ∷ [])))) }
+    ensures err { IfErr result (MemoryOrStray (NoRule (Act sizes.now (at.Logical zone.old) (item ∷ [])))) }
 {
-    let _sizes = sizes;
     match item {
         Item::Request(vio) => Ok(serve_logical(alloc, sizes, zone, vio)?),
-        Item::Notice => Ok(hear_logical(alloc, zone)?),
+        Item::StopNotice => Ok(hear_logical(alloc, zone)?),
         Item::Block(_) => Err(StepFault::Stray),
     }
 }
@@ -56,12 +56,11 @@ fn act_physical(
     item: Item,
 ) -> Result<Posts, StepFault>
     ensures ok { IfOk result (λ posts. ActsAlone sizes.now (at.Physical zone.old) (item ∷ []) (at.Physical zone.new) posts) }
-    ensures err { IfErr result (Strays (NoRule (Act sizes.now (at.Physical zone.old) (item ∷ [])))) }
+    ensures err { IfErr result (MemoryOrStray (NoRule (Act sizes.now (at.Physical zone.old) (item ∷ [])))) }
 {
-    let _sizes = sizes;
     match item {
         Item::Request(vio) => Ok(serve_physical(alloc, sizes, zone, vio)?),
-        Item::Notice => Ok(physical::hear_stop(alloc, zone)?),
+        Item::StopNotice => Ok(physical::hear_stop(alloc, zone)?),
         Item::Block(_) => Err(StepFault::Stray),
     }
 }
@@ -75,12 +74,12 @@ fn act_journal(
 ) -> Result<Posts, StepFault>
     requires { CanCount sizes.now (at.Journal zone.old) }
     ensures ok { IfOk result (λ posts. ActsAlone sizes.now (at.Journal zone.old) (item ∷ []) (at.Journal zone.new) posts) }
-    ensures err { IfErr result (Strays (NoRule (Act sizes.now (at.Journal zone.old) (item ∷ [])))) }
+    ensures err { IfErr result (MemoryOrStray (NoRule (Act sizes.now (at.Journal zone.old) (item ∷ [])))) }
 {
     match item {
         Item::Request(vio) => Ok(serve_journal(alloc, sizes, zone, vio)?),
         Item::Block(block) => Ok(end_block(alloc, sizes, zone, block)?),
-        Item::Notice => Ok(journal::hear_stop(alloc, sizes, zone)?),
+        Item::StopNotice => Ok(journal::hear_stop(alloc, sizes, zone)?),
     }
 }
 
@@ -92,17 +91,16 @@ fn act_device<D: Disk>(
     item: Item,
     disk: &mut D,
 ) -> Result<Posts, StepFault>
-    requires { CanCount sizes.now (at.Device zone.old) }
-    ensures size { D.size disk.new ≡ D.size disk.old }
-    ensures opening { D.opening disk.new ≡ D.opening disk.old }
-    ensures acts { IfOk result (λ posts. Acts D.tells sizes.now (at.Device zone.old) (item ∷ []) (at.Device zone.new) posts (D.log disk.old) (D.log disk.new)) }
-    ensures err { IfErr result (Strays (NoRule (Act sizes.now (at.Device zone.old) (item ∷ [])))) }
+    requires counts { CanCount sizes.now (at.Device zone.old) }
+    requires fits { Fits sizes.now (D.seen disk.old) }
+    ensures stays { Stays (D.seen disk.old) (D.seen disk.new) }
+    ensures acts { IfOk result (λ posts. Acts D.tells sizes.now (at.Device zone.old) (item ∷ []) (at.Device zone.new) posts (D.seen disk.old) (D.seen disk.new)) }
+    ensures err { IfErr result (MemoryOrStray (NoRule (Act sizes.now (at.Device zone.old) (item ∷ [])))) }
 {
-    let _sizes = sizes;
     match item {
         Item::Request(vio) => Ok(call_device(alloc, sizes, zone, vio, disk)?),
         Item::Block(block) => Ok(work_block(alloc, sizes, zone, block, disk)?),
-        Item::Notice => Err(StepFault::Stray),
+        Item::StopNotice => Err(StepFault::Stray),
     }
 }
 
@@ -114,13 +112,12 @@ pub(crate) fn act<D: Disk>(
     item: Item,
     disk: &mut D,
 ) -> Result<Posts, StepFault>
-    requires { CanCount sizes.now keeps.old }
-    ensures size { D.size disk.new ≡ D.size disk.old }
-    ensures opening { D.opening disk.new ≡ D.opening disk.old }
-    ensures acts { IfOk result (λ posts. Acts D.tells sizes.now keeps.old (item ∷ []) keeps.new posts (D.log disk.old) (D.log disk.new)) }
-    ensures err { IfErr result (Strays (NoRule (Act sizes.now keeps.old (item ∷ [])))) }
+    requires counts { CanCount sizes.now keeps.old }
+    requires fits { Fits sizes.now (D.seen disk.old) }
+    ensures stays { Stays (D.seen disk.old) (D.seen disk.new) }
+    ensures acts { IfOk result (λ posts. Acts D.tells sizes.now keeps.old (item ∷ []) keeps.new posts (D.seen disk.old) (D.seen disk.new)) }
+    ensures err { IfErr result (MemoryOrStray (NoRule (Act sizes.now keeps.old (item ∷ [])))) }
 {
-    let _sizes = sizes;
     match keeps {
         ZoneData::Desk(desk) => act_desk(alloc, sizes, desk, item),
         ZoneData::Logical(zone) => act_logical(alloc, sizes, zone, item),

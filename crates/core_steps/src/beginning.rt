@@ -1,4 +1,4 @@
-ghost use Rattle.std.specs.Prelude.{◌≡◌, ◌<◌, ◌∷◌, [], ℕ, IfOk, IfSome, IfNone, length};
+ghost use Rattle.std.specs.Prelude.{◌≡◌, ◌<◌, ◌^◌, ◌∷◌, [], ℕ, IfOk, IfErr, IfSome, IfNone, length};
 ghost use Rattle.vdo_model.specs.DeskLog.{IsNextLine};
 ghost use Rattle.vdo_model.specs.Scripts.{request_at};
 ghost use Rattle.vdo_model.specs.declared.report.DeskLine.TheVariants as line;
@@ -8,14 +8,15 @@ ghost use Rattle.core_laws.specs.DeskRows as rows;
 ghost use Rattle.core_laws.specs.Steps.{MayBegin};
 ghost use Rattle.core_laws.specs.Trace.{Trace};
 ghost use Rattle.core_laws.specs.Vios as vios;
-ghost use Rattle.core_steps.specs.Causes.{CanCount};
+ghost use Rattle.core_steps.specs.Causes.{BeginsUnserved, CanCount, MemoryOrStray};
 
+use crate::StepFault;
 use crate::counts::{answered, begun};
-use crate::desk::{answer, is_told};
+use crate::desk::{answer, is_notified};
 use crate::numbers::{device_zone, logical_zone};
 use crate::posts::Posts;
 use crate::vios::turned;
-use blk_base::{Answer, Block, Lba, Mapping, Pbn, Request, Writer};
+use blk_base::{Answer, Block, Lba, Mapping, PAGE_SLOTS, Pbn, Request, TREES, Writer};
 use core_laws::{Asks, Desk, Item, Phase, Sizes, Vio};
 use std::alloc::{AllocError, Global};
 use vdo_model::DeskLine;
@@ -25,7 +26,7 @@ fn begun_vio(sizes: &Sizes, request: Writer, asks: Asks, at: Lba, bytes: Block) 
     requires { 0 < sizes.now.zones }
     ensures { result ≡ vios.begun_vio sizes.now request asks at bytes }
 {
-    let tree = (at.0 / 812 % 60) as u8;
+    let tree = (at.0 / u32::from(PAGE_SLOTS) % u32::from(TREES)) as u8;
     Vio {
         request,
         asks,
@@ -42,56 +43,63 @@ fn begun_vio(sizes: &Sizes, request: Writer, asks: Asks, at: Lba, bytes: Block) 
     }
 }
 
-// The request as it is under way.
-fn vio_of(sizes: &Sizes, request: Writer, asked: &Request) -> Vio
+// The request as it is under way, where it is served.
+fn vio_of(sizes: &Sizes, request: Writer, asked: &Request) -> Option<Vio>
     requires { 0 < sizes.now.zones }
     ensures { result ≡ rows.vio_of sizes.now request asked.now }
 {
     match asked {
         Request::Read(at) => {
             let zeros = Block::zero();
-            begun_vio(sizes, request, Asks::Read, *at, zeros)
+            Some(begun_vio(sizes, request, Asks::Read, *at, zeros))
         }
-        Request::Write { at, block, .. } => {
+        Request::Write {
+            at,
+            block,
+            fua: false,
+        } => {
             let mut bytes = Block::zero();
             bytes.copy_from(block);
-            begun_vio(sizes, request, Asks::Write, *at, bytes)
-        }
-        Request::Discard(at) => {
-            let zeros = Block::zero();
-            begun_vio(sizes, request, Asks::Write, *at, zeros)
+            Some(begun_vio(sizes, request, Asks::Write, *at, bytes))
         }
         Request::Flush => {
             let zeros = Block::zero();
             let vio = begun_vio(sizes, request, Asks::Flush, Lba(0), zeros);
-            turned(vio, Phase::Flush)
+            Some(turned(vio, Phase::Flush))
         }
+        Request::Write { .. } | Request::Discard(_) => None,
     }
 }
 
 // What a request is answered with at once.
-fn at_once(sizes: &Sizes, told: bool, asked: &Request) -> Option<Answer>
-    ensures { result ≡ rows.at_once sizes.now told asked.now }
+fn at_once(sizes: &Sizes, notified: bool, asks: Asks, at: Lba) -> Option<Answer>
+    ensures { result ≡ rows.at_once sizes.now notified asks at.0 }
 {
     let logical = sizes.geometry.logical;
-    match asked {
-        Request::Read(at) => {
+    match asks {
+        Asks::Read => {
             if at.0 < logical {
                 None
             } else {
                 Some(Answer::Range)
             }
         }
-        Request::Write { at, .. } | Request::Discard(at) => {
+        Asks::Write => {
             if at.0 >= logical {
                 Some(Answer::Range)
-            } else if told {
+            } else if notified {
                 Some(Answer::Stopped)
             } else {
                 None
             }
         }
-        Request::Flush => { if told { Some(Answer::Stopped) } else { None } }
+        Asks::Flush => {
+            if notified {
+                Some(Answer::Stopped)
+            } else {
+                None
+            }
+        }
     }
 }
 
@@ -107,7 +115,7 @@ fn first_zone(sizes: &Sizes, vio: &Vio) -> u32
 
 // The number of the next request of a stream, where it may be begun.
 fn next_of(sizes: &Sizes, desk: &Desk, stream: u8) -> Option<u32>
-    requires { length desk.now.log < 4294967296 }
+    requires { length desk.now.log < 2 ^ 32 }
     ensures may { IfSome result (λ number.
         IsNextLine sizes.now.depth desk.now.requests (line.Begin (record { stream = stream; number = number })) desk.now.log) }
     ensures none { IfNone result (
@@ -154,30 +162,40 @@ fn send(
     Posts::one(alloc, to, Item::Request(vio))
 }
 
+// A request is begun, and answered at once.
+fn answer_at_once(
+    alloc: Global,
+    desk: &mut Desk,
+    request: Writer,
+    given: Answer,
+) -> Result<Posts, AllocError>
+    ensures { IfOk result (λ posts. (desk.new ≡ record desk.old { log = line.Answer request given ∷ line.Begin request ∷ desk.old.log }) × (posts ≡ [])) }
+{
+    desk.log.push(DeskLine::Begin { request })?;
+    answer(desk, request, given)?;
+    Ok(Posts::none(alloc))
+}
+
 // A request is begun, and answered at once or sent on.
 fn begin_one(
     alloc: Global,
     sizes: &Sizes,
     desk: &mut Desk,
     request: Writer,
-) -> Result<Posts, AllocError>
+) -> Result<Posts, StepFault>
     requires zones { 0 < sizes.now.zones }
     requires next { IsNextLine sizes.now.depth desk.old.requests (line.Begin request) desk.old.log }
-    ensures { IfOk result (λ posts. (made : Trace) × rows.DeskBegins sizes.now desk.old desk.new made posts) }
+    ensures ok { IfOk result (λ posts. (made : Trace) × rows.DeskBegins sizes.now desk.old desk.new made posts) }
+    ensures err { IfErr result (MemoryOrStray (BeginsUnserved sizes.now (at.Desk desk.old))) }
 {
-    let told = is_told(sizes, desk);
+    let notified = is_notified(sizes, desk);
     let requests = desk.requests.stream(request.stream);
-    let asked = &requests[request.number as usize];
-    match at_once(sizes, told, asked) {
-        Some(given) => {
-            desk.log.push(DeskLine::Begin { request })?;
-            answer(desk, request, given)?;
-            Ok(Posts::none(alloc))
-        }
-        None => {
-            let vio = vio_of(sizes, request, asked);
-            send(alloc, sizes, desk, request, vio)
-        }
+    let Some(vio) = vio_of(sizes, request, &requests[request.number as usize]) else {
+        return Err(StepFault::Stray);
+    };
+    match at_once(sizes, notified, vio.asks, vio.at) {
+        Some(given) => Ok(answer_at_once(alloc, desk, request, given)?),
+        None => Ok(send(alloc, sizes, desk, request, vio)?),
     }
 }
 
@@ -186,11 +204,12 @@ pub(crate) fn begin_next(
     alloc: Global,
     sizes: &Sizes,
     desk: &mut Desk,
-) -> Result<Option<Posts>, AllocError>
+) -> Result<Option<Posts>, StepFault>
     requires { CanCount sizes.now (at.Desk desk.old) }
     ensures begun { IfOk result (λ begun. IfSome begun (λ posts. (made : Trace) × rows.DeskBegins sizes.now desk.old desk.new made posts)) }
     ensures same { IfOk result (λ begun. IfNone begun (desk.new ≡ desk.old)) }
     ensures none { IfOk result (λ begun. IfNone begun (MayBegin sizes.now (at.Desk desk.old) → ⊥)) }
+    ensures err { IfErr result (MemoryOrStray (BeginsUnserved sizes.now (at.Desk desk.old))) }
 {
     match lowest(sizes, desk) {
         Some(request) => Ok(Some(begin_one(alloc, sizes, desk, request)?)),

@@ -1,11 +1,11 @@
-ghost use Rattle.std.specs.Prelude.{◌≡◌, ◌<◌, [], ◌∷◌, ◌+◌, IfOk, IfErr, OnOk, Some, None, true};
+ghost use Rattle.std.specs.Prelude.{◌≡◌, ◌<◌, ◌^◌, ◌-◌, [], ◌∷◌, ◌+◌, IfOk, IfErr, OnOk, Some, None, true};
 ghost use Rattle.blk_base.specs.declared.request.Answer.{Answer};
 ghost use Rattle.blk_base.specs.declared.request.Answer.TheVariants.{Ok};
 ghost use Rattle.core_laws.specs.declared.items.Phase.TheVariants.{Reply};
 ghost use Rattle.vdo_model.specs.declared.report.DeskLine.TheVariants as line;
 ghost use Rattle.core_laws.specs.DeskRows as rows;
 ghost use Rattle.core_laws.specs.Trace.{Trace};
-ghost use Rattle.core_steps.specs.Causes.{NoRule, Strays};
+ghost use Rattle.core_steps.specs.Causes.{NoRule, MemoryOrStray};
 
 use crate::StepFault;
 use crate::lists::wake_all;
@@ -15,11 +15,11 @@ use core_laws::{Asks, Desk, Fifo, Phase, Sizes, Vio};
 use std::alloc::{AllocError, Global};
 use vdo_model::{DeskLine, FlushMark};
 
-/// Whether every zone has told the desk that the session is stopped.
-pub(crate) fn is_told(sizes: &Sizes, desk: &Desk) -> bool
-    ensures { result ≡ rows.is_told sizes.now desk.now }
+/// Whether the stop notice of every zone has come to the desk.
+pub(crate) fn is_notified(sizes: &Sizes, desk: &Desk) -> bool
+    ensures { result ≡ rows.is_notified sizes.now desk.now }
 {
-    u32::from(sizes.zones) + 1 < desk.told
+    u32::from(sizes.zones) + 1 < desk.notices
 }
 
 // Whether an answer is that of a flush that returned.
@@ -29,7 +29,7 @@ fn is_marked(asks: Asks, answer: &Answer) -> bool
     matches!((asks, answer), (Asks::Flush, Answer::Ok))
 }
 
-// Whether an answer waits until every zone has told of the stop.
+// Whether an answer waits until the stop notice of every zone has come.
 fn is_stopped(answer: &Answer) -> bool
     ensures { result ≡ rows.is_stopped answer.now }
 {
@@ -56,11 +56,10 @@ fn mark(desk: &mut Desk, mark: FlushMark) -> Result<(), AllocError>
 // A request that need not wait is answered.
 fn reply(alloc: Global, sizes: &Sizes, desk: &mut Desk, vio: Vio) -> Result<Posts, StepFault>
     requires phase { vio.phase ≡ Reply }
-    requires told { (given : Answer) → vio.answer ≡ Some given → rows.is_stopped given ≡ true → rows.is_told sizes.now desk.old ≡ true }
+    requires notified { (given : Answer) → vio.answer ≡ Some given → rows.is_stopped given ≡ true → rows.is_notified sizes.now desk.old ≡ true }
     ensures ok { IfOk result (λ posts. (made : Trace) × rows.DeskServes sizes.now desk.old vio desk.new made posts) }
-    ensures err { IfErr result (Strays (vio.answer ≡ None)) }
+    ensures err { IfErr result (MemoryOrStray (vio.answer ≡ None)) }
 {
-    let _sizes = sizes;
     let Vio {
         request,
         asks,
@@ -82,7 +81,7 @@ fn reply(alloc: Global, sizes: &Sizes, desk: &mut Desk, vio: Vio) -> Result<Post
     }
 }
 
-/// A request that comes back is answered, or waits until every zone has told of the stop.
+/// A request that comes back is answered, or waits until the stop notice of every zone has come.
 pub(crate) fn serve_desk(
     alloc: Global,
     sizes: &Sizes,
@@ -90,7 +89,7 @@ pub(crate) fn serve_desk(
     vio: Vio,
 ) -> Result<Posts, StepFault>
     ensures ok { IfOk result (λ posts. (made : Trace) × rows.DeskServes sizes.now desk.old vio desk.new made posts) }
-    ensures err { IfErr result (Strays (NoRule (rows.DeskServes sizes.now desk.old vio))) }
+    ensures err { IfErr result (MemoryOrStray (NoRule (rows.DeskServes sizes.now desk.old vio))) }
 {
     let Phase::Reply = vio.phase else {
         return Err(StepFault::Stray);
@@ -98,7 +97,7 @@ pub(crate) fn serve_desk(
     let Some(given) = &vio.answer else {
         return Err(StepFault::Stray);
     };
-    if is_stopped(given) && !is_told(sizes, desk) {
+    if is_stopped(given) && !is_notified(sizes, desk) {
         desk.parked.push(vio)?;
         Ok(Posts::none(alloc))
     } else {
@@ -106,13 +105,13 @@ pub(crate) fn serve_desk(
     }
 }
 
-/// A zone has told of the stop: those that wait for it look again.
+/// The stop notice of a zone comes: those that wait for it look again.
 pub(crate) fn hear_desk(alloc: Global, desk: &mut Desk) -> Result<Posts, AllocError>
-    requires { desk.old.told < 4294967295 }
-    ensures desk { OnOk result (desk.new ≡ rows.with_word desk.old) }
+    requires { desk.old.notices < 2 ^ 32 - 1 }
+    ensures desk { OnOk result (desk.new ≡ rows.with_notice desk.old) }
     ensures posts { IfOk result (λ posts. posts ≡ rows.woken desk.old.parked) }
 {
-    desk.told += 1;
+    desk.notices += 1;
     let parked = std::mem::replace(&mut desk.parked, Fifo::new(alloc));
     let mut posts = Posts::none(alloc);
     wake_all(parked, &mut posts)?;

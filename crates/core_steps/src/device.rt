@@ -1,68 +1,72 @@
-ghost use Rattle.std.specs.Prelude.{◌≡◌, ◌<◌, ◌++◌, [], ◌∷◌, true, false, Some, IfOk, IfErr, OnOk, OnErr};
+ghost use Rattle.std.specs.Prelude.{◌≡◌, ◌↔◌, ◌<◌, ◌^◌, ◌-◌, ◌++◌, [], ◌∷◌, true, false, Some, IfOk, IfErr, OnOk, OnErr, IsTrue};
+ghost use Rattle.blk_base.specs.Limits.{IsGeometry};
 ghost use Rattle.disk_model.specs.declared.call.Call.{Call};
 ghost use Rattle.disk_model.specs.declared.call.Call.TheVariants as call;
+ghost use Rattle.disk_model.specs.Seen.{Stays};
 ghost use Rattle.core_laws.specs.DeviceRows as rows;
-ghost use Rattle.core_laws.specs.DeviceRows.{DeviceServes, DeviceWorks, Fails, IsItsSlot, call_of, journal_bytes};
+ghost use Rattle.core_laws.specs.DeviceRows.{DeviceServes, DeviceWorks, call_of, journal_bytes};
 ghost use Rattle.core_laws.specs.Numbers as zones;
 ghost use Rattle.core_laws.specs.Trace.{Trace, Calls};
 ghost use Rattle.core_laws.specs.Vios as vios;
 ghost use Rattle.core_laws.specs.declared.items.Phase.TheVariants as phase;
-ghost use Rattle.core_steps.specs.Causes.{NoRule, Strays};
+ghost use Rattle.core_steps.specs.Causes.{NoRule, MemoryOrStray};
 ghost use Rattle.core_steps.specs.DeviceLog as log;
-ghost use Rattle.core_steps.specs.DeviceLog.{HasLogged};
+ghost use Rattle.core_steps.specs.DeviceLog.{HasCalled, HasFailed};
+ghost use Rattle.core_steps.specs.Starts.{Fits};
 
 use crate::numbers::{self, DESK};
 use crate::vios::{ended, logged, turned};
 use crate::{Posts, StepFault};
-use blk_base::{Answer, Block, Entry, Mapping, Pbn};
+use blk_base::{Answer, Block, Entry, Layout, Mapping, Pbn};
 use core_laws::{DeviceZone, Item, Phase, SealedBlock, Sizes, Stage, Vio};
 use disk_model::{Disk, Failed};
 use journal_codec::{Entries, JournalBlock, encode};
 use std::alloc::{AllocError, Global};
 
-/// Reads a block. One that the device doesn't have can't be read.
+/// Reads a block.
 fn read_block<D: Disk>(disk: &mut D, at: Pbn, into: &mut Block) -> Result<(), Failed>
-    ensures size { D.size disk.new ≡ D.size disk.old }
-    ensures opening { D.opening disk.new ≡ D.opening disk.old }
-    ensures ok { OnOk result (HasLogged D.tells (D.log disk.old) (D.log disk.new) (Calls (call.Read at into.new true) ∷ [])) }
-    ensures err { OnErr result ((made : Trace) × Fails (call.Read at into.new false) made × HasLogged D.tells (D.log disk.old) (D.log disk.new) made) }
+    requires { at.0 < (D.seen disk.old).size }
+    ensures stays { Stays (D.seen disk.old) (D.seen disk.new) }
+    ensures ok { OnOk result (HasCalled D.tells (D.seen disk.old) (D.seen disk.new) (Calls (call.Read at into.new true) ∷ [])) }
+    ensures err { OnErr result (HasFailed D.tells (D.seen disk.old) (D.seen disk.new) (call.Read at into.new false)) }
 {
-    if at.0 >= disk.blocks() {
-        return Err(Failed);
-    }
     disk.read(at, into)
 }
 
-/// Writes a block. One that the device doesn't have can't be written.
+/// Writes a block.
 fn write_block<D: Disk>(disk: &mut D, at: Pbn, from: &Block) -> Result<(), Failed>
-    ensures size { D.size disk.new ≡ D.size disk.old }
-    ensures opening { D.opening disk.new ≡ D.opening disk.old }
-    ensures ok { OnOk result (HasLogged D.tells (D.log disk.old) (D.log disk.new) (Calls (call.Write at from.now true) ∷ [])) }
-    ensures err { OnErr result ((made : Trace) × Fails (call.Write at from.now false) made × HasLogged D.tells (D.log disk.old) (D.log disk.new) made) }
+    requires { at.0 < (D.seen disk.old).size }
+    ensures stays { Stays (D.seen disk.old) (D.seen disk.new) }
+    ensures ok { OnOk result (HasCalled D.tells (D.seen disk.old) (D.seen disk.new) (Calls (call.Write at from.now true) ∷ [])) }
+    ensures err { OnErr result (HasFailed D.tells (D.seen disk.old) (D.seen disk.new) (call.Write at from.now false)) }
 {
-    if at.0 >= disk.blocks() {
-        return Err(Failed);
-    }
     disk.write(at, from)
 }
 
 /// Makes the writes so far last.
 fn flush<D: Disk>(disk: &mut D) -> Result<(), Failed>
-    ensures size { D.size disk.new ≡ D.size disk.old }
-    ensures opening { D.opening disk.new ≡ D.opening disk.old }
-    ensures ok { OnOk result (HasLogged D.tells (D.log disk.old) (D.log disk.new) (Calls (call.Flush true) ∷ [])) }
-    ensures err { OnErr result ((made : Trace) × Fails (call.Flush false) made × HasLogged D.tells (D.log disk.old) (D.log disk.new) made) }
+    ensures stays { Stays (D.seen disk.old) (D.seen disk.new) }
+    ensures ok { OnOk result (HasCalled D.tells (D.seen disk.old) (D.seen disk.new) (Calls (call.Flush true) ∷ [])) }
+    ensures err { OnErr result (HasFailed D.tells (D.seen disk.old) (D.seen disk.new) (call.Flush false)) }
 {
     disk.flush()
 }
 
-/// The word that the session is stopped, to every zone that passes it on.
-fn tell_all(sizes: &Sizes, posts: &mut Posts) -> Result<(), AllocError>
-    ensures { OnOk result (posts.new ≡ posts.old ++ rows.notices (zones.tellers sizes.now)) }
+/// Whether a block lies inside an image of these sizes.
+fn is_inside(sizes: &Sizes, block: Pbn) -> bool
+    requires { IsGeometry sizes.now.geometry }
+    ensures { IsTrue result ↔ rows.IsInside sizes.now block }
 {
-    let mut number = numbers::tellers(sizes);
+    block.0 < Layout::of(&sizes.geometry).needed()
+}
+
+/// The word that the session is stopped, to every zone that passes it on.
+fn notify_all(sizes: &Sizes, posts: &mut Posts) -> Result<(), AllocError>
+    ensures { OnOk result (posts.new ≡ posts.old ++ rows.stop_notices (zones.notified_zones sizes.now)) }
+{
+    let mut number = numbers::notified_zones(sizes);
     while number > 0 {
-        posts.push(number, Item::Notice)?;
+        posts.push(number, Item::StopNotice)?;
         number -= 1;
     }
     Ok(())
@@ -77,11 +81,11 @@ fn halt(
     item: Item,
 ) -> Result<Posts, AllocError>
     ensures zone { zone.new ≡ rows.halted zone.old }
-    ensures posts { IfOk result (λ posts. posts ≡ (to, item) ∷ rows.notices (zones.tellers sizes.now)) }
+    ensures posts { IfOk result (λ posts. posts ≡ (to, item) ∷ rows.stop_notices (zones.notified_zones sizes.now)) }
 {
     zone.stopped = true;
     let mut posts = Posts::one(alloc, to, item)?;
-    tell_all(sizes, &mut posts)?;
+    notify_all(sizes, &mut posts)?;
     Ok(posts)
 }
 
@@ -94,19 +98,17 @@ fn store<D: Disk>(
     disk: &mut D,
 ) -> Result<Posts, AllocError>
     requires phase { vio.phase ≡ phase.Store }
-    requires counts { zone.old.calls < 18446744073709551615 }
-    ensures size { D.size disk.new ≡ D.size disk.old }
-    ensures opening { D.opening disk.new ≡ D.opening disk.old }
+    requires inside { rows.IsInside sizes.now vio.block }
+    requires runs { zone.old.stopped ≡ false }
+    requires counts { zone.old.calls < 2 ^ 64 - 1 }
+    requires fits { Fits sizes.now (D.seen disk.old) }
+    ensures stays { Stays (D.seen disk.old) (D.seen disk.new) }
     ensures serves { IfOk result (λ posts. (made : Trace) × DeviceServes sizes.now zone.old vio zone.new made posts
-        × HasLogged D.tells (D.log disk.old) (D.log disk.new) made) }
+        × HasCalled D.tells (D.seen disk.old) (D.seen disk.new) made) }
 {
     let physical = numbers::physical_zone(sizes);
-    if zone.stopped {
-        let unmade = ended(vio, Phase::Return, Answer::Stopped);
-        return Posts::one(alloc, physical, Item::Request(unmade));
-    }
     let Ok(()) = write_block(disk, vio.block, &vio.bytes) else {
-        let failed = ended(vio, Phase::Return, Answer::Stopped);
+        let failed = ended(vio, Phase::AbortClaim, Answer::Stopped);
         return halt(alloc, sizes, zone, physical, Item::Request(failed));
     };
     zone.calls += 1;
@@ -123,17 +125,17 @@ fn load<D: Disk>(
     disk: &mut D,
 ) -> Result<Posts, AllocError>
     requires phase { vio.phase ≡ phase.Load }
-    requires counts { zone.old.calls < 18446744073709551615 }
-    ensures size { D.size disk.new ≡ D.size disk.old }
-    ensures opening { D.opening disk.new ≡ D.opening disk.old }
+    requires inside { rows.IsInside sizes.now vio.block }
+    requires counts { zone.old.calls < 2 ^ 64 - 1 }
+    requires fits { Fits sizes.now (D.seen disk.old) }
+    ensures stays { Stays (D.seen disk.old) (D.seen disk.new) }
     ensures serves { IfOk result (λ posts. (made : Trace) × DeviceServes sizes.now zone.old vio zone.new made posts
-        × HasLogged D.tells (D.log disk.old) (D.log disk.new) made) }
+        × HasCalled D.tells (D.seen disk.old) (D.seen disk.new) made) }
 {
-    let _sizes = sizes;
     let home = vio.home;
     let mut bytes = Block::zero();
     let Ok(()) = read_block(disk, vio.block, &mut bytes) else {
-        let failed = ended(vio, Phase::Leave, Answer::ReadFault);
+        let failed = ended(vio, Phase::Abort, Answer::ReadFault);
         return Posts::one(alloc, home, Item::Request(failed));
     };
     zone.calls += 1;
@@ -151,11 +153,10 @@ fn flush_for<D: Disk>(
     disk: &mut D,
 ) -> Result<Posts, AllocError>
     requires phase { vio.phase ≡ phase.Flush }
-    requires counts { zone.old.calls < 18446744073709551615 }
-    ensures size { D.size disk.new ≡ D.size disk.old }
-    ensures opening { D.opening disk.new ≡ D.opening disk.old }
+    requires counts { zone.old.calls < 2 ^ 64 - 1 }
+    ensures stays { Stays (D.seen disk.old) (D.seen disk.new) }
     ensures serves { IfOk result (λ posts. (made : Trace) × DeviceServes sizes.now zone.old vio zone.new made posts
-        × HasLogged D.tells (D.log disk.old) (D.log disk.new) made) }
+        × HasCalled D.tells (D.seen disk.old) (D.seen disk.new) made) }
 {
     if zone.stopped {
         let unmade = ended(vio, Phase::Reply, Answer::Stopped);
@@ -173,8 +174,56 @@ fn flush_for<D: Disk>(
     Posts::one(alloc, DESK, Item::Request(vio))
 }
 
-/// What the device's zone does with a request in front of its inbox. Where the device tells, its log then begins with
-/// the call that was made.
+/// The data of a write, which isn't written once the session is stopped.
+fn serve_store<D: Disk>(
+    alloc: Global,
+    sizes: &Sizes,
+    zone: &mut DeviceZone,
+    vio: Vio,
+    disk: &mut D,
+) -> Result<Posts, StepFault>
+    requires phase { vio.phase ≡ phase.Store }
+    requires counts { zone.old.calls < 2 ^ 64 - 1 }
+    requires fits { Fits sizes.now (D.seen disk.old) }
+    ensures stays { Stays (D.seen disk.old) (D.seen disk.new) }
+    ensures serves { IfOk result (λ posts. (made : Trace) × DeviceServes sizes.now zone.old vio zone.new made posts
+        × HasCalled D.tells (D.seen disk.old) (D.seen disk.new) made) }
+    ensures err { IfErr result (MemoryOrStray (NoRule (DeviceServes sizes.now zone.old vio))) }
+{
+    if zone.stopped {
+        let unmade = ended(vio, Phase::AbortClaim, Answer::Stopped);
+        let physical = numbers::physical_zone(sizes);
+        return Ok(Posts::one(alloc, physical, Item::Request(unmade))?);
+    }
+    if !is_inside(sizes, vio.block) {
+        return Err(StepFault::Stray);
+    }
+    Ok(store(alloc, sizes, zone, vio, disk)?)
+}
+
+/// The block of a read.
+fn serve_load<D: Disk>(
+    alloc: Global,
+    sizes: &Sizes,
+    zone: &mut DeviceZone,
+    vio: Vio,
+    disk: &mut D,
+) -> Result<Posts, StepFault>
+    requires phase { vio.phase ≡ phase.Load }
+    requires counts { zone.old.calls < 2 ^ 64 - 1 }
+    requires fits { Fits sizes.now (D.seen disk.old) }
+    ensures stays { Stays (D.seen disk.old) (D.seen disk.new) }
+    ensures serves { IfOk result (λ posts. (made : Trace) × DeviceServes sizes.now zone.old vio zone.new made posts
+        × HasCalled D.tells (D.seen disk.old) (D.seen disk.new) made) }
+    ensures err { IfErr result (MemoryOrStray (NoRule (DeviceServes sizes.now zone.old vio))) }
+{
+    if !is_inside(sizes, vio.block) {
+        return Err(StepFault::Stray);
+    }
+    Ok(load(alloc, sizes, zone, vio, disk)?)
+}
+
+/// What the device's zone does with a request in front of its inbox. It makes one call of the device, or none.
 pub fn call_device<D: Disk>(
     alloc: Global,
     sizes: &Sizes,
@@ -182,16 +231,16 @@ pub fn call_device<D: Disk>(
     vio: Vio,
     disk: &mut D,
 ) -> Result<Posts, StepFault>
-    requires { zone.old.calls < 18446744073709551615 }
-    ensures size { D.size disk.new ≡ D.size disk.old }
-    ensures opening { D.opening disk.new ≡ D.opening disk.old }
+    requires counts { zone.old.calls < 2 ^ 64 - 1 }
+    requires fits { Fits sizes.now (D.seen disk.old) }
+    ensures stays { Stays (D.seen disk.old) (D.seen disk.new) }
     ensures serves { IfOk result (λ posts. (made : Trace) × DeviceServes sizes.now zone.old vio zone.new made posts
-        × HasLogged D.tells (D.log disk.old) (D.log disk.new) made) }
-    ensures err { IfErr result (Strays (NoRule (DeviceServes sizes.now zone.old vio))) }
+        × HasCalled D.tells (D.seen disk.old) (D.seen disk.new) made) }
+    ensures err { IfErr result (MemoryOrStray (NoRule (DeviceServes sizes.now zone.old vio))) }
 {
     match vio.phase {
-        Phase::Store => Ok(store(alloc, sizes, zone, vio, disk)?),
-        Phase::Load => Ok(load(alloc, sizes, zone, vio, disk)?),
+        Phase::Store => serve_store(alloc, sizes, zone, vio, disk),
+        Phase::Load => serve_load(alloc, sizes, zone, vio, disk),
         Phase::Flush => Ok(flush_for(alloc, sizes, zone, vio, disk)?),
         _ => Err(StepFault::Stray),
     }
@@ -218,15 +267,6 @@ fn sealed_bytes(sizes: &Sizes, block: &SealedBlock) -> Block
         &mut bytes,
     );
     bytes
-}
-
-/// The block of the journal where a sealed block stands.
-fn slot_of(sizes: &Sizes, block: &SealedBlock) -> Pbn
-    requires { 0 < sizes.now.geometry.journal }
-    ensures { IsItsSlot sizes.now block.now result }
-{
-    let slot = block.sequence % u64::from(sizes.geometry.journal);
-    Pbn(1 + slot as u32)
 }
 
 /// Whether a sealed block at this stage needs a call of the device.
@@ -268,28 +308,20 @@ fn make_call<D: Disk>(
     slot: Pbn,
     disk: &mut D,
 ) -> Result<(), Failed>
-    requires { log.needs_call block.now.stage ≡ true }
-    ensures size { D.size disk.new ≡ D.size disk.old }
-    ensures opening { D.opening disk.new ≡ D.opening disk.old }
+    requires needed { log.needs_call block.now.stage ≡ true }
+    requires inside { slot.0 < (D.seen disk.old).size }
+    ensures stays { Stays (D.seen disk.old) (D.seen disk.new) }
     ensures ok { OnOk result ((made : Call) × (call_of sizes.now block.now slot true block.now.stage ≡ Some made)
-        × HasLogged D.tells (D.log disk.old) (D.log disk.new) (Calls made ∷ [])) }
-    ensures err { OnErr result ((failed : Call) × (made : Trace) × (call_of sizes.now block.now slot false block.now.stage ≡ Some failed)
-        × Fails failed made × HasLogged D.tells (D.log disk.old) (D.log disk.new) made) }
+        × HasCalled D.tells (D.seen disk.old) (D.seen disk.new) (Calls made ∷ [])) }
+    ensures err { OnErr result ((failed : Call) × (call_of sizes.now block.now slot false block.now.stage ≡ Some failed)
+        × HasFailed D.tells (D.seen disk.old) (D.seen disk.new) failed) }
 {
     match block.stage {
         Stage::Write => {
             let bytes = sealed_bytes(sizes, block);
-            let Ok(()) = write_block(disk, slot, &bytes) else {
-                return Err(Failed);
-            };
-            Ok(())
+            write_block(disk, slot, &bytes)
         }
-        _ => {
-            let Ok(()) = flush(disk) else {
-                return Err(Failed);
-            };
-            Ok(())
-        }
+        _ => flush(disk),
     }
 }
 
@@ -301,8 +333,7 @@ fn staged(mut block: SealedBlock, stage: Stage) -> SealedBlock
     block
 }
 
-/// What the device's zone does with a sealed block in front of its inbox. Where the device tells, its log then begins
-/// with the call that was made.
+/// What the device's zone does with a sealed block in front of its inbox. It makes one call of the device, or none.
 pub fn work_block<D: Disk>(
     alloc: Global,
     sizes: &Sizes,
@@ -310,18 +341,17 @@ pub fn work_block<D: Disk>(
     block: SealedBlock,
     disk: &mut D,
 ) -> Result<Posts, StepFault>
-    requires journal { 0 < sizes.now.geometry.journal }
-    requires counts { zone.old.calls < 18446744073709551615 }
-    ensures size { D.size disk.new ≡ D.size disk.old }
-    ensures opening { D.opening disk.new ≡ D.opening disk.old }
+    requires counts { zone.old.calls < 2 ^ 64 - 1 }
+    requires fits { Fits sizes.now (D.seen disk.old) }
+    ensures stays { Stays (D.seen disk.old) (D.seen disk.new) }
     ensures works { IfOk result (λ posts. (made : Trace) × DeviceWorks sizes.now zone.old block zone.new made posts
-        × HasLogged D.tells (D.log disk.old) (D.log disk.new) made) }
-    ensures err { IfErr result (Strays (NoRule (DeviceWorks sizes.now zone.old block))) }
+        × HasCalled D.tells (D.seen disk.old) (D.seen disk.new) made) }
+    ensures err { IfErr result (MemoryOrStray (NoRule (DeviceWorks sizes.now zone.old block))) }
 {
     if !needs_call(block.stage) {
         return Err(StepFault::Stray);
     }
-    let slot = slot_of(sizes, &block);
+    let slot = Layout::of(&sizes.geometry).journal_slot(block.sequence);
     let journal = numbers::journal_zone(sizes);
     if zone.stopped {
         let unmade = staged(block, Stage::Fail);

@@ -1,8 +1,10 @@
 ghost use Rattle.std.specs.Prelude.{◌≡◌, ◌⊎◌, Some, IfOk, IfErr, OnOk, slice_get};
 ghost use Rattle.std.specs.List.{AllByRecursion};
+ghost use Rattle.disk_model.specs.Seen.{Stays};
 ghost use Rattle.core_laws.specs.declared.zones.Zone.{Zone};
 ghost use Rattle.core_laws.specs.Steps.{IsIdle};
-ghost use Rattle.core_steps.specs.Causes.{FaltersAt, OneFalters, FaltersAfter};
+ghost use Rattle.core_steps.specs.Causes.{MayFaultAt, OneMayFault, MayFaultAfter};
+ghost use Rattle.core_steps.specs.Starts.{Fits};
 ghost use Rattle.core_steps.specs.Plays.{StepsAt, HasNoWork, PlaysOne, Plays, LeadsTo};
 ghost use Rattle.core_steps.specs.declared.fault.Stepped.TheVariants.{Did, Idle};
 
@@ -31,14 +33,14 @@ pub fn step<D: Disk>(
     number: u32,
     disk: &mut D,
 ) -> Result<Stepped, StepFault>
-    ensures size { D.size disk.new ≡ D.size disk.old }
-    ensures opening { D.opening disk.new ≡ D.opening disk.old }
-    ensures did { IfOk result (λ stepped. stepped ≡ Did → StepsAt D.tells sizes.now number zones.old zones.new (D.log disk.old) (D.log disk.new)) }
+    requires { Fits sizes.now (D.seen disk.old) }
+    ensures stays { Stays (D.seen disk.old) (D.seen disk.new) }
+    ensures did { IfOk result (λ stepped. stepped ≡ Did → StepsAt D.tells sizes.now number zones.old zones.new (D.seen disk.old) (D.seen disk.new)) }
     ensures idle { IfOk result (λ stepped. stepped ≡ Idle → (zone : Zone) → slice_get zones.old number ≡ Some zone → IsIdle sizes.now zone) }
     ensures busy { IfOk result (λ stepped. stepped ≡ Did → (zone : Zone) → slice_get zones.old number ≡ Some zone → IsIdle sizes.now zone → ⊥) }
     ensures same { IfOk result (λ stepped. stepped ≡ Idle → zones.new ≡ zones.old) }
-    ensures silent { IfOk result (λ stepped. stepped ≡ Idle → D.log disk.new ≡ D.log disk.old) }
-    ensures err { IfErr result (FaltersAt sizes.now zones.old number) }
+    ensures silent { IfOk result (λ stepped. stepped ≡ Idle → D.seen disk.new ≡ D.seen disk.old) }
+    ensures err { IfErr result (MayFaultAt sizes.now zones.old number) }
 {
     let Some(zone) = zones.zones.get_mut(number as usize) else {
         return Ok(Stepped::Idle);
@@ -54,16 +56,15 @@ fn play_one<D: Disk>(
     event: Event,
     disk: &mut D,
 ) -> Result<Stepped, StepFault>
-    ensures size { D.size disk.new ≡ D.size disk.old }
-    ensures opening { D.opening disk.new ≡ D.opening disk.old }
-    ensures plays { OnOk result (PlaysOne D.tells sizes.now event zones.old zones.new (D.log disk.old) (D.log disk.new)) }
-    ensures leads { OnOk result (LeadsTo D.tells sizes.now zones.old zones.new (D.log disk.old) (D.log disk.new)) }
+    requires { Fits sizes.now (D.seen disk.old) }
+    ensures stays { Stays (D.seen disk.old) (D.seen disk.new) }
+    ensures plays { OnOk result (PlaysOne D.tells sizes.now event zones.old zones.new (D.seen disk.old) (D.seen disk.new)) }
+    ensures leads { OnOk result (LeadsTo D.tells sizes.now zones.old zones.new (D.seen disk.old) (D.seen disk.new)) }
     ensures busy { IfOk result (λ stepped. stepped ≡ Did → HasNoWork sizes.now zones.old event → ⊥) }
     ensures idle { IfOk result (λ stepped. stepped ≡ Idle → HasNoWork sizes.now zones.old event) }
     ensures same { IfOk result (λ stepped. stepped ≡ Idle → zones.new ≡ zones.old) }
-    ensures err { IfErr result (OneFalters sizes.now zones.old) }
+    ensures err { IfErr result (OneMayFault sizes.now zones.old) }
 {
-    let _sizes = sizes;
     match event {
         Event::Step(number) => Ok(step(alloc, sizes, zones, number, disk)?),
         Event::Move(from, to) => Ok(move_items(alloc, zones, from, to)?),
@@ -91,14 +92,14 @@ pub fn play<D: Disk>(
     events: &[Event],
     disk: &mut D,
 ) -> Result<Stepped, StepFault>
-    ensures size { D.size disk.new ≡ D.size disk.old }
-    ensures opening { D.opening disk.new ≡ D.opening disk.old }
-    ensures plays { OnOk result (Plays D.tells sizes.now events.now zones.old zones.new (D.log disk.old) (D.log disk.new)) }
-    ensures leads { OnOk result (LeadsTo D.tells sizes.now zones.old zones.new (D.log disk.old) (D.log disk.new)) }
+    requires { Fits sizes.now (D.seen disk.old) }
+    ensures stays { Stays (D.seen disk.old) (D.seen disk.new) }
+    ensures plays { OnOk result (Plays D.tells sizes.now events.now zones.old zones.new (D.seen disk.old) (D.seen disk.new)) }
+    ensures leads { OnOk result (LeadsTo D.tells sizes.now zones.old zones.new (D.seen disk.old) (D.seen disk.new)) }
     ensures busy { IfOk result (λ stepped. stepped ≡ Did → AllByRecursion (HasNoWork sizes.now zones.old) events.now → ⊥) }
     ensures idle { IfOk result (λ stepped. stepped ≡ Idle → AllByRecursion (HasNoWork sizes.now zones.old) events.now) }
     ensures same { IfOk result (λ stepped. stepped ≡ Idle → zones.new ≡ zones.old) }
-    ensures err { IfErr result (FaltersAfter D.tells sizes.now zones.old (D.log disk.old)) }
+    ensures err { IfErr result (MayFaultAfter D.tells sizes.now zones.old (D.seen disk.old)) }
 {
     let mut any = Stepped::Idle;
     for event in events {

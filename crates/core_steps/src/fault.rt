@@ -8,9 +8,10 @@ use std::alloc::AllocError;
 pub enum StepFault {
     /// No memory was found for the next item of a list.
     Memory,
-    /// What the zone counts is the last number of its type, or the sizes have no logical zone or no block of the journal.
-    Numbers,
-    /// No rule applies to the item in front of the inbox, or what one posts goes to no zone.
+    /// What the zone counts is the last number of its type, or the sizes have no logical zone.
+    Exhausted,
+    /// No rule applies to the item in front of the inbox, or the next request isn't served, or what a rule posts goes to no
+    /// zone. It never comes of a core that is legal.
     Stray,
 }
 

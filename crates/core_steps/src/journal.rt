@@ -4,12 +4,12 @@ ghost use Rattle.core_laws.specs.JournalRows as rows;
 ghost use Rattle.core_laws.specs.JournalRows.{JournalServes, JournalEnds};
 ghost use Rattle.core_laws.specs.Trace.{Trace};
 ghost use Rattle.core_laws.specs.Vios as vios;
-ghost use Rattle.core_laws.specs.declared.items.Item.TheVariants.{Request, Block, Notice};
-ghost use Rattle.core_laws.specs.declared.items.Phase.TheVariants.{Enter, Spend};
+ghost use Rattle.core_laws.specs.declared.items.Item.TheVariants.{Request, Block, StopNotice};
+ghost use Rattle.core_laws.specs.declared.items.Phase.TheVariants.{Enter, AbortEnteredClaim};
 ghost use Rattle.core_laws.specs.declared.items.Stage.TheVariants.{Commit, Fail};
 ghost use Rattle.blk_base.specs.declared.request.Answer.TheVariants.{Stopped};
 ghost use Rattle.core_laws.specs.declared.zones.ZoneData.TheVariants as at;
-ghost use Rattle.core_steps.specs.Causes.{CanCount, NoRule, Strays};
+ghost use Rattle.core_steps.specs.Causes.{CanCount, NoRule, MemoryOrStray};
 ghost use Rattle.core_steps.specs.Refusals.{answer_of};
 ghost use Rattle.core_steps.specs.declared.journal.Refusal.TheVariants as refusal;
 
@@ -37,15 +37,15 @@ fn answered(refusal: Refusal) -> Answer
     }
 }
 
-/// A request ends undone, by way of the physical zone.
+/// A request is aborted, by way of the physical zone.
 fn refuse(sizes: &Sizes, refusal: Refusal, vio: Vio, posts: &mut Posts) -> Result<(), AllocError>
     ensures { OnOk result (posts.new ≡ posts.old ++ rows.refused sizes.now (answer_of refusal) vio ∷ []) }
 {
-    let refused = ended(vio, Phase::Return, answered(refusal));
+    let refused = ended(vio, Phase::AbortClaim, answered(refusal));
     posts.push(numbers::physical_zone(sizes), Item::Request(refused))
 }
 
-/// Those that wait end undone.
+/// Those that wait are aborted.
 fn refuse_all(
     sizes: &Sizes,
     refusal: Refusal,
@@ -119,7 +119,7 @@ fn enter(
     ensures { IfOk result (λ posts. (made : Trace) × JournalServes sizes.now zone.old vio zone.new made posts) }
 {
     let mut posts = Posts::none(alloc);
-    if zone.told || zone.broken {
+    if zone.notified || zone.broken {
         refuse(sizes, Refusal::Stopped, vio, &mut posts)?;
         return Ok(posts);
     }
@@ -144,7 +144,7 @@ pub fn serve_journal(
 ) -> Result<Posts, StepFault>
     requires { CanCount sizes.now (at.Journal zone.old) }
     ensures ok { IfOk result (λ posts. (made : Trace) × JournalServes sizes.now zone.old vio zone.new made posts) }
-    ensures err { IfErr result (Strays (NoRule (JournalServes sizes.now zone.old vio))) }
+    ensures err { IfErr result (MemoryOrStray (NoRule (JournalServes sizes.now zone.old vio))) }
 {
     match vio.phase {
         Phase::Enter => Ok(enter(alloc, sizes, zone, vio)?),
@@ -161,7 +161,7 @@ fn commit(zone: &mut JournalZone, vio: &Vio) -> Result<(), AllocError>
     Ok(())
 }
 
-/// A block is committed, and the next entry is handed in; where there is no block for it, all that wait end undone.
+/// A block is committed, and the next entry is handed in; where there is no block for it, all that wait are aborted.
 fn end_committed(
     alloc: Global,
     sizes: &Sizes,
@@ -201,7 +201,7 @@ fn end_failed(
 {
     zone.busy = false;
     zone.broken = true;
-    let spent = ended(block.vio, Phase::Spend, Answer::Stopped);
+    let spent = ended(block.vio, Phase::AbortEnteredClaim, Answer::Stopped);
     let mut posts = Posts::one(alloc, numbers::physical_zone(sizes), Item::Request(spent))?;
     refuse_all(sizes, Refusal::Stopped, &mut zone.waiting, &mut posts)?;
     Ok(posts)
@@ -216,7 +216,7 @@ pub fn end_block(
 ) -> Result<Posts, StepFault>
     requires { CanCount sizes.now (at.Journal zone.old) }
     ensures ok { IfOk result (λ posts. (made : Trace) × JournalEnds sizes.now zone.old block zone.new made posts) }
-    ensures err { IfErr result (Strays (NoRule (JournalEnds sizes.now zone.old block))) }
+    ensures err { IfErr result (MemoryOrStray (NoRule (JournalEnds sizes.now zone.old block))) }
 {
     match block.stage {
         Stage::Commit => Ok(end_committed(alloc, sizes, zone, block)?),
@@ -225,13 +225,13 @@ pub fn end_block(
     }
 }
 
-/// The journal hears that the session is stopped, and passes it on. Those that wait end undone.
+/// The stop notice comes to the journal, which passes it on. Those that wait are aborted.
 pub fn hear_stop(alloc: Global, sizes: &Sizes, zone: &mut JournalZone) -> Result<Posts, AllocError>
-    ensures zone { OnOk result (zone.new ≡ record zone.old { told = true; waiting = [] }) }
-    ensures posts { IfOk result (λ posts. posts ≡ (desk_zone, Notice) ∷ rows.all_refused sizes.now Stopped zone.old.waiting) }
+    ensures zone { OnOk result (zone.new ≡ record zone.old { notified = true; waiting = [] }) }
+    ensures posts { IfOk result (λ posts. posts ≡ (desk_zone, StopNotice) ∷ rows.all_refused sizes.now Stopped zone.old.waiting) }
 {
-    zone.told = true;
-    let mut posts = Posts::one(alloc, DESK, Item::Notice)?;
+    zone.notified = true;
+    let mut posts = Posts::one(alloc, DESK, Item::StopNotice)?;
     refuse_all(sizes, Refusal::Stopped, &mut zone.waiting, &mut posts)?;
     Ok(posts)
 }

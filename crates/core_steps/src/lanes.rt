@@ -1,7 +1,7 @@
 ghost use Rattle.std.specs.Prelude.{◌≡◌, ◌≤◌, OnOk, IfErr, length};
 ghost use Rattle.std.specs.List.{AllByRecursion};
 ghost use Rattle.core_laws.specs.Steps.{posted, sent, delivered};
-ghost use Rattle.core_steps.specs.Causes.{HasLane, Strays};
+ghost use Rattle.core_steps.specs.Causes.{HasLane, MemoryOrStray};
 
 use crate::StepFault;
 use crate::posts::Posts;
@@ -10,7 +10,7 @@ use core_laws::{Fifo, Item, Zone};
 // An item goes behind those of one outbox.
 fn post(outboxes: &mut Fifo<Fifo<Item>>, to: u32, item: Item) -> Result<(), StepFault>
     ensures ok { OnOk result (outboxes.new ≡ posted to item outboxes.old) }
-    ensures err { IfErr result (Strays (length outboxes.old ≤ to)) }
+    ensures err { IfErr result (MemoryOrStray (length outboxes.old ≤ to)) }
 {
     let to = to as usize;
     if to >= outboxes.items.len() {
@@ -24,7 +24,7 @@ fn post(outboxes: &mut Fifo<Fifo<Item>>, to: u32, item: Item) -> Result<(), Step
 // What a zone posts to itself goes to its own inbox.
 fn send(zone: &mut Zone, to: u32, item: Item) -> Result<(), StepFault>
     ensures ok { OnOk result (zone.new ≡ sent (to, item) zone.old) }
-    ensures err { IfErr result (Strays (HasLane zone.old (to, item) → ⊥)) }
+    ensures err { IfErr result (MemoryOrStray (HasLane zone.old (to, item) → ⊥)) }
 {
     if to == zone.number {
         zone.inbox.push(item)?;
@@ -38,7 +38,7 @@ fn send(zone: &mut Zone, to: u32, item: Item) -> Result<(), StepFault>
 /// The posts go to their lanes, in their order.
 pub(crate) fn deliver(zone: &mut Zone, mut posts: Posts) -> Result<(), StepFault>
     ensures ok { OnOk result (zone.new ≡ delivered posts zone.old) }
-    ensures err { IfErr result (Strays (AllByRecursion (HasLane zone.old) posts → ⊥)) }
+    ensures err { IfErr result (MemoryOrStray (AllByRecursion (HasLane zone.old) posts → ⊥)) }
 {
     while let Some((to, item)) = posts.pop() {
         send(zone, to, item)?;

@@ -1,17 +1,17 @@
 ghost use Rattle.std.specs.Prelude.{◌≡◌, ℕ, Bool, Some, List, slice_get};
-ghost use Rattle.disk_model.specs.declared.call.Call.{Call};
+ghost use Rattle.disk_model.specs.Seen.{Seen};
 ghost use Rattle.core_laws.specs.declared.zones.Zone.{Zone};
 ghost use Rattle.core_laws.specs.Legal.{Legal};
 ghost use Rattle.core_laws.specs.Sessions.{Session, IsSession};
 ghost use Rattle.core_laws.specs.Steps.{Core};
 ghost use Rattle.core_laws.specs.Trace.{Trace};
-ghost use Rattle.core_steps.specs.Causes.{IsStray, FaltersAfter};
+ghost use Rattle.core_steps.specs.Causes.{IsStray, MayFaultAfter};
 ghost use Rattle.core_steps.specs.Plays.{core_of};
 ghost use Rattle.core_steps.specs.declared.fault.StepFault.TheVariants.{Stray};
 
 /// In a legal core no zone's step is stray, and no events from it come to a stray one: so none of them fails with `Stray`.
 pub fn a_legal_core_has_no_strays()
     ensures step { (s : Session) (core : Core) (n : ℕ) (z : Zone) → IsSession s → Legal s core → slice_get core.zones n ≡ Some z → IsStray s.sizes z → ⊥ }
-    ensures plays { (tells : Bool) (s : Session) (zones : List Zone) (t : Trace) (before : List Call) → IsSession s → Legal s (core_of zones t)
-        → FaltersAfter tells s.sizes zones before Stray → ⊥ }
+    ensures plays { (tells : Bool) (s : Session) (zones : List Zone) (t : Trace) (before : Seen) → IsSession s → Legal s (core_of zones t)
+        → MayFaultAfter tells s.sizes zones before Stray → ⊥ }
 {}

@@ -11,10 +11,10 @@ use core_laws::{Fifo, Item, Lock, Logged, Phase, Vio};
 use std::alloc::{AllocError, Global};
 
 /// Whether an address is among these.
-pub(crate) fn is_among(at: Lba, dead: &[Lba]) -> bool
-    ensures { result ≡ rows.is_among at.0 dead.now }
+pub(crate) fn is_among(at: Lba, retired: &[Lba]) -> bool
+    ensures { result ≡ rows.is_among at.0 retired.now }
 {
-    match dead {
+    match retired {
         [] => false,
         [other, others @ ..] => *other == at || is_among(at, others),
     }

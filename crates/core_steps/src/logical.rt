@@ -1,11 +1,12 @@
-ghost use Rattle.std.specs.Prelude.{◌≡◌, ◌<◌, [], ◌∷◌, ◌++◌, IfOk, IfErr, OnOk, true};
+ghost use Rattle.std.specs.Prelude.{◌≡◌, ◌<◌, ◌^◌, ◌-◌, List, [], ◌∷◌, ◌++◌, IfOk, IfErr, OnOk, None, Some, true};
 ghost use Rattle.core_laws.specs.declared.items.Item.TheVariants as item;
 ghost use Rattle.core_laws.specs.declared.items.Phase.TheVariants as phase;
 ghost use Rattle.core_laws.specs.LogicalRows as rows;
 ghost use Rattle.core_laws.specs.Numbers.{desk_zone};
-ghost use Rattle.core_laws.specs.Trace.{Trace, Draws, Gives, Sets};
+ghost use Rattle.core_laws.specs.Trace.{Trace, Aborts, Draws, Gives, Sets};
+ghost use Rattle.core_laws.specs.Vios.{Post};
 ghost use Rattle.core_laws.specs.Vios as vios;
-ghost use Rattle.core_steps.specs.Causes.{NoRule, Strays};
+ghost use Rattle.core_steps.specs.Causes.{NoRule, MemoryOrStray};
 
 use crate::StepFault;
 use crate::lists::{
@@ -22,7 +23,7 @@ use vdo_model::Placed;
 
 // The request with the zone's next place, which is drawn.
 fn draw(zone: &mut LogicalZone, mut vio: Vio) -> Result<Vio, AllocError>
-    requires { zone.old.next < 18446744073709551615 }
+    requires { zone.old.next < 2 ^ 64 - 1 }
     ensures zone { OnOk result (zone.new ≡ rows.drawn_by zone.old vio) }
     ensures vio { IfOk result (λ drawn. drawn ≡ rows.placed zone.old vio) }
 {
@@ -55,8 +56,8 @@ fn read_next(sizes: &Sizes, zone: &LogicalZone, mut vio: Vio, mapping: Mapping) 
     }
 }
 
-// Where a request goes that has the lock of its address. It knows now what is mapped there.
-fn goes_on(sizes: &Sizes, zone: &LogicalZone, mut vio: Vio) -> (u32, Item)
+// Where a request goes that has the lock of its address, and what is mapped there is known to it; a flush takes no lock.
+fn goes_on(sizes: &Sizes, zone: &LogicalZone, mut vio: Vio) -> Option<(u32, Item)>
     ensures { result ≡ rows.goes_on sizes.now zone.now vio }
 {
     vio.latest = latest(zone.slots.as_slice(), vio.at);
@@ -66,11 +67,12 @@ fn goes_on(sizes: &Sizes, zone: &LogicalZone, mut vio: Vio) -> (u32, Item)
     };
     let mapping = vio.old;
     match vio.asks {
-        Asks::Read => read_next(sizes, zone, vio, mapping),
-        Asks::Write | Asks::Flush => {
+        Asks::Read => Some(read_next(sizes, zone, vio, mapping)),
+        Asks::Write => {
             let claims = turned(vio, Phase::Claim);
-            (physical_zone(sizes), Item::Request(claims))
+            Some((physical_zone(sizes), Item::Request(claims)))
         }
+        Asks::Flush => None,
     }
 }
 
@@ -81,9 +83,10 @@ fn release(
     zone: &mut LogicalZone,
     at: Lba,
     posts: &mut Posts,
-) -> Result<(), AllocError>
+) -> Result<(), StepFault>
     ensures zone { OnOk result (zone.new ≡ rows.released at.0 zone.old) }
-    ensures posts { OnOk result (posts.new ≡ posts.old ++ rows.granted sizes.now at.0 zone.old) }
+    ensures posts { OnOk result ((more : List Post) × (rows.granted sizes.now at.0 zone.old ≡ Some more) × (posts.new ≡ posts.old ++ more)) }
+    ensures err { IfErr result (MemoryOrStray (rows.granted sizes.now at.0 zone.old ≡ None)) }
 {
     let waiting = std::mem::replace(&mut zone.waiting, Fifo::new(alloc));
     let FirstOf { first, rest } = take_first(alloc, at, waiting)?;
@@ -95,7 +98,9 @@ fn release(
         Some(vio) => {
             let place = vio.place;
             zone.held.push_front(Lock { at: vio.at, place })?;
-            let (to, item) = goes_on(sizes, zone, vio);
+            let Some((to, item)) = goes_on(sizes, zone, vio) else {
+                return Err(StepFault::Stray);
+            };
             posts.push(to, item)?;
             Ok(())
         }
@@ -103,13 +108,17 @@ fn release(
 }
 
 // A request takes the lock of its address, which nobody holds.
-fn take_lock(sizes: &Sizes, zone: &mut LogicalZone, vio: Vio) -> Result<(u32, Item), AllocError>
+fn take_lock(sizes: &Sizes, zone: &mut LogicalZone, vio: Vio) -> Result<(u32, Item), StepFault>
     ensures zone { OnOk result (zone.new ≡ record zone.old { held = rows.lock_of vio ∷ zone.old.held }) }
-    ensures post { IfOk result (λ post. post ≡ rows.goes_on sizes.now zone.old vio) }
+    ensures post { IfOk result (λ post. rows.goes_on sizes.now zone.old vio ≡ Some post) }
+    ensures err { IfErr result (MemoryOrStray (rows.goes_on sizes.now zone.old vio ≡ None)) }
 {
     let place = vio.place;
     zone.held.push_front(Lock { at: vio.at, place })?;
-    Ok(goes_on(sizes, zone, vio))
+    match goes_on(sizes, zone, vio) {
+        Some(post) => Ok(post),
+        None => Err(StepFault::Stray),
+    }
 }
 
 // A request draws its place, and takes the lock of its address or waits for it.
@@ -118,23 +127,24 @@ fn arrive(
     sizes: &Sizes,
     zone: &mut LogicalZone,
     vio: Vio,
-) -> Result<Posts, AllocError>
+) -> Result<Posts, StepFault>
     requires phase { vio.phase ≡ phase.Arrive }
-    requires counts { zone.old.next < 18446744073709551615 }
-    ensures { IfOk result (λ posts. rows.LogicalServes sizes.now zone.old vio zone.new (Draws (rows.place_of_vio zone.old vio) ∷ []) posts) }
+    requires counts { zone.old.next < 2 ^ 64 - 1 }
+    ensures ok { IfOk result (λ posts. rows.LogicalServes sizes.now zone.old vio zone.new (Draws (rows.place_of_vio zone.old vio) ∷ []) posts) }
+    ensures err { IfErr result (MemoryOrStray (NoRule (rows.LogicalServes sizes.now zone.old vio))) }
 {
     let at = vio.at;
     let drawn = draw(zone, vio)?;
-    if is_among(at, zone.dead.as_slice()) {
+    if is_among(at, zone.retired.as_slice()) {
         let stopped = ended(drawn, Phase::Reply, Answer::Stopped);
-        return Posts::one(alloc, DESK, Item::Request(stopped));
+        return Ok(Posts::one(alloc, DESK, Item::Request(stopped))?);
     }
     if is_held(at, zone.held.as_slice()) {
         zone.waiting.push(turned(drawn, Phase::Wait))?;
         return Ok(Posts::none(alloc));
     }
     let (to, item) = take_lock(sizes, zone, drawn)?;
-    Posts::one(alloc, to, item)
+    Ok(Posts::one(alloc, to, item)?)
 }
 
 // The entry of a write is committed: its slot is set, and the lock released.
@@ -143,9 +153,10 @@ fn settle(
     sizes: &Sizes,
     zone: &mut LogicalZone,
     vio: Vio,
-) -> Result<Posts, AllocError>
+) -> Result<Posts, StepFault>
     requires { vio.phase ≡ phase.Settle }
-    ensures { IfOk result (λ posts. rows.LogicalServes sizes.now zone.old vio zone.new (Sets (vios.logged vio) ∷ []) posts) }
+    ensures ok { IfOk result (λ posts. rows.LogicalServes sizes.now zone.old vio zone.new (Sets (vios.logged vio) ∷ []) posts) }
+    ensures err { IfErr result (MemoryOrStray (NoRule (rows.LogicalServes sizes.now zone.old vio))) }
 {
     let at = vio.at;
     zone.slots.push(logged(&vio))?;
@@ -156,9 +167,10 @@ fn settle(
 }
 
 // A read is given its bytes, and the lock is released.
-fn give(alloc: Global, sizes: &Sizes, zone: &mut LogicalZone, vio: Vio) -> Result<Posts, AllocError>
+fn give(alloc: Global, sizes: &Sizes, zone: &mut LogicalZone, vio: Vio) -> Result<Posts, StepFault>
     requires { vio.phase ≡ phase.Loaded }
-    ensures { IfOk result (λ posts. rows.LogicalServes sizes.now zone.old vio zone.new (Gives (vios.gift vio) ∷ []) posts) }
+    ensures ok { IfOk result (λ posts. rows.LogicalServes sizes.now zone.old vio zone.new (Gives (vios.gift vio) ∷ []) posts) }
+    ensures err { IfErr result (MemoryOrStray (NoRule (rows.LogicalServes sizes.now zone.old vio))) }
 {
     let at = vio.at;
     let mut bytes = Block::zero();
@@ -169,15 +181,11 @@ fn give(alloc: Global, sizes: &Sizes, zone: &mut LogicalZone, vio: Vio) -> Resul
     Ok(posts)
 }
 
-// A request ends undone, and the lock is released.
-fn leave(
-    alloc: Global,
-    sizes: &Sizes,
-    zone: &mut LogicalZone,
-    vio: Vio,
-) -> Result<Posts, AllocError>
-    requires { vio.phase ≡ phase.Leave }
-    ensures { IfOk result (λ posts. rows.LogicalServes sizes.now zone.old vio zone.new [] posts) }
+// A request is aborted, and the lock is released.
+fn abort(alloc: Global, sizes: &Sizes, zone: &mut LogicalZone, vio: Vio) -> Result<Posts, StepFault>
+    requires { vio.phase ≡ phase.Abort }
+    ensures ok { IfOk result (λ posts. rows.LogicalServes sizes.now zone.old vio zone.new [] posts) }
+    ensures err { IfErr result (MemoryOrStray (NoRule (rows.LogicalServes sizes.now zone.old vio))) }
 {
     let at = vio.at;
     let done = turned(vio, Phase::Reply);
@@ -186,19 +194,23 @@ fn leave(
     Ok(posts)
 }
 
-// A write whose entry was handed in ends: the lock of its address is never released.
-fn die(alloc: Global, sizes: &Sizes, zone: &mut LogicalZone, vio: Vio) -> Result<Posts, AllocError>
-    requires { vio.phase ≡ phase.Die }
-    ensures { IfOk result (λ posts. rows.LogicalServes sizes.now zone.old vio zone.new [] posts) }
+// A write whose entry was handed in is aborted: the lock of its address is never released.
+fn abort_entered(
+    alloc: Global,
+    sizes: &Sizes,
+    zone: &mut LogicalZone,
+    vio: Vio,
+) -> Result<Posts, AllocError>
+    requires { vio.phase ≡ phase.AbortEntered }
+    ensures { IfOk result (λ posts. rows.LogicalServes sizes.now zone.old vio zone.new (Aborts (vios.logged vio) ∷ []) posts) }
 {
-    let _sizes = sizes;
     let at = vio.at;
     let waiting = std::mem::replace(&mut zone.waiting, Fifo::new(alloc));
     let Parted { wanted, rest } = part(alloc, at, waiting)?;
     zone.waiting = rest;
     let held = std::mem::replace(&mut zone.held, Fifo::new(alloc));
     zone.held = without(alloc, at, held)?;
-    zone.dead.push_front(at)?;
+    zone.retired.push_front(at)?;
     let done = turned(vio, Phase::Reply);
     let mut posts = Posts::one(alloc, DESK, Item::Request(done))?;
     stop_all(wanted, &mut posts)?;
@@ -212,25 +224,25 @@ pub(crate) fn serve_logical(
     zone: &mut LogicalZone,
     vio: Vio,
 ) -> Result<Posts, StepFault>
-    requires { zone.old.next < 18446744073709551615 }
+    requires { zone.old.next < 2 ^ 64 - 1 }
     ensures ok { IfOk result (λ posts. (made : Trace) × rows.LogicalServes sizes.now zone.old vio zone.new made posts) }
-    ensures err { IfErr result (Strays (NoRule (rows.LogicalServes sizes.now zone.old vio))) }
+    ensures err { IfErr result (MemoryOrStray (NoRule (rows.LogicalServes sizes.now zone.old vio))) }
 {
     match vio.phase {
         Phase::Arrive => Ok(arrive(alloc, sizes, zone, vio)?),
         Phase::Settle => Ok(settle(alloc, sizes, zone, vio)?),
         Phase::Loaded => Ok(give(alloc, sizes, zone, vio)?),
-        Phase::Leave => Ok(leave(alloc, sizes, zone, vio)?),
-        Phase::Die => Ok(die(alloc, sizes, zone, vio)?),
+        Phase::Abort => Ok(abort(alloc, sizes, zone, vio)?),
+        Phase::AbortEntered => Ok(abort_entered(alloc, sizes, zone, vio)?),
         _ => Err(StepFault::Stray),
     }
 }
 
-/// The session is stopped: a logical zone passes the word on.
+/// The session is stopped: a logical zone passes the notice on.
 pub(crate) fn hear_logical(alloc: Global, zone: &mut LogicalZone) -> Result<Posts, AllocError>
-    ensures zone { zone.new ≡ record zone.old { told = true } }
-    ensures posts { IfOk result (λ posts. posts ≡ (desk_zone, item.Notice) ∷ []) }
+    ensures zone { zone.new ≡ record zone.old { notified = true } }
+    ensures posts { IfOk result (λ posts. posts ≡ (desk_zone, item.StopNotice) ∷ []) }
 {
-    zone.told = true;
-    Posts::one(alloc, DESK, Item::Notice)
+    zone.notified = true;
+    Posts::one(alloc, DESK, Item::StopNotice)
 }

@@ -41,9 +41,9 @@ pub(crate) fn zone_count(sizes: &Sizes) -> u32
     4 + u32::from(sizes.zones)
 }
 
-/// How many zones pass the word on that the session is stopped.
-pub(crate) fn tellers(sizes: &Sizes) -> u32
-    ensures { result ≡ numbers.tellers sizes.now }
+/// How many zones the device notifies of a stop.
+pub(crate) fn notified_zones(sizes: &Sizes) -> u32
+    ensures { result ≡ numbers.notified_zones sizes.now }
 {
     2 + u32::from(sizes.zones)
 }

@@ -1,10 +1,11 @@
 ghost use Rattle.std.specs.Prelude.{◌≡◌, [], ◌∷◌, true, IfOk, IfErr};
 ghost use Rattle.core_laws.specs.Numbers.{desk_zone};
 ghost use Rattle.core_laws.specs.JournalRows.{PhysicalServes};
+ghost use Rattle.core_laws.specs.Trace.{Trace};
 ghost use Rattle.core_laws.specs.Vios as vios;
-ghost use Rattle.core_laws.specs.declared.items.Item.TheVariants.{Request, Notice};
+ghost use Rattle.core_laws.specs.declared.items.Item.TheVariants.{Request, StopNotice};
 ghost use Rattle.core_laws.specs.declared.items.Phase.TheVariants.{Claim};
-ghost use Rattle.core_steps.specs.Causes.{NoRule, Strays};
+ghost use Rattle.core_steps.specs.Causes.{NoRule, MemoryOrStray};
 
 use crate::numbers::{DESK, device_zone};
 use crate::vios::{ended, turned};
@@ -21,7 +22,7 @@ fn claim(
     mut vio: Vio,
 ) -> Result<Posts, AllocError>
     requires { vio.phase ≡ Claim }
-    ensures { IfOk result (λ posts. PhysicalServes sizes.now zone.old vio zone.new [] posts) }
+    ensures { IfOk result (λ posts. (made : Trace) × PhysicalServes sizes.now zone.old vio zone.new made posts) }
 {
     let home = vio.home;
     match zone.free.pop() {
@@ -31,7 +32,7 @@ fn claim(
             Posts::one(alloc, device_zone(sizes), Item::Request(vio))
         }
         None => {
-            let full = ended(vio, Phase::Leave, Answer::Full);
+            let full = ended(vio, Phase::Abort, Answer::Full);
             Posts::one(alloc, home, Item::Request(full))
         }
     }
@@ -52,22 +53,22 @@ pub fn serve_physical(
     zone: &mut PhysicalZone,
     vio: Vio,
 ) -> Result<Posts, StepFault>
-    ensures ok { IfOk result (λ posts. PhysicalServes sizes.now zone.old vio zone.new [] posts) }
-    ensures err { IfErr result (Strays (NoRule (PhysicalServes sizes.now zone.old vio))) }
+    ensures ok { IfOk result (λ posts. (made : Trace) × PhysicalServes sizes.now zone.old vio zone.new made posts) }
+    ensures err { IfErr result (MemoryOrStray (NoRule (PhysicalServes sizes.now zone.old vio))) }
 {
     match vio.phase {
         Phase::Claim => Ok(claim(alloc, sizes, zone, vio)?),
-        Phase::Return => Ok(go_home(alloc, vio, Phase::Leave)?),
-        Phase::Spend => Ok(go_home(alloc, vio, Phase::Die)?),
+        Phase::AbortClaim => Ok(go_home(alloc, vio, Phase::Abort)?),
+        Phase::AbortEnteredClaim => Ok(go_home(alloc, vio, Phase::AbortEntered)?),
         _ => Err(StepFault::Stray),
     }
 }
 
 /// The physical zone hears that the session is stopped, and passes it on.
 pub fn hear_stop(alloc: Global, zone: &mut PhysicalZone) -> Result<Posts, AllocError>
-    ensures zone { zone.new ≡ record zone.old { told = true } }
-    ensures posts { IfOk result (λ posts. posts ≡ (desk_zone, Notice) ∷ []) }
+    ensures zone { zone.new ≡ record zone.old { notified = true } }
+    ensures posts { IfOk result (λ posts. posts ≡ (desk_zone, StopNotice) ∷ []) }
 {
-    zone.told = true;
-    Posts::one(alloc, DESK, Item::Notice)
+    zone.notified = true;
+    Posts::one(alloc, DESK, Item::StopNotice)
 }

@@ -2,9 +2,9 @@ ghost use Rattle.std.specs.Prelude.{◌≡◌, ◌+◌, ◌<◌, [], ◌∷◌, 
 ghost use Rattle.std.specs.List.{AllByRecursion};
 ghost use Rattle.core_laws.specs.declared.zones.ZoneData.TheVariants as at;
 ghost use Rattle.core_laws.specs.Numbers as numbers;
-ghost use Rattle.core_laws.specs.Sessions.{Session, IsFresh};
-ghost use Rattle.core_laws.specs.Start.{IsFirst, IsFirstZone, IsFirstData, AreDistinct};
-ghost use Rattle.core_laws.specs.Sums.{Each};
+ghost use Rattle.core_laws.specs.Sessions.{Session, IsServed};
+ghost use Rattle.core_laws.specs.Start.{IsFirst, IsFirstZone, IsFirstData};
+ghost use Rattle.plain_laws.specs.Sums.{Each};
 ghost use Rattle.core_steps.specs.Plays.{core_of};
 ghost use Rattle.core_steps.specs.Starts.{IsOf, AreEmptyLanes};
 
@@ -45,12 +45,12 @@ fn first_logical(alloc: Global, zone: u8, window: Rows<Entry>) -> LogicalZone
 {
     LogicalZone {
         zone,
-        told: false,
+        notified: false,
         next: 0,
         places: Rows::new(alloc),
         held: Fifo::new(alloc),
         waiting: Fifo::new(alloc),
-        dead: Fifo::new(alloc),
+        retired: Fifo::new(alloc),
         window,
         slots: Rows::new(alloc),
     }
@@ -64,17 +64,17 @@ fn first_desk(alloc: Global, requests: Requests) -> Desk
         requests,
         log: Rows::new(alloc),
         marks: Rows::new(alloc),
-        told: 0,
+        notices: 0,
         parked: Fifo::new(alloc),
     }
 }
 
 // The physical zone with these free blocks.
 fn first_physical(free: Vec<Pbn>) -> PhysicalZone
-    ensures { (s : Session) → AllByRecursion (IsFresh s) free.items → AreDistinct free.items → IsFirstData s (numbers.physical_zone s.sizes) (at.Physical result) }
+    ensures { (s : Session) → s.free ≡ free.items → IsFirstData s (numbers.physical_zone s.sizes) (at.Physical result) }
 {
     PhysicalZone {
-        told: false,
+        notified: false,
         free: Fifo::from_vec(free),
     }
 }
@@ -84,7 +84,7 @@ fn first_journal(alloc: Global) -> JournalZone
     ensures { (s : Session) → IsFirstData s (numbers.journal_zone s.sizes) (at.Journal result) }
 {
     JournalZone {
-        told: false,
+        notified: false,
         busy: false,
         broken: false,
         waiting: Fifo::new(alloc),
@@ -163,7 +163,7 @@ fn add_others(
 ) -> Result<(), AllocError>
     requires { length zones.old.items ≡ numbers.physical_zone sizes.now }
     ensures count { OnOk result (length zones.new.items ≡ numbers.zone_count sizes.now) }
-    ensures first { OnOk result ((s : Session) → s.sizes ≡ sizes.now → AllByRecursion (IsFresh s) free.items → AreDistinct free.items → Each (IsFirstZone s) zones.old.items → Each (IsFirstZone s) zones.new.items) }
+    ensures first { OnOk result ((s : Session) → s.sizes ≡ sizes.now → s.free ≡ free.items → Each (IsFirstZone s) zones.old.items → Each (IsFirstZone s) zones.new.items) }
 {
     let lanes = empty_lanes(alloc, sizes)?;
     let physical = ZoneData::Physical(first_physical(free));
@@ -178,7 +178,7 @@ fn add_others(
 }
 
 /// The core at the start of a session: it has the requests, no one of which is begun, the entries of the window, the
-/// oldest first, and the free data blocks. It fails where no memory is found for them.
+/// oldest first, and the free data blocks. Each request must be one that is served. It fails where no memory is found.
 pub fn begin(
     alloc: Global,
     sizes: &Sizes,
@@ -186,6 +186,7 @@ pub fn begin(
     window: &[Entry],
     free: Vec<Pbn>,
 ) -> Result<Zones, AllocError>
+    requires { AllByRecursion (AllByRecursion IsServed) requests }
     ensures { IfOk result (λ zones. (s : Session) → IsOf s sizes.now requests (reverse window.now) free.items → IsFirst s (core_of zones [])) }
 {
     let lanes = empty_lanes(alloc, sizes)?;

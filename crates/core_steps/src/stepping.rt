@@ -1,7 +1,9 @@
 ghost use Rattle.std.specs.Prelude.{◌≡◌, [], IfOk, IfErr, IfSome, IfNone};
+ghost use Rattle.disk_model.specs.Seen.{Stays};
 ghost use Rattle.core_laws.specs.Steps.{IsIdle, MayBegin};
 ghost use Rattle.core_steps.specs.Acts.{ActsAlone};
-ghost use Rattle.core_steps.specs.Causes.{CanCount, Falters};
+ghost use Rattle.core_steps.specs.Causes.{BeginsUnserved, CanCount, MayFault, MemoryOrStray};
+ghost use Rattle.core_steps.specs.Starts.{Fits};
 ghost use Rattle.core_steps.specs.Plays.{ZoneSteps};
 ghost use Rattle.core_steps.specs.declared.fault.Stepped.TheVariants.{Did, Idle};
 
@@ -13,15 +15,16 @@ use crate::posts::Posts;
 use crate::{StepFault, Stepped};
 use core_laws::{Sizes, Zone, ZoneData};
 use disk_model::Disk;
-use std::alloc::{AllocError, Global};
+use std::alloc::Global;
 
 // With no item the desk begins a request, where one may begin.
-fn begin(alloc: Global, sizes: &Sizes, keeps: &mut ZoneData) -> Result<Option<Posts>, AllocError>
+fn begin(alloc: Global, sizes: &Sizes, keeps: &mut ZoneData) -> Result<Option<Posts>, StepFault>
     requires { CanCount sizes.now keeps.old }
     ensures begun { IfOk result (λ begun. IfSome begun (ActsAlone sizes.now keeps.old [] keeps.new)) }
     ensures might { IfOk result (λ begun. IfSome begun (λ posts. MayBegin sizes.now keeps.old)) }
     ensures same { IfOk result (λ begun. IfNone begun (keeps.new ≡ keeps.old)) }
     ensures none { IfOk result (λ begun. IfNone begun (MayBegin sizes.now keeps.old → ⊥)) }
+    ensures err { IfErr result (MemoryOrStray (BeginsUnserved sizes.now keeps.old)) }
 {
     match keeps {
         ZoneData::Desk(desk) => begin_next(alloc, sizes, desk),
@@ -32,27 +35,27 @@ fn begin(alloc: Global, sizes: &Sizes, keeps: &mut ZoneData) -> Result<Option<Po
 
 /// One step of a zone: it takes the item in front of its inbox, or, where it is the desk and has none, begins the next
 /// request of the lowest stream that may begin one. It is idle exactly where there is neither. Where the device tells,
-/// the calls that it made stand in its log.
+/// the calls that it made stand in its log; and its count of faults rose with each call that failed.
 ///
-/// It fails with `Memory` where no memory is found for the next item of a list, with `Numbers` where the zone can't count
-/// on, and with `Stray` where no rule applies to the item or what one posts goes to no zone.
+/// It fails with `Memory` where no memory is found for the next item of a list, with `Exhausted` where the zone can't count
+/// on, and with `Stray` where no rule applies to the item, a request isn't served, or what a rule posts goes to no zone.
 pub fn step_zone<D: Disk>(
     alloc: Global,
     sizes: &Sizes,
     zone: &mut Zone,
     disk: &mut D,
 ) -> Result<Stepped, StepFault>
-    ensures size { D.size disk.new ≡ D.size disk.old }
-    ensures opening { D.opening disk.new ≡ D.opening disk.old }
-    ensures did { IfOk result (λ stepped. stepped ≡ Did → ZoneSteps D.tells sizes.now zone.old zone.new (D.log disk.old) (D.log disk.new)) }
+    requires { Fits sizes.now (D.seen disk.old) }
+    ensures stays { Stays (D.seen disk.old) (D.seen disk.new) }
+    ensures did { IfOk result (λ stepped. stepped ≡ Did → ZoneSteps D.tells sizes.now zone.old zone.new (D.seen disk.old) (D.seen disk.new)) }
     ensures busy { IfOk result (λ stepped. stepped ≡ Did → IsIdle sizes.now zone.old → ⊥) }
     ensures idle { IfOk result (λ stepped. stepped ≡ Idle → IsIdle sizes.now zone.old) }
     ensures same { IfOk result (λ stepped. stepped ≡ Idle → zone.new ≡ zone.old) }
-    ensures silent { IfOk result (λ stepped. stepped ≡ Idle → D.log disk.new ≡ D.log disk.old) }
-    ensures err { IfErr result (Falters sizes.now zone.old) }
+    ensures silent { IfOk result (λ stepped. stepped ≡ Idle → D.seen disk.new ≡ D.seen disk.old) }
+    ensures err { IfErr result (MayFault sizes.now zone.old) }
 {
     if !can_count(sizes, &zone.keeps) {
-        return Err(StepFault::Numbers);
+        return Err(StepFault::Exhausted);
     }
     match zone.inbox.pop() {
         Some(item) => {

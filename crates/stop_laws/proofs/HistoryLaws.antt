@@ -47,7 +47,7 @@ left_true : (p q : Bool) → (p && q) ≡ true → p ≡ true
 left_true true q is = refl
 left_true false q is = is
 
-covered_within : (desk : List DeskLine) (mark : FlushMark) (history : List HistoryEntry) → length (covered desk mark history) ≤ length history
+pub covered_within : (desk : List DeskLine) (mark : FlushMark) (history : List HistoryEntry) → length (covered desk mark history) ≤ length history
 covered_within desk mark [] = omega arith
 covered_within desk mark (entry ∷ older) = elim (cases_Bool (is_covered desk mark entry)) [
   | inl taken ↦ rw taken (omega arith)

@@ -5,6 +5,7 @@ use Rattle.std.proofs.lemmas.Bool.{cases_lt}
 use Rattle.std.proofs.lemmas.Bool.Decides.{eqb_tells}
 use Rattle.std.proofs.lemmas.List.{get_or-take}
 use Rattle.std.proofs.lemmas.Grind.{get_or_after_one}
+use Rattle.blk_base.specs.Regions.{journal_slot_of}
 use Rattle.blk_base.specs.Sectors.{sector, zero_block}
 use Rattle.blk_base.specs.declared.geometry.Geometry.{Geometry}
 use Rattle.blk_base.specs.declared.journal_entry.Entry.{Entry}
@@ -18,7 +19,7 @@ use Rattle.image_layout.specs.Window.{HasBlock, IsMapped, IsWindow, AreWritten, 
 use Rattle.image_layout.proofs.WindowLaws.{written_few}
 use Rattle.journal_codec.specs.Grammar.{IsSector}
 use Rattle.journal_codec.proofs.ReadLaws.{one_reading}
-use Rattle.stop_laws.specs.Journals.{Surely, slot_of, block_of_slot, HasEntry, HasNone, AreCommitted, IsAtRest, IsUnderWay, MissesJournal}
+use Rattle.stop_laws.specs.Journals.{Surely, block_of_slot, HasEntry, HasNone, AreCommitted, IsAtRest, IsUnderWay, MissesJournal}
 
 -- Sequences that are less than a journal's length apart have slots of their own.
 
@@ -39,20 +40,20 @@ slots_apart journal m n before near same =
 -- What is kept.
 
 committed_kept : (opening : Blocks) (log : List Call) (g : Geometry) (start : ℕ) (call : Call) (entries : List Entry)
-    → ((k : ℕ) → k < length entries → Misses call (block_of_slot (slot_of g (start + k))))
+    → ((k : ℕ) → k < length entries → Misses call (block_of_slot (journal_slot_of g (start + k))))
     → AreCommitted opening log g start entries → AreCommitted opening (call ∷ log) g start entries
 committed_kept opening log g start call [] misses are = tt
 committed_kept opening log g start call (entry ∷ older) misses are =
     (are.0, kept _ opening log call _ (misses (length older) (omega arith)) are.1, committed_kept opening log g start call older (λ k below. misses k (omega arith)) are.2)
 
-slot_below : (g : Geometry) (n count : ℕ) → count < g.journal → slot_of g n < g.journal
+slot_below : (g : Geometry) (n count : ℕ) → count < g.journal → journal_slot_of g n < g.journal
 slot_below g n count few = mod-lt n (omega arith)
 
 pub rest_kept : (opening : Blocks) (log : List Call) (g : Geometry) (start : ℕ) (entries : List Entry) (call : Call) → MissesJournal g call
     → IsAtRest opening log g start entries → IsAtRest opening (call ∷ log) g start entries
 rest_kept opening log g start entries call misses rest = record {
   few = rest.few;
-  committed = committed_kept opening log g start call entries (λ k below. misses (slot_of g (start + k)) (mod-lt (start + k) (omega (arith, rest.few)))) rest.committed;
+  committed = committed_kept opening log g start call entries (λ k below. misses (journal_slot_of g (start + k)) (mod-lt (start + k) (omega (arith, rest.few)))) rest.committed;
   none = λ slot below. kept _ opening log call (block_of_slot slot) (misses slot below) (rest.none slot below);
 }
 
@@ -61,8 +62,8 @@ pub under_way_kept : (opening : Blocks) (log : List Call) (g : Geometry) (start 
 under_way_kept opening log g start entries entry call misses way = record {
   few = way.few;
   mapped = way.mapped;
-  committed = committed_kept opening log g start call entries (λ k below. misses (slot_of g (start + k)) (mod-lt (start + k) (omega (arith, way.few)))) way.committed;
-  here = kept _ opening log call _ (misses (slot_of g (start + length entries)) (mod-lt (start + length entries) (omega (arith, way.few)))) way.here;
+  committed = committed_kept opening log g start call entries (λ k below. misses (journal_slot_of g (start + k)) (mod-lt (start + k) (omega (arith, way.few)))) way.committed;
+  here = kept _ opening log call _ (misses (journal_slot_of g (start + length entries)) (mod-lt (start + length entries) (omega (arith, way.few)))) way.here;
   none = λ slot below other. kept _ opening log call (block_of_slot slot) (misses slot below) (way.none slot below other);
 }
 
@@ -71,18 +72,18 @@ under_way_kept opening log g start entries entry call misses way = record {
 misses_others : (at : Pbn) (bytes : List ℕ) (ok : Bool) (slot other : ℕ) → at.0 ≡ block_of_slot slot → other ≢ slot → Misses (Write at bytes ok) (block_of_slot other)
 misses_others at bytes ok slot other is apart same = apart (omega (arith, is, same))
 
-misses_committed : (g : Geometry) (start n : ℕ) (at : Pbn) (bytes : List ℕ) (ok : Bool) → n < g.journal → at.0 ≡ block_of_slot (slot_of g (start + n))
-    → (k : ℕ) → k < n → Misses (Write at bytes ok) (block_of_slot (slot_of g (start + k)))
+misses_committed : (g : Geometry) (start n : ℕ) (at : Pbn) (bytes : List ℕ) (ok : Bool) → n < g.journal → at.0 ≡ block_of_slot (journal_slot_of g (start + n))
+    → (k : ℕ) → k < n → Misses (Write at bytes ok) (block_of_slot (journal_slot_of g (start + k)))
 misses_committed g start n at bytes ok few is k below =
-    misses_others at bytes ok (slot_of g (start + n)) (slot_of g (start + k)) is (slots_apart g.journal (start + k) (start + n) (omega arith) (omega arith))
+    misses_others at bytes ok (journal_slot_of g (start + n)) (journal_slot_of g (start + k)) is (slots_apart g.journal (start + k) (start + n) (omega arith) (omega arith))
 
 module _ (opening : Blocks) (log : List Call) (g : Geometry) (start : ℕ) (entries : List Entry) (entry : Entry) (at : Pbn) (bytes : List ℕ)
-    (place : at.0 ≡ block_of_slot (slot_of g (start + length entries)))
+    (place : at.0 ≡ block_of_slot (journal_slot_of g (start + length entries)))
     (says : HasEntry g start (start + length entries) entry bytes) (mapped : IsMapped g entry) (few : length entries < g.journal)
     (rest : IsAtRest opening log g start entries) where
   pub begins : (ok : Bool) → IsUnderWay opening (Write at bytes ok ∷ log) g start entries entry
   begins ok =
-      let slot = slot_of g (start + length entries) in
+      let slot = journal_slot_of g (start + length entries) in
       let before = all_weaker _ (λ content. HasEntry g start (start + length entries) entry content ⊎ HasNone g start (start + length entries) slot content) (contents opening log (block_of_slot slot)) (λ content none. inr none)
       (rest.none slot (mod-lt (start + length entries) (omega (arith, few)))) in
       record {
@@ -97,7 +98,7 @@ module _ (opening : Blocks) (log : List Call) (g : Geometry) (start : ℕ) (entr
   -- .. and once it is flushed, the entry is committed.
   pub ends : IsAtRest opening (Flush true ∷ Write at bytes true ∷ log) g start (entry ∷ entries)
   ends =
-      let slot = slot_of g (start + length entries) in
+      let slot = journal_slot_of g (start + length entries) in
       let way = begins true in
       let only : (P : List ℕ → Type 0) → P bytes → Surely opening (Flush true ∷ Write at bytes true ∷ log) (block_of_slot slot) P =
       λ P holds. subst (λ (b : ℕ). Surely opening (Flush true ∷ Write at bytes true ∷ log) b P) place (rw (settled-write opening log at bytes) (holds, tt)) in
@@ -137,14 +138,14 @@ module _ (opening : Blocks) (log : List Call) (g : Geometry) (start : ℕ) (imag
   written_shown : (entries : List Entry) → length entries ≤ g.journal → AreCommitted opening log g start entries → AreWritten g start (journal_of g image) entries
   written_shown [] few are = tt
   written_shown (entry ∷ older) few are = (
-    (shown (λ bytes. IsSector g.nonce 0 bytes (start + length older) start (entry ∷ [])) (slot_of g (start + length older)) (slot_below g (start + length older) (length older) (omega arith)) are.1, are.0),
+    (shown (λ bytes. IsSector g.nonce 0 bytes (start + length older) start (entry ∷ [])) (journal_slot_of g (start + length older)) (slot_below g (start + length older) (length older) (omega arith)) are.1, are.0),
     written_shown older (omega arith) are.2,
   )
 
   none_shown : (from slot : ℕ) → slot < g.journal → Surely opening log (block_of_slot slot) (HasNone g start from slot)
-      → (sequence head : ℕ) (others : List Entry) → slot_of g sequence ≡ slot → from ≤ sequence → sequence < start + 2 ^ 32 → HasBlock g (journal_of g image) sequence head others → ⊥
+      → (sequence head : ℕ) (others : List Entry) → journal_slot_of g sequence ≡ slot → from ≤ sequence → sequence < start + 2 ^ 32 → HasBlock g (journal_of g image) sequence head others → ⊥
   none_shown from slot below none sequence head others here after reach has =
-      shown (λ bytes. (sequence head : ℕ) (others : List Entry) → slot_of g sequence ≡ slot → from ≤ sequence → sequence < start + 2 ^ 32 → IsSector g.nonce 0 bytes sequence head others → ⊥)
+      shown (λ bytes. (sequence head : ℕ) (others : List Entry) → journal_slot_of g sequence ≡ slot → from ≤ sequence → sequence < start + 2 ^ 32 → IsSector g.nonce 0 bytes sequence head others → ⊥)
       slot below none sequence head others here after reach
       (subst (λ (s : ℕ). IsSector g.nonce 0 (sector 0 (get_or (journal_of g image) s zero_block)) sequence head others) here has)
 
@@ -166,7 +167,7 @@ pub window_at_rest : (opening : Blocks) (log : List Call) (g : Geometry) (start 
     → IsAtRest opening log g start entries → IsImage opening log image → IsWindow g start (journal_of g image) entries
 window_at_rest opening log g start entries image some most inside rest is =
     counted g start (journal_of g image) entries (omega (arith, rest.few, most)) (written_shown opening log g start image inside is entries rest.few rest.committed)
-    (λ sequence head others from reach has. let slot = slot_of g sequence in let below : slot < g.journal = mod-lt sequence some in
+    (λ sequence head others from reach has. let slot = journal_slot_of g sequence in let below : slot < g.journal = mod-lt sequence some in
     none_shown opening log g start image inside is (start + length entries) slot below (rest.none slot below) sequence head others refl from reach has)
 
 -- While the next entry is under way, the window has it too, or not.
@@ -174,18 +175,18 @@ pub window_under_way : (opening : Blocks) (log : List Call) (g : Geometry) (star
     → IsUnderWay opening log g start entries entry → IsImage opening log image
     → IsWindow g start (journal_of g image) (entry ∷ entries) ⊎ IsWindow g start (journal_of g image) entries
 window_under_way opening log g start entries entry image most inside way is =
-    let slot = slot_of g (start + length entries) in
+    let slot = journal_slot_of g (start + length entries) in
     let some : 0 < g.journal = omega (arith, way.few) in
     let below : slot < g.journal = mod-lt (start + length entries) some in
     let few : length entries ≤ g.journal = omega (arith, way.few) in
     let written = written_shown opening log g start image inside is entries few way.committed in
-    let elsewhere : (sequence head : ℕ) (others : List Entry) → slot_of g sequence ≢ slot → start + length entries ≤ sequence → sequence < start + 2 ^ 32 → HasBlock g (journal_of g image) sequence head others → ⊥ =
-    λ sequence head others apart from reach has. let inside_too : slot_of g sequence < g.journal = mod-lt sequence some in
-    none_shown opening log g start image inside is (start + length entries) (slot_of g sequence) inside_too (way.none (slot_of g sequence) inside_too apart) sequence head others refl from reach has in
+    let elsewhere : (sequence head : ℕ) (others : List Entry) → journal_slot_of g sequence ≢ slot → start + length entries ≤ sequence → sequence < start + 2 ^ 32 → HasBlock g (journal_of g image) sequence head others → ⊥ =
+    λ sequence head others apart from reach has. let inside_too : journal_slot_of g sequence < g.journal = mod-lt sequence some in
+    none_shown opening log g start image inside is (start + length entries) (journal_slot_of g sequence) inside_too (way.none (journal_slot_of g sequence) inside_too apart) sequence head others refl from reach has in
     elim (shown opening log g start image inside is (λ bytes. IsSector g.nonce 0 bytes (start + length entries) start (entry ∷ [])
-    ⊎ ((sequence head : ℕ) (others : List Entry) → slot_of g sequence ≡ slot → start + length entries ≤ sequence → sequence < start + 2 ^ 32 → IsSector g.nonce 0 bytes sequence head others → ⊥)) slot below way.here) [
+    ⊎ ((sequence head : ℕ) (others : List Entry) → journal_slot_of g sequence ≡ slot → start + length entries ≤ sequence → sequence < start + 2 ^ 32 → IsSector g.nonce 0 bytes sequence head others → ⊥)) slot below way.here) [
       | inl new ↦ inl (counted g start (journal_of g image) (entry ∷ entries) (omega (arith, way.few, most)) ((new, way.mapped), written)
-          (λ sequence head others from reach has. elim (eqb_tells (slot_of g sequence) slot) [
+          (λ sequence head others from reach has. elim (eqb_tells (journal_slot_of g sequence) slot) [
             | inl same ↦
                 let one = one_reading g.nonce 0 (sector 0 (get_or (journal_of g image) slot zero_block)) (start + length entries) start sequence head (entry ∷ []) others new
                 (subst (λ (s : ℕ). IsSector g.nonce 0 (sector 0 (get_or (journal_of g image) s zero_block)) sequence head others) same.1 has) in
@@ -193,7 +194,7 @@ window_under_way opening log g start entries entry image most inside way is =
             | inr apart ↦ elsewhere sequence head others apart.1 (omega (arith, from)) reach has
           ]))
       | inr old ↦ inr (counted g start (journal_of g image) entries (omega (arith, way.few, most)) written
-          (λ sequence head others from reach has. elim (eqb_tells (slot_of g sequence) slot) [
+          (λ sequence head others from reach has. elim (eqb_tells (journal_slot_of g sequence) slot) [
             | inl same ↦ old sequence head others same.1 from reach
                 (subst (λ (s : ℕ). IsSector g.nonce 0 (sector 0 (get_or (journal_of g image) s zero_block)) sequence head others) same.1 has)
             | inr apart ↦ elsewhere sequence head others apart.1 from reach has
@@ -210,7 +211,7 @@ opened_committed : (opening : Blocks) (log : List Call) (g : Geometry) (start : 
     → HasOneImage opening log image → AreWritten g start (journal_of g image) entries → AreCommitted opening log g start entries
 opened_committed opening log g start image [] some inside one written = tt
 opened_committed opening log g start image (entry ∷ older) some inside one written =
-    let slot = slot_of g (start + length older) in
+    let slot = journal_slot_of g (start + length older) in
     let below : slot < g.journal = mod-lt (start + length older) some in (
       written.0.1,
       one_content opening log image (block_of_slot slot) (HasEntry g start (start + length older) entry) (omega (arith, below, inside)) one

@@ -1,6 +1,7 @@
 -- The recovery journal, by what each of its blocks may hold after a stop.
-use Rattle.std.specs.Prelude.{ℕ, ◌≡◌, ◌≢◌, ◌⊎◌, ◌+◌, ◌<◌, ◌≤◌, ◌^◌, ◌%◌, List, [], ◌∷◌, length}
+use Rattle.std.specs.Prelude.{ℕ, ◌≡◌, ◌≢◌, ◌⊎◌, ◌+◌, ◌<◌, ◌≤◌, ◌^◌, List, [], ◌∷◌, length}
 use Rattle.std.specs.List.{AllByRecursion}
+use Rattle.blk_base.specs.Regions.{journal_slot_of}
 use Rattle.blk_base.specs.Sectors.{sector}
 use Rattle.blk_base.specs.declared.geometry.Geometry.{Geometry}
 use Rattle.blk_base.specs.declared.journal_entry.Entry.{Entry}
@@ -13,10 +14,7 @@ use Rattle.journal_codec.specs.Grammar.{IsSector}
 abbrev pub Surely : Blocks → List Call → ℕ → (List ℕ → Type 0) → Type 0
 Surely opening log b P = AllByRecursion P (contents opening log b)
 
--- the slot of a sequence, and the block of a slot
-abbrev pub slot_of : Geometry → ℕ → ℕ
-slot_of g sequence = sequence % g.journal
-
+-- the block of a slot of the journal
 abbrev pub block_of_slot : ℕ → ℕ
 block_of_slot slot = 1 + slot
 
@@ -27,14 +25,14 @@ HasEntry g start sequence entry content = IsSector g.nonce 0 (sector 0 content) 
 -- no journal block of this slot whose sequence is this one or later, in reach of the first sequence
 abbrev pub HasNone : Geometry → ℕ → ℕ → ℕ → List ℕ → Type 0
 HasNone g start from slot content =
-    (sequence head : ℕ) (entries : List Entry) → slot_of g sequence ≡ slot → from ≤ sequence → sequence < start + 2 ^ 32
+    (sequence head : ℕ) (entries : List Entry) → journal_slot_of g sequence ≡ slot → from ≤ sequence → sequence < start + 2 ^ 32
     → IsSector g.nonce 0 (sector 0 content) sequence head entries → ⊥
 
 -- these entries, the newest first, are committed: whatever a stop leaves, each stands in its block
 abbrev pub AreCommitted : Blocks → List Call → Geometry → ℕ → List Entry → Type 0
 AreCommitted opening log g start [] = Unit {0}
 AreCommitted opening log g start (entry ∷ older) =
-    IsMapped g entry × Surely opening log (block_of_slot (slot_of g (start + length older))) (HasEntry g start (start + length older) entry)
+    IsMapped g entry × Surely opening log (block_of_slot (journal_slot_of g (start + length older))) (HasEntry g start (start + length older) entry)
     × AreCommitted opening log g start older
 
 -- the journal has these entries, and none is under way
@@ -48,10 +46,10 @@ pub record IsUnderWay (opening : Blocks) (log : List Call) (g : Geometry) (start
   pub few : length entries < g.journal
   pub mapped : IsMapped g entry
   pub committed : AreCommitted opening log g start entries
-  pub here : Surely opening log (block_of_slot (slot_of g (start + length entries)))
+  pub here : Surely opening log (block_of_slot (journal_slot_of g (start + length entries)))
       (λ content. HasEntry g start (start + length entries) entry content
-      ⊎ HasNone g start (start + length entries) (slot_of g (start + length entries)) content)
-  pub none : (slot : ℕ) → slot < g.journal → slot ≢ slot_of g (start + length entries)
+      ⊎ HasNone g start (start + length entries) (journal_slot_of g (start + length entries)) content)
+  pub none : (slot : ℕ) → slot < g.journal → slot ≢ journal_slot_of g (start + length entries)
       → Surely opening log (block_of_slot slot) (HasNone g start (start + length entries) slot)
 
 -- a call that writes no block of the journal

@@ -1,4 +1,4 @@
-use Rattle.core_laws.proofs.Rooms.{inbox_room, lane_room, queue_room}
+use Rattle.core_laws.proofs.tokens.Rooms.{inbox_room, lane_room, queue_room}
 use Rattle.core_laws.proofs.laws.a_legal_core_has_room.Goals as goal
 
 pub returns-clause-inbox : goal.returns-clause-inbox

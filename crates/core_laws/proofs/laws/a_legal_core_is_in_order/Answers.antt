@@ -1,9 +1,10 @@
 use Rattle.std.proofs.Common.{subst}
 use Rattle.core_laws.specs.declared.zones.ZoneData.{ZoneData}
 use Rattle.core_laws.specs.Facts.{DataOk}
-use Rattle.core_laws.proofs.DeskOfTrace.{desk_log_right}
-use Rattle.core_laws.proofs.Stopped.{stopped_at_device}
-use Rattle.core_laws.proofs.PlacesOfTrace.{places_drawn, places_all, run_right}
+use Rattle.core_laws.proofs.trace.DeskOfTrace.{desk_log_right}
+use Rattle.core_laws.proofs.kept.Stopped.{stopped_at_device}
+use Rattle.core_laws.proofs.trace.PlacesOfTrace.{places_drawn, places_all}
+use Rattle.core_laws.proofs.trace.ReportOfTrace.{run_right}
 use Rattle.core_laws.proofs.laws.a_legal_core_is_in_order.Goals as goal
 
 pub returns-clause-desk_log : goal.returns-clause-desk_log

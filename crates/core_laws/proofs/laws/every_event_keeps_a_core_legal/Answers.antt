@@ -1,6 +1,6 @@
-use Rattle.core_laws.proofs.FirstState.{legal_first}
-use Rattle.core_laws.proofs.LegalKept.{legal_step}
-use Rattle.core_laws.proofs.LegalMoves.{legal_move, legal_leads}
+use Rattle.core_laws.proofs.kept.FirstState.{legal_first}
+use Rattle.core_laws.proofs.kept.LegalKept.{legal_step}
+use Rattle.core_laws.proofs.kept.LegalMoves.{legal_move, legal_leads}
 use Rattle.core_laws.proofs.laws.every_event_keeps_a_core_legal.Goals as goal
 
 pub returns-clause-first : goal.returns-clause-first

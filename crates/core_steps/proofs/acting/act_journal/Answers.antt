@@ -1,7 +1,7 @@
 use Rattle.std.proofs.Common.{[], ◌∷◌}
 use Rattle.core_laws.specs.declared.zones.ZoneData.TheVariants as at
 use Rattle.core_laws.specs.Steps.{Act}
-use Rattle.core_steps.specs.Causes.{NoRule, Strays}
+use Rattle.core_steps.specs.Causes.{NoRule, MemoryOrStray}
 use Rattle.core_steps.proofs.ActLaws.{journal_acts, journal_ends, journal_hears}
 use Rattle.core_steps.proofs.StrayLaws.{passed_on, strays_by, journal_stays, journal_keeps}
 use Rattle.core_steps.proofs.acting.act_journal.Goals as goal
@@ -12,15 +12,15 @@ returns-in_ok-serve_journal-in-Request-clause-ok c = rw c.in-Request.is (journal
 pub returns-in_ok-end_block-in-Block-clause-ok : goal.returns-in_ok-end_block-in-Block-clause-ok
 returns-in_ok-end_block-in-Block-clause-ok c = rw c.in-Block.is (journal_ends _ _ _ _ _ c.in_ok-end_block-in-Block.ensures.ok)
 
-pub returns-in_ok-hear_stop-in-Notice-clause-ok : goal.returns-in_ok-hear_stop-in-Notice-clause-ok
-returns-in_ok-hear_stop-in-Notice-clause-ok c = rw c.in-Notice.is (journal_hears _ _ _ _ c.in_ok-hear_stop-in-Notice.ensures.zone c.in_ok-hear_stop-in-Notice.ensures.posts)
+pub returns-in_ok-hear_stop-in-StopNotice-clause-ok : goal.returns-in_ok-hear_stop-in-StopNotice-clause-ok
+returns-in_ok-hear_stop-in-StopNotice-clause-ok c = rw c.in-StopNotice.is (journal_hears _ _ _ _ c.in_ok-hear_stop-in-StopNotice.ensures.zone c.in_ok-hear_stop-in-StopNotice.ensures.posts)
 
 pub returns-in_err-serve_journal-in-Request-clause-err : goal.returns-in_err-serve_journal-in-Request-clause-err
 returns-in_err-serve_journal-in-Request-clause-err c =
-    let why : Strays (NoRule (Act c.args.sizes.now (at.Journal c.args.zone.now) (c.args.item ∷ []))) c.in_err-serve_journal-in-Request.field-0.0 = rw c.in-Request.is (strays_by (journal_stays _ _ _) _ c.in_err-serve_journal-in-Request.ensures.err) in
-    passed_on c.from_residual.result (Strays (NoRule (Act c.args.sizes.now (at.Journal c.args.zone.now) (c.args.item ∷ [])))) c.in_err-serve_journal-in-Request.field-0.0 c.from_residual.ensures.1 why
+    let why : MemoryOrStray (NoRule (Act c.args.sizes.now (at.Journal c.args.zone.now) (c.args.item ∷ []))) c.in_err-serve_journal-in-Request.field-0.0 = rw c.in-Request.is (strays_by (journal_stays _ _ _) _ c.in_err-serve_journal-in-Request.ensures.err) in
+    passed_on c.from_residual.result (MemoryOrStray (NoRule (Act c.args.sizes.now (at.Journal c.args.zone.now) (c.args.item ∷ [])))) c.in_err-serve_journal-in-Request.field-0.0 c.from_residual.ensures.1 why
 
 pub returns-in_err-end_block-in-Block-clause-err : goal.returns-in_err-end_block-in-Block-clause-err
 returns-in_err-end_block-in-Block-clause-err c =
-    let why : Strays (NoRule (Act c.args.sizes.now (at.Journal c.args.zone.now) (c.args.item ∷ []))) c.in_err-end_block-in-Block.field-0.0 = rw c.in-Block.is (strays_by (journal_keeps _ _ _) _ c.in_err-end_block-in-Block.ensures.err) in
-    passed_on c.from_residual-in_err-end_block-in-Block.result (Strays (NoRule (Act c.args.sizes.now (at.Journal c.args.zone.now) (c.args.item ∷ [])))) c.in_err-end_block-in-Block.field-0.0 c.from_residual-in_err-end_block-in-Block.ensures.1 why
+    let why : MemoryOrStray (NoRule (Act c.args.sizes.now (at.Journal c.args.zone.now) (c.args.item ∷ []))) c.in_err-end_block-in-Block.field-0.0 = rw c.in-Block.is (strays_by (journal_keeps _ _ _) _ c.in_err-end_block-in-Block.ensures.err) in
+    passed_on c.from_residual-in_err-end_block-in-Block.result (MemoryOrStray (NoRule (Act c.args.sizes.now (at.Journal c.args.zone.now) (c.args.item ∷ [])))) c.in_err-end_block-in-Block.field-0.0 c.from_residual-in_err-end_block-in-Block.ensures.1 why

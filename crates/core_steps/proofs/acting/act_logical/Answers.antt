@@ -1,7 +1,7 @@
 use Rattle.std.proofs.Common.{[], ◌∷◌}
 use Rattle.core_laws.specs.declared.zones.ZoneData.TheVariants as at
 use Rattle.core_laws.specs.Steps.{Act}
-use Rattle.core_steps.specs.Causes.{NoRule, Strays}
+use Rattle.core_steps.specs.Causes.{NoRule, MemoryOrStray}
 use Rattle.core_steps.proofs.ActLaws.{logical_acts, logical_hears}
 use Rattle.core_steps.proofs.StrayLaws.{passed_on, strays_by, logical_stays}
 use Rattle.core_steps.proofs.acting.act_logical.Goals as goal
@@ -9,10 +9,10 @@ use Rattle.core_steps.proofs.acting.act_logical.Goals as goal
 pub returns-in_ok-serve_logical-in-Request-clause-ok : goal.returns-in_ok-serve_logical-in-Request-clause-ok
 returns-in_ok-serve_logical-in-Request-clause-ok c = rw c.in-Request.is (logical_acts _ _ _ _ _ c.in_ok-serve_logical-in-Request.ensures.ok)
 
-pub returns-in_ok-hear_logical-in-Notice-clause-ok : goal.returns-in_ok-hear_logical-in-Notice-clause-ok
-returns-in_ok-hear_logical-in-Notice-clause-ok c = rw c.in-Notice.is (logical_hears _ _ _ _ c.in_ok-hear_logical-in-Notice.ensures.zone c.in_ok-hear_logical-in-Notice.ensures.posts)
+pub returns-in_ok-hear_logical-in-StopNotice-clause-ok : goal.returns-in_ok-hear_logical-in-StopNotice-clause-ok
+returns-in_ok-hear_logical-in-StopNotice-clause-ok c = rw c.in-StopNotice.is (logical_hears _ _ _ _ c.in_ok-hear_logical-in-StopNotice.ensures.zone c.in_ok-hear_logical-in-StopNotice.ensures.posts)
 
 pub returns-in_err-serve_logical-in-Request-clause-err : goal.returns-in_err-serve_logical-in-Request-clause-err
 returns-in_err-serve_logical-in-Request-clause-err c =
-    let why : Strays (NoRule (Act c.args.sizes.now (at.Logical c.args.zone.now) (c.args.item ∷ []))) c.in_err-serve_logical-in-Request.field-0.0 = rw c.in-Request.is (strays_by (logical_stays _ _ _) _ c.in_err-serve_logical-in-Request.ensures.err) in
-    passed_on c.from_residual.result (Strays (NoRule (Act c.args.sizes.now (at.Logical c.args.zone.now) (c.args.item ∷ [])))) c.in_err-serve_logical-in-Request.field-0.0 c.from_residual.ensures.1 why
+    let why : MemoryOrStray (NoRule (Act c.args.sizes.now (at.Logical c.args.zone.now) (c.args.item ∷ []))) c.in_err-serve_logical-in-Request.field-0.0 = rw c.in-Request.is (strays_by (logical_stays _ _ _) _ c.in_err-serve_logical-in-Request.ensures.err) in
+    passed_on c.from_residual.result (MemoryOrStray (NoRule (Act c.args.sizes.now (at.Logical c.args.zone.now) (c.args.item ∷ [])))) c.in_err-serve_logical-in-Request.field-0.0 c.from_residual.ensures.1 why

@@ -1,18 +1,18 @@
 use Rattle.std.proofs.Common.{[], ◌∷◌}
 use Rattle.core_laws.specs.declared.zones.ZoneData.TheVariants as at
 use Rattle.core_laws.specs.Steps.{Act}
-use Rattle.core_steps.specs.Causes.{NoRule, Strays}
+use Rattle.core_steps.specs.Causes.{NoRule, MemoryOrStray}
 use Rattle.core_steps.proofs.ActLaws.{physical_acts, physical_hears}
 use Rattle.core_steps.proofs.StrayLaws.{passed_on, strays_by, physical_stays}
 use Rattle.core_steps.proofs.acting.act_physical.Goals as goal
 
 pub returns-in_ok-serve_physical-in-Request-clause-ok : goal.returns-in_ok-serve_physical-in-Request-clause-ok
-returns-in_ok-serve_physical-in-Request-clause-ok c = rw c.in-Request.is (physical_acts _ _ _ _ _ ([], c.in_ok-serve_physical-in-Request.ensures.ok))
+returns-in_ok-serve_physical-in-Request-clause-ok c = rw c.in-Request.is (physical_acts _ _ _ _ _ c.in_ok-serve_physical-in-Request.ensures.ok)
 
-pub returns-in_ok-hear_stop-in-Notice-clause-ok : goal.returns-in_ok-hear_stop-in-Notice-clause-ok
-returns-in_ok-hear_stop-in-Notice-clause-ok c = rw c.in-Notice.is (physical_hears _ _ _ _ c.in_ok-hear_stop-in-Notice.ensures.zone c.in_ok-hear_stop-in-Notice.ensures.posts)
+pub returns-in_ok-hear_stop-in-StopNotice-clause-ok : goal.returns-in_ok-hear_stop-in-StopNotice-clause-ok
+returns-in_ok-hear_stop-in-StopNotice-clause-ok c = rw c.in-StopNotice.is (physical_hears _ _ _ _ c.in_ok-hear_stop-in-StopNotice.ensures.zone c.in_ok-hear_stop-in-StopNotice.ensures.posts)
 
 pub returns-in_err-serve_physical-in-Request-clause-err : goal.returns-in_err-serve_physical-in-Request-clause-err
 returns-in_err-serve_physical-in-Request-clause-err c =
-    let why : Strays (NoRule (Act c.args.sizes.now (at.Physical c.args.zone.now) (c.args.item ∷ []))) c.in_err-serve_physical-in-Request.field-0.0 = rw c.in-Request.is (strays_by (physical_stays _ _ _) _ c.in_err-serve_physical-in-Request.ensures.err) in
-    passed_on c.from_residual.result (Strays (NoRule (Act c.args.sizes.now (at.Physical c.args.zone.now) (c.args.item ∷ [])))) c.in_err-serve_physical-in-Request.field-0.0 c.from_residual.ensures.1 why
+    let why : MemoryOrStray (NoRule (Act c.args.sizes.now (at.Physical c.args.zone.now) (c.args.item ∷ []))) c.in_err-serve_physical-in-Request.field-0.0 = rw c.in-Request.is (strays_by (physical_stays _ _ _) _ c.in_err-serve_physical-in-Request.ensures.err) in
+    passed_on c.from_residual.result (MemoryOrStray (NoRule (Act c.args.sizes.now (at.Physical c.args.zone.now) (c.args.item ∷ [])))) c.in_err-serve_physical-in-Request.field-0.0 c.from_residual.ensures.1 why

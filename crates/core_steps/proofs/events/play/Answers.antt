@@ -1,5 +1,6 @@
 use Rattle.std.proofs.Common.{rules, refl, sym, ◌∙◌, inl, inr}
-use Rattle.core_steps.specs.Causes.{FaltersAfter}
+use Rattle.disk_model.proofs.SeenLaws.{stays_on}
+use Rattle.core_steps.specs.Causes.{MayFaultAfter}
 use Rattle.core_steps.specs.Plays.{HasNoWork}
 use Rattle.core_steps.proofs.StrayLaws.{passed_on}
 use Rattle.core_steps.proofs.PlayLaws.{nothing, leads_further, next_plays, none_left, next_none, none_still, none_for_none, none_for_one}
@@ -7,8 +8,7 @@ use Rattle.core_steps.proofs.events.play.Goals as goal
 
 pub loop-event-init : goal.loop-event-init
 loop-event-init g c = record {
-  size = refl;
-  opening = refl;
+  stays = record { opening = refl; size = refl };
   plays = λ later log rest. rest;
   leads = nothing g.D.Disk.tells c.args.sizes.now c.args.zones.now _;
   busy = search rules;
@@ -23,8 +23,7 @@ loop-event-preserved g c =
     let none_first = HasNoWork c.args.sizes.now c.args.zones.now in
     let event = c.loop-event.event-index in
     record {
-      size = after.size ∙ before.size;
-      opening = after.opening ∙ before.opening;
+      stays = stays_on _ _ _ before.stays after.stays;
       plays = λ later log rest.
           before.plays later log (next_plays _ _ c.args.events.now c.loop-event.event-index _ c.loop-event.zones c.play_one.new.zones later _ _ log c.loop-event-test.true after.plays rest);
       leads = leads_further g.D.Disk.tells c.args.sizes.now c.args.zones.now c.loop-event.zones c.play_one.new.zones _ _ _ before.leads after.leads;
@@ -41,8 +40,8 @@ loop-event-preserved g c =
 
 pub returns-in_err-stepped-clause-err : goal.returns-in_err-stepped-clause-err
 returns-in_err-stepped-clause-err g c =
-    passed_on c.from_residual.result (FaltersAfter g.D.Disk.tells c.args.sizes.now c.args.zones.now (g.D.Disk.log c.args.disk.now)) c.in_err-stepped.field-0.0 c.from_residual.ensures.1
-    (c.loop-event.zones, g.D.Disk.log c.loop-event.disk, c.loop-event.invariant.leads, c.in_err-stepped.ensures.err)
+    passed_on c.from_residual.result (MayFaultAfter g.D.Disk.tells c.args.sizes.now c.args.zones.now (g.D.Disk.seen c.args.disk.now)) c.in_err-stepped.field-0.0 c.from_residual.ensures.1
+    (c.loop-event.zones, g.D.Disk.seen c.loop-event.disk, c.loop-event.invariant.leads, c.in_err-stepped.ensures.err)
 
 pub returns-clause-plays : goal.returns-clause-plays
 returns-clause-plays g c =

@@ -1,5 +1,5 @@
-use Rattle.core_steps.specs.Causes.{OneFalters}
-use Rattle.core_steps.proofs.StrayLaws.{one_falters, passed_on}
+use Rattle.core_steps.specs.Causes.{OneMayFault}
+use Rattle.core_steps.proofs.StrayLaws.{one_may_fault, passed_on}
 use Rattle.core_steps.proofs.PlayLaws.{step_plays, step_busy, move_plays, played_leads}
 use Rattle.core_steps.proofs.events.play_one.Goals as goal
 
@@ -37,5 +37,5 @@ returns-in_ok-move_items-in-Move-clause-idle g c idle = rw c.in-Move.is (c.in_ok
 
 pub returns-in_err-step-in-Step-clause-err : goal.returns-in_err-step-in-Step-clause-err
 returns-in_err-step-in-Step-clause-err g c =
-    passed_on c.from_residual.result (OneFalters c.args.sizes.now c.args.zones.now) c.in_err-step-in-Step.field-0.0 c.from_residual.ensures.1
-    (one_falters _ _ _ _ c.in_err-step-in-Step.ensures.err)
+    passed_on c.from_residual.result (OneMayFault c.args.sizes.now c.args.zones.now) c.in_err-step-in-Step.field-0.0 c.from_residual.ensures.1
+    (one_may_fault _ _ _ _ c.in_err-step-in-Step.ensures.err)

@@ -2,7 +2,7 @@ use Rattle.std.proofs.Common.{rules, ◌≡◌, ◌<◌, ◌∙◌, Some, length
 use Rattle.std.proofs.lemmas.Option.{same_Some, slice_get_read}
 use Rattle.core_laws.specs.declared.zones.Zone.{Zone}
 use Rattle.core_laws.specs.Steps.{IsIdle}
-use Rattle.core_steps.specs.Causes.{FaltersAt}
+use Rattle.core_steps.specs.Causes.{MayFaultAt}
 use Rattle.core_steps.proofs.StrayLaws.{passed_on}
 use Rattle.core_steps.proofs.events.step.Goals as goal
 
@@ -38,5 +38,5 @@ returns-in_err-step_zone-clause-err g c =
     let item = c.in-Some.ensures.item in
     let within : c.args.number < length c.zones.inside.zones.items = search rules in
     let had : slice_get c.args.zones.now c.args.number ≡ Some c.in-Some.zone.now = rw (← c.zones.view_is) (slice_get_read _ _ _ _ refl within item.1) in
-    passed_on c.from_residual.result (FaltersAt c.args.sizes.now c.args.zones.now c.args.number) c.in_err-step_zone.field-0.0 c.from_residual.ensures.1
+    passed_on c.from_residual.result (MayFaultAt c.args.sizes.now c.args.zones.now c.args.number) c.in_err-step_zone.field-0.0 c.from_residual.ensures.1
     (c.in-Some.zone.now, had, c.in_err-step_zone.ensures.err)

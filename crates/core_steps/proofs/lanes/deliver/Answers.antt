@@ -1,6 +1,6 @@
 use Rattle.std.proofs.Common.{rules, refl}
 use Rattle.std.specs.List.{AllByRecursion}
-use Rattle.core_steps.specs.Causes.{HasLane, Strays}
+use Rattle.core_steps.specs.Causes.{HasLane, MemoryOrStray}
 use Rattle.core_steps.proofs.StrayLaws.{lanes_stay, passed_on, strays_by}
 use Rattle.core_steps.proofs.lanes.deliver.Goals as goal
 
@@ -19,4 +19,4 @@ pub returns-in_err-send-clause-err : goal.returns-in_err-send-clause-err
 returns-in_err-send-clause-err c =
     let on : (HasLane c.loop-to.zone (c.in-Some.to, c.in-Some.item) → ⊥) → AllByRecursion (HasLane c.args.zone.now) c.args.posts → ⊥ =
     λ none all. (let left = rw c.in-Some.ensures.some at (c.loop-to.invariant.lanes all) in none left.0) in
-    passed_on c.from_residual.result (Strays (AllByRecursion (HasLane c.args.zone.now) c.args.posts → ⊥)) c.in_err-send.field-0.0 c.from_residual.ensures.1 (strays_by on _ c.in_err-send.ensures.err)
+    passed_on c.from_residual.result (MemoryOrStray (AllByRecursion (HasLane c.args.zone.now) c.args.posts → ⊥)) c.in_err-send.field-0.0 c.from_residual.ensures.1 (strays_by on _ c.in_err-send.ensures.err)

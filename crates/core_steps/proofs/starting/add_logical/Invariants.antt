@@ -1,7 +1,7 @@
 use Rattle.std.proofs.Common.{◌≡◌, ◌+◌, length, reverse}
 use Rattle.core_laws.specs.Sessions.{Session}
 use Rattle.core_laws.specs.Start.{IsFirstZone}
-use Rattle.core_laws.specs.Sums.{Each}
+use Rattle.plain_laws.specs.Sums.{Each}
 use Rattle.core_steps.proofs.starting.add_logical.Given as goal
 
 abbrev pub invariant-loop-zone : goal.invariant-loop-zone

@@ -5,8 +5,8 @@ use Rattle.core_steps.proofs.StartLaws.{lanes_of, numbered}
 use Rattle.core_steps.proofs.starting.add_others.Goals as goal
 
 pub returns-clause-first : goal.returns-clause-first
-returns-clause-first c s sizes fresh distinct each =
-    let physical = numbered s _ c.physical_zone.result (at.Physical c.first_physical.result) (c.physical_zone.ensures ∙ ap physical_zone (sym sizes)) (c.first_physical.ensures s fresh distinct) in
+returns-clause-first c s sizes free each =
+    let physical = numbered s _ c.physical_zone.result (at.Physical c.first_physical.result) (c.physical_zone.ensures ∙ ap physical_zone (sym sizes)) (c.first_physical.ensures s free) in
     let with_physical = c.in_ok-add.ensures.first s (lanes_of s _ _ sizes c.in_ok-lanes.ensures) physical each in
     let journal = numbered s _ c.journal_zone.result (at.Journal c.first_journal.result) (c.journal_zone.ensures ∙ ap journal_zone (sym sizes)) (c.first_journal.ensures s) in
     let with_journal = c.in_ok-add-2.ensures.first s (lanes_of s _ _ sizes c.in_ok-lanes-2.ensures) journal with_physical in

@@ -1,6 +1,6 @@
 use Rattle.std.proofs.Common.{[], ◌∷◌, ap, take}
-use Rattle.core_steps.specs.Causes.{Falters}
-use Rattle.core_steps.proofs.StrayLaws.{act_falters, passed_on, posts_falter}
+use Rattle.core_steps.specs.Causes.{MayFault}
+use Rattle.core_steps.proofs.StrayLaws.{act_may_fault, passed_on, posts_may_fault}
 use Rattle.core_steps.proofs.ZoneLaws.{stepped, begun}
 use Rattle.core_steps.proofs.stepping.step_zone.Goals as goal
 
@@ -17,17 +17,17 @@ returns-in_ok-deliver-in-Some-2-clause-did g c did =
 
 pub returns-in_err-posts-in-Some-clause-err : goal.returns-in_err-posts-in-Some-clause-err
 returns-in_err-posts-in-Some-clause-err g c =
-    let why = act_falters c.args.sizes.now c.args.zone.now c.in-Some.item c.pop.new.self _ c.in-Some.ensures.some c.in_err-posts-in-Some.ensures.err in
-    passed_on c.from_residual.result (Falters c.args.sizes.now c.args.zone.now) c.in_err-posts-in-Some.field-0.0 c.from_residual.ensures.1 why
+    let why = act_may_fault c.args.sizes.now c.args.zone.now c.in-Some.item c.pop.new.self _ c.in-Some.ensures.some c.in_err-posts-in-Some.ensures.err in
+    passed_on c.from_residual.result (MayFault c.args.sizes.now c.args.zone.now) c.in_err-posts-in-Some.field-0.0 c.from_residual.ensures.1 why
 
 pub returns-in_err-deliver-in-Some-clause-err : goal.returns-in_err-deliver-in-Some-clause-err
 returns-in_err-deliver-in-Some-clause-err g c =
     let acts = c.in_ok-posts-in-Some.ensures.acts in
-    let why = posts_falter c.args.sizes.now c.args.zone.now (c.in-Some.item ∷ []) c.act.new.keeps acts.0 _ _ (ap (take 1) c.in-Some.ensures.some) acts.1 c.in_err-deliver-in-Some.ensures.err in
-    passed_on c.from_residual-in_err-deliver-in-Some.result (Falters c.args.sizes.now c.args.zone.now) c.in_err-deliver-in-Some.field-0.0 c.from_residual-in_err-deliver-in-Some.ensures.1 why
+    let why = posts_may_fault c.args.sizes.now c.args.zone.now (c.in-Some.item ∷ []) c.act.new.keeps acts.0 _ _ (ap (take 1) c.in-Some.ensures.some) acts.1 c.in_err-deliver-in-Some.ensures.err in
+    passed_on c.from_residual-in_err-deliver-in-Some.result (MayFault c.args.sizes.now c.args.zone.now) c.in_err-deliver-in-Some.field-0.0 c.from_residual-in_err-deliver-in-Some.ensures.1 why
 
 pub returns-in_err-deliver-in-Some-2-clause-err : goal.returns-in_err-deliver-in-Some-2-clause-err
 returns-in_err-deliver-in-Some-2-clause-err g c =
     let acts = rw c.in-Some-2.is at c.in_ok-posts-in-None.ensures.begun in
-    let why = posts_falter c.args.sizes.now c.args.zone.now [] c.begin.new.keeps acts.0 _ _ (ap (take 1) c.in-None.ensures.none.0) acts.1 c.in_err-deliver-in-Some-2.ensures.err in
-    passed_on c.from_residual-in_err-deliver-in-Some-2.result (Falters c.args.sizes.now c.args.zone.now) c.in_err-deliver-in-Some-2.field-0.0 c.from_residual-in_err-deliver-in-Some-2.ensures.1 why
+    let why = posts_may_fault c.args.sizes.now c.args.zone.now [] c.begin.new.keeps acts.0 _ _ (ap (take 1) c.in-None.ensures.none.0) acts.1 c.in_err-deliver-in-Some-2.ensures.err in
+    passed_on c.from_residual-in_err-deliver-in-Some-2.result (MayFault c.args.sizes.now c.args.zone.now) c.in_err-deliver-in-Some-2.field-0.0 c.from_residual-in_err-deliver-in-Some-2.ensures.1 why

@@ -1,0 +1,334 @@
+-- What the acts of the desk owe.
+use Rattle.std.proofs.Common.{◌≡◌, ◌⊎◌, ℕ, ◌+◌, ◌<◌, ◌≤◌, if◌then◌else◌, Bool, true, false, nat_lt, Option, None, Some, IsNone, List, [], ◌∷◌, refl, ap, sym, ◌∙◌, subst, inl, inr, arith}
+use Rattle.std.proofs.lemmas.Bool.{ltb-true, ltb-false, cases_Bool}
+use Rattle.std.proofs.lemmas.Bool.Decides.{eqb_tells}
+use Rattle.std.proofs.lemmas.Option.{same_Some}
+use Rattle.std.specs.List.{AllByRecursion}
+use Rattle.blk_base.specs.Sectors.{zero_block}
+use Rattle.blk_base.specs.declared.place.Lba.{Lba}
+use Rattle.blk_base.specs.declared.request.Answer.{Answer as Reply}
+use Rattle.blk_base.specs.declared.request.Answer.TheVariants as reply
+use Rattle.blk_base.specs.declared.request.Request.{Request}
+use Rattle.blk_base.specs.declared.request.Request.TheVariants as request
+use Rattle.blk_base.specs.declared.request.Writer.{Writer}
+use Rattle.vdo_model.specs.DeskLog.{IsNextLine, begun, answer_of}
+use Rattle.vdo_model.specs.FlushMarks.{IsMark}
+use Rattle.vdo_model.specs.Places.{zone_of}
+use Rattle.vdo_model.specs.Scripts.{request_at, same_writer}
+use Rattle.vdo_model.specs.declared.report.DeskLine.{DeskLine}
+use Rattle.vdo_model.specs.declared.report.FlushMark.{FlushMark}
+use Rattle.vdo_model.specs.declared.report.DeskLine.TheVariants as line
+use Rattle.core_laws.specs.declared.items.Asks.{Asks}
+use Rattle.core_laws.specs.declared.items.Asks.TheVariants.{Read, Write, Flush}
+use Rattle.core_laws.specs.declared.items.Item.TheVariants as item
+use Rattle.core_laws.specs.declared.items.Phase.{Phase}
+use Rattle.core_laws.specs.declared.items.Phase.TheVariants as phase
+use Rattle.core_laws.specs.declared.items.Vio.{Vio}
+use Rattle.core_laws.specs.declared.sizes.Sizes.{Sizes}
+use Rattle.core_laws.specs.declared.zones.ZoneData.TheVariants as at
+use Rattle.core_laws.specs.declared.zones.Desk.{Desk}
+use Rattle.core_laws.specs.DeskRows.{DeskBegins, DeskServes, is_notified, at_once, vio_of, first_zone, is_marked, is_stopped, mark_of_vio, with_notice, woken}
+use Rattle.core_laws.specs.Facts.{HasAddress, ItemOk, DeskOk, KeptOk, IsEarned, MayReply, Carries, zone_at}
+use Rattle.core_laws.specs.Numbers.{desk_zone, logical_zone, notified_zones}
+use Rattle.core_laws.specs.RightTraces.{RightTrace, IsOpen, HasCause, MayAnswer}
+use Rattle.core_laws.specs.Sessions.{Session, IsSession, Shown}
+use Rattle.core_laws.specs.Trace.{Says, Flushes, Trace, lines, moments, entered, settled, has_stopped, logged_of}
+use Rattle.core_laws.specs.Vios.{Post, request_of, asked, begun_vio}
+use Rattle.core_laws.proofs.kept.ActKept.{ActKept, PostOk, shown_kept, unborn_place, unborn_entry, unborn_slot}
+use Rattle.core_laws.proofs.kept.Carried.{kept_kept}
+use Rattle.core_laws.proofs.trace.DeskOfTrace.{desk_log_right, answered_begun, shown_of}
+use Rattle.core_laws.proofs.kept.Elsewhere.{LacksRequest, spares_answer, spares_flush}
+use Rattle.plain_laws.proofs.ListLaws.{every-append, every-map, every_both}
+use Rattle.plain_laws.proofs.OptionLaws.{none_is, option_cases}
+use Rattle.vdo_model.proofs.NameLaws.{same_tells}
+use Rattle.core_laws.proofs.physical.PhysicalFacts.{zone_below}
+use Rattle.core_laws.proofs.kept.StandsOn.{spares_all}
+
+-- what stands on the device stands after a line
+pub shown_line : (s : Session) (l : DeskLine) (t : Trace) → Shown s t → Shown s (Says l ∷ t)
+shown_line s l t k = shown_kept s (Says l) t (record { entered_same = refl; committed_same = refl }) tt (spares_all (Says l) (λ x. tt) (entered t)) tt (λ a y is. tt) k
+
+-- and after a flush that is answered with its mark
+pub shown_mark : (s : Session) (m : FlushMark) (t : Trace) → Shown s t → Shown s (Flushes m ∷ t)
+shown_mark s m t k = shown_kept s (Flushes m) t (record { entered_same = refl; committed_same = refl }) tt (spares_all (Flushes m) (λ x. tt) (entered t)) tt (λ a y is. tt) k
+
+-- a request is among the begun ones once its Begin stands
+begun_now : (w : Writer) (older : List DeskLine) → w.number ≡ begun w.stream older → w.number < begun w.stream (line.Begin w ∷ older)
+begun_now w older number = elim (eqb_tells w.stream w.stream) [
+  | inl same ↦ rw same.0 (omega (arith, number))
+  | inr other ↦ absurd (other.1 refl)
+]
+
+-- a request with a cause of its answer may be answered so
+cause_may : (s : Session) (t : Trace) (w : Writer) (r : Request) (a : Reply) → HasCause s t w r a → MayAnswer s t w r a
+cause_may s t w (request.Write at bytes fua) reply.Stopped cause = inl cause
+cause_may s t w r a cause = cause
+
+-- a request that is answered at once may be answered so
+once_range : (s : Session) (t : Trace) (w : Writer) (r : Request) (a : ℕ) (o : Option Reply) (answer : Reply) → (s.sizes.geometry.logical ≤ a → MayAnswer s t w r reply.Range) → ((b : Reply) → o ≡ Some b → MayAnswer s t w r b)
+    → (if nat_lt a s.sizes.geometry.logical then o else Some reply.Range) ≡ Some answer → MayAnswer s t w r answer
+once_range s t w r a o answer range within is = elim (cases_Bool (nat_lt a s.sizes.geometry.logical)) [
+  | inl below ↦ within answer (rw below at is)
+  | inr past ↦
+      let same : Some reply.Range ≡ Some answer = rw past at is in
+      subst (λ (x : Reply). MayAnswer s t w r x) (same_Some _ _ same) (range (ltb-false a s.sizes.geometry.logical past))
+]
+
+once_notified : (notified : Bool) (b : Reply) → ◌≡◌ {A = Option Reply} (if notified then Some reply.Stopped else None) (Some b) → (notified ≡ true) × (reply.Stopped ≡ b)
+once_notified true b is = (refl, same_Some _ _ is)
+once_notified false b is = absurd cc
+
+pub once_cause : (s : Session) (t : Trace) (w : Writer) (notified : Bool) (r : Request) (v : Vio) (a : Reply) (older : Trace) → t ≡ Says (line.Begin w) ∷ older → vio_of s.sizes w r ≡ Some v → IsNone (logged_of (settled t) w) → (notified ≡ true → has_stopped t ≡ true)
+    → at_once s.sizes notified v.asks v.at.0 ≡ Some a → MayAnswer s t w r a
+once_cause s t w notified (request.Read at) v a older last served unset heard_so is =
+    let once : at_once s.sizes notified Read at.0 ≡ Some a = rw (← same_Some _ _ served) at is in
+    once_range s t w (request.Read at) at.0 None a (λ past. past) (λ b none. absurd cc) once
+once_cause s t w notified (request.Write at bytes false) v a older last served unset heard_so is =
+    let once : at_once s.sizes notified Write at.0 ≡ Some a = rw (← same_Some _ _ served) at is in
+    once_range s t w (request.Write at bytes false) at.0 _ a (λ past. past) (λ b stopped.
+    let both = once_notified notified b stopped in subst (λ (x : Reply). MayAnswer s t w (request.Write at bytes false) x) both.1 (inr (record { stopped = heard_so both.0; unset = unset; older = older; begun_last = last }))) once
+once_cause s t w notified request.Flush v a older last served unset heard_so is =
+    let once : at_once s.sizes notified Flush 0 ≡ Some a = rw (← same_Some _ _ served) at is in
+    let both = once_notified notified a once in subst (λ (x : Reply). MayAnswer s t w request.Flush x) both.1 (heard_so both.0)
+once_cause s t w notified (request.Write at bytes true) v a older last served unset heard_so is = absurd cc
+once_cause s t w notified (request.Discard at) v a older last served unset heard_so is = absurd cc
+
+-- a block request that is sent on has an address below the logical size
+sent_below : (n logical : ℕ) (o : Option Reply) → (if nat_lt n logical then o else Some reply.Range) ≡ None → n < logical
+sent_below n logical o is = elim (cases_Bool (nat_lt n logical)) [
+  | inl below ↦ ltb-true n logical below
+  | inr past ↦ let none : Some reply.Range ≡ None = rw past at is in absurd cc
+]
+
+-- A request that is begun now.
+module _ (s : Session) (t : Trace) (w : Writer) (is : IsSession s) (right : RightTrace s t) (next : IsNextLine s.sizes.depth s.script (line.Begin w) (lines t)) where
+  late : begun w.stream (lines t) ≤ w.number
+  late = let number = next.0 in omega (arith, number)
+
+  unanswered : IsNone (answer_of (lines t) w)
+  unanswered = elim (option_cases (answer_of (lines t) w)) [
+    | inl none ↦ none_is (answer_of (lines t) w) none
+    | inr some ↦ let early = answered_begun s.sizes.depth s.script (lines t) w some.0 (desk_log_right s t right) some.1 in let number = next.0 in absurd (omega (arith, early, number))
+  ]
+
+  begins_open : IsOpen (Says (line.Begin w) ∷ t) w
+  begins_open = record { is_begun = begun_now w (lines t) next.0; unanswered = unanswered }
+
+  begins_right : RightTrace s (Says (line.Begin w) ∷ t)
+  begins_right = (next, shown_line s (line.Begin w) t (shown_of s t right), right)
+
+  -- it is another one than those under way
+  is_other : (v : Writer) → v.number < begun v.stream (lines t) → same_writer w v ≡ false
+  is_other v early = elim (same_tells w v) [
+    | inl same ↦ let here : w.number < begun w.stream (lines t) = subst (λ (x : Writer). x.number < begun x.stream (lines t)) (sym same.1) early in let number = next.0 in absurd (omega (arith, here, number))
+    | inr other ↦ other.0
+  ]
+
+  begins_kept : (v : Vio) → KeptOk s t phase.Reply v → KeptOk s (Says (line.Begin w) ∷ t) phase.Reply v
+  begins_kept v k = kept_kept s (Says (line.Begin w)) t phase.Reply v (record { of_request = tt; of_address = λ held. tt; of_block = λ here. tt }) k
+
+  answers_kept : (a : Reply) (v : Vio) → KeptOk s t phase.Reply v → KeptOk s (Says (line.Answer w a) ∷ Says (line.Begin w) ∷ t) phase.Reply v
+  answers_kept a v k = kept_kept s (Says (line.Answer w a)) (Says (line.Begin w) ∷ t) phase.Reply v
+      (record { of_request = is_other v.request k.0.is_open.is_begun; of_address = λ held. tt; of_block = λ here. tt }) (begins_kept v k)
+
+  -- a block request goes to the logical zone of its address, a flush to the device
+  begins_block : (q : Asks) (at : Lba) (bytes : List ℕ) → (q ≡ Read) ⊎ (q ≡ Write) → request_at s.script w ≡ Some (asked q at bytes) → at.0 < s.sizes.geometry.logical
+      → PostOk s (Says (line.Begin w) ∷ t) (logical_zone (zone_of s.sizes.zones at.0), item.Request (begun_vio s.sizes w q at bytes))
+  begins_block q at bytes block asks below =
+      let zone = zone_below s.sizes.zones at.0 is.zones in (
+        omega (arith, zone),
+        (
+          record { asked = asks; is_open = begins_open; address = address q; home = refl },
+          record { block_request = block; unplaced = unborn_place s t w right late; not_entered = unborn_entry s t w right late },
+          refl,
+        ),
+      )
+    where
+      address : (p : Asks) → HasAddress s.sizes (begun_vio s.sizes w q at bytes) p
+      address Read = below
+      address Write = below
+      address Flush = tt
+
+  begins_post : (notified : Bool) (r : Request) (v : Vio) → vio_of s.sizes w r ≡ Some v → request_at s.script w ≡ Some r → at_once s.sizes notified v.asks v.at.0 ≡ None
+      → PostOk s (Says (line.Begin w) ∷ t) (first_zone s.sizes v, item.Request v)
+  begins_post notified (request.Read at) v served asks none =
+      let once : at_once s.sizes notified Read at.0 ≡ None = rw (← same_Some _ _ served) at none in
+      subst (λ (u : Vio). PostOk s (Says (line.Begin w) ∷ t) (first_zone s.sizes u, item.Request u)) (same_Some _ _ served) (begins_block Read at zero_block (inl refl) asks (sent_below at.0 s.sizes.geometry.logical _ once))
+  begins_post notified (request.Write at bytes false) v served asks none =
+      let once : at_once s.sizes notified Write at.0 ≡ None = rw (← same_Some _ _ served) at none in
+      subst (λ (u : Vio). PostOk s (Says (line.Begin w) ∷ t) (first_zone s.sizes u, item.Request u)) (same_Some _ _ served) (begins_block Write at bytes (inr refl) asks (sent_below at.0 s.sizes.geometry.logical _ once))
+  begins_post notified request.Flush v served asks none =
+      subst (λ (u : Vio). PostOk s (Says (line.Begin w) ∷ t) (first_zone s.sizes u, item.Request u)) (same_Some _ _ served) (omega arith, (record { asked = asks; is_open = begins_open; address = tt; home = refl }, refl, refl))
+  begins_post notified (request.Write at bytes true) v served asks none = absurd cc
+  begins_post notified (request.Discard at) v served asks none = absurd cc
+
+-- Stopped is answered only where the stop notice of every zone has come.
+stops_answer : (notified limit : ℕ) (v : Writer) (a : Reply) (older : List DeskLine) → ((w : Writer) → answer_of older w ≡ Some reply.Stopped → limit ≤ notified) → (a ≡ reply.Stopped → limit ≤ notified)
+    → (w : Writer) → answer_of (line.Answer v a ∷ older) w ≡ Some reply.Stopped → limit ≤ notified
+stops_answer notified limit v a older before now w is = elim (same_tells v w) [
+  | inl same ↦ now (same_Some _ _ (rw same.0 at is))
+  | inr other ↦ before w (rw other.0 at is)
+]
+
+notified_enough : (sizes : Sizes) (desk : Desk) → is_notified sizes desk ≡ true → notified_zones sizes ≤ desk.notices
+notified_enough sizes desk is = let more = ltb-true (1 + sizes.zones) desk.notices is in omega (arith, more)
+
+notified_first : (notified : Bool) → ◌≡◌ {A = Option Reply} (if notified then Some reply.Stopped else None) (Some reply.Stopped) → notified ≡ true
+notified_first true is = refl
+notified_first false is = absurd cc
+
+low_stopped : (low notified : Bool) → ◌≡◌ {A = Option Reply} (if low then (if notified then Some reply.Stopped else None) else Some reply.Range) (Some reply.Stopped) → notified ≡ true
+low_stopped true notified is = notified_first notified is
+low_stopped false notified is = absurd cc
+
+never_stopped : (low : Bool) → ◌≡◌ {A = Option Reply} (if low then None else Some reply.Range) (Some reply.Stopped) → ⊥
+never_stopped true is = cc
+never_stopped false is = cc
+
+once_stopped : (sizes : Sizes) (notified : Bool) (asks : Asks) (a : ℕ) → at_once sizes notified asks a ≡ Some reply.Stopped → notified ≡ true
+once_stopped sizes notified Read a is = absurd (never_stopped (nat_lt a sizes.geometry.logical) is)
+once_stopped sizes notified Write a is = low_stopped (nat_lt a sizes.geometry.logical) notified is
+once_stopped sizes notified Flush a is = notified_first notified is
+
+-- The desk begins a request.
+pub desk_begins : (s : Session) (t : Trace) (n : ℕ) (old new : Desk) (made : Trace) (posts : List Post) → IsSession s → RightTrace s t → DeskOk s t n old
+    → DeskBegins s.sizes old new made posts → ActKept s t n (at.Desk new) made posts
+desk_begins s t n old new made posts is right own (DeskBegins.answers w r v a next_line asks served once new_is made_is posts_is) =
+    let next : IsNextLine s.sizes.depth s.script (line.Begin w) (lines t) = rw (own.requests, own.log_is) at next_line in
+    let asked : request_at s.script w ≡ Some r = rw own.requests at asks in
+    let unset = unborn_slot s t w right (late s t w is right next) in
+    let begun_right = begins_right s t w is right next in
+    let open_now = begins_open s t w is right next in
+    let heard_so : is_notified s.sizes old ≡ true → has_stopped t ≡ true = λ notified. own.notified_so (let enough = notified_enough s.sizes old notified in omega (arith, enough)) in
+    let cause : MayAnswer s (Says (line.Begin w) ∷ t) w r a = once_cause s (Says (line.Begin w) ∷ t) w (is_notified s.sizes old) r v a t refl served unset heard_so once in
+    let all : (q : Request) → request_at s.script w ≡ Some q → MayAnswer s (Says (line.Begin w) ∷ t) w q a =
+    λ q had. subst (λ (x : Request). MayAnswer s (Says (line.Begin w) ∷ t) w x a) (same_Some _ _ (sym asked ∙ had)) cause in
+    rw (new_is, made_is, posts_is) (record {
+      right = (((open_now.is_begun, open_now.unanswered), all), shown_line s (line.Answer w a) (Says (line.Begin w) ∷ t) begun_right.1, begun_right);
+      gives = λ gives. gives;
+      own = record {
+        number_is = own.number_is;
+        requests = own.requests;
+        log_is = ap (λ (ls : List DeskLine). line.Answer w a ∷ line.Begin w ∷ ls) own.log_is;
+        marks_is = own.marks_is;
+        stops_notified = stops_answer old.notices (notified_zones s.sizes) w a (line.Begin w ∷ old.log) own.stops_notified (λ same. notified_enough s.sizes old (once_stopped s.sizes (is_notified s.sizes old) v.asks v.at.0 (once ∙ ap (λ (b : Reply). Some b) same)));
+        parked = every-map {P = _} {Q = _} (answers_kept s t w is right next a) old.parked own.parked;
+        notified_so = own.notified_so;
+      };
+      posts_ok = tt;
+    })
+desk_begins s t n old new made posts is right own (DeskBegins.sends w r v next_line asks served none new_is made_is posts_is) =
+    let next : IsNextLine s.sizes.depth s.script (line.Begin w) (lines t) = rw (own.requests, own.log_is) at next_line in
+    let asked : request_at s.script w ≡ Some r = rw own.requests at asks in
+    rw (new_is, made_is, posts_is) (record {
+      right = begins_right s t w is right next;
+      gives = λ gives. gives;
+      own = record {
+        number_is = own.number_is;
+        requests = own.requests;
+        log_is = ap (λ (ls : List DeskLine). line.Begin w ∷ ls) own.log_is;
+        marks_is = own.marks_is;
+        stops_notified = own.stops_notified;
+        parked = every-map {P = _} {Q = _} (begins_kept s t w is right next) old.parked own.parked;
+        notified_so = own.notified_so;
+      };
+      posts_ok = (begins_post s t w is right next (is_notified s.sizes old) r v served asked none, tt);
+    })
+
+-- A request that comes back: its answer is one that it may have.
+module _ (s : Session) (t : Trace) (n : ℕ) (v : Vio) (it : ItemOk s t n (item.Request v)) (phase_is : v.phase ≡ phase.Reply) where
+  may_reply : MayReply s t v v.answer
+  may_reply = let k : Carries s t v phase.Reply = subst (λ (q : Phase). Carries s t v q) phase_is it.1 in k
+
+  earned : (a : Reply) → v.answer ≡ Some a → IsEarned s t v a (is_marked v.asks a)
+  earned a answer = let k : MayReply s t v (Some a) = subst (λ (o : Option Reply). MayReply s t v o) answer may_reply in k
+
+  answer_cause : (a : Reply) → v.answer ≡ Some a → is_marked v.asks a ≡ false → (r : Request) → request_at s.script v.request ≡ Some r → MayAnswer s t v.request r a
+  answer_cause a answer unmarked r asks =
+      let mine : HasCause s t v.request (request_of v) a = subst (λ (marked : Bool). IsEarned s t v a marked) unmarked (earned a answer) in
+      subst (λ (q : Request). MayAnswer s t v.request q a) (same_Some _ _ (sym it.0.asked ∙ asks)) (cause_may s t v.request (request_of v) a mine)
+
+  flush_mark : v.asks ≡ Flush → v.answer ≡ Some reply.Ok → IsMark (moments t) (mark_of_vio v)
+  flush_mark flush answer = let k : IsEarned s t v reply.Ok true = subst (λ (q : Asks). IsEarned s t v reply.Ok (is_marked q reply.Ok)) flush (earned reply.Ok answer) in k
+
+  flush_asked : v.asks ≡ Flush → request_at s.script v.request ≡ Some request.Flush
+  flush_asked flush = it.0.asked ∙ ap (λ (q : Asks). Some (asked q v.at v.bytes)) flush
+
+-- what waits at the desk stays where another request is answered
+parked_answer : (s : Session) (t : Trace) (w : Writer) (a : Reply) (u : Vio) → LacksRequest w (item.Request u) → KeptOk s t phase.Reply u → KeptOk s (Says (line.Answer w a) ∷ t) phase.Reply u
+parked_answer s t w a u lacks k = kept_kept s (Says (line.Answer w a)) t phase.Reply u (spares_answer s t w a (item.Request u) lacks) k
+
+parked_flush : (s : Session) (t : Trace) (m : FlushMark) (u : Vio) → LacksRequest m.request (item.Request u) → KeptOk s t phase.Reply u → KeptOk s (Flushes m ∷ t) phase.Reply u
+parked_flush s t m u lacks k = kept_kept s (Flushes m) t phase.Reply u (spares_flush s t m (item.Request u) lacks) k
+
+-- The desk answers a request, or lets it wait.
+pub desk_serves : (s : Session) (t : Trace) (n : ℕ) (old : Desk) (v : Vio) (new : Desk) (made : Trace) (posts : List Post) → IsSession s → RightTrace s t → DeskOk s t n old
+    → ItemOk s t n (item.Request v) → AllByRecursion (λ u. LacksRequest v.request (item.Request u)) old.parked → DeskServes s.sizes old v new made posts
+    → ActKept s t n (at.Desk new) made posts
+desk_serves s t n old v new made posts is right own it lacks (DeskServes.parks a phase_is answer stopped unnotified new_is made_is posts_is) =
+    rw (new_is, made_is, posts_is) (record {
+      right = right;
+      gives = λ gives. gives;
+      own = record {
+        number_is = own.number_is;
+        requests = own.requests;
+        log_is = own.log_is;
+        marks_is = own.marks_is;
+        stops_notified = own.stops_notified;
+        parked = every-append (KeptOk s t phase.Reply) old.parked (v ∷ []) own.parked ((it.0, it.1, phase_is), tt);
+        notified_so = own.notified_so;
+      };
+      posts_ok = tt;
+    })
+desk_serves s t n old v new made posts is right own it lacks (DeskServes.answers a phase_is answer notified unmarked new_is made_is posts_is) =
+    rw (new_is, made_is, posts_is) (record {
+      right = (((it.0.is_open.is_begun, it.0.is_open.unanswered), answer_cause s t n v it phase_is a answer unmarked), shown_line s (line.Answer v.request a) t (shown_of s t right), right);
+      gives = λ gives. gives;
+      own = record {
+        number_is = own.number_is;
+        requests = own.requests;
+        log_is = ap (λ (ls : List DeskLine). line.Answer v.request a ∷ ls) own.log_is;
+        marks_is = own.marks_is;
+        stops_notified = stops_answer old.notices (notified_zones s.sizes) v.request a old.log own.stops_notified (λ same. notified_enough s.sizes old (notified (ap is_stopped same)));
+        parked = every_both (parked_answer s t v.request a) old.parked lacks own.parked;
+        notified_so = own.notified_so;
+      };
+      posts_ok = tt;
+    })
+desk_serves s t n old v new made posts is right own it lacks (DeskServes.marks phase_is flush answer new_is made_is posts_is) =
+    let m : FlushMark = mark_of_vio v in
+    rw (new_is, made_is, posts_is) (record {
+      right = (
+        ((it.0.is_open.is_begun, it.0.is_open.unanswered), flush_asked s t n v it phase_is flush, flush_mark s t n v it phase_is flush answer),
+        shown_mark s m t (shown_of s t right),
+        right,
+      );
+      gives = λ gives. gives;
+      own = record {
+        number_is = own.number_is;
+        requests = own.requests;
+        log_is = ap (λ (ls : List DeskLine). line.Answer v.request reply.Ok ∷ ls) own.log_is;
+        marks_is = ap (λ (ms : List FlushMark). m ∷ ms) own.marks_is;
+        stops_notified = stops_answer old.notices (notified_zones s.sizes) v.request reply.Ok old.log own.stops_notified (λ same. absurd cc);
+        parked = every_both (parked_flush s t m) old.parked lacks own.parked;
+        notified_so = own.notified_so;
+      };
+      posts_ok = tt;
+    })
+
+-- those that wait go to the desk itself
+woken_ok : (s : Session) (t : Trace) (vs : List Vio) → AllByRecursion (KeptOk s t phase.Reply) vs → AllByRecursion (PostOk s t) (woken vs)
+woken_ok s t [] all = tt
+woken_ok s t (v ∷ vs) all = (
+  (omega arith, (all.0.0, all.0.1, subst (λ (q : Phase). desk_zone ≡ zone_at s.sizes v.home q) (sym all.0.2) refl)),
+  woken_ok s t vs all.1,
+)
+
+-- The desk gets the stop notice of a zone.
+pub desk_hears : (s : Session) (t : Trace) (n : ℕ) (old : Desk) → RightTrace s t → has_stopped t ≡ true → DeskOk s t n old → ActKept s t n (at.Desk (with_notice old)) [] (woken old.parked)
+desk_hears s t n old right stopped own = record {
+  right = right;
+  gives = λ gives. gives;
+  own = record { number_is = own.number_is; requests = own.requests; log_is = own.log_is; marks_is = own.marks_is; stops_notified = λ w stopped. (let enough = own.stops_notified w stopped in omega (arith, enough)); parked = tt; notified_so = λ notified. stopped };
+  posts_ok = woken_ok s t old.parked own.parked;
+}

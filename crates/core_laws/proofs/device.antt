@@ -1,0 +1,5 @@
+pub mod DataBlocks
+pub mod DeviceCalls
+pub mod DeviceFacts
+pub mod DeviceReads
+pub mod DeviceWorkFacts

@@ -1,0 +1,249 @@
+-- What the acts of the device zone owe: it flushes and writes for a sealed block.
+use Rattle.std.proofs.Common.{◌≡◌, ◌⊎◌, ℕ, ◌+◌, ◌<◌, Bool, true, false, Some, List, [], ◌∷◌, length, refl, ap, sym, ◌∙◌, subst, inl, inr, arith}
+use Rattle.std.proofs.lemmas.Option.{same_Some}
+use Rattle.blk_base.specs.Regions.{journal_slot_of}
+use Rattle.blk_base.specs.declared.place.Pbn.{Pbn}
+use Rattle.disk_model.specs.declared.call.Call.{Call}
+use Rattle.disk_model.specs.declared.call.Call.TheVariants as call
+use Rattle.journal_codec.specs.Spelling.{block_bytes}
+use Rattle.stop_laws.specs.Journals.{HasEntry, block_of_slot}
+use Rattle.vdo_model.specs.FlushMarks.{successes}
+use Rattle.vdo_model.specs.Scripts.{value_written}
+use Rattle.core_laws.specs.declared.items.Asks.{Asks}
+use Rattle.core_laws.specs.declared.items.Asks.TheVariants.{Write}
+use Rattle.core_laws.specs.declared.items.SealedBlock.{SealedBlock}
+use Rattle.core_laws.specs.declared.items.Stage.{Stage}
+use Rattle.core_laws.specs.declared.items.Stage.TheVariants as stage
+use Rattle.core_laws.specs.declared.items.Vio.{Vio}
+use Rattle.core_laws.specs.declared.sizes.Sizes.{Sizes}
+use Rattle.core_laws.specs.declared.zones.ZoneData.TheVariants as at
+use Rattle.core_laws.specs.declared.zones.DeviceZone.{DeviceZone}
+use Rattle.core_laws.specs.declared.zones.Logged.{Logged}
+use Rattle.core_laws.specs.DeviceRows.{DeviceWorks, counted, halted, stop_notices, journal_bytes, IsItsSlot, call_of, next_stage, next_zone}
+use Rattle.core_laws.specs.DeviceRows as device
+use Rattle.core_laws.specs.Facts.{HasAddress, StandsAt, BlockOk, DeviceOk, zone_of_stage}
+use Rattle.core_laws.specs.Numbers.{zone_count, notified_zones}
+use Rattle.core_laws.specs.RightTraces.{RightTrace}
+use Rattle.core_laws.specs.Sessions.{Session, IsSession, log, Stands, AtRest, OnItsWay, bytes_of}
+use Rattle.core_laws.specs.Trace.{Happening, Calls, Fails, Trace, calls, committed, has_stopped, entry_of, entries_of}
+use Rattle.core_laws.specs.Vios.{Post, asked, logged, staged}
+use Rattle.core_laws.proofs.kept.ActKept.{ActKept}
+use Rattle.core_laws.proofs.kept.Carried.{vio_kept, entered_kept}
+use Rattle.core_laws.proofs.device.DeviceCalls.{IsSpelled, spelled_block, entries_length, quiet_call, hardens, slot_way, slot_reads, slot_call}
+use Rattle.core_laws.proofs.device.DeviceFacts.{notices_ok}
+use Rattle.core_laws.proofs.journal.JournalPosts.{act_is}
+use Rattle.core_laws.proofs.kept.Spared.{SparesRequest, SparesAddress, below_kept, committed_at, settled_at, honest_before}
+use Rattle.core_laws.proofs.kept.StandsOn.{IsCallOf, succeeded, failed, SparesEntries, spares_all, block_spared, journal_spared, each_kept, rests_kept, way_kept}
+
+-- a block that has come further, by a call or by none
+over : (s : Session) (t : Trace) (h : Happening) (b : SealedBlock) (next : Stage) → BlockOk s t b → SparesEntries s h t → SparesRequest h b.vio.request → SparesAddress h b.vio.at.0 → StandsAt s (h ∷ t) b.vio next
+    → BlockOk s (h ∷ t) (staged next b)
+over s t h b next ok same of_request of_address stands = record {
+  vio = vio_kept s h t b.vio of_request ok.vio;
+  phase = ok.phase;
+  is_entered = entered_kept s h t b.vio of_request ok.is_entered;
+  last = same.entered_same ∙ ok.last ∙ ap (λ es. logged b.vio ∷ es) (sym same.committed_same);
+  others = committed_at h t b.vio.at.0 of_address ∙ ok.others ∙ sym (settled_at h t b.vio.at.0 of_address);
+  below = below_kept h t b.vio.at.0 b.vio.place of_address ok.below;
+  fresh = ok.fresh;
+  old_held = ok.old_held;
+  sequence = rw same.committed_same ok.sequence;
+  few = rw same.committed_same ok.few;
+  stands = stands;
+}
+
+block_over : (s : Session) (t : Trace) {h : Happening} {c : Call} → IsCallOf h c → (b : SealedBlock) (next : Stage) → BlockOk s t b → StandsAt s (h ∷ t) b.vio next → BlockOk s (h ∷ t) (staged next b)
+block_over s t succeeded b next ok stands = over s t _ b next ok (record { entered_same = refl; committed_same = refl }) tt tt stands
+block_over s t failed b next ok stands = over s t _ b next ok (record { entered_same = refl; committed_same = refl }) tt tt stands
+
+block_staged : (s : Session) (t : Trace) (b : SealedBlock) (next : Stage) → BlockOk s t b → StandsAt s t b.vio next → BlockOk s t (staged next b)
+block_staged s t b next ok stands = record {
+  vio = ok.vio;
+  phase = ok.phase;
+  is_entered = ok.is_entered;
+  last = ok.last;
+  others = ok.others;
+  below = ok.below;
+  fresh = ok.fresh;
+  old_held = ok.old_held;
+  sequence = ok.sequence;
+  few = ok.few;
+  stands = stands;
+}
+
+-- a flush keeps what stands, whether it fails or not
+flush_rest : (s : Session) (t : Trace) {h : Happening} {ok : Bool} (es : List Logged) → IsCallOf h (call.Flush ok) → AtRest s t es → AtRest s (h ∷ t) es
+flush_rest s t {h} es is k = rests_kept s h t es (journal_spared s is (λ slot below. tt)) (spares_all h (λ x. block_spared is x tt) es) k
+
+flush_way : (s : Session) (t : Trace) {h : Happening} {ok : Bool} (es : List Logged) (e : Logged) → IsCallOf h (call.Flush ok) → OnItsWay s t es e → OnItsWay s (h ∷ t) es e
+flush_way s t {h} es e is k = way_kept s h t es e (journal_spared s is (λ slot below. tt)) (spares_all h (λ x. block_spared is x tt) (e ∷ es)) k
+
+below_logical : (s : Session) (v : Vio) (q : Asks) → q ≡ Write → HasAddress s.sizes v q → v.at.0 < s.sizes.geometry.logical
+below_logical s v q is k = let here : HasAddress s.sizes v Write = rw is at k in here
+
+module _ (s : Session) (t : Trace) (b : SealedBlock) (session : IsSession s) (ok : BlockOk s t b) where
+  abbrev count : ℕ
+  count = length (entries_of s.window (committed t))
+
+  counted_is : s.sizes.opened + length (committed t) ≡ count
+  counted_is = let opened = session.opened in omega (arith, opened, entries_length s.window (committed t))
+
+  sequence_is : b.sequence ≡ s.sizes.start + count
+  sequence_is = ok.sequence ∙ ap (λ m. s.sizes.start + m) counted_is
+
+  few_entries : count < s.sizes.geometry.journal
+  few_entries = let few = ok.few in omega (arith, few, counted_is)
+
+  spelled : IsSpelled s (logged b.vio)
+  spelled = record {
+    sizes = session.sizes;
+    start = session.start;
+    below = below_logical s b.vio b.vio.asks ok.is_entered.is_write ok.vio.address;
+    old_held = ok.old_held;
+    fresh = ok.fresh;
+  }
+
+  value_is : bytes_of s (logged b.vio) ≡ b.vio.bytes
+  value_is = ap value_written (ok.vio.asked ∙ ap (λ q. Some (asked q b.vio.at b.vio.bytes)) ok.is_entered.is_write)
+
+  says : HasEntry s.sizes.geometry s.sizes.start (s.sizes.start + count) (entry_of (logged b.vio)) (journal_bytes s.sizes b)
+  says = subst (λ (m : ℕ). HasEntry s.sizes.geometry s.sizes.start (s.sizes.start + count) (entry_of (logged b.vio)) (block_bytes s.sizes.geometry.nonce m s.sizes.start (entry_of (logged b.vio) ∷ [])))
+      (sym sequence_is) (spelled_block s (logged b.vio) spelled count few_entries)
+
+  place_is : (slot : Pbn) → IsItsSlot s.sizes b slot → slot.0 ≡ block_of_slot (journal_slot_of s.sizes.geometry (s.sizes.start + count))
+  place_is slot place = place ∙ ap (λ m. block_of_slot (journal_slot_of s.sizes.geometry m)) sequence_is
+
+  block_stands : StandsAt s t b.vio stage.Write → Stands s t b.vio.block.0 (bytes_of s (logged b.vio))
+  block_stands stands = subst (Stands s t b.vio.block.0) (sym value_is) stands.1
+
+  -- what a call leaves, at each stage
+  pub record Made (h : Happening) (next : Stage) : Type 0 where
+    pub right : RightTrace s (h ∷ t)
+    pub stands : StandsAt s (h ∷ t) b.vio next
+
+  module _ (goes : has_stopped t ≡ false) where
+    -- one that succeeds
+    makes_by : (q : Stage) (c : Call) (slot : Pbn) → IsItsSlot s.sizes b slot → call_of s.sizes b slot true q ≡ Some c → RightTrace s t → StandsAt s t b.vio q → Made (Calls c) (next_stage q)
+    makes_by stage.Cover c slot place is right stands =
+        rw (sym (same_Some _ _ is)) (record {
+          right = quiet_call s t (call.Flush true) succeeded (record { succeeds = refl; goes_on = λ writes. goes }) (λ x. tt) right;
+          stands = (flush_rest s t (committed t) succeeded stands.0, stands.1);
+        })
+    makes_by stage.Write c slot place is right stands =
+        let bytes = journal_bytes s.sizes b in
+        let way = slot_way s t (logged b.vio) slot bytes session spelled few_entries (place_is slot place) says stands.0 (block_stands stands) true in
+        rw (sym (same_Some _ _ is)) (record {
+          right = slot_call s t (logged b.vio) slot bytes session spelled few_entries (place_is slot place) says stands.0 (block_stands stands) (Calls (call.Write slot bytes true)) true succeeded
+              (record { succeeds = refl; goes_on = λ writes. goes }) (inr way) ok.last right;
+          stands = (way, slot_reads s t (logged b.vio) slot bytes session spelled few_entries (place_is slot place) says stands.0 (block_stands stands));
+        })
+    makes_by stage.Harden c slot place is right stands =
+        rw (sym (same_Some _ _ is)) (record {
+          right = quiet_call s t (call.Flush true) succeeded (record { succeeds = refl; goes_on = λ writes. goes }) (λ x. tt) right;
+          stands = (
+            hardens s.blocks (log s t) s.sizes.geometry s.sizes.start (entries_of s.window (committed t)) (entry_of (logged b.vio)) stands.0.0 stands.1,
+            each_kept s (Calls (call.Flush true)) t (logged b.vio ∷ committed t) (spares_all (Calls (call.Flush true)) (λ x. tt) (logged b.vio ∷ committed t)) stands.0.1,
+          );
+        })
+    makes_by stage.Commit c slot place is right stands = absurd cc
+    makes_by stage.Fail c slot place is right stands = absurd cc
+
+    -- and one that fails, kept in the log or not
+    fails_by : (q : Stage) (c : Call) (slot : Pbn) (kept : Bool) → IsItsSlot s.sizes b slot → call_of s.sizes b slot false q ≡ Some c → RightTrace s t → StandsAt s t b.vio q → Made (Fails b.vio.request c kept) stage.Fail
+    fails_by stage.Cover c slot kept place is right stands =
+        rw (sym (same_Some _ _ is)) (record {
+          right = quiet_call s t {h = Fails b.vio.request (call.Flush false) kept} (call.Flush false) failed (record { is_open = ok.vio.is_open; fails = refl; goes_on = λ writes. goes; made_for = tt }) (λ x. tt) right;
+          stands = (inl (flush_rest s t {h = Fails b.vio.request (call.Flush false) kept} (committed t) failed stands.0), refl);
+        })
+    fails_by stage.Write c slot kept place is right stands =
+        let bytes = journal_bytes s.sizes b in
+        rw (sym (same_Some _ _ is)) (record {
+          right = slot_call s t (logged b.vio) slot bytes session spelled few_entries (place_is slot place) says stands.0 (block_stands stands) (Fails b.vio.request (call.Write slot bytes false) kept) false failed
+              (record { is_open = ok.vio.is_open; fails = refl; goes_on = λ writes. goes; made_for = tt }) (left kept) ok.last right;
+          stands = (left kept, refl);
+        })
+      where
+        left : (kept : Bool) → AtRest s (Fails b.vio.request (call.Write slot (journal_bytes s.sizes b) false) kept ∷ t) (committed t)
+            ⊎ OnItsWay s (Fails b.vio.request (call.Write slot (journal_bytes s.sizes b) false) kept ∷ t) (committed t) (logged b.vio)
+        left true = inr (slot_way s t (logged b.vio) slot (journal_bytes s.sizes b) session spelled few_entries (place_is slot place) says stands.0 (block_stands stands) false)
+        left false = inl stands.0
+    fails_by stage.Harden c slot kept place is right stands =
+        rw (sym (same_Some _ _ is)) (record {
+          right = quiet_call s t {h = Fails b.vio.request (call.Flush false) kept} (call.Flush false) failed (record { is_open = ok.vio.is_open; fails = refl; goes_on = λ writes. goes; made_for = tt }) (λ x. tt) right;
+          stands = (inr (flush_way s t {h = Fails b.vio.request (call.Flush false) kept} (committed t) (logged b.vio) failed stands.0), refl);
+        })
+    fails_by stage.Commit c slot kept place is right stands = absurd cc
+    fails_by stage.Fail c slot kept place is right stands = absurd cc
+
+-- where it is not made
+unmade_by : (s : Session) (t : Trace) (b : SealedBlock) (q : Stage) (c : Call) (slot : Pbn) → has_stopped t ≡ true → call_of s.sizes b slot false q ≡ Some c → StandsAt s t b.vio q → StandsAt s t b.vio stage.Fail
+unmade_by s t b stage.Cover c slot stopped is stands = (inl stands.0, stopped)
+unmade_by s t b stage.Write c slot stopped is stands = (inl stands.0, stopped)
+unmade_by s t b stage.Harden c slot stopped is stands = (inr stands.0, stopped)
+unmade_by s t b stage.Commit c slot stopped is stands = absurd cc
+unmade_by s t b stage.Fail c slot stopped is stands = absurd cc
+
+zone_is : (s : Session) (b : SealedBlock) (q : Stage) (c : Call) (slot : Pbn) → call_of s.sizes b slot true q ≡ Some c → (next_zone s.sizes q < zone_count s.sizes) × (next_zone s.sizes q ≡ zone_of_stage s.sizes (next_stage q))
+zone_is s b stage.Cover c slot is = (omega arith, refl)
+zone_is s b stage.Write c slot is = (omega arith, refl)
+zone_is s b stage.Harden c slot is = (omega arith, refl)
+zone_is s b stage.Commit c slot is = absurd cc
+zone_is s b stage.Fail c slot is = absurd cc
+
+-- a call that succeeds counts
+call_counts : (sizes : Sizes) (b : SealedBlock) (q : Stage) (c : Call) (slot : Pbn) (older : List Call) → call_of sizes b slot true q ≡ Some c → successes (c ∷ older) ≡ successes older + 1
+call_counts sizes b stage.Cover c slot older is = rw (sym (same_Some _ _ is)) refl
+call_counts sizes b stage.Write c slot older is = rw (sym (same_Some _ _ is)) refl
+call_counts sizes b stage.Harden c slot older is = rw (sym (same_Some _ _ is)) refl
+call_counts sizes b stage.Commit c slot older is = absurd cc
+call_counts sizes b stage.Fail c slot older is = absurd cc
+
+-- one that fails doesn't, and stops the session
+call_fails : (sizes : Sizes) (t : Trace) (b : SealedBlock) (q : Stage) (c : Call) (slot : Pbn) (kept : Bool) → call_of sizes b slot false q ≡ Some c
+    → (successes (calls (Fails b.vio.request c kept ∷ t)) ≡ successes (calls t)) × (has_stopped (Fails b.vio.request c kept ∷ t) ≡ true)
+call_fails sizes t b stage.Cover c slot true is = rw (sym (same_Some _ _ is)) (refl, refl)
+call_fails sizes t b stage.Cover c slot false is = rw (sym (same_Some _ _ is)) (refl, refl)
+call_fails sizes t b stage.Write c slot true is = rw (sym (same_Some _ _ is)) (refl, refl)
+call_fails sizes t b stage.Write c slot false is = rw (sym (same_Some _ _ is)) (refl, refl)
+call_fails sizes t b stage.Harden c slot true is = rw (sym (same_Some _ _ is)) (refl, refl)
+call_fails sizes t b stage.Harden c slot false is = rw (sym (same_Some _ _ is)) (refl, refl)
+call_fails sizes t b stage.Commit c slot kept is = absurd cc
+call_fails sizes t b stage.Fail c slot kept is = absurd cc
+
+module _ (s : Session) (t : Trace) (n : ℕ) (old : DeviceZone) (b : SealedBlock) (session : IsSession s)
+    (right : RightTrace s t) (k : DeviceOk s t n old) (ok : BlockOk s t b) where
+  works_kept : (new : DeviceZone) (made : Trace) (posts : List Post) → DeviceWorks s.sizes old b new made posts → ActKept s t n (at.Device new) made posts
+  works_kept new made posts (device.makes c slot place is runs e m p) =
+      let now = makes_by s t b session ok (sym k.stopped_is ∙ runs) b.stage c slot place is right ok.stands in
+      let zone = zone_is s b b.stage c slot is in
+      act_is s t n (at.Device new) (at.Device (counted old)) made (Calls c ∷ []) posts _ (ap at.Device e) m p
+      (record {
+        right = now.right;
+        gives = λ g honest. g (honest_before s (Calls c) t honest);
+        own = record { number_is = k.number_is; calls_is = ap (λ m. m + 1) k.calls_is ∙ sym (call_counts s.sizes b b.stage c slot (calls t) is); stopped_is = k.stopped_is };
+        posts_ok = ((zone.0, (block_over s t succeeded b (next_stage b.stage) ok now.stands, zone.1)), tt);
+      })
+  works_kept new made posts (device.fails c slot kept place is runs e m p) =
+      let h = Fails b.vio.request c kept in
+      let now = fails_by s t b session ok (sym k.stopped_is ∙ runs) b.stage c slot kept place is right ok.stands in
+      let stops = call_fails s.sizes t b b.stage c slot kept is in
+      act_is s t n (at.Device new) (at.Device (halted old)) made (h ∷ []) posts _ (ap at.Device e) m p
+      (record {
+        right = now.right;
+        gives = λ g honest. g honest;
+        own = record { number_is = k.number_is; calls_is = k.calls_is ∙ sym stops.0; stopped_is = sym stops.1 };
+        posts_ok = ((omega arith, (block_over s t failed b stage.Fail ok now.stands, refl)), notices_ok s (h ∷ t) (notified_zones s.sizes) (omega arith) stops.1);
+      })
+  works_kept new made posts (device.unmade c slot is halts e m p) =
+      act_is s t n (at.Device new) (at.Device old) made [] posts _ (ap at.Device e) m p
+      (record {
+        right = right;
+        gives = λ g honest. g honest;
+        own = k;
+        posts_ok = ((omega arith, (block_staged s t b stage.Fail ok (unmade_by s t b b.stage c slot (sym k.stopped_is ∙ halts) is ok.stands), refl)), tt);
+      })
+
+-- The device zone makes the next call of a sealed block.
+pub device_works : (s : Session) (t : Trace) (n : ℕ) (old new : DeviceZone) (b : SealedBlock) (made : Trace) (posts : List Post) → IsSession s → RightTrace s t → DeviceOk s t n old → BlockOk s t b
+    → DeviceWorks s.sizes old b new made posts → ActKept s t n (at.Device new) made posts
+device_works s t n old new b made posts session right k ok act = works_kept s t n old b session right k ok new made posts act

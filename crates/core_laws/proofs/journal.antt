@@ -1,0 +1,3 @@
+pub mod JournalEndFacts
+pub mod JournalFacts
+pub mod JournalPosts

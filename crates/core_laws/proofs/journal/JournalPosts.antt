@@ -1,0 +1,111 @@
+-- What the journal posts: aborted requests, each with an answer that it may have.
+use Rattle.std.proofs.Common.{◌≡◌, ℕ, ◌<◌, true, Some, IsNone, IsSome, List, [], ◌∷◌, refl, subst, arith}
+use Rattle.std.specs.List.{AllByRecursion}
+use Rattle.std.proofs.Math.Nat.{mod-lt}
+use Rattle.blk_base.specs.declared.request.Answer.{Answer}
+use Rattle.blk_base.specs.declared.request.Answer.TheVariants as reply
+use Rattle.blk_base.specs.declared.place.Lba.{Lba}
+use Rattle.blk_base.specs.declared.request.Writer.{Writer}
+use Rattle.vdo_model.specs.Places.{place_of, zone_of}
+use Rattle.core_laws.specs.declared.items.Asks.{Asks}
+use Rattle.core_laws.specs.declared.items.Asks.TheVariants.{Write}
+use Rattle.core_laws.specs.declared.items.Phase.{Phase}
+use Rattle.core_laws.specs.declared.items.Phase.TheVariants as phase
+use Rattle.core_laws.specs.declared.items.Vio.{Vio}
+use Rattle.core_laws.specs.declared.zones.ZoneData.{ZoneData}
+use Rattle.core_laws.specs.Facts.{VioOk, Holds, IsPlaced, IsEntered, MayReply, Carries, KeptOk}
+use Rattle.core_laws.specs.JournalRows.{refused, all_refused}
+use Rattle.core_laws.specs.Numbers.{zone_count}
+use Rattle.core_laws.specs.RightTraces.{RightTrace, HasPlace, HasCause, IsFull}
+use Rattle.core_laws.specs.Sessions.{Session, IsSession}
+use Rattle.core_laws.specs.Trace.{Trace, places, entered, settled, has_stopped, logged_of}
+use Rattle.core_laws.specs.Vios.{Post, asked, turned, ended}
+use Rattle.core_laws.proofs.kept.ActKept.{PostOk, ActKept, unentered_slot}
+use Rattle.plain_laws.proofs.OptionLaws.{some_is}
+
+-- An act is as its equations say.
+pub act_is : (s : Session) (t : Trace) (n : ℕ) (new new' : ZoneData) (made made' : Trace) (posts posts' : List Post) → new ≡ new' → made ≡ made' → posts ≡ posts'
+    → ActKept s t n new' made' posts' → ActKept s t n new made posts
+act_is s t n new new' made made' posts posts' p q r k = rw (p, q, r) k
+
+-- a request that goes on, and one that is to be answered, is the same one
+pub turned_ok : (s : Session) (t : Trace) (v : Vio) (next : Phase) → VioOk s t v → VioOk s t (turned next v)
+turned_ok s t v next ok = record { asked = ok.asked; is_open = ok.is_open; address = ok.address; home = ok.home }
+
+pub ended_ok : (s : Session) (t : Trace) (v : Vio) (next : Phase) (a : Answer) → VioOk s t v → VioOk s t (ended next a v)
+ended_ok s t v next a ok = record { asked = ok.asked; is_open = ok.is_open; address = ok.address; home = ok.home }
+
+pub ended_holds : (s : Session) (t : Trace) (v : Vio) (next : Phase) (a : Answer) → Holds s t v → Holds s t (ended next a v)
+ended_holds s t v next a k = record {
+  is_placed = record { block_request = k.is_placed.block_request; placed = k.is_placed.placed; not_entered = k.is_placed.not_entered };
+  quiet = k.quiet;
+  below = k.below;
+  old_held = k.old_held;
+  old_is = k.old_is;
+}
+
+pub ended_entered : (s : Session) (t : Trace) (v : Vio) (next : Phase) (a : Answer) → IsEntered s t v → IsEntered s t (ended next a v)
+ended_entered s t v next a k = record { is_write = k.is_write; placed = k.placed; entry = k.entry; unsettled = k.unsettled; unaborted = k.unaborted }
+
+pub turned_entered : (s : Session) (t : Trace) (v : Vio) (next : Phase) → IsEntered s t v → IsEntered s t (turned next v)
+turned_entered s t v next k = record { is_write = k.is_write; placed = k.placed; entry = k.entry; unsettled = k.unsettled; unaborted = k.unaborted }
+
+-- what its phase says that it carries
+pub carries_at : (s : Session) (t : Trace) (v : Vio) (q : Phase) → v.phase ≡ q → Carries s t v v.phase → Carries s t v q
+carries_at s t v q is k = subst (λ (p : Phase). Carries s t v p) is k
+
+-- once the session is stopped, a write whose slot isn't set may be answered so; where no block is left for it, one that has
+-- its place and isn't handed in is answered `Full`
+cause_stopped : (s : Session) (t : Trace) (w : Writer) (q : Asks) (at : Lba) (bytes : List ℕ) → q ≡ Write → has_stopped t ≡ true → IsSome (place_of (places t) w) → IsNone (logged_of (settled t) w)
+    → HasCause s t w (asked q at bytes) reply.Stopped
+cause_stopped s t w q at bytes is stopped placed none = rw is (stopped, placed, none)
+
+cause_full : (s : Session) (t : Trace) (w : Writer) (q : Asks) (at : Lba) (bytes : List ℕ) → q ≡ Write → IsNone (logged_of (entered t) w) → IsSome (place_of (places t) w) → IsFull s t
+    → HasCause s t w (asked q at bytes) reply.Full
+cause_full s t w q at bytes is none some full = rw is (some, none, full)
+
+pub may_stop : (s : Session) (t : Trace) (v : Vio) (next : Phase) → v.asks ≡ Write → has_stopped t ≡ true → HasPlace s t v.request v.at.0 v.place → IsNone (logged_of (settled t) v.request)
+    → MayReply s t (ended next reply.Stopped v) (Some reply.Stopped)
+may_stop s t v next is stopped placed none = cause_stopped s t v.request v.asks v.at v.bytes is stopped (some_is _ _ placed) none
+
+pub may_fill : (s : Session) (t : Trace) (v : Vio) (next : Phase) → v.asks ≡ Write → IsPlaced s t v → IsFull s t → MayReply s t (ended next reply.Full v) (Some reply.Full)
+may_fill s t v next is k full = cause_full s t v.request v.asks v.at v.bytes is k.not_entered (some_is _ _ k.placed) full
+
+-- the home of a request is a zone
+pub home_within : (s : Session) (t : Trace) (v : Vio) → IsSession s → VioOk s t v → v.home < zone_count s.sizes
+home_within s t v session ok =
+    let below : zone_of s.sizes.zones v.at.0 < s.sizes.zones = mod-lt _ (let some = session.zones in omega (arith, some)) in
+    let home = ok.home in
+    omega (arith, below, home)
+
+module _ (s : Session) (t : Trace) where
+  -- a write that holds its lock is aborted
+  pub stopped_post : (v : Vio) → RightTrace s t → has_stopped t ≡ true → VioOk s t v → Holds s t v → v.asks ≡ Write → PostOk s t (refused s.sizes reply.Stopped v)
+  stopped_post v right stopped ok k is = (
+    omega arith,
+    (
+      ended_ok s t v phase.AbortClaim reply.Stopped ok,
+      (ended_holds s t v phase.AbortClaim reply.Stopped k, may_stop s t v phase.AbortClaim is stopped k.is_placed.placed (unentered_slot s t v.request right k.is_placed.not_entered)),
+      refl,
+    ),
+  )
+
+  pub full_post : (v : Vio) → IsFull s t → VioOk s t v → Holds s t v → v.asks ≡ Write → PostOk s t (refused s.sizes reply.Full v)
+  full_post v full ok k is = (
+    omega arith,
+    (
+      ended_ok s t v phase.AbortClaim reply.Full ok,
+      (ended_holds s t v phase.AbortClaim reply.Full k, may_fill s t v phase.AbortClaim is k.is_placed full),
+      refl,
+    ),
+  )
+
+  -- all that wait do
+  pub stopped_posts : (vs : List Vio) → RightTrace s t → has_stopped t ≡ true → AllByRecursion (KeptOk s t phase.Enter) vs → AllByRecursion (PostOk s t) (all_refused s.sizes reply.Stopped vs)
+  stopped_posts [] right stopped all = tt
+  stopped_posts (v ∷ vs) right stopped all =
+      let k = carries_at s t v phase.Enter all.0.2 all.0.1 in (stopped_post v right stopped all.0.0 k.0 k.1, stopped_posts vs right stopped all.1)
+
+  pub full_posts : (vs : List Vio) → IsFull s t → AllByRecursion (KeptOk s t phase.Enter) vs → AllByRecursion (PostOk s t) (all_refused s.sizes reply.Full vs)
+  full_posts [] full all = tt
+  full_posts (v ∷ vs) full all = let k = carries_at s t v phase.Enter all.0.2 all.0.1 in (full_post v full all.0.0 k.0 k.1, full_posts vs full all.1)

@@ -1,0 +1,183 @@
+-- What requests and sealed blocks carry stays where the next happening is about something else.
+use Rattle.std.proofs.Common.{◌≡◌, ◌⊎◌, ℕ, Bool, true, false, Option, None, Some, List, ◌∷◌, refl, ap, sym, ◌∙◌, subst, inl, inr}
+use Rattle.blk_base.specs.declared.request.Answer.{Answer}
+use Rattle.blk_base.specs.declared.request.Answer.TheVariants as reply
+use Rattle.blk_base.specs.declared.request.Request.{Request}
+use Rattle.blk_base.specs.declared.request.Request.TheVariants as request
+use Rattle.blk_base.specs.declared.request.Writer.{Writer}
+use Rattle.vdo_model.specs.Places.{place_of}
+use Rattle.core_laws.specs.declared.items.Item.{Item}
+use Rattle.core_laws.specs.declared.items.Item.TheVariants as item
+use Rattle.core_laws.specs.declared.items.Phase.{Phase}
+use Rattle.core_laws.specs.declared.items.Phase.TheVariants as phase
+use Rattle.core_laws.specs.declared.items.SealedBlock.{SealedBlock}
+use Rattle.core_laws.specs.declared.items.Stage.{Stage}
+use Rattle.core_laws.specs.declared.items.Stage.TheVariants as stage
+use Rattle.core_laws.specs.declared.items.Vio.{Vio}
+use Rattle.core_laws.specs.declared.zones.Logged.{Logged}
+use Rattle.core_laws.specs.DeskRows.{is_marked, mark_of_vio}
+use Rattle.core_laws.specs.Facts.{VioOk, IsUnplaced, IsPlaced, Holds, Looks, IsEntered, IsEarned, MayReply, Carries, StandsAt, BlockOk, ItemOk, KeptOk}
+use Rattle.core_laws.specs.RightTraces.{HasCause}
+use Rattle.core_laws.specs.Sessions.{Session, AtRest, OnItsWay}
+use Rattle.core_laws.specs.Tokens.{holds}
+use Rattle.core_laws.specs.Trace.{Happening, Trace, places, entered, committed, settled, gifts, newest, logged_of, gift_of}
+use Rattle.core_laws.specs.Vios.{logged, request_of}
+use Rattle.core_laws.proofs.kept.Spared.{SparesRequest, SparesAddress, open_kept, place_same, entry_same, slot_same, abort_same, gift_same, stop_kept, fault_kept, abort_kept, full_kept, mapping_same, quiet_kept, committed_kept, below_kept, mark_kept, honest_before, value_same, settled_at, committed_at}
+use Rattle.core_laws.proofs.kept.StandsOn.{SparesBlock, SparesBlocks, SparesJournal, SparesEntries, stands_kept, reads_kept, rests_kept, way_kept, entry_reads_kept}
+
+-- the happening is about no such request, nor its address where it holds the lock, nor its block before it is handed in
+pub record SparesVio (h : Happening) (v : Vio) : Type 0 where
+  pub of_request : SparesRequest h v.request
+  pub of_address : holds v.phase ≡ true → SparesAddress h v.at.0
+  pub of_block : v.phase ≡ phase.Enter → SparesBlock h v.block.0
+
+pub record SparesSealed (s : Session) (t : Trace) (h : Happening) (b : SealedBlock) : Type 0 where
+  pub of_request : SparesRequest h b.vio.request
+  pub of_address : SparesAddress h b.vio.at.0
+  pub of_entries : SparesEntries s h t
+  pub of_journal : SparesJournal s h
+  pub of_blocks : SparesBlocks h (entered t)
+
+abbrev pub SparesItem : Session → Trace → Happening → Item → Type 0
+SparesItem s t h (item.Request v) = SparesVio h v
+SparesItem s t h (item.Block b) = SparesSealed s t h b
+SparesItem s t h item.StopNotice = Unit {0}
+
+-- the parts of the trace say the same of a request
+pub record SaysSame (h : Happening) (t : Trace) (w : Writer) : Type 0 where
+  pub of_place : place_of (places (h ∷ t)) w ≡ place_of (places t) w
+  pub of_entry : logged_of (entered (h ∷ t)) w ≡ logged_of (entered t) w
+  pub of_slot : logged_of (settled (h ∷ t)) w ≡ logged_of (settled t) w
+  pub of_gift : gift_of (gifts (h ∷ t)) w ≡ gift_of (gifts t) w
+
+says_same : (h : Happening) (t : Trace) (w : Writer) → SparesRequest h w → SaysSame h t w
+says_same h t w apart = record { of_place = place_same h t w apart; of_entry = entry_same h t w apart; of_slot = slot_same h t w apart; of_gift = gift_same h t w apart }
+
+module _ (s : Session) (h : Happening) (t : Trace) where
+  pub cause_kept : (w : Writer) (r : Request) (a : Answer) → SaysSame h t w → HasCause s t w r a → HasCause s (h ∷ t) w r a
+  cause_kept w (request.Read at) (reply.Bytes bytes) same k = (k.0, same.of_gift ∙ k.1)
+  cause_kept w (request.Read at) reply.Range same k = k
+  cause_kept w (request.Read at) reply.Stopped same k =
+      (stop_kept h t k.0, record { place = k.1.place; placed = same.of_place ∙ k.1.placed; behind = abort_kept h t at.0 k.1.place k.1.behind })
+  cause_kept w (request.Read at) reply.ReadFault same k = (rw (same.of_place) k.0, fault_kept h t w k.1)
+  cause_kept w (request.Read at) other same k = absurd k
+  cause_kept w (request.Write at bytes fua) reply.Ok same k = rw (same.of_slot) k
+  cause_kept w (request.Write at bytes fua) reply.Range same k = k
+  cause_kept w (request.Write at bytes fua) reply.Stopped same k = (stop_kept h t k.0, rw (same.of_place) k.1, rw (same.of_slot) k.2)
+  cause_kept w (request.Write at bytes fua) reply.Full same k = (rw (same.of_place) k.0, rw (same.of_entry) k.1, full_kept s h t k.2)
+  cause_kept w (request.Write at bytes fua) other same k = absurd k
+  cause_kept w (request.Discard at) a same k = k
+  cause_kept w request.Flush reply.Stopped same k = stop_kept h t k
+  cause_kept w request.Flush other same k = absurd k
+
+  earned_said : (v : Vio) (a : Answer) (marked : Bool) → SaysSame h t v.request → IsEarned s t v a marked → IsEarned s (h ∷ t) v a marked
+  earned_said v a true same k = mark_kept h t (mark_of_vio v) k
+  earned_said v a false same k = cause_kept v.request (request_of v) a same k
+
+  pub reply_said : (v : Vio) (answer : Option Answer) → SaysSame h t v.request → MayReply s t v answer → MayReply s (h ∷ t) v answer
+  reply_said v None same k = k
+  reply_said v (Some a) same k = earned_said v a (is_marked v.asks a) same k
+
+  pub reply_kept : (v : Vio) (answer : Option Answer) → SparesRequest h v.request → MayReply s t v answer → MayReply s (h ∷ t) v answer
+  reply_kept v answer apart k = reply_said v answer (says_same h t v.request apart) k
+
+  pub vio_kept : (v : Vio) → SparesRequest h v.request → VioOk s t v → VioOk s (h ∷ t) v
+  vio_kept v apart ok = record { asked = ok.asked; is_open = open_kept h t v.request apart ok.is_open; address = ok.address; home = ok.home }
+
+  pub unplaced_kept : (v : Vio) → SparesRequest h v.request → IsUnplaced s t v → IsUnplaced s (h ∷ t) v
+  unplaced_kept v apart k = record {
+    block_request = k.block_request;
+    unplaced = rw (place_same h t v.request apart) k.unplaced;
+    not_entered = rw (entry_same h t v.request apart) k.not_entered;
+  }
+
+  pub placed_kept : (v : Vio) → SparesRequest h v.request → IsPlaced s t v → IsPlaced s (h ∷ t) v
+  placed_kept v apart k = record {
+    block_request = k.block_request;
+    placed = place_same h t v.request apart ∙ k.placed;
+    not_entered = rw (entry_same h t v.request apart) k.not_entered;
+  }
+
+  pub holds_kept : (v : Vio) → SparesRequest h v.request → SparesAddress h v.at.0 → Holds s t v → Holds s (h ∷ t) v
+  holds_kept v apart off k = record {
+    is_placed = placed_kept v apart k.is_placed;
+    quiet = quiet_kept h t v.at.0 off k.quiet;
+    below = below_kept h t v.at.0 v.place off k.below;
+    old_held = k.old_held;
+    old_is = k.old_is ∙ sym (mapping_same s.window (settled (h ∷ t)) (settled t) v.at.0 (settled_at h t v.at.0 off));
+  }
+
+  pub looks_kept : (v : Vio) → SparesRequest h v.request → SparesAddress h v.at.0 → Looks s t v → Looks s (h ∷ t) v
+  looks_kept v apart off k = record {
+    held = holds_kept v apart off k.held;
+    is_read = k.is_read;
+    latest = k.latest ∙ ap newest (sym (settled_at h t v.at.0 off));
+  }
+
+  pub entered_kept : (v : Vio) → SparesRequest h v.request → IsEntered s t v → IsEntered s (h ∷ t) v
+  entered_kept v apart k = record {
+    is_write = k.is_write;
+    placed = place_same h t v.request apart ∙ k.placed;
+    entry = entry_same h t v.request apart ∙ k.entry;
+    unsettled = rw (slot_same h t v.request apart) k.unsettled;
+    unaborted = rw (abort_same h t v.request apart) k.unaborted;
+  }
+
+  -- by the phase
+  by_phase : (v : Vio) (q : Phase) → SparesRequest h v.request → (holds q ≡ true → SparesAddress h v.at.0) → (q ≡ phase.Enter → SparesBlock h v.block.0)
+      → Carries s t v q → Carries s (h ∷ t) v q
+  by_phase v phase.Arrive r a b k = unplaced_kept v r k
+  by_phase v phase.Wait r a b k = placed_kept v r k
+  by_phase v phase.Claim r a b k = (holds_kept v r (a refl) k.0, k.1)
+  by_phase v phase.Store r a b k = (holds_kept v r (a refl) k.0, k.1, k.2)
+  by_phase v phase.Enter r a b k = (holds_kept v r (a refl) k.0, k.1, k.2, reads_kept s h t v.block.0 v.bytes (b refl) k.3)
+  by_phase v phase.Settle r a b k = (entered_kept v r k.0, committed_kept h t (logged v) (a refl) k.1, below_kept h t v.at.0 v.place (a refl) k.2, k.3)
+  by_phase v phase.Load r a b k = (looks_kept v r (a refl) k.0, k.1, k.2)
+  by_phase v phase.Loaded r a b k = (looks_kept v r (a refl) k.0, λ honest. k.1 (honest_before s h t honest) ∙ sym (value_same s h t v.at.0 (a refl)))
+  by_phase v phase.AbortClaim r a b k = (holds_kept v r (a refl) k.0, reply_kept v v.answer r k.1)
+  by_phase v phase.Abort r a b k = (holds_kept v r (a refl) k.0, reply_kept v v.answer r k.1)
+  by_phase v phase.AbortEnteredClaim r a b k = (entered_kept v r k.0, reply_kept v v.answer r k.1, stop_kept h t k.2)
+  by_phase v phase.AbortEntered r a b k = (entered_kept v r k.0, reply_kept v v.answer r k.1, stop_kept h t k.2)
+  by_phase v phase.Flush r a b k = k
+  by_phase v phase.Reply r a b k = reply_kept v v.answer r k
+
+  pub carries_kept : (v : Vio) → SparesVio h v → Carries s t v v.phase → Carries s (h ∷ t) v v.phase
+  carries_kept v spares k = by_phase v v.phase spares.of_request spares.of_address spares.of_block k
+
+  pub kept_kept : (q : Phase) (v : Vio) → SparesVio h v → KeptOk s t q v → KeptOk s (h ∷ t) q v
+  kept_kept q v spares k = (vio_kept v spares.of_request k.0, carries_kept v spares k.1, k.2)
+
+  -- a sealed block
+  by_stage : (v : Vio) (q : Stage) → SparesEntries s h t → SparesJournal s h → SparesBlocks h (logged v ∷ committed t) → StandsAt s t v q → StandsAt s (h ∷ t) v q
+  by_stage v stage.Cover same journal blocks k = rw same.committed_same (rests_kept s h t (committed t) journal blocks.1 k.0, reads_kept s h t v.block.0 v.bytes blocks.0 k.1)
+  by_stage v stage.Write same journal blocks k = rw same.committed_same (rests_kept s h t (committed t) journal blocks.1 k.0, stands_kept s h t v.block.0 v.bytes blocks.0 k.1)
+  by_stage v stage.Harden same journal blocks k = rw same.committed_same (way_kept s h t (committed t) (logged v) journal blocks k.0, entry_reads_kept s h t (committed t) (logged v) journal k.0 k.1)
+  by_stage v stage.Commit same journal blocks k = rw same.committed_same (rests_kept s h t (logged v ∷ committed t) journal blocks k)
+  by_stage v stage.Fail same journal blocks k = (rw same.committed_same (failed k.0), stop_kept h t k.1)
+    where
+      failed : AtRest s t (committed t) ⊎ OnItsWay s t (committed t) (logged v) → AtRest s (h ∷ t) (committed t) ⊎ OnItsWay s (h ∷ t) (committed t) (logged v)
+      failed (inl rests) = inl (rests_kept s h t (committed t) journal blocks.1 rests)
+      failed (inr way) = inr (way_kept s h t (committed t) (logged v) journal blocks way)
+
+  pub block_kept : (b : SealedBlock) → SparesSealed s t h b → BlockOk s t b → BlockOk s (h ∷ t) b
+  block_kept b spares k =
+      let v = b.vio in
+      let blocks : SparesBlocks h (logged v ∷ committed t) = subst (λ (es : List Logged). SparesBlocks h es) k.last spares.of_blocks in
+      record {
+        vio = vio_kept v spares.of_request k.vio;
+        phase = k.phase;
+        is_entered = entered_kept v spares.of_request k.is_entered;
+        last = spares.of_entries.entered_same ∙ k.last ∙ ap (λ es. logged v ∷ es) (sym spares.of_entries.committed_same);
+        others = committed_at h t v.at.0 spares.of_address ∙ k.others ∙ sym (settled_at h t v.at.0 spares.of_address);
+        below = below_kept h t v.at.0 v.place spares.of_address k.below;
+        fresh = k.fresh;
+        old_held = k.old_held;
+        sequence = rw spares.of_entries.committed_same k.sequence;
+        few = rw spares.of_entries.committed_same k.few;
+        stands = by_stage v b.stage spares.of_entries spares.of_journal blocks k.stands;
+      }
+
+  pub item_kept : (to : ℕ) (it : Item) → SparesItem s t h it → ItemOk s t to it → ItemOk s (h ∷ t) to it
+  item_kept to (item.Request v) spares k = (vio_kept v spares.of_request k.0, carries_kept v spares k.1, k.2)
+  item_kept to (item.Block b) spares k = (block_kept b spares k.0, k.1)
+  item_kept to item.StopNotice spares k = (k.0, stop_kept h t k.1)

@@ -1,0 +1,241 @@
+-- One session that can be served, over a device of zeros, and the core at its start: so that there is a legal core.
+use Rattle.std.proofs.Common.{◌≡◌, ℕ, zero, suc, ◌+◌, ◌<◌, ◌≤◌, ◌%◌, false, List, [], ◌∷◌, length, get_or, replicate, take, drop, reverse, refl, sym, ◌∙◌, ap, subst, inl, inr, arith}
+use Rattle.std.specs.List.{AllByRecursion}
+use Rattle.std.proofs.Math.Nat.{mod-lt}
+use Rattle.std.proofs.lemmas.Bool.{cases_lt}
+use Rattle.std.proofs.lemmas.Bool.Decides.{eqb_tells}
+use Rattle.std.proofs.lemmas.Grind.{get_or_after_one}
+use Rattle.std.proofs.lemmas.List.{get_or-replicate, get_or-take, get_or_past, length-replicate, reverse-append}
+use Rattle.std.proofs.lemmas.Option.{same_Some}
+use Rattle.blk_base.specs.Limits.{IsGeometry}
+use Rattle.blk_base.specs.Sectors.{sector, zero_block}
+use Rattle.blk_base.specs.declared.geometry.Geometry.{Geometry}
+use Rattle.blk_base.specs.declared.journal_entry.Entry.{Entry}
+use Rattle.blk_base.specs.declared.place.Pbn.{Pbn}
+use Rattle.blk_base.specs.declared.request.Request.{Request}
+use Rattle.blk_base.specs.declared.request.Request.TheVariants as request
+use Rattle.disk_model.specs.Images.{HasOneImage}
+use Rattle.image_layout.specs.Window.{IsWindow, journal_of}
+use Rattle.journal_codec.specs.Grammar.{IsSector}
+use Rattle.journal_codec.specs.Spelling.{head_bytes}
+use Rattle.journal_codec.proofs.ReadLaws.{head_of_sector}
+use Rattle.core_laws.specs.declared.items.Item.{Item}
+use Rattle.core_laws.specs.declared.sizes.Sizes.{Sizes}
+use Rattle.core_laws.specs.declared.zones.ZoneData.{ZoneData}
+use Rattle.core_laws.specs.declared.zones.ZoneData.TheVariants as at
+use Rattle.core_laws.specs.declared.zones.Desk.{Desk}
+use Rattle.core_laws.specs.declared.zones.DeviceZone.{DeviceZone}
+use Rattle.core_laws.specs.declared.zones.JournalZone.{JournalZone}
+use Rattle.core_laws.specs.declared.zones.LogicalZone.{LogicalZone}
+use Rattle.core_laws.specs.declared.zones.PhysicalZone.{PhysicalZone}
+use Rattle.core_laws.specs.declared.zones.Zone.{Zone}
+use Rattle.core_laws.specs.Legal.{Legal}
+use Rattle.core_laws.specs.Sessions.{Session, IsSession, IsFresh, AreDistinct}
+use Rattle.core_laws.specs.Start.{IsFirstLogical, IsFirstData, IsFirstZone, IsFirst}
+use Rattle.core_laws.specs.Steps.{Core}
+use Rattle.plain_laws.specs.Sums.{total, Each}
+use Rattle.core_laws.specs.Tokens.{is_block}
+use Rattle.core_laws.proofs.kept.FirstState.{legal_first}
+
+-- a device of zeros
+
+zeros_length : length zero_block ≡ 4096
+unfolding zero_block
+zeros_length = length-replicate {A = ℕ} 4096 0
+
+zeros_at : (n b : ℕ) → get_or (replicate n zero_block) b zero_block ≡ zero_block
+zeros_at n b = elim (cases_lt b n) [
+  | inl below ↦ get_or-replicate n b zero_block zero_block below
+  | inr past ↦ get_or_past (replicate n zero_block) b zero_block (omega (arith, length-replicate n zero_block, past))
+]
+
+-- a sector of zeros is no sector of a journal: the head of one ends with its magic
+head_end : (nonce sequence head number count : ℕ) → get_or (reverse (head_bytes nonce sequence head number count)) 0 0 ≡ 49
+unfolding head_bytes
+head_end nonce sequence head number count = simp reverse-append refl
+
+zeros_end : get_or (reverse (take 32 (sector 0 zero_block))) 0 0 ≡ 0
+unfolding zero_block
+zeros_end = refl
+
+no_sector : (nonce sequence head : ℕ) (entries : List Entry) → IsSector nonce 0 (sector 0 zero_block) sequence head entries → ⊥
+no_sector nonce sequence head entries is =
+    let e : 0 ≡ 49 = sym zeros_end ∙ ap (λ (bytes : List ℕ). get_or (reverse (take 32 bytes)) 0 0) is.spelled
+    ∙ ap (λ (bytes : List ℕ). get_or (reverse bytes) 0 0) (head_of_sector nonce sequence head 0 entries) ∙ head_end nonce sequence head 0 (length entries) in
+    absurd (omega (arith, e))
+
+-- it has one image, and an empty window
+zeros_image : (n : ℕ) → HasOneImage (replicate n zero_block) [] (replicate n zero_block)
+zeros_image n = record {
+  size = refl;
+  whole = λ b below. ap length (zeros_at n b) ∙ zeros_length;
+  only = λ b below. (refl, tt);
+}
+
+zeros_window : (g : Geometry) (start n : ℕ) → 0 < g.journal → IsWindow g start (journal_of g (replicate n zero_block)) []
+zeros_window g start n some = record {
+  count = record {
+    small = omega arith;
+    there = inl refl;
+    last = λ sequence head entries from reach has.
+        no_sector g.nonce sequence head entries
+        (subst (λ (block : List ℕ). IsSector g.nonce 0 (sector 0 block) sequence head entries) (journal_zeros (sequence % g.journal) (mod-lt sequence some)) has);
+  };
+  written = tt;
+}
+  where
+    journal_zeros : (slot : ℕ) → slot < g.journal → get_or (journal_of g (replicate n zero_block)) slot zero_block ≡ zero_block
+    journal_zeros slot below = get_or-take g.journal (drop 1 (replicate n zero_block)) slot zero_block below ∙ get_or_after_one (replicate n zero_block) slot zero_block ∙ zeros_at n (1 + slot)
+
+-- the sizes of the default image with a small slab, two logical zones, and a script of one stream
+
+abbrev geometry : Geometry
+geometry = record { logical = 1000; slabs = 1; slab_blocks = 64; journal = 8; index = 16; slab_journal = 4; height = 2; nonce = 1 }
+
+abbrev sizes : Sizes
+sizes = record { geometry = geometry; start = 1; opened = 0; zones = 2; depth = 2 }
+
+abbrev script : List (List Request)
+script = (request.Write (record { 0 = 5 }) zero_block false ∷ request.Read (record { 0 = 5 }) ∷ request.Flush ∷ []) ∷ []
+
+abbrev blocks : ℕ → List (List ℕ)
+blocks n = replicate n zero_block
+
+-- all data blocks of its slab are free
+abbrev run : ℕ → ℕ → List Pbn
+run first zero = []
+run first (suc n) = record { 0 = first } ∷ run (suc first) n
+
+abbrev pub small_session : ℕ → Session
+small_session n = record { sizes = sizes; script = script; blocks = blocks n; before = []; image = blocks n; window = []; free = run 85 64 }
+
+geometry_ok : IsGeometry geometry
+geometry_ok = record {
+  height = (omega arith, omega arith);
+  nonce = omega arith;
+  logical = (omega arith, omega arith);
+  slabs = (omega arith, omega arith);
+  slab_blocks = (omega arith, omega arith);
+  journal = (omega arith, omega arith);
+  index = (omega arith, omega arith, refl);
+  slab_journal = (omega arith, omega arith);
+}
+
+run_above : (x first n : ℕ) → x < first → total (is_block x) (run first n) ≡ 0
+run_above x first zero above = refl
+run_above x first (suc n) above = elim (eqb_tells first x) [
+  | inl same ↦ let e = same.1 in absurd (omega (arith, e))
+  | inr other ↦ rw other.0 (omega (arith, run_above x (suc first) n (omega arith)))
+]
+
+run_distinct : (first n : ℕ) → AreDistinct (run first n)
+run_distinct first zero x = omega arith
+run_distinct first (suc n) x = elim (eqb_tells first x) [
+  | inl same ↦ let e = same.1 in rw same.0 (omega (arith, run_above x (suc first) n (omega (arith, e))))
+  | inr other ↦ rw other.0 (omega (arith, run_distinct (suc first) n x))
+]
+
+run_fresh : (blocks_there offset first n : ℕ) → first ≡ 85 + offset → offset + n ≤ 64 → AllByRecursion (IsFresh (small_session blocks_there)) (run first n)
+run_fresh blocks_there offset first zero at_offset inside = tt
+run_fresh blocks_there offset first (suc n) at_offset inside = (
+  record {
+    is_data = record { slab = 0; offset = offset; inside = (omega arith, omega arith); stands = sym at_offset };
+    unnamed = λ a y e. absurd (cc);
+    inside = omega arith;
+  },
+  run_fresh blocks_there (suc offset) (suc first) n (omega arith) (omega arith),
+)
+
+pub small_served : (n : ℕ) → 154 ≤ n → IsSession (small_session n)
+small_served n room = record {
+  sizes = geometry_ok;
+  start = (omega arith, omega arith);
+  zones = omega arith;
+  room = omega (arith, room, length-replicate n zero_block);
+  served = (((zeros_length, refl), (tt, (tt, tt))), tt);
+  one_image = zeros_image n;
+  is_window = zeros_window geometry 1 n (omega arith);
+  opened = refl;
+  few = omega arith;
+  free = run_fresh n 0 85 64 (omega arith) (omega arith);
+  distinct = run_distinct 85 64;
+}
+
+-- the core
+
+abbrev no_lanes : List (List Item)
+no_lanes = [] ∷ [] ∷ [] ∷ [] ∷ [] ∷ [] ∷ []
+
+abbrev empty_zone : ℕ → ZoneData → Zone
+empty_zone number keeps = record { number = number; keeps = keeps; inbox = []; outboxes = no_lanes }
+
+abbrev logical : ℕ → LogicalZone
+logical zone = record { zone = zone; notified = false; next = 0; places = []; held = []; waiting = []; retired = []; window = []; slots = [] }
+
+abbrev small_desk : Desk
+small_desk = record { requests = script; log = []; marks = []; notices = 0; parked = [] }
+
+abbrev small_physical : PhysicalZone
+small_physical = record { notified = false; free = run 85 64 }
+
+abbrev small_journal : JournalZone
+small_journal = record { notified = false; busy = false; broken = false; waiting = []; entered = []; committed = [] }
+
+abbrev small_device : DeviceZone
+small_device = record { stopped = false; calls = 0 }
+
+abbrev pub small_core : Core
+small_core = record {
+  zones =
+      empty_zone 0 (at.Desk small_desk)
+      ∷ empty_zone 1 (at.Logical (logical 0))
+      ∷ empty_zone 2 (at.Logical (logical 1))
+      ∷ empty_zone 3 (at.Physical small_physical)
+      ∷ empty_zone 4 (at.Journal small_journal)
+      ∷ empty_zone 5 (at.Device small_device)
+      ∷ [];
+  trace = [];
+}
+
+-- of each element of a list that is there
+abbrev AllOf : {X : Type 0} → (ℕ → X → Type 0) → List X → Type 0
+AllOf P [] = Unit {0}
+AllOf P (x ∷ xs) = P 0 x × AllOf (λ i. P (suc i)) xs
+
+each_of : {X : Type 0} (P : ℕ → X → Type 0) (xs : List X) → AllOf P xs → Each P xs
+each_of P [] h i y e = absurd (cc)
+each_of P (x ∷ xs) h zero y e = subst (P 0) (same_Some _ _ e) h.0
+each_of P (x ∷ xs) h (suc i) y e = each_of (λ k. P (suc k)) xs h.1 i y e
+
+empty_first : (n number : ℕ) (keeps : ZoneData) → IsFirstData (small_session n) number keeps → IsFirstZone (small_session n) number (empty_zone number keeps)
+empty_first n number keeps own = record { number_is = refl; lanes = refl; inbox = refl; outboxes = (refl, (refl, (refl, (refl, (refl, (refl, tt)))))); own = own }
+
+logical_first : (n zone : ℕ) → zone < 2 → IsFirstLogical (small_session n) (1 + zone) (logical zone)
+logical_first n zone below = record { number_is = refl; among = below; notified = refl; next = refl; places = refl; held = refl; waiting = refl; retired = refl; window = refl; slots = refl }
+
+-- The core of this session at its start ..
+pub small_first : (n : ℕ) → IsFirst (small_session n) small_core
+small_first n = record {
+  count = refl;
+  each = each_of (IsFirstZone (small_session n)) small_core.zones (
+    empty_first n 0 (at.Desk small_desk) (record { number_is = refl; requests = refl; log = refl; marks = refl; notices = refl; parked = refl }),
+    (
+      empty_first n 1 (at.Logical (logical 0)) (logical_first n 0 (omega arith)),
+      (
+        empty_first n 2 (at.Logical (logical 1)) (logical_first n 1 (omega arith)),
+        (
+          empty_first n 3 (at.Physical small_physical) (record { number_is = refl; notified = refl; free = refl }),
+          (
+            empty_first n 4 (at.Journal small_journal) (record { number_is = refl; notified = refl; busy = refl; broken = refl; waiting = refl; entered = refl; committed = refl }),
+            (empty_first n 5 (at.Device small_device) (record { number_is = refl; stopped = refl; calls = refl }), tt),
+          ),
+        ),
+      ),
+    ),
+  );
+  trace_is = refl;
+}
+
+-- .. is legal.
+pub small_legal : (n : ℕ) → 154 ≤ n → Legal (small_session n) small_core
+small_legal n room = legal_first (small_session n) small_core (small_first n) (small_served n room)

@@ -1,0 +1,214 @@
+-- A core at its start is legal, with an empty trace.
+use Rattle.std.proofs.Common.{◌≡◌, ℕ, suc, ◌<◌, ◌≤◌, Bool, true, false, not, List, [], ◌∷◌, ◌++◌, length, refl, sym, ◌∙◌, ap, subst, inl, arith}
+use Rattle.std.specs.List.{AllByRecursion}
+use Rattle.blk_base.specs.declared.place.Mapping.{Mapping}
+use Rattle.blk_base.specs.declared.place.Mapping.TheVariants.{Unmapped, Zero, At}
+use Rattle.blk_base.specs.declared.place.Pbn.{Pbn}
+use Rattle.blk_base.specs.declared.request.Writer.{Writer}
+use Rattle.image_layout.specs.Window.{mapping_of}
+use Rattle.stop_laws.proofs.JournalLaws.{opened_at_rest}
+use Rattle.vdo_model.specs.declared.report.DeskLine.{DeskLine}
+use Rattle.core_laws.specs.declared.items.Item.{Item}
+use Rattle.core_laws.specs.declared.items.Item.TheVariants as item
+use Rattle.core_laws.specs.declared.items.Phase.TheVariants as phase
+use Rattle.core_laws.specs.declared.items.Vio.{Vio}
+use Rattle.core_laws.specs.declared.zones.ZoneData.{ZoneData}
+use Rattle.core_laws.specs.declared.zones.ZoneData.TheVariants as at
+use Rattle.core_laws.specs.declared.zones.Lock.{Lock}
+use Rattle.core_laws.specs.declared.zones.Zone.{Zone}
+use Rattle.core_laws.specs.Facts.{ItemOk, KeptOk, WaitsOk, LockOk, DataOk, ZoneOk, RestsAt, Rises, arrivals}
+use Rattle.core_laws.specs.Legal.{InOrder, LanesInOrder, Legal}
+use Rattle.core_laws.specs.Numbers.{desk_zone, zone_count}
+use Rattle.core_laws.specs.Sessions.{IsFresh, Session, IsSession, Shown, AtRest}
+use Rattle.core_laws.specs.Start.{IsFirstData, IsFirstZone, IsFirst}
+use Rattle.core_laws.specs.Steps.{Core}
+use Rattle.plain_laws.specs.Sums.{total, bit, Each}
+use Rattle.core_laws.specs.Tokens.{is_block, Token, queued, weight, given, Balanced, AtMost, in_log, begins_of, answers_of, request_token, lock_weight, lease_token, is_entry, blocks_at, one_physical, block_token, journal_token, is_begin, is_answer, room_token, notified_by, notice_token}
+use Rattle.core_laws.specs.Trace.{Trace, of_address, newest}
+use Rattle.core_laws.specs.DeviceRows.{IsInside}
+use Rattle.core_laws.specs.JournalRows.{is_closed}
+use Rattle.core_laws.specs.LogicalRows.{is_among, mapped_by, mapping_at}
+use Rattle.core_laws.specs.declared.zones.LogicalZone.{LogicalZone}
+use Rattle.byte_fields.specs.Mappings.{HoldsMapping}
+use Rattle.blk_base.proofs.RegionLaws.{data_block_high, data_block_inside}
+use Rattle.core_laws.proofs.device.DataBlocks.{blocks_fit, window_data}
+use Rattle.plain_laws.proofs.ListLaws.{every-get, every-map}
+
+-- sums of what each thing has, as the one is at most the other
+total_at_most : {X : Type 0} (f g : X → ℕ) (xs : List X) → Each (λ i x. f x ≤ g x) xs → total f xs ≤ total g xs
+total_at_most f g [] h = omega arith
+total_at_most f g (x ∷ xs) h = omega (arith, h 0 x refl, total_at_most f g xs (λ i. h (suc i)))
+
+total_both : {X : Type 0} (f g : X → ℕ) (xs : List X) → Each (λ i x. f x ≡ g x) xs → total f xs ≡ total g xs
+total_both f g [] h = refl
+total_both f g (x ∷ xs) h = omega (arith, h 0 x refl, total_both f g xs (λ i. h (suc i)))
+
+no_lanes : (w : Item → ℕ) (lanes : List (List Item)) → AllByRecursion (λ lane. lane ≡ []) lanes → total (total w) lanes ≡ 0
+no_lanes w [] h = refl
+no_lanes w (l ∷ ls) h = omega (arith, ap (total w) h.0, no_lanes w ls h.1)
+
+none_queued : (w : Item → ℕ) (s : Session) (n : ℕ) (d : ZoneData) → IsFirstData s n d → queued w d ≡ 0
+none_queued w s n (at.Desk d) h = ap (total (λ (v : Vio). w (item.Request v))) h.parked
+none_queued w s n (at.Logical l) h = ap (total (λ (v : Vio). w (item.Request v))) h.waiting
+none_queued w s n (at.Physical p) h = refl
+none_queued w s n (at.Journal j) h = ap (total (λ (v : Vio). w (item.Request v))) h.waiting
+none_queued w s n (at.Device d) h = refl
+
+-- at the start a zone weighs what its data weighs
+bare_weight : (t : Token) (s : Session) (n : ℕ) (z : Zone) → IsFirstZone s n z → weight t z ≡ t.own z.keeps
+bare_weight t s n z f = omega (arith, ap (total t.item) f.inbox, no_lanes t.item z.outboxes f.outboxes, none_queued t.item s n z.keeps f.own)
+
+module _ (s : Session) (zones : List Zone) (first : Each (IsFirstZone s) zones) where
+  balanced_at_start : (t : Token) → ((n : ℕ) (d : ZoneData) → IsFirstData s n d → t.own d ≡ t.gave d) → Balanced t zones
+  balanced_at_start t same = total_both (weight t) (given t) zones (λ n z e. bare_weight t s n z (first n z e) ∙ same n z.keeps (first n z e).own)
+
+  at_most_at_start : (t : Token) → ((n : ℕ) (d : ZoneData) → IsFirstData s n d → t.own d ≤ t.gave d) → AtMost t zones
+  at_most_at_start t less = total_at_most (weight t) (given t) zones (λ n z e. omega (arith, bare_weight t s n z (first n z e), less n z.keeps (first n z e).own))
+
+-- each kind of token
+
+no_lines : (f g : DeskLine → ℕ) (s : Session) (n : ℕ) (d : ZoneData) → IsFirstData s n d → in_log f d ≡ in_log g d
+no_lines f g s n (at.Desk d) h = ap (total f) h.log ∙ sym (ap (total g) h.log)
+no_lines f g s n (at.Logical l) h = refl
+no_lines f g s n (at.Physical p) h = refl
+no_lines f g s n (at.Journal j) h = refl
+no_lines f g s n (at.Device d) h = refl
+
+no_locks : (a : ℕ) (test : ℕ → Bool) (s : Session) (n : ℕ) (d : ZoneData) → IsFirstData s n d → (lease_token a test).own d ≡ (lease_token a test).gave d
+no_locks a test s n (at.Desk d) h = refl
+no_locks a test s n (at.Logical l) h = sym (ap (total (lock_weight a test)) h.held)
+no_locks a test s n (at.Physical p) h = refl
+no_locks a test s n (at.Journal j) h = refl
+no_locks a test s n (at.Device d) h = refl
+
+free_once : (x : ℕ) (s : Session) → IsSession s → (n : ℕ) (d : ZoneData) → IsFirstData s n d → blocks_at x d ≤ one_physical d
+free_once x s session n (at.Desk d) h = omega arith
+free_once x s session n (at.Logical l) h = omega arith
+free_once x s session n (at.Physical p) h = let once = session.distinct x in omega (arith, once, ap (total (is_block x)) h.free)
+free_once x s session n (at.Journal j) h = omega (arith, ap (total (is_entry x)) h.entered)
+free_once x s session n (at.Device d) h = omega arith
+
+journal_idle : (s : Session) (n : ℕ) (d : ZoneData) → IsFirstData s n d → journal_token.own d ≡ journal_token.gave d
+journal_idle s n (at.Desk d) h = refl
+journal_idle s n (at.Logical l) h = refl
+journal_idle s n (at.Physical p) h = refl
+journal_idle s n (at.Journal j) h = ap (λ (b : Bool). bit (not b)) h.busy
+journal_idle s n (at.Device d) h = refl
+
+no_words : (s : Session) (n : ℕ) (d : ZoneData) → IsFirstData s n d → (notice_token s.sizes).own d ≡ (notice_token s.sizes).gave d
+no_words s n (at.Desk d) h = h.notices
+no_words s n (at.Logical l) h = refl
+no_words s n (at.Physical p) h = refl
+no_words s n (at.Journal j) h = refl
+no_words s n (at.Device d) h = sym (ap (λ (b : Bool). notified_by s.sizes (at.Device (record d { stopped = b }))) h.stopped)
+
+-- what the device has
+
+module _ (s : Session) (session : IsSession s) where
+  at_rest : AtRest s [] []
+  at_rest = (opened_at_rest s.blocks s.before s.sizes.geometry s.sizes.start s.image s.window (omega (arith, session.sizes.journal.0)) (omega (arith, session.room)) session.one_image session.is_window, tt)
+
+  pub shown_at_start : Shown s []
+  shown_at_start = record {
+    kept = record {
+      superblock = session.one_image.only 0 (omega (arith, session.room));
+      mapped = λ a y e. session.one_image.only y.0 (omega (arith, session.room, data_block_inside s.sizes.geometry y.0 (window_data s a y session e)));
+    };
+    journal = inl (refl, at_rest);
+  }
+
+  -- an address is mapped to a block of the window
+  held_at_start : (a : ℕ) (m : Mapping) → mapping_of s.window a ≡ m → HoldsMapping m
+  held_at_start a Unmapped e = tt
+  held_at_start a Zero e = tt
+  held_at_start a (At y) e =
+      let is = window_data s a y session e in
+      let high = data_block_high s.sizes.geometry y.0 is in
+      let low = data_block_inside s.sizes.geometry y.0 is in
+      let few = blocks_fit s.sizes.geometry session.sizes in
+      (omega (arith, high), omega (arith, low, few))
+
+  mapped_at_start : (l : LogicalZone) (a : ℕ) → l.slots ≡ [] → l.window ≡ s.window → HoldsMapping (mapping_at l a)
+  mapped_at_start l a none is =
+      let here : mapping_at l a ≡ mapping_of s.window a = ap (λ es. mapped_by (newest (of_address a es)) (mapping_of l.window a)) none ∙ ap (λ w. mapping_of w a) is in
+      rw here (held_at_start a (mapping_of s.window a) refl)
+
+  inside_at_start : (l : LogicalZone) (a : ℕ) (x : Pbn) → l.slots ≡ [] → l.window ≡ s.window → mapping_at l a ≡ At x → IsInside s.sizes x
+  inside_at_start l a x none is at =
+      let here : mapping_at l a ≡ mapping_of s.window a = ap (λ es. mapped_by (newest (of_address a es)) (mapping_of l.window a)) none ∙ ap (λ w. mapping_of w a) is in
+      data_block_inside s.sizes.geometry x.0 (window_data s a x session (sym here ∙ at))
+
+  -- what each zone keeps
+  data_at_start : (n : ℕ) (d : ZoneData) → IsFirstData s n d → DataOk s [] n d
+  data_at_start n (at.Desk d) h = record {
+    number_is = h.number_is;
+    requests = h.requests;
+    log_is = h.log;
+    marks_is = h.marks;
+    stops_notified = λ w is. absurd (let none = rw h.log at is in cc);
+    parked = subst (λ (vs : List Vio). AllByRecursion (KeptOk s [] phase.Reply) vs) (sym h.parked) tt;
+    notified_so = λ notified. let none = h.notices in absurd (omega (arith, notified, none));
+  }
+  data_at_start n (at.Logical l) h = record {
+    number_is = h.number_is;
+    among = h.among;
+    places_is = h.places;
+    next_is = h.next;
+    window_is = h.window;
+    slots_are = λ a e. ap (of_address a) h.slots;
+    mapped = λ a. mapped_at_start l a h.slots h.window;
+    inside = λ a x is. inside_at_start l a x h.slots h.window is;
+    retired_so = λ a retired. absurd (let none = ap (is_among a) h.retired in cc);
+    below = λ a e. record { writes = tt; reads = tt };
+    locks = subst (λ (locks : List Lock). AllByRecursion (LockOk s l) locks) (sym h.held) tt;
+    once = λ a. omega (arith, ap (total (lock_weight a (λ p. true))) h.held);
+    quiet = λ a e free living. record { all_committed = refl; all_settled = refl };
+    waiting = subst (λ (vs : List Vio). AllByRecursion (WaitsOk s [] n l) vs) (sym h.waiting) tt;
+    in_line = subst (λ (locks : List Lock). AllByRecursion (λ (lock : Lock). AllByRecursion (λ v. v.at.0 ≡ lock.at.0 → lock.place < v.place) l.waiting) locks) (sym h.held) tt;
+    in_order = subst Rises (sym h.waiting) tt;
+  }
+  data_at_start n (at.Physical p) h = record { number_is = h.number_is; free = subst (λ (xs : List Pbn). AllByRecursion (IsFresh s) xs) (sym h.free) session.free; left = h.free }
+  data_at_start n (at.Journal j) h = record {
+    number_is = h.number_is;
+    entered_is = h.entered;
+    committed_is = h.committed;
+    waiting = subst (λ (vs : List Vio). AllByRecursion (KeptOk s [] phase.Enter) vs) (sym h.waiting) tt;
+    rests = subst (λ (b : Bool). RestsAt s [] b j.broken) (sym h.busy) (subst (λ (b : Bool). RestsAt s [] false b) (sym h.broken) (refl, at_rest));
+    closed_so = λ closed. absurd (let notified = h.notified in let broken = h.broken in let opened : is_closed j ≡ false = rw (notified, broken) refl in cc);
+  }
+  data_at_start n (at.Device d) h = record { number_is = h.number_is; calls_is = h.calls; stopped_is = h.stopped }
+
+  zone_at_start : (n : ℕ) (z : Zone) → IsFirstZone s n z → ZoneOk s [] n z
+  zone_at_start n z f = record {
+    number_is = f.number_is;
+    lanes = f.lanes;
+    inbox = subst (λ (items : List Item). AllByRecursion (ItemOk s [] n) items) (sym f.inbox) tt;
+    outboxes = λ to lane e. subst (λ (items : List Item). AllByRecursion (ItemOk s [] to) items) (sym (every-get (λ lane. lane ≡ []) z.outboxes to lane f.outboxes e)) tt;
+    arrivals_from = λ ne. every-map {P = λ lane. lane ≡ []} {Q = λ lane. arrivals lane ≡ []} (λ lane e. ap arrivals e) z.outboxes f.outboxes;
+    own = data_at_start n z.keeps f.own;
+  }
+
+  order_at_start : (zones : List Zone) → Each (IsFirstZone s) zones → LanesInOrder [] zones
+  order_at_start zones first n z desk l lane hz kz hd hl =
+      let inbox = ap arrivals (first n z hz).inbox in
+      let empty = ap arrivals (every-get (λ lane. lane ≡ []) desk.outboxes n lane (first desk_zone desk hd).outboxes hl) in
+      subst (λ (us : List Writer). InOrder l.zone [] (us ++ arrivals lane)) (sym inbox) (subst (λ (us : List Writer). InOrder l.zone [] us) (sym empty) tt)
+
+  legal_zones : (zones : List Zone) → length zones ≡ zone_count s.sizes → Each (IsFirstZone s) zones → Legal s (record { zones = zones; trace = [] })
+  legal_zones zones count first = record {
+    count = count;
+    each = λ n z e. zone_at_start n z (first n z e);
+    requests = λ w. balanced_at_start s zones first (request_token w) (no_lines (answers_of w) (begins_of w) s);
+    leases = λ a test. balanced_at_start s zones first (lease_token a test) (no_locks a test s);
+    blocks = λ x. at_most_at_start s zones first (block_token x) (free_once x s session);
+    journal = balanced_at_start s zones first journal_token (journal_idle s);
+    room = balanced_at_start s zones first room_token (no_lines is_answer is_begin s);
+    stop_notices = balanced_at_start s zones first (notice_token s.sizes) (no_words s);
+    in_order = order_at_start zones first;
+    right = shown_at_start;
+    gives_right = λ honest. tt;
+  }
+
+-- A core at its start is legal.
+pub legal_first : (s : Session) (core : Core) → IsFirst s core → IsSession s → Legal s core
+legal_first s core first session = subst (λ (t : Trace). Legal s (record { zones = core.zones; trace = t })) (sym first.trace_is) (legal_zones s session core.zones first.count first.each)

@@ -1,0 +1,234 @@
+-- What a zone does with an item is fixed, and at the device by how it answered: two acts on the same item keep, make and post
+-- the same.
+use Rattle.std.proofs.Common.{ℕ, ◌+◌, ◌≡◌, Bool, true, false, not, ◌&&◌, Option, None, Some, List, [], ◌∷◌, ◌++◌, refl, sym, ap, ◌∙◌}
+use Rattle.blk_base.specs.declared.place.Pbn.{Pbn}
+use Rattle.blk_base.specs.declared.request.Answer.{Answer}
+use Rattle.blk_base.specs.declared.request.Answer.TheVariants as reply
+use Rattle.disk_model.specs.declared.call.Call.TheVariants.{Read}
+use Rattle.vdo_model.specs.declared.report.DeskLine.TheVariants as line
+use Rattle.core_laws.specs.declared.items.Item.{Item}
+use Rattle.core_laws.specs.declared.items.Item.TheVariants as item
+use Rattle.core_laws.specs.declared.items.Phase.{Phase}
+use Rattle.core_laws.specs.declared.items.Phase.TheVariants as phase
+use Rattle.core_laws.specs.declared.items.SealedBlock.{SealedBlock}
+use Rattle.core_laws.specs.declared.items.Stage.{Stage}
+use Rattle.core_laws.specs.declared.items.Stage.TheVariants as stage
+use Rattle.core_laws.specs.declared.items.Vio.{Vio}
+use Rattle.core_laws.specs.declared.sizes.Sizes.{Sizes}
+use Rattle.core_laws.specs.declared.zones.Desk.{Desk}
+use Rattle.core_laws.specs.declared.zones.DeviceZone.{DeviceZone}
+use Rattle.core_laws.specs.declared.zones.JournalZone.{JournalZone}
+use Rattle.core_laws.specs.declared.zones.LogicalZone.{LogicalZone}
+use Rattle.core_laws.specs.declared.zones.PhysicalZone.{PhysicalZone}
+use Rattle.core_laws.specs.declared.zones.ZoneData.{ZoneData}
+use Rattle.core_laws.specs.declared.zones.ZoneData.TheVariants as at
+use Rattle.core_laws.specs.DeskRows.{DeskServes, parks, answers, marks, is_notified, is_stopped, is_marked, mark_of_vio}
+use Rattle.core_laws.specs.DeviceRows.{DeviceServes, DeviceWorks, counted, halted, stop_notices, next_stage, next_zone}
+use Rattle.core_laws.specs.JournalRows.{PhysicalServes, JournalServes, JournalEnds, is_closed, has_block, sealed, refused, all_refused, entered_by, committed_by, hands_out}
+use Rattle.core_laws.specs.LogicalRows.{LogicalServes, is_among, is_held, lock_of, all_for, placed, place_of_vio, drawn_by, goes_on, granted, released, retire, all_stopped, with_slot}
+use Rattle.core_laws.specs.Numbers.{desk_zone, physical_zone, journal_zone, device_zone, notified_zones}
+use Rattle.core_laws.specs.Steps.{Act, CallsDevice}
+use Rattle.core_laws.specs.Steps as steps
+use Rattle.core_laws.specs.Trace.{Trace, Flushes, Says, Draws, Enters, Commits, Sets, Gives, Takes, Aborts, Calls}
+use Rattle.core_laws.specs.Vios.{Post, turned, ended, logged, gift, staged}
+
+-- what a zone keeps, what happens, and what is posted
+abbrev Result : Type 0 → Type 0
+Result Z = Z × Trace × List Post
+
+abbrev to_desk : Phase → Vio → Post
+to_desk now v = (desk_zone, item.Request (turned now v))
+
+-- the desk
+abbrev reply_at : Desk → Vio → Answer → (waits marked : Bool) → Result Desk
+reply_at desk v a true marked = (record desk { parked = desk.parked ++ v ∷ [] }, [], [])
+reply_at desk v a false true = (record desk { log = line.Answer v.request reply.Ok ∷ desk.log; marks = mark_of_vio v ∷ desk.marks }, Flushes (mark_of_vio v) ∷ [], [])
+reply_at desk v a false false = (record desk { log = line.Answer v.request a ∷ desk.log }, Says (line.Answer v.request a) ∷ [], [])
+
+abbrev desk_at : Sizes → Desk → Vio → Option Answer → Result Desk
+desk_at sizes desk v None = (desk, [], [])
+desk_at sizes desk v (Some a) = reply_at desk v a (is_stopped a && not (is_notified sizes desk)) (is_marked v.asks a)
+
+waits_not : (stops notified : Bool) → (stops ≡ true → notified ≡ true) → (stops && not notified) ≡ false
+waits_not true notified h = rw (h refl) refl
+waits_not false notified h = refl
+
+desk_is : (sizes : Sizes) (desk : Desk) (v : Vio) (new : Desk) (made : Trace) (posts : List Post) → DeskServes sizes desk v new made posts → (new, made, posts) ≡ desk_at sizes desk v v.answer
+desk_is sizes desk v new made posts (parks a is answer stops waits n m q) = rw (n, m, q, answer, stops, waits) refl
+desk_is sizes desk v new made posts (answers a is answer told unmarked n m q) = rw (n, m, q, answer, waits_not (is_stopped a) (is_notified sizes desk) told, unmarked) refl
+desk_is sizes desk v new made posts (marks is asks answer n m q) = rw (n, m, q, answer, asks) refl
+
+-- the physical zone
+abbrev claim_at : Sizes → PhysicalZone → Vio → List Pbn → Result PhysicalZone
+claim_at sizes p v [] = (p, [], (v.home, item.Request (ended phase.Abort reply.Full v)) ∷ [])
+claim_at sizes p v (x ∷ others) = (record p { free = others }, Takes v.request x ∷ [], (device_zone sizes, item.Request (record v { phase = phase.Store; block = x })) ∷ [])
+
+abbrev physical_at : Sizes → PhysicalZone → Vio → Phase → Result PhysicalZone
+physical_at sizes p v phase.Claim = claim_at sizes p v p.free
+physical_at sizes p v phase.AbortClaim = (p, [], (v.home, item.Request (turned phase.Abort v)) ∷ [])
+physical_at sizes p v phase.AbortEnteredClaim = (p, [], (v.home, item.Request (turned phase.AbortEntered v)) ∷ [])
+physical_at sizes p v other = (p, [], [])
+
+physical_is : (sizes : Sizes) (p : PhysicalZone) (v : Vio) (new : PhysicalZone) (made : Trace) (posts : List Post) → PhysicalServes sizes p v new made posts
+    → (new, made, posts) ≡ physical_at sizes p v v.phase
+physical_is sizes p v new made posts (PhysicalServes.claims x others is free n m q) = rw (n, m, q, is, free) refl
+physical_is sizes p v new made posts (PhysicalServes.is_full is free n m q) = rw (n, m, q, is, free) refl
+physical_is sizes p v new made posts (PhysicalServes.aborts_claim is n m q) = rw (n, m, q, is) refl
+physical_is sizes p v new made posts (PhysicalServes.aborts_entered_claim is n m q) = rw (n, m, q, is) refl
+
+-- a logical zone
+abbrev arrival_at : LogicalZone → Vio → (retired held : Bool) → Option Post → Result LogicalZone
+arrival_at l v true held next = (drawn_by l v, Draws (place_of_vio l v) ∷ [], (desk_zone, item.Request (ended phase.Reply reply.Stopped (placed l v))) ∷ [])
+arrival_at l v false true next = (record (drawn_by l v) { waiting = l.waiting ++ turned phase.Wait (placed l v) ∷ [] }, Draws (place_of_vio l v) ∷ [], [])
+arrival_at l v false false (Some post) = (record (drawn_by l v) { held = lock_of (placed l v) ∷ l.held }, Draws (place_of_vio l v) ∷ [], post ∷ [])
+arrival_at l v false false None = (l, [], [])
+
+-- the lock is passed on
+abbrev passes : LogicalZone → ℕ → Trace → Post → Option (List Post) → Result LogicalZone
+passes l a made post (Some more) = (released a l, made, post ∷ more)
+passes l a made post None = (l, [], [])
+
+abbrev logical_at : Sizes → LogicalZone → Vio → Phase → Result LogicalZone
+logical_at sizes l v phase.Arrive = arrival_at l v (is_among v.at.0 l.retired) (is_held v.at.0 l.held) (goes_on sizes l (placed l v))
+logical_at sizes l v phase.Settle =
+    passes (with_slot l v) v.at.0 (Sets (logged v) ∷ []) (desk_zone, item.Request (ended phase.Reply reply.Ok v)) (granted sizes v.at.0 (with_slot l v))
+logical_at sizes l v phase.Loaded = passes l v.at.0 (Gives (gift v) ∷ []) (desk_zone, item.Request (ended phase.Reply (reply.Bytes v.bytes) v)) (granted sizes v.at.0 l)
+logical_at sizes l v phase.Abort = passes l v.at.0 [] (to_desk phase.Reply v) (granted sizes v.at.0 l)
+logical_at sizes l v phase.AbortEntered = (retire v.at.0 l, Aborts (logged v) ∷ [], to_desk phase.Reply v ∷ all_stopped (all_for v.at.0 l.waiting))
+logical_at sizes l v other = (l, [], [])
+
+logical_is : (sizes : Sizes) (l : LogicalZone) (v : Vio) (new : LogicalZone) (made : Trace) (posts : List Post) → LogicalServes sizes l v new made posts
+    → (new, made, posts) ≡ logical_at sizes l v v.phase
+logical_is sizes l v new made posts (LogicalServes.arrives_retired is retired n m q) = rw (n, m, q, is, retired) refl
+logical_is sizes l v new made posts (LogicalServes.arrives_free post is alive free next n m q) = rw (n, m, q, is, alive, free, next) refl
+logical_is sizes l v new made posts (LogicalServes.arrives_held is alive held n m q) = rw (n, m, q, is, alive, held) refl
+logical_is sizes l v new made posts (LogicalServes.settles more is next n m q) = rw (n, m, q, is, next) refl
+logical_is sizes l v new made posts (LogicalServes.gives more is next n m q) = rw (n, m, q, is, next) refl
+logical_is sizes l v new made posts (LogicalServes.aborts more is next n m q) = rw (n, m, q, is, next) refl
+logical_is sizes l v new made posts (LogicalServes.aborts_entered is n m q) = rw (n, m, q, is) refl
+
+-- the journal
+abbrev entry_at : Sizes → JournalZone → Vio → (closed busy room : Bool) → Result JournalZone
+entry_at sizes j v true busy room = (j, [], refused sizes reply.Stopped v ∷ [])
+entry_at sizes j v false true room = (record j { waiting = j.waiting ++ v ∷ [] }, [], [])
+entry_at sizes j v false false false = (j, [], refused sizes reply.Full v ∷ [])
+entry_at sizes j v false false true = (entered_by v j, Enters (logged v) ∷ [], (device_zone sizes, item.Block (sealed sizes j v)) ∷ [])
+
+journal_is : (sizes : Sizes) (j : JournalZone) (v : Vio) (new : JournalZone) (made : Trace) (posts : List Post) → JournalServes sizes j v new made posts
+    → (new, made, posts) ≡ entry_at sizes j v (is_closed j) j.busy (has_block sizes j)
+journal_is sizes j v new made posts (JournalServes.is_stopped is closed n m q) = rw (n, m, q, closed) refl
+journal_is sizes j v new made posts (JournalServes.waits is open_yet busy n m q) = rw (n, m, q, open_yet, busy) refl
+journal_is sizes j v new made posts (JournalServes.is_full is open_yet idle room n m q) = rw (n, m, q, open_yet, idle, room) refl
+journal_is sizes j v new made posts (JournalServes.enters is open_yet idle room n m q) = rw (n, m, q, open_yet, idle, room) refl
+
+abbrev commit_at : Sizes → JournalZone → SealedBlock → List Vio → (room : Bool) → Result JournalZone
+commit_at sizes j b (w ∷ ws) true =
+    (entered_by w (record (committed_by b.vio j) { waiting = ws }), Enters (logged w) ∷ Commits (logged b.vio) ∷ [], hands_out b.vio ∷ (device_zone sizes, item.Block (sealed sizes j w)) ∷ [])
+commit_at sizes j b [] true = (committed_by b.vio j, Commits (logged b.vio) ∷ [], hands_out b.vio ∷ [])
+commit_at sizes j b waiting false = (record (committed_by b.vio j) { waiting = [] }, Commits (logged b.vio) ∷ [], hands_out b.vio ∷ all_refused sizes reply.Full j.waiting)
+
+abbrev end_at : Sizes → JournalZone → SealedBlock → Stage → Result JournalZone
+end_at sizes j b stage.Commit = commit_at sizes j b j.waiting (has_block sizes j)
+end_at sizes j b stage.Fail = (
+  record j { busy = false; broken = true; waiting = [] },
+  [],
+  (physical_zone sizes, item.Request (ended phase.AbortEnteredClaim reply.Stopped b.vio)) ∷ all_refused sizes reply.Stopped j.waiting,
+)
+end_at sizes j b other = (j, [], [])
+
+end_is : (sizes : Sizes) (j : JournalZone) (b : SealedBlock) (new : JournalZone) (made : Trace) (posts : List Post) → JournalEnds sizes j b new made posts
+    → (new, made, posts) ≡ end_at sizes j b b.stage
+end_is sizes j b new made posts (JournalEnds.commits_next w ws is waiting room n m q) = rw (n, m, q, is, waiting, room) refl
+end_is sizes j b new made posts (JournalEnds.commits_alone is waiting room n m q) = rw (n, m, q, is, waiting, room) refl
+end_is sizes j b new made posts (JournalEnds.commits_last is room n m q) = rw (n, m, q, is, room) (full j.waiting)
+  where
+    full : (waiting : List Vio) → (record (committed_by b.vio j) { waiting = [] }, Commits (logged b.vio) ∷ [], hands_out b.vio ∷ all_refused sizes reply.Full j.waiting)
+        ≡ commit_at sizes j b waiting false
+    full [] = refl
+    full (w ∷ ws) = refl
+end_is sizes j b new made posts (JournalEnds.fails is n m q) = rw (n, m, q, is) refl
+
+-- the device: what it keeps and posts, by what was made
+abbrev Behind : Type 0
+Behind = DeviceZone × List Post
+
+abbrev store_at : Sizes → DeviceZone → Vio → Bool → Trace → Behind
+store_at sizes d v true made = (d, (physical_zone sizes, item.Request (ended phase.AbortClaim reply.Stopped v)) ∷ [])
+store_at sizes d v false (Calls call ∷ []) = (counted d, (journal_zone sizes, item.Request (turned phase.Enter v)) ∷ [])
+store_at sizes d v false other = (halted d, (physical_zone sizes, item.Request (ended phase.AbortClaim reply.Stopped v)) ∷ stop_notices (notified_zones sizes))
+
+abbrev load_at : DeviceZone → Vio → Trace → Behind
+load_at d v (Calls (Read x bytes ok) ∷ []) = (counted d, (v.home, item.Request (record v { phase = phase.Loaded; bytes = bytes })) ∷ [])
+load_at d v other = (d, (v.home, item.Request (ended phase.Abort reply.ReadFault v)) ∷ [])
+
+abbrev flush_at : Sizes → DeviceZone → Vio → Bool → Trace → Behind
+flush_at sizes d v true made = (d, (desk_zone, item.Request (ended phase.Reply reply.Stopped v)) ∷ [])
+flush_at sizes d v false (Calls call ∷ []) = (counted d, (desk_zone, item.Request (record v { phase = phase.Reply; answer = Some reply.Ok; calls = d.calls + 1 })) ∷ [])
+flush_at sizes d v false other = (halted d, (desk_zone, item.Request (ended phase.Reply reply.Stopped v)) ∷ stop_notices (notified_zones sizes))
+
+abbrev device_at : Sizes → DeviceZone → Vio → Trace → Phase → Behind
+device_at sizes d v made phase.Store = store_at sizes d v d.stopped made
+device_at sizes d v made phase.Load = load_at d v made
+device_at sizes d v made phase.Flush = flush_at sizes d v d.stopped made
+device_at sizes d v made other = (d, [])
+
+device_is : (sizes : Sizes) (d : DeviceZone) (v : Vio) (new : DeviceZone) (made : Trace) (posts : List Post) → DeviceServes sizes d v new made posts
+    → (new, posts) ≡ device_at sizes d v made v.phase
+device_is sizes d v new made posts (DeviceServes.stores is goes inside n m q) = rw (n, m, q, is, goes) refl
+device_is sizes d v new made posts (DeviceServes.store_fails kept is goes inside n m q) = rw (n, m, q, is, goes) refl
+device_is sizes d v new made posts (DeviceServes.store_unmade is stops n m q) = rw (n, m, q, is, stops) refl
+device_is sizes d v new made posts (DeviceServes.loads bytes is inside n m q) = rw (n, m, q, is) refl
+device_is sizes d v new made posts (DeviceServes.load_fails bytes kept is inside n m q) = rw (n, m, q, is) refl
+device_is sizes d v new made posts (DeviceServes.flushes is goes n m q) = rw (n, m, q, is, goes) refl
+device_is sizes d v new made posts (DeviceServes.flush_fails kept is goes n m q) = rw (n, m, q, is, goes) refl
+device_is sizes d v new made posts (DeviceServes.flush_unmade is stops n m q) = rw (n, m, q, is, stops) refl
+
+abbrev work_at : Sizes → DeviceZone → SealedBlock → Bool → Trace → Behind
+work_at sizes d b true made = (d, (journal_zone sizes, item.Block (staged stage.Fail b)) ∷ [])
+work_at sizes d b false (Calls call ∷ []) = (counted d, (next_zone sizes b.stage, item.Block (staged (next_stage b.stage) b)) ∷ [])
+work_at sizes d b false other = (halted d, (journal_zone sizes, item.Block (staged stage.Fail b)) ∷ stop_notices (notified_zones sizes))
+
+work_is : (sizes : Sizes) (d : DeviceZone) (b : SealedBlock) (new : DeviceZone) (made : Trace) (posts : List Post) → DeviceWorks sizes d b new made posts
+    → (new, posts) ≡ work_at sizes d b d.stopped made
+work_is sizes d b new made posts (DeviceWorks.makes call slot its calls goes n m q) = rw (n, m, q, goes) refl
+work_is sizes d b new made posts (DeviceWorks.fails call slot kept its calls goes n m q) = rw (n, m, q, goes) refl
+work_is sizes d b new made posts (DeviceWorks.unmade call slot calls stops n m q) = rw (n, m, q, stops) refl
+
+-- two results are the same
+abbrev Same : ZoneData → ZoneData → Trace → Trace → List Post → List Post → Type 0
+Same new new' made made' posts posts' = (new ≡ new') × (made ≡ made') × (posts ≡ posts')
+
+same : {Z : Type 0} (put : Z → ZoneData) (new new' : Z) (made made' : Trace) (posts posts' : List Post) (result : Result Z)
+    → (new, made, posts) ≡ result → (new', made', posts') ≡ result → Same (put new) (put new') made made' posts posts'
+same put new new' made made' posts posts' result one two =
+    let e = one ∙ sym two in (ap (λ r. put r.0) e, ap (λ r. r.1) e, ap (λ r. r.2) e)
+
+same_behind : (new new' : DeviceZone) (made made' : Trace) (posts posts' : List Post) (behind : Trace → Behind)
+    → made ≡ made' → (new, posts) ≡ behind made → (new', posts') ≡ behind made' → Same (at.Device new) (at.Device new') made made' posts posts'
+same_behind new new' made made' posts posts' behind is one two =
+    let e = one ∙ ap behind is ∙ sym two in (ap (λ r. at.Device r.0) e, is, ap (λ r. r.1) e)
+
+device_one : (sizes : Sizes) (d new new' : DeviceZone) (v : Vio) (made made' : Trace) (posts posts' : List Post)
+    → DeviceServes sizes d v new made posts → DeviceServes sizes d v new' made' posts' → made ≡ made' → Same (at.Device new) (at.Device new') made made' posts posts'
+device_one sizes d new new' v made made' posts posts' a b is =
+    same_behind new new' made made' posts posts' (λ m. device_at sizes d v m v.phase) is (device_is sizes d v new made posts a) (device_is sizes d v new' made' posts' b)
+
+work_one : (sizes : Sizes) (d new new' : DeviceZone) (b : SealedBlock) (made made' : Trace) (posts posts' : List Post)
+    → DeviceWorks sizes d b new made posts → DeviceWorks sizes d b new' made' posts' → made ≡ made' → Same (at.Device new) (at.Device new') made made' posts posts'
+work_one sizes d new new' b made made' posts posts' x y is =
+    same_behind new new' made made' posts posts' (work_at sizes d b d.stopped) is (work_is sizes d b new made posts x) (work_is sizes d b new' made' posts' y)
+
+-- Two acts of a zone on one item keep, make and post the same; at the device those that had the same answer of it.
+pub one_result : (sizes : Sizes) (keeps : ZoneData) (i : Item) (new new' : ZoneData) (made made' : Trace) (posts posts' : List Post)
+    → Act sizes keeps (i ∷ []) new made posts → Act sizes keeps (i ∷ []) new' made' posts' → (CallsDevice keeps → made ≡ made') → Same new new' made made' posts posts'
+one_result sizes keeps i new new' made made' posts posts' (steps.answers a) (steps.answers b) is = same at.Desk _ _ _ _ _ _ _ (desk_is _ _ _ _ _ _ a) (desk_is _ _ _ _ _ _ b)
+one_result sizes keeps i new new' made made' posts posts' steps.hears steps.hears is = (refl, refl, refl)
+one_result sizes keeps i new new' made made' posts posts' (steps.serves a) (steps.serves b) is = same at.Logical _ _ _ _ _ _ _ (logical_is _ _ _ _ _ _ a) (logical_is _ _ _ _ _ _ b)
+one_result sizes keeps i new new' made made' posts posts' steps.serves_notice steps.serves_notice is = (refl, refl, refl)
+one_result sizes keeps i new new' made made' posts posts' (steps.takes a) (steps.takes b) is = same at.Physical _ _ _ _ _ _ _ (physical_is _ _ _ _ _ _ a) (physical_is _ _ _ _ _ _ b)
+one_result sizes keeps i new new' made made' posts posts' steps.takes_notice steps.takes_notice is = (refl, refl, refl)
+one_result sizes keeps i new new' made made' posts posts' (steps.enters a) (steps.enters b) is = same at.Journal _ _ _ _ _ _ _ (journal_is _ _ _ _ _ _ a) (journal_is _ _ _ _ _ _ b)
+one_result sizes keeps i new new' made made' posts posts' (steps.ends a) (steps.ends b) is = same at.Journal _ _ _ _ _ _ _ (end_is _ _ _ _ _ _ a) (end_is _ _ _ _ _ _ b)
+one_result sizes keeps i new new' made made' posts posts' steps.enters_notice steps.enters_notice is = (refl, refl, refl)
+one_result sizes keeps i new new' made made' posts posts' (steps.calls a) (steps.calls b) is = device_one _ _ _ _ _ _ _ _ _ a b (is tt)
+one_result sizes keeps i new new' made made' posts posts' (steps.works a) (steps.works b) is = work_one _ _ _ _ _ _ _ _ _ a b (is tt)

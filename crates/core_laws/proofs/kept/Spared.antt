@@ -1,0 +1,169 @@
+-- Facts on the trace stay where the next happening is about something else.
+use Rattle.std.proofs.Common.{◌≡◌, ◌≢◌, ℕ, ◌+◌, ◌<◌, ◌==◌, Bool, true, false, not, ◌&&◌, ◌||◌, if◌then◌else◌, List, [], ◌∷◌, refl, ap, sym, ◌∙◌, inl, inr, arith}
+use Rattle.std.proofs.lemmas.Bool.Decides.{eqb_tells}
+use Rattle.blk_base.specs.declared.journal_entry.Entry.{Entry}
+use Rattle.blk_base.specs.declared.request.Answer.TheVariants as reply
+use Rattle.blk_base.specs.declared.request.Writer.{Writer}
+use Rattle.disk_model.specs.declared.call.Call.TheVariants.{Read}
+use Rattle.image_layout.specs.Window.{mapping_of}
+use Rattle.vdo_model.specs.DeskLog.{begun}
+use Rattle.vdo_model.specs.FlushMarks.{Moment, Desk, Device, IsMark}
+use Rattle.vdo_model.specs.Places.{place_of}
+use Rattle.vdo_model.specs.Scripts.{same_writer}
+use Rattle.vdo_model.specs.declared.report.DeskLine.TheVariants.{Begin, Answer}
+use Rattle.vdo_model.specs.declared.report.FlushMark.{FlushMark}
+use Rattle.core_laws.specs.declared.zones.Logged.{Logged}
+use Rattle.core_laws.specs.LogicalRows.{mapped_by}
+use Rattle.core_laws.specs.RightTraces.{IsOpen, Quiet, IsCommitted, AllBelow, HasBelow, IsFull}
+use Rattle.core_laws.specs.Sessions.{Session, HasHonestReads, value_at}
+use Rattle.core_laws.specs.Trace.{Happening, Says, Flushes, Draws, Enters, Commits, Sets, Gives, Takes, Aborts, Calls, Fails, Trace, moments, lines, places, entered, committed, settled, aborted, gifts, is_read, has_stopped, has_read_fault, of_address, newest, logged_of, gift_of, entries_of}
+
+-- the happening is about no such request
+abbrev pub SparesRequest : Happening → Writer → Type 0
+SparesRequest (Says (Answer v a)) w = same_writer v w ≡ false
+SparesRequest (Flushes m) w = same_writer m.request w ≡ false
+SparesRequest (Draws p) w = same_writer p.request w ≡ false
+SparesRequest (Enters e) w = same_writer e.request w ≡ false
+SparesRequest (Commits e) w = same_writer e.request w ≡ false
+SparesRequest (Sets e) w = same_writer e.request w ≡ false
+SparesRequest (Gives g) w = same_writer g.request w ≡ false
+SparesRequest (Aborts e) w = same_writer e.request w ≡ false
+SparesRequest other w = Unit {0}
+
+-- it is about no such address
+abbrev pub SparesAddress : Happening → ℕ → Type 0
+SparesAddress (Enters e) a = e.at.0 ≢ a
+SparesAddress (Commits e) a = e.at.0 ≢ a
+SparesAddress (Sets e) a = e.at.0 ≢ a
+SparesAddress (Gives g) a = g.at.0 ≢ a
+SparesAddress other a = Unit {0}
+
+begun_later : (b : Bool) (n m : ℕ) → n < m → n < (if b then m + 1 else m)
+begun_later true n m h = omega (arith, h)
+begun_later false n m h = h
+
+pub open_kept : (h : Happening) (t : Trace) (w : Writer) → SparesRequest h w → IsOpen t w → IsOpen (h ∷ t) w
+open_kept (Says (Begin v)) t w apart ok = record { is_begun = begun_later (v.stream == w.stream) w.number (begun w.stream (lines t)) ok.is_begun; unanswered = ok.unanswered }
+open_kept (Says (Answer v a)) t w apart ok = record { is_begun = ok.is_begun; unanswered = rw apart ok.unanswered }
+open_kept (Flushes m) t w apart ok = record { is_begun = ok.is_begun; unanswered = rw apart ok.unanswered }
+open_kept (Fails v c true) t w apart ok = record { is_begun = ok.is_begun; unanswered = ok.unanswered }
+open_kept other t w apart ok = record { is_begun = ok.is_begun; unanswered = ok.unanswered }
+
+-- what the parts of the trace say of a request
+pub place_same : (h : Happening) (t : Trace) (w : Writer) → SparesRequest h w → place_of (places (h ∷ t)) w ≡ place_of (places t) w
+place_same (Draws p) t w apart = rw apart refl
+place_same other t w apart = refl
+
+pub entry_same : (h : Happening) (t : Trace) (w : Writer) → SparesRequest h w → logged_of (entered (h ∷ t)) w ≡ logged_of (entered t) w
+entry_same (Enters e) t w apart = rw apart refl
+entry_same other t w apart = refl
+
+pub slot_same : (h : Happening) (t : Trace) (w : Writer) → SparesRequest h w → logged_of (settled (h ∷ t)) w ≡ logged_of (settled t) w
+slot_same (Sets e) t w apart = rw apart refl
+slot_same other t w apart = refl
+
+pub abort_same : (h : Happening) (t : Trace) (w : Writer) → SparesRequest h w → logged_of (aborted (h ∷ t)) w ≡ logged_of (aborted t) w
+abort_same (Aborts e) t w apart = rw apart refl
+abort_same other t w apart = refl
+
+pub gift_same : (h : Happening) (t : Trace) (w : Writer) → SparesRequest h w → gift_of (gifts (h ∷ t)) w ≡ gift_of (gifts t) w
+gift_same (Gives g) t w apart = rw apart refl
+gift_same other t w apart = refl
+
+-- what they say of an address
+pub of_other : (e : Logged) (es : List Logged) (a : ℕ) → e.at.0 ≢ a → of_address a (e ∷ es) ≡ of_address a es
+of_other e es a apart = elim (eqb_tells e.at.0 a) [ inl same ↦ absurd (apart same.1) | inr other ↦ rw other.0 ]
+
+pub of_same : (e : Logged) (es : List Logged) → of_address e.at.0 (e ∷ es) ≡ e ∷ of_address e.at.0 es
+of_same e es = elim (eqb_tells e.at.0 e.at.0) [ inl same ↦ rw same.0 | inr other ↦ absurd (other.1 refl) ]
+
+pub entered_at : (h : Happening) (t : Trace) (a : ℕ) → SparesAddress h a → of_address a (entered (h ∷ t)) ≡ of_address a (entered t)
+entered_at (Enters e) t a apart = of_other e (entered t) a apart
+entered_at other t a apart = refl
+
+pub committed_at : (h : Happening) (t : Trace) (a : ℕ) → SparesAddress h a → of_address a (committed (h ∷ t)) ≡ of_address a (committed t)
+committed_at (Commits e) t a apart = of_other e (committed t) a apart
+committed_at other t a apart = refl
+
+pub settled_at : (h : Happening) (t : Trace) (a : ℕ) → SparesAddress h a → of_address a (settled (h ∷ t)) ≡ of_address a (settled t)
+settled_at (Sets e) t a apart = of_other e (settled t) a apart
+settled_at other t a apart = refl
+
+pub quiet_kept : (h : Happening) (t : Trace) (a : ℕ) → SparesAddress h a → Quiet t a → Quiet (h ∷ t) a
+quiet_kept h t a apart q = record {
+  all_committed = entered_at h t a apart ∙ q.all_committed ∙ sym (committed_at h t a apart);
+  all_settled = committed_at h t a apart ∙ q.all_settled ∙ sym (settled_at h t a apart);
+}
+
+pub committed_kept : (h : Happening) (t : Trace) (e : Logged) → SparesAddress h e.at.0 → IsCommitted t e → IsCommitted (h ∷ t) e
+committed_kept h t e apart q = record {
+  all_committed = entered_at h t e.at.0 apart ∙ q.all_committed ∙ sym (committed_at h t e.at.0 apart);
+  last = committed_at h t e.at.0 apart ∙ q.last ∙ ap (λ es. e ∷ es) (sym (settled_at h t e.at.0 apart));
+}
+
+pub below_kept : (h : Happening) (t : Trace) (a place : ℕ) → SparesAddress h a → AllBelow t a place → AllBelow (h ∷ t) a place
+below_kept (Sets e) t a place apart b = record { writes = ((λ same. absurd (apart same)), b.writes); reads = b.reads }
+below_kept (Gives g) t a place apart b = record { writes = b.writes; reads = ((λ same. absurd (apart same)), b.reads) }
+below_kept other t a place apart b = record { writes = b.writes; reads = b.reads }
+
+-- a mark stays
+pub mark_later : (moment : Moment) (older : List Moment) (m : FlushMark) → IsMark older m → IsMark (moment ∷ older) m
+mark_later moment older m k = record {
+  later = moment ∷ k.later;
+  older = k.older;
+  at = ap (λ ms. moment ∷ ms) k.at;
+  calls = k.calls;
+  begun_by_then = k.begun_by_then;
+  not_answered = k.not_answered;
+}
+
+pub mark_kept : (h : Happening) (t : Trace) (m : FlushMark) → IsMark (moments t) m → IsMark (moments (h ∷ t)) m
+mark_kept (Says line) t m k = mark_later (Desk line) (moments t) m k
+mark_kept (Flushes f) t m k = mark_later (Desk (Answer f.request reply.Ok)) (moments t) m k
+mark_kept (Calls c) t m k = mark_later (Device c) (moments t) m k
+mark_kept (Fails w c true) t m k = mark_later (Device c) (moments t) m k
+mark_kept other t m k = k
+
+-- What was there once is there from then on: a stop, a read that failed, an abort, blocks that are taken.
+pub stop_kept : (h : Happening) (t : Trace) → has_stopped t ≡ true → has_stopped (h ∷ t) ≡ true
+stop_kept (Fails w c kept) t is = rw is (either (not (is_read c)))
+  where
+    either : (b : Bool) → (b || true) ≡ true
+    either true = refl
+    either false = refl
+stop_kept other t is = is
+
+pub fault_kept : (h : Happening) (t : Trace) (w : Writer) → has_read_fault t w ≡ true → has_read_fault (h ∷ t) w ≡ true
+fault_kept (Fails v c kept) t w is = rw is (either (is_read c && same_writer v w))
+  where
+    either : (b : Bool) → (b || true) ≡ true
+    either true = refl
+    either false = refl
+fault_kept other t w is = is
+
+pub abort_kept : (h : Happening) (t : Trace) (a place : ℕ) → HasBelow a place (aborted t) → HasBelow a place (aborted (h ∷ t))
+abort_kept (Aborts e) t a place is = inr is
+abort_kept other t a place is = is
+
+pub full_kept : (s : Session) (h : Happening) (t : Trace) → IsFull s t → IsFull s (h ∷ t)
+full_kept s (Enters e) t (inl full) = inl (omega (arith, full))
+full_kept s (Takes w x) t (inr full) = inr (omega (arith, full))
+full_kept s (Enters e) t (inr full) = inr full
+full_kept s (Takes w x) t (inl full) = inl full
+full_kept s other t full = full
+
+-- an honest device was so before
+pub honest_before : (s : Session) (h : Happening) (t : Trace) → HasHonestReads s (h ∷ t) → HasHonestReads s t
+honest_before s (Calls (Read at bytes true)) t k = k.2
+honest_before s other t k = k
+
+-- what an address is mapped to, by the writes of it
+pub mapping_by : (window : List Entry) (es : List Logged) (a : ℕ) → mapping_of (entries_of window es) a ≡ mapped_by (newest (of_address a es)) (mapping_of window a)
+mapping_by window [] a = refl
+mapping_by window (e ∷ es) a = elim (eqb_tells e.at.0 a) [ inl same ↦ rw same.0 refl | inr other ↦ rw other.0 (mapping_by window es a) ]
+
+pub mapping_same : (window : List Entry) (es fs : List Logged) (a : ℕ) → of_address a es ≡ of_address a fs → mapping_of (entries_of window es) a ≡ mapping_of (entries_of window fs) a
+mapping_same window es fs a same = mapping_by window es a ∙ ap (λ xs. mapped_by (newest xs) (mapping_of window a)) same ∙ sym (mapping_by window fs a)
+
+pub value_same : (s : Session) (h : Happening) (t : Trace) (a : ℕ) → SparesAddress h a → value_at s (h ∷ t) a ≡ value_at s t a
+value_same s h t a apart = rw (settled_at h t a apart) refl

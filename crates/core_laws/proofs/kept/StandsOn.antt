@@ -1,0 +1,133 @@
+-- What stands on the device goes on over each call that misses it.
+use Rattle.std.proofs.Common.{◌≡◌, ◌≢◌, ◌⊎◌, ℕ, ◌+◌, ◌<◌, Bool, true, List, [], ◌∷◌, refl, inl, inr, subst, sym, ap, ◌∙◌, arith, length}
+use Rattle.std.proofs.Math.Nat.{mod-lt}
+use Rattle.std.specs.List.{AllByRecursion}
+use Rattle.blk_base.specs.Regions.{journal_slot_of}
+use Rattle.blk_base.specs.declared.place.Mapping.TheVariants.{At}
+use Rattle.blk_base.specs.declared.place.Pbn.{Pbn}
+use Rattle.blk_base.specs.declared.request.Writer.{Writer}
+use Rattle.disk_model.specs.Log.{Misses}
+use Rattle.disk_model.specs.declared.call.Call.{Call}
+use Rattle.disk_model.specs.declared.call.Call.TheVariants.{Write}
+use Rattle.disk_model.proofs.ImageLaws.{kept, settled-misses}
+use Rattle.image_layout.specs.Window.{mapping_of}
+use Rattle.stop_laws.specs.Journals.{HasEntry, MissesJournal, block_of_slot}
+use Rattle.stop_laws.proofs.JournalLaws.{rest_kept, under_way_kept}
+use Rattle.core_laws.specs.declared.zones.Logged.{Logged}
+use Rattle.core_laws.specs.Sessions.{Session, log, Stands, ReadsAs, EachStands, AtRest, OnItsWay, ReadsEntry, Kept, HasPending}
+use Rattle.core_laws.specs.Trace.{Happening, Calls, Fails, Trace, entered, committed, entry_of, entries_of}
+
+-- the happening is no write of the block
+abbrev pub SparesBlock : Happening → ℕ → Type 0
+SparesBlock (Calls c) x = Misses c x
+SparesBlock (Fails w c kept) x = Misses c x
+SparesBlock other x = Unit {0}
+
+-- nor one of the journal, nor of a block of these writes
+abbrev pub SparesBlocks : Happening → List Logged → Type 0
+SparesBlocks h [] = Unit {0}
+SparesBlocks h (e ∷ older) = SparesBlock h e.block.0 × SparesBlocks h older
+
+-- one that writes no block at all
+pub spares_all : (h : Happening) → ((x : ℕ) → SparesBlock h x) → (es : List Logged) → SparesBlocks h es
+spares_all h none [] = tt
+spares_all h none (e ∷ es) = (none e.block.0, spares_all h none es)
+
+abbrev pub SparesJournal : Session → Happening → Type 0
+SparesJournal s (Calls c) = MissesJournal s.sizes.geometry c
+SparesJournal s (Fails w c kept) = MissesJournal s.sizes.geometry c
+SparesJournal s other = Unit {0}
+
+-- a call that was made, whether it succeeded or failed
+pub data IsCallOf : Happening → Call → Type 0 where
+  succeeded : {c : Call} → IsCallOf (Calls c) c
+  failed : {w : Writer} {c : Call} {kept : Bool} → IsCallOf (Fails w c kept) c
+
+pub block_spared : {h : Happening} {c : Call} → IsCallOf h c → (x : ℕ) → Misses c x → SparesBlock h x
+block_spared succeeded x misses = misses
+block_spared failed x misses = misses
+
+-- a write of a block that they don't name spares theirs
+pub write_spares : {h : Happening} {x : Pbn} {bytes : List ℕ} {ok : Bool} → IsCallOf h (Write x bytes ok) → (es : List Logged) → AllByRecursion (λ (e : Logged). x.0 ≢ e.block.0) es → SparesBlocks h es
+write_spares is [] apart = tt
+write_spares is (e ∷ es) apart = (block_spared is e.block.0 apart.0, write_spares is es apart.1)
+
+pub journal_spared : (s : Session) {h : Happening} {c : Call} → IsCallOf h c → MissesJournal s.sizes.geometry c → SparesJournal s h
+journal_spared s succeeded misses = misses
+journal_spared s failed misses = misses
+
+module _ (s : Session) where
+  pub stands_kept : (h : Happening) (t : Trace) (x : ℕ) (bytes : List ℕ) → SparesBlock h x → Stands s t x bytes → Stands s (h ∷ t) x bytes
+  stands_kept (Calls c) t x bytes apart k = kept (λ content. content ≡ bytes) s.blocks (log s t) c x apart k
+  stands_kept (Fails w c true) t x bytes apart k = kept (λ content. content ≡ bytes) s.blocks (log s t) c x apart k
+  stands_kept other t x bytes apart k = k
+
+  pub reads_kept : (h : Happening) (t : Trace) (x : ℕ) (bytes : List ℕ) → SparesBlock h x → ReadsAs s t x bytes → ReadsAs s (h ∷ t) x bytes
+  reads_kept (Calls c) t x bytes apart k = subst (λ (options : List (List ℕ)). AllByRecursion (λ content. content ≡ bytes) options) (sym (settled-misses s.blocks (log s t) c x apart)) k
+  reads_kept (Fails w c true) t x bytes apart k = subst (λ (options : List (List ℕ)). AllByRecursion (λ content. content ≡ bytes) options) (sym (settled-misses s.blocks (log s t) c x apart)) k
+  reads_kept other t x bytes apart k = k
+
+  pub each_kept : (h : Happening) (t : Trace) (es : List Logged) → SparesBlocks h es → EachStands s t es → EachStands s (h ∷ t) es
+  each_kept h t [] apart k = tt
+  each_kept h t (e ∷ older) apart k = ((k.0.0, stands_kept h t e.block.0 _ apart.0 k.0.1), each_kept h t older apart.1 k.1)
+
+  pub rests_kept : (h : Happening) (t : Trace) (es : List Logged) → SparesJournal s h → SparesBlocks h es → AtRest s t es → AtRest s (h ∷ t) es
+  rests_kept (Calls c) t es journal apart k =
+      (rest_kept s.blocks (log s t) s.sizes.geometry s.sizes.start (entries_of s.window es) c journal k.0, each_kept (Calls c) t es apart k.1)
+  rests_kept (Fails w c true) t es journal apart k =
+      (rest_kept s.blocks (log s t) s.sizes.geometry s.sizes.start (entries_of s.window es) c journal k.0, each_kept (Fails w c true) t es apart k.1)
+  rests_kept other t es journal apart k = (k.0, each_kept other t es apart k.1)
+
+  pub way_kept : (h : Happening) (t : Trace) (es : List Logged) (e : Logged) → SparesJournal s h → SparesBlocks h (e ∷ es) → OnItsWay s t es e → OnItsWay s (h ∷ t) es e
+  way_kept (Calls c) t es e journal apart k =
+      (under_way_kept s.blocks (log s t) s.sizes.geometry s.sizes.start (entries_of s.window es) (entry_of e) c journal k.0, each_kept (Calls c) t (e ∷ es) apart k.1)
+  way_kept (Fails w c true) t es e journal apart k =
+      (under_way_kept s.blocks (log s t) s.sizes.geometry s.sizes.start (entries_of s.window es) (entry_of e) c journal k.0, each_kept (Fails w c true) t (e ∷ es) apart k.1)
+  way_kept other t es e journal apart k = (k.0, each_kept other t (e ∷ es) apart k.1)
+
+  -- the slot of the entry, over a call that misses the journal
+  entry_missed : (c : Call) (t : Trace) (es : List Logged) (e : Logged) → MissesJournal s.sizes.geometry c → OnItsWay s t es e → ReadsEntry s t es e → ReadsEntry s (Calls c ∷ t) es e
+  entry_missed c t es e journal way k =
+      let sequence = s.sizes.start + length (entries_of s.window es) in
+      let slot = journal_slot_of s.sizes.geometry sequence in
+      let below : slot < s.sizes.geometry.journal = mod-lt sequence (let few = way.0.few in omega (arith, few)) in
+      subst (λ (options : List (List ℕ)). AllByRecursion (HasEntry s.sizes.geometry s.sizes.start sequence (entry_of e)) options)
+      (sym (settled-misses s.blocks (log s t) c (block_of_slot slot) (journal slot below))) k
+
+  pub entry_reads_kept : (h : Happening) (t : Trace) (es : List Logged) (e : Logged) → SparesJournal s h → OnItsWay s t es e → ReadsEntry s t es e → ReadsEntry s (h ∷ t) es e
+  entry_reads_kept (Calls c) t es e journal way k = entry_missed c t es e journal way k
+  entry_reads_kept (Fails w c true) t es e journal way k = entry_missed c t es e journal way k
+  entry_reads_kept other t es e journal way k = k
+
+  -- what was there when the session began
+  pub opening_kept : (h : Happening) (t : Trace) → SparesBlock h 0 → ((a : ℕ) (y : Pbn) → mapping_of s.window a ≡ At y → SparesBlock h y.0) → Kept s t → Kept s (h ∷ t)
+  opening_kept h t first apart k = record {
+    superblock = stands_kept h t 0 _ first k.superblock;
+    mapped = λ a y is. stands_kept h t y.0 _ (apart a y is) (k.mapped a y is);
+  }
+
+  pending_stands : (h : Happening) (t : Trace) (es : List Logged) (e : Logged) → SparesJournal s h → SparesBlocks h (e ∷ es)
+      → AtRest s t es ⊎ OnItsWay s t es e ⊎ AtRest s t (e ∷ es) → AtRest s (h ∷ t) es ⊎ OnItsWay s (h ∷ t) es e ⊎ AtRest s (h ∷ t) (e ∷ es)
+  pending_stands h t es e journal apart (inl k) = inl (rests_kept h t es journal apart.1 k)
+  pending_stands h t es e journal apart (inr (inl k)) = inr (inl (way_kept h t es e journal apart k))
+  pending_stands h t es e journal apart (inr (inr k)) = inr (inr (rests_kept h t (e ∷ es) journal apart k))
+
+  -- a happening that neither hands in an entry nor commits one
+  pub record SparesEntries (h : Happening) (t : Trace) : Type 0 where
+    pub entered_same : entered (h ∷ t) ≡ entered t
+    pub committed_same : committed (h ∷ t) ≡ committed t
+
+  -- a call does neither
+  pub call_entries : (t : Trace) {h : Happening} {c : Call} → IsCallOf h c → SparesEntries h t
+  call_entries t succeeded = record { entered_same = refl; committed_same = refl }
+  call_entries t failed = record { entered_same = refl; committed_same = refl }
+
+  pub pending_kept : (h : Happening) (t : Trace) → SparesEntries h t → SparesJournal s h → SparesBlocks h (entered t) → HasPending s t → HasPending s (h ∷ t)
+  pending_kept h t same journal apart k =
+      let blocks : SparesBlocks h (k.entry ∷ committed t) = subst (λ (es : List Logged). SparesBlocks h es) k.is_last apart in
+      record {
+        entry = k.entry;
+        is_last = same.entered_same ∙ k.is_last ∙ ap (λ es. k.entry ∷ es) (sym same.committed_same);
+        stands = subst (λ (es : List Logged). AtRest s (h ∷ t) es ⊎ OnItsWay s (h ∷ t) es k.entry ⊎ AtRest s (h ∷ t) (k.entry ∷ es)) (sym same.committed_same)
+            (pending_stands h t (committed t) k.entry journal blocks k.stands);
+      }

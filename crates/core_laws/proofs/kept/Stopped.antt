@@ -1,0 +1,43 @@
+-- A request is answered as stopped only where the device's zone has stopped the session.
+use Rattle.std.proofs.Common.{◌≡◌, ℕ, ◌≤◌, Bool, true, false, cond, Some, slice_get, refl, ap, sym, ◌∙◌, subst, arith}
+use Rattle.blk_base.specs.declared.request.Answer.TheVariants as reply
+use Rattle.blk_base.specs.declared.request.Writer.{Writer}
+use Rattle.vdo_model.specs.DeskLog.{answer_of}
+use Rattle.core_laws.specs.declared.zones.ZoneData.{ZoneData}
+use Rattle.core_laws.specs.declared.zones.ZoneData.TheVariants as at
+use Rattle.core_laws.specs.declared.zones.DeviceZone.{DeviceZone}
+use Rattle.core_laws.specs.declared.zones.Zone.{Zone}
+use Rattle.core_laws.specs.Facts.{DataOk, DeskOk}
+use Rattle.core_laws.specs.Legal.{Legal}
+use Rattle.core_laws.specs.Numbers.{desk_zone, device_zone, notified_zones}
+use Rattle.core_laws.specs.Sessions.{Session}
+use Rattle.core_laws.specs.Steps.{Core}
+use Rattle.core_laws.specs.Tokens.{weight, given, notice_token, heard_at, notified_by}
+use Rattle.core_laws.specs.Trace.{lines}
+use Rattle.plain_laws.proofs.ListLaws.{total-get, total_alone}
+use Rattle.core_laws.proofs.kept.ZoneKinds.{desk_sits}
+
+some_words : (b : Bool) (n : ℕ) → 1 ≤ cond b n 0 → b ≡ true
+some_words true n some = refl
+some_words false n some = absurd (omega (arith, some))
+
+pub stopped_at_device : (s : Session) (core : Core) (w : Writer) (n : ℕ) (z : Zone) (d : DeviceZone) → Legal s core → answer_of (lines core.trace) w ≡ Some reply.Stopped
+    → slice_get core.zones n ≡ Some z → z.keeps ≡ at.Device d → d.stopped ≡ true
+stopped_at_device s core w n z d legal is had keeps =
+    let desk = desk_sits s core.trace core.zones legal.each legal.count in
+    let k : DeskOk s core.trace desk_zone desk.it = subst (λ (e : ZoneData). DataOk s core.trace desk_zone e) desk.keeps (legal.each desk_zone desk.zone desk.had).own in
+    let enough = k.stops_notified w (ap (λ log. answer_of log w) k.log_is ∙ is) in
+    let here = total-get (weight (notice_token s.sizes)) core.zones desk_zone desk.zone desk.had in
+    let heard = ap heard_at desk.keeps in
+    let own = subst (λ (e : ZoneData). DataOk s core.trace n e) keeps (legal.each n z had).own in
+    let alone = total_alone (given (notice_token s.sizes)) core.zones n z had (λ j y there ne. no_words j y.keeps (λ at_device. ne (at_device ∙ sym own.number_is)) (legal.each j y there).own) in
+    let notified = ap (notified_by s.sizes) keeps in
+    let balance = legal.stop_notices in
+    some_words d.stopped (notified_zones s.sizes) (omega (arith, enough, here, heard, alone, notified, balance))
+  where
+    no_words : (j : ℕ) (e : ZoneData) → (j ≡ device_zone s.sizes → ⊥) → DataOk s core.trace j e → notified_by s.sizes e ≡ 0
+    no_words j (at.Desk x) ne k = refl
+    no_words j (at.Logical l) ne k = refl
+    no_words j (at.Physical p) ne k = refl
+    no_words j (at.Journal jn) ne k = refl
+    no_words j (at.Device x) ne k = absurd (ne k.number_is)

@@ -1,0 +1,134 @@
+-- Each number has its kind of zone, and what is given out once is given out by one zone.
+use Rattle.std.proofs.Common.{◌≡◌, ℕ, zero, suc, ◌<◌, ◌≤◌, List, [], ◌∷◌, length, Some, slice_get, refl, subst, arith}
+use Rattle.core_laws.specs.declared.zones.ZoneData.{ZoneData}
+use Rattle.core_laws.specs.declared.zones.ZoneData.TheVariants as at
+use Rattle.core_laws.specs.declared.zones.Zone.{Zone}
+use Rattle.core_laws.specs.Facts.{DataOk, ZoneOk}
+use Rattle.core_laws.specs.Numbers.{desk_zone, logical_zone, physical_zone, journal_zone, device_zone, zone_count}
+use Rattle.core_laws.specs.Sessions.{Session}
+use Rattle.plain_laws.specs.Sums.{total, Each}
+use Rattle.core_laws.specs.Tokens.{given, journal_token, block_token, one_journal, one_physical}
+use Rattle.core_laws.specs.Trace.{Trace}
+use Rattle.plain_laws.proofs.ListLaws.{total_zero}
+
+-- what stands at a number below the length
+pub record Stood {X : Type 0} (xs : List X) (i : ℕ) : Type 0 where
+  pub it : X
+  pub is : slice_get xs i ≡ Some it
+
+pub stood : {X : Type 0} (xs : List X) (i : ℕ) → i < length xs → Stood xs i
+stood [] i h = absurd (omega arith)
+stood (x ∷ xs) zero h = record { it = x; is = refl }
+stood (x ∷ xs) (suc i) h = let r = stood xs i (omega arith) in record { it = r.it; is = r.is }
+
+-- a sum with one summand, which is 1 at most
+pub total_once : {X : Type 0} (f : X → ℕ) (xs : List X) (i : ℕ) → Each (λ j x. (f x ≤ 1) × ((j ≡ i → ⊥) → f x ≡ 0)) xs → total f xs ≤ 1
+total_once f [] i each = omega arith
+total_once f (x ∷ xs) zero each =
+    let here = (each 0 x refl).0 in
+    let rest = total_zero f xs (λ j y e. (each (suc j) y e).1 (λ q. cc)) in
+    omega (arith, here, rest)
+total_once f (x ∷ xs) (suc i) each =
+    let here = (each 0 x refl).1 (λ q. cc) in
+    let rest = total_once f xs i (λ j y e. let k = each (suc j) y e in (k.0, λ ne. k.1 (λ q. ne (omega arith)))) in
+    omega (arith, here, rest)
+
+-- what a zone keeps, of the kind that this constructor makes
+pub record Keeps {X : Type 0} (make : X → ZoneData) (d : ZoneData) : Type 0 where
+  pub it : X
+  pub is : d ≡ make it
+
+module _ (s : Session) (t : Trace) where
+  pub desk_keeps : (d : ZoneData) → DataOk s t desk_zone d → Keeps at.Desk d
+  desk_keeps (at.Desk desk) ok = record { it = desk; is = refl }
+  desk_keeps (at.Logical l) ok = absurd (omega (arith, ok.number_is))
+  desk_keeps (at.Physical p) ok = absurd (omega (arith, ok.number_is))
+  desk_keeps (at.Journal j) ok = absurd (omega (arith, ok.number_is))
+  desk_keeps (at.Device d) ok = absurd (omega (arith, ok.number_is))
+
+  pub logical_keeps : (k : ℕ) → k < s.sizes.zones → (d : ZoneData) → DataOk s t (logical_zone k) d → Keeps at.Logical d
+  logical_keeps k below (at.Desk desk) ok = absurd (omega (arith, ok.number_is))
+  logical_keeps k below (at.Logical l) ok = record { it = l; is = refl }
+  logical_keeps k below (at.Physical p) ok = absurd (omega (arith, below, ok.number_is))
+  logical_keeps k below (at.Journal j) ok = absurd (omega (arith, below, ok.number_is))
+  logical_keeps k below (at.Device d) ok = absurd (omega (arith, below, ok.number_is))
+
+  pub physical_keeps : (d : ZoneData) → DataOk s t (physical_zone s.sizes) d → Keeps at.Physical d
+  physical_keeps (at.Desk desk) ok = absurd (omega (arith, ok.number_is))
+  physical_keeps (at.Logical l) ok = absurd (omega (arith, ok.number_is, ok.among))
+  physical_keeps (at.Physical p) ok = record { it = p; is = refl }
+  physical_keeps (at.Journal j) ok = absurd (omega (arith, ok.number_is))
+  physical_keeps (at.Device d) ok = absurd (omega (arith, ok.number_is))
+
+  pub journal_keeps : (d : ZoneData) → DataOk s t (journal_zone s.sizes) d → Keeps at.Journal d
+  journal_keeps (at.Desk desk) ok = absurd (omega (arith, ok.number_is))
+  journal_keeps (at.Logical l) ok = absurd (omega (arith, ok.number_is, ok.among))
+  journal_keeps (at.Physical p) ok = absurd (omega (arith, ok.number_is))
+  journal_keeps (at.Journal j) ok = record { it = j; is = refl }
+  journal_keeps (at.Device d) ok = absurd (omega (arith, ok.number_is))
+
+  pub device_keeps : (d : ZoneData) → DataOk s t (device_zone s.sizes) d → Keeps at.Device d
+  device_keeps (at.Desk desk) ok = absurd (omega (arith, ok.number_is))
+  device_keeps (at.Logical l) ok = absurd (omega (arith, ok.number_is, ok.among))
+  device_keeps (at.Physical p) ok = absurd (omega (arith, ok.number_is))
+  device_keeps (at.Journal j) ok = absurd (omega (arith, ok.number_is))
+  device_keeps (at.Device d) ok = record { it = d; is = refl }
+
+  -- the one zone that gives out each of these
+  one_journal_at : (n : ℕ) (d : ZoneData) → DataOk s t n d → (one_journal d ≤ 1) × ((n ≡ journal_zone s.sizes → ⊥) → one_journal d ≡ 0)
+  one_journal_at n (at.Desk desk) ok = (omega arith, λ ne. refl)
+  one_journal_at n (at.Logical l) ok = (omega arith, λ ne. refl)
+  one_journal_at n (at.Physical p) ok = (omega arith, λ ne. refl)
+  one_journal_at n (at.Journal j) ok = (omega arith, λ ne. absurd (ne ok.number_is))
+  one_journal_at n (at.Device d) ok = (omega arith, λ ne. refl)
+
+  one_physical_at : (n : ℕ) (d : ZoneData) → DataOk s t n d → (one_physical d ≤ 1) × ((n ≡ physical_zone s.sizes → ⊥) → one_physical d ≡ 0)
+  one_physical_at n (at.Desk desk) ok = (omega arith, λ ne. refl)
+  one_physical_at n (at.Logical l) ok = (omega arith, λ ne. refl)
+  one_physical_at n (at.Physical p) ok = (omega arith, λ ne. absurd (ne ok.number_is))
+  one_physical_at n (at.Journal j) ok = (omega arith, λ ne. refl)
+  one_physical_at n (at.Device d) ok = (omega arith, λ ne. refl)
+
+  module _ (zones : List Zone) (each : Each (ZoneOk s t) zones) where
+    -- of the journal and of each block at most one is given out
+    pub journal_once : total (given journal_token) zones ≤ 1
+    journal_once = total_once (given journal_token) zones (journal_zone s.sizes) (λ n z had. one_journal_at n z.keeps (each n z had).own)
+
+    pub block_once : (x : ℕ) → total (given (block_token x)) zones ≤ 1
+    block_once x = total_once (given (block_token x)) zones (physical_zone s.sizes) (λ n z had. one_physical_at n z.keeps (each n z had).own)
+
+    -- a zone at a number that keeps data of a kind
+    pub record Sits {X : Type 0} (make : X → ZoneData) (n : ℕ) : Type 0 where
+      pub zone : Zone
+      pub it : X
+      pub had : slice_get zones n ≡ Some zone
+      pub keeps : zone.keeps ≡ make it
+
+    module _ (count : length zones ≡ zone_count s.sizes) where
+      sits : {X : Type 0} (make : X → ZoneData) (n : ℕ) → n < zone_count s.sizes → ((d : ZoneData) → DataOk s t n d → Keeps make d) → Sits make n
+      sits make n below kind =
+          let z = stood zones n (omega (arith, below, count)) in
+          let kept = kind z.it.keeps (each n z.it z.is).own in
+          record { zone = z.it; it = kept.it; had = z.is; keeps = kept.is }
+
+      pub desk_sits : Sits at.Desk desk_zone
+      desk_sits = sits at.Desk desk_zone (omega arith) desk_keeps
+
+      pub logical_sits : (k : ℕ) → k < s.sizes.zones → Sits at.Logical (logical_zone k)
+      logical_sits k below = sits at.Logical (logical_zone k) (omega (arith, below)) (logical_keeps k below)
+
+      pub physical_sits : Sits at.Physical (physical_zone s.sizes)
+      physical_sits = sits at.Physical (physical_zone s.sizes) (omega arith) physical_keeps
+
+      pub journal_sits : Sits at.Journal (journal_zone s.sizes)
+      journal_sits = sits at.Journal (journal_zone s.sizes) (omega arith) journal_keeps
+
+      pub device_sits : Sits at.Device (device_zone s.sizes)
+      device_sits = sits at.Device (device_zone s.sizes) (omega arith) device_keeps
+
+      -- it is the zone of its number
+      pub logical_number : (k : ℕ) (below : k < s.sizes.zones) → (logical_sits k below).it.zone ≡ k
+      logical_number k below =
+          let z = logical_sits k below in
+          let own : DataOk s t (logical_zone k) (at.Logical z.it) = subst (λ d. DataOk s t (logical_zone k) d) z.keeps (each (logical_zone k) z.zone z.had).own in
+          omega (arith, own.number_is)

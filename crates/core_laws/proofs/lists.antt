@@ -1,0 +1,5 @@
+pub mod EntryLists
+pub mod LaneLists
+pub mod LineLaws
+pub mod Lists
+pub mod LockLists

@@ -1,0 +1,3 @@
+pub mod LogicalEnds
+pub mod LogicalFacts
+pub mod Releases

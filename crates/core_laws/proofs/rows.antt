@@ -1,0 +1,4 @@
+pub mod CauseRows
+pub mod FollowRows
+pub mod PhaseRows
+pub mod WorkedTraces

@@ -1,0 +1,166 @@
+-- Why a request may be answered: for each answer a trace that has its cause, and for each part of the cause one that lacks it.
+use Rattle.std.proofs.Common.{ℕ, ◌≡◌, true, false, List, [], ◌∷◌, refl, ap, inl, inr, arith}
+use Rattle.std.proofs.lemmas.Option.{same_Some}
+use Rattle.blk_base.specs.declared.place.Mapping.TheVariants.{Unmapped}
+use Rattle.blk_base.specs.declared.request.Answer.{Answer}
+use Rattle.blk_base.specs.declared.request.Answer.TheVariants.{Ok, Bytes, Range, Stopped, Full, ReadFault}
+use Rattle.blk_base.specs.declared.request.Request.TheVariants as request
+use Rattle.blk_base.specs.declared.request.Writer.{Writer}
+use Rattle.blk_base.specs.declared.request.Request.{Request}
+use Rattle.disk_model.specs.declared.call.Call.TheVariants.{Read, Flush}
+use Rattle.vdo_model.specs.declared.report.DeskLine.TheVariants.{Begin}
+use Rattle.core_laws.specs.RightTraces.{HasCause, MayAnswer}
+use Rattle.core_laws.specs.Trace.{Gift, Says, Gives, Takes, Aborts, Fails, Trace}
+use Rattle.core_laws.proofs.rows.WorkedTraces.{address, block, x, y, first, reader, second, other, late, flush, session, begun, took, handed_in, lasting, set, stopped, entry, of_first, of_other, given}
+
+-- a read of an address, and a write of it
+abbrev Reads : Trace → Writer → ℕ → Answer → Type 0
+Reads t w a answer = HasCause session t w (request.Read (address a)) answer
+
+abbrev Writes : Trace → Writer → ℕ → Answer → Type 0
+Writes t w a answer = HasCause session t w (request.Write (address a) x false) answer
+
+-- A read is answered with the bytes that it was given.
+bytes : Reads (Gives (given 2) ∷ set) reader 0 (Bytes x)
+bytes = (2, refl)
+
+bytes_it_was_given : Reads (Gives (given 2) ∷ set) reader 0 (Bytes y) → ⊥
+bytes_it_was_given may = let same : 1 ≡ 2 = ap first_byte (same_Some _ _ may.1) in absurd (omega (arith, same))
+  where
+    first_byte : Gift → ℕ
+    first_byte g = head g.bytes
+      where
+        head : List ℕ → ℕ
+        head [] = 0
+        head (b ∷ bs) = b
+
+bytes_once_given : Reads set reader 0 (Bytes x) → ⊥
+bytes_once_given may = let none = may.1 in absurd cc
+
+-- Range: the address isn't below the logical size.
+range : Reads begun reader 1000 Range
+range = omega arith
+
+range_of_a_write : Writes begun first 1000 Range
+range_of_a_write = omega arith
+
+range_outside : Reads begun reader 999 Range → ⊥
+range_outside may = absurd (omega (arith, may))
+
+range_of_a_write_outside : Writes begun first 999 Range → ⊥
+range_of_a_write_outside may = absurd (omega (arith, may))
+
+-- A read is stopped after a stop, behind a write of its address with a lower place that was aborted.
+read_stopped : Reads (Aborts of_first ∷ stopped handed_in) reader 0 Stopped
+read_stopped = (refl, record { place = 2; placed = refl; behind = inl (refl, omega arith) })
+
+read_stopped_by_a_stop : Reads (Aborts of_first ∷ handed_in) reader 0 Stopped → ⊥
+read_stopped_by_a_stop may = let is = may.0 in absurd cc
+
+read_stopped_by_an_abort : Reads (stopped handed_in) reader 0 Stopped → ⊥
+read_stopped_by_an_abort may = may.1.behind
+
+read_stopped_at_its_address : Reads (Aborts of_other ∷ stopped handed_in) reader 0 Stopped → ⊥
+read_stopped_at_its_address may = elim may.1.behind [
+  | inl other ↦ let same = other.0 in absurd (omega (arith, same))
+  | inr none ↦ none
+]
+
+read_stopped_behind_it : Reads (Aborts (entry second 0 3 Unmapped 86) ∷ stopped handed_in) reader 0 Stopped → ⊥
+read_stopped_behind_it may =
+    let placed : 2 ≡ may.1.place = ap (λ p. p.place) (same_Some _ _ may.1.placed) in
+    elim may.1.behind [
+      | inl later ↦ let less = later.1 in absurd (omega (arith, less, placed))
+      | inr none ↦ none
+    ]
+
+read_stopped_with_a_place : Reads (Aborts of_first ∷ stopped begun) reader 0 Stopped → ⊥
+read_stopped_with_a_place may = let placed = may.1.placed in absurd cc
+
+-- A read has a fault where a read of the device failed that was made for it.
+read_fault : Reads (Fails reader (Read (block 85) y false) true ∷ set) reader 0 ReadFault
+read_fault = (refl, refl)
+
+read_fault_of_its_own : Reads (Fails late (Read (block 85) y false) true ∷ set) reader 0 ReadFault → ⊥
+read_fault_of_its_own may = let is = may.1 in absurd cc
+
+read_fault_of_a_read : Reads (Fails reader (Flush false) true ∷ set) reader 0 ReadFault → ⊥
+read_fault_of_a_read may = let is = may.1 in absurd cc
+
+-- A write is answered Ok once its slot is set.
+ok : Writes set first 0 Ok
+ok = refl
+
+ok_once_set : Writes lasting first 0 Ok → ⊥
+ok_once_set may = absurd cc
+
+-- It is stopped after a stop, where it has its place and its slot isn't set.
+write_stopped : Writes (stopped lasting) first 0 Stopped
+write_stopped = (refl, refl, refl)
+
+write_stopped_with_a_place : Writes (stopped begun) first 0 Stopped → ⊥
+write_stopped_with_a_place may = let placed = may.1 in absurd cc
+
+write_stopped_by_a_stop : Writes lasting first 0 Stopped → ⊥
+write_stopped_by_a_stop may = let is = may.0 in absurd cc
+
+write_stopped_by_no_read : Writes (Fails reader (Read (block 85) y false) true ∷ lasting) first 0 Stopped → ⊥
+write_stopped_by_no_read may = let is = may.0 in absurd cc
+
+write_stopped_unset : Writes (stopped set) first 0 Stopped → ⊥
+write_stopped_unset may = let unset = may.2 in absurd cc
+
+-- Or it is stopped as soon as it is begun, after a stop.
+abbrev MayBeStopped : Trace → Request → Type 0
+MayBeStopped t r = MayAnswer session t second r Stopped
+
+stopped_at_once : MayBeStopped (Says (Begin second) ∷ stopped []) (request.Write (address 0) y false)
+stopped_at_once = inr (record { stopped = refl; unset = refl; older = stopped []; begun_last = refl })
+
+at_once_after_a_stop : MayBeStopped (Says (Begin second) ∷ []) (request.Write (address 0) y false) → ⊥
+at_once_after_a_stop (inl cause) = let is = cause.0 in absurd cc
+at_once_after_a_stop (inr at_once) = let is = at_once.stopped in absurd cc
+
+at_once_alone : MayBeStopped (Says (Begin other) ∷ Says (Begin second) ∷ stopped []) (request.Write (address 0) y false) → ⊥
+at_once_alone (inl cause) = let placed = cause.1 in absurd cc
+at_once_alone (inr at_once) = let same : 1 ≡ 0 = ap begun_number at_once.begun_last in absurd (omega (arith, same))
+  where
+    begun_number : Trace → ℕ
+    begun_number (Says (Begin w) ∷ t) = w.number
+    begun_number t = 0
+
+at_once_of_a_write : MayBeStopped (Says (Begin second) ∷ stopped []) (request.Read (address 0)) → ⊥
+at_once_of_a_write may = may.1.behind
+
+-- It is full where the one block of the journal has its entry, or both data blocks are taken.
+full_journal : Writes handed_in second 0 Full
+full_journal = (refl, refl, inl (omega arith))
+
+full_blocks : Writes (Takes second (block 86) ∷ took) first 0 Full
+full_blocks = (refl, refl, inr (omega arith))
+
+full_with_a_place : Writes (Takes second (block 86) ∷ took) late 0 Full → ⊥
+full_with_a_place may = let placed = may.0 in absurd cc
+
+full_with_room : Writes took second 0 Full → ⊥
+full_with_room may = elim may.2 [
+  | inl journal ↦ absurd (omega (arith, journal))
+  | inr blocks ↦ absurd (omega (arith, blocks))
+]
+
+full_before_it_enters : Writes handed_in first 0 Full → ⊥
+full_before_it_enters may = let entered = may.1 in absurd cc
+
+-- A flush is stopped after a stop, and answered Ok with its mark alone.
+flush_stopped : HasCause session (stopped begun) flush request.Flush Stopped
+flush_stopped = refl
+
+flush_stopped_by_a_stop : HasCause session begun flush request.Flush Stopped → ⊥
+flush_stopped_by_a_stop may = absurd cc
+
+flush_with_its_mark : HasCause session begun flush request.Flush Ok → ⊥
+flush_with_its_mark may = may
+
+-- A discard has no answer: it isn't served.
+discard_unserved : (answer : Answer) → HasCause session set first (request.Discard (address 0)) answer → ⊥
+discard_unserved answer may = may

@@ -1,0 +1,298 @@
+-- Which happening may follow: for each one a trace that it may follow, and for each of its conditions one that breaks it.
+use Rattle.std.proofs.Common.{ℕ, ◌≡◌, true, false, List, [], ◌∷◌, ◌++◌, length, refl, ap, subst, arith}
+use Rattle.std.proofs.lemmas.Option.{same_Some}
+use Rattle.blk_base.specs.declared.place.Mapping.{Mapping}
+use Rattle.blk_base.specs.declared.place.Mapping.TheVariants.{Unmapped, Zero, At}
+use Rattle.blk_base.specs.declared.request.Answer.TheVariants.{Ok, Stopped}
+use Rattle.blk_base.specs.declared.request.Request.{Request}
+use Rattle.blk_base.specs.declared.request.Request.TheVariants as request
+use Rattle.disk_model.specs.declared.call.Call.TheVariants.{Read, Write, Flush}
+use Rattle.vdo_model.specs.FlushMarks.{Moment, Desk, Device}
+use Rattle.vdo_model.specs.declared.report.DeskLine.TheVariants.{Begin, Answer}
+use Rattle.core_laws.specs.RightTraces.{MayAnswer, MayFollow, StopsAtFailure}
+use Rattle.core_laws.specs.Trace.{Says, Flushes, Draws, Enters, Commits, Sets, Gives, Takes, Aborts, Calls, Fails, Trace, Happening}
+use Rattle.core_laws.proofs.rows.WorkedTraces.{address, block, writer, x, y, first, reader, second, other, late, flush, session, begun, took, handed_in, lasting, set, stopped, place, entry, of_first, of_second, of_other, given}
+
+abbrev May : Happening → Trace → Type 0
+May h t = MayFollow session h t
+
+abbrev address_in : Request → ℕ
+address_in (request.Read a) = a.0
+address_in (request.Write a bytes fua) = a.0
+address_in (request.Discard a) = a.0
+address_in request.Flush = 0
+
+-- A line: a request is begun once, in its turn, while fewer than two of its stream are under way ..
+begins : May (Says (Begin first)) []
+begins = (refl, refl, omega arith)
+
+begins_in_turn : May (Says (Begin reader)) [] → ⊥
+begins_in_turn may = let turn = may.0 in absurd (omega (arith, turn))
+
+begins_of_the_script : May (Says (Begin (writer 3 0))) [] → ⊥
+begins_of_the_script may = let no = may.1 in absurd cc
+
+begins_below_depth : May (Says (Begin late)) begun → ⊥
+begins_below_depth may = let below = may.2 in absurd (omega (arith, below))
+
+-- .. and answered once, for a cause.
+answers : May (Says (Answer first Ok)) set
+answers = ((omega arith, refl), λ r is. subst (λ (asked : Request). MayAnswer session set first asked Ok) (same_Some _ _ is) refl)
+
+answers_what_is_begun : May (Says (Answer late Ok)) set → ⊥
+answers_what_is_begun may = let before = may.0.0 in absurd (omega (arith, before))
+
+answers_once : May (Says (Answer first Ok)) (Says (Answer first Ok) ∷ set) → ⊥
+answers_once may = let no = may.0.1 in absurd cc
+
+answers_for_a_cause : May (Says (Answer first Ok)) lasting → ⊥
+answers_for_a_cause may = let no = may.1 (request.Write (address 0) x false) refl in absurd cc
+
+-- A flush is answered Ok with its mark.
+flushes : May (Flushes (record { request = flush; calls = 1 })) (Calls (Flush true) ∷ begun)
+flushes = ((omega arith, refl), refl, record { later = []; older = Desk (Begin flush) ∷ Desk (Begin other) ∷ Desk (Begin second) ∷ Desk (Begin reader) ∷ Desk (Begin first) ∷ []; at = refl; calls = refl; begun_by_then = omega arith; not_answered = refl })
+
+flushes_a_flush : May (Flushes (record { request = first; calls = 1 })) (Calls (Flush true) ∷ begun) → ⊥
+flushes_a_flush may = let asked = may.1 in absurd cc
+
+flushes_once : May (Flushes (record { request = flush; calls = 1 })) (Flushes (record { request = flush; calls = 1 }) ∷ Calls (Flush true) ∷ begun) → ⊥
+flushes_once may = let no = may.0.1 in absurd cc
+
+flushes_by_the_device : May (Flushes (record { request = flush; calls = 1 })) (Says (Begin flush) ∷ []) → ⊥
+flushes_by_the_device may = no_call may.2.later may.2.older may.2.at
+  where
+    no_call : (later older : List Moment) → Desk (Begin flush) ∷ [] ≡ later ++ (Device (Flush true) ∷ older) → ⊥
+    no_call [] older is = absurd cc
+    no_call (m ∷ []) older is = absurd cc
+    no_call (m ∷ m' ∷ rest) older is = absurd cc
+
+-- A place is drawn once, by a request that is begun and not answered, in its zone, as the next number there, in the order of its
+-- stream.
+draws : May (Draws (place second 0 1)) (Draws (place first 0 0) ∷ begun)
+draws = record {
+  is_open = record { is_begun = omega arith; unanswered = refl };
+  next = record {
+    number = refl;
+    once = refl;
+    zone = (request.Write (address 0) y false, 0, refl, refl, omega arith, refl);
+    order = (λ same. record { stream = λ one. absurd (omega (arith, one)); answered = refl }, tt);
+  };
+  not_entered = refl;
+}
+
+draws_once_begun : May (Draws (place late 0 0)) begun → ⊥
+draws_once_begun may = let before = may.is_open.is_begun in absurd (omega (arith, before))
+
+draws_unanswered : May (Draws (place first 0 0)) (Says (Answer first Stopped) ∷ begun) → ⊥
+draws_unanswered may = let no = may.is_open.unanswered in absurd cc
+
+draws_the_next : May (Draws (place second 0 2)) (Draws (place first 0 0) ∷ begun) → ⊥
+draws_the_next may = let number = may.next.number in absurd (omega (arith, number))
+
+draws_once : May (Draws (place first 0 1)) (Draws (place first 0 0) ∷ begun) → ⊥
+draws_once may = let no = may.next.once in absurd cc
+
+draws_of_blocks_alone : May (Draws (place flush 0 0)) begun → ⊥
+draws_of_blocks_alone may = let asked = may.next.zone.2 in let address = may.next.zone.3 in absurd (let same = same_Some _ _ asked in let e = rw (← same) at address in cc)
+
+draws_in_order : May (Draws (place first 0 1)) (Draws (place reader 0 0) ∷ begun) → ⊥
+draws_in_order may = let less = (may.next.order.0 refl).stream refl in absurd (omega (arith, less))
+
+draws_before_it_enters : May (Draws (place first 0 0)) (Enters of_first ∷ begun) → ⊥
+draws_before_it_enters may = let no = may.not_entered in absurd cc
+
+-- A write takes the next free data block.
+takes : May (Takes second (block 86)) took
+takes = record { is_open = record { is_begun = omega arith; unanswered = refl }; asked = (address 0, y, refl); next = refl }
+
+takes_while_open : May (Takes second (block 86)) (Says (Answer second Stopped) ∷ took) → ⊥
+takes_while_open may = let no = may.is_open.unanswered in absurd cc
+
+takes_for_a_write : May (Takes reader (block 86)) took → ⊥
+takes_for_a_write may = let asked = may.asked.2 in absurd cc
+
+takes_no_block_twice : May (Takes second (block 85)) took → ⊥
+takes_no_block_twice may = let next : 86 ≡ 85 = ap (λ b. b.0) (same_Some _ _ may.next) in absurd (omega (arith, next))
+
+takes_no_block_beyond : May (Takes other (block 87)) (Takes second (block 86) ∷ took) → ⊥
+takes_no_block_beyond may = let next = may.next in absurd cc
+
+-- An entry is handed in once, of a write that has its place, while no other is; those of its address are settled, nothing at its
+-- address has a later place, and it says what its address was mapped to.
+enters : May (Enters of_second) set
+enters = record {
+  is_open = record { is_begun = omega arith; unanswered = refl };
+  is_write = record { bytes = y; asked = refl; placed = refl };
+  once = refl;
+  idle = refl;
+  quiet = record { all_committed = refl; all_settled = refl };
+  below = record { writes = ((λ same. omega arith), tt); reads = tt };
+  old_is = refl;
+}
+
+enters_while_open : May (Enters of_second) (Says (Answer second Stopped) ∷ set) → ⊥
+enters_while_open may = let no = may.is_open.unanswered in absurd cc
+
+enters_as_asked : May (Enters (entry first 812 0 Unmapped 85)) took → ⊥
+enters_as_asked may = let asked = may.is_write.asked in absurd (let same = ap address_in (same_Some _ _ asked) in omega (arith, same))
+
+enters_at_its_place : May (Enters (entry second 0 5 (At (block 85)) 86)) set → ⊥
+enters_at_its_place may = let placed : 1 ≡ 5 = ap (λ p. p.place) (same_Some _ _ may.is_write.placed) in absurd (omega (arith, placed))
+
+enters_once : May (Enters of_first) set → ⊥
+enters_once may = let no = may.once in absurd cc
+
+enters_alone : May (Enters of_other) handed_in → ⊥
+enters_alone may = let idle = ap length may.idle in absurd (omega (arith, idle))
+
+enters_behind_a_slot : May (Enters of_second) lasting → ⊥
+enters_behind_a_slot may = let quiet = ap length may.quiet.all_settled in absurd (omega (arith, quiet))
+
+enters_behind_a_write : May (Enters (entry first 0 0 (At (block 86)) 85)) (Sets of_second ∷ Commits of_second ∷ Enters of_second ∷ took) → ⊥
+enters_behind_a_write may = let below = may.below.writes.0 refl in absurd (omega (arith, below))
+
+enters_behind_a_read : May (Enters of_first) (Gives (given 2) ∷ took) → ⊥
+enters_behind_a_read may = let below = may.below.reads.0 refl in absurd (omega (arith, below))
+
+enters_with_the_mapping : May (Enters (entry second 0 1 Unmapped 86)) set → ⊥
+enters_with_the_mapping may = let old = may.old_is in absurd cc
+
+-- An entry is committed once.
+commits : May (Commits of_first) handed_in
+commits = record { is_open = record { is_begun = omega arith; unanswered = refl }; last = refl }
+
+commits_while_open : May (Commits of_first) (Says (Answer first Stopped) ∷ handed_in) → ⊥
+commits_while_open may = let no = may.is_open.unanswered in absurd cc
+
+commits_what_is_handed_in : May (Commits of_first) took → ⊥
+commits_what_is_handed_in may = let last = ap length may.last in absurd (omega (arith, last))
+
+commits_once : May (Commits of_first) lasting → ⊥
+commits_once may = let last = ap length may.last in absurd (omega (arith, last))
+
+-- A slot is set once, when its entry is committed and none of its address is under way, behind whatever its address had, and not
+-- once it is aborted.
+sets : May (Sets of_first) lasting
+sets = record {
+  is_open = record { is_begun = omega arith; unanswered = refl };
+  is_committed = record { all_committed = refl; last = refl };
+  below = record { writes = tt; reads = tt };
+  unaborted = refl;
+}
+
+sets_while_open : May (Sets of_first) (Says (Answer first Stopped) ∷ lasting) → ⊥
+sets_while_open may = let no = may.is_open.unanswered in absurd cc
+
+sets_what_is_committed : May (Sets of_first) handed_in → ⊥
+sets_what_is_committed may = let all = ap length may.is_committed.all_committed in absurd (omega (arith, all))
+
+sets_once : May (Sets of_first) set → ⊥
+sets_once may = let last = ap length may.is_committed.last in absurd (omega (arith, last))
+
+sets_behind_a_write : May (Sets of_first) (Commits of_first ∷ Enters of_first ∷ Sets of_second ∷ Commits of_second ∷ Enters of_second ∷ took) → ⊥
+sets_behind_a_write may = let below = may.below.writes.0 refl in absurd (omega (arith, below))
+
+sets_behind_a_read : May (Sets of_first) (Gives (given 2) ∷ lasting) → ⊥
+sets_behind_a_read may = let below = may.below.reads.0 refl in absurd (omega (arith, below))
+
+sets_unless_aborted : May (Sets of_first) (Aborts of_first ∷ stopped lasting) → ⊥
+sets_unless_aborted may = let no = may.unaborted in absurd cc
+
+-- A read is given its bytes at its place, when the entries of its address are settled.
+gives : May (Gives (given 2)) set
+gives = record {
+  is_open = record { is_begun = omega arith; unanswered = refl };
+  asked = refl;
+  placed = refl;
+  quiet = record { all_committed = refl; all_settled = refl };
+  below = record { writes = ((λ same. omega arith), tt); reads = tt };
+}
+
+gives_while_open : May (Gives (given 2)) (Says (Answer reader Stopped) ∷ set) → ⊥
+gives_while_open may = let no = may.is_open.unanswered in absurd cc
+
+gives_to_a_read : May (Gives (record { request = second; at = address 0; place = 1; bytes = x })) set → ⊥
+gives_to_a_read may = let asked = may.asked in absurd cc
+
+gives_at_its_place : May (Gives (given 3)) set → ⊥
+gives_at_its_place may = let placed : 2 ≡ 3 = ap (λ p. p.place) (same_Some _ _ may.placed) in absurd (omega (arith, placed))
+
+gives_what_is_committed : May (Gives (given 2)) handed_in → ⊥
+gives_what_is_committed may = let quiet = ap length may.quiet.all_committed in absurd (omega (arith, quiet))
+
+gives_what_is_settled : May (Gives (given 2)) lasting → ⊥
+gives_what_is_settled may = let quiet = ap length may.quiet.all_settled in absurd (omega (arith, quiet))
+
+gives_behind_a_write : May (Gives (given 2)) (Sets (entry second 0 3 Unmapped 85) ∷ Commits (entry second 0 3 Unmapped 85) ∷ Enters (entry second 0 3 Unmapped 85) ∷ took) → ⊥
+gives_behind_a_write may = let below = may.below.writes.0 refl in absurd (omega (arith, below))
+
+gives_behind_a_read : May (Gives (given 2)) (Gives (given 3) ∷ set) → ⊥
+gives_behind_a_read may = let below = may.below.reads.0 refl in absurd (omega (arith, below))
+
+-- A write is aborted that was handed in and isn't set, once the session is stopped.
+aborts : May (Aborts of_first) (stopped handed_in)
+aborts = record { is_open = record { is_begun = omega arith; unanswered = refl }; handed_in = refl; unset = refl; stopped = refl }
+
+aborts_while_open : May (Aborts of_first) (Says (Answer first Stopped) ∷ stopped handed_in) → ⊥
+aborts_while_open may = let no = may.is_open.unanswered in absurd cc
+
+aborts_what_is_handed_in : May (Aborts of_first) (stopped took) → ⊥
+aborts_what_is_handed_in may = let handed = may.handed_in in absurd cc
+
+aborts_what_is_unset : May (Aborts of_first) (stopped set) → ⊥
+aborts_what_is_unset may = let no = may.unset in absurd cc
+
+aborts_after_a_stop : May (Aborts of_first) handed_in → ⊥
+aborts_after_a_stop may = let stopped = may.stopped in absurd cc
+
+-- A call succeeds; after a write or flush that failed only reads do.
+calls : May (Calls (Flush true)) []
+calls = record { succeeds = refl; goes_on = λ is. refl }
+
+calls_a_read_after_a_stop : May (Calls (Read (block 85) x true)) (stopped set)
+calls_a_read_after_a_stop = record { succeeds = refl; goes_on = λ is. absurd cc }
+
+calls_that_succeed : May (Calls (Flush false)) [] → ⊥
+calls_that_succeed may = let succeeds = may.succeeds in absurd cc
+
+calls_no_flush_after_a_stop : May (Calls (Flush true)) (stopped set) → ⊥
+calls_no_flush_after_a_stop may = let goes_on = may.goes_on refl in absurd cc
+
+calls_no_write_after_a_stop : May (Calls (Write (block 85) x true)) (stopped set) → ⊥
+calls_no_write_after_a_stop may = let goes_on = may.goes_on refl in absurd cc
+
+-- A call fails that was made for an open request; a read is made for one of an address that is mapped to its block.
+fails : May (Fails first (Write (block 85) x false) true) took
+fails = record { is_open = record { is_begun = omega arith; unanswered = refl }; fails = refl; goes_on = λ is. refl; made_for = tt }
+
+fails_to_read : May (Fails reader (Read (block 85) y false) false) set
+fails_to_read = record { is_open = record { is_begun = omega arith; unanswered = refl }; fails = refl; goes_on = λ is. absurd cc; made_for = (address 0, refl, refl) }
+
+fails_while_open : May (Fails first (Write (block 85) x false) true) (Says (Answer first Stopped) ∷ took) → ⊥
+fails_while_open may = let no = may.is_open.unanswered in absurd cc
+
+fails_if_it_fails : May (Fails first (Write (block 85) x true) true) took → ⊥
+fails_if_it_fails may = let fails = may.fails in absurd cc
+
+fails_once : May (Fails second (Write (block 86) y false) true) (stopped took) → ⊥
+fails_once may = let goes_on = may.goes_on refl in absurd cc
+
+fails_to_read_for_a_read : May (Fails second (Read (block 85) x false) true) set → ⊥
+fails_to_read_for_a_read may = let asked = may.made_for.1 in absurd cc
+
+fails_to_read_its_block : May (Fails reader (Read (block 86) x false) true) set → ⊥
+fails_to_read_its_block may =
+    let asked : 0 ≡ may.made_for.0.0 = ap address_in (same_Some _ _ may.made_for.1) in
+    let mapped : 85 ≡ 86 = ap block_in (rw (← asked) at (may.made_for.2)) in absurd (omega (arith, mapped))
+  where
+    block_in : Mapping → ℕ
+    block_in Unmapped = 0
+    block_in Zero = 0
+    block_in (At b) = b.0
+
+-- No write or flush follows one that failed, one that isn't in the log either.
+stops : StopsAtFailure (Calls (Read (block 85) x true) ∷ stopped took)
+stops = ((λ is. absurd cc), ((λ is. refl), tt))
+
+stops_unkept : StopsAtFailure (Calls (Flush true) ∷ Fails first (Flush false) false ∷ []) → ⊥
+stops_unkept may = let goes_on = may.0 refl in absurd cc

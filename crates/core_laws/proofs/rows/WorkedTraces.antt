@@ -1,0 +1,115 @@
+-- A small session of three streams and two zones, and what happens in it: at these the definitions of a right trace are
+-- computed. Its journal has one block, and two data blocks are free.
+use Rattle.std.specs.Prelude.{ℕ, true, false, List, [], ◌∷◌}
+use Rattle.blk_base.specs.declared.place.Lba.{Lba}
+use Rattle.blk_base.specs.declared.place.Mapping.{Mapping}
+use Rattle.blk_base.specs.declared.place.Mapping.TheVariants.{Unmapped, At}
+use Rattle.blk_base.specs.declared.place.Pbn.{Pbn}
+use Rattle.blk_base.specs.declared.request.Request.TheVariants as request
+use Rattle.blk_base.specs.declared.request.Writer.{Writer}
+use Rattle.disk_model.specs.declared.call.Call.TheVariants.{Flush}
+use Rattle.vdo_model.specs.declared.report.DeskLine.TheVariants.{Begin}
+use Rattle.vdo_model.specs.declared.report.Placed.{Placed}
+use Rattle.vdo_model.specs.Scripts.{Script}
+use Rattle.core_laws.specs.declared.sizes.Sizes.{Sizes}
+use Rattle.core_laws.specs.declared.zones.Logged.{Logged}
+use Rattle.core_laws.specs.Sessions.{Session}
+use Rattle.core_laws.specs.Trace.{Gift, Says, Draws, Enters, Commits, Sets, Takes, Fails, Trace}
+
+abbrev pub address : ℕ → Lba
+address a = record { 0 = a }
+
+abbrev pub block : ℕ → Pbn
+block x = record { 0 = x }
+
+abbrev pub writer : ℕ → ℕ → Writer
+writer stream number = record { stream = stream; number = number }
+
+-- two values
+abbrev pub x : List ℕ
+x = 1 ∷ []
+
+abbrev pub y : List ℕ
+y = 2 ∷ []
+
+-- Two writes of address 0, which is in zone 0, and two reads of it; a write of address 812, which is in zone 1; a flush.
+abbrev pub script : Script
+script =
+    (request.Write (address 0) x false ∷ request.Read (address 0) ∷ [])
+    ∷ (request.Write (address 0) y false ∷ request.Write (address 812) y false ∷ request.Read (address 0) ∷ [])
+    ∷ (request.Flush ∷ [])
+    ∷ []
+
+abbrev pub first : Writer
+first = writer 0 0
+
+abbrev pub reader : Writer
+reader = writer 0 1
+
+abbrev pub second : Writer
+second = writer 1 0
+
+abbrev pub other : Writer
+other = writer 1 1
+
+abbrev pub late : Writer
+late = writer 1 2
+
+abbrev pub flush : Writer
+flush = writer 2 0
+
+abbrev pub sizes : Sizes
+sizes = record {
+  geometry = record { logical = 1000; slabs = 1; slab_blocks = 64; journal = 1; index = 16; slab_journal = 4; height = 2; nonce = 1 };
+  start = 1;
+  opened = 0;
+  zones = 2;
+  depth = 2;
+}
+
+abbrev pub session : Session
+session = record { sizes = sizes; script = script; blocks = []; before = []; image = []; window = []; free = block 85 ∷ block 86 ∷ [] }
+
+-- the first three requests and the flush are begun; those of blocks have their places
+abbrev pub begun : Trace
+begun = Says (Begin flush) ∷ Says (Begin other) ∷ Says (Begin second) ∷ Says (Begin reader) ∷ Says (Begin first) ∷ []
+
+abbrev pub place : Writer → ℕ → ℕ → Placed
+place w zone n = record { request = w; zone = zone; place = n }
+
+abbrev pub drawn : Trace
+drawn = Draws (place other 1 0) ∷ Draws (place reader 0 2) ∷ Draws (place second 0 1) ∷ Draws (place first 0 0) ∷ begun
+
+-- the entries of the writes
+abbrev pub entry : Writer → ℕ → ℕ → Mapping → ℕ → Logged
+entry w a n old b = record { request = w; at = address a; place = n; old = old; block = block b }
+
+abbrev pub of_first : Logged
+of_first = entry first 0 0 Unmapped 85
+
+abbrev pub of_second : Logged
+of_second = entry second 0 1 (At (block 85)) 86
+
+abbrev pub of_other : Logged
+of_other = entry other 812 0 Unmapped 86
+
+-- the first write has its block, hands its entry in, has it committed, and sets its slot
+abbrev pub took : Trace
+took = Takes first (block 85) ∷ drawn
+
+abbrev pub handed_in : Trace
+handed_in = Enters of_first ∷ took
+
+abbrev pub lasting : Trace
+lasting = Commits of_first ∷ handed_in
+
+abbrev pub set : Trace
+set = Sets of_first ∷ lasting
+
+-- a flush of the device failed that was made for the first write
+abbrev pub stopped : Trace → Trace
+stopped t = Fails first (Flush false) true ∷ t
+
+-- what the reader is given
+abbrev pub given : ℕ → Gift
+given n = record { request = reader; at = address 0; place = n; bytes = x }

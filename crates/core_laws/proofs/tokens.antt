@@ -1,0 +1,13 @@
+pub mod BlockOwners
+pub mod BlockTokens
+pub mod JournalTokens
+pub mod LeaseOwners
+pub mod LeaseTokens
+pub mod Lift
+pub mod NoticeTokens
+pub mod Owners
+pub mod Posts
+pub mod RequestOwners
+pub mod RequestTokens
+pub mod RoomTokens
+pub mod Rooms

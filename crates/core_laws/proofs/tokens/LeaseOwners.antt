@@ -1,0 +1,181 @@
+-- Who holds the lock of an address has it at its home, and nobody else holds it.
+use Rattle.std.proofs.Common.{◌≡◌, ℕ, ◌+◌, ◌<◌, ◌≤◌, Bool, true, false, not, ◌&&◌, ◌==◌, List, [], ◌∷◌, Some, slice_get, refl, sym, ◌∙◌, ap, subst, inl, inr, arith}
+use Rattle.std.specs.List.{AllByRecursion}
+use Rattle.std.proofs.lemmas.Bool.Decides.{eqb_tells}
+use Rattle.core_laws.specs.declared.items.Item.{Item}
+use Rattle.core_laws.specs.declared.items.Item.TheVariants as item
+use Rattle.core_laws.specs.declared.items.Phase.{Phase}
+use Rattle.core_laws.specs.declared.items.Phase.TheVariants as phase
+use Rattle.core_laws.specs.declared.items.Vio.{Vio}
+use Rattle.core_laws.specs.declared.sizes.Sizes.{Sizes}
+use Rattle.core_laws.specs.declared.zones.ZoneData.{ZoneData}
+use Rattle.core_laws.specs.declared.zones.ZoneData.TheVariants as at
+use Rattle.core_laws.specs.declared.zones.Lock.{Lock}
+use Rattle.core_laws.specs.declared.zones.LogicalZone.{LogicalZone}
+use Rattle.core_laws.specs.declared.zones.Zone.{Zone}
+use Rattle.core_laws.specs.Facts.{ItemOk, LockOk, DataOk, ZoneOk, zone_at}
+use Rattle.core_laws.specs.LogicalRows.{is_held}
+use Rattle.core_laws.specs.Numbers.{logical_zone}
+use Rattle.core_laws.specs.Sessions.{Session}
+use Rattle.plain_laws.specs.Sums.{total, bit, Each}
+use Rattle.core_laws.specs.Tokens.{Balanced, weight, given, queued, of_vio, holds, holder_weight, lock_weight, locks_at, lease_token}
+use Rattle.core_laws.specs.Trace.{Trace}
+use Rattle.plain_laws.proofs.ListLaws.{every-map, total-get, total_alone, nobody_else, summand}
+use Rattle.core_laws.proofs.tokens.LeaseTokens.{Leased}
+use Rattle.vdo_model.specs.Places.{zone_of}
+
+-- the number of the logical zone of an address
+abbrev pub home_of : Session → ℕ → ℕ
+home_of s a = logical_zone (zone_of s.sizes.zones a)
+
+abbrev pub any : ℕ → Bool
+any place = true
+
+-- locks of other addresses weigh nothing
+no_locks : (a : ℕ) (test : ℕ → Bool) (locks : List Lock) → AllByRecursion (λ (lock : Lock). lock.at.0 ≡ a → ⊥) locks → total (lock_weight a test) locks ≡ 0
+no_locks a test [] h = refl
+no_locks a test (lock ∷ locks) h = elim (eqb_tells lock.at.0 a) [
+  | inl same ↦ absurd (h.0 same.1)
+  | inr other ↦ rw other.0 (omega (arith, no_locks a test locks h.1))
+]
+
+-- the locks whose place passes a test, and those whose place doesn't
+split_locks : (a : ℕ) (test : ℕ → Bool) (locks : List Lock) → total (lock_weight a test) locks + total (lock_weight a (λ p. not (test p))) locks ≡ total (lock_weight a any) locks
+split_locks a test [] = refl
+split_locks a test (lock ∷ locks) = let x = one (lock.at.0 == a) (test lock.place) in omega (arith, x, split_locks a test locks)
+  where
+    one : (b c : Bool) → bit (b && c) + bit (b && not c) ≡ bit (b && true)
+    one true true = refl
+    one true false = refl
+    one false c = refl
+
+-- a lock with weight is held
+held_there : (a : ℕ) (locks : List Lock) → 1 ≤ total (lock_weight a any) locks → is_held a locks ≡ true
+held_there a [] h = absurd (omega arith)
+held_there a (lock ∷ locks) h = elim (eqb_tells lock.at.0 a) [
+  | inl same ↦ rw same.0 refl
+  | inr other ↦ let k = rw other.0 at h in rw other.0 (held_there a locks (omega (arith, k)))
+]
+
+module _ (s : Session) (t : Trace) (a : ℕ) where
+  data_gives : (test : ℕ → Bool) (j : ℕ) (d : ZoneData) → DataOk s t j d → (j ≡ home_of s a → ⊥) → locks_at a test d ≡ 0
+  data_gives test j (at.Desk d) own ne = refl
+  data_gives test j (at.Logical l) own ne =
+      no_locks a test l.held (every-map {P = LockOk s l} (λ (lock : Lock) ok here. ne (own.number_is ∙ ap logical_zone (sym ok.0 ∙ ap (zone_of s.sizes.zones) here))) l.held own.locks)
+  data_gives test j (at.Physical p) own ne = refl
+  data_gives test j (at.Journal k) own ne = refl
+  data_gives test j (at.Device d) own ne = refl
+
+  data_once : (j : ℕ) (d : ZoneData) → DataOk s t j d → locks_at a any d ≤ 1
+  data_once j (at.Desk d) own = omega arith
+  data_once j (at.Logical l) own = own.once a
+  data_once j (at.Physical p) own = omega arith
+  data_once j (at.Journal k) own = omega arith
+  data_once j (at.Device d) own = omega arith
+
+  module _ (zones : List Zone) (each : Each (ZoneOk s t) zones) where
+    -- only the home of an address gives its lock
+    pub given_at_home : (test : ℕ → Bool) (n : ℕ) (z : Zone) → slice_get zones n ≡ Some z → n ≡ home_of s a → total (given (lease_token a test)) zones ≡ locks_at a test z.keeps
+    given_at_home test n z had home = total_alone (given (lease_token a test)) zones n z had (λ j y k ne. data_gives test j y.keeps (each j y k).own (λ q. ne (q ∙ sym home)))
+
+    gives_home : (j : ℕ) (y : Zone) → slice_get zones j ≡ Some y → 1 ≤ locks_at a any y.keeps → j ≡ home_of s a
+    gives_home j y k h = elim (eqb_tells j (home_of s a)) [
+      | inl same ↦ same.1
+      | inr other ↦ let x = data_gives any j y.keeps (each j y k).own other.1 in absurd (omega (arith, x, h))
+    ]
+
+    -- and gives one lock at most
+    pub given_once : total (given (lease_token a any)) zones ≤ 1
+    given_once = by_sum (total (given (lease_token a any)) zones) refl
+      where
+        by_sum : (n : ℕ) → total (given (lease_token a any)) zones ≡ n → total (given (lease_token a any)) zones ≤ 1
+        by_sum n e = elim (eqb_tells n 0) [
+          | inl same ↦ let k = same.1 in omega (arith, e, k)
+          | inr other ↦
+              let apart = other.1 in
+              let u = summand (given (lease_token a any)) zones (omega (arith, e, apart)) in
+              let home = gives_home u.at u.item u.is u.some in
+              let x = given_at_home any u.at u.item u.is home in
+              let y = data_once u.at u.item.keeps (each u.at u.item u.is).own in
+              omega (arith, x, y)
+        ]
+
+-- A request served at a logical zone with a lock is served at its home.
+at_home : (sizes : Sizes) (n zone home : ℕ) (q : Phase) → n ≡ logical_zone zone → zone < sizes.zones → n ≡ zone_at sizes home q → holds q ≡ true → n ≡ home
+at_home sizes n zone home phase.Arrive is below to h = to
+at_home sizes n zone home phase.Wait is below to h = absurd (omega (arith, is, below, to))
+at_home sizes n zone home phase.Claim is below to h = absurd (omega (arith, is, below, to))
+at_home sizes n zone home phase.Store is below to h = absurd (omega (arith, is, below, to))
+at_home sizes n zone home phase.Enter is below to h = absurd (omega (arith, is, below, to))
+at_home sizes n zone home phase.Settle is below to h = to
+at_home sizes n zone home phase.Load is below to h = absurd (omega (arith, is, below, to))
+at_home sizes n zone home phase.Loaded is below to h = to
+at_home sizes n zone home phase.AbortClaim is below to h = absurd (omega (arith, is, below, to))
+at_home sizes n zone home phase.Abort is below to h = to
+at_home sizes n zone home phase.AbortEnteredClaim is below to h = absurd (omega (arith, is, below, to))
+at_home sizes n zone home phase.AbortEntered is below to h = to
+at_home sizes n zone home phase.Flush is below to h = cc
+at_home sizes n zone home phase.Reply is below to h = cc
+
+-- its weight
+front_weight : (test : ℕ → Bool) (v : Vio) → holds v.phase ≡ true → holder_weight v.at.0 test v ≡ bit (test v.place)
+front_weight test v h = elim (eqb_tells v.at.0 v.at.0) [
+  | inl same ↦ rw (h, same.0) refl
+  | inr other ↦ absurd (other.1 refl)
+]
+
+one_of_two : (test : ℕ → Bool) (place x y z : ℕ) → x + y ≡ z → z ≤ 1 → bit (test place) ≤ x → bit (not (test place)) ≤ y → x ≡ bit (test place)
+one_of_two test place x y z e le = by_bit (test place)
+  where
+    by_bit : (b : Bool) → bit b ≤ x → bit (not b) ≤ y → x ≡ bit b
+    by_bit true h k = omega (arith, h, k)
+    by_bit false h k = omega (arith, h, k)
+
+-- From the balance of all locks of its address: the front of a logical zone that holds a lock has it there.
+pub leased_front : (s : Session) (t : Trace) (zones : List Zone) (n : ℕ) (z : Zone) (l : LogicalZone) (v : Vio) (rest : List Item)
+    → Each (ZoneOk s t) zones → ((test : ℕ → Bool) → Balanced (lease_token v.at.0 test) zones)
+    → slice_get zones n ≡ Some z → z.inbox ≡ item.Request v ∷ rest → z.keeps ≡ at.Logical l → holds v.phase ≡ true → Leased l v
+leased_front s t zones n z l v rest each balance had front keeps h test =
+    let ok = each n z had in
+    let own = subst (λ (d : ZoneData). DataOk s t n d) keeps ok.own in
+    let first = (subst (λ (items : List Item). AllByRecursion (ItemOk s t n) items) front ok.inbox).0 in
+    let home : n ≡ home_of s v.at.0 = at_home s.sizes n l.zone v.home v.phase own.number_is own.among first.2 h ∙ first.0.home in
+    let a = v.at.0 in
+    let gave : (test : ℕ → Bool) → total (given (lease_token a test)) zones ≡ total (lock_weight a test) l.held = λ test. given_at_home s t a zones each test n z had home ∙ ap (locks_at a test) keeps in
+    let bound : (test : ℕ → Bool) → bit (test v.place) ≤ total (lock_weight a test) l.held = λ test.
+    let one = front_weight test v h in
+    let w = total-get (weight (lease_token a test)) zones n z had in
+    let inbox = ap (total (of_vio (holder_weight a test))) front in
+    let g = gave test in
+    let e = balance test in
+    omega (arith, one, w, inbox, g, e)
+    in
+    one_of_two test v.place (total (lock_weight a test) l.held) (total (lock_weight a (λ p. not (test p))) l.held) (total (lock_weight a any) l.held)
+    (split_locks a test l.held) (own.once a) (bound test) (bound (λ p. not (test p)))
+
+-- The item with the lock of an address is alone: no other item has it, and it is held at home.
+pub record LeaseAlone (s : Session) (zones : List Zone) (n : ℕ) (z : Zone) (rest : List Item) (a : ℕ) : Type 0 where
+  pub others : Each (λ j y. (j ≡ n → ⊥) → weight (lease_token a any) y ≡ 0) zones
+  pub behind : total (of_vio (holder_weight a any)) rest ≡ 0
+  pub lanes : total (total (of_vio (holder_weight a any))) z.outboxes ≡ 0
+  pub kept : queued (of_vio (holder_weight a any)) z.keeps ≡ 0
+  pub held : (m : ℕ) (y : Zone) (l : LogicalZone) → slice_get zones m ≡ Some y → y.keeps ≡ at.Logical l → l.zone ≡ zone_of s.sizes.zones a → is_held a l.held ≡ true
+
+pub lease_alone : (s : Session) (t : Trace) (zones : List Zone) (n : ℕ) (z : Zone) (it : Item) (rest : List Item) (a : ℕ)
+    → Each (ZoneOk s t) zones → Balanced (lease_token a any) zones → slice_get zones n ≡ Some z → z.inbox ≡ it ∷ rest → of_vio (holder_weight a any) it ≡ 1
+    → LeaseAlone s zones n z rest a
+lease_alone s t zones n z it rest a each balance had front one =
+    let w = total-get (weight (lease_token a any)) zones n z had in
+    let inbox = ap (total (of_vio (holder_weight a any))) front in
+    let once = given_once s t a zones each in
+    record {
+      others = nobody_else (weight (lease_token a any)) zones n z had (omega (arith, w, inbox, once, one, balance));
+      behind = omega (arith, w, inbox, once, one, balance);
+      lanes = omega (arith, w, inbox, once, one, balance);
+      kept = omega (arith, w, inbox, once, one, balance);
+      held = λ m y l k keeps is.
+          let own = subst (λ (d : ZoneData). DataOk s t m d) keeps (each m y k).own in
+          let g = given_at_home s t a zones each any m y k (own.number_is ∙ ap logical_zone is) in
+          let e = ap (locks_at a any) keeps in
+          held_there a l.held (omega (arith, w, inbox, one, balance, g, e));
+    }

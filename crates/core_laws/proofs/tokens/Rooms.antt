@@ -1,0 +1,211 @@
+-- In a legal core no lane and no list of a zone has more than its share.
+use Rattle.std.proofs.Common.{◌≡◌, ℕ, zero, suc, ◌+◌, ◌*◌, ◌<◌, ◌≤◌, ◌==◌, Bool, true, false, if◌then◌else◌, cond, IsSome, Some, List, [], ◌∷◌, length, slice_get, get_or, refl, ap, ◌∙◌, subst, inl, inr, arith}
+use Rattle.std.proofs.lemmas.Bool.Decides.{eqb_tells}
+use Rattle.vdo_model.specs.DeskLog.{IsDeskLog, begun, answered}
+use Rattle.vdo_model.specs.Scripts.{Script}
+use Rattle.vdo_model.specs.declared.report.DeskLine.{DeskLine}
+use Rattle.vdo_model.specs.declared.report.DeskLine.TheVariants.{Begin, Answer}
+use Rattle.core_laws.specs.declared.items.Item.{Item}
+use Rattle.core_laws.specs.declared.items.Item.TheVariants as item
+use Rattle.core_laws.specs.declared.zones.ZoneData.{ZoneData}
+use Rattle.core_laws.specs.declared.zones.ZoneData.TheVariants as at
+use Rattle.core_laws.specs.declared.zones.Zone.{Zone}
+use Rattle.core_laws.specs.Facts.{DataOk}
+use Rattle.core_laws.specs.Legal.{Legal, share}
+use Rattle.core_laws.specs.Numbers.{desk_zone, device_zone, notified_zones}
+use Rattle.core_laws.specs.Sessions.{Session}
+use Rattle.core_laws.specs.Steps.{Core}
+use Rattle.plain_laws.specs.Sums.{total}
+use Rattle.core_laws.specs.Tokens.{Token, queued, weight, given, room_token, notice_token, is_begin, is_answer, in_log, is_word, notified_by}
+use Rattle.core_laws.specs.Trace.{lines}
+use Rattle.core_laws.proofs.trace.DeskOfTrace.{desk_log_right}
+use Rattle.plain_laws.proofs.ListLaws.{total-get, total_alone}
+use Rattle.core_laws.proofs.kept.ZoneKinds.{desk_sits, device_sits}
+
+-- Each stream has at most so many requests under way.
+stream_bound : (depth : ℕ) (script : Script) (desk : List DeskLine) (stream : ℕ) → IsDeskLog depth script desk → begun stream desk ≤ answered stream desk + depth
+stream_bound depth script [] stream right = omega arith
+stream_bound depth script (Begin w ∷ older) stream right = elim (eqb_tells w.stream stream) [
+  | inl same ↦ let few = right.0.2 in let a = ap (λ k. begun k older) same.1 in let b = ap (λ k. answered k older) same.1 in rw same.0 (omega (arith, few, a, b))
+  | inr other ↦ rw other.0 (stream_bound depth script older stream right.1)
+]
+stream_bound depth script (Answer w a ∷ older) stream right = elim (eqb_tells w.stream stream) [
+  | inl same ↦ let rest = stream_bound depth script older stream right.1 in rw same.0 (omega (arith, rest))
+  | inr other ↦ rw other.0 (stream_bound depth script older stream right.1)
+]
+
+-- the sum over the streams below a number
+abbrev over : ℕ → (ℕ → ℕ) → ℕ
+over zero f = 0
+over (suc k) f = f k + over k f
+
+one_at : (k m : ℕ) (f : ℕ → ℕ) → over k (λ i. if m == i then f i + 1 else f i) ≤ over k f + 1
+one_at zero m f = omega arith
+one_at (suc k) m f = elim (eqb_tells m k) [
+  | inl same ↦ let rest = below k m f (omega (arith, same.1)) in rw same.0 (omega (arith, rest))
+  | inr other ↦ let rest = one_at k m f in rw other.0 (omega (arith, rest))
+]
+  where
+    below : (k m : ℕ) (f : ℕ → ℕ) → k ≤ m → over k (λ i. if m == i then f i + 1 else f i) ≡ over k f
+    below zero m f low = refl
+    below (suc k) m f low = elim (eqb_tells m k) [
+      | inl same ↦ absurd (let e = same.1 in omega (arith, e, low))
+      | inr other ↦ let rest = below k m f (omega (arith, low)) in rw other.0 (omega (arith, rest))
+    ]
+
+one_there : (k m : ℕ) (f : ℕ → ℕ) → m < k → over k f + 1 ≤ over k (λ i. if m == i then f i + 1 else f i)
+one_there zero m f low = absurd (omega (arith, low))
+one_there (suc k) m f low = elim (eqb_tells m k) [
+  | inl same ↦ let rest = more k m f in rw same.0 (omega (arith, rest))
+  | inr other ↦ let ne = other.1 in let rest = one_there k m f (omega (arith, low, ne)) in rw other.0 (omega (arith, rest))
+]
+  where
+    more : (k m : ℕ) (f : ℕ → ℕ) → over k f ≤ over k (λ i. if m == i then f i + 1 else f i)
+    more zero m f = omega arith
+    more (suc k) m f = elim (eqb_tells m k) [
+      | inl same ↦ let rest = more k m f in rw same.0 (omega (arith, rest))
+      | inr other ↦ let rest = more k m f in rw other.0 (omega (arith, rest))
+    ]
+
+some_stream : (script : Script) (stream number : ℕ) → IsSome (slice_get (get_or script stream []) number) → stream < length script
+some_stream [] stream number some = absurd cc
+some_stream (requests ∷ script) zero number some = omega arith
+some_stream (requests ∷ script) (suc stream) number some = let rest = some_stream script stream number some in omega (arith, rest)
+
+all_begun : (depth : ℕ) (script : Script) (desk : List DeskLine) → IsDeskLog depth script desk → total is_begin desk ≤ over (length script) (λ i. begun i desk)
+all_begun depth script [] right = omega arith
+all_begun depth script (Begin w ∷ older) right =
+    let rest = all_begun depth script older right.1 in
+    let more = one_there (length script) w.stream (λ i. begun i older) (some_stream script w.stream w.number right.0.1) in
+    omega (arith, rest, more)
+all_begun depth script (Answer w a ∷ older) right = let rest = all_begun depth script older right.1 in omega (arith, rest)
+
+all_answered : (k : ℕ) (desk : List DeskLine) → over k (λ i. answered i desk) ≤ total is_answer desk
+all_answered k [] = zeros k
+  where
+    zeros : (k : ℕ) → over k (λ i. 0) ≤ 0
+    zeros zero = omega arith
+    zeros (suc k) = let rest = zeros k in omega (arith, rest)
+all_answered k (Begin w ∷ older) = let rest = all_answered k older in omega (arith, rest)
+all_answered k (Answer w a ∷ older) =
+    let rest = all_answered k older in
+    let more = one_at k w.stream (λ i. answered i older) in
+    omega (arith, rest, more)
+
+bounded : (depth : ℕ) (script : Script) (desk : List DeskLine) (k : ℕ) → IsDeskLog depth script desk → over k (λ i. begun i desk) ≤ over k (λ i. answered i desk) + k * depth
+bounded depth script desk zero right = omega arith
+bounded depth script desk (suc k) right =
+    let rest = bounded depth script desk k right in
+    let one = stream_bound depth script desk k right in
+    let product : suc k * depth ≡ depth + k * depth = omega arith in
+    omega (arith, rest, one, product)
+
+-- as many requests are under way as that
+pub under_way : (depth : ℕ) (script : Script) (desk : List DeskLine) → IsDeskLog depth script desk → total is_begin desk ≤ total is_answer desk + length script * depth
+under_way depth script desk right =
+    let a = all_begun depth script desk right in
+    let b = bounded depth script desk (length script) right in
+    let c = all_answered (length script) desk in
+    omega (arith, a, b, c)
+
+-- what a zone's lanes and lists weigh, apart from its own part
+abbrev carried : Token → Zone → ℕ
+carried t z = total t.item z.inbox + total (total t.item) z.outboxes + queued t.item z.keeps
+
+split_sum : (t : Token) (zones : List Zone) → total (weight t) zones ≡ total (carried t) zones + total (λ z. t.own z.keeps) zones
+split_sum t [] = refl
+split_sum t (z ∷ zones) = omega (arith, split_sum t zones)
+
+counted : (items : List Item) → length items ≤ total room_token.item items + total is_word items
+counted [] = omega arith
+counted (item.Request v ∷ items) = omega (arith, counted items)
+counted (item.Block b ∷ items) = omega (arith, counted items)
+counted (item.StopNotice ∷ items) = omega (arith, counted items)
+
+lane_of : (f : Item → ℕ) (lanes : List (List Item)) (i : ℕ) (lane : List Item) → slice_get lanes i ≡ Some lane → total f lane ≤ total (total f) lanes
+lane_of f lanes i lane had = total-get (total f) lanes i lane had
+
+one_each : {X : Type 0} (xs : List X) → total (λ x. 1) xs ≡ length xs
+one_each [] = refl
+one_each (x ∷ xs) = omega (arith, one_each xs)
+
+module _ (s : Session) (core : Core) (legal : Legal s core) where
+  abbrev zones : List Zone
+  zones = core.zones
+
+  only_desk : (f : DeskLine → ℕ) → total (λ (z : Zone). in_log f z.keeps) core.zones ≡ total f (lines core.trace)
+  only_desk f =
+      let desk = desk_sits s core.trace core.zones legal.each legal.count in
+      let k = subst (λ (d : ZoneData). DataOk s core.trace desk_zone d) desk.keeps (legal.each desk_zone desk.zone desk.had).own in
+      total_alone (λ (z : Zone). in_log f z.keeps) core.zones desk_zone desk.zone desk.had (λ j y there ne. no_log j y.keeps ne (legal.each j y there).own)
+      ∙ ap (in_log f) desk.keeps ∙ ap (total f) k.log_is
+    where
+      no_log : (j : ℕ) (d : ZoneData) → (j ≡ desk_zone → ⊥) → DataOk s core.trace j d → in_log f d ≡ 0
+      no_log j (at.Desk d) ne k = absurd (ne k.number_is)
+      no_log j (at.Logical l) ne k = refl
+      no_log j (at.Physical p) ne k = refl
+      no_log j (at.Journal jn) ne k = refl
+      no_log j (at.Device d) ne k = refl
+
+  few_words : total (given (notice_token s.sizes)) core.zones ≤ notified_zones s.sizes
+  few_words =
+      let device = device_sits s core.trace core.zones legal.each legal.count in
+      let alone = total_alone (given (notice_token s.sizes)) core.zones (device_zone s.sizes) device.zone device.had (λ j y there ne. no_words j y.keeps ne (legal.each j y there).own) in
+      let notified = ap (notified_by s.sizes) device.keeps in
+      omega (arith, alone, notified, by device.it.stopped)
+    where
+      by : (b : Bool) → cond b (notified_zones s.sizes) 0 ≤ notified_zones s.sizes
+      by true = omega arith
+      by false = omega arith
+
+      no_words : (j : ℕ) (d : ZoneData) → (j ≡ device_zone s.sizes → ⊥) → DataOk s core.trace j d → notified_by s.sizes d ≡ 0
+      no_words j (at.Desk d) ne k = refl
+      no_words j (at.Logical l) ne k = refl
+      no_words j (at.Physical p) ne k = refl
+      no_words j (at.Journal jn) ne k = refl
+      no_words j (at.Device d) ne k = absurd (ne k.number_is)
+
+  few_requests : (n : ℕ) (z : Zone) → slice_get core.zones n ≡ Some z → carried room_token z ≤ length s.script * s.sizes.depth
+  few_requests n z had =
+      let here = total-get (carried room_token) core.zones n z had in
+      let split = split_sum room_token core.zones in
+      let balance = legal.room in
+      let begins = only_desk is_begin in
+      let answers = only_desk is_answer in
+      let few = under_way s.sizes.depth s.script (lines core.trace) (desk_log_right s core.trace legal.right) in
+      omega (arith, here, split, balance, begins, answers, few)
+
+  few_notices : (n : ℕ) (z : Zone) → slice_get core.zones n ≡ Some z → total is_word z.inbox + total (total is_word) z.outboxes ≤ notified_zones s.sizes
+  few_notices n z had =
+      let here = total-get (weight (notice_token s.sizes)) core.zones n z had in
+      let balance = legal.stop_notices in
+      omega (arith, here, balance, few_words)
+
+  pub inbox_room : (n : ℕ) (z : Zone) → slice_get core.zones n ≡ Some z → length z.inbox ≤ share s
+  inbox_room n z had =
+      let a = few_requests n z had in
+      let b = few_notices n z had in
+      let c = counted z.inbox in
+      omega (arith, a, b, c)
+
+  pub lane_room : (n : ℕ) (z : Zone) (to : ℕ) (lane : List Item) → slice_get core.zones n ≡ Some z → slice_get z.outboxes to ≡ Some lane → length lane ≤ share s
+  lane_room n z to lane had there =
+      let a = few_requests n z had in
+      let b = few_notices n z had in
+      let c = counted lane in
+      let d = lane_of room_token.item z.outboxes to lane there in
+      let e = lane_of is_word z.outboxes to lane there in
+      omega (arith, a, b, c, d, e)
+
+  pub queue_room : (n : ℕ) (z : Zone) → slice_get core.zones n ≡ Some z → queued (λ it. 1) z.keeps ≤ share s
+  queue_room n z had =
+      let a = few_requests n z had in
+      let b = same z.keeps in
+      omega (arith, a, b)
+    where
+      same : (d : ZoneData) → queued (λ it. 1) d ≡ queued room_token.item d
+      same (at.Desk d) = refl
+      same (at.Logical l) = refl
+      same (at.Physical p) = refl
+      same (at.Journal j) = refl
+      same (at.Device d) = refl

@@ -1,0 +1,158 @@
+-- The marks of a right trace: an answer says of a write no more than whether its entry was handed in and its slot set.
+use Rattle.std.proofs.Common.{ℕ, ◌≡◌, ◌<◌, ◌++◌, Bool, true, false, List, [], ◌∷◌, Option, Some, None, IsSome, IsNone, refl, sym, ◌∙◌, ap, subst, inl, inr, arith}
+use Rattle.std.proofs.lemmas.Option.{same_Some}
+use Rattle.blk_base.specs.declared.place.Lba.{Lba}
+use Rattle.blk_base.specs.declared.request.Answer.{Answer as Reply}
+use Rattle.blk_base.specs.declared.request.Answer.TheVariants as reply
+use Rattle.blk_base.specs.declared.request.Request.{Request}
+use Rattle.blk_base.specs.declared.request.Request.TheVariants as request
+use Rattle.blk_base.specs.declared.request.Writer.{Writer}
+use Rattle.vdo_model.specs.DeskLog.{answer_of}
+use Rattle.vdo_model.specs.Histories.{mark_of, histories_of}
+use Rattle.vdo_model.specs.Histories as model
+use Rattle.vdo_model.specs.Places.{AreDrawn}
+use Rattle.vdo_model.specs.Scripts.{request_at, address_of}
+use Rattle.vdo_model.specs.declared.report.DeskLine.{DeskLine}
+use Rattle.vdo_model.specs.declared.report.DeskLine.TheVariants.{Begin, Answer}
+use Rattle.vdo_model.specs.declared.report.HistoryEntry.{HistoryEntry}
+use Rattle.vdo_model.specs.declared.report.Mark.{Mark}
+use Rattle.vdo_model.specs.declared.report.Placed.{Placed}
+use Rattle.core_laws.specs.declared.zones.Logged.{Logged}
+use Rattle.core_laws.specs.Reports.{is_there, set_in, handed_in, drawn_histories}
+use Rattle.core_laws.specs.Sessions.{Session}
+use Rattle.core_laws.specs.Trace.{Says, Flushes, Enters, Sets, Fails, Trace, lines, places, entered, settled, logged_of}
+use Rattle.core_laws.specs.RightTraces.{RightTrace, MayAnswer}
+use Rattle.plain_laws.proofs.OptionLaws.{none_of}
+use Rattle.vdo_model.proofs.NameLaws.{same_tells}
+use Rattle.core_laws.proofs.trace.DeskOfTrace.{settled_is_entered}
+use Rattle.core_laws.proofs.trace.PlaceWalks.{progress}
+use Rattle.core_laws.proofs.trace.PlacesOfTrace.{places_drawn}
+
+-- what an answer says of a write
+abbrev pub AnswerSays : Bool → Bool → Option Reply → Type 0
+AnswerSays is_set handed None = Unit {0}
+AnswerSays is_set handed (Some reply.Ok) = is_set ≡ true
+AnswerSays is_set handed (Some reply.Stopped) = is_set ≡ false
+AnswerSays is_set handed (Some reply.Full) = handed ≡ false
+AnswerSays is_set handed (Some reply.Range) = ⊥
+AnswerSays is_set handed (Some (reply.Bytes bytes)) = ⊥
+AnswerSays is_set handed (Some reply.NoSpace) = ⊥
+AnswerSays is_set handed (Some reply.ReadFault) = ⊥
+AnswerSays is_set handed (Some reply.Damaged) = ⊥
+
+there_true : (o : Option Logged) → IsSome o → is_there o ≡ true
+there_true (Some e) some = refl
+there_true None some = absurd cc
+
+there_false : (o : Option Logged) → IsNone o → is_there o ≡ false
+there_false (Some e) none = absurd cc
+there_false None none = refl
+
+-- what is there is something
+pub there_some : (o : Option Logged) → is_there o ≡ true → (e : Logged) × (o ≡ Some e)
+there_some (Some e) is = (e, refl)
+there_some None is = absurd cc
+
+cause_says : (s : Session) (t : Trace) (w : Writer) (at : Lba) (bytes : List ℕ) (fua : Bool) (a : Reply) → at.0 < s.sizes.geometry.logical → MayAnswer s t w (request.Write at bytes fua) a
+    → AnswerSays (set_in t w) (handed_in t w) (Some a)
+cause_says s t w at bytes fua reply.Ok below cause = there_true (logged_of (settled t) w) cause
+cause_says s t w at bytes fua reply.Range below cause = absurd (omega arith)
+cause_says s t w at bytes fua reply.Stopped below (inl cause) = there_false (logged_of (settled t) w) cause.2
+cause_says s t w at bytes fua reply.Stopped below (inr at_once) = there_false (logged_of (settled t) w) at_once.unset
+cause_says s t w at bytes fua reply.Full below cause = there_false (logged_of (entered t) w) cause.1
+cause_says s t w at bytes fua other below cause = absurd cause
+
+unanswered_says : (is_set handed : Bool) (o : Option Reply) → IsNone o → AnswerSays is_set handed o
+unanswered_says is_set handed o none = let is = none_of o none in rw is tt
+
+-- what an answer of a write below the logical size says
+pub answer_says : (s : Session) (t : Trace) (w : Writer) (at : Lba) (bytes : List ℕ) (fua : Bool) → RightTrace s t → request_at s.script w ≡ Some (request.Write at bytes fua) → at.0 < s.sizes.geometry.logical
+    → AnswerSays (set_in t w) (handed_in t w) (answer_of (lines t) w)
+answer_says s [] w at bytes fua right asked below = tt
+answer_says s (Says (Begin v) ∷ t) w at bytes fua right asked below = answer_says s t w at bytes fua right.2 asked below
+answer_says s (Says (Answer v b) ∷ t) w at bytes fua right asked below = elim (same_tells v w) [
+  | inl same ↦
+      let cause = right.0.1 _ (subst (λ (x : Writer). request_at s.script x ≡ Some (request.Write at bytes fua)) (sym same.1) asked) in
+      rw same.0 (cause_says s t w at bytes fua b below (subst (λ (x : Writer). MayAnswer s t x (request.Write at bytes fua) b) same.1 cause))
+  | inr other ↦ rw other.0 (answer_says s t w at bytes fua right.2 asked below)
+]
+answer_says s (Flushes mark ∷ t) w at bytes fua right asked below = elim (same_tells mark.request w) [
+  | inl same ↦
+      let flush = subst (λ (x : Writer). request_at s.script x ≡ Some request.Flush) same.1 right.0.1 in
+      let none : Some request.Flush ≡ Some (request.Write at bytes fua) = sym flush ∙ asked in
+      absurd cc
+  | inr other ↦ rw other.0 (answer_says s t w at bytes fua right.2 asked below)
+]
+answer_says s (Enters e ∷ t) w at bytes fua right asked below = elim (same_tells e.request w) [
+  | inl same ↦ unanswered_says _ _ _ (subst (λ (x : Writer). IsNone (answer_of (lines t) x)) same.1 right.0.is_open.unanswered)
+  | inr other ↦ rw other.0 (answer_says s t w at bytes fua right.2 asked below)
+]
+answer_says s (Sets e ∷ t) w at bytes fua right asked below = elim (same_tells e.request w) [
+  | inl same ↦ unanswered_says _ _ _ (subst (λ (x : Writer). IsNone (answer_of (lines t) x)) same.1 right.0.is_open.unanswered)
+  | inr other ↦ rw other.0 (answer_says s t w at bytes fua right.2 asked below)
+]
+answer_says s (Fails v c true ∷ t) w at bytes fua right asked below = answer_says s t w at bytes fua right.2 asked below
+answer_says s (other ∷ t) w at bytes fua right asked below = answer_says s t w at bytes fua right.2 asked below
+
+-- a discard isn't answered
+discard_unanswered : (s : Session) (t : Trace) (w : Writer) (at : Lba) → RightTrace s t → request_at s.script w ≡ Some (request.Discard at) → answer_of (lines t) w ≡ None
+discard_unanswered s [] w at right asked = refl
+discard_unanswered s (Says (Begin v) ∷ t) w at right asked = discard_unanswered s t w at right.2 asked
+discard_unanswered s (Says (Answer v b) ∷ t) w at right asked = elim (same_tells v w) [
+  | inl same ↦ absurd (right.0.1 _ (subst (λ (x : Writer). request_at s.script x ≡ Some (request.Discard at)) (sym same.1) asked))
+  | inr other ↦ rw other.0 (discard_unanswered s t w at right.2 asked)
+]
+discard_unanswered s (Flushes mark ∷ t) w at right asked = elim (same_tells mark.request w) [
+  | inl same ↦
+      let flush = subst (λ (x : Writer). request_at s.script x ≡ Some request.Flush) same.1 right.0.1 in
+      let none : Some request.Flush ≡ Some (request.Discard at) = sym flush ∙ asked in
+      absurd cc
+  | inr other ↦ rw other.0 (discard_unanswered s t w at right.2 asked)
+]
+discard_unanswered s (Fails v c true ∷ t) w at right asked = discard_unanswered s t w at right.2 asked
+discard_unanswered s (other ∷ t) w at right asked = discard_unanswered s t w at right.2 asked
+
+-- an entry whose slot is set was handed in
+pub set_is_handed : (s : Session) (t : Trace) (w : Writer) → RightTrace s t → set_in t w ≡ true → handed_in t w ≡ true
+set_is_handed s t w right set =
+    let e = there_some (logged_of (settled t) w) set in
+    ap is_there (settled_is_entered s t w e.0 right e.1)
+
+-- the mark by an answer is the mark without it
+mark_said : (is_set handed : Bool) (o : Option Reply) → (is_set ≡ true → handed ≡ true) → AnswerSays is_set handed o → mark_of o is_set handed ≡ mark_of None is_set handed
+mark_said is_set handed None both says = refl
+mark_said is_set handed (Some reply.Ok) both says = rw says refl
+mark_said is_set true (Some reply.Stopped) both says = rw says refl
+mark_said is_set false (Some reply.Stopped) both says = rw says refl
+mark_said true handed (Some reply.Full) both says = let there = both refl in absurd cc
+mark_said false handed (Some reply.Full) both says = rw says refl
+mark_said is_set handed (Some reply.Range) both says = absurd says
+mark_said is_set handed (Some (reply.Bytes bytes)) both says = absurd says
+mark_said is_set handed (Some reply.NoSpace) both says = absurd says
+mark_said is_set handed (Some reply.ReadFault) both says = absurd says
+mark_said is_set handed (Some reply.Damaged) both says = absurd says
+
+-- the entry of a place in its history, without its answer
+entry_said : (s : Session) (t : Trace) (w : Writer) (r : Request) (a : ℕ) → RightTrace s t → request_at s.script w ≡ Some r → address_of r ≡ Some a → a < s.sizes.geometry.logical
+    → model.entry_of (Some r) w (mark_of (answer_of (lines t) w) (set_in t w) (handed_in t w)) ≡ model.entry_of (Some r) w (mark_of None (set_in t w) (handed_in t w))
+entry_said s t w (request.Read at) a right asked has below = refl
+entry_said s t w request.Flush a right asked has below = refl
+entry_said s t w (request.Discard at) a right asked has below = rw (discard_unanswered s t w at right asked) refl
+entry_said s t w (request.Write at bytes fua) a right asked has below =
+    let at_is : at.0 ≡ a = same_Some _ _ has in
+    let says = answer_says s t w at bytes fua right asked (omega arith) in
+    let mark_is = mark_said (set_in t w) (handed_in t w) (answer_of (lines t) w) (set_is_handed s t w right) says in
+    ap (λ (mark : Mark). model.entry_of (Some (request.Write at bytes fua)) w mark) mark_is
+
+histories_said : (s : Session) (t : Trace) (desk : List DeskLine) (ps : List Placed) → RightTrace s t → AreDrawn s.sizes.zones s.sizes.geometry.logical s.script desk ps
+    → histories_of s.script (lines t) (progress (set_in t) (handed_in t)) ps ≡ histories_of s.script [] (progress (set_in t) (handed_in t)) ps
+histories_said s t desk [] right drawn = refl
+histories_said s t desk (p ∷ ps) right drawn =
+    let (r, a, asked, has, below, zone) = drawn.0.zone in
+    let here = entry_said s t p.request r a right asked has below in
+    rw (asked, here) (ap (λ (es : List HistoryEntry). model.entry_of (Some r) p.request (mark_of None (set_in t p.request) (handed_in t p.request)) ++ es) (histories_said s t desk ps right drawn.1))
+
+-- The histories of a right trace: an entry is settled where its slot is set, else unsettled where its entry was handed in,
+-- else refused, whatever its answer is.
+pub histories_are : (s : Session) (t : Trace) → RightTrace s t → drawn_histories s t ≡ histories_of s.script [] (progress (set_in t) (handed_in t)) (places t)
+histories_are s t right = histories_said s t (lines t) (places t) right (places_drawn s t right)

@@ -1,0 +1,77 @@
+-- Where a stop cuts a trace, and what stood at a mark's call then.
+use Rattle.std.proofs.Common.{suc, ◌≡◌, ◌⊎◌, ◌+◌, ◌≤◌, true, List, [], ◌∷◌, ◌++◌, length, refl, sym, ◌∙◌, ap, inl, inr, arith, length-append}
+use Rattle.std.proofs.lemmas.List.{append-nil}
+use Rattle.disk_model.specs.declared.call.Call.{Call}
+use Rattle.disk_model.specs.declared.call.Call.TheVariants.{Flush}
+use Rattle.stop_laws.proofs.HistoryLaws.{length_at_later, length_at_next}
+use Rattle.vdo_model.specs.FlushMarks.{successes}
+use Rattle.vdo_model.specs.Stops.{length_at}
+use Rattle.vdo_model.specs.declared.report.FlushMark.{FlushMark}
+use Rattle.core_laws.specs.Trace.{Happening, Calls, Fails, Trace, calls}
+use Rattle.core_laws.proofs.trace.MarkCalls.{HasMark}
+use Rattle.core_laws.proofs.trace.Parts.{calls_append, one_is_part}
+
+-- the part of a trace whose calls are these, which is empty or whose newest happening is a call
+pub record Cut (t : Trace) (prefix : List Call) : Type 0 where
+  pub newer : Trace
+  pub older : Trace
+  pub parts : t ≡ newer ++ older
+  pub calls_are : calls older ≡ prefix
+  pub short : (older ≡ []) ⊎ ((call : Call) × (newest : Happening) × (oldest : Trace) × (older ≡ newest ∷ oldest) × (calls older ≡ call ∷ calls oldest))
+
+one_more : (h : Happening) (t : Trace) (prefix : List Call) → Cut t prefix → Cut (h ∷ t) prefix
+one_more h t prefix cut = record { newer = h ∷ cut.newer; older = cut.older; parts = ap (λ (u : Trace). h ∷ u) cut.parts; calls_are = cut.calls_are; short = cut.short }
+
+cut_at : (t : Trace) (later : List Call) (call : Call) (prefix : List Call) → calls t ≡ later ++ (call ∷ prefix) → Cut t (call ∷ prefix)
+cut_at [] [] call prefix is = absurd cc
+cut_at [] (c ∷ later) call prefix is = absurd cc
+cut_at (Calls other ∷ t) [] call prefix is = record { newer = []; older = Calls other ∷ t; parts = refl; calls_are = is; short = inr (other, Calls other, t, refl, refl) }
+cut_at (Calls other ∷ t) (c ∷ later) call prefix is = one_more (Calls other) t (call ∷ prefix) (cut_at t later call prefix cc)
+cut_at (Fails w other true ∷ t) [] call prefix is = record { newer = []; older = Fails w other true ∷ t; parts = refl; calls_are = is; short = inr (other, Fails w other true, t, refl, refl) }
+cut_at (Fails w other true ∷ t) (c ∷ later) call prefix is = one_more (Fails w other true) t (call ∷ prefix) (cut_at t later call prefix cc)
+cut_at (other ∷ t) later call prefix is = one_more (other) t (call ∷ prefix) (cut_at t later call prefix is)
+
+-- Each prefix of the calls is that of a cut.
+pub cut : (t : Trace) (later prefix : List Call) → calls t ≡ later ++ prefix → Cut t prefix
+cut t later [] is = record { newer = t; older = []; parts = sym (append-nil t); calls_are = refl; short = inl refl }
+cut t later (call ∷ prefix) is = cut_at t later call prefix is
+
+-- The length of the log at a mark's call.
+pub mark_length : (t : Trace) (f : FlushMark) (has : HasMark t f) → length_at (calls t) f.calls ≡ suc (length (calls has.older))
+mark_length t f has =
+    let few : f.calls ≤ successes (calls has.older) + 1 = let count = has.count in omega (arith, count) in
+    ap (λ (u : Trace). length_at (calls u) f.calls) has.parts
+    ∙ ap (λ (log : List Call). length_at log f.calls) (calls_append has.later (Calls (Flush true) ∷ has.older))
+    ∙ length_at_later (calls has.later) (Flush true ∷ calls has.older) f.calls few
+    ∙ length_at_next (Flush true) (calls has.older) f.calls has.count
+
+calls_size : (newer older : Trace) → length (calls (newer ++ older)) ≡ length (calls newer) + length (calls older)
+calls_size newer older = ap length (calls_append newer older) ∙ length-append (calls newer) (calls older)
+
+-- A mark's call by then is in the cut.
+pub call_in_cut : (t : Trace) (prefix : List Call) (f : FlushMark) (c : Cut t prefix) (has : HasMark t f) → length_at (calls t) f.calls ≤ length prefix
+    → (m : Trace) × (c.older ≡ m ++ (Calls (Flush true) ∷ has.older))
+call_in_cut t prefix f c has by_then = elim (one_is_part c.newer has.later c.older (Calls (Flush true) ∷ has.older) (sym c.parts ∙ has.parts)) [
+  | inl inside ↦ inside
+  | inr outside ↦
+      let older_is : has.older ≡ outside.1 ++ c.older = let is = outside.2 in cc in
+      let size = ap (λ (u : Trace). length (calls u)) older_is ∙ calls_size outside.1 c.older in
+      let place = mark_length t f has in
+      let all = ap length c.calls_are in absurd (omega (arith, size, place, all, by_then))
+]
+
+-- And a mark's call then or later has the cut before it, where there is one.
+pub cut_before_call : (t : Trace) (prefix : List Call) (f : FlushMark) (c : Cut t prefix) (has : HasMark t f) → length prefix ≤ length_at (calls t) f.calls
+    → (c.older ≡ []) ⊎ ((m : Trace) × (Calls (Flush true) ∷ has.older ≡ m ++ c.older))
+cut_before_call t prefix f c has since = elim c.short [
+  | inl none ↦ inl none
+  | inr some ↦ elim (one_is_part has.later c.newer (Calls (Flush true) ∷ has.older) c.older (sym has.parts ∙ c.parts)) [
+    | inl inside ↦ inr inside
+    | inr outside ↦
+        let rest_is : some.2 ≡ outside.1 ++ (Calls (Flush true) ∷ has.older) = let is = outside.2 in let top = some.3 in cc in
+        let size = ap (λ (u : Trace). length (calls u)) rest_is ∙ calls_size outside.1 (Calls (Flush true) ∷ has.older) in
+        let whole = ap (λ (cs : List Call). length cs) some.4 in
+        let place = mark_length t f has in
+        let all = ap length c.calls_are in absurd (omega (arith, size, whole, place, all, since))
+  ]
+]

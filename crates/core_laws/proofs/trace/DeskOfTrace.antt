@@ -1,0 +1,209 @@
+-- The desk log of a right trace is well formed, and each settled entry is a committed one, each committed one an entered
+-- one.
+use Rattle.std.proofs.Common.{ℕ, ◌≡◌, ◌<◌, ◌==◌, List, [], ◌∷◌, Some, IsNone, refl, sym, ◌∙◌, subst, inl, inr, arith}
+use Rattle.std.proofs.lemmas.Option.{same_Some}
+use Rattle.std.proofs.lemmas.Bool.{cases_Bool}
+use Rattle.std.proofs.lemmas.Bool.Decides.{eqb_tells}
+use Rattle.std.specs.List.{AllByRecursion}
+use Rattle.blk_base.specs.declared.request.Answer.{Answer as Reply}
+use Rattle.blk_base.specs.declared.request.Writer.{Writer}
+use Rattle.vdo_model.specs.DeskLog.{IsDeskLog, begun, answer_of}
+use Rattle.vdo_model.specs.Scripts.{Script}
+use Rattle.vdo_model.specs.declared.report.DeskLine.{DeskLine}
+use Rattle.vdo_model.specs.declared.report.DeskLine.TheVariants.{Begin, Answer}
+use Rattle.core_laws.specs.declared.zones.Logged.{Logged}
+use Rattle.core_laws.specs.Sessions.{Session, Shown}
+use Rattle.core_laws.specs.Trace.{Happening, Sets, Trace, lines, entered, committed, settled, of_address, logged_of}
+use Rattle.core_laws.specs.RightTraces.{RightTrace, IsWrite, MayFollow}
+use Rattle.plain_laws.proofs.ListLaws.{every-map}
+use Rattle.plain_laws.proofs.OptionLaws.{not_both, none_is, option_cases}
+use Rattle.plain_laws.proofs.ListLaws.{each_at}
+use Rattle.vdo_model.proofs.NameLaws.{same_tells, same_self}
+use Rattle.core_laws.proofs.trace.Growth.{desk_grows, entered_grows, committed_grows, settled_grows, begun_more, write_stays}
+
+-- the desk log is well formed
+pub desk_log_right : (s : Session) (t : Trace) → RightTrace s t → IsDeskLog s.sizes.depth s.script (lines t)
+desk_log_right s [] right = tt
+desk_log_right s (h ∷ t) right =
+    let rest = desk_log_right s t right.2 in
+    desk_grows (λ desk. IsDeskLog s.sizes.depth s.script desk) s h t right.0 rest (λ line next. (next, rest))
+
+-- what is answered was begun
+pub answered_begun : (depth : ℕ) (script : Script) (desk : List DeskLine) (w : Writer) (a : Reply) → IsDeskLog depth script desk → answer_of desk w ≡ Some a → w.number < begun w.stream desk
+answered_begun depth script [] w a log is = absurd cc
+answered_begun depth script (Begin v ∷ older) w a log is =
+    let below = answered_begun depth script older w a log.1 is in
+    let more = begun_more w.stream (Begin v) older in
+    omega (arith, below, more)
+answered_begun depth script (Answer v b ∷ older) w a log is = elim (same_tells v w) [
+  | inl same ↦ subst (λ (x : Writer). x.number < begun x.stream older) same.1 log.0.0
+  | inr other ↦ answered_begun depth script older w a log.1 (rw other.0 at is)
+]
+
+-- what stands on the device at the end of a trace
+pub shown_of : (s : Session) (t : Trace) → RightTrace s t → Shown s t
+shown_of s [] right = right
+shown_of s (h ∷ t) right = right.1
+
+-- Entries that were handed in.
+
+-- the entry of a request
+abbrev pub IsKnown : List Logged → Logged → Type 0
+IsKnown es e = logged_of es e.request ≡ Some e
+
+-- no two entries are of one request
+abbrev pub AreApart : List Logged → Type 0
+AreApart [] = Unit {0}
+AreApart (e ∷ older) = IsNone (logged_of older e.request) × AreApart older
+
+-- what holds of all entries holds of a request's
+pub logged_has : (P : Logged → Type 0) (es : List Logged) (w : Writer) (e : Logged) → logged_of es w ≡ Some e → AllByRecursion P es → P e × (e.request ≡ w)
+logged_has P [] w e is all = absurd cc
+logged_has P (f ∷ es) w e is all = elim (same_tells f.request w) [
+  | inl same ↦
+      let here : Some f ≡ Some e = rw same.0 at is in
+      let f_is = same_Some f e here in
+      (subst P f_is all.0, subst (λ (x : Logged). x.request ≡ w) f_is same.1)
+  | inr other ↦ logged_has P es w e (rw other.0 at is) all.1
+]
+
+-- what holds of all holds of those of an address
+pub each_of_address : (P : Logged → Type 0) (a : ℕ) (es : List Logged) → AllByRecursion P es → AllByRecursion P (of_address a es)
+each_of_address P a [] all = tt
+each_of_address P a (e ∷ es) all = elim (cases_Bool (e.at.0 == a)) [
+  | inl taken ↦ rw taken (all.0, each_of_address P a es all.1)
+  | inr passed ↦ rw passed (each_of_address P a es all.1)
+]
+
+-- each of them is of the address
+pub are_of_address : (a : ℕ) (es : List Logged) → AllByRecursion (λ (e : Logged). e.at.0 ≡ a) (of_address a es)
+are_of_address a [] = tt
+are_of_address a (e ∷ es) = elim (eqb_tells e.at.0 a) [
+  | inl same ↦ rw same.0 (same.1, are_of_address a es)
+  | inr other ↦ rw other.0 (are_of_address a es)
+]
+
+-- each of a list without doubles is the one of its request
+pub apart_known : (es : List Logged) → AreApart es → AllByRecursion (IsKnown es) es
+apart_known [] apart = tt
+apart_known (e ∷ es) apart = (rw (same_self e.request) refl, every-map {P = IsKnown es} {Q = IsKnown (e ∷ es)} later es (apart_known es apart.1))
+  where
+    later : (f : Logged) → IsKnown es f → IsKnown (e ∷ es) f
+    later f is = elim (same_tells e.request f.request) [
+      | inl same ↦ absurd (not_both (logged_of es f.request) f (subst (λ (x : Writer). IsNone (logged_of es x)) same.1 apart.0) is)
+      | inr other ↦ rw other.0 is
+    ]
+
+-- no two entered entries are of one request
+pub entered_apart : (s : Session) (t : Trace) → RightTrace s t → AreApart (entered t)
+entered_apart s [] right = tt
+entered_apart s (h ∷ t) right =
+    let rest = entered_apart s t right.2 in
+    entered_grows AreApart s h t right.0 rest (λ e came next. (next.once, rest))
+
+-- what holds of all entered entries holds of all committed ones
+pub each_committed : (P : List Logged → Type 0) (s : Session) (t : Trace) → ((e : Logged) (es : List Logged) → P (e ∷ es) → P es) → RightTrace s t → P (entered t) → P (committed t)
+each_committed P s t tail right all = elim (shown_of s t right).journal [
+  | inl idle ↦ subst P idle.0 all
+  | inr pending ↦ tail pending.entry (committed t) (subst P pending.is_last all)
+]
+
+-- nor two committed ones
+pub committed_apart : (s : Session) (t : Trace) → RightTrace s t → AreApart (committed t)
+committed_apart s t right = each_committed AreApart s t (λ e es apart. apart.1) right (entered_apart s t right)
+
+-- what each entered entry has, each committed one has
+pub all_committed : (P : Logged → Type 0) (s : Session) (t : Trace) → RightTrace s t → AllByRecursion P (entered t) → AllByRecursion P (committed t)
+all_committed P s t right all = each_committed (AllByRecursion P) s t (λ e es each. each.1) right all
+
+-- an entered entry is that of its request
+pub entered_known : (s : Session) (t : Trace) → RightTrace s t → AllByRecursion (IsKnown (entered t)) (entered t)
+entered_known s t right = apart_known (entered t) (entered_apart s t right)
+
+-- each committed entry is an entered one
+pub committed_entered : (s : Session) (t : Trace) → RightTrace s t → AllByRecursion (IsKnown (entered t)) (committed t)
+committed_entered s t right = all_committed (IsKnown (entered t)) s t right (entered_known s t right)
+
+-- a committed entry is that of its request
+pub committed_known : (s : Session) (t : Trace) → RightTrace s t → AllByRecursion (IsKnown (committed t)) (committed t)
+committed_known s t right = apart_known (committed t) (committed_apart s t right)
+
+-- a committed entry stays committed
+pub committed_stays : (s : Session) (h : Happening) (t : Trace) (w : Writer) (e : Logged) → RightTrace s t → MayFollow s h t → logged_of (committed t) w ≡ Some e → logged_of (committed (h ∷ t)) w ≡ Some e
+committed_stays s h t w e right may is = committed_grows (λ es. logged_of es w ≡ Some e) s h t may is (λ f came next.
+    let apart : AreApart (f ∷ committed t) = subst AreApart next.last (entered_apart s t right) in
+    elim (same_tells f.request w) [
+      | inl same ↦ absurd (not_both (logged_of (committed t) w) e (subst (λ (x : Writer). IsNone (logged_of (committed t) x)) same.1 apart.0) is)
+      | inr other ↦ rw other.0 is
+    ])
+
+-- each settled entry is a committed one
+pub settled_committed : (s : Session) (t : Trace) → RightTrace s t → AllByRecursion (IsKnown (committed t)) (settled t)
+settled_committed s [] right = tt
+settled_committed s (h ∷ t) right =
+    let stays : (e : Logged) → IsKnown (committed t) e → IsKnown (committed (h ∷ t)) e = λ e is. committed_stays s h t e.request e right.2 right.0 is in
+    let rest = every-map {P = IsKnown (committed t)} {Q = IsKnown (committed (h ∷ t))} stays (settled t) (settled_committed s t right.2) in
+    settled_grows (AllByRecursion (IsKnown (committed (h ∷ t)))) s h t right.0 rest (λ e came next.
+    let known = each_of_address (IsKnown (committed t)) e.at.0 (committed t) (committed_known s t right.2) in
+    (stays e (each_at (IsKnown (committed t)) e _ _ next.is_committed.last known).0, rest))
+
+-- what holds of all committed entries holds of all settled ones
+pub all_settled : (P : Logged → Type 0) (s : Session) (t : Trace) → RightTrace s t → AllByRecursion P (committed t) → AllByRecursion P (settled t)
+all_settled P s t right all = every-map {P = IsKnown (committed t)} {Q = P} (λ e is. (logged_has P (committed t) e.request e is all).0) (settled t) (settled_committed s t right)
+
+-- each settled entry is an entered one
+pub settled_entered : (s : Session) (t : Trace) → RightTrace s t → AllByRecursion (IsKnown (entered t)) (settled t)
+settled_entered s t right = all_settled (IsKnown (entered t)) s t right (committed_entered s t right)
+
+-- the same by the names of requests
+pub settled_is_committed : (s : Session) (t : Trace) (w : Writer) (e : Logged) → RightTrace s t → logged_of (settled t) w ≡ Some e → logged_of (committed t) w ≡ Some e
+settled_is_committed s t w e right is =
+    let known = logged_has (IsKnown (committed t)) (settled t) w e is (settled_committed s t right) in
+    subst (λ (x : Writer). logged_of (committed t) x ≡ Some e) known.1 known.0
+
+-- a committed entry is an entered one
+pub committed_is_entered : (s : Session) (t : Trace) (w : Writer) (e : Logged) → RightTrace s t → logged_of (committed t) w ≡ Some e → logged_of (entered t) w ≡ Some e
+committed_is_entered s t w e right is =
+    let known = logged_has (IsKnown (entered t)) (committed t) w e is (committed_entered s t right) in
+    subst (λ (x : Writer). logged_of (entered t) x ≡ Some e) known.1 known.0
+
+-- a settled entry is an entered one
+pub settled_is_entered : (s : Session) (t : Trace) (w : Writer) (e : Logged) → RightTrace s t → logged_of (settled t) w ≡ Some e → logged_of (entered t) w ≡ Some e
+settled_is_entered s t w e right is = committed_is_entered s t w e right (settled_is_committed s t w e right is)
+
+-- the slot of a request is set once
+pub settled_once : (s : Session) (t : Trace) (e : Logged) → RightTrace s t → MayFollow s (Sets e) t → IsNone (logged_of (settled t) e.request)
+settled_once s t e right may = elim (option_cases (logged_of (settled t) e.request)) [
+  | inl none ↦ none_is _ none
+  | inr some ↦
+      let P : Logged → Type 0 = λ f. f.at.0 ≡ e.at.0 → f.place < e.place in
+      let below = (logged_has P (settled t) e.request some.0 some.1 may.below.writes).0 in
+      let known = each_of_address (IsKnown (committed t)) e.at.0 (committed t) (committed_known s t right) in
+      let mine = (each_at (IsKnown (committed t)) e _ _ may.is_committed.last known).0 in
+      let same : some.0 ≡ e = same_Some _ _ (sym (settled_is_committed s t e.request some.0 right some.1) ∙ mine) in
+      let less : e.place < e.place = subst P same below refl in
+      absurd (omega (arith, less))
+]
+
+-- a settled entry stays settled
+pub settled_stays : (s : Session) (h : Happening) (t : Trace) (w : Writer) (e : Logged) → RightTrace s t → MayFollow s h t → logged_of (settled t) w ≡ Some e → logged_of (settled (h ∷ t)) w ≡ Some e
+settled_stays s h t w e right may is = settled_grows (λ es. logged_of es w ≡ Some e) s h t may is (λ f came next. elim (same_tells f.request w) [
+  | inl same ↦ absurd (not_both (logged_of (settled t) w) e (subst (λ (x : Writer). IsNone (logged_of (settled t) x)) same.1 (settled_once s t f right next)) is)
+  | inr other ↦ rw other.0 is
+])
+
+-- each entry is of a write that has its place
+pub entered_writes : (s : Session) (t : Trace) → RightTrace s t → AllByRecursion (IsWrite s t) (entered t)
+entered_writes s [] right = tt
+entered_writes s (h ∷ t) right =
+    let stays : (e : Logged) → IsWrite s t e → IsWrite s (h ∷ t) e = λ e is. write_stays s h t e right.0 is in
+    let rest = every-map {P = IsWrite s t} {Q = IsWrite s (h ∷ t)} stays (entered t) (entered_writes s t right.2) in
+    entered_grows (AllByRecursion (IsWrite s (h ∷ t))) s h t right.0 rest (λ e came next. (stays e next.is_write, rest))
+
+-- so is each committed one
+pub committed_writes : (s : Session) (t : Trace) → RightTrace s t → AllByRecursion (IsWrite s t) (committed t)
+committed_writes s t right = all_committed (IsWrite s t) s t right (entered_writes s t right)
+
+-- and each settled one
+pub settled_writes : (s : Session) (t : Trace) → RightTrace s t → AllByRecursion (IsWrite s t) (settled t)
+settled_writes s t right = all_settled (IsWrite s t) s t right (committed_writes s t right)

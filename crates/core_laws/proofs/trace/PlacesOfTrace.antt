@@ -1,0 +1,184 @@
+-- The places of a right trace are right, and so is a run in which each request is answered.
+use Rattle.std.proofs.Common.{ℕ, ◌≡◌, ◌⊎◌, ◌<◌, true, List, [], ◌∷◌, Some, None, IsSome, IsNone, refl, sym, ◌∙◌, ap, subst, inl, inr, arith}
+use Rattle.std.proofs.lemmas.Option.{same_Some}
+use Rattle.std.specs.List.{AllByRecursion}
+use Rattle.blk_base.specs.declared.request.Answer.{Answer as Reply}
+use Rattle.blk_base.specs.declared.request.Answer.TheVariants as reply
+use Rattle.blk_base.specs.declared.request.Answer.TheVariants.{Stopped}
+use Rattle.blk_base.specs.declared.request.Request.{Request}
+use Rattle.blk_base.specs.declared.request.Request.TheVariants as request
+use Rattle.blk_base.specs.declared.request.Writer.{Writer}
+use Rattle.vdo_model.specs.DeskLog.{begun, answer_of, before_begin}
+use Rattle.vdo_model.specs.Places.{place_of, AreDrawn, IsAnsweredAtOnce, IsNextPlace, IsOfZone, Follows}
+use Rattle.vdo_model.specs.Scripts.{Script, request_at, address_of}
+use Rattle.vdo_model.specs.declared.report.DeskLine.{DeskLine}
+use Rattle.vdo_model.specs.declared.report.DeskLine.TheVariants.{Begin, Answer}
+use Rattle.vdo_model.specs.declared.report.Placed.{Placed}
+use Rattle.core_laws.specs.Sessions.{Session}
+use Rattle.core_laws.specs.Trace.{Happening, Says, Flushes, Draws, Fails, Trace, Gift, lines, places, settled, gifts, logged_of, gift_of}
+use Rattle.core_laws.specs.RightTraces.{RightTrace, IsWrite, HasPlace, IsStoppedAtOnce, MayAnswer, MayFollow}
+use Rattle.plain_laws.proofs.ListLaws.{every-map}
+use Rattle.plain_laws.proofs.OptionLaws.{some_is, some_of}
+use Rattle.vdo_model.proofs.NameLaws.{same_tells}
+use Rattle.core_laws.proofs.trace.Growth.{places_grow, gifts_grow, begun_stays, before_stays, place_stays}
+use Rattle.core_laws.proofs.trace.DeskOfTrace.{logged_has, settled_writes}
+
+-- each place is of a request that was begun
+abbrev pub IsBegun : Trace → Placed → Type 0
+IsBegun t p = p.request.number < begun p.request.stream (lines t)
+
+-- each place is of a request that was begun
+pub places_begun : (s : Session) (t : Trace) → RightTrace s t → AllByRecursion (IsBegun t) (places t)
+places_begun s [] right = tt
+places_begun s (h ∷ t) right =
+    let stays : (p : Placed) → IsBegun t p → IsBegun (h ∷ t) p = λ p is. begun_stays s h t p.request right.0 is in
+    let rest = every-map {P = IsBegun t} {Q = IsBegun (h ∷ t)} stays (places t) (places_begun s t right.2) in
+    places_grow (AllByRecursion (IsBegun (h ∷ t))) s h t right.0 rest (λ p drew next. (stays p next.is_open.is_begun, rest))
+
+-- places stay drawn when the desk log keeps what stands before the begins of theirs
+follows_in : (old desk : List DeskLine) (zone : ℕ) (p : Placed) (ps : List Placed)
+    → AllByRecursion (λ (q : Placed). before_begin desk q.request ≡ before_begin old q.request) ps
+    → AllByRecursion (λ q. q.zone ≡ zone → Follows old p q) ps → AllByRecursion (λ q. q.zone ≡ zone → Follows desk p q) ps
+follows_in old desk zone p [] same order = tt
+follows_in old desk zone p (q ∷ ps) same order = (
+  (λ is. let follows = order.0 is in record {
+    stream = follows.stream;
+    answered = subst (λ (before : List DeskLine). IsNone (answer_of before p.request)) (sym same.0) follows.answered;
+  }),
+  follows_in old desk zone p ps same.1 order.1,
+)
+
+drawn_in : (zones logical : ℕ) (script : Script) (old desk : List DeskLine) (ps : List Placed)
+    → AllByRecursion (λ (q : Placed). before_begin desk q.request ≡ before_begin old q.request) ps
+    → AreDrawn zones logical script old ps → AreDrawn zones logical script desk ps
+drawn_in zones logical script old desk [] same drawn = tt
+drawn_in zones logical script old desk (p ∷ ps) same drawn = (
+  record { number = drawn.0.number; once = drawn.0.once; zone = drawn.0.zone; order = follows_in old desk p.zone p ps same.1 drawn.0.order },
+  drawn_in zones logical script old desk ps same.1 drawn.1,
+)
+
+-- each place is the next of its zone
+pub places_drawn : (s : Session) (t : Trace) → RightTrace s t → AreDrawn s.sizes.zones s.sizes.geometry.logical s.script (lines t) (places t)
+places_drawn s [] right = tt
+places_drawn s (h ∷ t) right =
+    let old = places_drawn s t right.2 in
+    let same = every-map {P = IsBegun t} {Q = λ (q : Placed). before_begin (lines (h ∷ t)) q.request ≡ before_begin (lines t) q.request} (λ q is. before_stays s h t q.request right.0 is) (places t) (places_begun s t right.2) in
+    let rest = drawn_in s.sizes.zones s.sizes.geometry.logical s.script (lines t) (lines (h ∷ t)) (places t) same old in
+    places_grow (AreDrawn s.sizes.zones s.sizes.geometry.logical s.script (lines (h ∷ t))) s h t right.0 rest (λ p drew next. (
+      subst (λ (g : Happening). IsNextPlace s.sizes.zones s.sizes.geometry.logical s.script (lines (g ∷ t)) p (places t)) (sym drew) next.next,
+      rest,
+    ))
+
+-- a place is of a block request below the logical size
+pub place_of_zone : (zones logical : ℕ) (script : Script) (desk : List DeskLine) (ps : List Placed) (w : Writer) (p : Placed) → AreDrawn zones logical script desk ps → place_of ps w ≡ Some p
+    → IsOfZone zones logical script p × (p.request ≡ w)
+place_of_zone zones logical script desk [] w p drawn is = absurd cc
+place_of_zone zones logical script desk (q ∷ ps) w p drawn is = elim (same_tells q.request w) [
+  | inl same ↦
+      let here : Some q ≡ Some p = rw same.0 at is in
+      let q_is = same_Some q p here in
+      (subst (IsOfZone zones logical script) q_is drawn.0.zone, subst (λ (x : Placed). x.request ≡ w) q_is same.1)
+  | inr other ↦ place_of_zone zones logical script desk ps w p drawn.1 (rw other.0 at is)
+]
+
+-- a gift has the place of its read
+abbrev pub IsPlacedGift : Session → Trace → Gift → Type 0
+IsPlacedGift s t g = HasPlace s t g.request g.at.0 g.place
+
+-- each gift has the place of its read
+pub gifts_placed : (s : Session) (t : Trace) → RightTrace s t → AllByRecursion (IsPlacedGift s t) (gifts t)
+gifts_placed s [] right = tt
+gifts_placed s (h ∷ t) right =
+    let stays : (g : Gift) → IsPlacedGift s t g → IsPlacedGift s (h ∷ t) g = λ g is. place_stays s h t g.request _ right.0 is in
+    let rest = every-map {P = IsPlacedGift s t} {Q = IsPlacedGift s (h ∷ t)} stays (gifts t) (gifts_placed s t right.2) in
+    gifts_grow (AllByRecursion (IsPlacedGift s (h ∷ t))) s h t right.0 rest (λ g gave next. (stays g next.placed, rest))
+
+-- what holds of all gifts holds of a request's
+pub gift_has : (P : Gift → Type 0) (gs : List Gift) (w : Writer) (g : Gift) → gift_of gs w ≡ Some g → AllByRecursion P gs → P g × (g.request ≡ w)
+gift_has P [] w g is all = absurd cc
+gift_has P (f ∷ gs) w g is all = elim (same_tells f.request w) [
+  | inl same ↦
+      let here : Some f ≡ Some g = rw same.0 at is in
+      let f_is = same_Some f g here in
+      (subst P f_is all.0, subst (λ (x : Gift). x.request ≡ w) f_is same.1)
+  | inr other ↦ gift_has P gs w g (rw other.0 at is) all.1
+]
+
+-- a read that was given its bytes has a place, and so has a write whose slot is set
+gift_placed : (s : Session) (t : Trace) (w : Writer) (g : Gift) → RightTrace s t → gift_of (gifts t) w ≡ Some g → IsSome (place_of (places t) w)
+gift_placed s t w g right is =
+    let has = gift_has (IsPlacedGift s t) (gifts t) w g is (gifts_placed s t right) in
+    some_is _ _ (subst (λ (x : Writer). HasPlace s t x g.at.0 g.place) has.1 has.0)
+
+settled_placed : (s : Session) (t : Trace) (w : Writer) → RightTrace s t → IsSome (logged_of (settled t) w) → IsSome (place_of (places t) w)
+settled_placed s t w right some =
+    let e = some_of _ some in
+    let has = logged_has (IsWrite s t) (settled t) w e.0 e.1 (settled_writes s t right) in
+    some_is _ _ (subst (λ (x : Writer). HasPlace s t x e.0.at.0 e.0.place) has.1 has.0.placed)
+
+-- why a block request below the logical size was answered: it has a place, or was stopped at once
+cause_placed : (s : Session) (t : Trace) (w : Writer) (r : Request) (a : ℕ) (answer : Reply) → RightTrace s t → address_of r ≡ Some a → a < s.sizes.geometry.logical → MayAnswer s t w r answer
+    → IsSome (place_of (places t) w) ⊎ ((answer ≡ Stopped) × IsStoppedAtOnce t w)
+cause_placed s t w (request.Read at) a (reply.Bytes bytes) right has below cause = inl (gift_placed s t w _ right cause.1)
+cause_placed s t w (request.Read at) a reply.Range right has below cause = let is : at.0 ≡ a = same_Some _ _ has in absurd (omega arith)
+cause_placed s t w (request.Read at) a reply.Stopped right has below cause = inl (some_is _ _ cause.1.placed)
+cause_placed s t w (request.Read at) a reply.ReadFault right has below cause = inl cause.0
+cause_placed s t w (request.Read at) a other right has below cause = absurd cause
+cause_placed s t w (request.Write at bytes fua) a reply.Ok right has below cause = inl (settled_placed s t w right cause)
+cause_placed s t w (request.Write at bytes fua) a reply.Range right has below cause = let is : at.0 ≡ a = same_Some _ _ has in absurd (omega arith)
+cause_placed s t w (request.Write at bytes fua) a reply.Stopped right has below (inl cause) = inl cause.1
+cause_placed s t w (request.Write at bytes fua) a reply.Stopped right has below (inr at_once) = inr (refl, at_once)
+cause_placed s t w (request.Write at bytes fua) a reply.Full right has below cause = inl cause.0
+cause_placed s t w (request.Write at bytes fua) a other right has below cause = absurd cause
+cause_placed s t w (request.Discard at) a answer right has below cause = absurd cause
+cause_placed s t w request.Flush a answer right has below cause = absurd cc
+
+place_is_some : (s : Session) (h : Happening) (t : Trace) (w : Writer) → MayFollow s h t → IsSome (place_of (places t) w) → IsSome (place_of (places (h ∷ t)) w)
+place_is_some s h t w may some = let p = some_of _ some in some_is _ _ (place_stays s h t w p.0 may p.1)
+
+-- a block request below the logical size that is answered has a place, or was stopped at once
+abbrev pub IsPlacedOrStopped : Session → Trace → Writer → Type 0
+IsPlacedOrStopped s t w = IsSome (answer_of (lines t) w) → IsSome (place_of (places t) w) ⊎ IsAnsweredAtOnce (lines t) w Stopped
+
+-- one line more stands in front
+at_once_later : (line : DeskLine) (ls : List DeskLine) (w : Writer) (a : Reply) → IsAnsweredAtOnce ls w a → IsAnsweredAtOnce (line ∷ ls) w a
+at_once_later line ls w a is = record { later = line ∷ is.later; older = is.older; at = ap (λ (xs : List DeskLine). line ∷ xs) is.at }
+
+-- what is so of a request's place stays when a line is said
+placed_later : (line : DeskLine) (t : Trace) (w : Writer) → IsSome (place_of (places t) w) ⊎ IsAnsweredAtOnce (lines t) w Stopped
+    → IsSome (place_of (places t) w) ⊎ IsAnsweredAtOnce (line ∷ lines t) w Stopped
+placed_later line t w (inl placed) = inl placed
+placed_later line t w (inr at_once) = inr (at_once_later line (lines t) w Stopped at_once)
+
+-- each block request below the logical size that is answered has a place or was stopped at once
+pub places_all : (s : Session) (t : Trace) (w : Writer) (r : Request) (a : ℕ) → RightTrace s t → request_at s.script w ≡ Some r → address_of r ≡ Some a → a < s.sizes.geometry.logical → IsPlacedOrStopped s t w
+places_all s [] w r a right asked has below = λ answered. absurd cc
+places_all s (Says (Begin v) ∷ t) w r a right asked has below = λ answered. placed_later (Begin v) t w (places_all s t w r a right.2 asked has below answered)
+places_all s (Says (Answer v b) ∷ t) w r a right asked has below = elim (same_tells v w) [
+  | inl same ↦ λ answered.
+      let cause = right.0.1 r (subst (λ (x : Writer). request_at s.script x ≡ Some r) (sym same.1) asked) in
+      let mine = cause_placed s t w r a b right.2 has below (subst (λ (x : Writer). MayAnswer s t x r b) same.1 cause) in
+      elim mine [
+        | inl placed ↦ inl placed
+        | inr at_once ↦ inr (record {
+          later = [];
+          older = lines at_once.1.older;
+          at = rw (same.1, at_once.0) (ap (λ (u : Trace). Answer w Stopped ∷ lines u) at_once.1.begun_last);
+        })
+      ]
+  | inr other ↦ rw other.0 (λ answered. placed_later (Answer v b) t w (places_all s t w r a right.2 asked has below answered))
+]
+places_all s (Flushes mark ∷ t) w r a right asked has below = elim (same_tells mark.request w) [
+  | inl same ↦
+      let flush = subst (λ (x : Writer). request_at s.script x ≡ Some request.Flush) same.1 right.0.1 in
+      let r_is : r ≡ request.Flush = same_Some _ _ (sym asked ∙ flush) in
+      let none : None ≡ Some a = subst (λ (q : Request). address_of q ≡ Some a) r_is has in
+      absurd cc
+  | inr other ↦ rw other.0 (λ answered. placed_later (Answer mark.request reply.Ok) t w (places_all s t w r a right.2 asked has below answered))
+]
+places_all s (Draws p ∷ t) w r a right asked has below = λ answered. elim (places_all s t w r a right.2 asked has below answered) [
+  | inl placed ↦ inl (place_is_some s (Draws p) t w right.0 placed)
+  | inr stopped ↦ inr stopped
+]
+places_all s (Fails v c true ∷ t) w r a right asked has below = places_all s t w r a right.2 asked has below
+places_all s (other ∷ t) w r a right asked has below = places_all s t w r a right.2 asked has below

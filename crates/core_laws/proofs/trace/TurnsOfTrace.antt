@@ -1,0 +1,142 @@
+-- The entries of an address take turns: one is handed in, committed and settled before the next, at a higher place.
+use Rattle.std.proofs.Common.{ℕ, ◌≡◌, ◌⊎◌, ◌<◌, ◌==◌, false, List, [], ◌∷◌, length, refl, sym, ◌∙◌, ap, subst, inl, inr, arith}
+use Rattle.std.proofs.lemmas.Bool.Decides.{eqb_tells}
+use Rattle.std.specs.List.{AllByRecursion}
+use Rattle.core_laws.specs.declared.zones.Logged.{Logged}
+use Rattle.core_laws.specs.Sessions.{Session}
+use Rattle.core_laws.specs.Trace.{Enters, Commits, Sets, Trace, entered, committed, settled, of_address}
+use Rattle.core_laws.specs.RightTraces.{RightTrace, Quiet, AllBelow}
+use Rattle.plain_laws.proofs.ListLaws.{every-map}
+use Rattle.plain_laws.proofs.ListLaws.{each_both}
+use Rattle.core_laws.proofs.trace.Growth.{entered_grows}
+use Rattle.core_laws.proofs.trace.DeskOfTrace.{each_of_address, are_of_address}
+
+-- the last entry of an address is handed in and not committed
+pub record HasPendingAt (t : Trace) (a : ℕ) : Type 0 where
+  pub entry : Logged
+  pub last : of_address a (entered t) ≡ entry ∷ of_address a (committed t)
+  pub others : of_address a (committed t) ≡ of_address a (settled t)
+
+-- the last entry of an address is committed and not settled
+pub record HasCommittedAt (t : Trace) (a : ℕ) : Type 0 where
+  pub entry : Logged
+  pub all_committed : of_address a (entered t) ≡ of_address a (committed t)
+  pub last : of_address a (committed t) ≡ entry ∷ of_address a (settled t)
+
+abbrev pub TakesTurns : Trace → ℕ → Type 0
+TakesTurns t a = Quiet t a ⊎ HasPendingAt t a ⊎ HasCommittedAt t a
+
+-- a list isn't its own tail
+pub not_longer : (e : Logged) (es : List Logged) → es ≡ e ∷ es → ⊥
+not_longer e es is = let longer = ap (λ (xs : List Logged). length xs) is in absurd (omega arith)
+
+-- the entries of an address with one more
+of_head : (a : ℕ) (e : Logged) (es : List Logged) → e.at.0 ≡ a → of_address a (e ∷ es) ≡ e ∷ of_address a es
+of_head a e es is = elim (eqb_tells e.at.0 a) [ inl same ↦ rw same.0 refl | inr other ↦ absurd (other.1 is) ]
+
+of_other : (a : ℕ) (e : Logged) (es : List Logged) → (e.at.0 == a) ≡ false → of_address a (e ∷ es) ≡ of_address a es
+of_other a e es other = rw other refl
+
+-- the states say nothing but of these three lists
+turns_of : (t u : Trace) (a : ℕ) → of_address a (entered u) ≡ of_address a (entered t) → of_address a (committed u) ≡ of_address a (committed t) → of_address a (settled u) ≡ of_address a (settled t)
+    → TakesTurns t a → TakesTurns u a
+turns_of t u a e c d turns = elim turns [
+  | inl quiet ↦ inl (record { all_committed = e ∙ quiet.all_committed ∙ sym c; all_settled = c ∙ quiet.all_settled ∙ sym d })
+  | inr rest ↦ elim rest [
+    | inl pending ↦ inr (inl (record { entry = pending.entry; last = e ∙ pending.last ∙ ap (λ (xs : List Logged). pending.entry ∷ xs) (sym c); others = c ∙ pending.others ∙ sym d }))
+    | inr done ↦ inr (inr (record { entry = done.entry; all_committed = e ∙ done.all_committed ∙ sym c; last = c ∙ done.last ∙ ap (λ (xs : List Logged). done.entry ∷ xs) (sym d) }))
+  ]
+]
+
+-- each address is in one of the three states
+pub at_address : (s : Session) (t : Trace) (a : ℕ) → RightTrace s t → TakesTurns t a
+at_address s [] a right = inl (record { all_committed = refl; all_settled = refl })
+at_address s (Enters e ∷ t) a right = elim (eqb_tells e.at.0 a) [
+  | inl same ↦
+      let quiet : Quiet t a = subst (Quiet t) same.1 right.0.quiet in
+      inr (inl (record {
+        entry = e;
+        last = of_head a e (entered t) same.1 ∙ ap (λ (xs : List Logged). e ∷ xs) quiet.all_committed;
+        others = quiet.all_settled;
+      }))
+  | inr other ↦ turns_of t (Enters e ∷ t) a (of_other a e (entered t) other.0) refl refl (at_address s t a right.2)
+]
+at_address s (Commits e ∷ t) a right = elim (eqb_tells e.at.0 a) [
+  | inl same ↦
+      let last : of_address a (entered t) ≡ e ∷ of_address a (committed t) = ap (of_address a) right.0.last ∙ of_head a e (committed t) same.1 in
+      elim (at_address s t a right.2) [
+        | inl quiet ↦ absurd (not_longer e (of_address a (committed t)) (sym quiet.all_committed ∙ last))
+        | inr rest ↦ elim rest [
+          | inl pending ↦
+              inr (inr (record {
+                entry = e;
+                all_committed = last ∙ sym (of_head a e (committed t) same.1);
+                last = of_head a e (committed t) same.1 ∙ ap (λ (xs : List Logged). e ∷ xs) pending.others;
+              }))
+          | inr done ↦ absurd (not_longer e (of_address a (committed t)) (sym done.all_committed ∙ last))
+        ]
+      ]
+  | inr other ↦ turns_of t (Commits e ∷ t) a refl (of_other a e (committed t) other.0) refl (at_address s t a right.2)
+]
+at_address s (Sets e ∷ t) a right = elim (eqb_tells e.at.0 a) [
+  | inl same ↦
+      let all : of_address a (entered t) ≡ of_address a (committed t) = subst (λ (b : ℕ). of_address b (entered t) ≡ of_address b (committed t)) same.1 right.0.is_committed.all_committed in
+      let last : of_address a (committed t) ≡ e ∷ of_address a (settled t) = subst (λ (b : ℕ). of_address b (committed t) ≡ e ∷ of_address b (settled t)) same.1 right.0.is_committed.last in
+      inl (record { all_committed = all; all_settled = last ∙ sym (of_head a e (settled t) same.1) })
+  | inr other ↦ turns_of t (Sets e ∷ t) a refl refl (of_other a e (settled t) other.0) (at_address s t a right.2)
+]
+at_address s (other ∷ t) a right = turns_of t (other ∷ t) a refl refl refl (at_address s t a right.2)
+
+-- Places fall from each entry to the older ones.
+abbrev pub IsFalling : List Logged → Type 0
+IsFalling [] = Unit {0}
+IsFalling (e ∷ older) = AllByRecursion (λ (f : Logged). f.place < e.place) older × IsFalling older
+
+-- whatever was settled at an address is below
+pub below_at : (t : Trace) (a place : ℕ) → AllBelow t a place → AllByRecursion (λ (f : Logged). f.place < place) (of_address a (settled t))
+below_at t a place below =
+    let P : Logged → Type 0 = λ f. f.at.0 ≡ a → f.place < place in
+    let each = each_both P (λ (f : Logged). f.at.0 ≡ a) (of_address a (settled t)) (each_of_address P a (settled t) below.writes) (are_of_address a (settled t)) in
+    every-map {P = λ f. P f × (f.at.0 ≡ a)} {Q = λ (f : Logged). f.place < place} (λ f is. is.0 is.1) (of_address a (settled t)) each
+
+-- the entered entries of an address fall in place
+pub entered_falling : (s : Session) (t : Trace) (a : ℕ) → RightTrace s t → IsFalling (of_address a (entered t))
+entered_falling s [] a right = tt
+entered_falling s (h ∷ t) a right =
+    let rest = entered_falling s t a right.2 in
+    entered_grows (λ es. IsFalling (of_address a es)) s h t right.0 rest (λ e came next. elim (eqb_tells e.at.0 a) [
+      | inl same ↦
+          let all : of_address a (entered t) ≡ of_address a (settled t) = subst (λ (b : ℕ). of_address b (entered t) ≡ of_address b (settled t)) same.1 (next.quiet.all_committed ∙ next.quiet.all_settled) in
+          let below = below_at t a e.place (subst (λ (b : ℕ). AllBelow t b e.place) same.1 next.below) in
+          let mine : AllByRecursion (λ (f : Logged). f.place < e.place) (of_address a (entered t)) = subst (AllByRecursion (λ (f : Logged). f.place < e.place)) (sym all) below in
+          rw same.0 (mine, rest)
+      | inr other ↦ rw other.0 rest
+    ])
+
+-- what a list of entries has and each tail of it has too, the committed and the settled ones of an address have
+pub committed_at : (P : List Logged → Type 0) (s : Session) (t : Trace) (a : ℕ) → ((e : Logged) (es : List Logged) → P (e ∷ es) → P es) → RightTrace s t → P (of_address a (entered t)) → P (of_address a (committed t))
+committed_at P s t a tail right all = elim (at_address s t a right) [
+  | inl quiet ↦ subst P quiet.all_committed all
+  | inr rest ↦ elim rest [
+    | inl pending ↦ tail pending.entry _ (subst P pending.last all)
+    | inr done ↦ subst P done.all_committed all
+  ]
+]
+
+-- and so have the settled ones
+pub settled_at : (P : List Logged → Type 0) (s : Session) (t : Trace) (a : ℕ) → ((e : Logged) (es : List Logged) → P (e ∷ es) → P es) → RightTrace s t → P (of_address a (committed t)) → P (of_address a (settled t))
+settled_at P s t a tail right all = elim (at_address s t a right) [
+  | inl quiet ↦ subst P quiet.all_settled all
+  | inr rest ↦ elim rest [
+    | inl pending ↦ subst P pending.others all
+    | inr done ↦ tail done.entry _ (subst P done.last all)
+  ]
+]
+
+-- the committed entries of an address fall in place
+pub committed_falling : (s : Session) (t : Trace) (a : ℕ) → RightTrace s t → IsFalling (of_address a (committed t))
+committed_falling s t a right = committed_at IsFalling s t a (λ e es falls. falls.1) right (entered_falling s t a right)
+
+-- and so do the settled ones
+pub settled_falling : (s : Session) (t : Trace) (a : ℕ) → RightTrace s t → IsFalling (of_address a (settled t))
+settled_falling s t a right = settled_at IsFalling s t a (λ e es falls. falls.1) right (committed_falling s t a right)
