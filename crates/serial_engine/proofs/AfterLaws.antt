@@ -8,6 +8,7 @@ use Rattle.blk_base.specs.declared.request.Request.{Request}
 use Rattle.disk_model.specs.declared.call.Call.{Call}
 use Rattle.disk_model.specs.Images.{IsImage, HasOneImage}
 use Rattle.disk_model.specs.Log.{Blocks}
+use Rattle.disk_model.specs.Seen.{Seen}
 use Rattle.image_layout.specs.Window.{IsWindow, journal_of, value_of}
 use Rattle.stop_laws.proofs.HistoryLaws.{length_at_within, length_at_later, length_at_after, successes_later}
 use Rattle.stop_laws.proofs.JournalLaws.{opened_at_rest}
@@ -19,7 +20,7 @@ use Rattle.vdo_model.specs.Stops.{length_at, MayShow}
 use Rattle.vdo_model.specs.declared.report.DeskLine.TheVariants.{Begin}
 use Rattle.serial_engine.specs.Blocks.{entries_of}
 use Rattle.serial_engine.specs.Moments.{calls_made, calls_since, flush_marks_of, moments_of}
-use Rattle.serial_engine.specs.Served.{Ground, Seen, AllServed, Serves}
+use Rattle.serial_engine.specs.Served.{Ground, AllServed, Serves}
 use Rattle.serial_engine.specs.Sessions.{StopsRight}
 use Rattle.serial_engine.specs.Story.{Served, Flushed, request_of, name, is_stopped, desk_of, places_of, marks_of, AreServed}
 use Rattle.serial_engine.proofs.DataLaws.{HoldsData, is_high}

@@ -7,10 +7,13 @@ use Rattle.blk_base.specs.declared.place.Pbn.{Pbn}
 use Rattle.disk_model.specs.declared.call.Call.{Call}
 use Rattle.disk_model.specs.declared.call.Call.TheVariants.{Read, Write, Flush}
 use Rattle.disk_model.specs.Telling.{FailedInLog}
+use Rattle.disk_model.specs.Seen.{Seen}
+use Rattle.disk_model.specs.Since.{SinceThen}
+use Rattle.disk_model.proofs.SeenLaws.{log_same}
 use Rattle.image_layout.specs.Window.{mapping_of}
 use Rattle.serial_engine.specs.Blocks.{entries_of}
-use Rattle.serial_engine.specs.Served.{Ground, Seen, AllServed, ReadGives, ReadFails, stored}
-use Rattle.serial_engine.specs.Sessions.{NoneFailed, StopsAtFailure, SinceThen}
+use Rattle.serial_engine.specs.Served.{Ground, AllServed, ReadGives, ReadFails, stored}
+use Rattle.serial_engine.specs.Sessions.{NoneFailed, StopsAtFailure}
 use Rattle.serial_engine.specs.Story.{Served, Stored, NoRoom, DataLost, EntryLost, WriteStopped, Given, NotGiven, Flushed, FlushLost, FlushStopped, is_stopped}
 
 -- the calls since the log was the first one: none after a failure, and none failed where the session goes on
@@ -94,8 +97,8 @@ stopped_or false first log goes is = absurd cc
 
 read_goes : (ground : Ground) (m : Mapping) (bytes : List ℕ) (before now : Seen) (stopped : Bool) (first : List Call) → IsTrue ground.tells
     → ReadGives ground m bytes before now → Goes stopped first before.log → Goes stopped first now.log
-read_goes ground Unmapped bytes before now stopped first tells gives goes = same_log stopped first before.log now.log (gives.1 tells) goes
-read_goes ground Zero bytes before now stopped first tells gives goes = same_log stopped first before.log now.log (gives.1 tells) goes
+read_goes ground Unmapped bytes before now stopped first tells gives goes = same_log stopped first before.log now.log (log_same before now gives.1) goes
+read_goes ground Zero bytes before now stopped first tells gives goes = same_log stopped first before.log now.log (log_same before now gives.1) goes
 read_goes ground (At x) bytes before now stopped first tells gives goes =
     same_log stopped first _ now.log (gives.0 tells) (reads stopped first before.log x bytes true goes)
 
@@ -122,14 +125,14 @@ all_go ground window first (Stored at block x ∷ older) now tells (before, late
     let goes = going (is_stopped older) first.log before.log on (all_go ground window first older before tells rest) in
     rw (on, calls tells) (works first.log _ slot _ (works first.log before.log x block goes))
 all_go ground window first (NoRoom at block ∷ older) now tells (before, later, (on, used, same), rest) =
-    same_log _ first.log before.log now.log (same tells) (all_go ground window first older before tells rest)
+    same_log _ first.log before.log now.log (log_same before now same) (all_go ground window first older before tells rest)
 all_go ground window first (DataLost at block x ∷ older) now tells (before, later, (on, room, fails), rest) =
     store_fails first.log before.log now.log x block _ (fails.1 tells) (going (is_stopped older) first.log before.log on (all_go ground window first older before tells rest))
 all_go ground window first (EntryLost at block x ∷ older) now tells (before, later, (on, room, slot, place, fails), rest) =
     store_fails first.log _ now.log slot _ _ (fails.1 tells)
     (works first.log before.log x block (going (is_stopped older) first.log before.log on (all_go ground window first older before tells rest)))
 all_go ground window first (WriteStopped at block ∷ older) now tells (before, later, (on, same), rest) =
-    same_log _ first.log before.log now.log (same tells) (all_go ground window first older before tells rest)
+    same_log _ first.log before.log now.log (log_same before now same) (all_go ground window first older before tells rest)
 all_go ground window first (Given at bytes ∷ older) now tells (before, later, gives, rest) =
     read_goes ground (mapping_of (entries_of window older) at.0) bytes before now _ first.log tells gives (all_go ground window first older before tells rest)
 all_go ground window first (NotGiven at ∷ older) now tells (before, later, fails, rest) =
@@ -139,7 +142,7 @@ all_go ground window first (Flushed ∷ older) now tells (before, later, (on, ca
 all_go ground window first (FlushLost ∷ older) now tells (before, later, (on, fails), rest) =
     flush_failed before.log now.log _ first.log (fails.1 tells) (going (is_stopped older) first.log before.log on (all_go ground window first older before tells rest))
 all_go ground window first (FlushStopped ∷ older) now tells (before, later, (on, same), rest) =
-    same_log _ first.log before.log now.log (same tells) (all_go ground window first older before tells rest)
+    same_log _ first.log before.log now.log (log_same before now same) (all_go ground window first older before tells rest)
 
 -- no call after a failure
 pub stops_since : (ground : Ground) (window : List Entry) (first : Seen) (story : List Served) (now : Seen) → IsTrue ground.tells → AllServed ground window first story now

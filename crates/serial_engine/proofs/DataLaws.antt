@@ -3,7 +3,8 @@ use Rattle.std.proofs.Common.{ℕ, ◌≡◌, ◌⊎◌, ◌<◌, ◌≤◌, ◌
 use Rattle.std.specs.List.{AllByRecursion}
 use Rattle.std.proofs.lemmas.Bool.Decides.{eqb_tells}
 use Rattle.std.proofs.lemmas.Nat.{mod_below}
-use Rattle.blk_base.specs.Regions.{first_slab_of}
+use Rattle.blk_base.specs.Regions.{IsDataBlock, first_slab_of}
+use Rattle.blk_base.proofs.RegionLaws.{data_block_high}
 use Rattle.blk_base.specs.Sectors.{zero_block}
 use Rattle.blk_base.specs.declared.geometry.Geometry.{Geometry}
 use Rattle.blk_base.specs.declared.journal_entry.Entry.{Entry}
@@ -15,9 +16,11 @@ use Rattle.disk_model.specs.declared.call.Call.TheVariants.{Read, Write, Flush}
 use Rattle.disk_model.specs.Log.{Blocks, Misses, contents}
 use Rattle.disk_model.proofs.ImageLaws.{settled-write, kept}
 use Rattle.disk_model.specs.Telling.{FailedInLog}
-use Rattle.image_layout.specs.Window.{IsDataBlock, mapping_of}
+use Rattle.disk_model.specs.Seen.{Seen}
+use Rattle.disk_model.proofs.SeenLaws.{log_same}
+use Rattle.image_layout.specs.Window.{mapping_of}
 use Rattle.serial_engine.specs.Blocks.{NamesData, entries_of, is_named, remap, data_number}
-use Rattle.serial_engine.specs.Served.{Ground, Seen, AllServed, ReadGives, ReadFails, HasRoom, IsNextSlot, next_sequence, journal_bytes, stored}
+use Rattle.serial_engine.specs.Served.{Ground, AllServed, ReadGives, ReadFails, HasRoom, IsNextSlot, next_sequence, journal_bytes, stored}
 use Rattle.serial_engine.specs.Story.{Served, Stored, NoRoom, DataLost, EntryLost, WriteStopped, Given, NotGiven, Flushed, FlushLost, FlushStopped}
 
 -- each content that a stop may leave in this block is this one
@@ -80,7 +83,7 @@ pub data_high : (g : Geometry) (k : ℕ) → first_slab_of g ≤ data_number g k
 data_high g k = omega arith
 
 pub is_high : (g : Geometry) (b : ℕ) → IsDataBlock g b → first_slab_of g ≤ b
-is_high g b (slab, offset, is, at) = omega (arith, at)
+is_high g b is = data_block_high g b is
 
 pub named_high : (ground : Ground) (window : List Entry) (first : Seen) (story : List Served) (now : Seen) → NamesData ground.geometry window → AllServed ground window first story now
     → (b : ℕ) → is_named (entries_of window story) b ≡ true → first_slab_of ground.geometry ≤ b
@@ -141,8 +144,8 @@ data_same ground window image before now story same holds = rw same holds
 
 data_read : (ground : Ground) (window : List Entry) (image : Blocks) (m : Mapping) (bytes : List ℕ) (before now : Seen) (story : List Served) → IsTrue ground.tells
     → ReadGives ground m bytes before now → HoldsData ground window image story before.log → HoldsData ground window image story now.log
-data_read ground window image Unmapped bytes before now story tells gives holds = rw (gives.1 tells) holds
-data_read ground window image Zero bytes before now story tells gives holds = rw (gives.1 tells) holds
+data_read ground window image Unmapped bytes before now story tells gives holds = rw (log_same before now gives.1) holds
+data_read ground window image Zero bytes before now story tells gives holds = rw (log_same before now gives.1) holds
 data_read ground window image (At x) bytes before now story tells gives holds = rw (gives.0 tells) (data_kept ground window image before.log (Read x bytes true) story (λ b is. tt) holds)
 
 data_failed : (ground : Ground) (window : List Entry) (image : Blocks) (call : Call) (old now : List Call) (lost : Type 0) (story : List Served) → MissesNamed (entries_of window story) call
@@ -173,7 +176,7 @@ all_hold ground window image first (Stored at block x ∷ older) now tells names
     rw (calls tells) (data_stored ground window image (stored x block before.log) slot _ (Stored at block x ∷ older)
     (misses_slot ground (entries_of window older) entries slot (journal_bytes ground (entries_of window older) (remap (entries_of window older) at x)) true (some_journal ground _ x room) place high_too) both)
 all_hold ground window image first (NoRoom at block ∷ older) now tells names opened (before, later, (on, used, same), rest) =
-    data_same ground window image before.log now.log older (same tells) (all_hold ground window image first older before tells names opened rest)
+    data_same ground window image before.log now.log older (log_same before now same) (all_hold ground window image first older before tells names opened rest)
 all_hold ground window image first (DataLost at block x ∷ older) now tells names opened (before, later, (on, room, fails), rest) =
     data_store_fails ground window image before.log now.log x block _ older (λ ok. misses_block ground (entries_of window older) x block ok room) (fails.1 tells) (all_hold ground window image first older before tells names opened rest)
 all_hold ground window image first (EntryLost at block x ∷ older) now tells names opened (before, later, (on, room, slot, place, fails), rest) =
@@ -181,7 +184,7 @@ all_hold ground window image first (EntryLost at block x ∷ older) now tells na
     data_store_fails ground window image _ now.log slot _ _ older (λ ok. misses_slot ground (entries_of window older) (entries_of window older) slot (journal_bytes ground (entries_of window older) (remap (entries_of window older) at x)) ok (some_journal ground _ x room) place high) (fails.1 tells)
     (data_stored ground window image before.log x block older (misses_block ground (entries_of window older) x block true room) (all_hold ground window image first older before tells names opened rest))
 all_hold ground window image first (WriteStopped at block ∷ older) now tells names opened (before, later, (on, same), rest) =
-    data_same ground window image before.log now.log older (same tells) (all_hold ground window image first older before tells names opened rest)
+    data_same ground window image before.log now.log older (log_same before now same) (all_hold ground window image first older before tells names opened rest)
 all_hold ground window image first (Given at bytes ∷ older) now tells names opened (before, later, gives, rest) =
     data_read ground window image (mapping_of (entries_of window older) at.0) bytes before now older tells gives (all_hold ground window image first older before tells names opened rest)
 all_hold ground window image first (NotGiven at ∷ older) now tells names opened (before, later, fails, rest) =
@@ -191,4 +194,4 @@ all_hold ground window image first (Flushed ∷ older) now tells names opened (b
 all_hold ground window image first (FlushLost ∷ older) now tells names opened (before, later, (on, fails), rest) =
     data_failed ground window image (Flush false) before.log now.log _ older (λ b is. tt) (fails.1 tells) (all_hold ground window image first older before tells names opened rest)
 all_hold ground window image first (FlushStopped ∷ older) now tells names opened (before, later, (on, same), rest) =
-    data_same ground window image before.log now.log older (same tells) (all_hold ground window image first older before tells names opened rest)
+    data_same ground window image before.log now.log older (log_same before now same) (all_hold ground window image first older before tells names opened rest)

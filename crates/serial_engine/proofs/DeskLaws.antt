@@ -1,5 +1,5 @@
 -- The desk log, the places and the histories of a story are right.
-use Rattle.std.proofs.Common.{ℕ, ◌≡◌, ◌+◌, ◌<◌, ◌≤◌, ◌==◌, ◌++◌, Bool, true, false, List, [], ◌∷◌, Option, Some, None, IsSome, IsNone, length, slice_get, if◌then◌else◌, refl, sym, ◌∙◌, ap, inl, inr, arith}
+use Rattle.std.proofs.Common.{ℕ, ◌≡◌, ◌+◌, ◌<◌, ◌≤◌, ◌==◌, ◌++◌, Bool, true, false, List, [], ◌∷◌, Option, Some, None, IsSome, IsNone, length, slice_get, if◌then◌else◌, refl, sym, ◌∙◌, ap, subst, inl, inr, arith}
 use Rattle.std.proofs.lemmas.Bool.Decides.{eqb_tells}
 use Rattle.std.specs.List.{AllByRecursion}
 use Rattle.std.specs.Option.{option_map}
@@ -11,11 +11,12 @@ use Rattle.vdo_model.specs.declared.report.HistoryEntry.{HistoryEntry}
 use Rattle.vdo_model.specs.declared.report.Placed.{Placed}
 use Rattle.vdo_model.specs.Scripts.{address_of}
 use Rattle.vdo_model.specs.DeskLog.{begun, answered, answer_of, before_begin, IsDeskLog, AllAnswered}
-use Rattle.vdo_model.specs.Places.{drawn, place_of, AreDrawn, ArePlaces, Follows}
-use Rattle.vdo_model.specs.Histories.{mark_of, histories_of}
+use Rattle.vdo_model.specs.declared.report.DeskLine.TheVariants.{Begin, Answer}
+use Rattle.vdo_model.specs.Places.{drawn, place_of, AreDrawn, ArePlaces, IsAnsweredAtOnce, Follows}
+use Rattle.vdo_model.specs.Histories.{Progress, mark_of, histories_of}
 use Rattle.vdo_model.specs.Histories as model
 use Rattle.vdo_model.specs.RightRuns.{RunRight}
-use Rattle.serial_engine.specs.Story.{Served, Stored, NoRoom, DataLost, EntryLost, WriteStopped, Given, NotGiven, Flushed, FlushLost, FlushStopped, request_of, reply_of, is_placed, is_handed, name, desk_of, drawn_of, places_of, entry_of, marks_of, handed_of, AreServed}
+use Rattle.serial_engine.specs.Story.{Served, Stored, NoRoom, DataLost, EntryLost, WriteStopped, Given, NotGiven, Flushed, FlushLost, FlushStopped, request_of, reply_of, is_placed, is_handed, name, desk_of, drawn_of, places_of, entry_of, marks_of, handed_of, progress_of, AreServed}
 use Rattle.serial_engine.proofs.StepLaws.{step_at, bool_cases, step_none, step_some, step_below, step_request, index_below, some_same, named, placed_address}
 
 -- a choice of two equal things
@@ -141,6 +142,19 @@ draws logical requests desk (s ∷ older) range unanswered each = elim (bool_cas
   | inr passed ↦ rw passed (draws logical requests desk older range unanswered each.1)
 ]
 
+-- each request was answered as soon as it was begun
+answered_at_once : (story : List Served) (n : ℕ) (s : Served) → step_at story n ≡ Some s → IsAnsweredAtOnce (desk_of story) (name n) (reply_of s)
+answered_at_once [] n s is = absurd cc
+answered_at_once (t ∷ older) n s is = elim (eqb_tells (length older) n) [
+  | inl same ↦
+      let here : Some t ≡ Some s = rw same.0 at is in
+      let t_is = some_same t s here in
+      record { later = []; older = desk_of older; at = rw (← same.1, ← t_is) refl }
+  | inr other ↦
+      let rest = answered_at_once older n s (rw other.0 at is) in
+      record { later = Answer (name (length older)) (reply_of t) ∷ Begin (name (length older)) ∷ rest.later; older = rest.older; at = ap (λ (ls : List DeskLine). Answer (name (length older)) (reply_of t) ∷ Begin (name (length older)) ∷ ls) rest.at }
+]
+
 -- a block request without a place was stopped at the desk
 unplaced : (s : Served) (a : ℕ) → is_placed s ≡ false → address_of (request_of s) ≡ Some a → reply_of s ≡ Stopped
 unplaced (Stored at block x) a is has = absurd cc
@@ -158,7 +172,7 @@ are_places : (logical : ℕ) (requests : List Request) (story : List Served) →
     → ArePlaces 1 logical (requests ∷ []) (desk_of story) (places_of story)
 are_places logical requests story range each whole = record {
   places_drawn = draws logical requests (desk_of story) story range (unanswered_before story) each;
-  all = λ w r a had has below.
+  all = λ w r a had has below answered.
       let is = named requests w r had in
       let here = index_below requests is.n r is.had in
       let s = step_some story is.n (omega arith) in
@@ -167,7 +181,7 @@ are_places logical requests story range each whole = record {
         | inl taken ↦ let p = place_at story is.n s.0 s.1 taken in inl (rw is.is (some_is _ _ p.1))
         | inr passed ↦
             let stopped = unplaced s.0 a passed (ap address_of r_is ∙ has) in
-            inr (rw is.is (answer_at story is.n ∙ ap (option_map reply_of) s.1 ∙ ap Some stopped))
+            inr (rw is.is (subst (IsAnsweredAtOnce (desk_of story) (name is.n)) stopped (answered_at_once story is.n s.0 s.1)))
       ];
 }
 
@@ -179,17 +193,17 @@ handed_at (t ∷ older) n s is = elim (eqb_tells (length older) n) [
 ]
 
 -- a request's history entry, by its answer and whether it was handed in
-entry_is : (s : Served) (w : Writer) → is_placed s ≡ true → model.entry_of (Some (request_of s)) w (mark_of (Some (reply_of s)) (is_handed s)) ≡ entry_of s w
-entry_is (Stored at block x) w is = refl
-entry_is (NoRoom at block) w is = refl
-entry_is (DataLost at block x) w is = refl
-entry_is (EntryLost at block x) w is = refl
-entry_is (WriteStopped at block) w is = absurd cc
-entry_is (Given at bytes) w is = refl
-entry_is (NotGiven at) w is = refl
-entry_is Flushed w is = absurd cc
-entry_is FlushLost w is = absurd cc
-entry_is FlushStopped w is = absurd cc
+entry_is : (s : Served) (w : Writer) (set : Bool) → is_placed s ≡ true → model.entry_of (Some (request_of s)) w (mark_of (Some (reply_of s)) set (is_handed s)) ≡ entry_of s w
+entry_is (Stored at block x) w set is = refl
+entry_is (NoRoom at block) w set is = refl
+entry_is (DataLost at block x) w set is = refl
+entry_is (EntryLost at block x) w set is = refl
+entry_is (WriteStopped at block) w set is = absurd cc
+entry_is (Given at bytes) w set is = refl
+entry_is (NotGiven at) w set is = refl
+entry_is Flushed w set is = absurd cc
+entry_is FlushLost w set is = absurd cc
+entry_is FlushStopped w set is = absurd cc
 
 no_entry : (s : Served) (w : Writer) → is_placed s ≡ false → entry_of s w ≡ []
 no_entry (Stored at block x) w is = absurd cc
@@ -204,8 +218,8 @@ no_entry FlushLost w is = refl
 no_entry FlushStopped w is = refl
 
 -- the desk log and the handing-in say of each of these steps what the story says
-abbrev Agrees : List DeskLine → (Writer → Bool) → List Served → Type 0
-Agrees desk handed story = (n : ℕ) (s : Served) → step_at story n ≡ Some s → (answer_of desk (name n) ≡ Some (reply_of s)) × (handed (name n) ≡ is_handed s)
+abbrev Agrees : List DeskLine → Progress → List Served → Type 0
+Agrees desk progress story = (n : ℕ) (s : Served) → step_at story n ≡ Some s → (answer_of desk (name n) ≡ Some (reply_of s)) × (progress.is_handed (name n) ≡ is_handed s)
 
 older_step : (s : Served) (older : List Served) (n : ℕ) (t : Served) → step_at older n ≡ Some t → step_at (s ∷ older) n ≡ Some t
 older_step s older n t is = elim (eqb_tells (length older) n) [
@@ -216,24 +230,24 @@ older_step s older n t is = elim (eqb_tells (length older) n) [
 newest_step : (s : Served) (older : List Served) → step_at (s ∷ older) (length older) ≡ Some s
 newest_step s older = elim (eqb_tells (length older) (length older)) [ inl same ↦ rw same.0 refl | inr other ↦ absurd (other.1 refl) ]
 
-histories_are : (requests : List Request) (desk : List DeskLine) (handed : Writer → Bool) (story : List Served) → Agrees desk handed story → AreServed requests story
-    → marks_of story ≡ histories_of (requests ∷ []) desk handed (places_of story)
-histories_are requests desk handed [] agrees each = refl
-histories_are requests desk handed (s ∷ older) agrees each =
-    let rest = histories_are requests desk handed older (λ n t is. agrees n t (older_step s older n t is)) each.1 in
+histories_are : (requests : List Request) (desk : List DeskLine) (progress : Progress) (story : List Served) → Agrees desk progress story → AreServed requests story
+    → marks_of story ≡ histories_of (requests ∷ []) desk progress (places_of story)
+histories_are requests desk progress [] agrees each = refl
+histories_are requests desk progress (s ∷ older) agrees each =
+    let rest = histories_are requests desk progress older (λ n t is. agrees n t (older_step s older n t is)) each.1 in
     let told = agrees (length older) s (newest_step s older) in
     let w = name (length older) in
     elim (bool_cases (is_placed s)) [
-      | inl taken ↦ rw (taken, each.0, told.0, told.1, entry_is s w taken) (ap (λ (es : List HistoryEntry). entry_of s w ++ es) rest)
+      | inl taken ↦ rw (taken, each.0, told.0, told.1, entry_is s w (progress.is_set w) taken) (ap (λ (es : List HistoryEntry). entry_of s w ++ es) rest)
       | inr passed ↦ rw (passed, no_entry s w passed) rest
     ]
 
 -- the report of a story is right
 pub run_is_right : (logical : ℕ) (requests : List Request) (story : List Served) → IsInRange logical requests → AreServed requests story → length story ≡ length requests
-    → RunRight 1 1 logical (handed_of story) (requests ∷ []) (desk_of story) (places_of story) (marks_of story)
+    → RunRight 1 1 logical (progress_of story) (requests ∷ []) (desk_of story) (places_of story) (marks_of story)
 run_is_right logical requests story range each whole = record {
   desk_log = desk_log requests story each;
   all_answered = all_answered requests story whole;
   are_places = are_places logical requests story range each whole;
-  are_histories = histories_are requests (desk_of story) (handed_of story) story (λ n s is. (answer_at story n ∙ ap (option_map reply_of) is, handed_at story n s is)) each;
+  are_histories = histories_are requests (desk_of story) (progress_of story) story (λ n s is. (answer_at story n ∙ ap (option_map reply_of) is, handed_at story n s is)) each;
 }

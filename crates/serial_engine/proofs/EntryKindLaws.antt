@@ -4,15 +4,16 @@ use Rattle.std.proofs.Math.Nat.{mod-lt, div-lt_iff_lt-mul}
 use Rattle.std.proofs.lemmas.List.Elements.{All-nil, All-cons}
 use Rattle.std.proofs.lemmas.Bool.Decides.{eqb_tells}
 use Rattle.blk_base.specs.Limits.{IsGeometry, logical_limit}
-use Rattle.blk_base.specs.Regions.{first_slab_of, needed_blocks}
+use Rattle.blk_base.specs.Regions.{IsDataBlock, first_slab_of, needed_blocks}
 use Rattle.blk_base.specs.declared.geometry.Geometry.{Geometry}
 use Rattle.blk_base.specs.declared.journal_entry.Entry.{Entry}
 use Rattle.blk_base.specs.declared.place.Lba.{Lba}
 use Rattle.blk_base.specs.declared.place.Mapping.{Mapping}
 use Rattle.blk_base.specs.declared.place.Mapping.TheVariants.{Unmapped, Zero, At}
 use Rattle.blk_base.specs.declared.place.Pbn.{Pbn}
-use Rattle.image_layout.specs.Window.{IsDataBlock, IsMapped, mapping_of}
-use Rattle.journal_codec.specs.Grammar.{HoldsMapping, HoldsEntry, HoldsBlock}
+use Rattle.image_layout.specs.Window.{IsMapped, mapping_of}
+use Rattle.byte_fields.specs.Mappings.{HoldsMapping}
+use Rattle.journal_codec.specs.Grammar.{HoldsEntry, HoldsBlock}
 use Rattle.journal_codec.proofs.PrefixLaws.{written}
 use Rattle.stop_laws.specs.Journals.{HasEntry}
 use Rattle.serial_engine.specs.Blocks.{IsNextBlock, is_named, remap}
@@ -28,7 +29,7 @@ next_is_data : (g : Geometry) (entries : List Entry) (x : Pbn) → 16 ≤ g.slab
 next_is_data g entries x some next =
     let positive : 0 < g.slab_blocks = omega (arith, some) in
     let slab : next.k / g.slab_blocks < g.slabs = (div-lt_iff_lt-mul positive).1 next.is_data in
-    (next.k / g.slab_blocks, next.k % g.slab_blocks, (slab, mod-lt next.k positive), sym next.block)
+    record { slab = next.k / g.slab_blocks; offset = next.k % g.slab_blocks; inside = (slab, mod-lt next.k positive); stands = sym next.block }
 
 pub entry_mapped : (g : Geometry) (entries : List Entry) (at : Lba) (x : Pbn) → 16 ≤ g.slab_blocks → at.0 < g.logical → IsNextBlock g entries x → IsMapped g (remap entries at x)
 entry_mapped g entries at x some below next = (below, next_is_data g entries x some next)

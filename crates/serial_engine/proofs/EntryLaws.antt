@@ -1,17 +1,18 @@
 -- A block to which an address is mapped is named, and inside the image.
 use Rattle.std.proofs.Common.{ℕ, ◌≡◌, ◌<◌, ◌==◌, true, List, [], ◌∷◌, inl, inr, arith}
 use Rattle.std.proofs.lemmas.Bool.Decides.{eqb_tells}
-use Rattle.std.proofs.lemmas.Nat.{mul-add-lt}
-use Rattle.blk_base.specs.Regions.{needed_blocks, slab_stride_of}
+use Rattle.blk_base.specs.Regions.{IsDataBlock, needed_blocks}
+use Rattle.blk_base.proofs.RegionLaws.{data_block_inside}
 use Rattle.blk_base.specs.declared.geometry.Geometry.{Geometry}
 use Rattle.blk_base.specs.declared.journal_entry.Entry.{Entry}
 use Rattle.blk_base.specs.declared.journal_entry.Entry.TheVariants.{Remap, NewPage}
 use Rattle.blk_base.specs.declared.place.Mapping.{Mapping}
 use Rattle.blk_base.specs.declared.place.Mapping.TheVariants.{At}
 use Rattle.blk_base.specs.declared.place.Pbn.{Pbn}
-use Rattle.image_layout.specs.Window.{IsDataBlock, mapping_of}
+use Rattle.disk_model.specs.Seen.{Seen}
+use Rattle.image_layout.specs.Window.{mapping_of}
 use Rattle.serial_engine.specs.Blocks.{NamesData, is_named, is_at, entries_of}
-use Rattle.serial_engine.specs.Served.{Ground, Seen, AllServed}
+use Rattle.serial_engine.specs.Served.{Ground, AllServed}
 use Rattle.serial_engine.specs.Story.{Served, Stored, NoRoom, DataLost, EntryLost, WriteStopped, Given, NotGiven, Flushed, FlushLost, FlushStopped}
 use Rattle.serial_engine.proofs.DataLaws.{or_left, or_right, or_cases, same_number}
 
@@ -28,7 +29,7 @@ mapped_named (NewPage page at ∷ older) a x is = mapped_named older a x is
 
 -- a data block is inside the image
 pub data_inside : (g : Geometry) (b : ℕ) → IsDataBlock g b → b < needed_blocks g
-data_inside g b (slab, offset, is, at) = omega (arith, at, mul-add-lt slab (slab_stride_of g) offset g.slabs is.0 (omega arith))
+data_inside g b is = data_block_inside g b is
 
 -- what the entries of a story name is inside the image
 pub named_inside : (ground : Ground) (window : List Entry) (first : Seen) (story : List Served) (now : Seen) → NamesData ground.geometry window → AllServed ground window first story now

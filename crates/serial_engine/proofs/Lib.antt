@@ -1,6 +1,7 @@
 pub mod StepLaws
 pub mod DeskLaws
 pub mod CallLaws
+pub mod CauseLaws
 pub mod DataLaws
 pub mod ValueLaws
 pub mod WriteLaws

@@ -10,6 +10,7 @@ use Rattle.blk_base.specs.declared.request.Request.TheVariants as request
 use Rattle.blk_base.specs.declared.request.Writer.{Writer}
 use Rattle.disk_model.specs.declared.call.Call.{Call}
 use Rattle.disk_model.specs.declared.call.Call.TheVariants.{Flush}
+use Rattle.disk_model.specs.Seen.{Seen}
 use Rattle.vdo_model.specs.declared.report.DeskLine.TheVariants.{Begin, Answer}
 use Rattle.vdo_model.specs.declared.report.FlushMark.{FlushMark}
 use Rattle.vdo_model.specs.DeskLog.{answer_of}
@@ -17,7 +18,7 @@ use Rattle.vdo_model.specs.FlushMarks.{Moment, Desk, Device, successes, calls_of
 use Rattle.vdo_model.specs.Scripts.{request_at}
 use Rattle.serial_engine.specs.Blocks.{entries_of}
 use Rattle.serial_engine.specs.Moments.{calls_made, mark_with, flush_marks_of, calls_since, device_moments, moments_of}
-use Rattle.serial_engine.specs.Served.{Ground, Seen, AllServed, Serves}
+use Rattle.serial_engine.specs.Served.{Ground, AllServed, Serves}
 use Rattle.serial_engine.specs.Story.{Served, Stored, NoRoom, DataLost, EntryLost, WriteStopped, Given, NotGiven, Flushed, FlushLost, FlushStopped, request_of, reply_of, name, is_stopped, desk_of, AreServed}
 use Rattle.serial_engine.proofs.DeskLaws.{answer_at, not_answered, begun_of}
 use Rattle.serial_engine.proofs.MomentLaws.{since_is, happened, made_is, calls_before, lines_before}

@@ -8,6 +8,8 @@ use Rattle.blk_base.specs.declared.place.Pbn.{Pbn}
 use Rattle.disk_model.specs.declared.call.Call.{Call}
 use Rattle.disk_model.specs.declared.call.Call.TheVariants.{Read, Write, Flush}
 use Rattle.disk_model.specs.Telling.{FailedInLog}
+use Rattle.disk_model.specs.Seen.{Seen}
+use Rattle.disk_model.proofs.SeenLaws.{log_same}
 use Rattle.image_layout.specs.Window.{mapping_of}
 use Rattle.stop_laws.proofs.HistoryLaws.{successes_append}
 use Rattle.vdo_model.specs.declared.report.DeskLine.{DeskLine}
@@ -15,7 +17,7 @@ use Rattle.vdo_model.specs.declared.report.DeskLine.TheVariants.{Begin, Answer}
 use Rattle.vdo_model.specs.FlushMarks.{Moment, Desk, Device, successes, calls_of, lines_of}
 use Rattle.serial_engine.specs.Blocks.{remap, entries_of}
 use Rattle.serial_engine.specs.Moments.{read_calls, calls_with, calls_made, calls_since, device_moments, moments_of}
-use Rattle.serial_engine.specs.Served.{Ground, Seen, AllServed, Serves, ReadGives, ReadFails, journal_bytes}
+use Rattle.serial_engine.specs.Served.{Ground, AllServed, Serves, ReadGives, ReadFails, journal_bytes}
 use Rattle.serial_engine.specs.Sessions.{Happened}
 use Rattle.serial_engine.specs.Story.{Served, Stored, NoRoom, DataLost, EntryLost, WriteStopped, Given, NotGiven, Flushed, FlushLost, FlushStopped, reply_of, name, is_stop, is_stopped, desk_of}
 
@@ -52,8 +54,8 @@ read_failed s entries log now x bytes lost none (inr same) = record { calls = []
 
 read_gave : (ground : Ground) (s : Served) (entries : List Entry) (m : Mapping) (bytes : List ℕ) (before now : Seen) → IsTrue ground.tells → calls_with s entries ≡ read_calls m → ReadGives ground m bytes before now
     → StepCalls s entries before.log now.log
-read_gave ground s entries Unmapped bytes before now tells count gives = record { calls = []; is = gives.1 tells; counted = λ goes. sym count }
-read_gave ground s entries Zero bytes before now tells count gives = record { calls = []; is = gives.1 tells; counted = λ goes. sym count }
+read_gave ground s entries Unmapped bytes before now tells count gives = record { calls = []; is = log_same before now gives.1; counted = λ goes. sym count }
+read_gave ground s entries Zero bytes before now tells count gives = record { calls = []; is = log_same before now gives.1; counted = λ goes. sym count }
 read_gave ground s entries (At x) bytes before now tells count gives = record { calls = Read x bytes true ∷ []; is = gives.0 tells; counted = λ goes. sym count }
 
 read_lost : (ground : Ground) (s : Served) (entries : List Entry) (m : Mapping) (before now : Seen) → IsTrue ground.tells → calls_with s entries ≡ 0 → ReadFails ground m before now
@@ -69,12 +71,12 @@ step_calls ground entries stopped (Stored at block x) before now tells (on, room
   is = calls tells;
   counted = λ goes. refl;
 }
-step_calls ground entries stopped (NoRoom at block) before now tells (on, used, same) = record { calls = []; is = same tells; counted = λ goes. refl }
+step_calls ground entries stopped (NoRoom at block) before now tells (on, used, same) = record { calls = []; is = log_same before now same; counted = λ goes. refl }
 step_calls ground entries stopped (DataLost at block x) before now tells (on, room, fails) =
     let failed = store_failed before.log now.log x block _ (fails.1 tells) in record { calls = failed.0; is = failed.1; counted = λ goes. absurd cc }
 step_calls ground entries stopped (EntryLost at block x) before now tells (on, room, slot, place, fails) =
     let failed = entry_failed before.log now.log x slot block _ _ (fails.1 tells) in record { calls = failed.0; is = failed.1; counted = λ goes. absurd cc }
-step_calls ground entries stopped (WriteStopped at block) before now tells (off, same) = record { calls = []; is = same tells; counted = λ goes. refl }
+step_calls ground entries stopped (WriteStopped at block) before now tells (off, same) = record { calls = []; is = log_same before now same; counted = λ goes. refl }
 step_calls ground entries stopped (Given at bytes) before now tells gives =
     read_gave ground (Given at bytes) entries (mapping_of entries at.0) bytes before now tells refl gives
 step_calls ground entries stopped (NotGiven at) before now tells fails =
@@ -82,7 +84,7 @@ step_calls ground entries stopped (NotGiven at) before now tells fails =
 step_calls ground entries stopped Flushed before now tells (on, calls) = record { calls = Flush true ∷ []; is = calls tells; counted = λ goes. refl }
 step_calls ground entries stopped FlushLost before now tells (on, fails) =
     let failed = flush_failed before.log now.log _ (fails.1 tells) in record { calls = failed.0; is = failed.1; counted = λ goes. absurd cc }
-step_calls ground entries stopped FlushStopped before now tells (off, same) = record { calls = []; is = same tells; counted = λ goes. refl }
+step_calls ground entries stopped FlushStopped before now tells (off, same) = record { calls = []; is = log_same before now same; counted = λ goes. refl }
 
 -- what a log has beyond another
 pub since_is : (calls before now : List Call) → now ≡ calls ++ before → calls_since before now ≡ calls

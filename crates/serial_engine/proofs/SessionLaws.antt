@@ -10,16 +10,18 @@ use Rattle.disk_model.specs.Causes.{Rose}
 use Rattle.disk_model.specs.Images.{HasOneImage}
 use Rattle.disk_model.specs.Log.{Blocks}
 use Rattle.disk_model.specs.declared.call.Call.{Call}
+use Rattle.disk_model.specs.Seen.{Seen}
 use Rattle.vdo_model.specs.DeskLog.{answer_of}
 use Rattle.vdo_model.specs.Servable.{AreServable}
 use Rattle.image_layout.specs.Window.{mapping_of}
 use Rattle.serial_engine.specs.Blocks.{NamesData, entries_of}
 use Rattle.serial_engine.specs.Moments.{flush_marks_of}
-use Rattle.serial_engine.specs.Served.{Ground, Seen, AllServed, ReadFails}
+use Rattle.serial_engine.specs.Served.{Ground, AllServed, ReadFails}
 use Rattle.serial_engine.specs.Sessions.{IsSession, HasFault}
 use Rattle.serial_engine.specs.Story.{Served, Stored, NoRoom, DataLost, EntryLost, WriteStopped, Given, NotGiven, Flushed, FlushLost, FlushStopped, reply_of, is_stopped, name, desk_of, places_of, marks_of, AreServed}
 use Rattle.serial_engine.proofs.AfterLaws.{stops_are_right}
 use Rattle.serial_engine.proofs.CallLaws.{stops_since}
+use Rattle.serial_engine.proofs.CauseLaws.{cause_at, only_reads_then, other_stream}
 use Rattle.serial_engine.proofs.DataLaws.{HoldsData}
 use Rattle.serial_engine.proofs.EntryLaws.{data_inside}
 use Rattle.serial_engine.proofs.DeskLaws.{run_is_right, answer_at}
@@ -108,14 +110,6 @@ fault_rose ground window first story now n served (Some s) is a told fault =
     let a_is : reply_of s ≡ a = some_same _ _ (sym (ap (option_map reply_of) is) ∙ sym (answer_at story n) ∙ told) in
     step_rose ground window first story now n s served is (subst HasFault (sym a_is) fault)
 
--- a request of another stream has no answer
-other_stream : (story : List Served) (stream number : ℕ) → answer_of (desk_of story) (record { stream = suc stream; number = number }) ≡ None
-other_stream [] stream number = refl
-other_stream (s ∷ older) stream number = elim (eqb_tells 0 (suc stream)) [
-  | inl same ↦ absurd (omega (arith, same.1))
-  | inr other ↦ rw other.0 (other_stream older stream number)
-]
-
 causes_at : (ground : Ground) (window : List Entry) (first : Seen) (story : List Served) (now : Seen) → AllServed ground window first story now
     → (stream number : ℕ) (a : _) → answer_of (desk_of story) (record { stream = stream; number = number }) ≡ Some a → HasFault a → Rose first.faults now.faults
 causes_at ground window first story now served zero number a told fault = fault_rose ground window first story now number served (step_at story number) refl a told fault
@@ -146,8 +140,10 @@ session ground window made requests story first now is each whole served = recor
   run_right = run_is_right ground.geometry.logical requests story (in_range _ requests is.servable) each whole;
   reads_right = λ tells honest image one.
       reads_are_right ground window image first requests story now tells honest is.names (opened ground window image first.log is.names (is.room tells) one) served each (are_whole _ requests story is.servable each) whole;
-  causes = λ w a told fault. causes_at ground window first story now served w.stream w.number a told fault;
+  causes = λ w a told. cause_at ground window first story now served w.stream w.number a told;
+  faults = λ w a told fault. causes_at ground window first story now served w.stream w.number a told fault;
   stops = λ tells. stops_since ground window first story now tells served;
+  only_reads_then = λ newer older part is. only_reads_then ground window first older newer story now part is served;
   happened = λ tells. happened ground window first tells story now served;
   flushes = λ tells earlier base. are_flush_marks ground window first tells earlier made base requests story now served each whole;
   stops_right = λ tells image one is_window earlier base.

@@ -158,7 +158,7 @@ module _ (ground : Ground) (window : List Entry) (opened : Blocks) where
     at_rest is_window = record {
       unsettled = false;
       values = value_of image (entries_of window story);
-      shows = record { superblock = same_superblock; window = entries_of window story; is_window = is_window; values_are = refl };
+      shows = record { superblock = same_superblock; has_values = record { window = entries_of window story; is_window = is_window; values_are = refl } };
       are = λ a. rest_shows story log image a sound.room whole holds is;
     }
 
@@ -170,7 +170,7 @@ module _ (ground : Ground) (window : List Entry) (opened : Blocks) where
     shown_half half (inl is_window) = record {
       unsettled = true;
       values = value_of image (remap (entries_of window story) half.at half.x ∷ entries_of window story);
-      shows = record { superblock = same_superblock; window = remap (entries_of window story) half.at half.x ∷ entries_of window story; is_window = is_window; values_are = refl };
+      shows = record { superblock = same_superblock; has_values = record { window = remap (entries_of window story) half.at half.x ∷ entries_of window story; is_window = is_window; values_are = refl } };
       are = λ a. half_shows story log image a sound.room whole holds half is ∙ sym (half.handed (value_of opened window) a);
     }
 

@@ -15,11 +15,13 @@ use Rattle.disk_model.proofs.ImageLaws.{kept}
 use Rattle.disk_model.specs.Images.{IsImage}
 use Rattle.disk_model.specs.Log.{Blocks, Misses}
 use Rattle.disk_model.specs.Telling.{FailedInLog}
+use Rattle.disk_model.specs.Seen.{Seen}
+use Rattle.disk_model.proofs.SeenLaws.{log_same}
 use Rattle.image_layout.specs.Window.{IsMapped, mapping_of, value_of}
 use Rattle.stop_laws.specs.Journals.{HasEntry}
 use Rattle.stop_laws.proofs.JournalLaws.{begins, ends}
 use Rattle.serial_engine.specs.Blocks.{entries_of, entries_with, is_named, remap}
-use Rattle.serial_engine.specs.Served.{Ground, Seen, Serves, HasRoom, IsNextSlot, ReadGives, ReadFails, journal_bytes, next_sequence, stored}
+use Rattle.serial_engine.specs.Served.{Ground, Serves, HasRoom, IsNextSlot, ReadGives, ReadFails, journal_bytes, next_sequence, stored}
 use Rattle.serial_engine.specs.Story.{Served, Stored, NoRoom, DataLost, EntryLost, WriteStopped, Given, NotGiven, Flushed, FlushLost, FlushStopped, request_of, is_stopped}
 use Rattle.serial_engine.proofs.DataLaws.{Stands, HoldsData, data_kept, data_high, or_cases, stands}
 use Rattle.serial_engine.proofs.EntryKindLaws.{NamesInside, entry_mapped, has_entry}
@@ -135,9 +137,9 @@ module _ (ground : Ground) (window : List Entry) (opened : Blocks) (needs : Need
   read_stops : (older : List Served) (at : Lba) (bytes : List ℕ) (m : Mapping) (before now : Seen) → ReadGives ground m bytes before now → AreWhole older
       → Standing ground window opened older before.log → StepStops ground window opened (Given at bytes) older before.log now.log
   read_stops older at bytes Unmapped before now gives whole standing =
-      none (Given at bytes) older before.log now.log (gives.1 needs.tells) (on (Given at bytes) older before.log refl (λ h. h) (λ u o a. refl) (λ e. e)) standing
+      none (Given at bytes) older before.log now.log (log_same before now gives.1) (on (Given at bytes) older before.log refl (λ h. h) (λ u o a. refl) (λ e. e)) standing
   read_stops older at bytes Zero before now gives whole standing =
-      none (Given at bytes) older before.log now.log (gives.1 needs.tells) (on (Given at bytes) older before.log refl (λ h. h) (λ u o a. refl) (λ e. e)) standing
+      none (Given at bytes) older before.log now.log (log_same before now gives.1) (on (Given at bytes) older before.log refl (λ h. h) (λ u o a. refl) (λ e. e)) standing
   read_stops older at bytes (At x) before now gives whole standing =
       one (Given at bytes) older before.log now.log (Read x bytes true) (gives.0 needs.tells) (λ b. tt) whole
       (on (Given at bytes) older (Read x bytes true ∷ before.log) refl (λ h. h) (λ u o a. refl) (λ e. e)) standing
@@ -333,13 +335,13 @@ module _ (ground : Ground) (window : List Entry) (opened : Blocks) (needs : Need
   step_stops (Stored at block x) older before now write whole (go, room, slot, place, calls) standing =
       entry_done older before.log at block x (write at block refl) room go whole standing slot place now.log (calls needs.tells)
   step_stops (NoRoom at block) older before now write whole (go, used, same) standing =
-      none (NoRoom at block) older before.log now.log (same needs.tells) (on (NoRoom at block) older before.log refl (λ h. h) (λ u o a. refl) (λ e. e)) standing
+      none (NoRoom at block) older before.log now.log (log_same before now same) (on (NoRoom at block) older before.log refl (λ h. h) (λ u o a. refl) (λ e. e)) standing
   step_stops (DataLost at block x) older before now write whole (go, room, fails) standing =
       data_lost older before.log at block x (write at block refl) room go whole standing now.log _ (fails.1 needs.tells)
   step_stops (EntryLost at block x) older before now write whole (go, room, slot, place, fails) standing =
       entry_lost older before.log at block x (write at block refl) room go whole standing slot place now.log _ (fails.1 needs.tells)
   step_stops (WriteStopped at block) older before now write whole (off, same) standing =
-      none (WriteStopped at block) older before.log now.log (same needs.tells) (on (WriteStopped at block) older before.log refl (λ h. h) (λ u o a. refl) (λ e. e)) standing
+      none (WriteStopped at block) older before.log now.log (log_same before now same) (on (WriteStopped at block) older before.log refl (λ h. h) (λ u o a. refl) (λ e. e)) standing
   step_stops (Given at bytes) older before now write whole gives standing = read_stops older at bytes (mapping_of (entries_of window older) at.0) before now gives whole standing
   step_stops (NotGiven at) older before now write whole fails standing = read_lost older at (mapping_of (entries_of window older) at.0) before now fails whole standing
   step_stops Flushed older before now write whole (go, calls) standing =
@@ -347,4 +349,4 @@ module _ (ground : Ground) (window : List Entry) (opened : Blocks) (needs : Need
   step_stops FlushLost older before now write whole (go, fails) standing =
       failed FlushLost older before.log now.log (Flush false) _ (fails.1 needs.tells) (λ b. tt) whole (λ log. on FlushLost older log refl (λ h. h) (λ u o a. refl) (λ e. refl)) standing
   step_stops FlushStopped older before now write whole (off, same) standing =
-      none FlushStopped older before.log now.log (same needs.tells) (on FlushStopped older before.log refl (λ h. h) (λ u o a. refl) (λ e. e)) standing
+      none FlushStopped older before.log now.log (log_same before now same) (on FlushStopped older before.log refl (λ h. h) (λ u o a. refl) (λ e. e)) standing

@@ -3,13 +3,14 @@ use Rattle.std.proofs.Common.{ℕ, ◌≡◌, ◌+◌, ◌≤◌, ◌||◌, ◌+
 use Rattle.blk_base.specs.Regions.{needed_blocks}
 use Rattle.blk_base.specs.declared.journal_entry.Entry.{Entry}
 use Rattle.blk_base.specs.declared.request.Request.{Request}
+use Rattle.disk_model.specs.Seen.{Seen}
 use Rattle.vdo_model.specs.declared.report.DeskLine.{DeskLine}
 use Rattle.vdo_model.specs.declared.report.DeskLine.TheVariants.{Begin, Answer}
 use Rattle.vdo_model.specs.declared.report.FlushMark.{FlushMark}
 use Rattle.vdo_model.specs.declared.report.HistoryEntry.{HistoryEntry}
 use Rattle.serial_engine.specs.Blocks.{NamesData, entries_of, entries_with, is_named}
 use Rattle.serial_engine.specs.Keeping.{Keeping, ServesRequest, InSession, NamesBelow, window_kept}
-use Rattle.serial_engine.specs.Served.{Ground, Seen, Serves}
+use Rattle.serial_engine.specs.Served.{Ground, Serves}
 use Rattle.serial_engine.specs.Sessions.{IsSession}
 use Rattle.serial_engine.specs.Story.{request_of, reply_of, is_stop, name, entry_of}
 use Rattle.serial_engine.proofs.EntryLaws.{named_inside}

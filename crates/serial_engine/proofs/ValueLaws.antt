@@ -15,6 +15,7 @@ use Rattle.blk_base.specs.declared.request.Answer.TheVariants.{Bytes}
 use Rattle.disk_model.specs.declared.call.Call.{Call}
 use Rattle.disk_model.proofs.ImageLaws.{settled_are_contents, block_of_mix}
 use Rattle.disk_model.specs.Log.{Blocks, contents, settled}
+use Rattle.disk_model.specs.Seen.{Seen}
 use Rattle.vdo_model.specs.declared.report.HistoryEntry.{HistoryEntry}
 use Rattle.vdo_model.specs.declared.report.Placed.{Placed}
 use Rattle.vdo_model.specs.Histories.{history_of, is_settled}
@@ -23,7 +24,7 @@ use Rattle.vdo_model.specs.RightReads.{is_below, value_below, ReadsRight}
 use Rattle.vdo_model.specs.Scripts.{Script}
 use Rattle.image_layout.specs.Window.{mapping_of, value_of}
 use Rattle.serial_engine.specs.Blocks.{NamesData, entries_of}
-use Rattle.serial_engine.specs.Served.{Ground, Seen, AllServed, ReadGives}
+use Rattle.serial_engine.specs.Served.{Ground, AllServed, ReadGives}
 use Rattle.serial_engine.specs.Story.{Served, Stored, NoRoom, DataLost, EntryLost, WriteStopped, Given, NotGiven, Flushed, FlushLost, FlushStopped, request_of, reply_of, is_placed, name, desk_of, drawn_of, places_of, entry_of, marks_of, AreServed}
 use Rattle.serial_engine.proofs.DataLaws.{HoldsData, all_hold}
 use Rattle.serial_engine.proofs.DeskLaws.{answer_at}

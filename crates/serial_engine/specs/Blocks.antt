@@ -1,6 +1,6 @@
 -- The journal entries that were stored, and the blocks that they use. The newest entry stands first.
 use Rattle.std.specs.Prelude.{ℕ, ◌≡◌, ◌⊎◌, ◌*◌, ◌/◌, ◌%◌, ◌<◌, ◌≤◌, ◌==◌, Bool, true, false, ◌||◌, List, [], ◌∷◌, length}
-use Rattle.blk_base.specs.Regions.{DataBlock, JournalSlot, block_of, needed_blocks}
+use Rattle.blk_base.specs.Regions.{DataBlock, IsDataBlock, block_of, needed_blocks}
 use Rattle.blk_base.specs.declared.geometry.Geometry.{Geometry}
 use Rattle.blk_base.specs.declared.journal_entry.Entry.{Entry}
 use Rattle.blk_base.specs.declared.journal_entry.Entry.TheVariants.{Remap, NewPage}
@@ -8,7 +8,7 @@ use Rattle.blk_base.specs.declared.place.Lba.{Lba}
 use Rattle.blk_base.specs.declared.place.Mapping.{Mapping}
 use Rattle.blk_base.specs.declared.place.Mapping.TheVariants.{Unmapped, Zero, At}
 use Rattle.blk_base.specs.declared.place.Pbn.{Pbn}
-use Rattle.image_layout.specs.Window.{IsDataBlock, mapping_of}
+use Rattle.image_layout.specs.Window.{mapping_of}
 use Rattle.serial_engine.specs.Story.{Served, Stored, NoRoom, DataLost, EntryLost, WriteStopped, Given, NotGiven, Flushed, FlushLost, FlushStopped}
 
 -- whether a mapping has this block
@@ -55,10 +55,6 @@ data_blocks g = g.slabs * g.slab_blocks
 
 abbrev pub data_number : Geometry → ℕ → ℕ
 data_number g k = block_of g (DataBlock (k / g.slab_blocks) (k % g.slab_blocks))
-
--- the block of the journal for a sequence
-abbrev pub slot_number : Geometry → ℕ → ℕ
-slot_number g sequence = block_of g (JournalSlot (sequence % g.journal))
 
 -- the data block that the next write takes: the first that no entry names
 pub record IsNextBlock (g : Geometry) (entries : List Entry) (x : Pbn) : Type 0 where

@@ -3,6 +3,7 @@ use Rattle.std.specs.Prelude.{ℕ, ◌≡◌, ◌+◌, ◌<◌, ◌||◌, ◌++�
 use Rattle.blk_base.specs.declared.journal_entry.Entry.{Entry}
 use Rattle.blk_base.specs.declared.place.Lba.{Lba}
 use Rattle.blk_base.specs.declared.request.Request.{Request}
+use Rattle.disk_model.specs.Seen.{Seen, Later}
 use Rattle.vdo_model.specs.declared.report.DeskLine.{DeskLine}
 use Rattle.vdo_model.specs.declared.report.DeskLine.TheVariants.{Begin, Answer}
 use Rattle.vdo_model.specs.declared.report.FlushMark.{FlushMark}
@@ -12,7 +13,7 @@ use Rattle.serial_engine.specs.declared.write.Written.{Written}
 use Rattle.serial_engine.specs.declared.write.Written.TheVariants as written
 use Rattle.serial_engine.specs.Blocks.{entries_of, entries_with, is_named}
 use Rattle.serial_engine.specs.Moments.{calls_with, calls_made, mark_with, flush_marks_of}
-use Rattle.serial_engine.specs.Served.{Ground, Seen, AllServed, Serves, Later}
+use Rattle.serial_engine.specs.Served.{Ground, AllServed, Serves}
 use Rattle.serial_engine.specs.Story.{Served, Stored, NoRoom, DataLost, EntryLost, WriteStopped, request_of, reply_of, is_placed, is_stop, name, entry_of, desk_of, places_of, drawn_of, marks_of, is_stopped, AreServed}
 
 -- what a session keeps, each list with its newest item first

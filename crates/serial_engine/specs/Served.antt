@@ -1,5 +1,6 @@
 -- What serving a request does, and when each answer comes.
-use Rattle.std.specs.Prelude.{ℕ, ◌≡◌, ◌⊎◌, ◌+◌, ◌<◌, ◌≤◌, Bool, true, false, IsTrue, List, [], ◌∷◌, length}
+use Rattle.std.specs.Prelude.{ℕ, ◌≡◌, ◌⊎◌, ◌+◌, ◌<◌, Bool, true, false, IsTrue, List, [], ◌∷◌, length}
+use Rattle.blk_base.specs.Regions.{journal_block_of}
 use Rattle.blk_base.specs.Sectors.{zero_block}
 use Rattle.blk_base.specs.declared.geometry.Geometry.{Geometry}
 use Rattle.blk_base.specs.declared.journal_entry.Entry.{Entry}
@@ -11,20 +12,12 @@ use Rattle.disk_model.specs.declared.call.Call.TheVariants.{Read, Write, Flush}
 use Rattle.disk_model.specs.Causes.{Rose}
 use Rattle.disk_model.specs.Images.{IsMixOf}
 use Rattle.disk_model.specs.Log.{Blocks as Opening, settled}
+use Rattle.disk_model.specs.Seen.{Seen, Later}
 use Rattle.disk_model.specs.Telling.{FailedInLog}
 use Rattle.image_layout.specs.Window.{mapping_of}
 use Rattle.journal_codec.specs.Spelling.{block_bytes}
-use Rattle.serial_engine.specs.Blocks.{remap, entries_of, slot_number, IsNextBlock, IsUsedUp}
+use Rattle.serial_engine.specs.Blocks.{remap, entries_of, IsNextBlock, IsUsedUp}
 use Rattle.serial_engine.specs.Story.{Served, Stored, NoRoom, DataLost, EntryLost, WriteStopped, Given, NotGiven, Flushed, FlushLost, FlushStopped, is_stopped}
-
--- what contracts see of a device at a moment: its log, how often a call failed, and how often one wasn't kept in the log
-pub record Seen : Type 0 where
-  pub log : List Call
-  pub faults : ℕ
-  pub unkept : ℕ
-
-abbrev pub seen : List Call → ℕ → ℕ → Seen
-seen log faults unkept = record { log = log; faults = faults; unkept = unkept }
 
 -- What a session is served over: the sizes, the first sequence, the blocks that the device had when its log began, and
 -- whether it tells and is honest.
@@ -43,7 +36,7 @@ abbrev pub next_sequence : Ground → List Entry → ℕ
 next_sequence ground entries = ground.start + length entries
 
 abbrev pub IsNextSlot : Ground → List Entry → Pbn → Type 0
-IsNextSlot ground entries slot = slot.0 ≡ slot_number ground.geometry (next_sequence ground entries)
+IsNextSlot ground entries slot = slot.0 ≡ journal_block_of ground.geometry (next_sequence ground entries)
 
 abbrev pub journal_bytes : Ground → List Entry → Entry → List ℕ
 journal_bytes ground entries entry = block_bytes ground.geometry.nonce (next_sequence ground entries) ground.start (entry ∷ [])
@@ -64,10 +57,11 @@ StoreFails ground x block log before after =
     FailedInLog log after.log (Write x block false) (Rose before.unkept after.unkept)
     ⊎ FailedInLog (Write x block true ∷ log) after.log (Flush false) (Rose before.unkept after.unkept))
 
--- what a read of this mapping gives: zeros without a call, or what the device gave of the block
+-- what a read of this mapping gives: zeros without a call, which leaves the device as it was, or what the device gave of
+-- the block
 abbrev pub ReadGives : Ground → Mapping → List ℕ → Seen → Seen → Type 0
-ReadGives ground Unmapped bytes before after = (bytes ≡ zero_block) × (IsTrue ground.tells → after.log ≡ before.log)
-ReadGives ground Zero bytes before after = (bytes ≡ zero_block) × (IsTrue ground.tells → after.log ≡ before.log)
+ReadGives ground Unmapped bytes before after = (bytes ≡ zero_block) × (after ≡ before)
+ReadGives ground Zero bytes before after = (bytes ≡ zero_block) × (after ≡ before)
 ReadGives ground (At x) bytes before after =
     (IsTrue ground.tells → after.log ≡ Read x bytes true ∷ before.log)
     × (IsTrue ground.tells → IsTrue ground.honest → (length bytes ≡ 4096) × IsMixOf (settled ground.opening before.log x.0) bytes)
@@ -89,28 +83,23 @@ abbrev pub Serves : Ground → List Entry → Bool → Served → Seen → Seen 
 Serves ground entries stopped (Stored at block x) before after =
     (stopped ≡ false) × HasRoom ground entries x × (slot : Pbn) × IsNextSlot ground entries slot
     × (IsTrue ground.tells → after.log ≡ stored slot (journal_bytes ground entries (remap entries at x)) (stored x block before.log))
--- Full: exactly where all journal blocks or all data blocks are used
+-- Full: exactly where all journal blocks or all data blocks are used; no call is made
 Serves ground entries stopped (NoRoom at block) before after =
-    (stopped ≡ false) × IsUsedUp ground.geometry entries × (IsTrue ground.tells → after.log ≡ before.log)
--- Stopped: a write or flush of the device failed for it, or earlier
+    (stopped ≡ false) × IsUsedUp ground.geometry entries × (after ≡ before)
+-- Stopped: a write or flush of the device failed for it, or earlier, and then no call is made
 Serves ground entries stopped (DataLost at block x) before after =
     (stopped ≡ false) × HasRoom ground entries x × StoreFails ground x block before.log before after
 Serves ground entries stopped (EntryLost at block x) before after =
     (stopped ≡ false) × HasRoom ground entries x × (slot : Pbn) × IsNextSlot ground entries slot
     × StoreFails ground slot (journal_bytes ground entries (remap entries at x)) (stored x block before.log) before after
-Serves ground entries stopped (WriteStopped at block) before after = (stopped ≡ true) × (IsTrue ground.tells → after.log ≡ before.log)
+Serves ground entries stopped (WriteStopped at block) before after = (stopped ≡ true) × (after ≡ before)
 -- a read gives the block to which the stored entries map its address, also after a stop
 Serves ground entries stopped (Given at bytes) before after = ReadGives ground (mapping_of entries at.0) bytes before after
 Serves ground entries stopped (NotGiven at) before after = ReadFails ground (mapping_of entries at.0) before after
 -- a flush is one flush of the device
 Serves ground entries stopped Flushed before after = (stopped ≡ false) × (IsTrue ground.tells → after.log ≡ Flush true ∷ before.log)
 Serves ground entries stopped FlushLost before after = (stopped ≡ false) × Fails ground (Flush false) before after
-Serves ground entries stopped FlushStopped before after = (stopped ≡ true) × (IsTrue ground.tells → after.log ≡ before.log)
-
--- counts never fall
-pub record Later (before after : Seen) : Type 0 where
-  pub faults : before.faults ≤ after.faults
-  pub unkept : before.unkept ≤ after.unkept
+Serves ground entries stopped FlushStopped before after = (stopped ≡ true) × (after ≡ before)
 
 -- each request was served, from what the device was at first, and the entries of the window, the newest first
 abbrev pub AllServed : Ground → List Entry → Seen → List Served → Seen → Type 0

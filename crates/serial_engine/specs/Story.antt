@@ -12,6 +12,7 @@ use Rattle.vdo_model.specs.declared.report.DeskLine.TheVariants.{Begin, Answer}
 use Rattle.vdo_model.specs.declared.report.HistoryEntry.{HistoryEntry}
 use Rattle.vdo_model.specs.declared.report.Mark.TheVariants.{Settled, Unsettled, Refused}
 use Rattle.vdo_model.specs.declared.report.Placed.{Placed}
+use Rattle.vdo_model.specs.Histories.{Progress}
 use Rattle.vdo_model.specs.Scripts.{same_writer}
 
 -- How one request was served.
@@ -98,6 +99,11 @@ is_handed Flushed = false
 is_handed FlushLost = false
 is_handed FlushStopped = false
 
+-- whether the write's slot was set
+abbrev pub is_set : Served → Bool
+is_set (Stored at block x) = true
+is_set other = false
+
 -- the name of the request with this number in stream 0
 abbrev pub name : ℕ → Writer
 name n = record { stream = 0; number = n }
@@ -138,6 +144,15 @@ marks_of (s ∷ older) = entry_of s (name (length older)) ++ marks_of older
 abbrev pub handed_of : List Served → Writer → Bool
 handed_of [] w = false
 handed_of (s ∷ older) w = if same_writer (name (length older)) w then is_handed s else handed_of older w
+
+-- whether the slot of the request of this name was set
+abbrev pub set_of : List Served → Writer → Bool
+set_of [] w = false
+set_of (s ∷ older) w = if same_writer (name (length older)) w then is_set s else set_of older w
+
+-- how far each write has come
+abbrev pub progress_of : List Served → Progress
+progress_of story = record { is_set = set_of story; is_handed = handed_of story }
 
 -- whether the session was stopped
 abbrev pub is_stopped : List Served → Bool

@@ -3,12 +3,13 @@ ghost use Rattle.blk_base.specs.Regions.{needed_blocks};
 ghost use Rattle.blk_base.specs.declared.place.Lba.{Lba};
 ghost use Rattle.blk_base.specs.declared.request.Request.TheVariants.{Read};
 ghost use Rattle.blk_base.specs.declared.request.Writer.{Writer};
+ghost use Rattle.disk_model.specs.Seen.{Stays};
 ghost use Rattle.vdo_model.specs.Servable.{IsServable};
 ghost use Rattle.serial_engine.specs.Blocks.{entries_with};
 ghost use Rattle.serial_engine.specs.Keeping.{Served1, ServesRequest, NamesBelow, served_write};
 ghost use Rattle.serial_engine.specs.Kept.{kept, HasServed, SameGround};
 ghost use Rattle.serial_engine.specs.Moments.{calls_with};
-ghost use Rattle.serial_engine.specs.Served.{ground, seen};
+ghost use Rattle.serial_engine.specs.Served.{ground};
 ghost use Rattle.serial_engine.specs.Story.{reply_of, is_stop, entry_of};
 
 use crate::lists::add;
@@ -85,15 +86,14 @@ pub(crate) fn serve_write<D: Disk>(
     at: Lba,
     block: &Block,
 ) -> Option<Written>
-    requires size { needed_blocks session.old.layout.geometry ≤ D.size device.old }
+    requires size { needed_blocks session.old.layout.geometry ≤ (D.seen device.old).size }
     requires below { number < session.old.limit }
     requires count { HasServed number session.old }
-    ensures done { Served1 (ground session.old.layout.geometry session.old.start (D.opening device.old) D.tells D.honest) number (served_write result at block.now)
-        (kept session.old) (kept session.new) (seen (D.log device.old) (D.faults device.old) (D.unkept device.old)) (seen (D.log device.new) (D.faults device.new) (D.unkept device.new)) }
+    ensures done { Served1 (ground session.old.layout.geometry session.old.start (D.seen device.old).opening D.tells D.honest) number (served_write result at block.now)
+        (kept session.old) (kept session.new) (D.seen device.old) (D.seen device.new) }
     ensures count { HasServed (number + 1) session.new }
     ensures same { SameGround session.old session.new }
-    ensures size { D.size device.new ≡ D.size device.old }
-    ensures opening { D.opening device.new ≡ D.opening device.old }
+    ensures stays { Stays (D.seen device.old) (D.seen device.new) }
 {
     let request = Writer { stream: 0, number };
     add(&mut session.desk, DeskLine::Begin { request });
@@ -121,28 +121,20 @@ pub(crate) fn serve_write<D: Disk>(
 
 /// Serves a read, also after a stop.
 pub(crate) fn serve_read<D: Disk>(device: &mut D, session: &mut Session, number: u32, at: Lba)
-    requires named { NamesBelow (D.size device.old) (kept session.old).entries }
+    requires named { NamesBelow (D.seen device.old).size (kept session.old).entries }
     requires below { number < session.old.limit }
     requires count { HasServed number session.old }
-    ensures done { ServesRequest (ground session.old.layout.geometry session.old.start (D.opening device.old) D.tells D.honest) number (Read at)
-        (kept session.old) (kept session.new) (seen (D.log device.old) (D.faults device.old) (D.unkept device.old)) (seen (D.log device.new) (D.faults device.new) (D.unkept device.new)) }
+    ensures done { ServesRequest (ground session.old.layout.geometry session.old.start (D.seen device.old).opening D.tells D.honest) number (Read at)
+        (kept session.old) (kept session.new) (D.seen device.old) (D.seen device.new) }
     ensures count { HasServed (number + 1) session.new }
     ensures same { SameGround session.old session.new }
-    ensures size { D.size device.new ≡ D.size device.old }
-    ensures opening { D.opening device.new ≡ D.opening device.old }
+    ensures stays { Stays (D.seen device.old) (D.seen device.new) }
 {
     let request = Writer { stream: 0, number };
     add(&mut session.desk, DeskLine::Begin { request });
     draw_place(&mut session.places, request);
     let mut block = Block::zero();
-    let Ok(made) = read(
-        device,
-        &session.layout,
-        session.start,
-        &session.entries,
-        at,
-        &mut block,
-    ) else {
+    let Ok(made) = read(device, &session.entries, at, &mut block) else {
         let answer = Answer::ReadFault;
         add(&mut session.desk, DeskLine::Answer { request, answer });
         return;
@@ -156,12 +148,11 @@ pub(crate) fn serve_read<D: Disk>(device: &mut D, session: &mut Session, number:
 pub(crate) fn serve_flush<D: Disk>(device: &mut D, session: &mut Session, number: u32)
     requires below { number < session.old.limit }
     requires count { HasServed number session.old }
-    ensures done { ServesRequest (ground session.old.layout.geometry session.old.start (D.opening device.old) D.tells D.honest) number Request.Flush
-        (kept session.old) (kept session.new) (seen (D.log device.old) (D.faults device.old) (D.unkept device.old)) (seen (D.log device.new) (D.faults device.new) (D.unkept device.new)) }
+    ensures done { ServesRequest (ground session.old.layout.geometry session.old.start (D.seen device.old).opening D.tells D.honest) number Request.Flush
+        (kept session.old) (kept session.new) (D.seen device.old) (D.seen device.new) }
     ensures count { HasServed (number + 1) session.new }
     ensures same { SameGround session.old session.new }
-    ensures size { D.size device.new ≡ D.size device.old }
-    ensures opening { D.opening device.new ≡ D.opening device.old }
+    ensures stays { Stays (D.seen device.old) (D.seen device.new) }
 {
     let request = Writer { stream: 0, number };
     add(&mut session.desk, DeskLine::Begin { request });
@@ -186,16 +177,15 @@ pub(crate) fn serve_flush<D: Disk>(device: &mut D, session: &mut Session, number
 /// Serves the request with this number.
 pub(crate) fn serve<D: Disk>(device: &mut D, session: &mut Session, number: u32, request: &Request)
     requires servable { IsServable session.old.layout.geometry.logical request.now }
-    requires size { needed_blocks session.old.layout.geometry ≤ D.size device.old }
-    requires named { NamesBelow (D.size device.old) (kept session.old).entries }
+    requires size { needed_blocks session.old.layout.geometry ≤ (D.seen device.old).size }
+    requires named { NamesBelow (D.seen device.old).size (kept session.old).entries }
     requires below { number < session.old.limit }
     requires count { HasServed number session.old }
-    ensures done { ServesRequest (ground session.old.layout.geometry session.old.start (D.opening device.old) D.tells D.honest) number request.now
-        (kept session.old) (kept session.new) (seen (D.log device.old) (D.faults device.old) (D.unkept device.old)) (seen (D.log device.new) (D.faults device.new) (D.unkept device.new)) }
+    ensures done { ServesRequest (ground session.old.layout.geometry session.old.start (D.seen device.old).opening D.tells D.honest) number request.now
+        (kept session.old) (kept session.new) (D.seen device.old) (D.seen device.new) }
     ensures count { HasServed (number + 1) session.new }
     ensures same { SameGround session.old session.new }
-    ensures size { D.size device.new ≡ D.size device.old }
-    ensures opening { D.opening device.new ≡ D.opening device.old }
+    ensures stays { Stays (D.seen device.old) (D.seen device.new) }
 {
     match request {
         Request::Write { at, block, .. } => {

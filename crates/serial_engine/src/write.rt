@@ -1,8 +1,9 @@
 ghost use Rattle.std.specs.Prelude.{◌≡◌, ◌<◌, ◌≤◌, ◌^◌, [], ◌∷◌, false, Some, reverse, length};
 ghost use Rattle.blk_base.specs.Regions.{needed_blocks};
+ghost use Rattle.disk_model.specs.Seen.{Stays, Later};
 ghost use Rattle.journal_codec.specs.Spelling.{block_bytes};
 ghost use Rattle.serial_engine.specs.Keeping.{served_write};
-ghost use Rattle.serial_engine.specs.Served.{Serves, Later, ground, seen};
+ghost use Rattle.serial_engine.specs.Served.{Serves, ground};
 
 use crate::entries::next_block;
 use crate::store::store;
@@ -52,14 +53,13 @@ pub(crate) fn write<D: Disk>(
     at: Lba,
     block: &Block,
 ) -> Written
-    requires size { needed_blocks layout.now.geometry ≤ D.size device.old }
+    requires size { needed_blocks layout.now.geometry ≤ (D.seen device.old).size }
     requires few { length entries.now ≤ 2048 }
     requires start { start < 2 ^ 54 }
-    ensures serves { Serves (ground layout.now.geometry start (D.opening device.old) D.tells D.honest) (reverse entries.now) false (served_write (Some result) at block.now)
-        (seen (D.log device.old) (D.faults device.old) (D.unkept device.old)) (seen (D.log device.new) (D.faults device.new) (D.unkept device.new)) }
-    ensures later { Later (seen (D.log device.old) (D.faults device.old) (D.unkept device.old)) (seen (D.log device.new) (D.faults device.new) (D.unkept device.new)) }
-    ensures size { D.size device.new ≡ D.size device.old }
-    ensures opening { D.opening device.new ≡ D.opening device.old }
+    ensures serves { Serves (ground layout.now.geometry start (D.seen device.old).opening D.tells D.honest) (reverse entries.now) false (served_write (Some result) at block.now)
+        (D.seen device.old) (D.seen device.new) }
+    ensures later { Later (D.seen device.old) (D.seen device.new) }
+    ensures stays { Stays (D.seen device.old) (D.seen device.new) }
 {
     if entries.len() >= layout.geometry.journal as usize {
         return Written::NoRoom;

@@ -11,5 +11,4 @@ mod words;
 
 pub use answers::put_answers;
 pub use fault::{ReadScript, ScriptFault};
-pub use puts::put_number;
 pub use reading::read_script;

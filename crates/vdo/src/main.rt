@@ -9,18 +9,6 @@ use std::process::ExitCode;
 use std::{env, io};
 use vdo_cli::{StdSink, StdSource, Words, run};
 
-/// The sizes of the image.
-const GEOMETRY: Geometry = Geometry {
-    logical: 1000,
-    slabs: 1,
-    slab_blocks: 64,
-    journal: 8,
-    index: 16,
-    slab_journal: 4,
-    height: 2,
-    nonce: 1,
-};
-
 /// Why the program can't begin.
 enum Obstacle {
     /// A word isn't UTF-8.
@@ -56,8 +44,8 @@ fn words(rt: &HostRuntime) -> Result<Words, Obstacle> {
 
 /// A device with a fresh image.
 fn device(rt: &HostRuntime) -> Result<MemDisk, AllocError> {
-    let layout = Layout::of(&GEOMETRY);
-    let blocks = first_image(rt.alloc(), &GEOMETRY, &layout)?;
+    let layout = Layout::of(&Geometry::DEFAULT);
+    let blocks = first_image(rt.alloc(), &Geometry::DEFAULT, &layout)?;
     MemDisk::from_blocks(rt.alloc(), blocks)
 }
 

@@ -1,8 +1,7 @@
 -- A run ends by what its fault says.
-use Rattle.std.proofs.Common.{ℕ, Bool, List, Option, Some, None}
-use Rattle.disk_model.specs.Log.{Blocks}
-use Rattle.image_layout.specs.declared.fault.ImageFault.TheVariants as image
-use Rattle.serial_engine.specs.Served.{Seen}
+use Rattle.std.proofs.Common.{ℕ, ◌≡◌, Bool, List, Option, Some, None, Result, Ok, Err, IfErr}
+use Rattle.std.specs.Result.{IsErrAnd}
+use Rattle.disk_model.specs.Seen.{Seen}
 use Rattle.vdo_model.specs.declared.report.RunReport.{RunReport}
 use Rattle.vdo_cli.specs.declared.fault.Fault.{Fault}
 use Rattle.vdo_cli.specs.declared.fault.Fault.TheVariants as fault
@@ -34,13 +33,17 @@ not_begun_ends s words before after status report fault.Memory begun = begun
 not_begun_ends s words before after status report fault.Read begun = begun
 
 -- where the device couldn't be opened
-pub not_opened : (tells honest source_tells : Bool) (opening : Blocks) (before after : Seen) (left : List ℕ) (faults faults' : ℕ) (why : Fault)
-    → OpeningFails tells honest opening before after why → PlayFails tells honest source_tells opening before after left faults faults' why
-not_opened tells honest source_tells opening before after left faults faults' fault.Device fails = fails
-not_opened tells honest source_tells opening before after left faults faults' (fault.Image (image.Super says)) fails = fails
-not_opened tells honest source_tells opening before after left faults faults' (fault.Image (image.Window sequence)) fails = fails
-not_opened tells honest source_tells opening before after left faults faults' fault.Memory fails = tt
-not_opened tells honest source_tells opening before after left faults faults' fault.Usage fails = absurd fails
-not_opened tells honest source_tells opening before after left faults faults' (fault.Script script) fails = absurd fails
-not_opened tells honest source_tells opening before after left faults faults' fault.Read fails = absurd fails
-not_opened tells honest source_tells opening before after left faults faults' fault.Sink fails = absurd fails
+pub not_opened : (tells honest source_tells : Bool) (before after : Seen) (left : List ℕ) (faults faults' : ℕ) (why : Fault)
+    → OpeningFails tells honest before after why → PlayFails tells honest source_tells before after left faults faults' why
+not_opened tells honest source_tells before after left faults faults' fault.Device fails = fails
+not_opened tells honest source_tells before after left faults faults' (fault.Image why) fails = fails
+not_opened tells honest source_tells before after left faults faults' fault.Memory fails = tt
+not_opened tells honest source_tells before after left faults faults' fault.Usage fails = absurd fails
+not_opened tells honest source_tells before after left faults faults' (fault.Script script) fails = absurd fails
+not_opened tells honest source_tells before after left faults faults' fault.Read fails = absurd fails
+not_opened tells honest source_tells before after left faults faults' fault.Sink fails = absurd fails
+
+-- what holds of an error holds of it where it is passed on
+pub passed_on : {T E : Type 0} (result : Result T E) (P : E → Type 0) (why : E) → IsErrAnd result (λ e. e ≡ why) → P why → IfErr result P
+passed_on (Ok x) P why is holds = tt
+passed_on (Err e) P why is holds = rw is holds

@@ -3,4 +3,8 @@ pub mod OpeningLaws
 pub mod WindowLaws
 pub mod WorkedRows
 pub mod StopLaws
+pub mod OneLaws
+pub mod PlayPins
+pub mod RunPins
 pub mod EndingLaws
+pub mod OnwardLaws

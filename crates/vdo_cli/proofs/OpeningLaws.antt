@@ -1,115 +1,103 @@
 -- What reading the superblock and the recovery journal says of the image.
-use Rattle.std.proofs.Common.{ℕ, suc, ◌≡◌, ◌<◌, ◌+◌, ◌++◌, Bool, true, false, IsTrue, List, [], ◌∷◌, length, take, drop, append_assoc, length-drop, Result, Err, refl, sym, ◌∙◌, ap, inl, inr, arith}
-use Rattle.std.proofs.Math.Seq.{take-suc}
-use Rattle.std.proofs.lemmas.Grind.{get_or_after_one}
-use Rattle.blk_base.specs.Sectors.{zero_block}
+use Rattle.std.proofs.Common.{ℕ, suc, ◌≡◌, ◌≤◌, ◌++◌, Bool, IsTrue, List, [], ◌∷◌, length, take, drop, reverse, Result, Ok, Err, refl, sym, ◌∙◌, ap, subst, inl, inr, arith}
+use Rattle.std.proofs.lemmas.Grind.{reverse_onto}
+use Rattle.std.proofs.lemmas.List.{length-reverse, reverse-reverse}
 use Rattle.blk_base.specs.declared.geometry.Super.{Super}
-use Rattle.blk_base.specs.declared.place.Pbn.{Pbn}
-use Rattle.disk_model.specs.declared.call.Call.{Call}
-use Rattle.disk_model.specs.declared.call.Call.TheVariants.{Read, Write, Flush}
-use Rattle.disk_model.specs.Images.{IsMixOf, HasOneImage}
-use Rattle.disk_model.specs.Log.{Blocks, block_at, settled, contents}
-use Rattle.disk_model.specs.Telling.{FailedInLog}
-use Rattle.disk_model.proofs.ImageLaws.{block_of_mix, settled_are_contents}
-use Rattle.stop_laws.proofs.HistoryLaws.{successes_append}
-use Rattle.image_layout.specs.declared.fault.SuperFault.{SuperFault}
-use Rattle.image_layout.specs.declared.fault.SuperFault.TheVariants.{NotAnImage}
+use Rattle.blk_base.specs.declared.journal_entry.Entry.{Entry}
+use Rattle.disk_model.specs.Images.{HasOneImage}
+use Rattle.disk_model.specs.Log.{Blocks}
+use Rattle.disk_model.specs.Seen.{Seen}
+use Rattle.disk_model.specs.Since.{WereRead}
+use Rattle.disk_model.proofs.SinceLaws.{read_on, failed_on, front_of_image}
+use Rattle.image_layout.specs.Opened.{IsHead, super_of_image}
 use Rattle.image_layout.specs.Superblock.{super_of}
-use Rattle.serial_engine.specs.Served.{Seen}
-use Rattle.serial_engine.specs.Sessions.{SinceThen}
-use Rattle.vdo_cli.specs.Openings.{HasRead, OnlyReads, IsUntouched, super_of_image}
+use Rattle.image_layout.specs.Window.{IsWindow, IsFaulty, journal_of}
+use Rattle.image_layout.specs.declared.fault.SuperFault.{SuperFault}
+use Rattle.vdo_cli.specs.declared.fault.Fault.{Fault}
+use Rattle.vdo_cli.specs.declared.fault.Fault.TheVariants as fault
+use Rattle.vdo_cli.specs.Openings.{IsRead, IsOpened, HasNoImage, HasFaulty, JournalFails, OpeningFails}
 
--- the superblock of a device that has blocks
-of_first : (image : Blocks) (says : Result Super SuperFault) → 0 < length image → super_of (block_at image 0) (length image) ≡ says → super_of_image image ≡ says
-of_first [] says some is = absurd (omega arith)
-of_first (block ∷ blocks) says some is = is
+module _ (tells honest : Bool) (before middle now : Seen) (head : Super) (first : List ℕ) (is_head : IsHead before.size first head) (was : WereRead tells honest 0 before middle (first ∷ [])) where
+  -- the superblock and all of the journal
+  pub all_read : (journal : List (List ℕ)) → length journal ≡ head.geometry.journal → WereRead tells honest 1 middle now (reverse journal) → IsRead tells honest before now head journal
+  all_read journal count read = record {
+    first = first;
+    is_head = is_head;
+    count = count;
+    read = subst (WereRead tells honest 0 before now) (sym (reverse_onto journal first [])) (read_on tells honest 0 before middle now (first ∷ []) was (reverse journal) read);
+  }
 
--- a device without blocks has no superblock
-pub no_blocks : (opening : Blocks) (log : List Call) (image : Blocks) → length opening ≡ 0 → HasOneImage opening log image → super_of_image image ≡ Err NotAnImage
-no_blocks opening log [] none one = refl
-no_blocks opening log (block ∷ blocks) none one = absurd (omega (arith, one.size))
+  -- why it couldn't be read further
+  pub journal_fails : (why : Fault) → JournalFails tells honest head.geometry.journal middle now why → OpeningFails tells honest before now why
+  journal_fails fault.Device (blocks, few, failed) = record {
+    blocks = blocks ++ (first ∷ []);
+    begun = inr (
+      head,
+      first,
+      reverse blocks,
+      ap (λ (others : List (List ℕ)). others ++ (first ∷ [])) (sym (reverse-reverse blocks)) ∙ sym (reverse_onto (reverse blocks) first []),
+      is_head,
+      omega (arith, few, length-reverse blocks),
+    );
+    failed = failed_on tells honest 0 before middle now (first ∷ []) was blocks failed;
+  }
+  journal_fails fault.Memory fails = tt
+  journal_fails (fault.Image why) fails = absurd fails
+  journal_fails fault.Usage fails = absurd fails
+  journal_fails (fault.Script why) fails = absurd fails
+  journal_fails fault.Read fails = absurd fails
+  journal_fails fault.Sink fails = absurd fails
 
--- a block that was read is that of the one image
-pub read_block : (opening : Blocks) (log : List Call) (image : Blocks) (at : ℕ) (block : List ℕ) → at < length opening → length block ≡ 4096
-    → IsMixOf (settled opening log at) block → HasOneImage opening log image → block ≡ block_at image at
-read_block opening log image at block below whole mix one =
-    block_of_mix (settled opening log at) (block_at image at) block (one.whole at below) whole mix (settled_are_contents _ opening log at (one.only at below))
+-- What holds of the one image of an honest device where nothing is pending.
 
--- the superblock that was read is that of the one image
-pub first_says : (opening : Blocks) (log : List Call) (image : Blocks) (block : List ℕ) (size : ℕ) (says : Result Super SuperFault) → length opening ≡ size → 0 < size → length block ≡ 4096
-    → IsMixOf (settled opening log 0) block → super_of block size ≡ says → HasOneImage opening log image → super_of_image image ≡ says
-first_says opening log image block size says told some whole mix is one =
-    let same = read_block opening log image 0 block (omega arith) whole mix one in
-    let count : length image ≡ size = one.size ∙ told in
-    of_first image says (omega arith) (rw (← same, count) is)
+-- an image that begins with a block says what the block says
+of_first : (image : Blocks) (first : List ℕ) (others : Blocks) (size n : ℕ) (says : Result Super SuperFault) → first ∷ others ≡ take (suc n) image → length image ≡ size → super_of first size ≡ says
+    → super_of_image image ≡ says
+of_first [] first others size n says is count said = absurd cc
+of_first (block ∷ blocks) first others size n says is count said = let same : first ≡ block = cc in rw (count, ← same) said
 
--- the blocks of the journal, with one more
-pub one_more : (image blocks : Blocks) (slot : ℕ) (block : List ℕ) → 1 + slot < length image → take slot (drop 1 image) ≡ blocks → block ≡ block_at image (1 + slot)
-    → take (slot + 1) (drop 1 image) ≡ blocks ++ (block ∷ [])
-one_more image blocks slot block below is block_is =
-    let here = get_or_after_one image slot zero_block in
-    let inside : slot < length (drop 1 image) = omega (arith, length-drop 1 image) in
-    let next : slot + 1 ≡ suc slot = omega arith in
-    rw next (take-suc (drop 1 image) slot zero_block inside ∙ rw (here, is, block_is) refl)
+journal_behind : (image : Blocks) (first : List ℕ) (journal : Blocks) (n : ℕ) → first ∷ journal ≡ take (suc n) image → take n (drop 1 image) ≡ journal
+journal_behind [] first journal n is = absurd cc
+journal_behind (block ∷ blocks) first journal n is = cc
 
--- Reads change no image.
+module _ (tells honest : Bool) (before now : Seen) (image : Blocks) (told : IsTrue tells) (fair : IsTrue honest) (one : HasOneImage before.opening before.log image) where
+  -- the blocks that were read are its first ones
+  front_read : (blocks : List (List ℕ)) (n : ℕ) → WereRead tells honest 0 before now (reverse blocks) → length blocks ≡ n → n ≤ before.size → blocks ≡ take n image
+  front_read blocks n read count room =
+      let size = length-reverse blocks in
+      sym (reverse-reverse blocks) ∙ front_of_image tells honest before (reverse blocks) image told fair read.given (omega (arith, size, count, room, read.told told)) one
+      ∙ ap (λ (m : ℕ). take m image) (size ∙ count)
 
-reads_append : (calls older : List Call) → OnlyReads calls → OnlyReads older → OnlyReads (calls ++ older)
-reads_append [] older new old = old
-reads_append (Read at bytes ok ∷ calls) older new old = reads_append calls older new old
-reads_append (Write at bytes ok ∷ calls) older new old = absurd new
-reads_append (Flush ok ∷ calls) older new old = absurd new
+  size_is : (blocks : List (List ℕ)) → WereRead tells honest 0 before now blocks → length image ≡ before.size
+  size_is blocks read = one.size ∙ read.told told
 
-pub reads_on : (first middle now : List Call) → SinceThen OnlyReads first middle → SinceThen OnlyReads middle now → SinceThen OnlyReads first now
-reads_on first middle now (older, middle_is, old) (calls, now_is, new) =
-    (calls ++ older, now_is ∙ ap (λ (log : List Call). calls ++ log) middle_is ∙ sym (append_assoc calls older first), reads_append calls older new old)
+  module _ (head : Super) (journal : List (List ℕ)) (read : IsRead tells honest before now head journal) where
+    front_is : read.first ∷ journal ≡ take (suc head.geometry.journal) image
+    front_is = front_read (read.first ∷ journal) (suc head.geometry.journal) read.read (ap suc read.count) (omega (arith, read.is_head.room))
 
-same_contents : (opening : Blocks) (calls log : List Call) (b : ℕ) → OnlyReads calls → contents opening (calls ++ log) b ≡ contents opening log b
-same_contents opening [] log b reads = refl
-same_contents opening (Read at bytes ok ∷ calls) log b reads = same_contents opening calls log b reads
-same_contents opening (Write at bytes ok ∷ calls) log b reads = absurd reads
-same_contents opening (Flush ok ∷ calls) log b reads = absurd reads
+    -- the superblock that was read
+    pub says_head : super_of_image image ≡ Ok head
+    says_head = of_first image read.first journal before.size head.geometry.journal (Ok head) front_is (size_is _ read.read) read.is_head.says
 
-pub image_since : (opening : Blocks) (first now : List Call) (image : Blocks) → SinceThen OnlyReads first now → HasOneImage opening first image → HasOneImage opening now image
-image_since opening first now image (calls, is, reads) one = record {
-  size = one.size;
-  whole = one.whole;
-  only = λ b below. rw (is, same_contents opening calls first b reads) (one.only b below);
-}
+    -- the journal that was read
+    pub journal_is : journal_of head.geometry image ≡ journal
+    journal_is = journal_behind image read.first journal head.geometry.journal front_is
 
-pub untouched_yet : (tells : Bool) (seen : Seen) → IsUntouched tells seen seen
-untouched_yet tells seen = record {
-  reads = λ told. ([], refl, tt);
-  later = record { faults = omega arith; unkept = omega arith };
-}
+  pub opened_window : (head : Super) (window : List Entry) (opened : IsOpened tells honest before now head window) → IsWindow head.geometry head.start (journal_of head.geometry image) window
+  opened_window head window opened = subst (λ (journal : List (List ℕ)). IsWindow head.geometry head.start journal window) (sym (journal_is head opened.journal opened.read)) opened.is_window
 
-pub untouched_on : (tells : Bool) (first middle now : Seen) → IsUntouched tells first middle → IsUntouched tells middle now → IsUntouched tells first now
-untouched_on tells first middle now old new = record {
-  reads = λ told. reads_on first.log middle.log now.log (old.reads told) (new.reads told);
-  later = record { faults = omega (arith, old.later.faults, new.later.faults); unkept = omega (arith, old.later.unkept, new.later.unkept) };
-}
+  -- a fault of the superblock, and one of the window
+  pub says_none : (why : SuperFault) → HasNoImage tells honest before now why → super_of_image image ≡ Err why
+  says_none why (inl (none, read, is)) = empty image (omega (arith, size_is [] read, none))
+    where
+      empty : (blocks : Blocks) → length blocks ≡ 0 → super_of_image blocks ≡ Err why
+      empty [] count = ap Err (sym is)
+      empty (block ∷ blocks) count = absurd (omega arith)
+  says_none why (inr (first, some, read, says)) = of_first image first [] before.size 0 (Err why) (front_read (first ∷ []) 1 read refl some) (size_is _ read) says
 
-pub read_since : (old now : List Call) (at : Pbn) (bytes : List ℕ) (ok : Bool) → now ≡ Read at bytes ok ∷ old → SinceThen OnlyReads old now
-read_since old now at bytes ok is = (Read at bytes ok ∷ [], is, tt)
-
-pub failed_since : (old now : List Call) (at : Pbn) (bytes : List ℕ) (lost : Type 0) → FailedInLog old now (Read at bytes false) lost → SinceThen OnlyReads old now
-failed_since old now at bytes lost (inl is) = read_since old now at bytes false is
-failed_since old now at bytes lost (inr same) = ([], same.0, tt)
-
--- How many reads there were.
-
-pub no_read : (tells : Bool) (log : List Call) → HasRead tells 0 log log
-no_read tells log told = ([], refl, (tt, refl))
-
-pub one_read : (tells : Bool) (old now : List Call) (at : Pbn) (bytes : List ℕ) → (IsTrue tells → now ≡ Read at bytes true ∷ old) → HasRead tells 1 old now
-one_read tells old now at bytes is told = (Read at bytes true ∷ [], is told, (tt, refl))
-
-pub read_on : (tells : Bool) (m n : ℕ) (first middle now : List Call) → HasRead tells m first middle → HasRead tells n middle now → HasRead tells (m + n) first now
-read_on tells m n first middle now old new told =
-    let before = old told in
-    let after = new told in
-    let count = successes_append after.0 before.0 in (
-      after.0 ++ before.0,
-      after.1 ∙ ap (λ (log : List Call). after.0 ++ log) before.1 ∙ sym (append_assoc after.0 before.0 first),
-      (reads_append after.0 before.0 after.2.0 before.2.0, count ∙ omega (arith, before.2.1, after.2.1)),
-    )
+  pub faulty_window : (sequence : ℕ) → (faulty : HasFaulty tells honest before now sequence)
+      → (super_of_image image ≡ Ok faulty.head) × IsFaulty faulty.head.geometry faulty.head.start (journal_of faulty.head.geometry image) sequence
+  faulty_window sequence faulty = (
+    says_head faulty.head faulty.journal faulty.read,
+    subst (λ (journal : List (List ℕ)). IsFaulty faulty.head.geometry faulty.head.start journal sequence) (sym (journal_is faulty.head faulty.journal faulty.read)) faulty.faulty,
+  )

@@ -4,3 +4,4 @@ pub mod Stops
 pub mod Endings
 pub mod Texts
 pub mod Runs
+pub mod Onward

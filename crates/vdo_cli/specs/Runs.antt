@@ -1,8 +1,8 @@
 -- What a run promises, by how it ended.
 use Rattle.std.specs.Prelude.{ℕ, ◌≡◌, ◌≢◌, ◌⊎◌, ◌++◌, Bool, false, IsTrue, List, [], Option, Some, None, MatchBool}
 use Rattle.disk_model.specs.Causes.{Rose}
-use Rattle.disk_model.specs.Log.{Blocks}
-use Rattle.serial_engine.specs.Served.{Seen}
+use Rattle.disk_model.specs.Seen.{Seen}
+use Rattle.disk_model.specs.Since.{IsUntouched}
 use Rattle.stream_text.specs.Puts.{PutsPart}
 use Rattle.stream_text.specs.Texts.{answers_text}
 use Rattle.vdo_model.specs.declared.report.RunReport.{RunReport}
@@ -10,20 +10,18 @@ use Rattle.vdo_cli.specs.declared.fault.Fault.{Fault}
 use Rattle.vdo_cli.specs.declared.fault.Fault.TheVariants as fault
 use Rattle.vdo_cli.specs.Commands.{run_words}
 use Rattle.vdo_cli.specs.Endings.{Plays, PlayFails}
-use Rattle.vdo_cli.specs.Openings.{IsUntouched}
 use Rattle.vdo_cli.specs.Texts.{fault_text, fault_status, some_lost, desk_status}
 
--- What doesn't change in a run: what the device was when its log began, and which of the outside tell.
+-- Which of the outside tell, and whether the device is honest.
 pub record Setting : Type 0 where
-  pub opening : Blocks
   pub device_tells : Bool
   pub device_honest : Bool
   pub source_tells : Bool
   pub sink_tells : Bool
 
-abbrev pub setting : Blocks → Bool → Bool → Bool → Bool → Setting
-setting opening device_tells device_honest source_tells sink_tells =
-    record { opening = opening; device_tells = device_tells; device_honest = device_honest; source_tells = source_tells; sink_tells = sink_tells }
+abbrev pub setting : Bool → Bool → Bool → Bool → Setting
+setting device_tells device_honest source_tells sink_tells =
+    record { device_tells = device_tells; device_honest = device_honest; source_tells = source_tells; sink_tells = sink_tells }
 
 -- What contracts see of the outside at a moment: the device, the bytes that the source has left and those that the sink
 -- holds, and how often these two failed.
@@ -70,17 +68,17 @@ Closes tells report status (Some (fault.Image why)) held faults held' faults' = 
 Closes tells report status (Some fault.Memory) held faults held' faults' = ⊥
 Closes tells report status (Some fault.Read) held faults held' faults' = ⊥
 
--- no session was begun: the cause is the fault's, and nothing was written
+-- no session was begun: the cause is the fault's, and nothing was written since
 pub record NotBegun (s : Setting) (words : List (List ℕ)) (before after : Outside) (status : ℕ) (report : RunReport) (why : Fault) : Type 0 where
   pub words_are : words ≡ run_words
-  pub cause : PlayFails s.device_tells s.device_honest s.source_tells s.opening before.device after.device before.left before.source_faults after.source_faults why
+  pub cause : PlayFails s.device_tells s.device_honest s.source_tells before.device after.device before.left before.source_faults after.source_faults why
   pub untouched : IsUntouched s.device_tells before.device after.device
   pub refuses : Refuses s.sink_tells why status report before.held before.sink_faults after.held after.sink_faults
 
 -- a session was served to its end, and its answers were put
 pub record Served (s : Setting) (words : List (List ℕ)) (before after : Outside) (status : ℕ) (report : RunReport) (ended : Option Fault) : Type 0 where
   pub words_are : words ≡ run_words
-  pub session : Plays s.device_tells s.device_honest s.source_tells s.opening report before.device after.device before.left after.left
+  pub session : Plays s.device_tells s.device_honest s.source_tells report before.device after.device before.left after.left
   pub closes : Closes s.sink_tells report status ended before.held before.sink_faults after.held after.sink_faults
 
 -- the words are no command: nothing else was looked at

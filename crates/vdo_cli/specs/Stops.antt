@@ -5,19 +5,21 @@ use Rattle.blk_base.specs.declared.journal_entry.Entry.{Entry}
 use Rattle.disk_model.specs.declared.call.Call.{Call}
 use Rattle.disk_model.specs.Images.{HasOneImage}
 use Rattle.disk_model.specs.Log.{Blocks}
-use Rattle.image_layout.specs.Window.{IsWindow, journal_of, value_of}
+use Rattle.disk_model.specs.Seen.{Seen}
+use Rattle.disk_model.specs.Since.{OnlyReads}
+use Rattle.image_layout.specs.Opened.{HasValues, super_of_image}
+use Rattle.image_layout.specs.Window.{value_of}
 use Rattle.serial_engine.specs.Moments.{moments_of, device_moments}
-use Rattle.serial_engine.specs.Served.{Ground, Seen}
+use Rattle.serial_engine.specs.Served.{Ground}
 use Rattle.serial_engine.specs.Sessions.{IsSession}
 use Rattle.vdo_model.specs.declared.report.RunReport.{RunReport}
 use Rattle.vdo_model.specs.FlushMarks.{Moment, lines_of, calls_of, AreFlushMarks}
 use Rattle.vdo_model.specs.Stops.{RightAfterStops}
-use Rattle.vdo_cli.specs.Openings.{super_of_image, OnlyReads}
 
 -- an image can be opened with this superblock, and then its addresses have these values
-abbrev pub HasValues : Super → Blocks → (ℕ → List ℕ) → Type 0
-HasValues head image values =
-    (super_of_image image ≡ Ok head) × (window : List Entry) × IsWindow head.geometry head.start (journal_of head.geometry image) window × (values ≡ value_of image window)
+pub record OpensWith (head : Super) (image : Blocks) (values : ℕ → List ℕ) : Type 0 where
+  pub superblock : super_of_image image ≡ Ok head
+  pub has_values : HasValues head.geometry head.start image values
 
 -- What happened in a run over this ground: the superblock and the window were read, and then the session went on.
 pub record Happens (head : Super) (ground : Ground) (window : List Entry) (made : ℕ) (report : RunReport) (before opened after : Seen) (session : IsSession ground window made report opened after) : Type 0 where
@@ -33,4 +35,4 @@ pub record Happens (head : Super) (ground : Ground) (window : List Entry) (made 
   pub flushes : AreFlushMarks report.requests moments report.marks
   -- a stop before or within any of these calls leaves each address a value no older than its last flushed one
   pub stops : IsTrue ground.honest → (image : Blocks) → HasOneImage ground.opening before.log image
-      → RightAfterStops (HasValues head) ground.opening before.log head.geometry.logical (value_of image window) report (calls_of moments)
+      → RightAfterStops (OpensWith head) ground.opening before.log head.geometry.logical (value_of image window) report (calls_of moments)

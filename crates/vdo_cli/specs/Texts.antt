@@ -1,5 +1,6 @@
 -- The texts and the statuses of a run.
-use Rattle.std.specs.Prelude.{ℕ, ◌++◌, ◌||◌, Bool, true, false, List, [], ◌∷◌, codes, decimal, if◌then◌else◌}
+use Rattle.std.specs.List.{list_any}
+use Rattle.std.specs.Prelude.{ℕ, ◌++◌, Bool, true, false, List, [], codes, decimal, if◌then◌else◌}
 use Rattle.blk_base.specs.declared.request.Answer.{Answer as Reply}
 use Rattle.blk_base.specs.declared.request.Answer.TheVariants as reply
 use Rattle.image_layout.specs.declared.fault.ImageFault.TheVariants as image
@@ -70,16 +71,21 @@ is_full reply.Range = false
 is_full reply.NoSpace = false
 is_full reply.Damaged = false
 
+-- a line of the desk log that says so
+abbrev pub lost_line : DeskLine → Bool
+lost_line (Begin w) = false
+lost_line (Answer w a) = is_lost a
+
+abbrev pub full_line : DeskLine → Bool
+full_line (Begin w) = false
+full_line (Answer w a) = is_full a
+
 -- a request was answered so
 abbrev pub some_lost : List DeskLine → Bool
-some_lost [] = false
-some_lost (Begin w ∷ older) = some_lost older
-some_lost (Answer w a ∷ older) = is_lost a || some_lost older
+some_lost desk = list_any lost_line desk
 
 abbrev pub some_full : List DeskLine → Bool
-some_full [] = false
-some_full (Begin w ∷ older) = some_full older
-some_full (Answer w a ∷ older) = is_full a || some_full older
+some_full desk = list_any full_line desk
 
 -- the status of a session whose answers were all put
 abbrev pub desk_status : List DeskLine → ℕ

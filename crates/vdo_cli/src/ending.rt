@@ -1,7 +1,7 @@
 ghost use Rattle.std.specs.Prelude.{◌≡◌, ◌++◌, IsTrue, OnOk, OnErr, reverse};
 ghost use Rattle.disk_model.specs.Causes.{HasCause};
 ghost use Rattle.stream_text.specs.Puts.{PutsPart};
-ghost use Rattle.vdo_cli.specs.Texts.{fault_text, fault_status, super_fault_line, window_fault_line, script_fault_line, line_of, some_lost, some_full, desk_status};
+ghost use Rattle.vdo_cli.specs.Texts.{fault_text, fault_status, super_fault_line, window_fault_line, script_fault_line, line_of, lost_line, full_line, some_lost, some_full};
 
 use crate::Fault;
 use blk_base::Answer;
@@ -125,36 +125,42 @@ pub(crate) fn status_of(fault: &Fault) -> u8
     }
 }
 
+// Whether a line answers Stopped or a read fault.
+fn is_lost(line: &DeskLine) -> bool
+    ensures { result ≡ lost_line line.now }
+{
+    matches!(
+        line,
+        DeskLine::Answer {
+            answer: Answer::Stopped | Answer::ReadFault,
+            ..
+        }
+    )
+}
+
+// Whether a line answers Full.
+fn is_full(line: &DeskLine) -> bool
+    ensures { result ≡ full_line line.now }
+{
+    matches!(
+        line,
+        DeskLine::Answer {
+            answer: Answer::Full,
+            ..
+        }
+    )
+}
+
 /// Whether a request was answered Stopped or with a read fault.
 pub(crate) fn has_lost(desk: &[DeskLine]) -> bool
     ensures { result ≡ some_lost (reverse desk.now) }
 {
-    let mut found = false;
-    for line in desk {
-        if let DeskLine::Answer {
-            answer: Answer::Stopped | Answer::ReadFault,
-            ..
-        } = line
-        {
-            found = true;
-        }
-    }
-    found
+    desk.iter().any(|line| is_lost(line))
 }
 
 /// Whether a request was answered Full.
 pub(crate) fn has_full(desk: &[DeskLine]) -> bool
     ensures { result ≡ some_full (reverse desk.now) }
 {
-    let mut found = false;
-    for line in desk {
-        if let DeskLine::Answer {
-            answer: Answer::Full,
-            ..
-        } = line
-        {
-            found = true;
-        }
-    }
-    found
+    desk.iter().any(|line| is_full(line))
 }

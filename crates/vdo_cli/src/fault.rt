@@ -11,7 +11,7 @@ pub enum Fault {
     /// A line of the script is refused. Status 2.
     #[error("{0}")]
     Script(ScriptFault),
-    /// A call of the device failed before the script was read. Status 3.
+    /// A read of the device failed before the script was read. Status 3.
     #[error("device fault")]
     Device,
     /// The device has no image. Status 4.

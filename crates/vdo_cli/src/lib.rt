@@ -4,6 +4,7 @@
 mod adapters;
 mod ending;
 mod fault;
+mod laws;
 mod opening;
 mod playing;
 mod running;
@@ -12,5 +13,6 @@ mod words;
 pub use adapters::{StdSink, StdSource};
 pub use ending::put_fault;
 pub use fault::Fault;
+pub use laws::{reads_show_the_image, runs_go_on, what_was_read_is_one};
 pub use running::{Ended, run};
 pub use words::Words;

@@ -1,9 +1,8 @@
-ghost use Rattle.std.specs.Prelude.{◌≡◌, ◌<◌, ◌≤◌, ◌^◌, IfOk, IfErr, Ok, reverse, vec_len};
-ghost use Rattle.blk_base.specs.Limits.{IsGeometry};
+ghost use Rattle.std.specs.Prelude.{◌≡◌, ◌≤◌, ◌∷◌, [], ℕ, List, IfOk, IfErr, reverse, vec_len};
 ghost use Rattle.blk_base.specs.Regions.{needed_blocks};
-ghost use Rattle.serial_engine.specs.Blocks.{NamesData};
-ghost use Rattle.serial_engine.specs.Served.{seen};
-ghost use Rattle.vdo_cli.specs.Openings.{ImageSays, HasRead, HasJournal, HasWindow, OpeningFails, IsUntouched};
+ghost use Rattle.disk_model.specs.Since.{IsUntouched, WereRead};
+ghost use Rattle.image_layout.specs.Opened.{IsHead};
+ghost use Rattle.vdo_cli.specs.Openings.{IsOpened, OpeningFails, JournalFails};
 
 use crate::Fault;
 use blk_base::{Block, Entry, Layout, Pbn, Super};
@@ -11,27 +10,19 @@ use disk_model::Disk;
 use image_layout::{ImageFault, SuperFault, WindowFault, read_super, read_window};
 use std::alloc::Global;
 
-/// What a session starts with: the superblock, the entries of the window, the oldest first, and how many calls of the
-/// device that took.
+/// What a session starts with: the superblock, and the entries of the window, the oldest first.
 #[derive(Drop)]
 pub(crate) struct Opened {
     pub(crate) head: Super,
     pub(crate) window: Vec<Entry>,
-    /// How many blocks were read.
-    pub(crate) made: u64,
 }
 
 // Reads the superblock.
 fn read_head<D: Disk>(device: &mut D) -> Result<Super, Fault>
-    ensures head { IfOk result (λ head. ImageSays D.tells D.honest (D.opening device.old) (D.log device.old) (Ok head)) }
-    ensures sizes { IfOk result (λ head. IsGeometry head.geometry) }
-    ensures room { IfOk result (λ head. needed_blocks head.geometry ≤ D.size device.old) }
-    ensures start { IfOk result (λ head. (1 ≤ head.start) × (head.start < 2 ^ 54)) }
-    ensures made { IfOk result (λ head. HasRead D.tells 1 (D.log device.old) (D.log device.new)) }
-    ensures fault { IfErr result (OpeningFails D.tells D.honest (D.opening device.old) (seen (D.log device.old) (D.faults device.old) (D.unkept device.old)) (seen (D.log device.new) (D.faults device.new) (D.unkept device.new))) }
-    ensures untouched { IsUntouched D.tells (seen (D.log device.old) (D.faults device.old) (D.unkept device.old)) (seen (D.log device.new) (D.faults device.new) (D.unkept device.new)) }
-    ensures size { D.size device.new ≡ D.size device.old }
-    ensures opening { D.opening device.new ≡ D.opening device.old }
+    ensures read { IfOk result (λ head. (first : List ℕ) × IsHead (D.seen device.old).size first head
+        × WereRead D.tells D.honest 0 (D.seen device.old) (D.seen device.new) (first ∷ [])) }
+    ensures fault { IfErr result (OpeningFails D.tells D.honest (D.seen device.old) (D.seen device.new)) }
+    ensures untouched { IsUntouched D.tells (D.seen device.old) (D.seen device.new) }
 {
     let blocks = device.blocks();
     let is_empty = blocks == 0;
@@ -42,6 +33,7 @@ fn read_head<D: Disk>(device: &mut D) -> Result<Super, Fault>
     let Ok(()) = device.read(Pbn(0), &mut block) else {
         return Err(Fault::Device);
     };
+    // Looked at for the proof alone: a block has 4096 bytes.
     let _bytes = &block.bytes;
     match read_super(&block, blocks) {
         Ok(head) => Ok(head),
@@ -55,15 +47,13 @@ fn read_journal<D: Disk>(
     device: &mut D,
     layout: &Layout,
 ) -> Result<Vec<Block>, Fault>
-    requires room { needed_blocks layout.now.geometry ≤ D.size device.old }
+    requires room { needed_blocks layout.now.geometry ≤ (D.seen device.old).size }
     ensures count { IfOk result (λ journal. vec_len journal ≡ layout.now.geometry.journal) }
-    ensures made { IfOk result (λ journal. HasRead D.tells layout.now.geometry.journal (D.log device.old) (D.log device.new)) }
-    ensures journal { IfOk result (λ journal. HasJournal D.tells D.honest (D.opening device.old) (D.log device.old) layout.now.geometry journal.items) }
-    ensures fault { IfErr result (OpeningFails D.tells D.honest (D.opening device.old) (seen (D.log device.old) (D.faults device.old) (D.unkept device.old)) (seen (D.log device.new) (D.faults device.new) (D.unkept device.new))) }
-    ensures untouched { IsUntouched D.tells (seen (D.log device.old) (D.faults device.old) (D.unkept device.old)) (seen (D.log device.new) (D.faults device.new) (D.unkept device.new)) }
-    ensures size { D.size device.new ≡ D.size device.old }
-    ensures opening { D.opening device.new ≡ D.opening device.old }
+    ensures read { IfOk result (λ journal. WereRead D.tells D.honest 1 (D.seen device.old) (D.seen device.new) (reverse journal.items)) }
+    ensures fault { IfErr result (JournalFails D.tells D.honest layout.now.geometry.journal (D.seen device.old) (D.seen device.new)) }
+    ensures untouched { IsUntouched D.tells (D.seen device.old) (D.seen device.new) }
 {
+    // Asked for the proof alone: a device that tells has as many opening blocks.
     let _blocks = device.blocks();
     let mut journal = Vec::new(alloc);
     for slot in 0..u64::from(layout.geometry.journal) {
@@ -71,6 +61,7 @@ fn read_journal<D: Disk>(
         let Ok(()) = device.read(layout.journal_slot(slot), &mut block) else {
             return Err(Fault::Device);
         };
+        // For the proof alone, as above.
         let _bytes = &block.bytes;
         let Ok(()) = journal.push(block) else {
             return Err(Fault::Memory);
@@ -81,35 +72,16 @@ fn read_journal<D: Disk>(
 
 /// Reads the superblock and the window.
 pub(crate) fn open<D: Disk>(alloc: Global, device: &mut D) -> Result<Opened, Fault>
-    ensures head { IfOk result (λ opened. ImageSays D.tells D.honest (D.opening device.old) (D.log device.old) (Ok opened.head)) }
-    ensures window { IfOk result (λ opened. HasWindow D.tells D.honest (D.opening device.old) (D.log device.old) opened.head (reverse opened.window.items)) }
-    ensures sizes { IfOk result (λ opened. IsGeometry opened.head.geometry) }
-    ensures room { IfOk result (λ opened. needed_blocks opened.head.geometry ≤ D.size device.old) }
-    ensures start { IfOk result (λ opened. (1 ≤ opened.head.start) × (opened.head.start < 2 ^ 54)) }
-    ensures made { IfOk result (λ opened. HasRead D.tells opened.made (D.log device.old) (D.log device.new)) }
-    ensures few_made { IfOk result (λ opened. opened.made ≤ 2 ^ 32) }
+    ensures opened { IfOk result (λ opened. IsOpened D.tells D.honest (D.seen device.old) (D.seen device.new) opened.head (reverse opened.window.items)) }
     ensures few { IfOk result (λ opened. vec_len opened.window ≤ 1024) }
-    ensures names { IfOk result (λ opened. NamesData opened.head.geometry (reverse opened.window.items)) }
-    ensures fault { IfErr result (OpeningFails D.tells D.honest (D.opening device.old) (seen (D.log device.old) (D.faults device.old) (D.unkept device.old)) (seen (D.log device.new) (D.faults device.new) (D.unkept device.new))) }
-    ensures untouched { IsUntouched D.tells (seen (D.log device.old) (D.faults device.old) (D.unkept device.old)) (seen (D.log device.new) (D.faults device.new) (D.unkept device.new)) }
-    ensures size { D.size device.new ≡ D.size device.old }
-    ensures opening { D.opening device.new ≡ D.opening device.old }
+    ensures fault { IfErr result (OpeningFails D.tells D.honest (D.seen device.old) (D.seen device.new)) }
+    ensures untouched { IsUntouched D.tells (D.seen device.old) (D.seen device.new) }
 {
-    let head = match read_head(device) {
-        Ok(head) => head,
-        Err(fault) => return Err(fault),
-    };
+    let head = read_head(device)?;
     let layout = Layout::of(&head.geometry);
-    let journal = match read_journal(alloc, device, &layout) {
-        Ok(journal) => journal,
-        Err(fault) => return Err(fault),
-    };
+    let journal = read_journal(alloc, device, &layout)?;
     match read_window(alloc, journal.as_slice(), &head) {
-        Ok(window) => Ok(Opened {
-            head,
-            window,
-            made: 1 + u64::from(head.geometry.journal),
-        }),
+        Ok(window) => Ok(Opened { head, window }),
         Err(WindowFault::Faulty { sequence }) => {
             Err(Fault::Image(ImageFault::Window { sequence }))
         }

@@ -1,5 +1,4 @@
 ghost use Rattle.std.specs.Prelude.{◌≡◌, Some, None, IsTrue};
-ghost use Rattle.serial_engine.specs.Served.{seen};
 ghost use Rattle.vdo_cli.specs.Runs.{EndsSo, Closes, Refuses, no_report, outside, setting};
 
 use crate::ending::{has_full, has_lost, put_fault, status_of};
@@ -100,9 +99,9 @@ pub fn run<R: Threads + Wait + Sync, D: Disk + Send + Drop, S: Source, K: Sink, 
     out: &mut K,
     gate: &G,
 ) -> Ended<D>
-    ensures { EndsSo (setting (D.opening device) D.tells D.honest S.tells K.tells) words.now
-        (outside (seen (D.log device) (D.faults device) (D.unkept device)) (S.left script.old) (S.faults script.old) (K.holds out.old) (K.faults out.old))
-        (outside (seen (D.log result.device) (D.faults result.device) (D.unkept result.device)) (S.left script.new) (S.faults script.new) (K.holds out.new) (K.faults out.new))
+    ensures { EndsSo (setting D.tells D.honest S.tells K.tells) words.now
+        (outside (D.seen device) (S.left script.old) (S.faults script.old) (K.holds out.old) (K.faults out.old))
+        (outside (D.seen result.device) (S.left script.new) (S.faults script.new) (K.holds out.new) (K.faults out.new))
         result.status result.report result.fault }
 {
     let alloc = words.allocator();

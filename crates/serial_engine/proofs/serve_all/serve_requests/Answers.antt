@@ -60,8 +60,5 @@ returns-clause-session g c =
     } in
     rw (c.requires.one_stream, c.from_vec.ensures, c.from_vec-2.ensures, c.from_vec-3.ensures, c.from_vec-4.ensures) (ends _ _ _ _ _ (kept c.serve_each.new.session) _ ground_is served)
 
-pub returns-clause-size : goal.returns-clause-size
-returns-clause-size g c = c.serve_each.ensures.size
-
-pub returns-clause-opening : goal.returns-clause-opening
-returns-clause-opening g c = c.serve_each.ensures.opening
+pub returns-clause-stays : goal.returns-clause-stays
+returns-clause-stays g c = c.serve_each.ensures.stays

@@ -1,12 +1,13 @@
 use Rattle.std.proofs.Common.{refl, inl, inr, rules, arith}
 use Rattle.std.proofs.lemmas.List.{length-reverse}
+use Rattle.disk_model.proofs.SeenLaws.{stays_on}
 use Rattle.serial_engine.proofs.write.write.Goals as goal
 
 pub returns-then-entries-layout-clause-serves : goal.returns-then-entries-layout-clause-serves
-returns-then-entries-layout-clause-serves g c = (refl, inl (omega (arith, length-reverse c.args.entries.now)), λ tells. refl)
+returns-then-entries-layout-clause-serves g c = (refl, inl (omega (arith, length-reverse c.args.entries.now)), refl)
 
 pub returns-in-None-clause-serves : goal.returns-in-None-clause-serves
-returns-in-None-clause-serves g c = (refl, inr c.in-None.ensures.none, λ tells. refl)
+returns-in-None-clause-serves g c = (refl, inr c.in-None.ensures.none, refl)
 
 pub store-requires : goal.store-requires
 store-requires g c = omega (arith, c.in-Some.ensures.next.inside, c.requires.size)
@@ -25,7 +26,7 @@ pub overflow_add-sequence : goal.overflow_add-sequence
 overflow_add-sequence g c = omega (arith, c.requires.start, c.requires.few)
 
 pub store-stored-requires : goal.store-stored-requires
-store-stored-requires g c = omega (arith, c.journal_slot-slot.ensures.inside, c.requires.size, c.store.ensures.size)
+store-stored-requires g c = omega (arith, c.journal_slot-slot.ensures.inside, c.requires.size, c.store.ensures.stays.size)
 
 pub returns-in_default-stored-clause-serves : goal.returns-in_default-stored-clause-serves
 returns-in_default-stored-clause-serves g c =
@@ -59,5 +60,5 @@ returns-clause-later g c = record {
   unkept = omega (arith, c.store.ensures.unkept, c.store-stored.ensures.unkept);
 }
 
-pub returns-clause-size : goal.returns-clause-size
-returns-clause-size g c = omega (arith, c.store.ensures.size, c.store-stored.ensures.size)
+pub returns-clause-stays : goal.returns-clause-stays
+returns-clause-stays g c = stays_on _ _ _ c.store.ensures.stays c.store-stored.ensures.stays

@@ -1,73 +1,42 @@
-use Rattle.std.proofs.Common.{◌≡◌, ◌∙◌, length, ap, sym, arith, refl}
-use Rattle.vdo_cli.proofs.OpeningLaws.{no_blocks, first_says, one_read, read_since, failed_since, untouched_yet}
+use Rattle.std.proofs.Common.{[], ◌∷◌, length, refl, sym, ap, inr, arith}
+use Rattle.disk_model.proofs.SinceLaws.{one_read, one_failed, were_only_read, next_only_read}
 use Rattle.vdo_cli.proofs.opening.read_head.Goals as goal
 
--- where no superblock was read, the clauses of what was read say nothing
-pub returns-then-is_empty : goal.returns-then-is_empty
-returns-then-is_empty g c = record {
-  head = tt;
-  sizes = tt;
-  room = tt;
-  start = tt;
-  made = tt;
-  fault = λ tells honest image one. no_blocks _ _ image (omega (arith, c.blocks-blocks.ensures.told tells, c.blocks-blocks.ensures.size, c.if-is_empty.true)) one;
-  untouched = untouched_yet _ _;
-  size = refl;
-  opening = refl;
-}
+pub returns-in_default-clause-untouched : goal.returns-in_default-clause-untouched
+returns-in_default-clause-untouched g c =
+    next_only_read _ g.D.Disk.honest 0 _ _ [] (one_failed _ _ 0 _ _ _ c.read.new.into refl c.read.ensures.stays
+    (record { faults = c.read.ensures.cause.later; unkept = c.read.ensures.unkept }) c.in_default.ensures.cause.failed c.in_default.ensures.err)
 
-pub returns-in_default : goal.returns-in_default
-returns-in_default g c = record {
-  head = tt;
-  sizes = tt;
-  room = tt;
-  start = tt;
-  made = tt;
-  fault = c.in_default.ensures.cause.failed;
-  untouched = record {
-    reads = λ tells. failed_since _ _ _ _ _ (c.in_default.ensures.err tells);
-    later = record { faults = c.read.ensures.cause.later; unkept = c.read.ensures.unkept };
-  };
-  size = c.read.ensures.size;
-  opening = c.read.ensures.opening;
-}
-
-pub returns-in-Err : goal.returns-in-Err
-returns-in-Err g c = record {
-  head = tt;
-  sizes = tt;
-  room = tt;
-  start = tt;
-  made = tt;
-  fault = λ tells honest image one. let whole : length c.read.new.into ≡ 4096 = omega (arith, ap length c.block.view_is) in
-      first_says _ _ image c.read.new.into c.blocks-blocks.result _ (c.blocks-blocks.ensures.told tells ∙ sym c.blocks-blocks.ensures.size) (omega arith) whole (c.in-Ok.ensures.given tells honest) (sym c.in-Err.ensures.read) one;
-  untouched = record {
-    reads = λ tells. read_since _ _ _ _ _ (c.in-Ok.ensures.ok tells);
-    later = record { faults = c.read.ensures.cause.later; unkept = c.read.ensures.unkept };
-  };
-  size = c.read.ensures.size;
-  opening = c.read.ensures.opening;
-}
-
-pub returns-in-Ok-read_super-clause-head : goal.returns-in-Ok-read_super-clause-head
-returns-in-Ok-read_super-clause-head g c tells honest image one =
-    let whole : length c.read.new.into ≡ 4096 = omega (arith, ap length c.block.view_is) in
-    first_says _ _ image c.read.new.into c.blocks-blocks.result _ (c.blocks-blocks.ensures.told tells ∙ sym c.blocks-blocks.ensures.size) (omega arith) whole (c.in-Ok.ensures.given tells honest) (sym c.in-Ok-read_super.ensures.read) one
-
-pub returns-in-Ok-read_super-clause-made : goal.returns-in-Ok-read_super-clause-made
-returns-in-Ok-read_super-clause-made g c = one_read _ _ _ _ _ c.in-Ok.ensures.ok
+pub returns-in-Ok-read_super-clause-read : goal.returns-in-Ok-read_super-clause-read
+returns-in-Ok-read_super-clause-read g c =
+    let says = c.in-Ok-read_super.ensures in
+    let size = c.blocks-blocks.ensures.size in (
+      c.read.new.into,
+      record { says = rw size at (sym says.read); sizes = says.sizes; start = says.start; room = omega (arith, says.room, size) },
+      one_read _ _ 0 _ _ _ c.read.new.into refl (λ tells. c.blocks-blocks.ensures.told tells) c.read.ensures.stays
+          (record { faults = c.read.ensures.cause.later; unkept = c.read.ensures.unkept }) (omega (arith, ap length c.block.view_is))
+          c.in-Ok.ensures.given c.in-Ok.ensures.ok,
+    )
 
 pub returns-in-Ok-read_super-clause-untouched : goal.returns-in-Ok-read_super-clause-untouched
-returns-in-Ok-read_super-clause-untouched g c = record {
-  reads = λ tells. read_since _ _ _ _ _ (c.in-Ok.ensures.ok tells);
-  later = record { faults = c.read.ensures.cause.later; unkept = c.read.ensures.unkept };
-}
+returns-in-Ok-read_super-clause-untouched g c =
+    let read = returns-in-Ok-read_super-clause-read g c in were_only_read _ _ 0 _ _ _ read.2
 
-pub returns-in-Ok-read_super-clause-size : goal.returns-in-Ok-read_super-clause-size
-returns-in-Ok-read_super-clause-size g c = c.read.ensures.size
+pub returns-in-Err-clause-fault : goal.returns-in-Err-clause-fault
+returns-in-Err-clause-fault g c =
+    let size = c.blocks-blocks.ensures.size in
+    inr (
+      c.read.new.into,
+      omega (arith, size),
+      one_read _ _ 0 _ _ _ c.read.new.into refl (λ tells. c.blocks-blocks.ensures.told tells) c.read.ensures.stays
+          (record { faults = c.read.ensures.cause.later; unkept = c.read.ensures.unkept }) (omega (arith, ap length c.block.view_is))
+          c.in-Ok.ensures.given c.in-Ok.ensures.ok,
+      rw size at (sym c.in-Err.ensures.read),
+    )
 
-pub returns-in-Ok-read_super-clause-opening : goal.returns-in-Ok-read_super-clause-opening
-returns-in-Ok-read_super-clause-opening g c = c.read.ensures.opening
-
-pub returns-in-Ok-read_super-clause-fault : goal.returns-in-Ok-read_super-clause-fault
-returns-in-Ok-read_super-clause-fault g c = tt
+pub returns-in-Err-clause-untouched : goal.returns-in-Err-clause-untouched
+returns-in-Err-clause-untouched g c =
+    were_only_read _ g.D.Disk.honest 0 _ _ (c.read.new.into ∷ [])
+    (one_read _ _ 0 _ _ _ c.read.new.into refl (λ tells. c.blocks-blocks.ensures.told tells) c.read.ensures.stays
+    (record { faults = c.read.ensures.cause.later; unkept = c.read.ensures.unkept }) (omega (arith, ap length c.block.view_is))
+    c.in-Ok.ensures.given c.in-Ok.ensures.ok)

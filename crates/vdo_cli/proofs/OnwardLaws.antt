@@ -1,0 +1,51 @@
+-- A device goes on over runs.
+use Rattle.std.proofs.Common.{ℕ, ◌≡◌, ◌++◌, Bool, List, [], Option, Some, None, refl, sym, ◌∙◌, ap, append_assoc}
+use Rattle.disk_model.specs.declared.call.Call.{Call}
+use Rattle.disk_model.specs.Seen.{Seen}
+use Rattle.disk_model.specs.Since.{IsUntouched}
+use Rattle.disk_model.proofs.SeenLaws.{stays_on}
+use Rattle.vdo_model.specs.declared.report.RunReport.{RunReport}
+use Rattle.vdo_model.specs.FlushMarks.{calls_of}
+use Rattle.vdo_cli.specs.declared.fault.Fault.{Fault}
+use Rattle.vdo_cli.specs.declared.fault.Fault.TheVariants as fault
+use Rattle.vdo_cli.specs.Onward.{GoesOn}
+use Rattle.vdo_cli.specs.Runs.{Setting, Outside, NotBegun, Served, EndsSo}
+
+untouched : (tells : Bool) (before after : Seen) → IsUntouched tells before after → GoesOn tells before after
+untouched tells before after is = record { stays = is.stays; calls = λ told. let since = is.reads told in (since.0, since.1) }
+
+not_begun : (s : Setting) (words : List (List ℕ)) (before after : Outside) (status : ℕ) (report : RunReport) (why : Fault)
+    → NotBegun s words before after status report why → GoesOn s.device_tells before.device after.device
+not_begun s words before after status report why ends = untouched s.device_tells before.device after.device ends.untouched
+
+served : (s : Setting) (words : List (List ℕ)) (before after : Outside) (status : ℕ) (report : RunReport) (ended : Option Fault)
+    → Served s words before after status report ended → GoesOn s.device_tells before.device after.device
+served s words before after status report ended ends = record {
+  stays = ends.session.stays;
+  calls = λ told. let happens = ends.session.happens told in (calls_of happens.moments, happens.calls);
+}
+
+same_device : (tells : Bool) (before after : Seen) → after ≡ before → GoesOn tells before after
+same_device tells before after same = rw same (record { stays = record { opening = refl; size = refl }; calls = λ told. ([], refl) })
+
+-- over a run
+pub run_goes_on : (s : Setting) (words : List (List ℕ)) (before after : Outside) (status : ℕ) (report : RunReport) (why : Option Fault)
+    → EndsSo s words before after status report why → GoesOn s.device_tells before.device after.device
+run_goes_on s words before after status report None ends = served s words before after status report None ends
+run_goes_on s words before after status report (Some fault.Sink) ends = served s words before after status report (Some fault.Sink) ends
+run_goes_on s words before after status report (Some fault.Usage) ends = same_device s.device_tells before.device after.device ends.device
+run_goes_on s words before after status report (Some (fault.Script why)) ends = not_begun s words before after status report (fault.Script why) ends
+run_goes_on s words before after status report (Some fault.Device) ends = not_begun s words before after status report fault.Device ends
+run_goes_on s words before after status report (Some (fault.Image why)) ends = not_begun s words before after status report (fault.Image why) ends
+run_goes_on s words before after status report (Some fault.Memory) ends = not_begun s words before after status report fault.Memory ends
+run_goes_on s words before after status report (Some fault.Read) ends = not_begun s words before after status report fault.Read ends
+
+-- over one run and the next
+pub goes_on : (tells : Bool) (first middle last : Seen) → GoesOn tells first middle → GoesOn tells middle last → GoesOn tells first last
+goes_on tells first middle last old new = record {
+  stays = stays_on first middle last old.stays new.stays;
+  calls = λ told.
+      let older = old.calls told in
+      let newer = new.calls told in
+      (newer.0 ++ older.0, newer.1 ∙ ap (λ (log : List Call). newer.0 ++ log) older.1 ∙ sym (append_assoc newer.0 older.0 first.log));
+}

@@ -1,0 +1,12 @@
+use Rattle.vdo_cli.proofs.OneLaws.{opened_is_one, faulty_is_one, not_opened_and_faulty, not_read_and_refused, refusal_is_one}
+use Rattle.vdo_cli.proofs.laws.what_was_read_is_one.Goals as goal
+
+pub returns : goal.returns
+returns c = record {
+  opened = λ tells honest before now head other window another told. opened_is_one tells honest before now told head other window another;
+  refusals = λ tells honest before now why other told. refusal_is_one tells honest before now told why other;
+  faults = λ tells honest before now sequence other told. faulty_is_one tells honest before now told sequence other;
+  not_opened_and_refused = λ tells honest before now head window why told opened. not_read_and_refused tells honest before now told head opened.journal why opened.read;
+  not_faulty_and_refused = λ tells honest before now sequence why told faulty. not_read_and_refused tells honest before now told faulty.head faulty.journal why faulty.read;
+  not_opened_and_faulty = λ tells honest before now head window sequence told. not_opened_and_faulty tells honest before now told head window sequence;
+}
