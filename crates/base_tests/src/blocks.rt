@@ -1,10 +1,29 @@
-use crate::shared::DEFAULT;
-use blk_base::{Block, DataPlace, Geometry, Half, Layout, Pbn, Point, regions_are_apart};
+use blk_base::{Block, DataPlace, Geometry, Half, Layout, Pbn, Point};
 
-// These four have the table of the default image in docs/DESIGN.md.
+// The numbers of these tests were computed by tools/layout.py. Those of the default image are the table in docs/DESIGN.md.
+const DEFAULT_NEEDED: u32 = 154;
+
+// Sequences 0, 1, 7, 8 and 15.
+const DEFAULT_JOURNAL: [u32; 5] = [1, 2, 8, 1, 8];
+
+// The first and the last, here and below.
+const DEFAULT_ROOTS: [u32; 2] = [9, 68];
+
+const DEFAULT_INDEX: [u32; 2] = [69, 84];
+
+const DEFAULT_DATA: [u32; 2] = [85, 148];
+
+const DEFAULT_REFERENCES: u32 = 149;
+
+// Sequences 0, 3 and 4.
+const DEFAULT_SLAB_JOURNAL: [u32; 3] = [150, 153, 150];
+
+// With two slabs: how many blocks there are, and the first and the last data block of the second slab.
+const TWO_SLABS: [u32; 3] = [223, 154, 217];
+
 #[test]
 fn the_default_journal(rt: HostRuntime) {
-    let layout = Layout::of(&DEFAULT);
+    let layout = Layout::of(&Geometry::DEFAULT);
     let slots = [
         layout.journal_slot(0).0,
         layout.journal_slot(1).0,
@@ -12,16 +31,15 @@ fn the_default_journal(rt: HostRuntime) {
         layout.journal_slot(8).0,
         layout.journal_slot(15).0,
     ];
-    assert!(rt; layout.needed() == 154 && slots == [1, 2, 8, 1, 8]);
-    regions_are_apart();
+    assert_eq!(rt; (layout.needed(), slots), (DEFAULT_NEEDED, DEFAULT_JOURNAL));
 }
 
 #[test]
 fn the_default_roots_and_index(rt: HostRuntime) {
-    let layout = Layout::of(&DEFAULT);
+    let layout = Layout::of(&Geometry::DEFAULT);
     let roots = [layout.root(0).0, layout.root(59).0];
     let index = [layout.index_block(0).0, layout.index_block(15).0];
-    assert!(rt; [roots, index] == [[9, 68], [69, 84]]);
+    assert_eq!(rt; [roots, index], [DEFAULT_ROOTS, DEFAULT_INDEX]);
 }
 
 const FIRST: DataPlace = DataPlace { slab: 0, offset: 0 };
@@ -33,7 +51,7 @@ const LAST: DataPlace = DataPlace {
 
 #[test]
 fn the_default_data_blocks(rt: HostRuntime) {
-    let layout = Layout::of(&DEFAULT);
+    let layout = Layout::of(&Geometry::DEFAULT);
     let blocks = [layout.data_block(0, 0).0, layout.data_block(0, 63).0];
     let places = [layout.place(Pbn(85)), layout.place(Pbn(148))];
     let others = [
@@ -44,40 +62,48 @@ fn the_default_data_blocks(rt: HostRuntime) {
         layout.place(Pbn(153)),
         layout.place(Pbn(154)),
     ];
-    assert!(rt; blocks == [85, 148] && places == [Some(FIRST), Some(LAST)] && others == [None; 6]);
+    assert_eq!(rt;
+        (blocks, places, others),
+        (DEFAULT_DATA, [Some(FIRST), Some(LAST)], [None; 6])
+    );
 }
 
 #[test]
 fn the_default_slab(rt: HostRuntime) {
-    let layout = Layout::of(&DEFAULT);
-    let blocks = [
-        layout.reference_block(0, 0).0,
+    let layout = Layout::of(&Geometry::DEFAULT);
+    let references = layout.reference_block(0, 0).0;
+    let journal = [
         layout.slab_journal_slot(0, 0).0,
         layout.slab_journal_slot(0, 3).0,
         layout.slab_journal_slot(0, 4).0,
     ];
-    assert!(rt; blocks == [149, 150, 153, 150]);
+    assert_eq!(rt;
+        (references, journal),
+        (DEFAULT_REFERENCES, DEFAULT_SLAB_JOURNAL)
+    );
 }
 
 #[test]
 fn two_slabs(rt: HostRuntime) {
     let layout = Layout::of(&Geometry {
         slabs: 2,
-        ..DEFAULT
+        ..Geometry::DEFAULT
     });
     let last = DataPlace {
         slab: 1,
         offset: 63,
     };
-    assert!(rt;
-        [layout.needed(), layout.data_block(1, 0).0] == [223, 154]
-            && layout.place(Pbn(217)) == Some(last)
-    );
+    let blocks = [
+        layout.needed(),
+        layout.data_block(1, 0).0,
+        layout.data_block(1, 63).0,
+    ];
+    assert_eq!(rt; (blocks, layout.place(Pbn(217))), (TWO_SLABS, Some(last)));
 }
 
 #[test]
 fn a_point(rt: HostRuntime) {
-    assert!(rt; Point::of(3, 5, Half::Decrement).0 == 1547);
+    assert_eq!(rt; Point::of(3, 5, Half::Decrement).0, 1547);
 }
 
 #[test]
@@ -86,5 +112,6 @@ fn a_block_is_copied(rt: HostRuntime) {
     block.bytes[7] = 9;
     let mut copy = Block::zero();
     copy.copy_from(&block);
-    assert!(rt; copy.bytes[7] == 9);
+    let copied = copy.bytes[7];
+    assert_eq!(rt; copied, 9);
 }

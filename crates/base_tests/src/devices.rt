@@ -1,9 +1,10 @@
 ghost use Rattle.std.specs.Prelude.{◌≡◌, ◌<◌, IfOk, length};
 
+use crate::shared::first_other;
 use blk_base::{Block, Pbn, ZoneId};
 use disk_model::{
     Call, CallKind, Disk, Failed, FaultAt, MemDisk, MemSink, MemSource, OpenGate, Sink, Source,
-    ZoneGate, faults_of_a_plan, images_of_a_log,
+    ZoneGate,
 };
 use std::alloc::{AllocError, Global};
 use std::test::Fail;
@@ -57,8 +58,11 @@ fn first_byte(device: &mut MemDisk, at: u32) -> u8
     }
 }
 
-// Which of nine calls succeed on a device of two blocks with these faults, and the first byte of each block then.
-fn outcome(alloc: Global, faults: &[FaultAt]) -> Result<([bool; 9], [u8; 2]), AllocError> {
+// Which of nine calls succeed, and the first byte of each of two blocks then.
+type Outcome = ([bool; 9], [u8; 2]);
+
+// The outcome on a device of two blocks with these faults.
+fn outcome(alloc: Global, faults: &[FaultAt]) -> Result<Outcome, AllocError> {
     let faults = faults.to_vec(alloc)?;
     let mut device = MemDisk::zeroed(alloc, 2)?;
     device.set_faults(faults);
@@ -100,21 +104,20 @@ fn all_but(fails: usize) -> [bool; 9] {
     ok
 }
 
-// How many rows are right before the first that isn't.
-fn count_right(alloc: Global) -> Result<usize, AllocError> {
-    let mut count: usize = 0;
-    for &(first, second, fails, left) in &ROWS {
-        if outcome(alloc, &[fault(first), fault(second)])? != (all_but(fails), left) {
-            return Ok(count);
+// The number of the first row with another outcome, and that outcome.
+fn other_outcome(alloc: Global) -> Result<Option<(usize, Outcome)>, AllocError> {
+    for (row, &(first, second, fails, left)) in ROWS.iter().enumerate() {
+        let outcome = outcome(alloc, &[fault(first), fault(second)])?;
+        if outcome != (all_but(fails), left) {
+            return Ok(Some((row, outcome)));
         }
-        count = count.saturating_add(1);
     }
-    Ok(count)
+    Ok(None)
 }
 
 #[test]
 fn planned_faults(rt: HostRuntime) -> Result<(), Fail> {
-    assert!(rt; count_right(rt.alloc())? == 13);
+    assert_eq!(rt; other_outcome(rt.alloc())?, None);
     Ok(())
 }
 
@@ -122,7 +125,7 @@ fn planned_faults(rt: HostRuntime) -> Result<(), Fail> {
 fn two_faults(rt: HostRuntime) -> Result<(), Fail> {
     let faults = [fault((CallKind::Write, 0, 0, false)), fault(THIRD_WRITE)];
     let ok = [false, true, true, false, true, true, true, true, true];
-    assert!(rt; outcome(rt.alloc(), &faults)? == (ok, [2, 3]));
+    assert_eq!(rt; outcome(rt.alloc(), &faults)?, (ok, [2, 3]));
     Ok(())
 }
 
@@ -172,14 +175,8 @@ fn a_device(rt: HostRuntime) -> Result<(), Fail> {
     let done = call_three(&mut device);
     let calls = three_calls(device.calls());
     let wanted = [('r', 1, 6, true), ('w', 0, 7, true), ('f', 0, 0, true)];
-    images_of_a_log();
-    faults_of_a_plan();
-    assert!(rt;
-        size == 2
-            && done == ([Ok(()), Ok(()), Ok(())], 6)
-            && device.unkept() == 0
-            && calls == Some(wanted)
-    );
+    let told = (size, done, device.unkept(), calls);
+    assert_eq!(rt; told, (2, ([Ok(()), Ok(()), Ok(())], 6), 0, Some(wanted)));
     Ok(())
 }
 
@@ -199,7 +196,7 @@ fn take_four(source: &mut MemSource) -> ([Result<usize, Failed>; 4], [u8; 2]) {
 fn a_source(rt: HostRuntime) -> Result<(), Fail> {
     let mut source = MemSource::new(b"abc".to_vec(rt.alloc())?, Some(1));
     let taken = take_four(&mut source);
-    assert!(rt; taken == ([Ok(2), Err(Failed), Ok(1), Ok(0)], *b"cb"));
+    assert_eq!(rt; taken, ([Ok(2), Err(Failed), Ok(1), Ok(0)], *b"cb"));
     Ok(())
 }
 
@@ -217,6 +214,7 @@ fn a_sink(rt: HostRuntime) -> Result<(), Fail> {
     let mut sink = MemSink::new(rt.alloc(), 4)?;
     let put = put_three(&mut sink);
     OpenGate.before(ZoneId::Device, 0);
-    assert!(rt; put == [Ok(()), Err(Failed), Ok(())] && sink.bytes() == b"abcd".as_slice());
+    let kept = first_other(sink.bytes(), b"abcd".as_slice());
+    assert_eq!(rt; (put, kept), ([Ok(()), Err(Failed), Ok(())], None));
     Ok(())
 }

@@ -24,7 +24,7 @@ fn fields_side_by_side(rt: HostRuntime) {
     let mut out = [0xee; 24];
     put_numbers(&mut out);
     put_texts(&mut out);
-    assert!(rt; out == WRITTEN);
+    assert_eq!(rt; out, WRITTEN);
 }
 
 // Numbers at the start, at the end and across the fields.
@@ -47,5 +47,5 @@ fn fields_at_any_place(rt: HostRuntime) {
         0xeeee,
         0xee,
     ];
-    assert!(rt; read_numbers() == want);
+    assert_eq!(rt; read_numbers(), want);
 }

@@ -1,19 +1,20 @@
-use crate::shared::{DEFAULT, are_shown_as, with_byte};
+use crate::shared::{not_shown, with_byte};
 use blk_base::{Block, Entry, Geometry, Layout, Lba, Mapping, PageId, Pbn, Super};
 use image_layout::SuperFault::{BadField, NotAnImage, Version};
 use image_layout::{
     Field, ImageFault, SuperFault, WindowFault, first_image, mapping_at, read_super, read_window,
-    value_at, windows_are_one, write_super,
+    value_at, write_super,
 };
 use journal_codec::{Entries, JournalBlock, encode};
+use std::alloc::AllocError;
 
 const HEAD: Super = Super {
-    geometry: DEFAULT,
+    geometry: Geometry::DEFAULT,
     clean: false,
     start: 1,
 };
 
-// The first 64 bytes of a superblock with these sizes, written from the table of the format by another program.
+// The first 64 bytes of a superblock with these sizes, computed by tools/superblock.py.
 const DEFAULT_BYTES: [u8; 64] = [
     0x52, 0x56, 0x44, 0x4f, 0x53, 0x42, 0x30, 0x31, 0x01, 0x00, 0x00, 0x00, 0x02, 0x00, 0x00, 0x00,
     0x01, 0x00, 0x00, 0x00, 0x00, 0x00, 0x00, 0x00, 0xe8, 0x03, 0x00, 0x00, 0x01, 0x00, 0x00, 0x00,
@@ -100,72 +101,89 @@ fn spelled(head: &Super) -> Block {
     block
 }
 
-// Whether the block begins with these bytes, and the others are zeros.
-fn is_spelled(block: &Block, first: &[u8; 64]) -> bool {
-    block.bytes[..64] == first[..] && is_zero(&block.bytes[64..])
+// The first 64 bytes of a block, and whether the others are zeros.
+fn first_bytes(block: &Block) -> ([u8; 64], bool) {
+    let mut first = [0; 64];
+    first.copy_from_slice(&block.bytes[..64]);
+    (first, is_zero(&block.bytes[64..]))
 }
 
 #[test]
 fn written_bytes(rt: HostRuntime) {
-    assert!(rt; is_spelled(&spelled(&HEAD), &DEFAULT_BYTES));
-    assert!(rt; is_spelled(&spelled(&OTHER), &OTHER_BYTES));
+    let written = [first_bytes(&spelled(&HEAD)), first_bytes(&spelled(&OTHER))];
+    assert_eq!(rt; written, [(DEFAULT_BYTES, true), (OTHER_BYTES, true)]);
 }
 
-// Whether the head is read where the device has enough blocks, and not with one block less. The other sectors aren't
-// looked at.
-fn is_read_back(head: &Super, one_less: u32, enough: u32) -> bool {
+type Answer = Result<Super, SuperFault>;
+
+// What is read of the head where the device has one block less than it needs, and enough. The other sectors aren't looked
+// at.
+fn read_back(head: &Super, one_less: u32, enough: u32) -> [Answer; 3] {
     let block = spelled(head);
     let marked = with_byte(with_byte(spelled(head), 512, 1), 4095, 1);
-    let read = [
+    [
         read_super(&block, one_less),
         read_super(&block, enough),
         read_super(&marked, u32::MAX),
-    ];
-    read == [Err(BadField(Field::Blocks)), Ok(*head), Ok(*head)]
+    ]
 }
 
 #[test]
 fn what_is_written_is_read(rt: HostRuntime) {
-    assert!(rt; is_read_back(&HEAD, 153, 154));
-    assert!(rt; is_read_back(&OTHER, 66778, 66779));
+    let read = [read_back(&HEAD, 153, 154), read_back(&OTHER, 66778, 66779)];
+    let too_small = Err(BadField(Field::Blocks));
+    assert_eq!(rt;
+        read,
+        [
+            [too_small, Ok(HEAD), Ok(HEAD)],
+            [too_small, Ok(OTHER), Ok(OTHER)]
+        ]
+    );
 }
 
-fn is_refused(block: &Block, blocks: u32, fault: SuperFault) -> bool {
-    read_super(block, blocks) == Err(fault)
-}
-
-// Whether the default superblock with two bytes changed is refused with the first one's fault, with a block less too.
-fn is_first(one: &Row, other: &Row) -> bool {
+// What the default superblock with two bytes changed is answered with, with a block less and with enough.
+fn answers(one: &Row, other: &Row) -> [Answer; 2] {
     let block = with_byte(with_byte(default_block(), one.0, one.1), other.0, other.1);
-    is_refused(&block, 153, one.2) && is_refused(&block, 154, one.2)
+    [read_super(&block, 153), read_super(&block, 154)]
 }
 
-// Whether the first of these rows is named beside each of them.
-fn is_named(rows: &[Row]) -> bool {
+// The first row beside which the first of these isn't named, and the answers.
+fn unnamed_beside(rows: &[Row]) -> Option<(Row, [Answer; 2])> {
     let [one, ..] = rows else {
-        return false;
+        return None;
     };
     for other in rows {
-        if !is_first(one, other) {
-            return false;
+        let answers = answers(one, other);
+        if answers != [Err(one.2); 2] {
+            return Some((*other, answers));
         }
     }
-    true
+    None
 }
 
 #[test]
 fn the_first_fault_is_named(rt: HostRuntime) {
+    let mut unnamed = [None; 14];
     for first in 0..14_usize {
-        assert!(rt; is_named(&FIRST_ROWS[first..]), "row {first}");
+        unnamed[first] = unnamed_beside(&FIRST_ROWS[first..]);
     }
+    assert_eq!(rt; unnamed, [None; 14]);
+}
+
+// The fault with which the default superblock with another byte is refused.
+fn fault_of(at: usize, byte: u8) -> Option<SuperFault> {
+    read_super(&with_byte(default_block(), at, byte), 154).err()
 }
 
 #[test]
 fn more_faults_are_named(rt: HostRuntime) {
-    for &(at, byte, fault) in &MORE_ROWS {
-        let named = is_refused(&with_byte(default_block(), at, byte), 154, fault);
-        assert!(rt; named, "byte {at}");
+    let mut found = [(0, 0, None); 15];
+    let mut wanted = found;
+    for (i, &(at, byte, fault)) in MORE_ROWS.iter().enumerate() {
+        found[i] = (at, byte, fault_of(at, byte));
+        wanted[i] = (at, byte, Some(fault));
     }
+    assert_eq!(rt; found, wanted);
 }
 
 fn sized(height: u32, logical: u32) -> Super {
@@ -173,14 +191,16 @@ fn sized(height: u32, logical: u32) -> Super {
         geometry: Geometry {
             logical,
             height,
-            ..DEFAULT
+            ..Geometry::DEFAULT
         },
         ..HEAD
     }
 }
 
 // A height, a logical size, and whether it is accepted: the greatest of each height is.
-const LOGICAL_ROWS: [(u32, u32, bool); 8] = [
+type LogicalRow = (u32, u32, bool);
+
+const LOGICAL_ROWS: [LogicalRow; 8] = [
     (2, 0, false),
     (2, 1, true),
     (2, 39_560_640, true),
@@ -191,28 +211,23 @@ const LOGICAL_ROWS: [(u32, u32, bool); 8] = [
     (3, 4_000_000_001, false),
 ];
 
-fn is_sized(height: u32, logical: u32, accepted: bool) -> bool {
-    let head = sized(height, logical);
-    let want = if accepted {
-        Ok(head)
-    } else {
-        Err(BadField(Field::Logical))
-    };
-    read_super(&spelled(&head), 154) == want
-}
-
-fn are_sized(rows: &[(u32, u32, bool)]) -> bool {
-    for &(height, logical, accepted) in rows {
-        if !is_sized(height, logical, accepted) {
-            return false;
-        }
-    }
-    true
+fn answer_of(height: u32, logical: u32) -> Answer {
+    read_super(&spelled(&sized(height, logical)), 154)
 }
 
 #[test]
 fn logical_limits(rt: HostRuntime) {
-    assert!(rt; are_sized(&LOGICAL_ROWS));
+    let mut found = [Err(NotAnImage); 8];
+    let mut wanted = found;
+    for (i, &(height, logical, accepted)) in LOGICAL_ROWS.iter().enumerate() {
+        found[i] = answer_of(height, logical);
+        wanted[i] = if accepted {
+            Ok(sized(height, logical))
+        } else {
+            Err(BadField(Field::Logical))
+        };
+    }
+    assert_eq!(rt; found, wanted);
 }
 
 fn are_zeros(blocks: &[Block]) -> bool {
@@ -224,25 +239,26 @@ fn are_zeros(blocks: &[Block]) -> bool {
     true
 }
 
-fn is_first_image(image: &[Block]) -> bool {
+// How many blocks an image has, its first 64 bytes, and whether the others are zeros.
+fn told(image: &[Block]) -> (usize, [u8; 64], bool) {
     match image {
         [first, others @ ..] => {
-            others.len() == 153 && is_spelled(first, &DEFAULT_BYTES) && are_zeros(others)
+            let (bytes, zeros) = first_bytes(first);
+            (image.len(), bytes, zeros && are_zeros(others))
         }
-        [] => false,
+        [] => (0, [0; 64], false),
     }
 }
 
-fn first_image_is_right(rt: &HostRuntime) -> bool {
-    match first_image(rt.alloc(), &DEFAULT, &Layout::of(&DEFAULT)) {
-        Ok(image) => is_first_image(&image),
-        Err(_) => false,
-    }
+fn told_of_first_image(rt: &HostRuntime) -> Result<(usize, [u8; 64], bool), AllocError> {
+    let layout = Layout::of(&Geometry::DEFAULT);
+    let image = first_image(rt.alloc(), &Geometry::DEFAULT, &layout)?;
+    Ok(told(&image))
 }
 
 #[test]
 fn the_first_image(rt: HostRuntime) {
-    assert!(rt; first_image_is_right(&rt));
+    assert_eq!(rt; told_of_first_image(&rt), Ok((154, DEFAULT_BYTES, true)));
 }
 
 // The first sequence of the windows that are read here. The journal has 8 slots.
@@ -290,20 +306,30 @@ fn put_written(journal: &mut [Block; 8], sequence: u64, entry: Entry) {
     put_block(journal, (sequence % 8) as usize, &block);
 }
 
-fn read(rt: &HostRuntime, journal: &[Block; 8]) -> Result<Vec<Entry>, WindowFault> {
-    let head = Super {
-        geometry: DEFAULT,
-        clean: false,
-        start: START,
-    };
-    read_window(rt.alloc(), journal, &head)
+// How many entries a window has, and the first three.
+type Window = Result<(usize, [Option<Entry>; 3]), WindowFault>;
+
+const EMPTY: Window = Ok((0, [None; 3]));
+
+fn of_one(entry: Entry) -> Window {
+    Ok((1, [Some(entry), None, None]))
 }
 
-fn is_read_as(rt: &HostRuntime, journal: &[Block; 8], entries: &[Entry]) -> bool {
-    match read(rt, journal) {
-        Ok(found) => found.as_slice() == entries,
-        Err(_) => false,
-    }
+fn first_three(entries: &[Entry]) -> [Option<Entry>; 3] {
+    [
+        entries.first().copied(),
+        entries.get(1).copied(),
+        entries.get(2).copied(),
+    ]
+}
+
+fn read(rt: &HostRuntime, journal: &[Block; 8]) -> Window {
+    let head = Super {
+        start: START,
+        ..HEAD
+    };
+    let entries = read_window(rt.alloc(), journal, &head)?;
+    Ok((entries.len(), first_three(&entries)))
 }
 
 fn remap(at: u32, block: u32) -> Entry {
@@ -314,51 +340,59 @@ fn remap(at: u32, block: u32) -> Entry {
     }
 }
 
-// Whether these entries are read where a run left them.
-fn are_read_back(rt: &HostRuntime, entries: &[Entry]) -> bool {
+// What is read where a run left these entries.
+fn read_written(rt: &HostRuntime, entries: &[Entry]) -> Window {
     let mut journal = empty_journal();
     for (i, &entry) in entries.iter().enumerate() {
         put_written(&mut journal, START.wrapping_add(i as u64), entry);
     }
-    is_read_as(rt, &journal, entries)
+    read(rt, &journal)
 }
 
 // The data blocks are 85 to 148.
 #[test]
 fn windows(rt: HostRuntime) {
-    let entries = [remap(0, 85), remap(999, 148), remap(0, 86)];
-    assert!(rt; are_read_back(&rt, &[]));
-    assert!(rt; are_read_back(&rt, &entries[..1]));
-    assert!(rt; are_read_back(&rt, &entries[..2]));
-    assert!(rt; are_read_back(&rt, &entries));
-    windows_are_one();
+    let [first, second, third] = [remap(0, 85), remap(999, 148), remap(0, 86)];
+    let read = [
+        read_written(&rt, &[]),
+        read_written(&rt, &[first]),
+        read_written(&rt, &[first, second]),
+        read_written(&rt, &[first, second, third]),
+    ];
+    let of_two = Ok((2, [Some(first), Some(second), None]));
+    let of_three = Ok((3, [Some(first), Some(second), Some(third)]));
+    assert_eq!(rt; read, [EMPTY, of_one(first), of_two, of_three]);
 }
 
 // Slots and the sequences of their blocks: below the first one, out of reach, and in the slot of another.
 const PASSED_OVER: [(usize, u64); 4] = [(6, 6), (7, 7 + (1 << 32)), (2, 9), (1, 8)];
 
-// Whether the block of a sequence in this slot isn't looked at, with nothing else in the journal and with a block.
-fn is_passed_over(rt: &HostRuntime, slot: usize, sequence: u64) -> bool {
+// What is read where the block of a sequence stands in this slot, with nothing else in the journal and with a block.
+fn read_beside(rt: &HostRuntime, slot: usize, sequence: u64) -> [Window; 2] {
     let mut journal = empty_journal();
     put_block(&mut journal, slot, &journal_block(sequence, 1, &[]));
-    let alone = is_read_as(rt, &journal, &[]);
+    let alone = read(rt, &journal);
     put_written(&mut journal, 7, remap(3, 100));
-    alone && is_read_as(rt, &journal, &[remap(3, 100)])
+    [alone, read(rt, &journal)]
 }
 
 #[test]
 fn what_is_not_looked_at(rt: HostRuntime) {
-    for &(slot, sequence) in &PASSED_OVER {
-        assert!(rt; is_passed_over(&rt, slot, sequence), "sequence {sequence}");
+    let mut found = [[EMPTY; 2]; 4];
+    for (i, &(slot, sequence)) in PASSED_OVER.iter().enumerate() {
+        found[i] = read_beside(&rt, slot, sequence);
     }
+    assert_eq!(rt; found, [[EMPTY, of_one(remap(3, 100))]; 4]);
 }
 
-fn is_faulty(rt: &HostRuntime, journal: &[Block; 8], sequence: u64) -> bool {
-    read(rt, journal) == Err(WindowFault::Faulty { sequence })
+const fn faulty(sequence: u64) -> Window {
+    Err(WindowFault::Faulty { sequence })
 }
 
 // The head and the entry of a block, and whether it is a fault.
-fn window_rows() -> [(u64, Entry, bool); 10] {
+type WindowRow = (u64, Entry, bool);
+
+fn window_rows() -> [WindowRow; 10] {
     let one = remap(3, 100);
     let page = PageId {
         tree: 0,
@@ -398,46 +432,58 @@ fn window_rows() -> [(u64, Entry, bool); 10] {
     ]
 }
 
-// Whether a block is a fault between those of sequences 7 and 9.
-fn is_fault(rt: &HostRuntime, block: &Block) -> bool {
+// What is read where a block stands between those of sequences 7 and 9.
+fn read_between(rt: &HostRuntime, block: &Block) -> Window {
     let mut journal = empty_journal();
     put_written(&mut journal, 7, remap(3, 100));
     put_block(&mut journal, 0, block);
     put_written(&mut journal, 9, remap(3, 100));
-    is_faulty(rt, &journal, 8)
+    read(rt, &journal)
 }
 
 // The same of the block with this head and these entries.
-fn is_fault_with(rt: &HostRuntime, head: u64, entries: &[Entry]) -> bool {
-    is_fault(rt, &journal_block(8, head, entries))
+fn read_with(rt: &HostRuntime, head: u64, entries: &[Entry]) -> Window {
+    read_between(rt, &journal_block(8, head, entries))
 }
 
 #[test]
 fn blocks_of_a_window(rt: HostRuntime) {
-    for &(head, entry, faulty) in &window_rows() {
-        assert!(rt; is_fault_with(&rt, head, &[entry]) == faulty, "head {head}");
+    let one = remap(3, 100);
+    let mut found = [EMPTY; 10];
+    let mut wanted = found;
+    for (i, &(head, entry, is_fault)) in window_rows().iter().enumerate() {
+        found[i] = read_with(&rt, head, &[entry]);
+        wanted[i] = if is_fault {
+            faulty(8)
+        } else {
+            Ok((3, [Some(one), Some(entry), Some(one)]))
+        };
     }
+    assert_eq!(rt; found, wanted);
 }
 
-// Whether the last sequence in reach is a fault where it stands alone.
-fn is_fault_alone(rt: &HostRuntime) -> bool {
+// What is read where the last sequence in reach stands alone.
+fn read_last_alone(rt: &HostRuntime) -> Window {
     let mut journal = empty_journal();
     put_written(&mut journal, 6 + (1 << 32), remap(3, 100));
-    is_faulty(rt, &journal, 7)
+    read(rt, &journal)
 }
 
-fn is_fault_without_block(rt: &HostRuntime) -> bool {
-    is_fault(rt, &Block::zero())
+fn read_without_block(rt: &HostRuntime) -> Window {
+    read_between(rt, &Block::zero())
 }
 
 // A hole, no entry, two, and a last block that stands alone.
 #[test]
 fn faulty_windows(rt: HostRuntime) {
     let one = remap(3, 100);
-    assert!(rt; is_fault_without_block(&rt));
-    assert!(rt; is_fault_with(&rt, START, &[]));
-    assert!(rt; is_fault_with(&rt, START, &[one, one]));
-    assert!(rt; is_fault_alone(&rt));
+    let read = [
+        read_without_block(&rt),
+        read_with(&rt, START, &[]),
+        read_with(&rt, START, &[one, one]),
+        read_last_alone(&rt),
+    ];
+    assert_eq!(rt; read, [faulty(8), faulty(8), faulty(8), faulty(7)]);
 }
 
 fn some_entries() -> [Entry; 4] {
@@ -454,10 +500,6 @@ fn mappings_at(entries: &[Entry]) -> [Mapping; 4] {
     ]
 }
 
-fn are_mapped_to(entries: &[Entry], want: [Mapping; 4]) -> bool {
-    mappings_at(entries) == want
-}
-
 #[test]
 fn mappings(rt: HostRuntime) {
     let entries = some_entries();
@@ -465,24 +507,24 @@ fn mappings(rt: HostRuntime) {
     let two = Mapping::At(Pbn(2));
     let nine = Mapping::At(Pbn(9));
     let none = Mapping::Unmapped;
-    assert!(rt; are_mapped_to(&entries, [two, two, nine, none]));
-    assert!(rt; are_mapped_to(&entries[..1], [one, none, none, none]));
+    let mapped = [mappings_at(&entries), mappings_at(&entries[..1])];
+    assert_eq!(rt; mapped, [[two, two, nine, none], [one, none, none, none]]);
 }
 
-// Whether the value at an address is all of this byte, with such blocks 1 and 2.
-fn is_value(at: u32, byte: u8) -> bool {
+// The first byte of the value at an address, and whether the others are the same, with such blocks 1 and 2.
+fn value(at: u32) -> (u8, bool) {
     let mut image = empty_journal();
     put_block(&mut image, 1, &Block { bytes: [11; 4096] });
     put_block(&mut image, 2, &Block { bytes: [22; 4096] });
-    value_at(&image, &some_entries(), Lba(at)).bytes == [byte; 4096]
+    let value = value_at(&image, &some_entries(), Lba(at));
+    let first = value.bytes[0];
+    (first, value.bytes == [first; 4096])
 }
 
 #[test]
 fn values(rt: HostRuntime) {
-    assert!(rt; is_value(3, 22));
-    assert!(rt; is_value(4, 22));
-    assert!(rt; is_value(5, 0));
-    assert!(rt; is_value(6, 0));
+    let found = [value(3), value(4), value(5), value(6)];
+    assert_eq!(rt; found, [(22, true), (22, true), (0, true), (0, true)]);
 }
 
 const FIELD_NAMES: [(Field, &str); 12] = [
@@ -500,20 +542,21 @@ const FIELD_NAMES: [(Field, &str); 12] = [
     (Field::Blocks, "blocks"),
 ];
 
-fn are_named(rows: &[(Field, &str)]) -> bool {
+// The first field with another name, and that name.
+fn other_name(rows: &[(Field, &str)]) -> Option<(Field, &'static str)> {
     for &(field, name) in rows {
         if field.name() != name {
-            return false;
+            return Some((field, field.name()));
         }
     }
-    true
+    None
 }
 
 // The names are those of `field_name`.
 #[test]
 fn names_of_fields(rt: HostRuntime) {
-    assert!(rt; are_named(&FIELD_NAMES));
-    assert!(rt; are_shown_as(&rt, &FIELD_NAMES));
+    assert_eq!(rt; other_name(&FIELD_NAMES), None);
+    assert_eq!(rt; not_shown(&rt, &FIELD_NAMES), None);
 }
 
 const SUPER_TEXTS: [(SuperFault, &str); 3] = [
@@ -532,6 +575,6 @@ const IMAGE_TEXTS: [(ImageFault, &str); 4] = [
 // The texts are those of `super_fault_text` and `image_fault_text`.
 #[test]
 fn texts_of_faults(rt: HostRuntime) {
-    assert!(rt; are_shown_as(&rt, &SUPER_TEXTS));
-    assert!(rt; are_shown_as(&rt, &IMAGE_TEXTS));
+    assert_eq!(rt; not_shown(&rt, &SUPER_TEXTS), None);
+    assert_eq!(rt; not_shown(&rt, &IMAGE_TEXTS), None);
 }

@@ -1,11 +1,8 @@
-use crate::shared::{is_spelled, with_added};
+use crate::shared::{Spelling, difference, with_added};
 use blk_base::{Block, Entry, Lba, Mapping, PageId, Pbn};
-use journal_codec::{
-    Entries, JournalBlock, a_run_is_its_sectors, a_torn_write_leaves_a_prefix, block_prefix,
-    bytes_have_one_reading, encode, sector, what_is_written_is_read,
-};
+use journal_codec::{Entries, JournalBlock, block_prefix, encode, sector};
 
-// The bytes of these tests were computed from the tables of `journal_codec` by a program of another language.
+// The spellings of these tests were computed by tools/journal.py.
 const NONCE: u64 = 0x1122_3344_5566_7788;
 
 fn spelled(nonce: u64, sequence: u64, head: u64, entries: Entries<192>) -> Block {
@@ -68,21 +65,23 @@ fn with_sector_1(mut block: Block, other: &Block) -> Block {
     block
 }
 
-// Parts of a block of one entry.
-const ONE_ENTRY_PARTS: [(usize, &[u8]); 3] = [
-    (
-        0,
-        b"\x88\x77\x66\x55\x44\x33\x22\x11\x0b\x06\0\0\0\0\0\0\x04\x06\0\0\0\0\0\0\0\0\x01\0VJS1",
-    ),
-    (
-        32,
-        b"\0\0\0\0\x05\0\0\0\0\0\0\0\0\x01\x56\0\0\0\0\0\0\0\0\0",
-    ),
-    (
-        3584,
-        b"\x88\x77\x66\x55\x44\x33\x22\x11\x0b\x06\0\0\0\0\0\0\x04\x06\0\0\0\0\0\0\x07\0\0\0VJS1\0\0\0\0",
-    ),
-];
+const ONE_ENTRY: Spelling = Spelling {
+    weight: 13_513_336,
+    parts: &[
+        (
+            0,
+            b"\x88\x77\x66\x55\x44\x33\x22\x11\x0b\x06\0\0\0\0\0\0\x04\x06\0\0\0\0\0\0\0\0\x01\0VJS1",
+        ),
+        (
+            32,
+            b"\0\0\0\0\x05\0\0\0\0\0\0\0\0\x01\x56\0\0\0\0\0\0\0\0\0",
+        ),
+        (
+            3584,
+            b"\x88\x77\x66\x55\x44\x33\x22\x11\x0b\x06\0\0\0\0\0\0\x04\x06\0\0\0\0\0\0\x07\0\0\0VJS1\0\0\0\0",
+        ),
+    ],
+};
 
 fn one_entry() -> Entries<192> {
     let mut entries = Entries::new();
@@ -97,50 +96,55 @@ fn one_entry() -> Entries<192> {
 #[test]
 fn a_block_of_one_entry(rt: HostRuntime) {
     let block = spelled(NONCE, 1547, 1540, one_entry());
-    assert!(rt; is_spelled(&block, 13_513_336, &ONE_ENTRY_PARTS));
+    assert_eq!(rt; difference(&block, &ONE_ENTRY), None);
 }
 
-// Parts of the block of 30 entries.
-const THIRTY_ENTRY_PARTS: [(usize, &[u8]); 5] = [
-    (
-        24,
-        b"\0\0\x18\0VJS1\0\0\0\0\xe8\x03\0\0\x01\x55\0\0\0\0\0\0\0\0",
-    ),
-    (
-        492,
-        b"\0\0\0\0\xff\x03\0\0\x01\0\0\0\0\x01\x43\x01\0\0\0\0\x88\x77\x66\x55\x44\x33",
-    ),
-    (
-        536,
-        b"\x01\0\x06\0VJS1\0\0\0\0\0\x04\0\0\x01\x6d\0\0\0\0\0\0\0\0",
-    ),
-    (
-        644,
-        b"\0\0\0\0\x05\x04\0\0\x01\0\0\0\0\x01\x49\x01\0\0\0\0\0\0\0\0\0\0",
-    ),
-    (1048, b"\x02\0\0\0VJS1\0\0\0\0\0\0\0\0\0\0\0\0\0\0\0\0\0\0"),
-];
+const THIRTY_ENTRIES: Spelling = Spelling {
+    weight: 16_224_433,
+    parts: &[
+        (
+            24,
+            b"\0\0\x18\0VJS1\0\0\0\0\xe8\x03\0\0\x01\x55\0\0\0\0\0\0\0\0",
+        ),
+        (
+            492,
+            b"\0\0\0\0\xff\x03\0\0\x01\0\0\0\0\x01\x43\x01\0\0\0\0\x88\x77\x66\x55\x44\x33",
+        ),
+        (
+            536,
+            b"\x01\0\x06\0VJS1\0\0\0\0\0\x04\0\0\x01\x6d\0\0\0\0\0\0\0\0",
+        ),
+        (
+            644,
+            b"\0\0\0\0\x05\x04\0\0\x01\0\0\0\0\x01\x49\x01\0\0\0\0\0\0\0\0\0\0",
+        ),
+        (1048, b"\x02\0\0\0VJS1\0\0\0\0\0\0\0\0\0\0\0\0\0\0\0\0\0\0"),
+    ],
+};
 
 #[test]
 fn a_block_of_thirty_entries(rt: HostRuntime) {
-    assert!(rt; is_spelled(&first(30), 16_224_433, &THIRTY_ENTRY_PARTS));
+    assert_eq!(rt; difference(&first(30), &THIRTY_ENTRIES), None);
 }
 
-// Parts of a block with the greatest numbers: its head, the entry of a new page, and another entry.
-const GREATEST_PARTS: [(usize, &[u8]); 3] = [
-    (
-        0,
-        b"\x01\0\0\0\0\0\0\0\xff\xff\xff\xff\xff\xff\x7f\0\x01\0\0\0\0\0\0\0\0\0\x02\0VJS1",
-    ),
-    (
-        32,
-        b"\x01\x3b\x02\0\x0d\x0c\x0b\x0a\0\0\0\0\0\x01\x04\x03\x02\x01\0\0",
-    ),
-    (
-        52,
-        b"\0\0\0\0\xff\xff\xff\xff\x01\xff\xff\xff\xff\x01\0\0\0\0\0\0",
-    ),
-];
+// The head, the entry of a new page, and another entry.
+const GREATEST_NUMBERS: Spelling = Spelling {
+    weight: 28_397_922,
+    parts: &[
+        (
+            0,
+            b"\x01\0\0\0\0\0\0\0\xff\xff\xff\xff\xff\xff\x7f\0\x01\0\0\0\0\0\0\0\0\0\x02\0VJS1",
+        ),
+        (
+            32,
+            b"\x01\x3b\x02\0\x0d\x0c\x0b\x0a\0\0\0\0\0\x01\x04\x03\x02\x01\0\0",
+        ),
+        (
+            52,
+            b"\0\0\0\0\xff\xff\xff\xff\x01\xff\xff\xff\xff\x01\0\0\0\0\0\0",
+        ),
+    ],
+};
 
 fn greatest_entries() -> Entries<192> {
     let mut entries = Entries::new();
@@ -163,21 +167,31 @@ fn greatest_entries() -> Entries<192> {
 #[test]
 fn a_new_page_and_the_greatest_numbers(rt: HostRuntime) {
     let block = spelled(1, 0x7f_ffff_ffff_ffff, 1, greatest_entries());
-    assert!(rt; is_spelled(&block, 28_397_922, &GREATEST_PARTS));
+    assert_eq!(rt; difference(&block, &GREATEST_NUMBERS), None);
 }
 
-fn has_prefix(block: &Block, count: u32, whole: bool) -> bool {
-    match block_prefix(block, NONCE) {
-        Some(prefix) => {
-            prefix.entries.as_slice() == first_entries(count).as_slice() && prefix.whole == whole
+// How many of the entries, from the first on, are those of the block of 30.
+fn count_alike(entries: &[Entry]) -> u32 {
+    let mut count = 0;
+    for &entry in entries {
+        if entry != remap(count) {
+            return count;
         }
-        None => false,
+        count = count.wrapping_add(1);
     }
+    count
 }
 
-// Whether the block of so many entries is read back whole.
-fn is_whole(count: u32) -> bool {
-    has_prefix(&first(count), count, true)
+// How many entries a block's prefix has, how many of them are those of the block of 30, and whether it is whole.
+type Prefix = Option<(usize, u32, bool)>;
+
+fn prefix_of(block: &Block) -> Prefix {
+    let prefix = block_prefix(block, NONCE)?;
+    Some((
+        prefix.entries.len(),
+        count_alike(prefix.entries.as_slice()),
+        prefix.whole,
+    ))
 }
 
 // The sequence and the head of the block of 30 entries, as they are read.
@@ -188,60 +202,63 @@ fn numbers_read(nonce: u64) -> Option<(u64, u64)> {
     }
 }
 
-fn numbers_are_read() -> bool {
-    numbers_read(NONCE) == Some((1547, 1547)) && numbers_read(NONCE - 1).is_none()
-}
-
 #[test]
 fn a_whole_block_is_read_back(rt: HostRuntime) {
-    assert!(rt; numbers_are_read());
-    assert!(rt; is_whole(30));
-    assert!(rt; is_whole(192));
-    bytes_have_one_reading();
-    what_is_written_is_read();
-    a_run_is_its_sectors();
-    a_torn_write_leaves_a_prefix();
+    let numbers = [numbers_read(NONCE), numbers_read(NONCE - 1)];
+    let prefixes = [prefix_of(&first(30)), prefix_of(&first(192))];
+    let whole = [Some((30, 30, true)), Some((192, 192, true))];
+    assert_eq!(rt; (numbers, prefixes), ([Some((1547, 1547)), None], whole));
 }
 
-// Whether 24 entries are read where sector 0 of the block of 30 alone reached the device over another block.
-fn is_torn_over(old: &Block) -> bool {
+// The prefix where sector 0 of the block of 30 alone reached the device over another block.
+fn prefix_over(old: &Block) -> Prefix {
     let mut block = first(30);
     block.bytes[512..].copy_from_slice(&old.bytes[512..]);
-    has_prefix(&block, 24, false)
+    prefix_of(&block)
+}
+
+fn older() -> Block {
+    spelled(NONCE, 1539, 1531, first_entries(192))
 }
 
 #[test]
 fn only_sector_0_reached_the_device(rt: HostRuntime) {
-    let older = spelled(NONCE, 1539, 1531, first_entries(192));
-    assert!(rt; is_torn_over(&Block::zero()));
-    assert!(rt; is_torn_over(&older));
+    let prefixes = [prefix_over(&Block::zero()), prefix_over(&older())];
+    assert_eq!(rt; prefixes, [Some((24, 24, false)); 2]);
 }
 
-// Whether the block has a sector 1 that isn't the prefix's, which has so many entries.
-fn ends_before_sector_1(block: &Block, count: u32) -> bool {
-    sector(block, 1, NONCE).is_some() && has_prefix(block, count, false)
+// Whether the block has a sector 1, and its prefix.
+fn sector_1_and_prefix(block: &Block) -> (bool, Prefix) {
+    (sector(block, 1, NONCE).is_some(), prefix_of(block))
 }
 
-// A sector with entries behind one that isn't full isn't the prefix's.
-fn ends_at_six() -> bool {
-    ends_before_sector_1(&with_sector_1(first(6), &first(30)), 6)
+// A sector with entries behind one that isn't full.
+fn of_six() -> Block {
+    with_sector_1(first(6), &first(30))
 }
 
-// Nor is one with another head.
-fn ends_at_another_head() -> bool {
+// A sector with another head.
+fn of_another_head() -> Block {
     let other = spelled(NONCE, 1547, 1546, first_entries(30));
-    ends_before_sector_1(&with_sector_1(first(30), &other), 24)
+    with_sector_1(first(30), &other)
 }
 
+// Neither of these sectors is the prefix's.
 #[test]
 fn a_prefix_ends(rt: HostRuntime) {
-    assert!(rt; ends_at_six());
-    assert!(rt; ends_at_another_head());
+    let found = [
+        sector_1_and_prefix(&of_six()),
+        sector_1_and_prefix(&of_another_head()),
+    ];
+    let wanted = [(true, Some((6, 6, false))), (true, Some((24, 24, false)))];
+    assert_eq!(rt; found, wanted);
 }
 
 // A byte of sector 1, what is added to it, and whether the sector is still valid. The sector has the six entries from 24
 // on; its first entry has an old block and no new one.
-const FIELD_ROWS: [(usize, u8, bool); 26] = [
+type FieldRow = (usize, u8, bool);
+
+const FIELD_ROWS: [FieldRow; 26] = [
     (0, 1, false), // nonce
     (7, 1, false), // nonce
     (8, 1, true), // sequence 1548
@@ -275,25 +292,31 @@ fn is_valid_with(at: usize, add: u8) -> bool {
     sector(&block, 1, NONCE).is_some()
 }
 
-fn is_each_valid(rows: &[(usize, u8, bool)]) -> bool {
-    for &(at, add, valid) in rows {
-        if is_valid_with(at, add) != valid {
-            return false;
-        }
+// The rows with what is found of their sectors.
+fn looked_at(mut rows: [FieldRow; 26]) -> [FieldRow; 26] {
+    for (at, add, valid) in rows.iter_mut() {
+        *valid = is_valid_with(*at, *add);
     }
-    true
-}
-
-// Whether there is no sector behind the block, and none of sequence 0.
-fn others_are_none() -> bool {
-    let of_sequence_0 = spelled(NONCE, 0, 0, Entries::new());
-    sector(&first(30), 8, NONCE).is_none() && sector(&of_sequence_0, 0, NONCE).is_none()
+    rows
 }
 
 #[test]
 fn each_field_is_looked_at(rt: HostRuntime) {
-    assert!(rt; is_each_valid(&FIELD_ROWS));
-    assert!(rt; others_are_none());
+    assert_eq!(rt; looked_at(FIELD_ROWS), FIELD_ROWS);
+}
+
+fn of_sequence_0() -> Block {
+    spelled(NONCE, 0, 0, Entries::new())
+}
+
+// There is no sector behind the block, and none of sequence 0.
+#[test]
+fn other_sectors(rt: HostRuntime) {
+    let found = [
+        sector(&first(30), 8, NONCE).is_some(),
+        sector(&of_sequence_0(), 0, NONCE).is_some(),
+    ];
+    assert_eq!(rt; found, [false; 2]);
 }
 
 // Whether an entry of a new page of this tree, at this block, is read.
@@ -313,7 +336,7 @@ fn is_an_entry(tree: u8, block: u32) -> bool {
 #[test]
 fn what_no_entry_says(rt: HostRuntime) {
     let said = [is_an_entry(59, 1), is_an_entry(60, 1), is_an_entry(59, 0)];
-    assert!(rt; said == [true, false, false]);
+    assert_eq!(rt; said, [true, false, false]);
 }
 
 fn remap_7(old: Mapping) -> Entry {
@@ -324,16 +347,18 @@ fn remap_7(old: Mapping) -> Entry {
     }
 }
 
-// Whether the block of one entry is read as this one.
-fn is_read_as(block: &Block, want: Entry) -> bool {
-    match sector(block, 0, NONCE) {
-        Some(found) => found.entries.as_slice() == [want].as_slice(),
-        None => false,
-    }
+// How many entries sector 0 has, and the first.
+fn read_back(block: &Block) -> Option<(usize, Option<Entry>)> {
+    let found = sector(block, 0, NONCE)?;
+    let entries = found.entries.as_slice();
+    Some((entries.len(), entries.first().copied()))
 }
 
 #[test]
 fn a_mapping_to_block_0_is_read_as_zeros(rt: HostRuntime) {
     let nowhere = of_one(remap_7(Mapping::At(Pbn(0))));
-    assert!(rt; is_read_as(&nowhere, remap_7(Mapping::Zero)));
+    assert_eq!(rt;
+        read_back(&nowhere),
+        Some((1, Some(remap_7(Mapping::Zero))))
+    );
 }

@@ -1,19 +1,12 @@
-use crate::shared::{are_shown_as, is_spelled, with_added, with_byte};
-use blk_base::{Block, Geometry, Mapping, PageId, Pbn};
+use crate::shared::{Spelling, difference, not_shown, with_added, with_byte};
+use blk_base::{Block, Geometry, Mapping, Mappings, PageId, Pbn};
 use page_codec::PageFault::{Compressed, Header, OutOfRange};
-use page_codec::{MapPage, Mappings, PageFault, PageHead, decode, encode, slot};
+use page_codec::{MapPage, PageFault, PageHead, decode, encode, slot};
 
-// The bytes of these tests were computed from the tables of `page_codec` by a program of another language. The image has
-// the data blocks 85 to 148.
+// The image has the data blocks 85 to 148.
 const GEOMETRY: Geometry = Geometry {
-    logical: 1000,
-    slabs: 1,
-    slab_blocks: 64,
-    journal: 8,
-    index: 16,
-    slab_journal: 4,
-    height: 2,
     nonce: 0x1122_3344_5566_7788,
+    ..Geometry::DEFAULT
 };
 
 const LEAF: PageHead = PageHead {
@@ -78,57 +71,80 @@ fn blank() -> MapPage {
     }
 }
 
-fn is_unmapped(mappings: &Mappings) -> bool {
-    mappings.as_slice() == Mappings::new().as_slice()
+// How many slots are mapped.
+fn count_mapped(mappings: &Mappings) -> usize {
+    let mut count: usize = 0;
+    for mapping in mappings.as_slice() {
+        if *mapping != Mapping::Unmapped {
+            count = count.saturating_add(1);
+        }
+    }
+    count
 }
 
-// Parts of the leaf.
-const LEAF_PARTS: [(usize, &[u8]); 6] = [
-    (
-        0,
-        b"VMP1\x88\x77\x66\x55\x44\x33\x22\x11\x04\x03\x02\x01\0\0\0\0\x3b\0\0\0\x0d\x0c\x0b\x0a\0\0\0\0\0\0\0\0",
-    ),
-    (36, b"\x01\x56\0\0\0"), // block 86
-    (41, b"\x01\0\0\0\0"), // zeros
-    (46, b"\0\0\0\0\0"), // unmapped
-    (511, b"\x01\x77\0\0\0"), // slot 95, in two sectors
-    (4091, b"\x01\0\0\0\0"), // slot 811, the last bytes
-];
+// What `encode` writes of the leaf, computed by tools/map_page.py.
+const LEAF_BYTES: Spelling = Spelling {
+    weight: 40_014_403,
+    parts: &[
+        (
+            0,
+            b"VMP1\x88\x77\x66\x55\x44\x33\x22\x11\x04\x03\x02\x01\0\0\0\0\x3b\0\0\0\x0d\x0c\x0b\x0a\0\0\0\0\0\0\0\0",
+        ),
+        (36, b"\x01\x56\0\0\0"), // block 86
+        (41, b"\x01\0\0\0\0"), // zeros
+        (46, b"\0\0\0\0\0"), // unmapped
+        (511, b"\x01\x77\0\0\0"), // slot 95, in two sectors
+        (4091, b"\x01\0\0\0\0"), // slot 811, the last bytes
+    ],
+};
 
 #[test]
 fn a_page_is_spelled(rt: HostRuntime) {
-    assert!(rt; is_spelled(&leaf(), 40_014_403, &LEAF_PARTS));
+    assert_eq!(rt; difference(&leaf(), &LEAF_BYTES), None);
 }
 
-// Whether the block is read as a leaf with all these mappings.
-fn is_read_as(block: &Block, want: &Mappings) -> bool {
+// What a slot is read as.
+type Slot = Result<Mapping, PageFault>;
+
+fn slot_of(block: &Block, number: u16) -> Slot {
+    slot(block, &LEAF, number % 812)
+}
+
+// The first slot that isn't what was put into it, and what it is.
+fn other_mapping(mappings: &Mappings) -> Option<(u16, Mapping)> {
+    for k in 0..812 {
+        let found = mappings.get(k);
+        if found != mapping(k) {
+            return Some((k, found));
+        }
+    }
+    None
+}
+
+// The first slot that isn't read as what was put into it, and what it is read as.
+fn other_slot(block: &Block) -> Option<(u16, Slot)> {
+    for k in 0..812 {
+        let found = slot_of(block, k);
+        if found != Ok(mapping(k)) {
+            return Some((k, found));
+        }
+    }
+    None
+}
+
+// How a block is read as a leaf over an empty root: the answer, the head, and the first slot that is another.
+fn read_back(block: &Block) -> (Result<(), PageFault>, PageHead, Option<(u16, Mapping)>) {
     let mut into = MapPage {
         head: ROOT,
         mappings: Mappings::new(),
     };
-    decode(block, &LEAF, &mut into) == Ok(())
-        && into.head == LEAF
-        && into.mappings.as_slice() == want.as_slice()
+    let answer = decode(block, &LEAF, &mut into);
+    (answer, into.head, other_mapping(&into.mappings))
 }
 
 #[test]
 fn a_page_is_read_back(rt: HostRuntime) {
-    assert!(rt; is_read_as(&leaf(), &all_mappings()));
-}
-
-// Whether the slot of a leaf is answered so.
-fn is_slot(block: &Block, number: u16, want: Result<Mapping, PageFault>) -> bool {
-    slot(block, &LEAF, number % 812) == want
-}
-
-// Whether each slot is what was put into it, in a block and in a copy of the mappings.
-fn are_slots(block: &Block, copy: &Mappings) -> bool {
-    for k in 0..812 {
-        if copy.get(k) != mapping(k) || !is_slot(block, k, Ok(mapping(k))) {
-            return false;
-        }
-    }
-    true
+    assert_eq!(rt; read_back(&leaf()), (Ok(()), LEAF, None));
 }
 
 fn copied(mappings: &Mappings) -> Mappings {
@@ -139,35 +155,38 @@ fn copied(mappings: &Mappings) -> Mappings {
 
 #[test]
 fn slots_are_read_back(rt: HostRuntime) {
-    assert!(rt; are_slots(&leaf(), &copied(&all_mappings())));
+    let copy = other_mapping(&copied(&all_mappings()));
+    assert_eq!(rt; (copy, other_slot(&leaf())), (None, None));
 }
 
-// Whether the leaf is refused with this fault, and nothing of it is left.
-fn is_refused(block: &Block, fault: PageFault) -> bool {
+// The answer to a block that is read as a leaf over a full root, and how many slots are left.
+type Refusal = (Result<(), PageFault>, usize);
+
+fn refusal_and_head(block: &Block) -> (Refusal, PageHead) {
     let mut into = blank();
-    decode(block, &LEAF, &mut into) == Err(fault) && is_unmapped(&into.mappings)
+    let answer = decode(block, &LEAF, &mut into);
+    ((answer, count_mapped(&into.mappings)), into.head)
+}
+
+fn refusal(block: &Block) -> Refusal {
+    refusal_and_head(block).0
 }
 
 const HEAD_PLACES: [usize; 14] = [0, 3, 4, 11, 12, 19, 20, 21, 22, 23, 24, 27, 28, 35];
 
-// Whether the leaf with another byte in its head is refused for that, though its first slot has a fault too.
-fn is_another_page(at: usize) -> bool {
+// How the leaf with another byte in its head is refused, though its first slot has a fault too; and its last slot.
+fn another_page(at: usize) -> (Refusal, Slot) {
     let block = with_added(with_byte(leaf(), 36, 2), at, 1);
-    is_refused(&block, Header) && is_slot(&block, 811, Err(Header))
+    (refusal(&block), slot_of(&block, 811))
 }
 
 #[test]
 fn another_head(rt: HostRuntime) {
-    for &at in &HEAD_PLACES {
-        assert!(rt; is_another_page(at), "byte {at}");
+    let mut found = [((Ok(()), 0), Err(Header)); 14];
+    for (i, &at) in HEAD_PLACES.iter().enumerate() {
+        found[i] = another_page(at);
     }
-}
-
-// The head that a leaf is read into, where the block is refused.
-fn head_after(block: &Block) -> PageHead {
-    let mut into = blank();
-    let _ = decode(block, &LEAF, &mut into);
-    into.head
+    assert_eq!(rt; found, [((Err(Header), 0), Err(Header)); 14]);
 }
 
 // A byte of the leaf that is changed, the slot that it is of, and the fault. Slots 0 and 405 lead to blocks, and slot 811
@@ -189,20 +208,29 @@ const SLOT_ROWS: [(usize, u8, u16, PageFault); 14] = [
     (4095, 1, 811, OutOfRange(811)),
 ];
 
-// Whether the block is refused for this slot, of which the head alone is read then, and another slot is read.
-fn is_at_fault(block: &Block, number: u16, fault: PageFault) -> bool {
-    is_refused(block, fault)
-        && head_after(block) == LEAF
-        && is_slot(block, number, Err(fault))
-        && is_slot(block, 406, Ok(Mapping::Zero))
+// How a block is refused, of which the head alone is read then; the slot at fault; and another slot.
+type Refused = ((Refusal, PageHead), [Slot; 2]);
+
+fn refused(block: &Block, number: u16) -> Refused {
+    let slots = [slot_of(block, number), slot_of(block, 406)];
+    (refusal_and_head(block), slots)
+}
+
+// The first row that is refused otherwise, by its byte, and how.
+fn other_refusal(rows: &[(usize, u8, u16, PageFault)]) -> Option<(usize, u8, Refused)> {
+    for &(at, byte, number, fault) in rows {
+        let found = refused(&with_byte(leaf(), at, byte), number);
+        let wanted = (((Err(fault), 0), LEAF), [Err(fault), Ok(Mapping::Zero)]);
+        if found != wanted {
+            return Some((at, byte, found));
+        }
+    }
+    None
 }
 
 #[test]
 fn a_fault_of_one_slot(rt: HostRuntime) {
-    for &(at, byte, number, fault) in &SLOT_ROWS {
-        let right = is_at_fault(&with_byte(leaf(), at, byte), number, fault);
-        assert!(rt; right, "byte {at}: {byte}");
-    }
+    assert_eq!(rt; other_refusal(&SLOT_ROWS), None);
 }
 
 // The first bytes of slots 3 and 7, and the fault.
@@ -212,33 +240,31 @@ const TWO_SLOT_ROWS: [(u8, u8, PageFault); 3] = [
     (0x10, 0x10, OutOfRange(3)),
 ];
 
-// Whether the leaf with these bytes is refused with this fault, slot 7 is at fault too, and slot 5 isn't.
-fn is_least_fault(third: u8, seventh: u8, fault: PageFault) -> bool {
-    let block = with_byte(with_byte(leaf(), 51, third), 71, seventh);
-    is_refused(&block, fault)
-        && slot(&block, &LEAF, 7).is_err()
-        && is_slot(&block, 5, Ok(mapping(5)))
-}
+// How the leaf with these bytes is refused, whether slot 7 is at fault too, and slot 5, which isn't.
+type OfTwo = (Refusal, bool, Slot);
 
-fn are_least_faults(rows: &[(u8, u8, PageFault)]) -> bool {
-    for &(third, seventh, fault) in rows {
-        if !is_least_fault(third, seventh, fault) {
-            return false;
-        }
-    }
-    true
+fn refusal_of_two(third: u8, seventh: u8) -> OfTwo {
+    let block = with_byte(with_byte(leaf(), 51, third), 71, seventh);
+    (
+        refusal(&block),
+        slot_of(&block, 7).is_err(),
+        slot_of(&block, 5),
+    )
 }
 
 #[test]
 fn the_least_slot_is_named(rt: HostRuntime) {
-    assert!(rt; are_least_faults(&TWO_SLOT_ROWS));
+    let mut found = [((Ok(()), 0), false, Err(Header)); 3];
+    let mut wanted = found;
+    for (i, &(third, seventh, fault)) in TWO_SLOT_ROWS.iter().enumerate() {
+        found[i] = refusal_of_two(third, seventh);
+        wanted[i] = ((Err(fault), 0), true, Ok(mapping(5)));
+    }
+    assert_eq!(rt; found, wanted);
 }
 
 // How a block is read as a root, and the slot of it that is read by itself.
-fn root_and_slot(
-    block: &Block,
-    number: u16,
-) -> (Result<(), PageFault>, Result<Mapping, PageFault>) {
+fn root_and_slot(block: &Block, number: u16) -> (Result<(), PageFault>, Slot) {
     let mut into = blank();
     (
         decode(block, &ROOT, &mut into),
@@ -249,7 +275,7 @@ fn root_and_slot(
 #[test]
 fn no_zeros_in_a_root(rt: HostRuntime) {
     let read = root_and_slot(&spelled(ROOT, all_mappings()), 0);
-    assert!(rt; read == (Err(OutOfRange(1)), Ok(Mapping::At(Pbn(86)))));
+    assert_eq!(rt; read, (Err(OutOfRange(1)), Ok(Mapping::At(Pbn(86)))));
 }
 
 // A root whose last slot alone leads to a block.
@@ -269,11 +295,13 @@ fn read_links(block: &Block) -> ([Mapping; 2], bool) {
 #[test]
 fn links_of_a_root(rt: HostRuntime) {
     let links = [Mapping::At(Pbn(148)), Mapping::Unmapped];
-    assert!(rt; read_links(&root_with_link()) == (links, true));
+    assert_eq!(rt; read_links(&root_with_link()), (links, true));
 }
 
 // A slot, and what it is read as where sector 0 is from an empty page, and the others aren't.
-const TORN_ROWS: [(u16, Result<Mapping, PageFault>); 4] = [
+type TornRow = (u16, Slot);
+
+const TORN_ROWS: [TornRow; 4] = [
     (90, Ok(Mapping::Unmapped)),
     (95, Err(OutOfRange(95))),
     (96, Ok(Mapping::Zero)),
@@ -284,11 +312,17 @@ fn torn_leaf() -> Block {
     with_sector_0(leaf(), &spelled(LEAF, Mappings::new()))
 }
 
+// The rows with what their slots are read as.
+fn read_torn(mut rows: [TornRow; 4]) -> [TornRow; 4] {
+    for (number, answer) in rows.iter_mut() {
+        *answer = slot_of(&torn_leaf(), *number);
+    }
+    rows
+}
+
 #[test]
 fn a_torn_page(rt: HostRuntime) {
-    for &(number, want) in &TORN_ROWS {
-        assert!(rt; is_slot(&torn_leaf(), number, want), "slot {number}");
-    }
+    assert_eq!(rt; read_torn(TORN_ROWS), TORN_ROWS);
 }
 
 const TEXTS: [(PageFault, &str); 3] = [
@@ -299,5 +333,5 @@ const TEXTS: [(PageFault, &str); 3] = [
 
 #[test]
 fn texts(rt: HostRuntime) {
-    assert!(rt; are_shown_as(&rt, &TEXTS));
+    assert_eq!(rt; not_shown(&rt, &TEXTS), None);
 }

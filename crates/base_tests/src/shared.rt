@@ -1,21 +1,27 @@
 //! What the tests of several crates share.
-use blk_base::{Block, Geometry};
+use blk_base::Block;
 use std::fmt::Display;
 
-/// The sizes of the default image.
-pub(crate) const DEFAULT: Geometry = Geometry {
-    logical: 1000,
-    slabs: 1,
-    slab_blocks: 64,
-    journal: 8,
-    index: 16,
-    slab_journal: 4,
-    height: 2,
-    nonce: 1,
-};
+/// What a program of tools/ computed of a block: the sum of its bytes, each times its place from 1 on, and some of its
+/// bytes with the place of the first.
+pub struct Spelling {
+    pub weight: u64,
+    pub parts: &'static [(usize, &'static [u8])],
+}
 
-// The bytes, each times its place from 1 on: a byte that is another or elsewhere changes the sum.
-fn weighed(block: &Block) -> u64 {
+/// Where a block isn't spelled so; a byte that isn't there is past the block's end.
+#[derive(Clone, Copy, Debug, PartialEq, Eq)]
+pub enum Mismatch {
+    Byte {
+        at: usize,
+        found: Option<u8>,
+        wanted: u8,
+    },
+    Weight(u64),
+}
+
+// A byte that is another or elsewhere changes the weight.
+fn weight(block: &Block) -> u64 {
     let mut sum: u64 = 0;
     for (i, byte) in block.bytes.iter().enumerate() {
         sum = sum.wrapping_add((i as u64).wrapping_add(1).wrapping_mul(u64::from(*byte)));
@@ -23,24 +29,34 @@ fn weighed(block: &Block) -> u64 {
     sum
 }
 
-fn stands_at(block: &Block, at: usize, want: &[u8]) -> bool {
-    at <= 4096 && block.bytes[at..].starts_with(want)
-}
-
-fn all_stand(block: &Block, parts: &[(usize, &[u8])]) -> bool {
-    for &(at, want) in parts {
-        if !stands_at(block, at, want) {
-            return false;
+fn other_byte(block: &Block, start: usize, bytes: &[u8]) -> Option<Mismatch> {
+    for (i, &wanted) in bytes.iter().enumerate() {
+        let at = start.saturating_add(i);
+        let found = block.bytes.get(at).copied();
+        if found != Some(wanted) {
+            return Some(Mismatch::Byte { at, found, wanted });
         }
     }
-    true
+    None
 }
 
-// Whether a block has these bytes at these places, and all its bytes have this weight.
-pub fn is_spelled(block: &Block, weight: u64, parts: &[(usize, &[u8])]) -> bool {
-    weighed(block) == weight && all_stand(block, parts)
+/// The first difference between a block and its spelling.
+pub fn difference(block: &Block, spelling: &Spelling) -> Option<Mismatch> {
+    for &(start, bytes) in spelling.parts {
+        let difference = other_byte(block, start, bytes);
+        if difference.is_some() {
+            return difference;
+        }
+    }
+    let weight = weight(block);
+    if weight == spelling.weight {
+        None
+    } else {
+        Some(Mismatch::Weight(weight))
+    }
 }
 
+/// The block with another byte at a place.
 pub fn with_byte(mut block: Block, at: usize, byte: u8) -> Block {
     if at < 4096 {
         block.bytes[at] = byte;
@@ -48,12 +64,26 @@ pub fn with_byte(mut block: Block, at: usize, byte: u8) -> Block {
     block
 }
 
-// The block with so much added to a byte.
+/// The block with so much added to a byte.
 pub fn with_added(mut block: Block, at: usize, add: u8) -> Block {
     if at < 4096 {
         block.bytes[at] = block.bytes[at].wrapping_add(add);
     }
     block
+}
+
+/// The place of the first byte that is another or is missing.
+pub fn first_other(found: &[u8], wanted: &[u8]) -> Option<usize> {
+    for (i, (one, other)) in found.iter().zip(wanted).enumerate() {
+        if one != other {
+            return Some(i);
+        }
+    }
+    if found.len() == wanted.len() {
+        None
+    } else {
+        Some(found.len().min(wanted.len()))
+    }
 }
 
 fn is_shown_as(rt: &HostRuntime, value: &impl Display, text: &str) -> bool {
@@ -63,11 +93,12 @@ fn is_shown_as(rt: &HostRuntime, value: &impl Display, text: &str) -> bool {
     }
 }
 
-pub fn are_shown_as<T: Display>(rt: &HostRuntime, rows: &[(T, &str)]) -> bool {
+/// The first of these texts as which its value isn't shown.
+pub fn not_shown<T: Display>(rt: &HostRuntime, rows: &[(T, &'static str)]) -> Option<&'static str> {
     for (value, text) in rows {
         if !is_shown_as(rt, value, text) {
-            return false;
+            return Some(*text);
         }
     }
-    true
+    None
 }

@@ -1,12 +1,11 @@
-use crate::shared::{is_spelled, with_added, with_byte};
-use blk_base::{Block, Point};
+use crate::shared::{Spelling, difference, with_added, with_byte};
+use blk_base::{Block, Geometry, Layout, Point, SECTOR_COUNTERS};
 use slab_codec::{
-    COUNTERS, ReferenceBlock, ReferenceSector, SlabEntries, SlabEntry, SlabJournalBlock,
-    SlabSector, counter_place, encode_reference, encode_slab, reference_sector, sector_counters,
-    slab_sector,
+    ReferenceBlock, ReferenceSector, SlabEntries, SlabEntry, SlabJournalBlock, SlabSector,
+    encode_reference, encode_slab, reference_sector, sector_counters, slab_sector,
 };
 
-// The bytes of these tests were computed from the tables of `slab_codec` by a program of another language.
+// The spellings of these tests, and the places of counters, were computed by tools/slab.py.
 const NONCE: u64 = 0x1122_3344_5566_7788;
 
 fn old_block() -> Block {
@@ -18,7 +17,7 @@ fn old_block() -> Block {
 
 // Sector j of the block of counters.
 fn counted(j: u16) -> ReferenceSector {
-    let mut counters = [0; COUNTERS];
+    let mut counters = [0; SECTOR_COUNTERS];
     for k in 0..504_u16 {
         let number = j.wrapping_mul(7).wrapping_add(k.wrapping_mul(3)) % 251;
         counters[usize::from(k)] = number as u8;
@@ -45,43 +44,49 @@ fn spelled_counters() -> Block {
     block
 }
 
-// Parts of the block of counters.
-const COUNTER_PARTS: [(usize, &[u8]); 3] = [
-    (0, b"\x00\x07\x06\x05\x04\x03\x02\x01\x00\x03\x06\x09"),
-    (504, b"\xe9\xec\xef\xf2\xf5\xf8\x00\x03\x01\x07\x06\x05"),
-    (3584, b"\x07\x07\x06\x05\x04\x03\x02\x01\x31\x34\x37\x3a"),
-];
+const COUNTER_BYTES: Spelling = Spelling {
+    weight: 1_035_179_652,
+    parts: &[
+        (0, b"\x00\x07\x06\x05\x04\x03\x02\x01\x00\x03\x06\x09"),
+        (504, b"\xe9\xec\xef\xf2\xf5\xf8\x00\x03\x01\x07\x06\x05"),
+        (3584, b"\x07\x07\x06\x05\x04\x03\x02\x01\x31\x34\x37\x3a"),
+    ],
+};
 
 #[test]
 fn counters_are_spelled(rt: HostRuntime) {
-    assert!(rt; is_spelled(&spelled_counters(), 1_035_179_652, &COUNTER_PARTS));
+    assert_eq!(rt; difference(&spelled_counters(), &COUNTER_BYTES), None);
 }
 
-fn are_counted(block: &Block) -> bool {
+// The first sector that isn't read as it was written, and what it is read as.
+fn other_sector(block: &Block) -> Option<(u16, ReferenceSector)> {
     for j in 0..8 {
-        if reference_sector(block, j) != counted(j) {
-            return false;
+        let found = reference_sector(block, j);
+        if found != counted(j) {
+            return Some((j, found));
         }
     }
-    true
+    None
 }
 
 #[test]
 fn counters_are_read_back(rt: HostRuntime) {
-    assert!(rt; are_counted(&spelled_counters()));
+    assert_eq!(rt; other_sector(&spelled_counters()), None);
 }
 
 #[test]
 fn any_bytes_are_counters(rt: HostRuntime) {
     let want = ReferenceSector {
         commit: Point(u64::MAX),
-        counters: [255; COUNTERS],
+        counters: [255; SECTOR_COUNTERS],
     };
-    assert!(rt; reference_sector(&Block { bytes: [255; 4096] }, 7) == want);
+    assert_eq!(rt; reference_sector(&Block { bytes: [255; 4096] }, 7), want);
 }
 
 // An offset, and the block, the sector and the place in it where its counter stands.
-const PLACE_ROWS: [(u32, u32, u16, u16); 6] = [
+type PlaceRow = (u32, u32, u16, u16);
+
+const PLACE_ROWS: [PlaceRow; 6] = [
     (0, 0, 0, 0),
     (503, 0, 0, 503),
     (504, 0, 1, 0),
@@ -90,36 +95,40 @@ const PLACE_ROWS: [(u32, u32, u16, u16); 6] = [
     (32767, 8, 1, 7),
 ];
 
-fn are_places(rows: &[(u32, u32, u16, u16)]) -> bool {
-    for &(offset, block, sector, counter) in rows {
-        let place = counter_place(offset);
-        if (place.block, place.sector, place.counter) != (block, sector, counter) {
-            return false;
-        }
+// The rows with the places that are computed.
+fn placed(mut rows: [PlaceRow; 6]) -> [PlaceRow; 6] {
+    let layout = Layout::of(&Geometry::DEFAULT);
+    for row in rows.iter_mut() {
+        let place = layout.counter_place(row.0);
+        *row = (row.0, place.block, place.sector, place.counter);
     }
-    true
+    rows
 }
 
 #[test]
 fn places_of_counters(rt: HostRuntime) {
-    assert!(rt; are_places(&PLACE_ROWS));
+    assert_eq!(rt; placed(PLACE_ROWS), PLACE_ROWS);
 }
 
 // The counters of a slab of 600 data blocks, in three sectors.
-fn counters_of_600() -> [[u8; COUNTERS]; 3] {
+fn counters_of_600() -> [[u8; SECTOR_COUNTERS]; 3] {
+    let layout = Layout::of(&Geometry::DEFAULT);
     let counters = [9; 600];
     [
-        sector_counters(&counters, 0),
-        sector_counters(&counters, 1),
-        sector_counters(&counters, 2),
+        sector_counters(&layout, &counters, 0),
+        sector_counters(&layout, &counters, 1),
+        sector_counters(&layout, &counters, 2),
     ]
 }
 
 #[test]
 fn zeros_past_the_end_of_a_slab(rt: HostRuntime) {
-    let mut second = [0; COUNTERS];
+    let mut second = [0; SECTOR_COUNTERS];
     second[0..96].fill(9);
-    assert!(rt; counters_of_600() == [[9; COUNTERS], second, [0; COUNTERS]]);
+    assert_eq!(rt;
+        counters_of_600(),
+        [[9; SECTOR_COUNTERS], second, [0; SECTOR_COUNTERS]]
+    );
 }
 
 fn spelled(sequence: u64, slab: u32, entries: SlabEntries<320>) -> Block {
@@ -157,24 +166,26 @@ fn of_entries(count: u16) -> Block {
     spelled(5, 7, entries(0, count))
 }
 
-// Parts of the block of 42 entries.
-const ENTRY_PARTS: [(usize, &[u8]); 5] = [
-    (
-        0,
-        b"\x88\x77\x66\x55\x44\x33\x22\x11\x05\0\0\0\0\0\0\0\x07\0\0\0\0\0\x28\0VSS1\0\0\0\0",
-    ),
-    (
-        32,
-        b"\x00\x16\x0c\0\0\0\0\0\x14\0\0\0\x03\x16\x0c\0\0\0\0\0\x15\0\x01\0",
-    ),
-    (500, b"\x75\x16\x0c\0\0\0\0\0\x3b\0\x01\0\x88\x77"),
-    (532, b"\x01\0\x02\0VSS1\0\0\0\0\x78\x16\x0c\0\0"),
-    (1044, b"\x02\0\0\0VSS1\0\0\0\0\0\0\0\0\0"),
-];
+const FORTY_TWO_ENTRIES: Spelling = Spelling {
+    weight: 15_341_481,
+    parts: &[
+        (
+            0,
+            b"\x88\x77\x66\x55\x44\x33\x22\x11\x05\0\0\0\0\0\0\0\x07\0\0\0\0\0\x28\0VSS1\0\0\0\0",
+        ),
+        (
+            32,
+            b"\x00\x16\x0c\0\0\0\0\0\x14\0\0\0\x03\x16\x0c\0\0\0\0\0\x15\0\x01\0",
+        ),
+        (500, b"\x75\x16\x0c\0\0\0\0\0\x3b\0\x01\0\x88\x77"),
+        (532, b"\x01\0\x02\0VSS1\0\0\0\0\x78\x16\x0c\0\0"),
+        (1044, b"\x02\0\0\0VSS1\0\0\0\0\0\0\0\0\0"),
+    ],
+};
 
 #[test]
 fn a_block_of_42_entries(rt: HostRuntime) {
-    assert!(rt; is_spelled(&of_entries(42), 15_341_481, &ENTRY_PARTS));
+    assert_eq!(rt; difference(&of_entries(42), &FORTY_TWO_ENTRIES), None);
 }
 
 fn greatest_entries() -> SlabEntries<320> {
@@ -196,63 +207,84 @@ fn sequence_and_count(block: &Block) -> Option<(u64, usize)> {
     Some((sector.sequence, sector.entries.len()))
 }
 
+const GREATEST_NUMBERS: Spelling = Spelling {
+    weight: 46_519_678,
+    parts: &[],
+};
+
 #[test]
 fn the_greatest_numbers(rt: HostRuntime) {
     let block = spelled(u64::MAX, 1023, greatest_entries());
-    assert!(rt; is_spelled(&block, 46_519_678, &[]));
-    assert!(rt; sequence_and_count(&block) == Some((u64::MAX, 2)));
+    let read = (
+        difference(&block, &GREATEST_NUMBERS),
+        sequence_and_count(&block),
+    );
+    assert_eq!(rt; read, (None, Some((u64::MAX, 2))));
 }
 
-fn holds(sector: Option<SlabSector>, sequence: u64, want: &SlabEntries<40>) -> bool {
-    match sector {
-        Some(sector) => {
-            sector.sequence == sequence && sector.entries.as_slice() == want.as_slice()
+// How many of the entries are those from `first` on.
+fn count_alike(found: &[SlabEntry], first: u16) -> u16 {
+    let mut count: u16 = 0;
+    for &one in found {
+        if one != entry(first.wrapping_add(count)) {
+            return count;
         }
-        None => false,
+        count = count.wrapping_add(1);
     }
+    count
 }
 
-// Whether a sector of slab 7 is read as so many entries of block 5, from this one on.
-fn is_read_as(block: &Block, number: u16, first: u16, count: u16) -> bool {
-    holds(
-        slab_sector(block, number, NONCE, 7, 400),
-        5,
-        &entries(first, count),
-    )
+// The sequence of a sector, how many entries it has, and how many of them are those from `first` on.
+type Told = Option<(u64, usize, u16)>;
+
+fn told(sector: Option<SlabSector>, first: u16) -> Told {
+    let sector = sector?;
+    let entries = sector.entries.as_slice();
+    Some((sector.sequence, entries.len(), count_alike(entries, first)))
 }
 
-// Whether there is no sector of another nonce or slab, and none behind the block.
-fn is_nothing_else(block: &Block) -> bool {
-    slab_sector(block, 1, NONCE - 1, 7, 400).is_none()
-        && slab_sector(block, 1, NONCE, 6, 400).is_none()
-        && slab_sector(block, 8, NONCE, 7, 400).is_none()
-}
-
-fn is_read_back(block: &Block, in_1: u16, in_7: u16) -> bool {
-    is_read_as(block, 1, 40, in_1) && is_read_as(block, 7, 280, in_7) && is_nothing_else(block)
+// Sectors 1 and 7 of slab 7, and a sector of another nonce, of another slab, and behind the block.
+fn five_sectors(block: &Block) -> [Told; 5] {
+    [
+        told(slab_sector(block, 1, NONCE, 7, 400), 40),
+        told(slab_sector(block, 7, NONCE, 7, 400), 280),
+        told(slab_sector(block, 1, NONCE - 1, 7, 400), 40),
+        told(slab_sector(block, 1, NONCE, 6, 400), 40),
+        told(slab_sector(block, 8, NONCE, 7, 400), 320),
+    ]
 }
 
 #[test]
 fn sectors_are_read_back(rt: HostRuntime) {
-    assert!(rt; is_read_back(&of_entries(42), 2, 0));
-    assert!(rt; is_read_back(&of_entries(320), 40, 40));
+    let found = [
+        five_sectors(&of_entries(42)),
+        five_sectors(&of_entries(320)),
+    ];
+    let of_42 = [Some((5, 2, 2)), Some((5, 0, 0)), None, None, None];
+    let of_320 = [Some((5, 40, 40)), Some((5, 40, 40)), None, None, None];
+    assert_eq!(rt; found, [of_42, of_320]);
+}
+
+// Sectors 0 and 1 of slab 7.
+fn two_sectors(block: &Block) -> [Told; 2] {
+    [
+        told(slab_sector(block, 0, NONCE, 7, 64), 0),
+        told(slab_sector(block, 1, NONCE, 7, 64), 40),
+    ]
 }
 
 // A sector is read by itself, and its sequence may be any.
-fn second_alone_is_read(block: &Block) -> bool {
-    slab_sector(block, 0, NONCE, 7, 64).is_none()
-        && holds(slab_sector(block, 1, NONCE, 7, 64), 0, &entries(40, 2))
-}
-
 #[test]
 fn a_sector_by_itself(rt: HostRuntime) {
     let block = with_byte(spelled(0, 7, entries(0, 42)), 0, 0);
-    assert!(rt; second_alone_is_read(&block));
+    assert_eq!(rt; two_sectors(&block), [None, Some((0, 2, 2))]);
 }
 
 // A byte of sector 1, what is added to it, and whether the sector is still valid. The slab has 64 data blocks, and the
 // sector has two entries: an even point at offset 60, and an odd one at 61.
-const FIELD_ROWS: [(usize, u8, bool); 27] = [
+type FieldRow = (usize, u8, bool);
+
+const FIELD_ROWS: [FieldRow; 27] = [
     (0, 1, false), // nonce
     (7, 1, false), // nonce
     (8, 1, true), // sequence
@@ -287,16 +319,15 @@ fn is_valid_with(at: usize, add: u8) -> bool {
     slab_sector(&block, 1, NONCE, 7, 64).is_some()
 }
 
-fn is_each_valid(rows: &[(usize, u8, bool)]) -> bool {
-    for &(at, add, valid) in rows {
-        if is_valid_with(at, add) != valid {
-            return false;
-        }
+// The rows with what is found of their sectors.
+fn looked_at(mut rows: [FieldRow; 27]) -> [FieldRow; 27] {
+    for (at, add, valid) in rows.iter_mut() {
+        *valid = is_valid_with(*at, *add);
     }
-    true
+    rows
 }
 
 #[test]
 fn each_field_is_looked_at(rt: HostRuntime) {
-    assert!(rt; is_each_valid(&FIELD_ROWS));
+    assert_eq!(rt; looked_at(FIELD_ROWS), FIELD_ROWS);
 }

@@ -1,8 +1,9 @@
+use crate::shared::{first_other, not_shown};
 use blk_base::{Answer, Block, Lba, Request, Writer};
 use disk_model::{Failed, MemSink, MemSource, Source};
 use std::alloc::{AllocError, Global};
 use std::test::Fail;
-use stream_text::{ReadScript, ScriptFault, put_answers, put_number, read_script};
+use stream_text::{ReadScript, ScriptFault, put_answers, read_script};
 use vdo_model::{DeskLine, Placed, Requests, Rows, RunReport};
 
 /// A source that gives one byte at a time.
@@ -30,7 +31,9 @@ fn source(alloc: Global, text: &[u8], fails_at: Option<u64>) -> Result<MemSource
 }
 
 /// What became of a script: the number of its requests, and the first of them as its kind, address and byte.
-fn told(script: &Result<Requests, ReadScript>) -> Result<(usize, u8, u32, u8), ReadScript> {
+type Told = Result<(usize, u8, u32, u8), ReadScript>;
+
+fn told(script: &Result<Requests, ReadScript>) -> Told {
     match script {
         Ok(script) => {
             let row = script.stream(0);
@@ -52,30 +55,24 @@ fn told(script: &Result<Requests, ReadScript>) -> Result<(usize, u8, u32, u8), R
     }
 }
 
-/// Whether a text reads so, at once and byte by byte.
-fn reads(
-    alloc: Global,
-    text: &[u8],
-    want: Result<(usize, u8, u32, u8), ReadScript>,
-) -> Result<bool, Fail> {
+/// How a text reads at once, and byte by byte.
+fn read(alloc: Global, text: &[u8]) -> Result<[Told; 2], Fail> {
     let whole = read_script(alloc, &mut source(alloc, text, None)?, 1000);
     let mut trickle = Trickle {
         source: source(alloc, text, None)?,
     };
     let pieces = read_script(alloc, &mut trickle, 1000);
-    Ok(told(&whole) == want && told(&pieces) == want)
+    Ok([told(&whole), told(&pieces)])
 }
 
-fn refused(line: u64) -> Result<(usize, u8, u32, u8), ReadScript> {
+fn refused(line: u64) -> Told {
     Err(ReadScript::Script(ScriptFault::Later { line }))
 }
 
-const FIRST_IS_REFUSED: Result<(usize, u8, u32, u8), ReadScript> = Err(ReadScript::Script(
-    ScriptFault::Later { line: 1 },
-));
+const FIRST_IS_REFUSED: Told = Err(ReadScript::Script(ScriptFault::Later { line: 1 }));
 
 /// The texts of some scripts, and how they read.
-const SCRIPTS: [(&[u8], Result<(usize, u8, u32, u8), ReadScript>); 10] = [
+const SCRIPTS: [(&[u8], Told); 10] = [
     (b"", Ok((0, b'?', 0, 0))),
     (b"0 read 5", Ok((1, b'r', 5, 0))),
     (b"0 read 0005", Ok((1, b'r', 5, 0))),
@@ -97,21 +94,20 @@ const SCRIPTS: [(&[u8], Result<(usize, u8, u32, u8), ReadScript>); 10] = [
     ),
 ];
 
-/// How many of the scripts read so before the first that doesn't.
-fn count_read(alloc: Global) -> Result<usize, Fail> {
-    let mut count: usize = 0;
-    for &(text, want) in &SCRIPTS {
-        if !reads(alloc, text, want)? {
-            return Ok(count);
+/// The number of the first script that reads otherwise, and how.
+fn other_script(alloc: Global) -> Result<Option<(usize, [Told; 2])>, Fail> {
+    for (row, &(text, want)) in SCRIPTS.iter().enumerate() {
+        let found = read(alloc, text)?;
+        if found != [want; 2] {
+            return Ok(Some((row, found)));
         }
-        count = count.saturating_add(1);
     }
-    Ok(count)
+    Ok(None)
 }
 
 #[test]
 fn lines_are_read(rt: HostRuntime) -> Result<(), Fail> {
-    assert!(rt; count_read(rt.alloc())? == 10);
+    assert_eq!(rt; other_script(rt.alloc())?, None);
     Ok(())
 }
 
@@ -140,29 +136,28 @@ const REFUSED: [&[u8]; 22] = [
     b"0 Flush",
 ];
 
-/// Whether the line is refused as the first, and as the third behind two that are served.
-fn is_refused(alloc: Global, line: &[u8]) -> Result<bool, Fail> {
-    let alone = reads(alloc, line, refused(1))?;
+/// How the line reads as the first, and as the third behind two that are served.
+fn read_twice(alloc: Global, line: &[u8]) -> Result<[[Told; 2]; 2], Fail> {
+    let alone = read(alloc, line)?;
     let mut text = Vec::from_slice(alloc, b"0 flush\n0 read 5\n")?;
     text.extend_from_slice(line)?;
-    Ok(reads(alloc, &text, refused(3))? && alone)
+    Ok([alone, read(alloc, &text)?])
 }
 
-/// How many of the lines are refused before the first that isn't.
-fn count_refused(alloc: Global) -> Result<usize, Fail> {
-    let mut count: usize = 0;
-    for line in REFUSED {
-        if !is_refused(alloc, line)? {
-            return Ok(count);
+/// The number of the first line that isn't refused, and how it reads.
+fn not_refused(alloc: Global) -> Result<Option<(usize, [[Told; 2]; 2])>, Fail> {
+    for (row, &line) in REFUSED.iter().enumerate() {
+        let found = read_twice(alloc, line)?;
+        if found != [[refused(1); 2], [refused(3); 2]] {
+            return Ok(Some((row, found)));
         }
-        count = count.saturating_add(1);
     }
-    Ok(count)
+    Ok(None)
 }
 
 #[test]
 fn lines_are_refused(rt: HostRuntime) -> Result<(), Fail> {
-    assert!(rt; count_refused(rt.alloc())? == 22);
+    assert_eq!(rt; not_refused(rt.alloc())?, None);
     Ok(())
 }
 
@@ -173,27 +168,24 @@ fn put_flushes(text: &mut Vec<u8>, count: u32) -> Result<(), AllocError> {
     Ok(())
 }
 
-/// Whether a script of 1024 requests reads so, and one of 1025 is refused at the last.
-fn reads_at_most_1024(alloc: Global, text: &mut Vec<u8>) -> Result<bool, Fail> {
-    put_flushes(text, 1024)?;
-    let most = reads(alloc, text, Ok((1024, b'f', 0, 0)))?;
+/// How scripts of 1024 and of 1025 flushes read.
+fn read_flushes(alloc: Global) -> Result<[[Told; 2]; 2], Fail> {
+    let mut text = Vec::new(alloc);
+    put_flushes(&mut text, 1024)?;
+    let most = read(alloc, &text)?;
     text.extend_from_slice(b"0 flush")?;
-    Ok(reads(alloc, text, refused(1025))? && most)
+    Ok([most, read(alloc, &text)?])
 }
 
 #[test]
 fn a_script_has_1024_requests(rt: HostRuntime) -> Result<(), Fail> {
-    let mut text = Vec::new(rt.alloc());
-    let right = reads_at_most_1024(rt.alloc(), &mut text)?;
-    assert!(rt; right);
+    let most = Ok((1024, b'f', 0, 0));
+    assert_eq!(rt; read_flushes(rt.alloc())?, [[most; 2], [refused(1025); 2]]);
     Ok(())
 }
 
 /// What becomes of a script whose source fails at the take with this number.
-fn told_failing(
-    alloc: Global,
-    fails_at: u64,
-) -> Result<Result<(usize, u8, u32, u8), ReadScript>, Fail> {
+fn told_failing(alloc: Global, fails_at: u64) -> Result<Told, Fail> {
     let mut failing = source(alloc, b"0 flush\n", Some(fails_at))?;
     Ok(told(&read_script(alloc, &mut failing, 1000)))
 }
@@ -201,24 +193,22 @@ fn told_failing(
 #[test]
 fn a_source_fails(rt: HostRuntime) -> Result<(), Fail> {
     let told = [told_failing(rt.alloc(), 0)?, told_failing(rt.alloc(), 1)?];
-    assert!(rt; told == [Err(ReadScript::Read); 2]);
+    assert_eq!(rt; told, [Err(ReadScript::Read); 2]);
     Ok(())
 }
 
-fn prints(alloc: Global, fault: ReadScript, text: &str) -> Result<bool, AllocError> {
-    Ok(format!(in alloc; "{fault}")?.as_str() == text)
-}
+const FAULTS: [(ReadScript, &str); 3] = [
+    (
+        ReadScript::Script(ScriptFault::Later { line: 3 }),
+        "script line 3: later",
+    ),
+    (ReadScript::Read, "read fault"),
+    (ReadScript::Memory, "no memory"),
+];
 
 #[test]
-fn faults_are_printed(rt: HostRuntime) -> Result<(), Fail> {
-    let line = ReadScript::Script(ScriptFault::Later { line: 3 });
-    let printed = [
-        prints(rt.alloc(), line, "script line 3: later")?,
-        prints(rt.alloc(), ReadScript::Read, "read fault")?,
-        prints(rt.alloc(), ReadScript::Memory, "no memory")?,
-    ];
-    assert!(rt; printed == [true; 3]);
-    Ok(())
+fn faults_are_printed(rt: HostRuntime) {
+    assert_eq!(rt; not_shown(&rt, &FAULTS), None);
 }
 
 fn block(first: u8, rest: u8) -> Block {
@@ -318,16 +308,16 @@ fn report(alloc: Global) -> Result<RunReport, AllocError> {
     })
 }
 
-/// What putting the answers of the report into a sink with this room gives, and whether the sink holds these bytes then.
+/// What putting the answers of the report into a sink with this room gives, and where the sink holds other bytes then.
 fn put_report(
     alloc: Global,
     room: usize,
     want: &[u8],
-) -> Result<(Result<(), Failed>, bool), AllocError> {
+) -> Result<(Result<(), Failed>, Option<usize>), AllocError> {
     let mut out = MemSink::new(alloc, room)?;
     let report = report(alloc)?;
     let put = put_answers(&report.requests, &report, &mut out);
-    Ok((put, out.bytes() == want))
+    Ok((put, first_other(out.bytes(), want)))
 }
 
 const ANSWERS: &[u8] = b"0 0 write 5 ok z0:0
@@ -345,14 +335,6 @@ const ANSWERS: &[u8] = b"0 0 write 5 ok z0:0
 fn answers_are_put(rt: HostRuntime) -> Result<(), Fail> {
     let whole = put_report(rt.alloc(), 1000, ANSWERS)?;
     let cut = put_report(rt.alloc(), 10, b"0 0 write ")?;
-    assert!(rt; [whole, cut] == [(Ok(()), true), (Err(Failed), true)]);
-    Ok(())
-}
-
-#[test]
-fn a_number_is_put(rt: HostRuntime) -> Result<(), Fail> {
-    let mut out = MemSink::new(rt.alloc(), 30)?;
-    put_number(18446744073709551615, &mut out)?;
-    assert!(rt; out.bytes() == b"18446744073709551615".as_slice());
+    assert_eq!(rt; [whole, cut], [(Ok(()), None), (Err(Failed), None)]);
     Ok(())
 }

@@ -1,23 +1,22 @@
+ghost use Rattle.std.specs.Prelude.{◌≡◌};
+ghost use Rattle.map_page_cache.specs.CachedPages.{IsPageOf};
+
 mod plain;
 
 use crate::caches::plain::{PlainCache, PlainEntry, State};
-use blk_base::{Geometry, Mapping, PageId, Pbn, Point};
+use crate::met::Met;
+use blk_base::{Geometry, Mapping, Mappings, PageId, Pbn, Point};
 use map_page_cache::Cache;
-use page_codec::{MapPage, Mappings, PageHead};
+use page_codec::{MapPage, PageHead};
 use std::test::Fail;
 
 const GEOMETRY: Geometry = Geometry {
     logical: 1_000_000,
-    slabs: 1,
-    slab_blocks: 64,
-    journal: 8,
-    index: 16,
-    slab_journal: 4,
-    height: 2,
     nonce: 7,
+    ..Geometry::DEFAULT
 };
 
-// A call, with pages by their number and mappings by that of their block.
+// A call, with pages by their number and mappings by that of their data block.
 #[derive(Clone, Copy)]
 enum Act {
     Install(u32),
@@ -28,7 +27,9 @@ enum Act {
     Block(u32, u16),
 }
 
-fn leaf(index: u32) -> PageId {
+fn leaf(index: u32) -> PageId
+    ensures { result.level ≡ 0 }
+{
     PageId {
         tree: 3,
         level: 0,
@@ -37,7 +38,10 @@ fn leaf(index: u32) -> PageId {
 }
 
 // A page that was just read: no slot of it is mapped.
-fn read_page(page: PageId) -> MapPage {
+fn read_page(page: PageId) -> MapPage
+    ensures named { result.head.page ≡ page }
+    ensures held { IsPageOf GEOMETRY result }
+{
     MapPage {
         head: PageHead {
             geometry: GEOMETRY,
@@ -49,7 +53,10 @@ fn read_page(page: PageId) -> MapPage {
 }
 
 // Whether the page was taken; `None` where it is there already.
-fn install(cache: &mut Cache, page: u32) -> Option<u64> {
+fn install(cache: &mut Cache, page: u32) -> Option<u64>
+    requires { cache.old.geometry ≡ GEOMETRY }
+    ensures { cache.new.geometry ≡ GEOMETRY }
+{
     let id = leaf(page);
     match cache.get(id) {
         Some(_) => None,
@@ -57,21 +64,28 @@ fn install(cache: &mut Cache, page: u32) -> Option<u64> {
     }
 }
 
-fn set(cache: &mut Cache, page: u32, slot: u16, block: u32, point: u64) -> Option<u64> {
+// Maps a slot to one of the 64 data blocks.
+fn set(cache: &mut Cache, page: u32, slot: u16, block: u32, point: u64) -> Option<u64>
+    requires { cache.old.geometry ≡ GEOMETRY }
+    ensures { cache.new.geometry ≡ GEOMETRY }
+{
     let id = leaf(page);
     if slot >= 812 {
         return None;
     }
     match cache.get(id) {
         Some(_) => {
-            cache.set(id, slot, Mapping::At(Pbn(block)), Point(point));
+            cache.set(id, slot, Mapping::At(Pbn(85 + block % 64)), Point(point));
             Some(0)
         }
         None => None,
     }
 }
 
-fn written(cache: &mut Cache, page: u32) -> Option<u64> {
+fn written(cache: &mut Cache, page: u32) -> Option<u64>
+    requires { cache.old.geometry ≡ GEOMETRY }
+    ensures { cache.new.geometry ≡ GEOMETRY }
+{
     let id = leaf(page);
     if cache.is_being_written(id) {
         cache.written(id);
@@ -82,7 +96,10 @@ fn written(cache: &mut Cache, page: u32) -> Option<u64> {
 }
 
 // The page that is handed out.
-fn take_expired(cache: &mut Cache, point: u64) -> Option<u64> {
+fn take_expired(cache: &mut Cache, point: u64) -> Option<u64>
+    requires { cache.old.geometry ≡ GEOMETRY }
+    ensures { cache.new.geometry ≡ GEOMETRY }
+{
     let mut into = read_page(leaf(0));
     let page = cache.take_expired(Point(point), &mut into)?;
     Some(u64::from(page.index))
@@ -106,7 +123,10 @@ fn low_point(cache: &Cache) -> Option<u64> {
 }
 
 // The answer as a number; `None` where the call gives none, or where its condition isn't met.
-fn answer(cache: &mut Cache, act: Act) -> Option<u64> {
+fn answer(cache: &mut Cache, act: Act) -> Option<u64>
+    requires { cache.old.geometry ≡ GEOMETRY }
+    ensures { cache.new.geometry ≡ GEOMETRY }
+{
     match act {
         Act::Install(page) => install(cache, page),
         Act::Set(page, slot, block, point) => set(cache, page, slot, block, point),
@@ -122,12 +142,12 @@ fn answer(cache: &mut Cache, act: Act) -> Option<u64> {
 const CALLS: [(Act, Option<u64>); 24] = [
     (Act::LowPoint, None),
     (Act::Install(1), Some(1)),
-    (Act::Set(1, 811, 90, 7), Some(0)),
-    (Act::Set(1, 0, 91, 5), Some(0)),
+    (Act::Set(1, 811, 5, 7), Some(0)),
+    (Act::Set(1, 0, 6, 5), Some(0)),
     (Act::LowPoint, Some(5)),
     (Act::TakeExpired(4), None),
     (Act::TakeExpired(5), Some(1)),
-    (Act::Set(1, 0, 92, 8), Some(0)),
+    (Act::Set(1, 0, 7, 8), Some(0)),
     (Act::TakeExpired(9), None),
     (Act::LowPoint, Some(5)),
     (Act::Written(1), Some(0)),
@@ -135,7 +155,7 @@ const CALLS: [(Act, Option<u64>); 24] = [
     (Act::Block(1, 0), Some(92)),
     (Act::Block(1, 811), Some(90)),
     (Act::Install(2), Some(1)),
-    (Act::Set(2, 2, 93, 9), Some(0)),
+    (Act::Set(2, 2, 8, 9), Some(0)),
     (Act::Install(3), Some(0)),
     (Act::TakeExpired(9), Some(1)),
     (Act::Install(3), Some(0)),
@@ -147,7 +167,9 @@ const CALLS: [(Act, Option<u64>); 24] = [
 ];
 
 // How many of the calls have their answers before the first that has another.
-fn count_right(cache: &mut Cache) -> usize {
+fn count_right(cache: &mut Cache) -> usize
+    requires { cache.old.geometry ≡ GEOMETRY }
+{
     let mut count = 0;
     for &(act, want) in &CALLS {
         if answer(cache, act) != want {
@@ -160,8 +182,8 @@ fn count_right(cache: &mut Cache) -> usize {
 
 #[test]
 fn calls_and_their_answers(rt: HostRuntime) -> Result<(), Fail> {
-    let mut cache = Cache::new(rt.alloc(), 2)?;
-    assert!(rt; count_right(&mut cache) == 24);
+    let mut cache = Cache::new(rt.alloc(), &GEOMETRY, 2)?;
+    assert_eq!(rt; count_right(&mut cache), CALLS.len());
     Ok(())
 }
 
@@ -191,22 +213,32 @@ fn give_up(cache: &Cache, plain: &mut PlainCache) -> u32 {
 }
 
 // Installs a page in both. Whether both refuse it, or one clean page was given up exactly where no frame was empty.
-fn install_both(cache: &mut Cache, plain: &mut PlainCache, page: u32) -> bool {
+fn install_both(cache: &mut Cache, plain: &mut PlainCache, met: &mut Met, page: u32) -> bool
+    requires { cache.old.geometry ≡ GEOMETRY }
+    ensures { cache.new.geometry ≡ GEOMETRY }
+{
     let empty = plain.has_empty_frame();
     let clean = plain.has_clean_page();
     match install(cache, page) {
         None => plain.has(page),
-        Some(0) => !empty && !clean,
+        Some(0) => {
+            met.refuse(true);
+            !empty && !clean
+        }
         Some(_) => {
             let given_up = give_up(cache, plain);
             plain.install(page);
+            met.give_up(given_up);
             given_up == u32::from(!empty)
         }
     }
 }
 
 // Hands out a page of both. Whether it is one with the least first dirty point.
-fn hand_out_both(cache: &mut Cache, plain: &mut PlainCache, point: u64) -> bool {
+fn hand_out_both(cache: &mut Cache, plain: &mut PlainCache, point: u64) -> bool
+    requires { cache.old.geometry ≡ GEOMETRY }
+    ensures { cache.new.geometry ≡ GEOMETRY }
+{
     let first = plain.first_due();
     let due = match first {
         Some(least) => least <= point,
@@ -219,10 +251,13 @@ fn hand_out_both(cache: &mut Cache, plain: &mut PlainCache, point: u64) -> bool 
 }
 
 // One call of both, which the number chooses, and whether they did alike.
-fn step(cache: &mut Cache, plain: &mut PlainCache, call: u32, number: u32) -> bool {
+fn step(cache: &mut Cache, plain: &mut PlainCache, met: &mut Met, call: u32, number: u32) -> bool
+    requires { cache.old.geometry ≡ GEOMETRY }
+    ensures { cache.new.geometry ≡ GEOMETRY }
+{
     let page = number / 8 % PAGES;
     match number % 8 {
-        0 | 1 => install_both(cache, plain, page),
+        0 | 1 => install_both(cache, plain, met, page),
         2..=4 => {
             let slot = (number / 64 % 4) as u16;
             let block = number / 512;
@@ -230,7 +265,7 @@ fn step(cache: &mut Cache, plain: &mut PlainCache, call: u32, number: u32) -> bo
             let entry = PlainEntry {
                 page,
                 slot,
-                block: u64::from(block),
+                block: 85 + u64::from(block % 64),
                 point,
                 state: State::Set,
             };
@@ -238,16 +273,22 @@ fn step(cache: &mut Cache, plain: &mut PlainCache, call: u32, number: u32) -> bo
             set(cache, page, slot, block, point).is_some() == plain.has(page)
         }
         5 | 6 => hand_out_both(cache, plain, u64::from(number / 512 % 64)),
-        _ => written(cache, page).is_some() == plain.written(page),
+        _ => {
+            let is_written = written(cache, page).is_some();
+            met.write(is_written);
+            is_written == plain.written(page)
+        }
     }
 }
 
 // How many of 600 calls, in a fixed order, both answer alike before the first that they don't.
-fn count_alike(cache: &mut Cache, plain: &mut PlainCache) -> u32 {
+fn count_alike(cache: &mut Cache, plain: &mut PlainCache, met: &mut Met) -> u32
+    requires { cache.old.geometry ≡ GEOMETRY }
+{
     let mut number: u32 = 1;
     for call in 0..600_u32 {
         number = number.wrapping_mul(1_664_525).wrapping_add(1_013_904_223);
-        if !step(cache, plain, call, number / 256) || !agree(cache, plain) {
+        if !step(cache, plain, met, call, number / 256) || !agree(cache, plain) {
             return call;
         }
     }
@@ -257,7 +298,9 @@ fn count_alike(cache: &mut Cache, plain: &mut PlainCache) -> u32 {
 // Some hundred calls against a plain list of all entries.
 #[test]
 fn as_a_plain_list(rt: HostRuntime) -> Result<(), Fail> {
-    let mut cache = Cache::new(rt.alloc(), 4)?;
-    assert!(rt; count_alike(&mut cache, &mut PlainCache::new()) == 600);
+    let mut cache = Cache::new(rt.alloc(), &GEOMETRY, 4)?;
+    let mut met = Met::nothing();
+    let alike = count_alike(&mut cache, &mut PlainCache::new(), &mut met);
+    assert_eq!(rt; (alike, met.at_least(5)), (600, [true; 3]));
     Ok(())
 }

@@ -61,6 +61,9 @@ fn flushes_wait_for_older_writes(rt: HostRuntime) -> Result<(), Fail> {
     let generations = begin_all(&mut gate);
     let finished = finish_all(&mut gate);
     let wanted = (false, None, true, [Some(FIRST), Some(SECOND), None]);
-    assert!(rt; (nothing, generations, finished) == (None, [0, 1, 1, 2, 2], wanted));
+    assert_eq!(rt;
+        (nothing, generations, finished),
+        (None, [0, 1, 1, 2, 2], wanted)
+    );
     Ok(())
 }

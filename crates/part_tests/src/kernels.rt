@@ -13,28 +13,35 @@ fn the_last_byte_counts(rt: HostRuntime) {
     let before = zero_in_both_ways(&block);
     block.bytes[4095] = 1;
     let after = zero_in_both_ways(&block);
-    assert!(rt; [before, after] == [[true, true], [false, false]]);
+    assert_eq!(rt; [before, after], [[true, true], [false, false]]);
 }
 
 #[test]
 fn the_greatest_total(rt: HostRuntime) {
-    assert!(rt; [total(&[255; 4096]), total(&[])] == [1_044_480, 0]);
+    assert_eq!(rt; [total(&[255; 4096]), total(&[])], [1_044_480, 0]);
 }
 
-// At each length from 0 to 200, with the only free place last. At each other place either a counter or a claim is.
-#[test]
-fn the_only_free_place_is_last(rt: HostRuntime) {
+// How many lengths from 1 to 200, with the only free place last, find it, and nothing once it is taken. At each other place
+// either a counter or a claim is.
+fn count_found() -> usize {
     let mut counters = [0; 200];
     let mut claims = [0; 200];
-    let mut found = first_free(&counters[..0], &claims[..0]).is_none();
     for at in 0..200_usize {
-        found &= first_free(&counters[..at + 1], &claims[..at + 1]) == Some(at);
+        let found = first_free(&counters[..at + 1], &claims[..at + 1]);
         if at % 2 == 0 {
             counters[at] = 1;
         } else {
             claims[at] = 1;
         }
-        found &= first_free(&counters[..at + 1], &claims[..at + 1]).is_none();
+        let taken = first_free(&counters[..at + 1], &claims[..at + 1]);
+        if (found, taken) != (Some(at), None) {
+            return at;
+        }
     }
-    assert!(rt; found);
+    200
+}
+
+#[test]
+fn the_only_free_place_is_last(rt: HostRuntime) {
+    assert_eq!(rt; (first_free(&[], &[]), count_found()), (None, 200));
 }

@@ -57,22 +57,27 @@ fn from_zone_to_zone(rt: HostRuntime) -> Result<(), Fail> {
     let moved = post_and_move(&mut lanes);
     let taken = take_all(&mut lanes);
     let wanted = [None, Some('b'), Some('a'), Some('c'), None];
-    assert!(rt; (at_first, moved, taken) == ((None, false), [true, true, false], wanted));
+    assert_eq!(rt;
+        (at_first, moved, taken),
+        ((None, false), [true, true, false], wanted)
+    );
     Ok(())
 }
 
-// A batch of the sender goes to the receiver. Whether the batch is empty then, and what the receiver takes.
+// A batch of the sender goes to the receiver. To which zones the sender has posts, what the receiver takes, and whether the
+// batch is empty and the receiver has an item then.
 fn hand_over(
     sender: &mut Ports<char>,
     receiver: &mut Ports<char>,
     alloc: Global,
-) -> Result<(bool, [Option<char>; 4]), AllocError>
+) -> Result<([bool; 2], [Option<char>; 4], [bool; 2]), AllocError>
     requires sender { sender.old.outboxes ≡ empty _ 0 ∷ empty _ 2 ∷ [] }
     requires receiver { receiver.old.inbox ≡ empty _ 3 }
 {
     sender.post(1, 'a');
     sender.post(1, 'b');
     receiver.keep('z');
+    let posts = [sender.has_posts(0), sender.has_posts(1)];
     let mut batch = sender.exchange(1, Lane::new(alloc, 2)?);
     receiver.receive(&mut batch);
     let taken = [
@@ -81,7 +86,7 @@ fn hand_over(
         receiver.take(),
         receiver.take(),
     ];
-    Ok((batch.is_empty(), taken))
+    Ok((posts, taken, [batch.is_empty(), receiver.has_item()]))
 }
 
 // A batch leaves in exchange for an empty list, and comes in at another zone.
@@ -90,6 +95,7 @@ fn a_batch_changes_hands(rt: HostRuntime) -> Result<(), Fail> {
     let mut sender = Ports::new(rt.alloc(), 1, &[0, 2])?;
     let mut receiver = Ports::new(rt.alloc(), 3, &[])?;
     let handed_over = hand_over(&mut sender, &mut receiver, rt.alloc());
-    assert!(rt; handed_over == Ok((true, [Some('z'), Some('a'), Some('b'), None])));
+    let taken = [Some('z'), Some('a'), Some('b'), None];
+    assert_eq!(rt; handed_over, Ok(([false, true], taken, [true, false])));
     Ok(())
 }

@@ -12,6 +12,8 @@ mod lanes;
 #[cfg(test)]
 mod locks;
 #[cfg(test)]
+mod met;
+#[cfg(test)]
 mod names;
 #[cfg(test)]
 mod recovery;

@@ -2,7 +2,7 @@ ghost use Rattle.std.specs.Prelude.{◌≡◌};
 ghost use Rattle.logical_locks.specs.Holders.{nobody};
 
 use blk_base::Lba;
-use logical_locks::Locks;
+use logical_locks::{Locks, locks_stay_in_order};
 use std::test::Fail;
 
 const ONE: Lba = Lba(7);
@@ -32,6 +32,7 @@ fn first_come_first_served(rt: HostRuntime) -> Result<(), Fail> {
     let asked = ask_all(&mut locks);
     let of_one = release_thrice(&mut locks, ONE);
     let of_other = release_thrice(&mut locks, OTHER);
+    locks_stay_in_order::<char>();
     let places = [
         (0, Some('a')),
         (1, None),
@@ -40,6 +41,6 @@ fn first_come_first_served(rt: HostRuntime) -> Result<(), Fail> {
         (4, None),
     ];
     let next = [[Some('b'), Some('e'), None], [Some('d'), None, None]];
-    assert!(rt; (asked, [of_one, of_other]) == (places, next));
+    assert_eq!(rt; (asked, [of_one, of_other]), (places, next));
     Ok(())
 }

@@ -2,7 +2,7 @@ use blk_base::Block;
 use block_names::{ConstantName, Murmur, Name, Namer, route, tag};
 
 // The names of four blocks: zeros, 0x61, byte i = i mod 251, and that with the lowest bit of byte 4095 turned. They were
-// computed by a second program, in another language, from the text of the format.
+// computed by tools/names.py.
 const NAMES: [[u8; 16]; 4] = [
     [
         0x81, 0xa3, 0xec, 0x86, 0x65, 0x7e, 0xe7, 0x84, 0x4a, 0x63, 0xfd, 0x81, 0x1c, 0x80, 0x08,
@@ -47,13 +47,14 @@ fn names_of_known_blocks(rt: HostRuntime) {
         has_name(&block, 2),
     ];
     block.bytes[4095] ^= 1;
-    assert!(rt; known == [true; 3] && has_name(&block, 3));
+    let turned = has_name(&block, 3);
+    assert_eq!(rt; (known, turned), ([true; 3], true));
 }
 
 #[test]
 fn one_name_for_all(rt: HostRuntime) {
     let name = ConstantName.name(&counting_block());
-    assert!(rt; name == ConstantName.name(&Block::zero()));
+    assert_eq!(rt; name, ConstantName.name(&Block::zero()));
 }
 
 // The name's bytes 0 to 3 are 81 a3 ec 86, its bytes 4 to 7 are 65 7e e7 84.
@@ -66,5 +67,5 @@ fn tag_and_route(rt: HostRuntime) {
         route(&name, 3),
         route(&name, 4),
     ];
-    assert!(rt; (tag(&name), zones) == (0x86ec_a381, [0, 1, 2, 1]));
+    assert_eq!(rt; (tag(&name), zones), (0x86ec_a381, [0, 1, 2, 1]));
 }

@@ -1,31 +1,28 @@
 ghost use Rattle.std.specs.Prelude.{◌≡◌, ◌+◌, ◌<◌, ◌≤◌, ◌^◌, length};
+ghost use Rattle.journal_codec.specs.Grammar.{HoldsEntry};
 ghost use Rattle.recovery_journal.specs.Log.{IsWriting};
 
 mod plain;
 
+use crate::met::Met;
 use crate::recovery::plain::{PlainJournal, Written};
 use blk_base::{Entry, Geometry, Lba, Mapping, Pbn, Point};
-use recovery_journal::{Journal, no_needed_block_is_overwritten};
+use recovery_journal::Journal;
 use std::alloc::AllocError;
 use std::cmp;
 use std::test::Fail;
 
-const SMALL: Geometry = Geometry {
-    logical: 1000,
-    slabs: 1,
-    slab_blocks: 64,
-    journal: 8,
-    index: 16,
-    slab_journal: 4,
-    height: 2,
-    nonce: 1,
-};
-
-fn entry(number: u32) -> Entry {
+fn entry(number: u32) -> Entry
+    ensures { HoldsEntry result }
+{
     Entry::Remap {
         at: Lba(number),
         old: Mapping::Zero,
-        new: Mapping::At(Pbn(number)),
+        new: if number == 0 {
+            Mapping::Unmapped
+        } else {
+            Mapping::At(Pbn(number))
+        },
     }
 }
 
@@ -153,23 +150,20 @@ fn reap_and_add(
 // Blocks 2 to 8 are written with head 2: an entry for block 9 waits until the head is 3.
 #[test]
 fn a_full_ring_waits_for_the_head(rt: HostRuntime) -> Result<(), Fail> {
-    let mut journal = Journal::new(rt.alloc(), &SMALL, 1, 1)?;
+    let mut journal = Journal::new(rt.alloc(), &Geometry::DEFAULT, 1, 1)?;
     let filled = fill(&mut journal);
     let added = reap_and_add(&mut journal);
-    no_needed_block_is_overwritten();
     let written = [
         Some(((1, 1, 1), true, Some((2, 0)))),
         Some(((8, 2, 1), true, None)),
     ];
     let reaped = (Some((entry(1), 512)), 1024);
     let reaped_next = (Some((entry(2), 1024)), 1536);
-    assert!(rt;
-        (filled, added)
-            == (
-                (Some((1, 0)), written, reaped),
-                ([None, Some((9, 0))], reaped_next, 3)
-            )
+    let wanted = (
+        (Some((1, 0)), written, reaped),
+        ([None, Some((9, 0))], reaped_next, 3),
     );
+    assert_eq!(rt; (filled, added), wanted);
     Ok(())
 }
 
@@ -177,6 +171,7 @@ fn a_full_ring_waits_for_the_head(rt: HostRuntime) -> Result<(), Fail> {
 fn add_both(
     journal: &mut Journal,
     plain: &mut PlainJournal,
+    met: &mut Met,
     first: u32,
     count: u32,
 ) -> Result<bool, AllocError>
@@ -188,6 +183,7 @@ fn add_both(
     for k in 0..count {
         let number = first.wrapping_add(k);
         let place = add(journal, number);
+        met.refuse(place.is_none());
         same &= place == plain.append(entry(number))?;
     }
     Ok(same)
@@ -205,7 +201,12 @@ fn hand_out_both(journal: &mut Journal, plain: &mut PlainJournal, count: u32) ->
 }
 
 // One step, which a number chooses.
-fn step(journal: &mut Journal, plain: &mut PlainJournal, number: u64) -> Result<bool, AllocError>
+fn step(
+    journal: &mut Journal,
+    plain: &mut PlainJournal,
+    met: &mut Met,
+    number: u64,
+) -> Result<bool, AllocError>
     requires sequence { journal.old.sequence < 2 ^ 54 }
     requires zones { length journal.old.marks ≡ 2 }
     ensures sequence { journal.new.sequence ≤ journal.old.sequence + 1 }
@@ -214,8 +215,12 @@ fn step(journal: &mut Journal, plain: &mut PlainJournal, number: u64) -> Result<
     let rest = number / 4;
     let small = (rest % 250) as u32;
     match number % 4 {
-        0 => add_both(journal, plain, small, small),
-        1 => Ok(write(journal, small) == plain.write(entry(small))?),
+        0 => add_both(journal, plain, met, small, small),
+        1 => {
+            let written = write(journal, small);
+            met.write(written.is_some());
+            Ok(written == plain.write(entry(small))?)
+        }
         2 => Ok(hand_out_both(journal, plain, small)),
         _ => {
             let zone = small % 2;
@@ -230,7 +235,11 @@ fn step(journal: &mut Journal, plain: &mut PlainJournal, number: u64) -> Result<
 }
 
 // How many of 300 steps both make alike before the first that they don't.
-fn count_alike(journal: &mut Journal, plain: &mut PlainJournal) -> Result<u64, AllocError>
+fn count_alike(
+    journal: &mut Journal,
+    plain: &mut PlainJournal,
+    met: &mut Met,
+) -> Result<u64, AllocError>
     requires sequence { journal.old.sequence ≤ 5 }
     requires zones { length journal.old.marks ≡ 2 }
 {
@@ -239,7 +248,7 @@ fn count_alike(journal: &mut Journal, plain: &mut PlainJournal) -> Result<u64, A
         number = number
             .wrapping_mul(6364136223846793005)
             .wrapping_add(1442695040888963407);
-        if !step(journal, plain, number >> 33)? || journal.head() != plain.head() {
+        if !step(journal, plain, met, number >> 33)? || journal.head() != plain.head() {
             return Ok(turn);
         }
     }
@@ -248,9 +257,14 @@ fn count_alike(journal: &mut Journal, plain: &mut PlainJournal) -> Result<u64, A
 
 #[test]
 fn as_the_plain_journal(rt: HostRuntime) -> Result<(), Fail> {
-    let mut journal = Journal::new(rt.alloc(), &SMALL, 5, 2)?;
+    let mut journal = Journal::new(rt.alloc(), &Geometry::DEFAULT, 5, 2)?;
     let mut plain = PlainJournal::new(rt.alloc(), 8, 5);
-    let alike = count_alike(&mut journal, &mut plain);
-    assert!(rt; (alike, journal.head() > 20) == (Ok(300), true));
+    let mut met = Met::nothing();
+    let alike = count_alike(&mut journal, &mut plain, &mut met);
+    let reaped = journal.head() > 20;
+    assert_eq!(rt;
+        (alike, met.at_least(10), reaped),
+        (Ok(300), [true, false, true], true)
+    );
     Ok(())
 }

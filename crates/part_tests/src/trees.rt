@@ -1,27 +1,32 @@
-ghost use Rattle.std.specs.Prelude.{◌≡◌, ◌<◌, ◌≤◌, IfOk, slice_index_or};
+ghost use Rattle.std.specs.Prelude.{◌≡◌, ◌<◌, ◌≤◌, ◌+◌, ◌/◌, ◌%◌, IfOk, replicate, slice_set};
 ghost use Rattle.blk_base.specs.Limits.{logical_limit};
 ghost use Rattle.blk_base.specs.declared.place.Mapping.TheVariants.{Unmapped, At};
 ghost use Rattle.blk_base.specs.declared.place.PageId.{PageId};
 ghost use Rattle.block_map_tree.specs.Tree.{IsTree, IsWriting};
+ghost use Rattle.block_map_tree.specs.Opening.{IsOpened, forest_of};
 
 mod plain;
 
-use blk_base::{Geometry, Lba, Mapping, PageId, Pbn, Point};
-use block_map_tree::{Found, OpenedPage, TreeNodes, path};
-use page_codec::{MapPage, Mappings, PageHead};
+use crate::met::Met;
+use blk_base::{Geometry, Lba, Mapping, Mappings, Opened, OpenedPage, PageId, Pbn, Point, Super};
+use block_map_tree::{Forest, Found, TreeNodes, path};
+use page_codec::{MapPage, PageHead};
 use plain::{Plain, page_at};
 use std::alloc::{AllocError, Global};
 use std::test::Fail;
 
 const GEOMETRY: Geometry = Geometry {
     logical: 40_000_000,
-    slabs: 1,
-    slab_blocks: 64,
-    journal: 8,
-    index: 16,
-    slab_journal: 4,
     height: 3,
     nonce: 7,
+    ..Geometry::DEFAULT
+};
+
+// The trees 0 and 30.
+const FOREST: Forest = Forest {
+    geometry: GEOMETRY,
+    zone: 0,
+    zones: 30,
 };
 
 // Whether the path of this address in trees of this height is this one.
@@ -41,7 +46,7 @@ fn paths_of_some_addresses(rt: HostRuntime) {
         leads(39_560_639, 2, 59, &[811, 811]),
         leads(39_560_640, 3, 0, &[1, 0, 0]),
     ];
-    assert!(rt; lead == [true; 4]);
+    assert_eq!(rt; lead, [true; 4]);
 }
 
 // A page of an image of these sizes, as `take_expired` fills it.
@@ -58,8 +63,9 @@ fn blank_page() -> MapPage {
 
 // Whether the tree has what the list of links says.
 fn is_like(tree: &TreeNodes, plain: &Plain, at: Lba) -> bool
-    requires sizes { tree.now.geometry ≡ GEOMETRY }
+    requires sizes { tree.now.forest ≡ FOREST }
     requires inside { at.0 < GEOMETRY.logical }
+    requires own { at.0 / 812 % 60 % 30 ≡ 0 }
 {
     tree.find(&path(at, GEOMETRY.height)) == plain.find(at, 3)
         && tree.at(page_at(at, 0)) == plain.at(page_at(at, 0))
@@ -69,10 +75,12 @@ fn is_like(tree: &TreeNodes, plain: &Plain, at: Lba) -> bool
 // Links the highest page that the path misses, if there is one, and gives it.
 fn link_next(tree: &mut TreeNodes, at: Lba, block: Pbn, point: Point) -> Option<PageId>
     requires form { IsTree tree.old }
-    requires sizes { tree.old.geometry ≡ GEOMETRY }
+    requires sizes { tree.old.forest ≡ FOREST }
     requires inside { at.0 < GEOMETRY.logical }
+    requires own { at.0 / 812 % 60 % 30 ≡ 0 }
+    requires block { (85 ≤ block.0) × (block.0 < 149) }
     ensures form { IsTree tree.new }
-    ensures sizes { tree.new.geometry ≡ GEOMETRY }
+    ensures sizes { tree.new.forest ≡ FOREST }
     ensures out { (page : PageId) → IsWriting tree.old page → IsWriting tree.new page }
 {
     match tree.find(&path(at, GEOMETRY.height)) {
@@ -93,13 +101,14 @@ fn link_both(
     point: Point,
 ) -> Result<(), AllocError>
     requires form { IsTree tree.old }
-    requires sizes { tree.old.geometry ≡ GEOMETRY }
+    requires sizes { tree.old.forest ≡ FOREST }
     requires inside { at.0 < GEOMETRY.logical }
+    requires own { at.0 / 812 % 60 % 30 ≡ 0 }
     ensures form { IsTree tree.new }
-    ensures sizes { tree.new.geometry ≡ GEOMETRY }
+    ensures sizes { tree.new.forest ≡ FOREST }
     ensures out { (page : PageId) → IsWriting tree.old page → IsWriting tree.new page }
 {
-    let block = Pbn(at.0 / 7);
+    let block = Pbn(85 + at.0 % 64);
     match link_next(tree, at, block, point) {
         Some(page) => plain.link(page, block, point),
         None => Ok(()),
@@ -109,9 +118,9 @@ fn link_both(
 // A page is handed out and reported at once. Whether it is the same page of both.
 fn write_one(tree: &mut TreeNodes, plain: &mut Plain, limit: Point) -> bool
     requires form { IsTree tree.old }
-    requires sizes { tree.old.geometry ≡ GEOMETRY }
+    requires sizes { tree.old.forest ≡ FOREST }
     ensures form { IsTree tree.new }
-    ensures sizes { tree.new.geometry ≡ GEOMETRY }
+    ensures sizes { tree.new.forest ≡ FOREST }
     ensures out { (page : PageId) → IsWriting tree.old page → IsWriting tree.new page }
 {
     let mut into = blank_page();
@@ -133,13 +142,14 @@ fn cycle(
     one: Lba,
     other: Lba,
     limit: Point,
+    met: &mut Met,
 ) -> Result<bool, AllocError>
     requires form { IsTree tree.old }
-    requires sizes { tree.old.geometry ≡ GEOMETRY }
-    requires one { one.0 < GEOMETRY.logical }
-    requires other { other.0 < GEOMETRY.logical }
+    requires sizes { tree.old.forest ≡ FOREST }
+    requires one { (one.0 < GEOMETRY.logical) × (one.0 / 812 % 60 % 30 ≡ 0) }
+    requires other { (other.0 < GEOMETRY.logical) × (other.0 / 812 % 60 % 30 ≡ 0) }
     ensures form { IsTree tree.new }
-    ensures sizes { tree.new.geometry ≡ GEOMETRY }
+    ensures sizes { tree.new.forest ≡ FOREST }
 {
     link_both(tree, plain, one, Point(limit.0 ^ 3))?;
     let linked = is_like(tree, plain, one);
@@ -155,6 +165,7 @@ fn cycle(
     let still = is_like(tree, plain, other);
     tree.written(page);
     plain.written(page);
+    met.write(true);
     Ok(
         [
             linked,
@@ -184,26 +195,26 @@ fn next(number: u64) -> u64 {
         .wrapping_add(1_442_695_040_888_963_407)
 }
 
-// An address of four trees by a number.
+// An address of the two trees by a number.
 fn address(number: u64) -> Lba
-    ensures { result.0 < GEOMETRY.logical }
+    ensures { (result.0 < GEOMETRY.logical) × (result.0 / 812 % 60 % 30 ≡ 0) }
 {
-    let tree = (number >> 40) % 4;
+    let tree = (number >> 40) % 2 * 30;
     let leaf = (number >> 20) % 820;
     Lba(((leaf * 60 + tree) * 812) as u32)
 }
 
 // How many of 300 cycles go alike before the first that doesn't.
-fn count_alike(tree: &mut TreeNodes, plain: &mut Plain) -> Result<u32, AllocError>
+fn count_alike(tree: &mut TreeNodes, plain: &mut Plain, met: &mut Met) -> Result<u32, AllocError>
     requires form { IsTree tree.old }
-    requires sizes { tree.old.geometry ≡ GEOMETRY }
+    requires sizes { tree.old.forest ≡ FOREST }
 {
     let mut number = 1;
     for step in 0..300_u32 {
         let one = address(number);
         number = next(number);
         let limit = Point(number >> 55);
-        if !cycle(tree, plain, one, address(number), limit)? {
+        if !cycle(tree, plain, one, address(number), limit, met)? {
             return Ok(step);
         }
         number = next(number);
@@ -213,85 +224,123 @@ fn count_alike(tree: &mut TreeNodes, plain: &mut Plain) -> Result<u32, AllocErro
 
 #[test]
 fn like_a_list_of_links(rt: HostRuntime) -> Result<(), Fail> {
-    let mut tree = TreeNodes::from_opened(rt.alloc(), &GEOMETRY, &[])?;
+    let mut tree = small_tree(rt.alloc())?;
     let mut plain = Plain::new(rt.alloc(), &GEOMETRY);
-    let alike = count_alike(&mut tree, &mut plain);
-    assert!(rt; alike == Ok(300));
+    plain.open(page_at(Lba(243_600), 1), Pbn(90))?;
+    plain.open(page_at(Lba(243_600), 0), Pbn(91))?;
+    let mut met = Met::nothing();
+    let alike = count_alike(&mut tree, &mut plain, &mut met);
+    assert_eq!(rt; (alike, met.at_least(50)), (Ok(300), [false, false, true]));
     Ok(())
 }
 
-// A root of the first tree, which leads to one page, and that page, which leads to one leaf.
-fn opened(page: PageId, at: Pbn, slot: u16, leads: Pbn) -> OpenedPage
+// A page that leads to one block.
+fn leading(page: PageId, at: Pbn, slot: u16, leads: Pbn) -> OpenedPage
     requires { slot < 812 }
     ensures page { result.page ≡ page }
     ensures at { result.at ≡ at }
-    ensures leads { slice_index_or result.mappings slot Unmapped ≡ At leads }
+    ensures leads { result.mappings ≡ slice_set (replicate 812 Unmapped) slot (At leads) }
 {
     let mut mappings = Mappings::new();
     mappings.set(slot, Mapping::At(leads));
     OpenedPage { page, at, mappings }
 }
 
-// The tree of an image whose first tree leads to the leaf of the addresses 243,600 to 244,411, in block 91.
-fn small_tree(alloc: Global) -> Result<TreeNodes, AllocError>
-    ensures { IfOk result (λ tree. IsTree tree × (tree.geometry ≡ GEOMETRY)) }
+// The root of a tree, which leads nowhere.
+fn blank_root(tree: u8) -> OpenedPage
+    requires { tree < 60 }
+    ensures page { result.page ≡ record { tree = tree; level = 2; index = 0 } }
+    ensures at { result.at.0 ≡ 9 + tree }
+    ensures leads { result.mappings ≡ replicate 812 Unmapped }
 {
-    let root = PageId {
-        tree: 0,
-        level: 2,
-        index: 0,
-    };
-    let middle = PageId {
-        tree: 0,
-        level: 1,
-        index: 0,
-    };
-    let pages = [
-        opened(root, Pbn(9), 0, Pbn(90)),
-        opened(middle, Pbn(90), 5, Pbn(91)),
-    ];
-    TreeNodes::from_opened(alloc, &GEOMETRY, &pages)
+    OpenedPage {
+        page: PageId {
+            tree,
+            level: 2,
+            index: 0,
+        },
+        at: Pbn(9 + u32::from(tree)),
+        mappings: Mappings::new(),
+    }
 }
 
-// What an address of the leaf leads to, one beside it, and one of another tree.
+// The pages of the two trees of an image whose first tree leads to the leaf of the addresses 243,600 to 244,411, in block 91.
+fn small_pages(alloc: Global) -> Result<Vec<OpenedPage>, AllocError>
+    ensures { IfOk result (λ pages. IsOpened FOREST pages.items) }
+{
+    let root = page_at(Lba(243_600), 2);
+    let middle = page_at(Lba(243_600), 1);
+    let mut pages = Vec::with_capacity(alloc, 3)?;
+    pages.push_reserved(leading(root, Pbn(9), 0, Pbn(90)));
+    pages.push_reserved(leading(middle, Pbn(90), 5, Pbn(91)));
+    pages.push_reserved(blank_root(30));
+    Ok(pages)
+}
+
+// What a session starts with that has these pages.
+fn opened(alloc: Global, pages: Vec<OpenedPage>) -> Opened
+    ensures head { result.head.geometry ≡ GEOMETRY }
+    ensures pages { result.pages ≡ pages }
+{
+    Opened {
+        head: Super {
+            geometry: GEOMETRY,
+            clean: true,
+            start: 1,
+        },
+        pages,
+        counters: Vec::new(alloc),
+        commits: Vec::new(alloc),
+        tree_pages: Vec::new(alloc),
+    }
+}
+
+fn small_tree(alloc: Global) -> Result<TreeNodes, AllocError>
+    ensures { IfOk result (λ tree. IsTree tree × (tree.forest ≡ FOREST)) }
+{
+    let opened = opened(alloc, small_pages(alloc)?);
+    TreeNodes::from_opened(alloc, &opened, FOREST.zone, FOREST.zones)
+}
+
+// What an address of the leaf leads to, one beside it, and one of the other tree.
 fn find_three(tree: &TreeNodes) -> [Found; 3]
-    requires { tree.now.geometry ≡ GEOMETRY }
+    requires { tree.now.forest ≡ FOREST }
 {
     [
         tree.find(&path(Lba(243_600), 3)),
         tree.find(&path(Lba(0), 3)),
-        tree.find(&path(Lba(812), 3)),
+        tree.find(&path(Lba(24_360), 3)),
     ]
 }
 
 // Links the two pages that the path of an address misses, and finds it then.
 fn link_two(tree: &mut TreeNodes) -> Found
     requires form { IsTree tree.old }
-    requires sizes { tree.old.geometry ≡ GEOMETRY }
+    requires sizes { tree.old.forest ≡ FOREST }
 {
-    let _ = link_next(tree, Lba(812), Pbn(92), Point(8));
-    let _ = link_next(tree, Lba(812), Pbn(93), Point(6));
-    tree.find(&path(Lba(812), 3))
+    let _ = link_next(tree, Lba(24_360), Pbn(92), Point(8));
+    let _ = link_next(tree, Lba(24_360), Pbn(93), Point(6));
+    tree.find(&path(Lba(24_360), 3))
 }
 
 #[test]
 fn opened_pages_lead_on(rt: HostRuntime) -> Result<(), Fail> {
     let mut tree = small_tree(rt.alloc())?;
     let found = find_three(&tree);
-    let stand = [tree.at(page_at(Lba(812), 2)), tree.at(page_at(Lba(812), 1))];
+    let stand = [
+        tree.at(page_at(Lba(24_360), 2)),
+        tree.at(page_at(Lba(24_360), 1)),
+    ];
     let clean = tree.low_point();
     let linked = link_two(&mut tree);
     let marks = [clean, tree.low_point()];
     let wanted = [Found::Leaf(Pbn(91)), Found::Missing(0), Found::Missing(1)];
-    assert!(rt;
-        (found, stand, linked, marks)
-            == (
-                wanted,
-                [Some(Pbn(10)), None],
-                Found::Leaf(Pbn(93)),
-                [None, Some(Point(6))]
-            )
+    let wanted_then = (
+        [Some(Pbn(39)), None],
+        Found::Leaf(Pbn(93)),
+        [None, Some(Point(6))],
     );
+    assert_eq!(rt; (found, (stand, linked, marks)), (wanted, wanted_then));
     Ok(())
 }
 
@@ -314,7 +363,7 @@ fn write_changed(tree: &mut TreeNodes, limit: Point) -> Option<Changed>
 // A page is linked at point 8: what is due at point 7, at point 8, and the low point then.
 fn link_and_write(tree: &mut TreeNodes) -> ([Option<Changed>; 2], Option<Point>)
     requires form { IsTree tree.old }
-    requires sizes { tree.old.geometry ≡ GEOMETRY }
+    requires sizes { tree.old.forest ≡ FOREST }
 {
     let _ = link_next(tree, Lba(0), Pbn(92), Point(8));
     let written = [write_changed(tree, Point(7)), write_changed(tree, Point(8))];
@@ -327,6 +376,6 @@ fn a_changed_page_is_written(rt: HostRuntime) -> Result<(), Fail> {
     let written = link_and_write(&mut tree);
     let mappings = [Mapping::At(Pbn(92)), Mapping::At(Pbn(91))];
     let changed = (page_at(Lba(0), 1), Pbn(90), mappings, Some(Point(8)));
-    assert!(rt; written == ([None, Some(changed)], None));
+    assert_eq!(rt; written, ([None, Some(changed)], None));
     Ok(())
 }

@@ -3,32 +3,29 @@ ghost use Rattle.slab_journal.specs.Slab.{IsWriting};
 
 mod plain;
 
+use crate::met::Met;
 use crate::updates::plain::{PlainJournal, Written};
-use blk_base::{Geometry, Pbn, Point};
+use blk_base::{Geometry, Pbn, Point, Update};
 use slab_codec::SlabJournalBlock;
-use slab_journal::{SlabJournal, Update};
+use slab_journal::SlabJournal;
 use std::alloc::AllocError;
 use std::test::Fail;
 
 // Two sectors of counters, two slots; the first data block of slab 0 is 85.
 const SMALL: Geometry = Geometry {
-    logical: 1000,
-    slabs: 1,
     slab_blocks: 1000,
-    journal: 8,
-    index: 16,
     slab_journal: 2,
-    height: 2,
     nonce: 7,
+    ..Geometry::DEFAULT
 };
 
 // Adds an update, and tells whether it was taken.
 fn add(journal: &mut SlabJournal, point: u64, offset: u32) -> bool
     requires small { (journal.old.geometry ≡ SMALL) × (journal.old.slab ≡ 0) }
     requires offset { offset < 1000 }
+    requires rises { journal.old.last.0 < point }
+    ensures last { journal.new.last.0 ≤ point }
     ensures small { (journal.new.geometry ≡ SMALL) × (journal.new.slab ≡ 0) }
-    ensures sequence { journal.new.sequence ≡ journal.old.sequence }
-    ensures durable { journal.new.durable ≡ journal.old.durable }
     ensures sectors { length journal.new.commits ≡ length journal.old.commits }
 {
     let update = Update {
@@ -51,8 +48,7 @@ fn told(block: &SlabJournalBlock) -> (u64, usize, u64, u64) {
 
 // No block is sealed while one is written.
 fn seals_none(journal: &mut SlabJournal) -> bool
-    requires writing { IsWriting journal.old }
-    requires sequence { journal.old.sequence < 2 ^ 55 }
+    requires { IsWriting journal.old }
     ensures { journal.new ≡ journal.old }
 {
     match journal.seal() {
@@ -64,9 +60,8 @@ fn seals_none(journal: &mut SlabJournal) -> bool
 // Seals the block, and tells it durable.
 fn write(journal: &mut SlabJournal) -> Option<Written>
     requires small { (journal.old.geometry ≡ SMALL) × (journal.old.slab ≡ 0) }
-    requires sequence { journal.old.sequence < 2 ^ 54 }
+    ensures last { journal.new.last ≡ journal.old.last }
     ensures small { (journal.new.geometry ≡ SMALL) × (journal.new.slab ≡ 0) }
-    ensures sequence { journal.new.sequence ≤ journal.old.sequence + 1 }
     ensures sectors { length journal.new.commits ≡ length journal.old.commits }
 {
     let block = journal.seal()?;
@@ -75,18 +70,22 @@ fn write(journal: &mut SlabJournal) -> Option<Written>
     Some((told(&block), seals_none))
 }
 
-// Two blocks are written, and an update is added to the third. Whether each update was taken, and what was written before
-// any, then, and last.
-fn fill_both_slots(journal: &mut SlabJournal) -> ([bool; 4], [Option<Written>; 3])
+// What waits in the block being filled: how many updates, and the first point.
+type Waiting = (usize, Option<Point>);
+
+// Two blocks are written, and an update is added to the third. Whether each update was taken, what was written before
+// any, then, and last, and what waited before any and before the first block.
+fn fill_both_slots(journal: &mut SlabJournal) -> ([bool; 4], [Option<Written>; 3], [Waiting; 2])
     requires small { (journal.old.geometry ≡ SMALL) × (journal.old.slab ≡ 0) }
-    requires sequence { journal.old.sequence ≡ 1 }
+    requires last { journal.old.last.0 ≡ 511 }
     ensures small { (journal.new.geometry ≡ SMALL) × (journal.new.slab ≡ 0) }
-    ensures sequence { journal.new.sequence ≤ 4 }
     ensures sectors { length journal.new.commits ≡ length journal.old.commits }
 {
     let of_nothing = write(journal);
+    let nothing = (journal.waiting(), journal.first_point());
     let added = add(journal, 512, 503);
     let added_too = add(journal, 513, 504);
+    let two = (journal.waiting(), journal.first_point());
     let first = write(journal);
     let added_next = add(journal, 514, 999);
     let second = write(journal);
@@ -94,6 +93,7 @@ fn fill_both_slots(journal: &mut SlabJournal) -> ([bool; 4], [Option<Written>; 3
     (
         [added, added_too, added_next, added_last],
         [of_nothing, first, second],
+        [nothing, two],
     )
 }
 
@@ -101,7 +101,6 @@ fn fill_both_slots(journal: &mut SlabJournal) -> ([bool; 4], [Option<Written>; 3
 // between and then, and what is written before and then.
 fn cover_first_block(journal: &mut SlabJournal) -> ([bool; 3], [Option<Written>; 2])
     requires small { (journal.old.geometry ≡ SMALL) × (journal.old.slab ≡ 0) }
-    requires sequence { journal.old.sequence ≤ 4 }
     requires sectors { length journal.old.commits ≡ 2 }
 {
     let at_once = journal.may_overwrite();
@@ -127,7 +126,12 @@ fn a_slot_waits_for_its_sectors(rt: HostRuntime) -> Result<(), Fail> {
         Some(((2, 1, 514, 999), true)),
     ];
     let written_then = [None, Some(((3, 1, 600, 0), true))];
-    assert!(rt; (filled, covered) == (([true; 4], written), ([false, false, true], written_then)));
+    let waiting = [(0, None), (2, Some(Point(512)))];
+    let wanted = (
+        ([true; 4], written, waiting),
+        ([false, false, true], written_then),
+    );
+    assert_eq!(rt; (filled, covered), wanted);
     Ok(())
 }
 
@@ -135,19 +139,22 @@ fn a_slot_waits_for_its_sectors(rt: HostRuntime) -> Result<(), Fail> {
 fn add_both(
     journal: &mut SlabJournal,
     plain: &mut PlainJournal,
+    met: &mut Met,
     first: u64,
     count: u32,
 ) -> Result<bool, AllocError>
     requires small { (journal.old.geometry ≡ SMALL) × (journal.old.slab ≡ 0) }
+    requires rises { (journal.old.last.0 < first) × (first + count < 2 ^ 64) }
+    ensures last { journal.new.last.0 < first + count }
     ensures small { (journal.new.geometry ≡ SMALL) × (journal.new.slab ≡ 0) }
-    ensures sequence { journal.new.sequence ≡ journal.old.sequence }
     ensures sectors { length journal.new.commits ≡ length journal.old.commits }
 {
     let mut same = true;
     for k in 0..count {
-        let point = first.wrapping_add(u64::from(k));
+        let point = first + u64::from(k);
         let offset = (point % 1000) as u32;
         let added = add(journal, point, offset);
+        met.refuse(!added);
         same &= added == plain.add(point, offset)?;
     }
     Ok(same)
@@ -157,20 +164,25 @@ fn add_both(
 fn step(
     journal: &mut SlabJournal,
     plain: &mut PlainJournal,
+    met: &mut Met,
     now: u64,
     number: u64,
 ) -> Result<bool, AllocError>
     requires small { (journal.old.geometry ≡ SMALL) × (journal.old.slab ≡ 0) }
-    requires sequence { journal.old.sequence < 2 ^ 54 }
+    requires rises { (journal.old.last.0 < now) × (now + 250 < 2 ^ 64) }
     requires sectors { length journal.old.commits ≡ 2 }
+    ensures last { journal.new.last.0 < now + 250 }
     ensures small { (journal.new.geometry ≡ SMALL) × (journal.new.slab ≡ 0) }
-    ensures sequence { journal.new.sequence ≤ journal.old.sequence + 1 }
     ensures sectors { length journal.new.commits ≡ 2 }
 {
     let rest = number / 4;
     match number % 4 {
-        0 => add_both(journal, plain, now, (rest % 250) as u32),
-        1 => Ok(write(journal) == plain.write()),
+        0 => add_both(journal, plain, met, now, (rest % 250) as u32),
+        1 => {
+            let written = write(journal);
+            met.write(written.is_some());
+            Ok(written == plain.write())
+        }
         _ => {
             let sector = (rest % 2) as u32;
             let point = now.saturating_sub(rest / 2 % 1500);
@@ -182,9 +194,13 @@ fn step(
 }
 
 // How many of 300 steps both make alike before the first that they don't.
-fn count_alike(journal: &mut SlabJournal, plain: &mut PlainJournal) -> Result<u64, AllocError>
+fn count_alike(
+    journal: &mut SlabJournal,
+    plain: &mut PlainJournal,
+    met: &mut Met,
+) -> Result<u64, AllocError>
     requires small { (journal.old.geometry ≡ SMALL) × (journal.old.slab ≡ 0) }
-    requires sequence { journal.old.sequence ≡ 1 }
+    requires last { journal.old.last.0 ≡ 511 }
     requires sectors { length journal.old.commits ≡ 2 }
 {
     let mut number = 1_u64;
@@ -192,7 +208,7 @@ fn count_alike(journal: &mut SlabJournal, plain: &mut PlainJournal) -> Result<u6
         number = number
             .wrapping_mul(6364136223846793005)
             .wrapping_add(1442695040888963407);
-        let alike = step(journal, plain, 512 + turn * 250, number >> 33)?;
+        let alike = step(journal, plain, met, 512 + turn * 250, number >> 33)?;
         if !alike || journal.may_overwrite() != plain.may_overwrite() {
             return Ok(turn);
         }
@@ -204,7 +220,8 @@ fn count_alike(journal: &mut SlabJournal, plain: &mut PlainJournal) -> Result<u6
 fn as_the_plain_journal(rt: HostRuntime) -> Result<(), Fail> {
     let mut journal = SlabJournal::new(rt.alloc(), &SMALL, 0)?;
     let mut plain = PlainJournal::new(rt.alloc(), 2);
-    let alike = count_alike(&mut journal, &mut plain);
-    assert!(rt; alike == Ok(300));
+    let mut met = Met::nothing();
+    let alike = count_alike(&mut journal, &mut plain, &mut met);
+    assert_eq!(rt; (alike, met.at_least(10)), (Ok(300), [true, false, true]));
     Ok(())
 }

@@ -1,5 +1,9 @@
-use crate::runs::DEFAULT;
-use blk_base::{Answer, Block, Layout, Lba, Pbn, Request, Writer};
+ghost use Rattle.std.specs.Prelude.{◌≡◌, ◌++◌, [], ◌∷◌, IfOk, OnOk};
+ghost use Rattle.std.specs.List.{AllByRecursion};
+ghost use Rattle.core_laws.specs.Sessions.{IsServed};
+ghost use Rattle.core_steps.specs.Starts.{Fits};
+
+use blk_base::{Answer, Block, Geometry, Layout, Lba, Pbn, Request, Writer};
 use core_laws::{Sizes, Zone, ZoneData};
 use core_steps::{Event, StepFault, Stepped, Zones, begin, play};
 use disk_model::Disk;
@@ -24,9 +28,11 @@ pub(crate) enum Given {
     Other,
 }
 
-pub(crate) fn sizes(zones: u8, depth: u32) -> Sizes {
+pub(crate) fn sizes(zones: u8, depth: u32) -> Sizes
+    ensures { result.geometry ≡ Geometry.DEFAULT }
+{
     Sizes {
-        geometry: DEFAULT,
+        geometry: Geometry::DEFAULT,
         start: 1,
         opened: 0,
         zones,
@@ -34,14 +40,18 @@ pub(crate) fn sizes(zones: u8, depth: u32) -> Sizes {
     }
 }
 
-fn push<T: Drop>(items: &mut Vec<T>, item: T) -> Result<(), AllocError> {
+fn push<T: Drop>(items: &mut Vec<T>, item: T) -> Result<(), AllocError>
+    ensures { OnOk result (items.new.items ≡ items.old.items ++ item ∷ []) }
+{
     match items.push(item) {
         Ok(()) => Ok(()),
         Err(_) => Err(AllocError),
     }
 }
 
-fn request(ask: Ask) -> Request {
+fn request(ask: Ask) -> Request
+    ensures { IsServed result }
+{
     match ask {
         Ask::Read(at) => Request::Read(Lba(at)),
         Ask::Write(at, byte) => Request::Write {
@@ -55,7 +65,9 @@ fn request(ask: Ask) -> Request {
     }
 }
 
-fn requests(alloc: Global, asks: &[Ask]) -> Result<Vec<Request>, AllocError> {
+fn requests(alloc: Global, asks: &[Ask]) -> Result<Vec<Request>, AllocError>
+    ensures { IfOk result (λ requests. AllByRecursion IsServed requests.items) }
+{
     let mut requests = Vec::new(alloc);
     for &ask in asks {
         push(&mut requests, request(ask))?;
@@ -63,7 +75,9 @@ fn requests(alloc: Global, asks: &[Ask]) -> Result<Vec<Request>, AllocError> {
     Ok(requests)
 }
 
-fn script(alloc: Global, streams: &[&[Ask]]) -> Result<Requests, AllocError> {
+fn script(alloc: Global, streams: &[&[Ask]]) -> Result<Requests, AllocError>
+    ensures { IfOk result (AllByRecursion (AllByRecursion IsServed)) }
+{
     let mut script = Vec::new(alloc);
     for asks in streams {
         push(&mut script, requests(alloc, asks)?)?;
@@ -73,9 +87,9 @@ fn script(alloc: Global, streams: &[&[Ask]]) -> Result<Requests, AllocError> {
 
 // All data blocks.
 fn data_blocks(alloc: Global) -> Result<Vec<Pbn>, AllocError> {
-    let layout = Layout::of(&DEFAULT);
+    let layout = Layout::of(&Geometry::DEFAULT);
     let mut blocks = Vec::new(alloc);
-    for offset in 0..DEFAULT.slab_blocks {
+    for offset in 0..Geometry::DEFAULT.slab_blocks {
         blocks.push(layout.data_block(0, offset))?;
     }
     Ok(blocks)
@@ -107,14 +121,16 @@ fn play_out<D: Disk>(
     zones: &mut Zones,
     events: &[Event],
     disk: &mut D,
-) -> Result<(), StepFault> {
-    for _ in 0..1000_u32 {
+) -> Result<(), StepFault>
+    requires { Fits sizes.now (D.seen disk.old) }
+{
+    for round in 0..1000_u32 {
         match play(alloc, sizes, zones, events, disk)? {
             Stepped::Did => {}
             Stepped::Idle => return Ok(()),
         }
     }
-    Err(StepFault::Numbers)
+    Err(StepFault::Exhausted)
 }
 
 // The core after these events, again and again, on a device with what these streams ask.
@@ -124,7 +140,12 @@ pub(crate) fn played<D: Disk>(
     streams: &[&[Ask]],
     events: &[Event],
     disk: &mut D,
-) -> Result<Zones, StepFault> {
+) -> Result<Zones, StepFault>
+    requires { sizes.now.geometry ≡ Geometry.DEFAULT }
+{
+    if disk.blocks() < Layout::of(&Geometry::DEFAULT).needed() {
+        return Err(StepFault::Stray);
+    }
     let mut zones = first(alloc, sizes, streams)?;
     play_out(alloc, sizes, &mut zones, events, disk)?;
     Ok(zones)

@@ -9,21 +9,10 @@ use std::thread::Threads;
 use stream_text::ScriptFault;
 use vdo_cli::{Ended, Fault, Words, put_fault, run};
 
-pub(crate) const DEFAULT: Geometry = Geometry {
-    logical: 1000,
-    slabs: 1,
-    slab_blocks: 64,
-    journal: 8,
-    index: 16,
-    slab_journal: 4,
-    height: 2,
-    nonce: 1,
-};
-
 // A device with a fresh image of the default sizes.
 pub(crate) fn fresh(alloc: Global) -> Result<MemDisk, AllocError> {
-    let layout = Layout::of(&DEFAULT);
-    let blocks = first_image(alloc, &DEFAULT, &layout)?;
+    let layout = Layout::of(&Geometry::DEFAULT);
+    let blocks = first_image(alloc, &Geometry::DEFAULT, &layout)?;
     MemDisk::from_blocks(alloc, blocks)
 }
 
@@ -112,11 +101,6 @@ pub(crate) fn run_on<R: Threads + Wait + Sync>(
     Ok(run_in(rt, outside, device))
 }
 
-// Whether the run put this text and ended with this status.
-pub(crate) fn shows(ran: &Ran, text: &[u8], status: u8) -> bool {
-    ran.status == status && ran.sink.bytes() == text
-}
-
 /// What the calls of a device are.
 #[derive(Clone, Copy)]
 pub(crate) enum Calls {
@@ -127,12 +111,7 @@ pub(crate) enum Calls {
 
 // Whether nothing was written or flushed.
 fn only_reads(calls: &[Call]) -> bool {
-    for call in calls {
-        if !matches!(call, Call::Read { .. }) {
-            return false;
-        }
-    }
-    true
+    calls.iter().all(|call| matches!(call, Call::Read { .. }))
 }
 
 fn are_calls(calls: &[Call], want: Calls) -> bool {
@@ -146,8 +125,29 @@ fn are_calls(calls: &[Call], want: Calls) -> bool {
 /// The text that a run puts, its status, and the calls of its device.
 pub(crate) type End = (&'static [u8], u8, Calls);
 
-pub(crate) fn ends_so(ran: &Ran, (text, status, calls): End) -> bool {
-    shows(ran, text, status) && are_calls(ran.device.calls(), calls)
+/// How a run ended: its status, and whether its text and the calls of its device are as wanted.
+#[derive(Clone, Copy, Debug, PartialEq, Eq)]
+struct Outcome {
+    status: u8,
+    text: bool,
+    calls: bool,
+}
+
+/// As wanted, with this status.
+fn all_right(status: u8) -> Outcome {
+    Outcome {
+        status,
+        text: true,
+        calls: true,
+    }
+}
+
+fn found(ran: &Ran, text: &[u8], calls: Calls) -> Outcome {
+    Outcome {
+        status: ran.status,
+        text: ran.sink.bytes() == text,
+        calls: are_calls(ran.device.calls(), calls),
+    }
 }
 
 // Runs a script on a device, which puts this text and ends with this status, and gives the device back.
@@ -160,7 +160,7 @@ pub(crate) fn puts<R: Threads + Wait + Sync + Abort>(
     status: u8,
 ) -> Result<MemDisk, Fail> {
     let ran = run_on(rt, alloc, device, script, None, 2000)?;
-    assert!(rt; shows(&ran, text, status));
+    assert_eq!(rt; found(&ran, text, Calls::Any), all_right(status));
     let Ran { device, .. } = ran;
     Ok(device)
 }
@@ -198,7 +198,7 @@ fn put_parts(blocks: &mut [Block], parts: &[Part]) {
 }
 
 fn with_parts(alloc: Global, parts: &[Part]) -> Result<MemDisk, AllocError> {
-    let mut blocks = first_image(alloc, &DEFAULT, &Layout::of(&DEFAULT))?;
+    let mut blocks = first_image(alloc, &Geometry::DEFAULT, &Layout::of(&Geometry::DEFAULT))?;
     put_parts(&mut blocks, parts);
     MemDisk::from_blocks(alloc, blocks)
 }
@@ -212,7 +212,7 @@ fn put_byte(blocks: &mut [Block], at: usize, byte: u8) {
 }
 
 fn changed(alloc: Global, at: usize, byte: u8) -> Result<MemDisk, AllocError> {
-    let mut blocks = first_image(alloc, &DEFAULT, &Layout::of(&DEFAULT))?;
+    let mut blocks = first_image(alloc, &Geometry::DEFAULT, &Layout::of(&Geometry::DEFAULT))?;
     put_byte(&mut blocks, at, byte);
     MemDisk::from_blocks(alloc, blocks)
 }
@@ -227,28 +227,28 @@ fn made(alloc: Global, device: Device) -> Result<MemDisk, AllocError> {
     }
 }
 
-// Whether a run on this device, with what is outside, ends so.
-fn is_run<R: Threads + Wait + Sync>(
+// How a run on this device, with what is outside, ends.
+fn end_of_run<R: Threads + Wait + Sync>(
     rt: &R,
     alloc: Global,
     device: Device,
     outside: Outside,
-    end: End,
-) -> Result<bool, AllocError> {
+    (text, _, calls): End,
+) -> Result<Outcome, AllocError> {
     let ran = run_in(rt, outside, made(alloc, device)?);
-    Ok(ends_so(&ran, end))
+    Ok(found(&ran, text, calls))
 }
 
-// Whether the run of a script on this device ends so.
-fn is_right<R: Threads + Wait + Sync>(
+// How the run of a script on this device ends.
+fn end_of_script<R: Threads + Wait + Sync>(
     rt: &R,
     alloc: Global,
     device: Device,
     script: &[u8],
     end: End,
-) -> Result<bool, AllocError> {
+) -> Result<Outcome, AllocError> {
     let outside = outside_of(alloc, &["run"], script, None, 2000)?;
-    is_run(rt, alloc, device, outside, end)
+    end_of_run(rt, alloc, device, outside, end)
 }
 
 /// A device, a script, and how the run of it ends.
@@ -260,7 +260,10 @@ pub(crate) fn each_is_right<R: Threads + Wait + Sync + Abort>(
     cases: &[Case],
 ) -> Result<(), Fail> {
     for &(device, script, end) in cases {
-        assert!(rt; is_right(rt, alloc, device, script, end)?);
+        assert_eq!(rt;
+            end_of_script(rt, alloc, device, script, end)?,
+            all_right(end.1)
+        );
     }
     Ok(())
 }
@@ -409,21 +412,22 @@ const TOO_MANY: End = (b"script line 1025: later\n", 2, Calls::Count(9));
 #[test]
 fn a_request_too_many(rt: HostRuntime) -> Result<(), Fail> {
     let script = flushes(rt.alloc(), 1025)?;
-    assert!(rt; is_right(&rt, rt.alloc(), Device::Fresh, script.as_slice(), TOO_MANY)?);
+    let end = end_of_script(&rt, rt.alloc(), Device::Fresh, script.as_slice(), TOO_MANY)?;
+    assert_eq!(rt; end, all_right(2));
     Ok(())
 }
 
-// Whether a write and a read end so, with a source that fails after so many bytes and a sink with so much room.
-fn is_run_within<R: Threads + Wait + Sync>(
+// How a write and a read end, with a source that fails after so many bytes and a sink with so much room.
+fn end_within<R: Threads + Wait + Sync>(
     rt: &R,
     alloc: Global,
     device: Device,
     (fails_at, room): (Option<u64>, usize),
     end: End,
-) -> Result<bool, AllocError> {
+) -> Result<Outcome, AllocError> {
     let script = b"0 write 5 4096*61\n0 read 5\n";
     let outside = outside_of(alloc, &["run"], script, fails_at, room)?;
-    is_run(rt, alloc, device, outside, end)
+    end_of_run(rt, alloc, device, outside, end)
 }
 
 const FAILS_OUTSIDE: [(Device, (Option<u64>, usize), End); 3] = [
@@ -444,7 +448,10 @@ const FAILS_OUTSIDE: [(Device, (Option<u64>, usize), End); 3] = [
 #[test]
 fn the_outside_fails(rt: HostRuntime) -> Result<(), Fail> {
     for &(device, limits, end) in &FAILS_OUTSIDE {
-        assert!(rt; is_run_within(&rt, rt.alloc(), device, limits, end)?);
+        assert_eq!(rt;
+            end_within(&rt, rt.alloc(), device, limits, end)?,
+            all_right(end.1)
+        );
     }
     Ok(())
 }
@@ -485,19 +492,20 @@ const SUPERBLOCKS: [(usize, u8, &[u8]); 15] = [
 fn superblocks_that_are_refused(rt: HostRuntime) -> Result<(), Fail> {
     for &(at, byte, text) in &SUPERBLOCKS {
         let end = (text, 4, Calls::Count(1));
-        assert!(rt; is_right(&rt, rt.alloc(), Device::Changed(at, byte), b"", end)?);
+        let ended = end_of_script(&rt, rt.alloc(), Device::Changed(at, byte), b"", end)?;
+        assert_eq!(rt; ended, all_right(4));
     }
     Ok(())
 }
 
-// Whether these words are no command, for which the device isn't looked at.
-fn is_usage<R: Threads + Wait + Sync>(
+// How a run of these words ends, which are no command: the device isn't looked at.
+fn end_of_words<R: Threads + Wait + Sync>(
     rt: &R,
     alloc: Global,
     row: &[&str],
-) -> Result<bool, AllocError> {
+) -> Result<Outcome, AllocError> {
     let outside = outside_of(alloc, row, b"", None, 100)?;
-    is_run(
+    end_of_run(
         rt,
         alloc,
         Device::Fresh,
@@ -517,7 +525,7 @@ const NO_COMMANDS: [&[&str]; 5] = [
 #[test]
 fn other_words(rt: HostRuntime) -> Result<(), Fail> {
     for &row in &NO_COMMANDS {
-        assert!(rt; is_usage(&rt, rt.alloc(), row)?);
+        assert_eq!(rt; end_of_words(&rt, rt.alloc(), row)?, all_right(2));
     }
     Ok(())
 }

@@ -1,5 +1,5 @@
-use crate::runs::{DEFAULT, Ran, fresh, puts, run_on};
-use blk_base::{Block, Layout};
+use crate::runs::{Ran, fresh, puts, run_on};
+use blk_base::{Block, Geometry, Layout};
 use disk_model::{Call, MemDisk};
 use image_layout::first_image;
 use std::alloc::{AllocError, Global};
@@ -103,7 +103,7 @@ fn apply_all(blocks: &mut [Block], calls: &[Call], reached: Reached) {
 
 // A device with what is on one with a fresh image after these calls.
 fn device_after(alloc: Global, calls: &[Call], reached: Reached) -> Result<MemDisk, AllocError> {
-    let mut blocks = first_image(alloc, &DEFAULT, &Layout::of(&DEFAULT))?;
+    let mut blocks = first_image(alloc, &Geometry::DEFAULT, &Layout::of(&Geometry::DEFAULT))?;
     apply_all(&mut blocks, calls, reached);
     MemDisk::from_blocks(alloc, blocks)
 }
@@ -185,6 +185,6 @@ fn stops_anywhere<R: Threads + Wait + Sync + Abort>(
 #[test]
 fn a_stop_at_any_moment(rt: HostRuntime) -> Result<(), Fail> {
     let device = puts(&rt, rt.alloc(), fresh(rt.alloc())?, SCRIPT, ANSWERS, 0)?;
-    assert!(rt; device.calls().len() == OPENING + SESSION);
+    assert_eq!(rt; device.calls().len(), OPENING + SESSION);
     stops_anywhere(&rt, rt.alloc(), device.calls())
 }

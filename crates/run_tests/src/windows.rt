@@ -73,7 +73,7 @@ fn a_later_run_uses_the_last_journal_blocks(rt: HostRuntime) -> Result<(), Fail>
     )
 }
 
-// Journal blocks, as bytes that were computed apart: sequence, head and entries are in their comments.
+// Journal blocks, as bytes that tools/journal.py computed: sequence, head and entries are in their comments.
 
 // 1, 1, address 5 to block 85
 const WRITTEN: &[u8] =

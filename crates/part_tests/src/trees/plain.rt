@@ -102,6 +102,17 @@ impl Plain {
         Ok(())
     }
 
+    // A link that was there from the start.
+    pub fn open(&mut self, page: PageId, at: Pbn) -> Result<(), AllocError> {
+        self.links.push(Link {
+            page,
+            at,
+            point: Point(0),
+            stage: Stage::Written,
+        })?;
+        Ok(())
+    }
+
     fn is_out(&self, page: PageId) -> bool {
         for link in &self.links {
             if link.stage == Stage::BeingWritten && above(link.page) == page {

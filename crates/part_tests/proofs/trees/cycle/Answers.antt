@@ -11,7 +11,7 @@ link_both-requires-2-clause-form c =
 pub link_both-requires-2-clause-sizes : goal.link_both-requires-2-clause-sizes
 link_both-requires-2-clause-sizes c =
     let expires = rw c.in-Some.is at c.take_expired-taken.ensures.some in
-    ap (λ (t : Tree). t.geometry) expires.set ∙ c.link_both.ensures.sizes
+    ap (λ (t : Tree). t.forest) expires.set ∙ c.link_both.ensures.sizes
 
 pub written-requires : goal.written-requires
 written-requires c =
@@ -22,4 +22,4 @@ pub returns-clause-form : goal.returns-clause-form
 returns-clause-form c = c.written.ensures.form
 
 pub returns-clause-sizes : goal.returns-clause-sizes
-returns-clause-sizes c = ap (λ (t : Tree). t.geometry) c.written.ensures.set ∙ c.write_one-written.ensures.sizes
+returns-clause-sizes c = ap (λ (t : Tree). t.forest) c.written.ensures.set ∙ c.write_one-written.ensures.sizes
