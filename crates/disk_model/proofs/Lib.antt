@@ -1,4 +1,5 @@
 pub mod CausePins
+pub mod SincePins
 pub mod Honest
 pub mod ImageLaws
 pub mod OneImageLaws

@@ -11,3 +11,4 @@ pub mod StopRows
 pub mod AfterStopRows
 pub mod RunRows
 pub mod ServableRows
+pub mod ZoneOrderRows
