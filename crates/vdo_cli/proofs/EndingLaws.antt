@@ -7,11 +7,11 @@ use Rattle.vdo_cli.specs.declared.fault.Fault.{Fault}
 use Rattle.vdo_cli.specs.declared.fault.Fault.TheVariants as fault
 use Rattle.vdo_cli.specs.Endings.{PlayFails}
 use Rattle.vdo_cli.specs.Openings.{OpeningFails}
-use Rattle.vdo_cli.specs.Runs.{Setting, Outside, NotBegun, Served, EndsSo}
+use Rattle.vdo_cli.specs.Runs.{Setting, Outside, NotBegun, PlayedOut, EndsSo}
 
 -- after a session
 pub served_ends : (s : Setting) (words : List (List ℕ)) (before after : Outside) (status : ℕ) (report : RunReport) (ended : Option Fault)
-    → Served s words before after status report ended → EndsSo s words before after status report ended
+    → PlayedOut s words before after status report ended → EndsSo s words before after status report ended
 served_ends s words before after status report None served = served
 served_ends s words before after status report (Some fault.Sink) served = served
 served_ends s words before after status report (Some fault.Usage) served = absurd served.closes

@@ -6,5 +6,7 @@ pub mod StopLaws
 pub mod OneLaws
 pub mod PlayPins
 pub mod RunPins
+pub mod SessionPins
+pub mod TextPins
 pub mod EndingLaws
 pub mod OnwardLaws

@@ -9,7 +9,7 @@ use Rattle.vdo_model.specs.FlushMarks.{calls_of}
 use Rattle.vdo_cli.specs.declared.fault.Fault.{Fault}
 use Rattle.vdo_cli.specs.declared.fault.Fault.TheVariants as fault
 use Rattle.vdo_cli.specs.Onward.{GoesOn}
-use Rattle.vdo_cli.specs.Runs.{Setting, Outside, NotBegun, Served, EndsSo}
+use Rattle.vdo_cli.specs.Runs.{Setting, Outside, NotBegun, PlayedOut, EndsSo}
 
 untouched : (tells : Bool) (before after : Seen) → IsUntouched tells before after → GoesOn tells before after
 untouched tells before after is = record { stays = is.stays; calls = λ told. let since = is.reads told in (since.0, since.1) }
@@ -19,7 +19,7 @@ not_begun : (s : Setting) (words : List (List ℕ)) (before after : Outside) (st
 not_begun s words before after status report why ends = untouched s.device_tells before.device after.device ends.untouched
 
 served : (s : Setting) (words : List (List ℕ)) (before after : Outside) (status : ℕ) (report : RunReport) (ended : Option Fault)
-    → Served s words before after status report ended → GoesOn s.device_tells before.device after.device
+    → PlayedOut s words before after status report ended → GoesOn s.device_tells before.device after.device
 served s words before after status report ended ends = record {
   stays = ends.session.stays;
   calls = λ told. let happens = ends.session.happens told in (calls_of happens.moments, happens.calls);

@@ -1,15 +1,19 @@
 -- Rows that pin why no session was begun (`PlayFails`): for each cause some that it accepts, and some that break one part
 -- of it alone.
-use Rattle.std.proofs.Common.{ℕ, ◌≡◌, ◌≢◌, ◌+◌, ◌++◌, Bool, true, false, List, [], ◌∷◌, length, Ok, Err, refl, ◌∙◌, ap, inl, inr, arith}
+use Rattle.std.proofs.Common.{ℕ, ◌≡◌, ◌≢◌, ◌+◌, ◌++◌, Bool, true, false, ◌<◌, List, [], ◌∷◌, length, reverse, Result, Ok, Err, refl, sym, ◌∙◌, ap, inl, inr, arith}
+use Rattle.std.proofs.lemmas.List.{length-reverse, reverse-reverse}
 use Rattle.blk_base.specs.declared.geometry.Super.{Super}
 use Rattle.blk_base.specs.declared.journal_entry.Entry.{Entry}
 use Rattle.blk_base.specs.declared.place.Pbn.{Pbn}
 use Rattle.blk_base.specs.declared.request.Request.{Request}
 use Rattle.disk_model.specs.declared.call.Call.{Call}
 use Rattle.disk_model.specs.declared.call.Call.TheVariants.{Read, Write, Flush}
+use Rattle.disk_model.specs.Causes.{Rose}
 use Rattle.disk_model.specs.Log.{Blocks}
 use Rattle.disk_model.specs.Seen.{Seen}
-use Rattle.disk_model.specs.Since.{reads_of}
+use Rattle.disk_model.specs.Since.{reads_of, NextFailed}
+use Rattle.disk_model.proofs.SinceLaws.{reads_are_one}
+use Rattle.image_layout.specs.Opened.{IsHead}
 use Rattle.image_layout.specs.Superblock.{super_of}
 use Rattle.image_layout.specs.Window.{IsFaulty, IsWindow}
 use Rattle.image_layout.specs.declared.fault.ImageFault.TheVariants as image
@@ -144,6 +148,41 @@ module _ (block bytes : List ℕ) where
       let is = read.logged refl in
       let same : bytes ≡ first = cc in
       absurd (cc (is_head, says, ap (λ (b : List ℕ). super_of b 1) same))
+
+-- Device, behind a superblock: a read of a block of the journal failed, and none of a block behind the journal.
+module _ (honest : Bool) (before after : Seen) (head : Super) (first bytes : List ℕ) (is_head : IsHead before.size first head) (journal : List (List ℕ)) where
+  device-journal_read : length journal < head.geometry.journal → NextFailed true honest 0 before after (reverse (first ∷ journal)) → PlayFails true honest true before after [] 0 0 fault.Device
+  device-journal_read few failed = record { blocks = reverse (first ∷ journal); begun = inr (head, first, journal, refl, is_head, few); failed = failed }
+
+  -- the log has the failed read of the block behind these, and the device kept all its calls
+  module _ (count : length journal ≡ head.geometry.journal) (kept : Rose before.unkept after.unkept → ⊥)
+      (logged : after.log ≡ Read (at (length (reverse (first ∷ journal)))) bytes false ∷ (reads_of 0 (reverse (first ∷ journal)) ++ before.log)) where
+    -- these are the blocks that were read
+    same_blocks : (blocks : List (List ℕ)) → NextFailed true honest 0 before after blocks → blocks ≡ reverse (first ∷ journal)
+    same_blocks blocks failed = elim (failed.logged refl).1 [
+      | inl is ↦ let reads : reads_of 0 blocks ++ before.log ≡ reads_of 0 (reverse (first ∷ journal)) ++ before.log = older_calls (sym is ∙ logged) in reads_are_one 0 blocks (reverse (first ∷ journal)) before.log reads
+      | inr (same, rose) ↦ absurd (kept rose)
+    ]
+      where
+        older_calls : {newest newest' : Call} {older older' : List Call} → newest ∷ older ≡ newest' ∷ older' → older ≡ older'
+        older_calls same = cc
+
+    device-not_behind_the_journal : PlayFails true honest true before after [] 0 0 fault.Device → ⊥
+    device-not_behind_the_journal fails = elim fails.begun [
+      | inl (none, some) ↦ let size = ap length (sym none ∙ same_blocks fails.blocks fails.failed) in omega (arith, size, length-reverse (first ∷ journal))
+      | inr (head', first', journal', is, is_head', few) ↦
+          let all : first ∷ journal ≡ first' ∷ journal' =
+              sym (reverse-reverse (first ∷ journal)) ∙ ap reverse (sym (same_blocks fails.blocks fails.failed) ∙ is) ∙ reverse-reverse (first' ∷ journal') in
+          let firsts : first ≡ first' = cc in
+          let journals : journal ≡ journal' = cc in
+          let heads : Ok head ≡ Ok head' = sym is_head.says ∙ ap (λ (block : List ℕ). super_of block before.size) firsts ∙ is_head'.says in
+          let sizes = ap journal_size heads in
+          omega (arith, few, ap length journals, count, sizes)
+    ]
+      where
+        journal_size : Result Super SuperFault → ℕ
+        journal_size (Ok h) = h.geometry.journal
+        journal_size (Err why) = 0
 
 -- Behind a superblock and a journal that were read of a device that tells.
 module _ (honest : Bool) (before after : Seen) (head : Super) (journal : List (List ℕ)) (read : IsRead true honest before after head journal) (left : List ℕ) where

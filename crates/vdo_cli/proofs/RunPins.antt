@@ -1,11 +1,13 @@
 -- Rows that pin how a run ends (`EndsSo`): for each part some that it accepts, and some that break this part alone.
-use Rattle.std.proofs.Common.{ℕ, ◌≡◌, ◌++◌, Bool, true, false, IsTrue, List, [], ◌∷◌, length, Option, Some, None, codes, refl, ap, inl, inr, arith}
+use Rattle.std.proofs.Common.{ℕ, zero, suc, ◌≡◌, ◌++◌, Bool, true, false, IsTrue, List, [], ◌∷◌, length, take, Option, Some, None, codes, refl, ap, inl, inr, arith}
 use Rattle.disk_model.specs.declared.call.Call.{Call}
 use Rattle.disk_model.specs.declared.call.Call.TheVariants.{Read, Write, Flush}
 use Rattle.disk_model.specs.Seen.{Seen}
 use Rattle.disk_model.specs.Since.{OnlyReads}
 use Rattle.stream_text.specs.Texts.{answers_text}
 use Rattle.vdo_model.specs.declared.report.RunReport.{RunReport}
+use Rattle.image_layout.specs.declared.fault.ImageFault.TheVariants as image
+use Rattle.image_layout.specs.declared.fault.SuperFault.TheVariants.{NotAnImage}
 use Rattle.vdo_cli.specs.declared.fault.Fault.{Fault}
 use Rattle.vdo_cli.specs.declared.fault.Fault.TheVariants as fault
 use Rattle.vdo_cli.specs.Commands.{run_words}
@@ -19,18 +21,18 @@ use Rattle.vdo_cli.proofs.PlayPins.{device, at}
 abbrev telling : Setting
 telling = setting true false true true
 
-abbrev Ends : List (List ℕ) → Outside → Outside → ℕ → RunReport → Option Fault → Type 0
+abbrev pub Ends : List (List ℕ) → Outside → Outside → ℕ → RunReport → Option Fault → Type 0
 Ends words before after status report why = EndsSo telling words before after status report why
 
 -- a device of one block, a source with one byte left, and a sink that holds these bytes
-abbrev with : List Call → List ℕ → List ℕ → ℕ → Outside
+abbrev pub with : List Call → List ℕ → List ℕ → ℕ → Outside
 with log left held faults = outside (device ([] ∷ []) log 0 0) left 0 held faults
 
-abbrev begins : Outside
+abbrev pub begins : Outside
 begins = with [] (7 ∷ []) [] 0
 
 -- another report than the empty one
-abbrev some_report : RunReport
+abbrev pub some_report : RunReport
 some_report = record { requests = [] ∷ []; desk = []; marks = []; places = []; histories = [] }
 
 -- Usage. The words are no command, and only its line was put:
@@ -69,6 +71,21 @@ usage-not_reported ends = let same = ap (λ (report : RunReport). length report.
 usage-not_silent : Ends [] begins begins 2 no_report (Some fault.Usage) → ⊥
 usage-not_silent ends = elim ends.refuses.puts [ inl put ↦ let size = ap length (put refl) in omega (arith, size) | inr (rose, part) ↦ omega (arith, rose) ]
 
+-- nor is another text put, though the sink failed
+usage-not_another_text : Ends [] begins (with [] (7 ∷ []) (9 ∷ []) 1) 2 no_report (Some fault.Usage) → ⊥
+usage-not_another_text ends = elim ends.refuses.puts [
+  | inl put ↦ let size = ap length (put refl) in omega (arith, size)
+  | inr (rose, part) ↦ let is = part refl in other is.0 is.1
+]
+  where
+    other : (n : ℕ) → 9 ∷ [] ≡ [] ++ take n (codes "usage\n") → ⊥
+    other zero is = let size = ap length is in omega (arith, size)
+    other (suc n) is = let bytes = ap first_byte is in omega (arith, bytes)
+      where
+        first_byte : List ℕ → ℕ
+        first_byte [] = 0
+        first_byte (b ∷ bs) = b
+
 -- No session was begun, here for want of memory. The words are `run`, nothing was written, and the line was put:
 memory-untouched : Ends run_words begins (with (Read (at 0) [] true ∷ []) [] (codes "no memory\n") 0) 5 no_report (Some fault.Memory)
 memory-untouched = record {
@@ -99,6 +116,34 @@ memory-not_of_another_size ends = omega (arith, ends.untouched.stays.size)
 
 memory-not_another_status : Ends run_words begins (with [] [] (codes "no memory\n") 0) 3 no_report (Some fault.Memory) → ⊥
 memory-not_another_status ends = omega (arith, ends.refuses.status_is)
+
+memory-not_silent : Ends run_words begins (with [] [] [] 0) 5 no_report (Some fault.Memory) → ⊥
+memory-not_silent ends = elim ends.refuses.puts [ inl put ↦ let size = ap length (put refl) in omega (arith, size) | inr (rose, part) ↦ omega (arith, rose) ]
+
+memory-not_reported : Ends run_words begins (with [] [] (codes "no memory\n") 0) 5 some_report (Some fault.Memory) → ⊥
+memory-not_reported ends = let same = ap (λ (report : RunReport). length report.requests) ends.refuses.report_is in omega (arith, same)
+
+-- the other faults are so too: each has its own cause, and comes of the command alone
+read-not_without_rise : Ends run_words begins (with [] [] (codes "read fault\n") 0) 7 no_report (Some fault.Read) → ⊥
+read-not_without_rise ends = omega (arith, ends.cause.cause)
+
+device-not_without_rise : Ends run_words begins (with [] [] (codes "device fault\n") 0) 3 no_report (Some fault.Device) → ⊥
+device-not_without_rise ends = omega (arith, ends.cause.failed.rose)
+
+image-not_unread : Ends run_words begins (with [] [] (codes "bad image: not an image\n") 0) 4 no_report (Some (fault.Image (image.Super NotAnImage))) → ⊥
+image-not_unread ends = elim ends.cause [
+  | inl (none, read, is) ↦ omega (arith, none)
+  | inr (first, some, read, says) ↦ let size = ap length (read.logged refl) in omega (arith, size)
+]
+
+faults-not_other_words : (after : Outside) (status : ℕ) (report : RunReport) (why : Fault) → Ends [] begins after status report (Some why) → why ≡ fault.Usage
+faults-not_other_words after status report fault.Usage ends = refl
+faults-not_other_words after status report (fault.Script why) ends = let size = ap length ends.words_are in absurd (omega (arith, size))
+faults-not_other_words after status report fault.Device ends = let size = ap length ends.words_are in absurd (omega (arith, size))
+faults-not_other_words after status report (fault.Image why) ends = let size = ap length ends.words_are in absurd (omega (arith, size))
+faults-not_other_words after status report fault.Memory ends = let size = ap length ends.words_are in absurd (omega (arith, size))
+faults-not_other_words after status report fault.Read ends = let size = ap length ends.words_are in absurd (omega (arith, size))
+faults-not_other_words after status report fault.Sink ends = let size = ap length ends.words_are in absurd (omega (arith, size))
 
 -- A session was served: its answers were put, with its status
 served-whole : (report : RunReport) (before after : Seen) (left rest : List ℕ) → Plays true false true report before after left rest

@@ -6,15 +6,9 @@ use Rattle.blk_base.specs.declared.place.Lba.{Lba}
 use Rattle.blk_base.specs.declared.place.Pbn.{Pbn}
 use Rattle.blk_base.specs.declared.place.Mapping.TheVariants.{Unmapped, At}
 use Rattle.image_layout.specs.Window.{mapping_of}
-use Rattle.vdo_model.proofs.Example.{full_lines}
-use Rattle.vdo_cli.specs.Texts.{desk_status}
 
 abbrev address : ℕ → Lba
 address a = record { 0 = a }
-
--- the status says that there was no room
-full_status : desk_status full_lines ≡ 1
-full_status = refl
 
 -- a window with two entries of address 5: the newest one counts
 abbrev block_at : ℕ → Pbn

@@ -76,7 +76,7 @@ pub record NotBegun (s : Setting) (words : List (List ℕ)) (before after : Outs
   pub refuses : Refuses s.sink_tells why status report before.held before.sink_faults after.held after.sink_faults
 
 -- a session was served to its end, and its answers were put
-pub record Served (s : Setting) (words : List (List ℕ)) (before after : Outside) (status : ℕ) (report : RunReport) (ended : Option Fault) : Type 0 where
+pub record PlayedOut (s : Setting) (words : List (List ℕ)) (before after : Outside) (status : ℕ) (report : RunReport) (ended : Option Fault) : Type 0 where
   pub words_are : words ≡ run_words
   pub session : Plays s.device_tells s.device_honest s.source_tells report before.device after.device before.left after.left
   pub closes : Closes s.sink_tells report status ended before.held before.sink_faults after.held after.sink_faults
@@ -90,8 +90,8 @@ pub record IsUsage (s : Setting) (words : List (List ℕ)) (before after : Outsi
 
 -- how a run ends
 abbrev pub EndsSo : Setting → List (List ℕ) → Outside → Outside → ℕ → RunReport → Option Fault → Type 0
-EndsSo s words before after status report None = Served s words before after status report None
-EndsSo s words before after status report (Some fault.Sink) = Served s words before after status report (Some fault.Sink)
+EndsSo s words before after status report None = PlayedOut s words before after status report None
+EndsSo s words before after status report (Some fault.Sink) = PlayedOut s words before after status report (Some fault.Sink)
 EndsSo s words before after status report (Some fault.Usage) = IsUsage s words before after status report
 EndsSo s words before after status report (Some (fault.Script why)) = NotBegun s words before after status report (fault.Script why)
 EndsSo s words before after status report (Some fault.Device) = NotBegun s words before after status report fault.Device
