@@ -172,7 +172,7 @@ module _ (honest : Bool) (before after : Seen) (head : Super) (first bytes : Lis
       | inl (none, some) ↦ let size = ap length (sym none ∙ same_blocks fails.blocks fails.failed) in omega (arith, size, length-reverse (first ∷ journal))
       | inr (head', first', journal', is, is_head', few) ↦
           let all : first ∷ journal ≡ first' ∷ journal' =
-              sym (reverse-reverse (first ∷ journal)) ∙ ap reverse (sym (same_blocks fails.blocks fails.failed) ∙ is) ∙ reverse-reverse (first' ∷ journal') in
+          sym (reverse-reverse (first ∷ journal)) ∙ ap reverse (sym (same_blocks fails.blocks fails.failed) ∙ is) ∙ reverse-reverse (first' ∷ journal') in
           let firsts : first ≡ first' = cc in
           let journals : journal ≡ journal' = cc in
           let heads : Ok head ≡ Ok head' = sym is_head.says ∙ ap (λ (block : List ℕ). super_of block before.size) firsts ∙ is_head'.says in

@@ -1,6 +1,6 @@
 -- Rows that pin what a session is that was served to its end (`EndsSo`, its parts `Plays` and `Closes`): for each part some
 -- that it accepts, and some that break this part alone.
-use Rattle.std.proofs.Common.{ℕ, suc, ◌≡◌, ◌<◌, ◌≤◌, ◌++◌, Bool, true, false, IsTrue, List, [], ◌∷◌, length, reverse, take, Option, Some, None, Ok, codes, refl, ◌∙◌, sym, ap, inl, inr, arith, length-append}
+use Rattle.std.proofs.Common.{ℕ, suc, ◌≡◌, ◌<◌, ◌≤◌, ◌++◌, true, false, List, [], ◌∷◌, length, reverse, take, Some, None, Ok, codes, refl, ◌∙◌, sym, ap, arith, length-append}
 use Rattle.std.proofs.lemmas.List.{length-reverse}
 use Rattle.blk_base.specs.declared.request.Answer.TheVariants as reply
 use Rattle.blk_base.specs.declared.request.Request.TheVariants as request
@@ -18,7 +18,7 @@ use Rattle.vdo_model.proofs.Example.{of_a}
 use Rattle.vdo_cli.specs.declared.fault.Fault.TheVariants as fault
 use Rattle.vdo_cli.specs.Commands.{run_words}
 use Rattle.vdo_cli.specs.Endings.{Plays}
-use Rattle.vdo_cli.specs.Runs.{EndsSo, no_report, outside}
+use Rattle.vdo_cli.specs.Runs.{no_report, outside}
 use Rattle.vdo_cli.specs.Texts.{some_lost}
 use Rattle.vdo_cli.proofs.PlayPins.{device}
 use Rattle.vdo_cli.proofs.RunPins.{Ends, begins, with, some_report}

@@ -16,16 +16,9 @@ fn put_three<K: Sink>(out: &mut K, first: &[u8], second: &[u8], third: &[u8]) ->
     ensures err { IsTrue K.tells → OnErr result (PutsPart (K.holds out.old) (K.holds out.new) (first.now ++ (second.now ++ third.now))) }
     ensures cause { HasCause (K.faults out.old) (K.faults out.new) result }
 {
-    let Ok(()) = out.put(first) else {
-        return Err(Failed);
-    };
-    let Ok(()) = out.put(second) else {
-        return Err(Failed);
-    };
-    let Ok(()) = out.put(third) else {
-        return Err(Failed);
-    };
-    Ok(())
+    out.put(first)?;
+    out.put(second)?;
+    out.put(third)
 }
 
 // Puts the line of a superblock that is refused.
