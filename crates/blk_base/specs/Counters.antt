@@ -1,11 +1,11 @@
 -- Reference counters: how high they count, and in which sectors they stand. A block has eight sectors.
 use Rattle.std.specs.Prelude.{ℕ, ◌+◌, ◌-◌, ◌*◌, ◌/◌}
 use Rattle.blk_base.specs.declared.geometry.Geometry.{Geometry}
-use Rattle.blk_base.specs.declared.sizes.TheConstants.{SECTOR_COUNTERS}
+use Rattle.blk_base.specs.declared.sizes.TheConstants.{SECTOR_COUNTERS, COUNT_LIMIT}
 
 -- the greatest count of a data block, with the claims on it
 abbrev pub limit_of : Geometry → ℕ
-limit_of g = 254
+limit_of g = COUNT_LIMIT
 
 -- how many counters a sector has
 abbrev pub counters_per_sector : Geometry → ℕ

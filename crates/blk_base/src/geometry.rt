@@ -24,6 +24,8 @@ pub struct Geometry {
 #[derive(Clone, Copy, Debug, PartialEq, Eq)]
 pub struct Super {
     pub geometry: Geometry,
+    /// Whether all that the last session wrote is where it belongs, so that nothing is to be recovered.
     pub clean: bool,
+    /// The sequence of the next session's first journal block, 1 to 2^54 − 1.
     pub start: u64,
 }

@@ -5,7 +5,7 @@ ghost use Rattle.blk_base.specs.Regions.{Place, IsPlace, IsDataBlock, block_of, 
 ghost use Rattle.blk_base.specs.Regions.{Root, IndexBlock, DataBlock, ReferenceBlock, SlabJournalSlot};
 ghost use Rattle.blk_base.specs.declared.geometry.Geometry.{Geometry};
 
-use crate::sizes::{SECTOR_COUNTERS, TREES};
+use crate::sizes::{COUNT_LIMIT, SECTOR_COUNTERS, TREES};
 use crate::{Geometry, Pbn};
 
 /// How many sectors a block has.
@@ -14,13 +14,16 @@ const SECTORS: u32 = 8;
 /// A data block by its slab and its place there.
 #[derive(Clone, Copy, Debug, PartialEq, Eq)]
 pub struct DataPlace {
+    /// Below the number of slabs.
     pub slab: u32,
+    /// Below the number of data blocks of a slab.
     pub offset: u32,
 }
 
 /// Where the counter of a data block stands: a reference block of its slab, a sector there, and a counter of it.
 #[derive(Clone, Copy, Debug, PartialEq, Eq)]
 pub struct CounterPlace {
+    /// Below the number of reference blocks of a slab.
     pub block: u32,
     /// 0 to 7.
     pub sector: u16,
@@ -54,7 +57,7 @@ impl Layout {
         self.first_slab() + self.geometry.slabs * self.slab_stride()
     }
 
-    /// The block of the recovery journal for a sequence.
+    /// The block of the recovery journal for a sequence: its slot is the sequence modulo the blocks of the journal.
     pub fn journal_slot(&self, sequence: u64) -> Pbn
         ensures block { result.0 ≡ journal_block_of self.now.geometry sequence }
         ensures inside { result.0 < needed_blocks self.now.geometry }
@@ -63,7 +66,7 @@ impl Layout {
         Pbn(1 + slot as u32)
     }
 
-    /// The root page of a tree.
+    /// The root page of a tree, 0 to 59.
     pub fn root(&self, tree: u8) -> Pbn
         requires { IsPlace self.now.geometry (Root tree) }
         ensures block { result.0 ≡ block_of self.now.geometry (Root tree) }
@@ -72,7 +75,7 @@ impl Layout {
         Pbn(1 + self.geometry.journal + u32::from(tree))
     }
 
-    /// A block of the index.
+    /// A block of the index, by its number from 0.
     pub fn index_block(&self, i: u32) -> Pbn
         requires { IsPlace self.now.geometry (IndexBlock i) }
         ensures block { result.0 ≡ block_of self.now.geometry (IndexBlock i) }
@@ -81,7 +84,7 @@ impl Layout {
         Pbn(self.first_index() + i)
     }
 
-    /// A data block of a slab.
+    /// A data block of a slab, by its offset there from 0.
     pub fn data_block(&self, slab: u32, offset: u32) -> Pbn
         requires { IsPlace self.now.geometry (DataBlock slab offset) }
         ensures block { result.0 ≡ block_of self.now.geometry (DataBlock slab offset) }
@@ -90,7 +93,7 @@ impl Layout {
         Pbn(self.slab_start(slab) + offset)
     }
 
-    /// A reference block of a slab.
+    /// A reference block of a slab, by its number there from 0.
     pub fn reference_block(&self, slab: u32, i: u32) -> Pbn
         requires { IsPlace self.now.geometry (ReferenceBlock slab i) }
         ensures block { result.0 ≡ block_of self.now.geometry (ReferenceBlock slab i) }
@@ -99,7 +102,8 @@ impl Layout {
         Pbn(self.slab_start(slab) + self.geometry.slab_blocks + i)
     }
 
-    /// The block of a slab's journal for a sequence.
+    /// The block of a slab's journal for a sequence: its slot is the sequence modulo the blocks of that journal. The slab
+    /// is below the number of slabs.
     pub fn slab_journal_slot(&self, slab: u32, sequence: u64) -> Pbn
         requires { slab < self.now.geometry.slabs }
         ensures block { result.0 ≡ block_of self.now.geometry (SlabJournalSlot slab (slab_slot_of self.now.geometry sequence)) }
@@ -143,7 +147,7 @@ impl Layout {
     pub fn limit(&self) -> u16
         ensures { result ≡ limit_of self.now.geometry }
     {
-        254
+        COUNT_LIMIT
     }
 
     /// How many reference counters a sector has.

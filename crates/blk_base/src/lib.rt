@@ -1,9 +1,10 @@
-//! Types that every crate shares: blocks, places on the device, points of the journal, the layout of an image,
-//! requests and their answers.
+//! What every crate shares: blocks, places on the device, points of the journal, the layout of an image, requests and
+//! their answers.
 #![tactic(auto)]
 
 mod block;
 mod default_sizes;
+mod filled;
 mod geometry;
 mod has_block;
 mod journal_entry;
@@ -17,6 +18,7 @@ mod sizes;
 
 pub use block::Block;
 pub use default_sizes::default_sizes_are_within_limits;
+pub use filled::repeated;
 pub use geometry::{Geometry, Super};
 pub use has_block::HasBlock;
 pub use journal_entry::{CommittedEntry, Entry, Update};
@@ -24,6 +26,6 @@ pub use layout::{CounterPlace, DataPlace, Layout, regions_are_apart};
 pub use mappings::Mappings;
 pub use opened::{Opened, OpenedPage};
 pub use place::{Lba, Mapping, PageId, Pbn, ZoneId};
-pub use point::{Half, Point};
+pub use point::{Half, Point, raise};
 pub use request::{Answer, Request, Writer};
-pub use sizes::{PAGE_SLOTS, SECTOR_COUNTERS, TREES};
+pub use sizes::{COUNT_LIMIT, PAGE_SLOTS, SECTOR_COUNTERS, TREES};

@@ -1,13 +1,13 @@
 ghost use Rattle.std.specs.Prelude.{◌≡◌, ◌<◌, length, replicate, slice_index_or, slice_set};
 ghost use Rattle.blk_base.specs.declared.place.Mapping.TheVariants.{Unmapped};
 
-use crate::Mapping;
+use crate::{Mapping, PAGE_SLOTS};
 use std::marker::Model;
 
 /// The 812 mappings of a page, which a contract sees as a list. They lie in the value itself.
 #[derive(Drop)]
 pub struct Mappings {
-    items: [Mapping; 812],
+    items: [Mapping; PAGE_SLOTS as usize],
 }
 
 impl Model for Mappings {
@@ -22,36 +22,36 @@ impl Model for Mappings {
 impl Mappings {
     /// Each slot unmapped.
     pub fn new() -> Self
-        ensures { result ≡ replicate 812 Unmapped }
+        ensures { result ≡ replicate PAGE_SLOTS Unmapped }
     {
         Mappings {
-            items: [Mapping::Unmapped; 812],
+            items: [Mapping::Unmapped; PAGE_SLOTS as usize],
         }
     }
 
     /// The mapping of a slot.
     pub fn get(&self, slot: u16) -> Mapping
-        requires { slot < 812 }
+        requires { slot < PAGE_SLOTS }
         ensures value { result ≡ slice_index_or self.now slot Unmapped }
-        ensures size { length self.now ≡ 812 }
+        ensures size { length self.now ≡ PAGE_SLOTS }
     {
         self.items[usize::from(slot)]
     }
 
     /// Maps a slot.
     pub fn set(&mut self, slot: u16, mapping: Mapping)
-        requires { slot < 812 }
+        requires { slot < PAGE_SLOTS }
         ensures after { self.new ≡ slice_set self.old slot mapping }
-        ensures size { length self.new ≡ 812 }
+        ensures size { length self.new ≡ PAGE_SLOTS }
     {
         self.items[usize::from(slot)] = mapping;
     }
 
     /// Unmaps each slot.
     pub fn clear(&mut self)
-        ensures { self.new ≡ replicate 812 Unmapped }
+        ensures { self.new ≡ replicate PAGE_SLOTS Unmapped }
     {
-        self.items = [Mapping::Unmapped; 812];
+        self.items = [Mapping::Unmapped; PAGE_SLOTS as usize];
     }
 
     /// Takes over the mappings of another page.
@@ -64,7 +64,7 @@ impl Mappings {
     /// The mappings, that of slot 0 first.
     pub fn as_slice(&self) -> &[Mapping]
         ensures value { result.now ≡ self.now }
-        ensures size { length result.now ≡ 812 }
+        ensures size { length result.now ≡ PAGE_SLOTS }
     {
         &self.items
     }

@@ -1,5 +1,5 @@
-ghost use Rattle.std.specs.Prelude.{◌≡◌, ◌<◌, ◌^◌, ℕ};
-ghost use Rattle.blk_base.specs.Points.{point_of, IsBefore};
+ghost use Rattle.std.specs.Prelude.{◌≡◌, ◌<◌, ◌^◌, ℕ, length};
+ghost use Rattle.blk_base.specs.Points.{point_of, IsBefore, raised};
 ghost use Rattle.blk_base.specs.declared.point.Half.{Half};
 
 /// Which half of a journal entry: the reference count that it adds, or the one that it takes away.
@@ -31,4 +31,12 @@ impl Point {
         };
         Point(sequence * 512 + u64::from(entry) * 2 + half_number)
     }
+}
+
+/// Raises one of these points to another one, if that is above it.
+pub fn raise(points: &mut [Point], number: usize, point: Point)
+    requires { number < length points.old }
+    ensures { points.new ≡ raised points.old number point }
+{
+    points[number] = points[number].max(point);
 }

@@ -3,6 +3,7 @@ use crate::{Block, Lba};
 /// A request's name: its stream, and its number there from 0.
 #[derive(Clone, Copy, Debug, PartialEq, Eq)]
 pub struct Writer {
+    /// 0 to 15.
     pub stream: u8,
     pub number: u32,
 }

@@ -6,3 +6,6 @@ pub const PAGE_SLOTS: u16 = 812;
 
 /// How many counters a sector of reference counts has.
 pub const SECTOR_COUNTERS: usize = 504;
+
+/// The greatest count of a data block, with the claims on it.
+pub const COUNT_LIMIT: u16 = 254;

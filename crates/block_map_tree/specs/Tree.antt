@@ -1,6 +1,6 @@
 -- The pages of a zone's trees that are no leaves: where their slots lead, and what of that isn't on the device yet.
 use Rattle.std.specs.Prelude.{ℕ, ◌≡◌, ◌<◌, ◌≤◌, ◌+◌, ◌-◌, ◌*◌, ◌/◌, ◌==◌, if◌then◌else◌, List, [], length, All, slice_index_or, slice_set}
-use Rattle.blk_base.specs.declared.sizes.TheConstants.{PAGE_SLOTS}
+use Rattle.blk_base.specs.declared.sizes.TheConstants.{PAGE_SLOTS, TREES}
 use Rattle.blk_base.specs.declared.place.PageId.{PageId}
 use Rattle.blk_base.specs.declared.place.Pbn.{Pbn}
 use Rattle.blk_base.specs.declared.place.Mapping.{Mapping}
@@ -25,7 +25,7 @@ pub record Tree : Type 0 where
 
 -- how many trees the zone has
 abbrev pub trees_of : Forest → ℕ
-trees_of f = (59 - f.zone) / f.zones + 1
+trees_of f = (TREES - 1 - f.zone) / f.zones + 1
 
 -- The number of a page that is no leaf. The roots are in row 0, and in each later row there is one page of each tree.
 abbrev pub row_of : Forest → PageId → ℕ

@@ -1,8 +1,9 @@
 //! The trees of the block map that one zone has: their pages that are no leaves, held in memory.
 //!
-//! Each of the 60 trees is of the zone with its number by the number of zones. It has a root, which stands at a block of its own from the start (docs/DESIGN.md, "Layout"). A page
-//! has 812 slots. The slots of a leaf are those of addresses, and those of a page above lead to the pages below it. A
-//! page that nothing leads to isn't there yet. Leaves have level 0, roots the level height - 1.
+//! Each of the 60 trees is of the zone whose number is that of the tree modulo the number of zones. It has a root, which
+//! stands at a block of its own from the start. A page has 812 slots. The slots of a leaf are those of addresses, and
+//! those of a page above lead to the pages below it. A page that nothing leads to isn't there yet. Leaves have level 0,
+//! roots the level height - 1.
 //!
 //! Of an address `a`, with p = `a` / 812 and q = p / 60:
 //!

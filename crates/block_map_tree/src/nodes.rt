@@ -12,7 +12,7 @@ ghost use Rattle.block_map_tree.specs.Opening.{IsOpened, IsOpening, forest_of};
 use crate::numbers::{SLOTS, has_tree, number, page_above, page_numbered, slot, width};
 use crate::opening::{blank_pages, count_pages, take_over};
 use crate::{Forest, Found, Path};
-use blk_base::{Layout, Mapping, Mappings, Opened, PageId, Pbn, Point};
+use blk_base::{Layout, Mapping, Mappings, Opened, PAGE_SLOTS, PageId, Pbn, Point, TREES};
 use dirty_pages::DirtyPages;
 use page_codec::{MapPage, PageHead};
 use std::alloc::{AllocError, Global};
@@ -53,7 +53,7 @@ impl TreeNodes {
     ) -> Result<TreeNodes, AllocError>
         requires sizes { IsGeometry opened.now.head.geometry }
         requires zone { zone < zones }
-        requires zones { zones ≤ 60 }
+        requires zones { zones ≤ TREES }
         requires opened { IsOpened (forest_of opened.now zone zones) opened.now.pages.items }
         ensures { IfOk result (IsOpening (forest_of opened.now zone zones) opened.now.pages.items) }
     {
@@ -174,7 +174,7 @@ impl TreeNodes {
 
     // What a slot of a page leads to.
     fn mapping(&self, page: PageId, slot: u16) -> Mapping
-        requires { slot < 812 }
+        requires { slot < PAGE_SLOTS }
         ensures { result ≡ mapping_of self.now page slot }
     {
         match self.pages.get(number(page, &self.forest)) {

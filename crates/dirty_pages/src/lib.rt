@@ -15,7 +15,6 @@
 mod laws;
 mod marks;
 mod minima;
-mod repeated;
 mod table;
 
 pub use laws::{a_page_is_being_written_until_it_is_written, no_change_is_lost};

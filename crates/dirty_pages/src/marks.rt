@@ -37,7 +37,7 @@ impl Marks {
         ensures { result ≡ changed_at point self }
     {
         let least = match self.dirty {
-            Some(first) => Point(first.0.min(point.0)),
+            Some(first) => first.min(point),
             None => point,
         };
         Marks {

@@ -1,7 +1,7 @@
 ghost use Rattle.std.specs.Prelude.{◌≡◌, ◌<◌, ◌≤◌, ◌+◌, ◌*◌, ◌/◌, ◌^◌, ℕ, length, drop, replicate, slice_set, IfOk, IfSome, IfNone, IsTrue, ◌↔◌};
 ghost use Rattle.dirty_pages.specs.Minima.{is_at_most, lesser_of, key_at, IsLeast, IsTreeBut, IsTree};
 
-use crate::repeated::repeated;
+use blk_base::repeated;
 use std::alloc::{AllocError, Global};
 use std::marker::Model;
 

@@ -1,9 +1,8 @@
 ghost use Rattle.std.specs.Prelude.{◌≡◌, ◌<◌, length, replicate, slice_set, IfOk, IfSome, IfNone};
 ghost use Rattle.dirty_pages.specs.Marks.{clean, changed_at, settled, marks_at, with_marks, HandsOut, NoneIsDue, IsBeingWritten, IsLowPoint, AreClean};
 
-use crate::repeated::repeated;
 use crate::{Marks, Minima};
-use blk_base::Point;
+use blk_base::{Point, repeated};
 use std::alloc::{AllocError, Global};
 use std::marker::Model;
 

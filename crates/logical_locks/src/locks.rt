@@ -89,7 +89,7 @@ impl<V: Drop> Locks<V> {
 fn is_held(held: &[Lock], at: Lba) -> bool
     ensures { result ≡ is_held at held.now }
 {
-    held.iter().any(|lock| lock.at.0 == at.0)
+    held.iter().any(|lock| lock.at == at)
 }
 
 // Leaves out the lock of the address.
@@ -98,12 +98,12 @@ fn leave_out(held: &mut Vec<Lock>, at: Lba)
     ensures len { vec_len held.new ≤ vec_len held.old }
     ensures capacity { vec_capacity held.new ≡ vec_capacity held.old }
 {
-    held.retain(|lock| lock.at.0 != at.0);
+    held.retain(|lock| lock.at != at);
 }
 
 // The index of the first that waits for the address.
 fn first_for<V>(waiting: &[Waiter<V>], at: Lba) -> Option<usize>
     ensures { result ≡ position (λ waiter. waiter.at.0 == at.0) waiting.now }
 {
-    waiting.iter().position(|waiter| waiter.at.0 == at.0)
+    waiting.iter().position(|waiter| waiter.at == at)
 }

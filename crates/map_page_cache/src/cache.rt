@@ -8,7 +8,7 @@ ghost use Rattle.map_page_cache.specs.Frames.{IsAt};
 use crate::NoFrame;
 use crate::clean::CleanFrames;
 use crate::index::PageIndex;
-use blk_base::{Geometry, Mapping, Mappings, PageId, Point};
+use blk_base::{Geometry, Mapping, Mappings, PAGE_SLOTS, PageId, Point};
 use dirty_pages::DirtyPages;
 use page_codec::MapPage;
 use std::alloc::{AllocError, Global};
@@ -143,7 +143,7 @@ impl Cache {
     /// Maps a slot of a page that is there, by the entry of this point, to what the format of pages can hold there.
     pub fn set(&mut self, page: PageId, slot: u16, mapping: Mapping, point: Point)
         requires there { (content : MapPage) × IsThere self.old page content }
-        requires slot { slot < 812 }
+        requires slot { slot < PAGE_SLOTS }
         requires held { HoldsMapping self.old.geometry page.level mapping }
         ensures { Sets self.old self.new page slot mapping point }
     {

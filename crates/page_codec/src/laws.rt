@@ -6,12 +6,14 @@ ghost use Rattle.page_codec.specs.declared.fault.PageFault.{PageFault};
 ghost use Rattle.page_codec.specs.Spelling.{page_bytes};
 ghost use Rattle.page_codec.specs.Grammar.{AreHeld, IsPage, IsHead, HasHead, IsSlot, IsSlotFault, IsPageFault, IsTorn, IsFrom};
 
+use blk_base::PAGE_SLOTS;
+
 /// A block is a page exactly where each of its slots says a mapping, and the page has these mappings.
 pub fn a_page_is_its_slots()
-    ensures slots { (head : PageHead) (block : List ℕ) (mappings : List Mapping) (slot : ℕ) → IsPage head block mappings → slot < 812
+    ensures slots { (head : PageHead) (block : List ℕ) (mappings : List Mapping) (slot : ℕ) → IsPage head block mappings → slot < PAGE_SLOTS
         → IsSlot head block slot (slice_index_or mappings slot Unmapped) }
-    ensures page { (head : PageHead) (block : List ℕ) (mappings : List Mapping) → length block ≡ 4096 → length mappings ≡ 812
-        → ((slot : ℕ) → slot < 812 → IsSlot head block slot (slice_index_or mappings slot Unmapped)) → IsPage head block mappings }
+    ensures page { (head : PageHead) (block : List ℕ) (mappings : List Mapping) → length block ≡ 4096 → length mappings ≡ PAGE_SLOTS
+        → ((slot : ℕ) → slot < PAGE_SLOTS → IsSlot head block slot (slice_index_or mappings slot Unmapped)) → IsPage head block mappings }
 {}
 
 /// A slot says one mapping or has one fault. A block is one page or has one fault, and begins as one page of one image
@@ -38,7 +40,7 @@ pub fn what_is_written_is_read()
 /// from one of the two pages says what it says there, or has the fault that it has there.
 pub fn a_torn_page_keeps_whole_slots()
     ensures { (head : PageHead) (old new block page : List ℕ) (slot : ℕ) → HasHead head old → HasHead head new → IsTorn old new block
-        → (page ≡ old) ⊎ (page ≡ new) → slot < 812 → IsFrom page block slot
+        → (page ≡ old) ⊎ (page ≡ new) → slot < PAGE_SLOTS → IsFrom page block slot
         → ((m : Mapping) → IsSlot head page slot m → IsSlot head block slot m)
         × ((fault : PageFault) → IsSlotFault head page slot fault → IsSlotFault head block slot fault) }
 {}

@@ -7,7 +7,7 @@ ghost use Rattle.page_codec.specs.Grammar.{HoldsMapping, IsPage, HasHead, IsSlot
 
 use crate::writing::{HEAD, WIDTH, put_head};
 use crate::{MapPage, PageFault, PageHead};
-use blk_base::{Block, Layout, Mapping, Mappings, Pbn};
+use blk_base::{Block, Layout, Mapping, Mappings, PAGE_SLOTS, Pbn};
 use byte_fields::{read_u8, read_u32};
 
 /// Reads a page. The fault is that the block begins as another page does, or else that of the least slot that has one.
@@ -18,7 +18,7 @@ pub fn decode(block: &Block, want: &PageHead, into: &mut MapPage) -> Result<(), 
     ensures ok { OnOk result (IsPage want.now block.now into.new.mappings) }
     ensures fault { IfErr result (λ fault. IsPageFault want.now block.now fault) }
     ensures outside { OnErr result ((mappings : List Mapping) → IsPage want.now block.now mappings → ⊥) }
-    ensures emptied { OnErr result (into.new.mappings ≡ replicate 812 Unmapped) }
+    ensures emptied { OnErr result (into.new.mappings ≡ replicate PAGE_SLOTS Unmapped) }
 {
     into.head = *want;
     match read_page(&block.bytes, want, &mut into.mappings) {
@@ -34,7 +34,7 @@ pub fn decode(block: &Block, want: &PageHead, into: &mut MapPage) -> Result<(), 
 /// else that of the slot.
 pub fn slot(block: &Block, want: &PageHead, slot: u16) -> Result<Mapping, PageFault>
     requires geometry { IsGeometry want.now.geometry }
-    requires slot { slot < 812 }
+    requires slot { slot < PAGE_SLOTS }
     ensures ok { IfOk result (λ mapping. IsSlot want.now block.now slot mapping) }
     ensures fault { IfErr result (λ fault. IsSlotFault want.now block.now slot fault) }
     ensures outside { OnErr result ((mapping : Mapping) → IsSlot want.now block.now slot mapping → ⊥) }
@@ -56,7 +56,7 @@ fn read_page(bytes: &[u8], want: &PageHead, into: &mut Mappings) -> Result<(), P
         return Err(PageFault::Header);
     }
     into.clear();
-    for slot in 0..812 {
+    for slot in 0..PAGE_SLOTS {
         into.set(slot, read_slot(bytes, want, slot)?);
     }
     Ok(())
@@ -77,7 +77,7 @@ fn has_head(bytes: &[u8], want: &PageHead) -> bool
 fn read_slot(bytes: &[u8], want: &PageHead, slot: u16) -> Result<Mapping, PageFault>
     requires geometry { IsGeometry want.now.geometry }
     requires size { length bytes.now ≡ 4096 }
-    requires slot { slot < 812 }
+    requires slot { slot < PAGE_SLOTS }
     requires head { HasHead want.now bytes.now }
     ensures ok { IfOk result (λ mapping. IsSlot want.now bytes.now slot mapping) }
     ensures fault { IfErr result (λ fault. IsSlotFault want.now bytes.now slot fault) }

@@ -1,13 +1,18 @@
 -- What is true of a journal stays true over each call, and what the calls say of it.
-use Rattle.std.specs.Prelude.{ℕ, ◌≡◌, ◌+◌, ◌-◌, ◌*◌, ◌/◌, ◌<◌, ◌≤◌, ◌^◌, ◌⊎◌, List, [], ◌∷◌, ◌++◌, length, take, drop, max, All, Any, refl}
+use Rattle.std.specs.Prelude.{ℕ, ◌≡◌, ◌+◌, ◌-◌, ◌*◌, ◌/◌, ◌<◌, ◌≤◌, ◌^◌, ◌⊎◌, Bool, true, false, List, [], ◌∷◌, ◌++◌, length, take, drop, max, nat_le, position, None, Some, All, Any, refl}
+use Rattle.std.specs.List.{list_any}
 use Rattle.std.proofs.Common.{arith, sym, subst, ap, ◌∙◌, inl, inr, get_or, length-append}
-use Rattle.std.proofs.lemmas.Bool.{cases_lt}
-use Rattle.std.proofs.lemmas.List.{drop_more, drop-drop, drop-append-le, take-append-drop, length-take-le, get_or-take, get_or-drop, length-drop, length-set}
+use Rattle.std.proofs.lemmas.Bool.{cases_lt, leb-true, le-leb}
+use Rattle.std.proofs.lemmas.List.Folds.{Any-from_list_any, list_any_at}
+use Rattle.std.proofs.lemmas.List.Quantifiers.{position-Some}
+use Rattle.std.proofs.lemmas.List.{get_or_default, drop_more, drop-drop, drop-append-le, take-append-drop, length-take-le, get_or-take, get_or-drop, length-drop, length-set}
 use Rattle.std.proofs.lemmas.List.Elements.{All-nil, All-cons, All-head, All-tail, All-rest, All-push, All-drop, All-weaker, All-append, All-set, All-same}
+use Rattle.plain_laws.proofs.FirstLaws.{find-nowhere, find-none}
+use Rattle.blk_base.specs.Points.{raised}
 use Rattle.blk_base.specs.declared.point.Point.{Point}
 use Rattle.blk_base.specs.declared.journal_entry.Entry.{Entry}
 use Rattle.blk_base.specs.declared.journal_entry.CommittedEntry.{CommittedEntry}
-use Rattle.recovery_journal.specs.Log.{Log, IsHeld, point_at, first_sequence, head_of, placed, unhanded, IsNeeded, IsDurable, IsHead, HandsOut, NoneCommitted, IsBehind, raised, Advances}
+use Rattle.recovery_journal.specs.Log.{Log, IsHeld, point_at, first_sequence, head_of, placed, unhanded, IsNeeded, IsDurable, IsHead, HandsOut, NoneCommitted, IsBehind, Advances}
 use Rattle.journal_codec.specs.Grammar.{HoldsEntry, HoldsBlock}
 use Rattle.recovery_journal.specs.Kept.{rank, AreRising, AreBelow, IsKept}
 use Rattle.recovery_journal.proofs.RisingLaws.{length-AreRising, AreRising-from, AreRising-append, AreRising-drop, AreRising-placed, points_above, points_from_first, few_entries, first_reached, first_rises}
@@ -187,15 +192,13 @@ marks_below : (marks : List Point) (zone p : ℕ) (point : Point) → zone < len
 marks_below marks zone p point inside below all =
     All-set (λ (mark : Point). mark.0 ≤ p) marks zone (record { 0 = max (get_or marks zone point).0 point.0 }) (omega (arith, all zone point inside)) all
 
--- what `watermark` finds: the least mark, and how many entries at the front are below it
-pub record Found (log : Log) (zone : ℕ) (point : Point) (least count : ℕ) : Type 0 where
+-- what `watermark` finds: how many entries at the front are durable
+pub record Found (log : Log) (zone : ℕ) (point : Point) (count : ℕ) : Type 0 where
   pub inside : zone < length log.marks
   pub behind : IsBehind log point
-  pub lowest : All (λ mark. least ≤ mark.0) (raised log.marks zone point)
-  pub attained : Any (λ mark. mark.0 ≤ least) (raised log.marks zone point)
   pub few : count ≤ length log.entries
-  pub below : All (λ e. e.point.0 < least) (take count log.entries)
-  pub next : All (λ e. least ≤ e.point.0) (take 1 (drop count log.entries))
+  pub durable : All (λ e. IsDurable (raised log.marks zone point) e.point) (take count log.entries)
+  pub next : All (λ e. IsNeeded (raised log.marks zone point) e.point) (take 1 (drop count log.entries))
 
 abbrev pub advanced : Log → ℕ → Point → ℕ → Log
 advanced log zone point count = record log { entries = drop count log.entries; handed = log.handed - count; marks = raised log.marks zone point }
@@ -204,14 +207,20 @@ an_entry : (es : List CommittedEntry) → 0 < length es → CommittedEntry
 an_entry [] some = absurd (omega arith)
 an_entry (e ∷ es) some = e
 
-module _ (log : Log) (zone : ℕ) (point : Point) (least count : ℕ) (kept : IsKept log) (found : Found log zone point least count) where
+needed_from_first : (marks : List Point) (es : List CommittedEntry) (high : ℕ) → AreRising 0 es high → All (λ e. IsNeeded marks e.point) (take 1 es) → All (λ e. IsNeeded marks e.point) es
+needed_from_first marks [] high rising first = All-nil (λ (e : CommittedEntry). IsNeeded marks e.point)
+needed_from_first marks (e ∷ es) high rising first =
+    let needs = first 0 e (omega arith) in
+    let P : CommittedEntry → Type 0 = λ f. needs.1.0 ≤ f.point.0 in
+    All-weaker P (λ (f : CommittedEntry). IsNeeded marks f.point) (λ f above. (needs.0, needs.1, needs.2, needs.3, above)) (e ∷ es)
+    (points_from_first 0 (e ∷ es) high needs.1.0 rising (All-cons P e [] needs.4 (All-nil P)))
+
+module _ (log : Log) (zone : ℕ) (point : Point) (count : ℕ) (kept : IsKept log) (found : Found log zone point count) where
   unhanded_marks : All (λ e. All (λ mark. mark.0 ≤ e.point.0) (raised log.marks zone point)) (unhanded log)
   unhanded_marks = λ k d inside. marks_below log.marks zone (get_or (unhanded log) k d).point.0 point found.inside (found.behind.sealed k d inside) (kept.unhanded k d inside)
 
-  unhanded_least : All (λ e. least ≤ e.point.0) (unhanded log)
-  unhanded_least = λ k d inside.
-      let mark = found.attained in
-      omega (arith, found.lowest mark.0 mark.1 mark.2, ap (λ (m : Point). m.0) mark.3, unhanded_marks k d inside mark.0 mark.1 mark.2)
+  some_marks : 0 < length (raised log.marks zone point)
+  some_marks = omega (arith, length-set log.marks zone (record { 0 = max (get_or log.marks zone point).0 point.0 }), kept.zones)
 
   pub only_handed : count ≤ log.handed
   only_handed =
@@ -224,18 +233,15 @@ module _ (log : Log) (zone : ℕ) (point : Point) (least count : ℕ) (kept : Is
             let dropped = get_or-drop log.handed log.entries 0 d in
             let size = length-drop log.handed log.entries in
             let inside : log.handed < length (take count log.entries) = omega (arith, length-take-le count log.entries few) in
-            let low = found.below log.handed d inside in
-            let high = unhanded_least 0 d (omega arith) in
+            let low = found.durable log.handed d inside 0 point some_marks in
+            let high = unhanded_marks 0 d (omega arith) 0 point some_marks in
             let place : log.handed + 0 ≡ log.handed = omega arith in
             absurd (omega (arith, low, high, ap (λ (e : CommittedEntry). e.point.0) taken, ap (λ (e : CommittedEntry). e.point.0) dropped, ap (λ (n : ℕ). (get_or log.entries n d).point.0) place))
       ]
 
   left_needed : All (λ e. IsNeeded (raised log.marks zone point) e.point) (drop count log.entries)
   left_needed =
-      let mark = found.attained in
-      All-weaker (λ (e : CommittedEntry). least ≤ e.point.0) (λ (e : CommittedEntry). IsNeeded (raised log.marks zone point) e.point)
-      (λ e above. (mark.0, mark.1, mark.2, mark.3, omega (arith, mark.4, above))) (drop count log.entries)
-      (points_from_first 0 (drop count log.entries) (log.sequence * 192) least (AreRising-drop count 0 log.entries (log.sequence * 192) kept.rising) found.next)
+      needed_from_first (raised log.marks zone point) (drop count log.entries) (log.sequence * 192) (AreRising-drop count 0 log.entries (log.sequence * 192) kept.rising) found.next
 
   pub head_rises : head_of log ≤ head_of (advanced log zone point count)
   head_rises = first_rises 0 count log.entries log.sequence kept.rising
@@ -246,7 +252,7 @@ module _ (log : Log) (zone : ℕ) (point : Point) (least count : ℕ) (kept : Is
       let rises = head_rises in
       let place : count + (log.handed - count) ≡ log.handed = omega arith in
       record {
-        zones = omega (arith, length-set log.marks zone (record { 0 = max (get_or log.marks zone point).0 point.0 }), kept.zones);
+        zones = some_marks;
         size = kept.size;
         first = kept.first;
         number = kept.number;
@@ -272,8 +278,7 @@ module _ (log : Log) (zone : ℕ) (point : Point) (least count : ℕ) (kept : Is
         durable = take count log.entries;
         marks = refl;
         parts = sym (take-append-drop count log.entries);
-        done = All-weaker (λ (e : CommittedEntry). e.point.0 < least) (λ (e : CommittedEntry). IsDurable (raised log.marks zone point) e.point)
-            (λ e below k d inside. omega (arith, below, found.lowest k d inside)) (take count log.entries) found.below;
+        done = found.durable;
         needed = left_needed;
         handed = omega (arith, length-take-le count log.entries found.few);
         rest = refl;
@@ -289,19 +294,16 @@ kept_sealed_as log left seen es kept waits few written empty same added =
     subst (λ (l : List Entry). IsKept (record log { sequence = log.sequence + 1; filling = l; entries = es })) (sym empty)
     (subst (λ (l : List CommittedEntry). IsKept (record log { sequence = log.sequence + 1; filling = []; entries = l })) (sym now) (kept_sealed log kept waits few written))
 
-pub found_as : (log now : Log) (zone : ℕ) (point : Point) (least count : ℕ) (marks seen : List Point) → log ≡ now → marks ≡ raised log.marks zone point → seen ≡ marks
-    → zone < length now.marks → IsBehind now point → All (λ mark. least ≤ mark.0) seen → Any (λ mark. mark.0 ≤ least) seen
-    → count ≤ length log.entries → All (λ e. e.point.0 < least) (take count log.entries) → All (λ e. least ≤ e.point.0) (take 1 (drop count log.entries))
-    → Found log zone point least count
-found_as log now zone point least count marks seen is risen same inside behind lowest attained few below next =
+pub found_as : (log now : Log) (zone : ℕ) (point : Point) (count : ℕ) (seen : List Point) → log ≡ now → seen ≡ raised log.marks zone point
+    → zone < length now.marks → IsBehind now point → count ≤ length log.entries
+    → All (λ e. IsDurable seen e.point) (take count log.entries) → All (λ e. IsNeeded seen e.point) (take 1 (drop count log.entries)) → Found log zone point count
+found_as log now zone point count seen is risen inside behind few durable next =
     record {
       inside = subst (λ (l : Log). zone < length l.marks) (sym is) inside;
       behind = subst (λ (l : Log). IsBehind l point) (sym is) behind;
-      lowest = subst (λ (ms : List Point). All (λ mark. least ≤ mark.0) ms) (same ∙ risen) lowest;
-      attained = subst (λ (ms : List Point). Any (λ mark. mark.0 ≤ least) ms) (same ∙ risen) attained;
       few = few;
-      below = below;
-      next = next;
+      durable = subst (λ (ms : List Point). All (λ e. IsDurable ms e.point) (take count log.entries)) risen durable;
+      next = subst (λ (ms : List Point). All (λ e. IsNeeded ms e.point) (take 1 (drop count log.entries))) risen next;
     }
 
 pub advanced_as : (log : Log) (zone : ℕ) (point : Point) (count : ℕ) (marks : List Point) (es : List CommittedEntry) → marks ≡ raised log.marks zone point → es ≡ drop count log.entries
@@ -310,10 +312,37 @@ advanced_as log zone point count marks es risen left =
     ap (λ (ms : List Point). record log { entries = es; handed = log.handed - count; marks = ms }) risen
     ∙ ap (λ (l : List CommittedEntry). record log { entries = l; handed = log.handed - count; marks = raised log.marks zone point }) left
 
--- a list that isn't empty has an element
-pub some_wait : (es : List Entry) → ¬ (es ≡ []) → 0 < length es
-some_wait [] none = absurd (none refl)
-some_wait (e ∷ es) none = omega arith
+-- the entries before the first that some zone needs, as code finds it
+
+abbrev pub needs : List Point → CommittedEntry → Bool
+needs marks e = list_any (λ mark. nat_le mark.0 e.point.0) marks
+
+needed_by : (marks : List Point) (e : CommittedEntry) → needs marks e ≡ true → IsNeeded marks e.point
+needed_by marks e passes =
+    let one = Any-from_list_any (λ (mark : Point). nat_le mark.0 e.point.0) marks passes in
+    (one.0, one.1, one.2, one.3, leb-true one.1.0 e.point.0 one.4)
+
+durable_by : (marks : List Point) (e : CommittedEntry) → needs marks e ≡ false → IsDurable marks e.point
+durable_by marks e fails = λ k d inside.
+    elim (cases_lt e.point.0 (get_or marks k d).0) [
+      | inl below ↦ below
+      | inr reached ↦
+          let passes = list_any_at (λ (mark : Point). nat_le mark.0 e.point.0) marks k d inside (le-leb (get_or marks k d).0 e.point.0 reached) in
+          absurd (cc (passes, fails))
+    ]
+
+pub all_durable : (marks : List Point) (es : List CommittedEntry) → position (needs marks) es ≡ None → All (λ e. IsDurable marks e.point) es
+all_durable marks es none =
+    All-weaker (λ e. needs marks e ≡ false) (λ (e : CommittedEntry). IsDurable marks e.point) (λ e fails. durable_by marks e fails) es
+    (find-none (needs marks) es (find-nowhere (needs marks) es none))
+
+pub needed_next : (marks : List Point) (es : List CommittedEntry) (first : ℕ) → position (needs marks) es ≡ Some first → All (λ e. IsNeeded marks e.point) (take 1 (drop first es))
+needed_next marks es first found = λ k d inside.
+    let at = position-Some (needs marks) es first d found in
+    let e = get_or es first d in
+    let next = rest_is es first e at.0 (get_or_default es first d e at.0) in
+    let P : CommittedEntry → Type 0 = λ f. IsNeeded marks f.point in
+    subst (λ (xs : List CommittedEntry). All P (take 1 xs)) (sym next) (All-cons P e [] (needed_by marks e at.1) (All-nil P)) k d inside
 
 -- the block that is sealed is one that the format can hold
 pub block_held : (log : Log) (head : ℕ) (entries : List Entry) → IsKept log → 0 < length log.filling → length log.filling ≤ 192 → head ≡ head_of log → entries ≡ log.filling

@@ -1,7 +1,7 @@
 -- What a recovery journal knows: its entries with their points, what is committed and handed out, and what each zone
 -- still needs.
-use Rattle.std.specs.Prelude.{ℕ, ◌≡◌, ◌+◌, ◌/◌, ◌<◌, ◌≤◌, ◌⊎◌, List, [], ◌∷◌, ◌++◌, length, drop, max, replicate, All, Any, slice_index_or, slice_set}
-use Rattle.blk_base.specs.Points.{point_of}
+use Rattle.std.specs.Prelude.{ℕ, ◌≡◌, ◌+◌, ◌/◌, ◌<◌, ◌≤◌, ◌⊎◌, List, [], ◌∷◌, ◌++◌, length, drop, replicate, All, Any}
+use Rattle.blk_base.specs.Points.{point_of, raised}
 use Rattle.blk_base.specs.declared.geometry.Geometry.{Geometry}
 use Rattle.blk_base.specs.declared.point.Point.{Point}
 use Rattle.blk_base.specs.declared.point.Half.TheVariants.{Increment}
@@ -123,10 +123,6 @@ NoneCommitted log = All (λ entry. point_at log.committed 0 ≤ entry.point.0) (
 pub record IsBehind (log : Log) (point : Point) : Type 0 where
   pub sealed : All (λ entry. point.0 ≤ entry.point.0) (unhanded log)
   pub filling : point.0 ≤ point_at log.sequence 0
-
--- the zone's mark is this point, if that is above it
-abbrev pub raised : List Point → ℕ → Point → List Point
-raised marks zone point = slice_set marks zone (record { 0 = max (slice_index_or marks zone point).0 point.0 })
 
 -- the zone's mark rose, and the entries of which every zone's part is durable are left out
 pub record Advances (old new : Log) (zone : ℕ) (point : Point) : Type 0 where

@@ -5,8 +5,8 @@ ghost use Rattle.recovery_journal.specs.Log.{opening, head_of, first_point, unha
 
 use crate::Place;
 use crate::entering::enter;
-use crate::marking::{count_below, first_sequence, least, leave_out, marks_at, raise, sequence_of};
-use blk_base::{CommittedEntry, Entry, Geometry, Half, Point};
+use crate::marking::{count_durable, first_sequence, leave_out, sequence_of};
+use blk_base::{CommittedEntry, Entry, Geometry, Half, Point, raise, repeated};
 use journal_codec::{Entries, JournalBlock};
 use std::alloc::{AllocError, Global};
 use std::collections::VecDeque;
@@ -67,7 +67,7 @@ impl Journal {
         ensures { IfOk result (λ journal. journal ≡ opening geometry.now start zones) }
     {
         let first = Point::of(start, 0, Half::Increment);
-        let marks = marks_at(alloc, first, zones)?;
+        let marks = repeated(alloc, first, zones as usize)?;
         let entries = VecDeque::with_capacity(alloc, geometry.journal as usize * PER_BLOCK)?;
         Ok(Journal {
             nonce: geometry.nonce,
@@ -157,8 +157,8 @@ impl Journal {
     }
 
     /// The point of the first entry that wasn't handed out; where there is none, the first point of the block being
-    /// filled. Every entry below it was handed out, so it is the watermark of a zone that has no part of
-    /// any of them. The sequence of the block being filled is below 2^55.
+    /// filled. Every entry below it was handed out, so it is the watermark of a zone that has no part of any of them. The
+    /// sequence of the block being filled is below 2^55.
     pub fn first_unhanded(&self) -> Point
         requires { self.now.sequence < 2 ^ 55 }
         ensures value { result.0 ≡ first_point (unhanded self.now) self.now.sequence }
@@ -179,8 +179,8 @@ impl Journal {
         ensures advances { Advances self.old self.new zone point }
         ensures head { head_of self.old ≤ head_of self.new }
     {
-        raise(&mut self.marks, zone, point);
-        let durable = count_below(&self.entries, least(&self.marks));
+        raise(&mut self.marks, zone as usize, point);
+        let durable = count_durable(&self.entries, &self.marks);
         leave_out(&mut self.entries, durable);
         self.handed -= durable;
     }

@@ -1,10 +1,9 @@
-ghost use Rattle.std.specs.Prelude.{◌≡◌, ◌/◌, ◌<◌, ◌≤◌, All, Any, IfOk, length, take, drop, replicate};
+ghost use Rattle.std.specs.Prelude.{◌≡◌, ◌/◌, ◌≤◌, All, nat_le, length, take, drop};
+ghost use Rattle.std.specs.List.{list_any};
 ghost use Rattle.std.specs.VecDeque.{deque_len, deque_capacity};
-ghost use Rattle.recovery_journal.specs.Log.{first_sequence, raised};
+ghost use Rattle.recovery_journal.specs.Log.{first_sequence, IsNeeded, IsDurable};
 
 use blk_base::{CommittedEntry, Point};
-use std::alloc::{AllocError, Global};
-use std::cmp;
 use std::collections::VecDeque;
 
 /// How many points a block has: the two halves of each entry, and some that no entry has.
@@ -27,51 +26,26 @@ pub(crate) fn first_sequence(entries: &VecDeque<CommittedEntry>, sequence: u64) 
     }
 }
 
-/// A mark for each of so many zones, all at this point.
-pub(crate) fn marks_at(alloc: Global, point: Point, zones: u32) -> Result<Vec<Point>, AllocError>
-    ensures { IfOk result (λ marks. marks.items ≡ replicate zones point) }
-{
-    let mut marks = Vec::with_capacity(alloc, zones as usize)?;
-    for _ in 0..zones {
-        marks.push_reserved(point);
-    }
-    Ok(marks)
-}
-
-/// Raises the zone's mark to this point, if that is above it.
-pub(crate) fn raise(marks: &mut Vec<Point>, zone: u32, point: Point)
-    requires { zone < length marks.old.items }
-    ensures { marks.new.items ≡ raised marks.old.items zone point }
-{
-    let mark = &mut marks[zone as usize];
-    mark.0 = cmp::max(mark.0, point.0);
-}
-
-/// The least of these marks.
-pub(crate) fn least(marks: &[Point]) -> u64
-    requires { 0 < length marks.now }
-    ensures below { All (λ mark. result ≤ mark.0) marks.now }
-    ensures attained { Any (λ mark. mark.0 ≤ result) marks.now }
-{
-    let mut least = marks[0].0;
-    for mark in marks {
-        least = cmp::min(least, mark.0);
-    }
-    least
-}
-
-/// How many entries at the front have points below this one.
-pub(crate) fn count_below(entries: &VecDeque<CommittedEntry>, point: u64) -> usize
+/// How many entries stand before the first that some zone still needs.
+pub(crate) fn count_durable(entries: &VecDeque<CommittedEntry>, marks: &[Point]) -> usize
     ensures inside { result ≤ deque_len entries.now }
-    ensures below { All (λ entry. entry.point.0 < point) (take result entries.now.items) }
-    ensures next { All (λ entry. point ≤ entry.point.0) (take 1 (drop result entries.now.items)) }
+    ensures durable { All (λ entry. IsDurable marks.now entry.point) (take result entries.now.items) }
+    ensures next { All (λ entry. IsNeeded marks.now entry.point) (take 1 (drop result entries.now.items)) }
 {
-    for number in 0..entries.len() {
-        if entries[number].point.0 >= point {
-            return number;
-        }
+    match entries
+        .iter()
+        .position(|entry| is_needed(marks, entry.point))
+    {
+        Some(first) => first,
+        None => entries.len(),
     }
-    entries.len()
+}
+
+// Whether some zone still needs the entry at this point.
+fn is_needed(marks: &[Point], point: Point) -> bool
+    ensures { result ≡ list_any (λ mark. nat_le mark.0 point.0) marks.now }
+{
+    marks.iter().any(|mark| mark.0 <= point.0)
 }
 
 /// Leaves out so many entries at the front.

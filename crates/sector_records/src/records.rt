@@ -1,4 +1,4 @@
-ghost use Rattle.std.specs.Prelude.{◌≡◌, ◌+◌, ◌<◌, ◌≤◌, ◌↔◌, [], ◌∷◌, ◌++◌, length, IsTrue};
+ghost use Rattle.std.specs.Prelude.{◌≡◌, ◌+◌, ◌<◌, ◌≤◌, ◌↔◌, false, [], ◌∷◌, ◌++◌, length, IsTrue};
 
 use arrayvec::ArrayVec;
 use std::marker::Model;
@@ -40,7 +40,8 @@ impl<T: Copy + Default, const N: usize> Records<T, N> {
 
     /// Whether there is none.
     pub fn is_empty(&self) -> bool
-        ensures { IsTrue result ↔ (self.now ≡ []) }
+        ensures none { IsTrue result ↔ (self.now ≡ []) }
+        ensures some { result ≡ false → 0 < length self.now }
     {
         self.items.is_empty()
     }
@@ -66,9 +67,9 @@ impl<T: Copy + Default, const N: usize> Records<T, N> {
         requires { length self.old + length more.now ≤ N }
         ensures { self.new ≡ self.old ++ more.now }
     {
-        for item in more {
-            self.push(*item);
-        }
+        let Ok(()) = self.items.try_extend_from_slice(more) else {
+            unreachable!()
+        };
     }
 
     /// The records, the oldest first.

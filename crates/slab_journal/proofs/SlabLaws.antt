@@ -1,17 +1,17 @@
 -- What is true of a slab's journal stays true over each call, and no update that isn't covered is lost.
-use Rattle.std.specs.Prelude.{ℕ, ◌≡◌, ◌+◌, ◌-◌, ◌%◌, ◌<◌, ◌≤◌, ◌^◌, List, [], ◌∷◌, ◌++◌, length, take, replicate, All, Contains, Bool, IsTrue, ◌↔◌}
-use Rattle.std.proofs.Common.{arith, sym, subst, ap, ◌∙◌, refl, inl, inr, get_or, set}
+use Rattle.std.specs.Prelude.{ℕ, ◌≡◌, ◌+◌, ◌-◌, ◌%◌, ◌<◌, ◌≤◌, ◌^◌, List, [], ◌∷◌, ◌++◌, length, replicate, All, Contains, Bool, IsTrue, ◌↔◌}
+use Rattle.std.proofs.Common.{arith, sym, subst, ap, ◌∙◌, inl, inr, get_or, set}
 use Rattle.std.proofs.lemmas.Bool.{cases_eq}
 use Rattle.std.proofs.lemmas.Nat.{mod_below}
 use Rattle.std.proofs.lemmas.List.{length-set, length-replicate, get_or_default, get_or-set_other}
-use Rattle.std.proofs.lemmas.List.Elements.{All-nil, All-head, All-weaker, All-replicate, All-more, All-push, All-set, All-contains, All-get_or, Contains-append_left}
+use Rattle.std.proofs.lemmas.List.Elements.{All-nil, All-head, All-weaker, All-replicate, All-push, All-set, All-contains, Contains-append_left}
 use Rattle.std.proofs.lemmas.List.Quantifiers.{any-set}
 use Rattle.blk_base.specs.Regions.{slab_start_of}
 use Rattle.blk_base.specs.Limits.{IsGeometry}
 use Rattle.blk_base.specs.declared.geometry.Geometry.{Geometry}
 use Rattle.blk_base.specs.declared.point.Point.{Point}
 use Rattle.slab_codec.specs.Grammar.{HoldsEntry}
-use Rattle.blk_base.specs.Counters.{sectors_per_slab, sector_of_offset}
+use Rattle.blk_base.specs.Counters.{sectors_per_slab}
 use Rattle.slab_codec.specs.declared.forms.SlabEntry.{SlabEntry}
 use Rattle.slab_journal.specs.Slab.{Slab, opening, IsOfSlab, IsCovered, Keeps, MayOverwrite, next_slot, next_block}
 use Rattle.slab_journal.specs.Kept.{AreOfSlab, IsKept, first_of}
@@ -132,22 +132,7 @@ keeps_sealed log kept covered entry held uncovered =
       ]
     ]
 
--- reading a block's updates
-
-pub block_held : (log : Slab) → IsKept log → AreOfSlab log (next_block log)
-block_held log kept = All-get_or (AreOfSlab log) log.slots (next_slot log) [] (slot_inside log kept) kept.blocks
-
-pub sectors_inside : (log : Slab) (entries : List SlabEntry) → IsKept log → AreOfSlab log entries → All (λ entry. sector_of_offset log.geometry entry.offset < length log.commits) entries
-sectors_inside log entries kept held k d inside = omega (arith, kept.sectors, (held k d inside).2)
-
 -- the same, as the code comes to it
-
-pub covered_more : (g : Geometry) (commits : List Point) (entries : List SlabEntry) (index sector : ℕ) (d : SlabEntry) → index < length entries
-    → All (IsCovered g commits) (take index entries) → sector ≡ sector_of_offset g (get_or entries index d).offset
-    → (get_or entries index d).point.0 ≤ (get_or commits sector (record { 0 = 0 })).0 → All (IsCovered g commits) (take (index + 1) entries)
-covered_more g commits entries index sector d inside all same here =
-    All-more (IsCovered g commits) entries index d inside all
-    (subst (λ (n : ℕ). (get_or entries index d).point.0 ≤ (get_or commits n (record { 0 = 0 })).0) same here)
 
 pub may_overwrite_as : (log now : Slab) (block entries : List SlabEntry) (commits : List Point) (size : ℕ) (result : Bool) → IsKept log → log ≡ now → commits ≡ log.commits → entries ≡ block
     → size ≡ log.geometry.slab_journal → block ≡ get_or log.slots (log.sequence % size) block → (IsTrue result ↔ All (IsCovered log.geometry commits) entries) → IsTrue result ↔ MayOverwrite now
@@ -177,8 +162,3 @@ entry_held log now at first point is kept start inside fits =
     let here = subst (λ (l : Slab). IsOfSlab l (record { 0 = at })) (sym is) inside in
     let size = kept.geometry.slab_blocks in
     (fits, omega (arith, here.0, here.1, size.1), omega (arith, here.0, here.1))
-
--- a list that isn't empty has an element
-pub some_wait : (es : List SlabEntry) → ¬ (es ≡ []) → 0 < length es
-some_wait [] none = absurd (none refl)
-some_wait (e ∷ es) none = omega arith

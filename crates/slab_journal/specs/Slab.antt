@@ -1,5 +1,5 @@
 -- What a slab's journal knows: its updates, and up to which point those of each sector of counters are durable.
-use Rattle.std.specs.Prelude.{ℕ, ◌≡◌, ◌+◌, ◌-◌, ◌<◌, ◌≤◌, ◌⊎◌, List, [], length, max, replicate, All, Any, Contains, slice_index_or, slice_set}
+use Rattle.std.specs.Prelude.{ℕ, ◌≡◌, ◌+◌, ◌-◌, ◌<◌, ◌≤◌, ◌⊎◌, List, [], length, replicate, All, Any, Contains, slice_index_or, slice_set}
 use Rattle.blk_base.specs.Counters.{sectors_per_slab, sector_of_offset}
 use Rattle.blk_base.specs.Points.{point_of}
 use Rattle.blk_base.specs.Regions.{slab_start_of, slab_slot_of}
@@ -12,9 +12,8 @@ use Rattle.slab_codec.specs.declared.forms.SlabJournalBlock.{SlabJournalBlock}
 use Rattle.blk_base.specs.declared.journal_entry.Update.{Update}
 
 -- `sequence` is that of the block being filled, and `filling` its updates. `last` is the point of the last update that
--- was taken. `slots` has for each slot of the ring the
--- updates of the block that stands there. The blocks below `durable` are durable. `commits` has for each sector of
--- counters its durable commit point.
+-- was taken. `slots` has for each slot of the ring the updates of the block that stands there. The blocks below `durable`
+-- are durable. `commits` has for each sector of counters its durable commit point.
 pub record Slab : Type 0 where
   pub geometry : Geometry
   pub slab : ℕ
@@ -90,7 +89,3 @@ pub record Seals (old new : Slab) (block : SlabJournalBlock) : Type 0 where
     filling = [];
     slots = slice_set old.slots (next_slot old) old.filling;
   }
-
--- the sector's commit point is this point, if that is above it
-abbrev pub raised : List Point → ℕ → Point → List Point
-raised commits sector point = slice_set commits sector (record { 0 = max (slice_index_or commits sector point).0 point.0 })

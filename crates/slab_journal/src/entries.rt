@@ -21,17 +21,6 @@ pub(crate) fn empty_slots(alloc: Global, count: u32) -> Result<Vec<Updates>, All
     Ok(slots)
 }
 
-/// So many sectors of counters, of which no update is durable.
-pub(crate) fn opening_commits(alloc: Global, count: u32) -> Result<Vec<Point>, AllocError>
-    ensures { IfOk result (λ commits. commits.items ≡ replicate count (record { 0 = 0 })) }
-{
-    let mut commits = Vec::with_capacity(alloc, count as usize)?;
-    for made in 0..count {
-        commits.push_reserved(Point(0));
-    }
-    Ok(commits)
-}
-
 /// The update with this point of the data block with this offset.
 pub(crate) fn slab_entry(point: u64, offset: u32) -> SlabEntry
     requires { offset < 2 ^ 16 }

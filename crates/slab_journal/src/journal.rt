@@ -1,12 +1,13 @@
 ghost use Rattle.std.specs.Prelude.{◌≡◌, ◌+◌, ◌<◌, ◌≤◌, ◌^◌, ◌↔◌, ◌∷◌, ◌++◌, [], ◌⊎◌, length, IsTrue, IfOk, IfSome, IfNone, OnOk, OnErr};
 ghost use Rattle.blk_base.specs.Limits.{IsGeometry};
+ghost use Rattle.blk_base.specs.Points.{raised};
 ghost use Rattle.slab_codec.specs.Grammar.{HoldsBlock};
-ghost use Rattle.slab_journal.specs.Slab.{opening, entry_of, raised, IsOfSlab, IsFirst, MayOverwrite, IsWriting, Keeps, Seals};
+ghost use Rattle.slab_journal.specs.Slab.{opening, entry_of, IsOfSlab, IsFirst, MayOverwrite, IsWriting, Keeps, Seals};
 
 use crate::Full;
-use crate::covering::{are_covered, raise};
-use crate::entries::{Updates, copy_of, empty_slots, opening_commits, slab_entry};
-use blk_base::{Geometry, Layout, Point, Update};
+use crate::covering::are_covered;
+use crate::entries::{Updates, copy_of, empty_slots, slab_entry};
+use blk_base::{Geometry, Layout, Point, Update, raise, repeated};
 use slab_codec::{SlabEntries, SlabJournalBlock};
 use std::alloc::{AllocError, Global};
 use std::marker::Model;
@@ -63,7 +64,7 @@ impl SlabJournal {
             last: Point(FIRST_POINT - 1),
             slots: empty_slots(alloc, geometry.slab_journal)?,
             durable: 1,
-            commits: opening_commits(alloc, layout.sectors_per_slab())?,
+            commits: repeated(alloc, Point(0), layout.sectors_per_slab() as usize)?,
         })
     }
 
@@ -157,6 +158,6 @@ impl SlabJournal {
         ensures commits { self.new ≡ record self.old { commits = raised self.old.commits sector point } }
         ensures kept { Keeps self.old self.new }
     {
-        raise(&mut self.commits, sector, point);
+        raise(&mut self.commits, sector as usize, point);
     }
 }

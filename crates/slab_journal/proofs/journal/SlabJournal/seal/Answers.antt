@@ -2,7 +2,7 @@ use Rattle.std.proofs.Common.{◌%◌, ◌∙◌, inl, inr, ℕ, List, set, ap, 
 use Rattle.slab_codec.specs.declared.forms.SlabEntry.{SlabEntry}
 use Rattle.slab_journal.specs.contracts.journal.SlabJournal.{the_view}
 use Rattle.slab_journal.specs.Slab.{Slab, MayOverwrite}
-use Rattle.slab_journal.proofs.SlabLaws.{keeps_sealed_as, kept_sealed_as, some_wait}
+use Rattle.slab_journal.proofs.SlabLaws.{keeps_sealed_as, kept_sealed_as}
 use Rattle.slab_journal.proofs.journal.SlabJournal.seal.Goals as goal
 use Rattle.slab_journal.proofs.journal.SlabJournal.seal.Goals.{then-is_empty-via-then-is_empty, then-is_empty-via-else-is_empty+then-self, then-is_empty-via-else-is_empty+else-self+then-not-may_overwrite}
 
@@ -15,7 +15,7 @@ returns-clause-kept c =
 
 pub invariant_of-self : goal.invariant_of-self
 invariant_of-self c =
-    kept_sealed_as (the_view c.self.inside) c.replace.new.dest _ c.self.invariant (some_wait c.self.inside.filling (λ none. let empty = c.is_empty.ensures.1 none in cc (empty, c.if-is_empty.false))) (omega arith)
+    kept_sealed_as (the_view c.self.inside) c.replace.new.dest _ c.self.invariant (c.is_empty.ensures.some c.if-is_empty.false) (omega arith)
     (c.replace.ensures.after ∙ c.new.ensures)
     (ap (λ (n : ℕ). set c.self.inside.slots.items (c.self.inside.sequence % n) c.replace.result) c.from.ensures
     ∙ ap (λ (es : List SlabEntry). set c.self.inside.slots.items (c.self.inside.sequence % c.self.inside.layout.geometry.slab_journal) es) c.replace.ensures.value)
@@ -27,7 +27,7 @@ pub returns-then-is_empty-clause-none : goal.returns-then-is_empty-clause-none
 returns-then-is_empty-clause-none c =
     elim c.then-is_empty.branch [
       | then-is_empty-via-then-is_empty w ↦ (
-        inl (ap (λ (log : Slab). log.filling) (sym c.self.view_is) ∙ c.is_empty.ensures.0 w.if-is_empty.true),
+        inl (ap (λ (log : Slab). log.filling) (sym c.self.view_is) ∙ c.is_empty.ensures.none.0 w.if-is_empty.true),
         refl,
       )
       | then-is_empty-via-else-is_empty+then-self w ↦ (inr (inl (omega (arith, w.if-self.true, ap (λ (log : Slab). log.sequence) c.self.view_is, ap (λ (log : Slab). log.durable) c.self.view_is))), refl)

@@ -1,6 +1,6 @@
 use Rattle.std.proofs.Common.{◌≡◌, replicate}
 use Rattle.std.specs.Vec.{vec_capacity}
-use Rattle.dirty_pages.proofs.repeated.repeated.Given as goal
+use Rattle.blk_base.proofs.filled.repeated.Given as goal
 
 abbrev pub invariant-loop-made : goal.invariant-loop-made
 invariant-loop-made g l = record {
