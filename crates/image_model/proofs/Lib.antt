@@ -1,0 +1,10 @@
+pub mod WindowLaws
+pub mod MapLaws
+pub mod CountLaws
+pub mod Example
+pub mod WindowRows
+pub mod MapRows
+pub mod ZeroLaws
+pub mod CountRows
+pub mod SoundRows
+pub mod FaultRows

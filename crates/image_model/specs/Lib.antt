@@ -1,0 +1,6 @@
+pub mod Pages
+pub mod Windows
+pub mod Maps
+pub mod Counts
+pub mod Sound
+pub mod Faults
