@@ -13,7 +13,7 @@ use Rattle.image_layout.specs.declared.fault.SuperFault.TheVariants.{NotAnImage,
 use Rattle.image_layout.specs.declared.fault.Field.TheVariants.{Clean, Reserved, Start}
 use Rattle.image_layout.specs.Superblock.{head_in, geometry_in, is_within, is_zeros, identity_checks, size_checks, state_checks, room_checks, run_checks, answer_after, super_of}
 
-both : (a b : Bool) → (a && b) ≡ true → (a ≡ true) × (b ≡ true)
+pub both : (a b : Bool) → (a && b) ≡ true → (a ≡ true) × (b ≡ true)
 both true b h = (refl, h)
 both false b h = absurd cc
 
@@ -22,7 +22,7 @@ pub passed : (p : Bool) (fault : SuperFault) (rest : Result (Unit {0}) SuperFaul
 passed true fault rest h = (refl, h)
 passed false fault rest h = absurd cc
 
-within-right : (low high x : ℕ) → is_within low high x ≡ true → (low ≤ x) × (x ≤ high)
+pub within-right : (low high x : ℕ) → is_within low high x ≡ true → (low ≤ x) × (x ≤ high)
 unfolding is_within
 within-right low high x h = let b = both (nat_le low x) (nat_le x high) h in (leb-true low x b.0, leb-true x high b.1)
 

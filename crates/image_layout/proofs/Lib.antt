@@ -3,3 +3,4 @@ pub mod SpellingLaws
 pub mod AgainLaws
 pub mod WindowLaws
 mod FirstLaws
+pub mod PlanLaws

@@ -4,3 +4,4 @@ pub mod FirstImage
 pub mod Window
 pub mod Opened
 pub mod WindowCount
+pub mod Planning

@@ -86,3 +86,20 @@ pub enum WindowFault {
     #[error("no memory")]
     Memory,
 }
+
+/// Why an image of these sizes can't be had. Its text is `layout_fault_text` of it, in `specs/Planning`.
+#[derive(Clone, Copy, Debug, PartialEq, Eq, Error)]
+pub enum LayoutFault {
+    /// The device has fewer blocks than the sizes need.
+    #[error("needs {needed} blocks, has {has}")]
+    TooSmall { needed: u32, has: u32 },
+    /// The logical size is above the limit of its height.
+    #[error("logical too large")]
+    LogicalTooLarge,
+    /// A size is outside its limits; of the logical size that it is 0.
+    #[error("size {0}")]
+    Size(Field),
+    /// The device has more blocks than a stop is tried on.
+    #[error("too large to crash")]
+    TooLargeToCrash { has: u32 },
+}

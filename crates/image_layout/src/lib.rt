@@ -4,12 +4,14 @@
 
 mod fault;
 mod first;
+mod planning;
 mod reading;
 mod windows;
 mod writing;
 
-pub use fault::{Field, ImageFault, SuperFault, WindowFault};
+pub use fault::{Field, ImageFault, LayoutFault, SuperFault, WindowFault};
 pub use first::first_image;
+pub use planning::plan;
 pub use reading::read_super;
 pub use windows::{mapping_at, read_window, value_at, windows_are_one};
 pub use writing::write_super;

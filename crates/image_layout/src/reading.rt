@@ -145,7 +145,7 @@ fn check(passed: bool, fault: SuperFault) -> Result<(), SuperFault>
 }
 
 // The greatest logical size of a height.
-fn logical_limit(height: u32) -> u32
+pub(crate) fn logical_limit(height: u32) -> u32
     ensures { result ≡ logical_limit height }
 {
     if height == 2 {
@@ -156,7 +156,7 @@ fn logical_limit(height: u32) -> u32
 }
 
 #[tactic(auto, unfolding(crate::specs::Superblock::is_within))]
-fn is_within(low: u32, high: u32, x: u32) -> bool
+pub(crate) fn is_within(low: u32, high: u32, x: u32) -> bool
     ensures { result ≡ is_within low high x }
 {
     low <= x && x <= high

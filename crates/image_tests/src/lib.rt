@@ -1,0 +1,7 @@
+//! Tests of the crates that read, make and mend whole images: each public call on known input.
+#![tactic(auto)]
+
+#[cfg(test)]
+mod faults;
+#[cfg(test)]
+mod plans;
