@@ -1,5 +1,5 @@
 ghost use Rattle.std.specs.Prelude.{◌≡◌, ◌<◌, ◌^◌, ℕ, length};
-ghost use Rattle.blk_base.specs.Points.{point_of, IsBefore, raised};
+ghost use Rattle.blk_base.specs.Points.{point_of, half_of, IsBefore, raised};
 ghost use Rattle.blk_base.specs.declared.point.Half.{Half};
 
 /// Which half of a journal entry: the reference count that it adds, or the one that it takes away.
@@ -30,6 +30,18 @@ impl Point {
             Half::Decrement => 1,
         };
         Point(sequence * 512 + u64::from(entry) * 2 + half_number)
+    }
+
+    /// Which half of its entry it is of.
+    pub fn half(self) -> Half
+        ensures value { result ≡ half_of self.0 }
+        ensures triple { (s e : ℕ) (h : Half) → self.0 ≡ point_of s e h → result ≡ h }
+    {
+        if self.0 % 2 == 0 {
+            Half::Increment
+        } else {
+            Half::Decrement
+        }
     }
 }
 

@@ -1,0 +1,6 @@
+pub mod FreeLaws
+pub mod CallLaws
+pub mod OpeningLaws
+pub mod AnswerLaws
+mod Rows
+mod OpeningRows

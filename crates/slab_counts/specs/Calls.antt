@@ -1,0 +1,66 @@
+-- Lists of calls on a slab's counters and claims, and what they counted.
+use Rattle.std.specs.Prelude.{ℕ, ◌≡◌, ◌+◌, ◌==◌, if◌then◌else◌, List, [], ◌∷◌}
+use Rattle.blk_base.specs.declared.place.Pbn.{Pbn}
+use Rattle.blk_base.specs.declared.point.Half.{Half}
+use Rattle.blk_base.specs.declared.point.Half.TheVariants.{Increment, Decrement}
+use Rattle.slab_counts.specs.Counts.{Counts, IsOfSlab, IsClaimed, HasRoom, ClaimsFree, Shares, Takes, claimed, unclaimed, with_page}
+
+-- a call by what it answered: each that gave a claim has its block
+pub data Call : Type 0 where
+  FreeClaimed : Pbn → Call
+  Shared : Pbn → Call
+  Extended : Pbn → Call
+  Dropped : Pbn → Call
+  Spent : Pbn → Call
+  PageSpent : Pbn → Call
+  Applied : Half → Pbn → Call
+  Refused : Call
+
+-- what a call does, as its contract says; one that is refused changes nothing
+abbrev pub Does : Call → Counts → Counts → Type 0
+Does (FreeClaimed at) old new = ClaimsFree old new at
+Does (Shared at) old new = Shares old new at
+Does (Extended at) old new = IsClaimed old at × HasRoom old at × (new ≡ claimed old at)
+Does (Dropped at) old new = IsClaimed old at × (new ≡ unclaimed old at)
+Does (Spent at) old new = IsClaimed old at × (new ≡ old)
+Does (PageSpent at) old new = IsClaimed old at × (new ≡ with_page old at)
+Does (Applied half at) old new = IsOfSlab old at × Takes half old new at
+Does Refused old new = new ≡ old
+
+-- these calls, the newest first, lead from the ones to the others
+abbrev pub LeadTo : Counts → List Call → Counts → Type 0
+LeadTo old [] new = new ≡ old
+LeadTo old (call ∷ calls) new = (before : Counts) × LeadTo old calls before × Does call before new
+
+-- 1 where the block is this one
+abbrev pub one_of : Pbn → Pbn → ℕ
+one_of at other = if at.0 == other.0 then 1 else 0
+
+-- how many claims on the block a call made, dropped, or spent, and how many mappings of it were counted, and taken off
+abbrev pub makes : Call → Pbn → ℕ
+makes (FreeClaimed at) block = one_of at block
+makes (Shared at) block = one_of at block
+makes (Extended at) block = one_of at block
+makes other block = 0
+
+abbrev pub drops : Call → Pbn → ℕ
+drops (Dropped at) block = one_of at block
+drops other block = 0
+
+abbrev pub spends : Call → Pbn → ℕ
+spends (Spent at) block = one_of at block
+spends (PageSpent at) block = one_of at block
+spends other block = 0
+
+abbrev pub maps : Call → Pbn → ℕ
+maps (Applied Increment at) block = one_of at block
+maps other block = 0
+
+abbrev pub unmaps : Call → Pbn → ℕ
+unmaps (Applied Decrement at) block = one_of at block
+unmaps other block = 0
+
+-- the same of these calls together
+abbrev pub total : (Call → Pbn → ℕ) → List Call → Pbn → ℕ
+total f [] block = 0
+total f (call ∷ calls) block = total f calls block + f call block

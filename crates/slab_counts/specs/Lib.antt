@@ -1,0 +1,5 @@
+pub mod Counts
+pub mod Kept
+pub mod Viewed
+pub mod Calls
+pub mod Opening

@@ -1,0 +1,53 @@
+ghost use Rattle.std.specs.Prelude.{◌≡◌, ◌≤◌, ◌+◌, ◌<◌, All, IfOk, length};
+
+use blk_base::{Geometry, Opened, Pbn, Point, Super};
+use std::alloc::{AllocError, Global};
+
+/// One slab of 64 data blocks, of which the first is block 85.
+pub(crate) const SIZES: Geometry = Geometry::DEFAULT;
+
+/// The first data block.
+pub(crate) const FIRST: u32 = 85;
+
+// The counters of the first blocks: one of a tree page, one as high as can be, and three almost so.
+const COUNTERS: [u8; 6] = [1, 254, 253, 252, 250, 3];
+
+/// An image whose first block has a tree page, whose next five are mapped, and whose others are free.
+pub(crate) fn opened_image(alloc: Global) -> Result<Opened, AllocError>
+    ensures counters { IfOk result (λ opened. length opened.counters.items ≡ 64) }
+    ensures limit { IfOk result (λ opened. All (λ counter. counter ≤ 254) opened.counters.items) }
+{
+    let counters = opening_counters(alloc)?;
+    Ok(Opened {
+        head: Super {
+            geometry: SIZES,
+            clean: true,
+            start: 1,
+        },
+        pages: Vec::new(alloc),
+        counters,
+        commits: [Point(0)].to_vec(alloc)?,
+        tree_pages: [Pbn(FIRST)].to_vec(alloc)?,
+    })
+}
+
+fn opening_counters(alloc: Global) -> Result<Vec<u8>, AllocError>
+    ensures count { IfOk result (λ counters. length counters.items ≡ 64) }
+    ensures limit { IfOk result (λ counters. All (λ counter. counter ≤ 254) counters.items) }
+{
+    let mut counters = Vec::new(alloc);
+    for k in 0..64_usize {
+        counters.push(opening_counter(k))?;
+    }
+    Ok(counters)
+}
+
+/// The counter with which a block is opened.
+pub(crate) fn opening_counter(k: usize) -> u8
+    ensures { result ≤ 254 }
+{
+    match COUNTERS.get(k) {
+        Some(counter) => (*counter).min(254),
+        None => 0,
+    }
+}
