@@ -8,3 +8,4 @@ pub mod RetainLaws
 pub mod SeenLaws
 pub mod SinceLaws
 pub mod Taken
+pub mod FuseLaws

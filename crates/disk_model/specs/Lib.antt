@@ -5,5 +5,6 @@ pub mod Seen
 pub mod Telling
 pub mod Since
 pub mod Plans
+pub mod Fuses
 pub mod Memory
 pub mod Streams

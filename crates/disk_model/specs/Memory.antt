@@ -1,10 +1,13 @@
 -- A device in memory.
-use Rattle.std.specs.Prelude.{ℕ, ◌≡◌, ◌<◌, ◌^◌, ◌+◌, ◌-◌, ◌⊎◌, min, List, [], ◌∷◌, length, slice_set, Bool, true, false, if◌then◌else◌}
+use Rattle.std.specs.Prelude.{ℕ, ◌≡◌, ◌<◌, ◌^◌, ◌+◌, ◌-◌, ◌⊎◌, min, List, [], ◌∷◌, length, slice_set, Bool, ◌&&◌, ◌||◌, not, true, false, if◌then◌else◌}
 use Rattle.disk_model.specs.declared.call.Call.{Call}
 use Rattle.disk_model.specs.declared.call.Call.TheVariants.{Read, Write, Flush}
 use Rattle.disk_model.specs.declared.faults.CallKind.{CallKind}
 use Rattle.disk_model.specs.declared.faults.CallKind.TheVariants.{Read as ReadKind, Write as WriteKind, Flush as FlushKind}
 use Rattle.disk_model.specs.declared.faults.FaultAt.{FaultAt}
+use Rattle.disk_model.specs.declared.fuse.Fuse.{Fuse}
+use Rattle.disk_model.specs.declared.fuse.Fuse.TheVariants.{Unset}
+use Rattle.disk_model.specs.Fuses.{is_cut, burnt}
 use Rattle.disk_model.specs.Images.{OneOf}
 use Rattle.disk_model.specs.Log.{Blocks, block_at, settled}
 use Rattle.disk_model.specs.Plans.{named, takes_effect, counted}
@@ -16,6 +19,7 @@ pub record Memory : Type 0 where
   pub log : List Call
   pub blocks : Blocks
   pub plan : List FaultAt
+  pub fuse : Fuse
   pub faults : ℕ
   pub unkept : ℕ
 
@@ -25,7 +29,7 @@ seen_of memory = record { opening = memory.opening; size = length memory.blocks;
 
 -- a device whose log begins at these blocks
 abbrev pub fresh : Blocks → Memory
-fresh blocks = record { opening = blocks; log = []; blocks = blocks; plan = []; faults = 0; unkept = 0 }
+fresh blocks = record { opening = blocks; log = []; blocks = blocks; plan = []; fuse = Unset; faults = 0; unkept = 0 }
 
 -- one more, in a count that stands still at the last value of its type
 abbrev pub one_more : ℕ → ℕ
@@ -43,13 +47,13 @@ place_of (Read at _ _) = at.0
 place_of (Write at _ _) = at.0
 place_of (Flush _) = 0
 
--- whether a planned fault names this call
-abbrev pub is_planned : Memory → Call → Bool
-is_planned old call = named old.plan (kind_of call) (place_of call)
+-- whether this call is to fail: the fuse is spent, or a planned fault names it
+abbrev pub is_to_fail : Memory → Call → Bool
+is_to_fail old call = is_cut old.fuse || named old.plan (kind_of call) (place_of call)
 
--- the blocks after a write that a planned fault names
+-- the blocks after a write that is to fail: where the fuse is spent, it has no effect
 abbrev pub after_failed_write : Memory → ℕ → List ℕ → Blocks
-after_failed_write old at bytes = if takes_effect old.plan WriteKind at then slice_set old.blocks at bytes else old.blocks
+after_failed_write old at bytes = if not (is_cut old.fuse) && takes_effect old.plan WriteKind at then slice_set old.blocks at bytes else old.blocks
 
 -- the plan after this call
 abbrev pub plan_after : Memory → Call → List FaultAt
@@ -57,24 +61,24 @@ plan_after old call = counted old.plan (kind_of call) (place_of call)
 
 -- after a call that succeeded, and left these blocks
 abbrev pub after_success : Memory → Call → Blocks → Memory
-after_success old call blocks = record { opening = old.opening; log = call ∷ old.log; blocks = blocks; plan = plan_after old call; faults = old.faults; unkept = old.unkept }
+after_success old call blocks = record { opening = old.opening; log = call ∷ old.log; blocks = blocks; plan = plan_after old call; fuse = burnt old.fuse (call ∷ old.log); faults = old.faults; unkept = old.unkept }
 
--- after a call that a planned fault named, and that left these blocks
+-- after a call that was to fail, and that left these blocks
 abbrev pub after_fault : Memory → Call → Blocks → Memory
-after_fault old call blocks = record { opening = old.opening; log = call ∷ old.log; blocks = blocks; plan = plan_after old call; faults = one_more old.faults; unkept = old.unkept }
+after_fault old call blocks = record { opening = old.opening; log = call ∷ old.log; blocks = blocks; plan = plan_after old call; fuse = burnt old.fuse (call ∷ old.log); faults = one_more old.faults; unkept = old.unkept }
 
 -- after a call that found no memory for its place in the log
 abbrev pub after_want : Memory → Call → Memory
-after_want old call = record { opening = old.opening; log = old.log; blocks = old.blocks; plan = plan_after old call; faults = one_more old.faults; unkept = one_more old.unkept }
+after_want old call = record { opening = old.opening; log = old.log; blocks = old.blocks; plan = plan_after old call; fuse = burnt old.fuse old.log; faults = one_more old.faults; unkept = one_more old.unkept }
 
--- a call that succeeded: no planned fault named it
+-- a call that succeeded: it wasn't to fail
 pub record Succeeds (old new : Memory) (call : Call) (blocks : Blocks) : Type 0 where
-  pub unplanned : is_planned old call ≡ false
+  pub passes : is_to_fail old call ≡ false
   pub effect : new ≡ after_success old call blocks
 
--- a call that failed: a planned fault named it, or it found no memory for its place in the log
+-- a call that failed: it was to fail, or it found no memory for its place in the log
 abbrev pub Fails : Memory → Memory → Call → Blocks → Type 0
-Fails old new call blocks = ((is_planned old call ≡ true) × (new ≡ after_fault old call blocks)) ⊎ (new ≡ after_want old call)
+Fails old new call blocks = ((is_to_fail old call ≡ true) × (new ≡ after_fault old call blocks)) ⊎ (new ≡ after_want old call)
 
 -- the blocks that stand are what the log says
 pub record HoldsSettled (opening : Blocks) (log : List Call) (blocks : Blocks) : Type 0 where

@@ -1,9 +1,11 @@
-ghost use Rattle.std.specs.Prelude.{◌≡◌, ◌&&◌, ℕ, List};
+ghost use Rattle.std.specs.Prelude.{◌≡◌, ◌&&◌, ◌||◌, not, ℕ, List};
 ghost use Rattle.std.specs.List.{list_any};
 ghost use Rattle.disk_model.specs.declared.faults.CallKind.{CallKind};
 ghost use Rattle.disk_model.specs.declared.faults.FaultAt.{FaultAt};
+ghost use Rattle.disk_model.specs.Fuses.{is_cut};
 ghost use Rattle.disk_model.specs.Plans.{named, takes_effect, counted, counted_all, is_nth};
 
+use crate::Fuse;
 use blk_base::Pbn;
 
 /// The kinds of call of a device.
@@ -60,7 +62,7 @@ impl FaultAt {
     }
 }
 
-/// What planned faults make of a call.
+/// What a fuse and planned faults make of a call.
 #[derive(Clone, Copy, Debug)]
 pub(crate) struct Course {
     pub fails: bool,
@@ -68,15 +70,19 @@ pub(crate) struct Course {
     pub effect: bool,
 }
 
-/// What planned faults make of a call of this kind at this block, which is counted for them.
-pub(crate) fn take_course(plan: &mut Vec<FaultAt>, kind: CallKind, at: Pbn) -> Course
-    ensures fails { result.fails ≡ named plan.old.items kind at.0 }
-    ensures effect { result.effect ≡ takes_effect plan.old.items kind at.0 }
+/// What a fuse and planned faults make of a call of this kind at this block, which is counted for the faults. Once the
+/// fuse is spent no call has an effect.
+pub(crate) fn take_course(plan: &mut Vec<FaultAt>, fuse: Fuse, kind: CallKind, at: Pbn) -> Course
+    ensures fails { result.fails ≡ (is_cut fuse || named plan.old.items kind at.0) }
+    ensures effect { result.effect ≡ (not (is_cut fuse) && takes_effect plan.old.items kind at.0) }
     ensures counted { plan.new.items ≡ counted plan.old.items kind at.0 }
 {
     let course = look_up(plan, kind, at);
     count(plan, kind, at);
-    course
+    Course {
+        fails: fuse.is_cut() || course.fails,
+        effect: !fuse.is_cut() && course.effect,
+    }
 }
 
 // What these faults make of a call of this kind at this block.

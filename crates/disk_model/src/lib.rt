@@ -4,6 +4,7 @@
 mod call;
 mod disk;
 mod faults;
+mod fuse;
 mod images;
 mod memory;
 mod memory_streams;
@@ -12,6 +13,7 @@ mod streams;
 pub use call::{Call, Failed};
 pub use disk::Disk;
 pub use faults::{CallKind, FaultAt, faults_of_a_plan};
+pub use fuse::{Fuse, calls_that_a_fuse_cuts};
 pub use images::images_of_a_log;
 pub use memory::MemDisk;
 pub use memory_streams::{MemSink, MemSource};

@@ -3,6 +3,7 @@ ghost use Rattle.std.specs.Bool.{OnTrue, OnFalse};
 ghost use Rattle.blk_base.specs.Sectors.{zero_block};
 ghost use Rattle.disk_model.specs.declared.call.Call.TheVariants.{Read, Write, Flush};
 ghost use Rattle.disk_model.specs.Causes.{Rose, HasCause};
+ghost use Rattle.disk_model.specs.Fuses.{burnt, HasNotCut};
 ghost use Rattle.disk_model.specs.Images.{IsMixOf};
 ghost use Rattle.disk_model.specs.Log.{block_at, settled};
 ghost use Rattle.disk_model.specs.Memory.{fresh, after_failed_write, seen_of, Succeeds, Fails};
@@ -10,19 +11,20 @@ ghost use Rattle.disk_model.specs.Seen.{Stays};
 ghost use Rattle.disk_model.specs.Telling.{FailedInLog};
 
 use crate::faults::take_course;
-use crate::{Call, CallKind, Disk, Failed, FaultAt};
+use crate::{Call, CallKind, Disk, Failed, FaultAt, Fuse};
 use blk_base::{Block, Pbn};
 use std::alloc::{AllocError, Global};
 use std::marker::Model;
 
-/// A device in memory, which tells and is honest. A call fails exactly where a planned fault names it, or where it finds
-/// no memory for its place in the log: then it has no effect.
+/// A device in memory, which tells and is honest. A call fails exactly where a planned fault names it, where its fuse is
+/// spent, or where it finds no memory for its place in the log. In the last two cases it has no effect.
 #[derive(Drop)]
 pub struct MemDisk {
     opening: Vec<Block>,
     blocks: Vec<Block>,
     calls: Vec<Call>,
     plan: Vec<FaultAt>,
+    fuse: Fuse,
     faults: u64,
     unkept: u64,
 }
@@ -38,6 +40,7 @@ impl Model for MemDisk {
       log = reverse d.calls.items;
       blocks = d.blocks.items;
       plan = d.plan.items;
+      fuse = d.fuse;
       faults = d.faults;
       unkept = d.unkept;
     } };
@@ -57,8 +60,18 @@ fn copy_all(alloc: Global, blocks: &[Block]) -> Result<Vec<Block>, AllocError>
     Ok(copies)
 }
 
-// Adds a call to the log, where there is memory for it.
-fn keep(calls: &mut Vec<Call>, call: Call) -> bool
+// Adds a call to the log, where there is memory for it, and counts it for the fuse.
+fn keep(calls: &mut Vec<Call>, fuse: &mut Fuse, call: Call) -> bool
+    ensures kept { OnTrue result (calls.new.items ≡ calls.old.items ++ call ∷ []) }
+    ensures not { OnFalse result (calls.new.items ≡ calls.old.items) }
+    ensures burnt { fuse.new ≡ burnt fuse.old (reverse calls.new.items) }
+{
+    let kept = push(calls, call);
+    *fuse = fuse.burnt(calls);
+    kept
+}
+
+fn push(calls: &mut Vec<Call>, call: Call) -> bool
     ensures kept { OnTrue result (calls.new.items ≡ calls.old.items ++ call ∷ []) }
     ensures not { OnFalse result (calls.new.items ≡ calls.old.items) }
 {
@@ -93,6 +106,7 @@ impl MemDisk {
             blocks,
             calls: Vec::new(alloc),
             plan: Vec::new(alloc),
+            fuse: Fuse::Unset,
             faults: 0,
             unkept: 0,
         })
@@ -103,6 +117,15 @@ impl MemDisk {
         ensures { self.new ≡ record self.old { plan = faults.items } }
     {
         self.plan = faults;
+    }
+
+    /// Sets a fuse: the next `passes` calls go on, and every later call fails. No call of this device has failed by a fuse
+    /// before.
+    pub fn set_fuse(&mut self, passes: u64)
+        requires { HasNotCut self.old.fuse }
+        ensures { self.new ≡ record self.old { fuse = Fuse.Passes passes } }
+    {
+        self.fuse = Fuse::Passes(passes);
     }
 
     /// The calls that found memory for their place in the log, the oldest first.
@@ -154,7 +177,7 @@ impl Disk for MemDisk {
         ensures exact_ok { OnOk result (Succeeds self.old self.new (Read at into.new true) self.old.blocks) }
         ensures exact_err { OnErr result (Fails self.old self.new (Read at into.new false) self.old.blocks) }
     {
-        let course = take_course(&mut self.plan, CallKind::Read, at);
+        let course = take_course(&mut self.plan, self.fuse, CallKind::Read, at);
         let ok = !course.fails;
         let mut bytes = Block::zero();
         bytes.copy_from(if ok {
@@ -162,7 +185,11 @@ impl Disk for MemDisk {
         } else {
             into
         });
-        if !keep(&mut self.calls, Call::Read { at, bytes, ok }) {
+        if !keep(
+            &mut self.calls,
+            &mut self.fuse,
+            Call::Read { at, bytes, ok },
+        ) {
             self.unkept = self.unkept.saturating_add(1);
             self.faults = self.faults.saturating_add(1);
             return Err(Failed);
@@ -191,11 +218,15 @@ impl Disk for MemDisk {
         ensures exact_err { OnErr result (Fails self.old self.new (Write at from.now false)
             (after_failed_write self.old at.0 from.now)) }
     {
-        let course = take_course(&mut self.plan, CallKind::Write, at);
+        let course = take_course(&mut self.plan, self.fuse, CallKind::Write, at);
         let mut bytes = Block::zero();
         bytes.copy_from(from);
         let ok = !course.fails;
-        if !keep(&mut self.calls, Call::Write { at, bytes, ok }) {
+        if !keep(
+            &mut self.calls,
+            &mut self.fuse,
+            Call::Write { at, bytes, ok },
+        ) {
             self.unkept = self.unkept.saturating_add(1);
             self.faults = self.faults.saturating_add(1);
             return Err(Failed);
@@ -224,9 +255,9 @@ impl Disk for MemDisk {
         ensures exact_ok { OnOk result (Succeeds self.old self.new (Flush true) self.old.blocks) }
         ensures exact_err { OnErr result (Fails self.old self.new (Flush false) self.old.blocks) }
     {
-        let course = take_course(&mut self.plan, CallKind::Flush, Pbn(0));
+        let course = take_course(&mut self.plan, self.fuse, CallKind::Flush, Pbn(0));
         let ok = !course.fails;
-        if !keep(&mut self.calls, Call::Flush { ok }) {
+        if !keep(&mut self.calls, &mut self.fuse, Call::Flush { ok }) {
             self.unkept = self.unkept.saturating_add(1);
             self.faults = self.faults.saturating_add(1);
             return Err(Failed);
