@@ -1,55 +1,56 @@
 -- Entries in the order of their pages: where one stands, and that the order stays.
 use Rattle.std.specs.Prelude.{ℕ, ◌≡◌, ◌<◌, ◌≤◌, ◌+◌, ◌-◌, List, length, refl}
-use Rattle.std.proofs.Common.{ap, ◌∙◌, sym, subst, arith, get_or, inl, inr}
+use Rattle.std.proofs.Common.{ap, ◌∙◌, sym, subst, arith, get_or, inl, inr, Result, Ok, Err, IfOk, IfErr, Ordering, Less, Equal, Greater}
 use Rattle.std.specs.List.{insert, remove}
+use Rattle.std.specs.List.Sorted.{IsSearchInRange, IsBinarySearchResult}
+use Rattle.std.specs.Ordering.{ordering_reverse, ordering_then, is_lt, nat_cmp}
+use Rattle.std.specs.Cmp.{IsTotalOrder}
 use Rattle.std.proofs.lemmas.Bool.{cases_eq, cases_lt}
+use Rattle.std.proofs.lemmas.Cmp.{on_total, then_total, tied_itself, nat_cmp_total, ranked}
 use Rattle.std.proofs.lemmas.List.{get_or_default}
 use Rattle.std.proofs.lemmas.List.Edits.{get_or-insert_at, get_or-insert_below, get_or-insert_above, get_or-remove_below, get_or-remove_above, length-insert, length-remove}
+use Rattle.std.proofs.lemmas.List.Sorted.{searchable_from_sorted}
 use Rattle.blk_base.specs.declared.place.PageId.{PageId}
+use Rattle.blk_base.proofs.PageIdLaws.{same_page}
 use Rattle.map_page_cache.specs.declared.index.IndexEntry.{IndexEntry}
-use Rattle.map_page_cache.specs.Index.{Index, HasSlot, Adds, Removes, order_of, AreInOrder, IsPlaceOf, IsGapFor}
+use Rattle.map_page_cache.specs.Index.{Index, HasSlot, Adds, Removes, page_cmp, AreInOrder, IsPlaceOf, IsGapFor}
 
-abbrev entry_at : List IndexEntry → ℕ → IndexEntry → ℕ
-entry_at entries k d = order_of (get_or entries k d).page
+page_total : IsTotalOrder page_cmp
+page_total = then_total (on_total (λ (p : PageId). p.tree) nat_cmp_total) (then_total (on_total (λ (p : PageId). p.level) nat_cmp_total) (on_total (λ (p : PageId). p.index) nat_cmp_total))
 
-pub before_middle : (entries : List IndexEntry) (page : PageId) (middle : ℕ) (e : IndexEntry) → AreInOrder entries → middle < length entries
-    → order_of (get_or entries middle e).page < order_of page
-    → (k : ℕ) (d : IndexEntry) → k < middle + 1 → order_of (get_or entries k d).page < order_of page
-before_middle entries page middle e order inside below = λ k d upto.
-    let here : entry_at entries middle d ≡ entry_at entries middle e = ap (λ (i : IndexEntry). order_of i.page) (get_or_default entries middle d e inside) in
-    elim (cases_eq k middle) [
-      | inl same ↦
-          let at : entry_at entries k d ≡ entry_at entries middle d = ap (λ (j : ℕ). entry_at entries j d) same in
-          omega (arith, at, here, below)
-      | inr other ↦ omega (arith, order k middle d (omega arith) inside, here, below)
-    ]
+-- no page is before itself
+apart : (p q : PageId) → page_cmp p q ≡ Less → p ≡ q → ⊥
+apart p q less same =
+    let own : page_cmp p q ≡ Equal = ap (λ (r : PageId). page_cmp p r) (sym same) ∙ tied_itself page_total p in
+    cc
 
-pub behind_middle : (entries : List IndexEntry) (page : PageId) (middle : ℕ) (e : IndexEntry) → AreInOrder entries
-    → (order_of (get_or entries middle e).page < order_of page → ⊥)
-    → (k : ℕ) (d : IndexEntry) → middle ≤ k → k < length entries → order_of page ≤ order_of (get_or entries k d).page
-behind_middle entries page middle e order not_below = λ k d from inside.
-    let above : order_of page ≤ order_of (get_or entries middle e).page = omega (arith, not_below) in
-    let within : middle < length entries = omega arith in
-    let here : entry_at entries middle d ≡ entry_at entries middle e = ap (λ (i : IndexEntry). order_of i.page) (get_or_default entries middle d e within) in
-    elim (cases_eq k middle) [
-      | inl same ↦
-          let at : entry_at entries k d ≡ entry_at entries middle d = ap (λ (j : ℕ). entry_at entries j d) same in
-          omega (arith, at, here, above)
-      | inr other ↦ omega (arith, order middle k d (omega arith) inside, here, above)
-    ]
+both_equal : (o p : Ordering) → ordering_then o p ≡ Equal → (o ≡ Equal) × (p ≡ Equal)
+both_equal Equal p equal = (refl, equal)
+both_equal Less p equal = absurd cc
+both_equal Greater p equal = absurd cc
 
-pub behind_place : (entries : List IndexEntry) (page : PageId) (place : ℕ) (e : IndexEntry) → AreInOrder entries
-    → order_of page < order_of (get_or entries place e).page
-    → (k : ℕ) (d : IndexEntry) → place ≤ k → k < length entries → order_of page < order_of (get_or entries k d).page
-behind_place entries page place e order above = λ k d from inside.
-    let within : place < length entries = omega arith in
-    let here : entry_at entries place d ≡ entry_at entries place e = ap (λ (i : IndexEntry). order_of i.page) (get_or_default entries place d e within) in
-    elim (cases_eq k place) [
-      | inl same ↦
-          let at : entry_at entries k d ≡ entry_at entries place d = ap (λ (j : ℕ). entry_at entries j d) same in
-          omega (arith, at, here, above)
-      | inr other ↦ omega (arith, order place k d (omega arith) inside, here, above)
-    ]
+equal_pages : (p q : PageId) → page_cmp p q ≡ Equal → p ≡ q
+equal_pages p q equal =
+    let tree = both_equal (nat_cmp p.tree q.tree) _ equal in
+    let level = both_equal (nat_cmp p.level q.level) _ tree.1 in
+    same_page p q (ranked _ _ _ (sym tree.0)) (ranked _ _ _ (sym level.0)) (ranked _ _ _ (sym level.1))
+
+-- what a search by pages finds: the page's place, or its gap
+pub searched : (entries : List IndexEntry) (page : PageId) (r : Result ℕ ℕ) → AreInOrder entries → IsSearchInRange r (length entries)
+    → IsBinarySearchResult (λ e. page_cmp e.page page) entries r
+    → record { found : IfOk r (IsPlaceOf entries page); gap : IfErr r (IsGapFor entries page) }
+searched entries page (Ok place) order inside equal = record { found = record { inside = inside; named = λ d. equal_pages _ page (equal d) }; gap = tt }
+searched entries page (Err place) order inside parted =
+    let sorted = searchable_from_sorted page_total (λ (e : IndexEntry). e.page) entries page (λ k d from within.
+        ap is_lt (page_total.antisymm (get_or entries (k + 1) d).page (get_or entries k d).page ∙ ap ordering_reverse (order k (k + 1) d (omega arith) within))) in
+    record {
+      found = tt;
+      gap = record {
+        inside = inside;
+        before = λ k d below. (parted sorted).0 k d (omega arith) below;
+        behind = λ k d from within. page_total.antisymm page _ ∙ ap ordering_reverse ((parted sorted).1 k d from within);
+      };
+    }
 
 -- an entry at the place of the page is the page's
 pub slot_at : (index : Index) (page : PageId) (place slot : ℕ) (d : IndexEntry) → IsPlaceOf index.entries page place
@@ -67,22 +68,21 @@ slot_at index page place slot d found is =
 pub no_slot : (index : Index) (page : PageId) (place : ℕ) → IsGapFor index.entries page place → (slot : ℕ) → HasSlot index page slot → ⊥
 no_slot index page place gap = λ slot has.
     let entry : IndexEntry = record { page = page; slot = slot } in
-    let same : order_of (get_or index.entries has.0 entry).page ≡ order_of page = ap (λ (e : IndexEntry). order_of e.page) has.2 in
+    let same : (get_or index.entries has.0 entry).page ≡ page = ap (λ (e : IndexEntry). e.page) has.2 in
     elim (cases_lt has.0 place) [
-      | inl first ↦ let below = gap.before has.0 entry first in omega (arith, below, same)
-      | inr last ↦ let above = gap.behind has.0 entry last has.1 in omega (arith, above, same)
+      | inl first ↦ apart _ _ (gap.before has.0 entry first) same
+      | inr last ↦ apart _ _ (gap.behind has.0 entry last has.1) (sym same)
     ]
 
 -- entries of one page stand at one place
 one_place : (entries : List IndexEntry) (j k : ℕ) (d : IndexEntry) → AreInOrder entries → j < length entries → k < length entries
     → (get_or entries j d).page ≡ (get_or entries k d).page → j ≡ k
-one_place entries j k d order at_j at_k is =
-    let same : order_of (get_or entries j d).page ≡ order_of (get_or entries k d).page = ap order_of is in
+one_place entries j k d order at_j at_k same =
     elim (cases_eq j k) [
       | inl equal ↦ equal
       | inr other ↦ elim (cases_lt j k) [
-        | inl first ↦ let below = order j k d first at_k in absurd (omega (arith, below, same))
-        | inr last ↦ let below = order k j d (omega arith) at_j in absurd (omega (arith, below, same))
+        | inl first ↦ absurd (apart _ _ (order j k d first at_k) same)
+        | inr last ↦ absurd (apart _ _ (order k j d (omega arith) at_j) (sym same))
       ]
     ]
 
@@ -92,35 +92,33 @@ behind_gap : (entries : List IndexEntry) (place : ℕ) (entry d : IndexEntry) (k
 behind_gap entries place entry d k j inside from is =
     ap (λ (n : ℕ). get_or (insert entries place entry) n d) is ∙ get_or-insert_above entries place entry d k from inside
 
+-- entries that are equal to two in order are in order
+moved : (a a' b b' : IndexEntry) → a' ≡ a → b' ≡ b → page_cmp a.page b.page ≡ Less → page_cmp a'.page b'.page ≡ Less
+moved a a' b b' left right less =
+    ap (λ (e : IndexEntry). page_cmp e.page b'.page) left ∙ ap (λ (e : IndexEntry). page_cmp a.page e.page) right ∙ less
+
 -- in a gap the order stays
-pub order-insert : (entries : List IndexEntry) (page : PageId) (place : ℕ) (entry : IndexEntry) → AreInOrder entries → IsGapFor entries page place
-    → entry.page ≡ page → AreInOrder (insert entries place entry)
-order-insert entries page place entry order gap named = λ i j d rising inside.
+pub order-insert : (entries : List IndexEntry) (place : ℕ) (entry : IndexEntry) → AreInOrder entries → IsGapFor entries entry.page place
+    → AreInOrder (insert entries place entry)
+order-insert entries place entry order gap = λ i j d rising inside.
     let size = length-insert entries place entry gap.inside in
-    let own : order_of entry.page ≡ order_of page = ap order_of named in
-    let at : entry_at (insert entries place entry) place d ≡ order_of entry.page
-    = ap (λ (e : IndexEntry). order_of e.page) (get_or-insert_at entries place entry d gap.inside) in
-    let below : (k : ℕ) → k < place → entry_at (insert entries place entry) k d ≡ entry_at entries k d
-    = λ k h. ap (λ (e : IndexEntry). order_of e.page) (get_or-insert_below entries place entry d k h gap.inside) in
-    let above : (k n : ℕ) → place ≤ k → n ≡ k + 1 → entry_at (insert entries place entry) n d ≡ entry_at entries k d
-    = λ k n h is. ap (λ (e : IndexEntry). order_of e.page) (behind_gap entries place entry d k n gap.inside h is) in
+    let here : (k : ℕ) → k ≡ place → get_or (insert entries place entry) k d ≡ entry
+    = λ k is. ap (λ (n : ℕ). get_or (insert entries place entry) n d) is ∙ get_or-insert_at entries place entry d gap.inside in
+    let below : (k : ℕ) → k < place → get_or (insert entries place entry) k d ≡ get_or entries k d
+    = λ k h. get_or-insert_below entries place entry d k h gap.inside in
+    let above : (k : ℕ) → place < k → get_or (insert entries place entry) k d ≡ get_or entries (k - 1) d
+    = λ k h. behind_gap entries place entry d (k - 1) k gap.inside (omega arith) (omega arith) in
     elim (cases_lt j place) [
-      | inl first ↦ omega (arith, below i (omega arith), below j first, order i j d rising (omega arith))
+      | inl first ↦ moved _ _ _ _ (below i (omega arith)) (below j first) (order i j d rising (omega arith))
       | inr from ↦ elim (cases_eq j place) [
-        | inl here ↦
-            let same : entry_at (insert entries place entry) j d ≡ entry_at (insert entries place entry) place d = ap (λ (n : ℕ). entry_at (insert entries place entry) n d) here in
-            omega (arith, below i (omega arith), same, at, own, gap.before i d (omega arith))
-        | inr past ↦
-            let last = above (j - 1) j (omega arith) (omega arith) in
-            elim (cases_lt i place) [
-              | inl first ↦ omega (arith, below i first, last, order i (j - 1) d (omega arith) (omega arith))
-              | inr behind ↦ elim (cases_eq i place) [
-                | inl here ↦
-                    let same : entry_at (insert entries place entry) i d ≡ entry_at (insert entries place entry) place d = ap (λ (n : ℕ). entry_at (insert entries place entry) n d) here in
-                    omega (arith, same, at, own, last, gap.behind (j - 1) d (omega arith) (omega arith))
-                | inr beyond ↦ omega (arith, above (i - 1) i (omega arith) (omega arith), last, order (i - 1) (j - 1) d (omega arith) (omega arith))
-              ]
-            ]
+        | inl at ↦ moved _ _ _ _ (below i (omega arith)) (here j at) (gap.before i d (omega arith))
+        | inr past ↦ elim (cases_lt i place) [
+          | inl first ↦ moved _ _ _ _ (below i first) (above j (omega arith)) (order i (j - 1) d (omega arith) (omega arith))
+          | inr behind ↦ elim (cases_eq i place) [
+            | inl at ↦ moved _ _ _ _ (here i at) (above j (omega arith)) (gap.behind (j - 1) d (omega arith) (omega arith))
+            | inr beyond ↦ moved _ _ _ _ (above i (omega arith)) (above j (omega arith)) (order (i - 1) (j - 1) d (omega arith) (omega arith))
+          ]
+        ]
       ]
     ]
 
@@ -161,15 +159,13 @@ adds room place slot entries page index is gap =
 pub order-remove : (entries : List IndexEntry) (place : ℕ) → AreInOrder entries → place < length entries → AreInOrder (remove entries place)
 order-remove entries place order inside = λ i j d rising within.
     let size = length-remove entries place inside in
-    let below : (k : ℕ) → k < place → entry_at (remove entries place) k d ≡ entry_at entries k d
-    = λ k h. ap (λ (e : IndexEntry). order_of e.page) (get_or-remove_below entries place d k h inside) in
-    let above : (k : ℕ) → place ≤ k → entry_at (remove entries place) k d ≡ entry_at entries (k + 1) d
-    = λ k h. ap (λ (e : IndexEntry). order_of e.page) (get_or-remove_above entries place d k h inside) in
+    let below = λ (k : ℕ) (h : k < place). get_or-remove_below entries place d k h inside in
+    let above = λ (k : ℕ) (h : place ≤ k). get_or-remove_above entries place d k h inside in
     elim (cases_lt j place) [
-      | inl first ↦ omega (arith, below i (omega arith), below j first, order i j d rising (omega arith))
+      | inl first ↦ moved _ _ _ _ (below i (omega arith)) (below j first) (order i j d rising (omega arith))
       | inr last ↦ elim (cases_lt i place) [
-        | inl first ↦ omega (arith, below i first, above j last, order i (j + 1) d (omega arith) (omega arith))
-        | inr behind ↦ omega (arith, above i behind, above j last, order (i + 1) (j + 1) d (omega arith) (omega arith))
+        | inl first ↦ moved _ _ _ _ (below i first) (above j last) (order i (j + 1) d (omega arith) (omega arith))
+        | inr behind ↦ moved _ _ _ _ (above i behind) (above j last) (order (i + 1) (j + 1) d (omega arith) (omega arith))
       ]
     ]
 

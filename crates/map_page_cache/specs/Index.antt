@@ -1,5 +1,8 @@
 -- Which slot each page has.
-use Rattle.std.specs.Prelude.{ℕ, ◌≡◌, ◌≢◌, ◌<◌, ◌≤◌, ◌+◌, ◌*◌, ◌^◌, ◌⊎◌, List, [], length, Contains, slice_index_or}
+use Rattle.std.specs.Prelude.{ℕ, ◌≡◌, ◌≢◌, ◌<◌, ◌≤◌, ◌+◌, ◌⊎◌, List, [], length, Contains, slice_index_or}
+use Rattle.std.specs.declared.cmp.Ordering.{Ordering}
+use Rattle.std.specs.declared.cmp.Ordering.TheVariants.{Less}
+use Rattle.std.specs.Ordering.{nat_cmp, ordering_then}
 use Rattle.blk_base.specs.declared.place.PageId.{PageId}
 use Rattle.map_page_cache.specs.declared.index.IndexEntry.{IndexEntry}
 
@@ -33,13 +36,13 @@ pub record Removes (old new : Index) (page : PageId) : Type 0 where
   pub only : (other : PageId) (s : ℕ) → HasSlot new other s → HasSlot old other s
 
 -- pages are ordered by tree, then level, then number
-abbrev pub order_of : PageId → ℕ
-order_of page = (page.tree * 2 ^ 8 + page.level) * 2 ^ 32 + page.index
+abbrev pub page_cmp : PageId → PageId → Ordering
+page_cmp p q = ordering_then (nat_cmp p.tree q.tree) (ordering_then (nat_cmp p.level q.level) (nat_cmp p.index q.index))
 
 -- the entries are in the order of their pages, no two of which are equal
 abbrev pub AreInOrder : List IndexEntry → Type 0
 AreInOrder entries =
-    (i j : ℕ) (d : IndexEntry) → i < j → j < length entries → order_of (slice_index_or entries i d).page < order_of (slice_index_or entries j d).page
+    (i j : ℕ) (d : IndexEntry) → i < j → j < length entries → page_cmp (slice_index_or entries i d).page (slice_index_or entries j d).page ≡ Less
 
 -- the entry of the page stands here
 pub record IsPlaceOf (entries : List IndexEntry) (page : PageId) (place : ℕ) : Type 0 where
@@ -49,5 +52,5 @@ pub record IsPlaceOf (entries : List IndexEntry) (page : PageId) (place : ℕ) :
 -- an entry of the page would stand here, and there is none
 pub record IsGapFor (entries : List IndexEntry) (page : PageId) (place : ℕ) : Type 0 where
   pub inside : place ≤ length entries
-  pub before : (k : ℕ) (d : IndexEntry) → k < place → order_of (slice_index_or entries k d).page < order_of page
-  pub behind : (k : ℕ) (d : IndexEntry) → place ≤ k → k < length entries → order_of page < order_of (slice_index_or entries k d).page
+  pub before : (k : ℕ) (d : IndexEntry) → k < place → page_cmp (slice_index_or entries k d).page page ≡ Less
+  pub behind : (k : ℕ) (d : IndexEntry) → place ≤ k → k < length entries → page_cmp page (slice_index_or entries k d).page ≡ Less

@@ -1,6 +1,6 @@
-ghost use Rattle.std.specs.Prelude.{◌≡◌, ◌<◌, ◌↔◌, ℕ, length, IfOk, IfErr, IfSome, IfNone, IsTrue};
+ghost use Rattle.std.specs.Prelude.{◌≡◌, ◌<◌, ℕ, length, IfOk, IfErr, IfSome, IfNone};
 ghost use Rattle.blk_base.specs.declared.place.PageId.{PageId};
-ghost use Rattle.map_page_cache.specs.Index.{no_entries, HasSlot, Adds, Removes, order_of, AreInOrder, IsPlaceOf, IsGapFor};
+ghost use Rattle.map_page_cache.specs.Index.{no_entries, HasSlot, Adds, Removes, AreInOrder, IsPlaceOf, IsGapFor};
 
 use blk_base::PageId;
 use std::alloc::{AllocError, Global};
@@ -94,27 +94,5 @@ fn place_of(entries: &[IndexEntry], page: PageId) -> Result<usize, usize>
     ensures found { IfOk result (IsPlaceOf entries.now page) }
     ensures gap { IfErr result (IsGapFor entries.now page) }
 {
-    let mut low = 0;
-    let mut high = entries.len();
-    while low < high {
-        let middle = low + (high - low) / 2;
-        if is_before(entries[middle].page, page) {
-            low = middle + 1;
-        } else {
-            high = middle;
-        }
-    }
-    if low < entries.len() && !is_before(page, entries[low].page) {
-        Ok(low)
-    } else {
-        Err(low)
-    }
-}
-
-// Whether the left page is before the right one in the order of pages.
-fn is_before(left: PageId, right: PageId) -> bool
-    ensures before { IsTrue result ↔ (order_of left < order_of right) }
-    ensures apart { order_of left ≡ order_of right → left ≡ right }
-{
-    left < right
+    entries.binary_search_by_key(&page, |entry| entry.page)
 }

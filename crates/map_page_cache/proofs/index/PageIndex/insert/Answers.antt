@@ -21,7 +21,7 @@ invariant_of-self c =
     record {
       room = omega (arith, c.self.invariant.room, c.insert.ensures.capacity);
       order = subst (λ (es : List IndexEntry). AreInOrder es) (sym c.in-Ok-insert.ensures.items)
-          (order-insert c.self.inside.entries.items c.args.page c.in-Err.place entry c.self.invariant.order gap refl);
+          (order-insert c.self.inside.entries.items c.in-Err.place entry c.self.invariant.order gap);
     }
 
 pub returns : goal.returns
