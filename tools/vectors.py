@@ -12,6 +12,7 @@ import journal
 import layout
 import map_page
 import names
+import picks
 import slab
 import superblock
 from rust_source import literals
@@ -21,7 +22,7 @@ CRATES = Path(__file__).resolve().parent.parent / "crates"
 
 
 def vectors() -> Iterator[Vector]:
-    for module in (layout, superblock, journal, map_page, slab, names):
+    for module in (layout, superblock, journal, map_page, slab, names, picks):
         yield from module.vectors()
 
 

@@ -9,3 +9,6 @@ pub mod SeenLaws
 pub mod SinceLaws
 pub mod Taken
 pub mod FuseLaws
+pub mod PickLaws
+pub mod PickImageLaws
+pub mod PickRows

@@ -6,5 +6,7 @@ pub mod Telling
 pub mod Since
 pub mod Plans
 pub mod Fuses
+pub mod Picks
+pub mod PickParts
 pub mod Memory
 pub mod Streams

@@ -8,6 +8,7 @@ mod fuse;
 mod images;
 mod memory;
 mod memory_streams;
+mod picks;
 mod streams;
 
 pub use call::{Call, Failed};
@@ -17,4 +18,5 @@ pub use fuse::{Fuse, calls_that_a_fuse_cuts};
 pub use images::images_of_a_log;
 pub use memory::MemDisk;
 pub use memory_streams::{MemSink, MemSource};
+pub use picks::a_picked_image_may_stand;
 pub use streams::{OpenGate, Sink, Source, ZoneGate};

@@ -5,12 +5,14 @@ ghost use Rattle.disk_model.specs.declared.call.Call.TheVariants.{Read, Write, F
 ghost use Rattle.disk_model.specs.Causes.{Rose, HasCause};
 ghost use Rattle.disk_model.specs.Fuses.{burnt, HasNotCut};
 ghost use Rattle.disk_model.specs.Images.{IsMixOf};
-ghost use Rattle.disk_model.specs.Log.{block_at, settled};
+ghost use Rattle.disk_model.specs.Log.{Blocks, block_at, settled};
 ghost use Rattle.disk_model.specs.Memory.{fresh, after_failed_write, seen_of, Succeeds, Fails};
+ghost use Rattle.disk_model.specs.Picks.{IsPicked, counted_log};
 ghost use Rattle.disk_model.specs.Seen.{Stays};
 ghost use Rattle.disk_model.specs.Telling.{FailedInLog};
 
 use crate::faults::take_course;
+use crate::picks::{counted, pick_blocks};
 use crate::{Call, CallKind, Disk, Failed, FaultAt, Fuse};
 use blk_base::{Block, Pbn};
 use std::alloc::{AllocError, Global};
@@ -126,6 +128,22 @@ impl MemDisk {
         ensures { self.new ≡ record self.old { fuse = Fuse.Passes passes } }
     {
         self.fuse = Fuse::Passes(passes);
+    }
+
+    /// A device with the image that a number picks of those that a stop may leave now. Of the calls that failed by the fuse
+    /// the first alone counts.
+    ///
+    /// A sector's durable content is what the last successful write before the last successful flush gave it. 0 picks the
+    /// durable ones, 1 for each sector the last write since that flush, failed or not. Any other number begins a row of
+    /// numbers, one for each sector of the blocks that were written since: each picks one of the durable content and
+    /// the writes. It goes through the log once for each block, and once for each sector of those blocks.
+    pub fn pick_image(&self, alloc: Global, number: u64) -> Result<MemDisk, AllocError>
+        ensures { IfOk result (λ d. (image : Blocks) × (d ≡ fresh image)
+            × IsPicked self.now.opening (counted_log self.now.fuse self.now.log) number image) }
+    {
+        let calls = counted(&self.calls, self.fuse);
+        let blocks = pick_blocks(alloc, calls, &self.opening, number)?;
+        MemDisk::from_blocks(alloc, blocks)
     }
 
     /// The calls that found memory for their place in the log, the oldest first.

@@ -6,4 +6,6 @@ mod faults;
 #[cfg(test)]
 mod fuses;
 #[cfg(test)]
+mod picks;
+#[cfg(test)]
 mod plans;

@@ -1,0 +1,135 @@
+-- How an image is put together that a number picks.
+use Rattle.std.proofs.Common.{ℕ, zero, suc, ◌≡◌, ◌≢◌, ◌+◌, ◌-◌, ◌*◌, ◌==◌, ◌<◌, ◌≤◌, ◌++◌, if◌then◌else◌, List, [], ◌∷◌, length, reverse, take, drop, refl, sym, ◌∙◌, ap, subst, inl, inr, arith, length-drop, length-append}
+use Rattle.std.proofs.Math.Nat.{mod-one}
+use Rattle.std.proofs.lemmas.Bool.{cases_lt}
+use Rattle.std.proofs.lemmas.Bool.Decides.{eqb_tells}
+use Rattle.std.proofs.lemmas.List.{get_or_append_left, get_or_push, drop-append-le, drop-drop, drop-take, drop_at, length-reverse, length-take-le, reverse-append, take-append-drop, take-append-le, take-take, take_at}
+use Rattle.blk_base.specs.Sectors.{sector, zero_block}
+use Rattle.disk_model.specs.declared.call.Call.{Call}
+use Rattle.disk_model.specs.Picks.{choice, content_of, next_state, number_in, numbers_before, pending, state_after}
+use Rattle.disk_model.specs.Log.{Blocks, block_at}
+use Rattle.disk_model.specs.PickParts.{IsPickedUpTo, copied}
+
+-- the oldest calls of a log are what is left of it without the newest
+pub oldest : (calls : List Call) (n : ℕ) → n ≤ length calls → reverse (take n calls) ≡ drop (length (reverse calls) - n) (reverse calls)
+oldest calls n few =
+    let front = take n calls in
+    let back = drop n calls in
+    let whole : reverse calls ≡ reverse back ++ reverse front = ap reverse (sym (take-append-drop n calls)) ∙ reverse-append front back in
+    let size : length (reverse back) ≡ length (reverse calls) - n = length-reverse back ∙ length-drop n calls ∙ ap (λ (k : ℕ). k - n) (sym (length-reverse calls)) in
+    sym (drop_at (reverse back) (reverse front) (length (reverse calls) - n) size) ∙ ap (drop (length (reverse calls) - n)) (sym whole)
+
+-- Sectors of a block of which one was copied.
+
+module _ (i : ℕ) (into from : List ℕ) (below : i < 8) (size : length into ≡ 4096) (size_from : length from ≡ 4096) where
+  front_size : length (take (512 * i) into) ≡ 512 * i
+  front_size = length-take-le (512 * i) into (omega (arith, below, size))
+
+  middle_size : length (take 512 (drop (512 * i) from)) ≡ 512
+  middle_size = length-take-le 512 (drop (512 * i) from) (let left = length-drop (512 * i) from in omega (arith, below, size_from, left))
+
+  pub copied_size : length (copied (512 * i) into from) ≡ 4096
+  copied_size =
+      let middle = take 512 (drop (512 * i) from) in
+      let back = drop (512 * i + 512) into in
+      let left = length-drop (512 * i + 512) into in
+      length-append (take (512 * i) into) (middle ++ back) ∙ ap (λ (n : ℕ). length (take (512 * i) into) + n) (length-append middle back)
+      ∙ omega (arith, below, size, front_size, middle_size, left)
+
+  pub copied_here : sector i (copied (512 * i) into from) ≡ sector i from
+  copied_here =
+      ap (take 512) (drop_at (take (512 * i) into) (take 512 (drop (512 * i) from) ++ drop (512 * i + 512) into) (512 * i) front_size)
+      ∙ take_at (take 512 (drop (512 * i) from)) (drop (512 * i + 512) into) 512 middle_size
+
+  copied_before : (j : ℕ) → j < i → sector j (copied (512 * i) into from) ≡ sector j into
+  copied_before j less =
+      let rest = take 512 (drop (512 * i) from) ++ drop (512 * i + 512) into in
+      let place : 512 * j + (512 * i - 512 * j) ≡ 512 * i = omega (arith, less) in
+      let cut : drop (512 * j) (take (512 * i) into) ≡ take (512 * i - 512 * j) (drop (512 * j) into) =
+      ap (λ (n : ℕ). drop (512 * j) (take n into)) (sym place) ∙ drop-take (512 * j) (512 * i - 512 * j) into in
+      let left = length-drop (512 * j) into in
+      let cut_size : length (take (512 * i - 512 * j) (drop (512 * j) into)) ≡ 512 * i - 512 * j =
+      length-take-le (512 * i - 512 * j) (drop (512 * j) into) (omega (arith, less, below, size, left)) in
+      ap (take 512) (drop-append-le (512 * j) (take (512 * i) into) rest (omega (arith, less, front_size)) ∙ ap (λ (xs : List ℕ). xs ++ rest) cut)
+      ∙ take-append-le 512 (take (512 * i - 512 * j) (drop (512 * j) into)) rest (omega (arith, less, cut_size))
+      ∙ take-take 512 (512 * i - 512 * j) (drop (512 * j) into) (omega (arith, less))
+
+  copied_behind : (j : ℕ) → i < j → sector j (copied (512 * i) into from) ≡ sector j into
+  copied_behind j more =
+      let middle = take 512 (drop (512 * i) from) in
+      let back = drop (512 * i + 512) into in
+      let beyond : 512 * i + (512 * j - 512 * i) ≡ 512 * j = omega (arith, more) in
+      let beyond_too : 512 + (512 * j - 512 * i - 512) ≡ 512 * j - 512 * i = omega (arith, more) in
+      let there : 512 * i + 512 + (512 * j - 512 * i - 512) ≡ 512 * j = omega (arith, more) in
+      ap (take 512)
+      (ap (λ (n : ℕ). drop n (copied (512 * i) into from)) (sym beyond)
+      ∙ sym (drop-drop (512 * j - 512 * i) (512 * i) (copied (512 * i) into from))
+      ∙ ap (drop (512 * j - 512 * i)) (drop_at (take (512 * i) into) (middle ++ back) (512 * i) front_size)
+      ∙ ap (λ (n : ℕ). drop n (middle ++ back)) (sym beyond_too)
+      ∙ sym (drop-drop (512 * j - 512 * i - 512) 512 (middle ++ back))
+      ∙ ap (drop (512 * j - 512 * i - 512)) (drop_at middle back 512 middle_size)
+      ∙ drop-drop (512 * j - 512 * i - 512) (512 * i + 512) into
+      ∙ ap (λ (n : ℕ). drop n into) there)
+
+  pub copied_other : (j : ℕ) → j ≢ i → sector j (copied (512 * i) into from) ≡ sector j into
+  copied_other j other = elim (cases_lt j i) [
+    | inl less ↦ copied_before j less
+    | inr not_less ↦ copied_behind j (omega (arith, not_less, other))
+  ]
+
+-- Rows of numbers.
+
+pub later_state : (seed n m : ℕ) → state_after (state_after seed n) m ≡ state_after seed (n + m)
+later_state seed n zero = let same : n ≡ n + 0 = omega arith in ap (state_after seed) same
+later_state seed n (suc m) =
+    let next : suc (n + m) ≡ n + suc m = omega arith in
+    ap next_state (later_state seed n m) ∙ ap (state_after seed) next
+
+-- of a block without writes there is one content to choose
+pub choice_alone : (number state : ℕ) → choice number 0 state ≡ 0
+choice_alone number state = elim (eqb_tells number 0) [
+  | inl none ↦ rw (none.0) refl
+  | inr some ↦ elim (eqb_tells number 1) [
+    | inl one ↦ rw (some.0, one.0) refl
+    | inr more ↦ rw (some.0, more.0) (mod-one (number_in state))
+  ]
+]
+
+-- The first blocks of a picked image.
+
+last_block : (blocks : Blocks) (x : List ℕ) (b : ℕ) → length blocks ≡ b → block_at (blocks ++ x ∷ []) b ≡ x
+last_block blocks x b size = get_or_push blocks x zero_block b size
+
+same_block : (blocks : Blocks) (x : List ℕ) (b : ℕ) → b < length blocks → block_at (blocks ++ x ∷ []) b ≡ block_at blocks b
+same_block blocks x b below = get_or_append_left blocks (x ∷ []) zero_block b below
+
+pub picked_more : (opening : Blocks) (log : List Call) (number b : ℕ) (image : Blocks) (before x : List ℕ) (state state' : ℕ)
+    → IsPickedUpTo opening log number b image state → before ≡ block_at opening b → length x ≡ 4096
+    → ((i : ℕ) → i < 8 → sector i x ≡ sector i (content_of before log b (choice number (pending log b) (state_after state (suc i)))))
+    → state' ≡ (if pending log b == 0 then state else state_after state 8)
+    → IsPickedUpTo opening log number (suc b) (image ++ x ∷ []) state'
+picked_more opening log number b image before x state state' up is whole sectors next = record {
+  size = let grown = length-append image (x ∷ []) in let size = up.size in omega (arith, grown, size);
+  state_is = elim (eqb_tells (pending log b) 0) [
+    | inl none ↦ next ∙ rw (none.0) up.state_is
+    | inr some ↦
+        let more : numbers_before log b + 8 ≡ 8 + numbers_before log b = omega arith in
+        next ∙ rw (some.0) (ap (λ (s : ℕ). state_after s 8) up.state_is ∙ later_state number (numbers_before log b) 8 ∙ ap (state_after number) more)
+  ];
+  whole = λ k within. elim (eqb_tells k b) [
+    | inl here ↦ ap length (ap (block_at (image ++ x ∷ [])) here.1 ∙ last_block image x b up.size) ∙ whole
+    | inr other ↦ let apart = other.1 in let size = up.size in
+        ap length (same_block image x k (omega (arith, within, apart, size))) ∙ up.whole k (omega (arith, within, apart))
+  ];
+  sectors = λ k i within below. elim (eqb_tells k b) [
+    | inl here ↦ subst (λ (n : ℕ). sector i (block_at (image ++ x ∷ []) n) ≡ sector i (content_of (block_at opening n) log n (choice number (pending log n) (state_after number (suc (numbers_before log n + i))))))
+        (sym here.1)
+        (let place : numbers_before log b + suc i ≡ suc (numbers_before log b + i) = omega arith in
+        ap (sector i) (last_block image x b up.size) ∙ sectors i below
+        ∙ ap (λ (bytes : List ℕ). sector i (content_of bytes log b (choice number (pending log b) (state_after state (suc i))))) is
+        ∙ ap (λ (s : ℕ). sector i (content_of (block_at opening b) log b (choice number (pending log b) s)))
+        (ap (λ (s : ℕ). state_after s (suc i)) up.state_is ∙ later_state number (numbers_before log b) (suc i) ∙ ap (state_after number) place))
+    | inr other ↦ let apart = other.1 in let size = up.size in
+        ap (sector i) (same_block image x k (omega (arith, within, apart, size))) ∙ up.sectors k i (omega (arith, within, apart)) below
+  ];
+}

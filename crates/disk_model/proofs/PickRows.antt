@@ -1,0 +1,88 @@
+-- Picked images: each definition at a small log. The newest call stands first.
+use Rattle.std.proofs.Common.{ℕ, ◌≡◌, true, false, List, [], ◌∷◌, refl}
+use Rattle.blk_base.specs.declared.place.Pbn.{Pbn}
+use Rattle.disk_model.specs.declared.call.Call.{Call}
+use Rattle.disk_model.specs.declared.call.Call.TheVariants.{Read, Write, Flush}
+use Rattle.disk_model.specs.declared.fuse.Fuse.TheVariants.{Passes, Spent}
+use Rattle.disk_model.specs.Fuses.{is_cut, burnt}
+use Rattle.disk_model.specs.Picks.{choice, content_of, counted_log, next_state, number_in, numbers_before, pending, state_after}
+
+abbrev at : ℕ → Pbn
+at n = record { 0 = n }
+
+-- block 2 is written, and the write fails; block 0 is written and flushed, and then written twice, once in vain
+abbrev log : List Call
+log =
+    Write (at 0) (3 ∷ []) true ∷ Flush false ∷ Write (at 0) (2 ∷ []) false ∷ Read (at 0) (1 ∷ []) true ∷ Flush true ∷ Write (at 0) (1 ∷ []) true
+    ∷ Write (at 2) (9 ∷ []) false ∷ []
+
+-- number 0 is the durable content, and the others are the writes since the flush that succeeded, the oldest first
+durable_of : content_of [] log 0 0 ≡ 1 ∷ []
+durable_of = refl
+
+first_write : content_of [] log 0 1 ≡ 2 ∷ []
+first_write = refl
+
+last_write : content_of [] log 0 2 ≡ 3 ∷ []
+last_write = refl
+
+two_pending : pending log 0 ≡ 2
+two_pending = refl
+
+-- a write that failed before the flush counts as without effect
+without_effect : content_of (7 ∷ []) log 2 0 ≡ 7 ∷ []
+without_effect = refl
+
+none_pending : pending log 2 ≡ 0
+none_pending = refl
+
+-- a block that nobody wrote is as it was before
+never_written : content_of (7 ∷ []) log 1 0 ≡ 7 ∷ []
+never_written = refl
+
+-- The row of numbers from 0 on, and from another number on.
+first_number : number_in (state_after 0 1) ≡ 167951807
+unfolding next_state number_in
+first_number = refl
+
+second_number : number_in (state_after 0 2) ≡ 218396424
+unfolding next_state number_in
+second_number = refl
+
+-- Blocks without such writes take no numbers, and each other one takes eight.
+numbers_of_first : numbers_before log 1 ≡ 8
+numbers_of_first = refl
+
+numbers_of_none : numbers_before log 3 ≡ 8
+numbers_of_none = refl
+
+-- Which content is chosen: the durable one, the last write, or one of all of them.
+choice_of_zero : choice 0 2 0 ≡ 0
+choice_of_zero = refl
+
+choice_of_one : choice 1 2 0 ≡ 2
+choice_of_one = refl
+
+choice_of_more : choice 7 2 (state_after 0 1) ≡ 2
+unfolding next_state number_in
+choice_of_more = refl
+
+-- Of the calls that failed by a fuse the first alone counts.
+counted_all : counted_log (Passes 1) log ≡ log
+counted_all = refl
+
+counted_two : counted_log (Spent 2) log ≡ Write (at 0) (1 ∷ []) true ∷ Write (at 2) (9 ∷ []) false ∷ []
+counted_two = refl
+
+-- A fuse of two calls: the third one fails by it, and is the last that counts.
+fuse_goes_on : is_cut (burnt (Passes 2) log) ≡ false
+fuse_goes_on = refl
+
+fuse_cuts : is_cut (burnt (burnt (Passes 2) log) log) ≡ true
+fuse_cuts = refl
+
+fuse_is_spent : burnt (Passes 0) log ≡ Spent 7
+fuse_is_spent = refl
+
+fuse_stays_spent : burnt (Spent 3) log ≡ Spent 3
+fuse_stays_spent = refl

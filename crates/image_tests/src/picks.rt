@@ -1,0 +1,137 @@
+ghost use Rattle.std.specs.Prelude.{◌≡◌, IfOk, length};
+
+use blk_base::{Block, Pbn};
+use disk_model::{CallKind, Disk, FaultAt, MemDisk};
+use std::alloc::{AllocError, Global};
+use std::test::Fail;
+
+// A number, and the byte of each sector of each of four blocks in the image that it picks, computed by tools/picks.py.
+const PICKED: [(u64, [u8; 32]); 5] = [
+    (
+        0,
+        [
+            1, 1, 1, 1, 1, 1, 1, 1, 0, 0, 0, 0, 0, 0, 0, 0, 0, 0, 0, 0, 0, 0, 0, 0, 0, 0, 0, 0, 0,
+            0, 0, 0,
+        ],
+    ),
+    (
+        1,
+        [
+            3, 3, 3, 3, 3, 3, 3, 3, 5, 5, 5, 5, 5, 5, 5, 5, 0, 0, 0, 0, 0, 0, 0, 0, 4, 4, 4, 4, 4,
+            4, 4, 4,
+        ],
+    ),
+    (
+        2,
+        [
+            2, 1, 1, 3, 3, 3, 1, 1, 5, 0, 5, 0, 0, 0, 0, 0, 0, 0, 0, 0, 0, 0, 0, 0, 0, 4, 0, 4, 0,
+            0, 0, 0,
+        ],
+    ),
+    (
+        7,
+        [
+            3, 3, 1, 3, 2, 3, 2, 1, 5, 0, 5, 5, 0, 0, 5, 0, 0, 0, 0, 0, 0, 0, 0, 0, 4, 4, 0, 4, 0,
+            4, 0, 0,
+        ],
+    ),
+    (
+        18446744073709551615,
+        [
+            2, 3, 2, 3, 1, 3, 1, 3, 0, 0, 5, 0, 0, 0, 0, 0, 0, 0, 0, 0, 0, 0, 0, 0, 4, 0, 0, 0, 4,
+            0, 4, 4,
+        ],
+    ),
+];
+
+// A write that fails, and one more.
+const FAULTS: [FaultAt; 2] = [
+    FaultAt {
+        kind: CallKind::Write,
+        at: Pbn(2),
+        nth: 0,
+        effect: true,
+    },
+    FaultAt {
+        kind: CallKind::Write,
+        at: Pbn(0),
+        nth: 1,
+        effect: false,
+    },
+];
+
+// Writes a block of this byte, whether or not that fails.
+fn write(device: &mut MemDisk, at: u32, byte: u8)
+    requires { length device.old.blocks ≡ 4 }
+    ensures { length device.new.blocks ≡ 4 }
+{
+    if at < 4 {
+        let _ = device.write(
+            Pbn(at),
+            &Block {
+                bytes: [byte; 4096],
+            },
+        );
+    }
+}
+
+// What was written, flushed, and written since, until the device was cut off.
+fn write_all(device: &mut MemDisk)
+    requires { length device.old.blocks ≡ 4 }
+    ensures { length device.new.blocks ≡ 4 }
+{
+    write(device, 0, 1);
+    write(device, 2, 9);
+    let _ = device.flush();
+    write(device, 0, 2);
+    write(device, 0, 3);
+    write(device, 3, 4);
+    write(device, 1, 5);
+    write(device, 0, 6);
+}
+
+// A device of four blocks that was cut off at the seventh of these calls.
+fn cut_device(alloc: Global) -> Result<MemDisk, AllocError> {
+    let faults = FAULTS.to_vec(alloc)?;
+    let mut device = MemDisk::zeroed(alloc, 4)?;
+    device.set_faults(faults);
+    device.set_fuse(6);
+    write_all(&mut device);
+    Ok(device)
+}
+
+// The byte of a sector; 255 where it can't be read.
+fn byte_of(image: &mut MemDisk, at: u32, sector: usize) -> u8 {
+    let mut into = Block::zero();
+    if at < image.blocks() && image.read(Pbn(at), &mut into).is_ok() {
+        into.bytes.get(512 * (sector % 8)).copied().unwrap_or(255)
+    } else {
+        255
+    }
+}
+
+fn bytes_of(image: &mut MemDisk) -> [u8; 32] {
+    let mut bytes = [0; 32];
+    for (i, byte) in bytes.iter_mut().enumerate() {
+        *byte = byte_of(image, (i / 8) as u32, i % 8);
+    }
+    bytes
+}
+
+// The first number that picks something else, with that.
+fn other_pick(alloc: Global) -> Result<Option<(u64, [u8; 32])>, AllocError> {
+    let device = cut_device(alloc)?;
+    for (number, wanted) in PICKED {
+        let found = bytes_of(&mut device.pick_image(alloc, number)?);
+        if found != wanted {
+            return Ok(Some((number, found)));
+        }
+    }
+    Ok(None)
+}
+
+#[test]
+fn numbers_pick_images(rt: HostRuntime) -> Result<(), Fail> {
+    assert_eq!(rt; other_pick(rt.alloc())?, None);
+    Ok(())
+}
