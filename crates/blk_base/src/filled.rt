@@ -12,3 +12,17 @@ pub fn repeated<T: Copy>(alloc: Global, value: T, count: usize) -> Result<Vec<T>
     }
     Ok(list)
 }
+
+/// A list of so many values that are made one by one: equal ones, where each call makes the same.
+pub fn repeated_with<T: Drop, F: FnMut() -> T + Drop>(
+    alloc: Global,
+    make: F,
+    count: usize,
+) -> Result<Vec<T>, AllocError>
+    requires { F.IsAlwaysCallable make }
+    ensures { IfOk result (λ list. (value : T) → ((f g : F) (made : T) → F.step f made g → made ≡ value) → list.items ≡ replicate count value) }
+{
+    let mut list = Vec::with_capacity(alloc, count)?;
+    list.resize_with(count, make)?;
+    Ok(list)
+}

@@ -18,7 +18,7 @@ mod sizes;
 
 pub use block::Block;
 pub use default_sizes::default_sizes_are_within_limits;
-pub use filled::repeated;
+pub use filled::{repeated, repeated_with};
 pub use geometry::{Geometry, Super};
 pub use has_block::HasBlock;
 pub use journal_entry::{CommittedEntry, Entry, Update};

@@ -10,9 +10,11 @@ ghost use Rattle.block_map_tree.specs.Tree.{IsAt, IsThere, IsFound, IsLinkable, 
 ghost use Rattle.block_map_tree.specs.Opening.{IsOpened, IsOpening, forest_of};
 
 use crate::numbers::{SLOTS, has_tree, number, page_above, page_numbered, slot, width};
-use crate::opening::{blank_pages, count_pages, take_over};
+use crate::opening::{count_pages, take_over};
 use crate::{Forest, Found, Path};
-use blk_base::{Layout, Mapping, Mappings, Opened, PAGE_SLOTS, PageId, Pbn, Point, TREES};
+use blk_base::{
+    Layout, Mapping, Mappings, Opened, PAGE_SLOTS, PageId, Pbn, Point, TREES, repeated_with,
+};
 use dirty_pages::DirtyPages;
 use page_codec::{MapPage, PageHead};
 use std::alloc::{AllocError, Global};
@@ -64,7 +66,7 @@ impl TreeNodes {
         };
         let count = count_pages(&forest, &opened.pages);
         let marks = DirtyPages::new(alloc, count as u32)?;
-        let mut pages = blank_pages(alloc, count)?;
+        let mut pages = repeated_with(alloc, Mappings::new, count)?;
         take_over(&mut pages, &opened.pages, &forest);
         Ok(TreeNodes {
             forest,

@@ -1,13 +1,12 @@
-ghost use Rattle.std.specs.Prelude.{◌≡◌, ◌<◌, ◌≤◌, ◌*◌, All, IfOk, length, replicate};
+ghost use Rattle.std.specs.Prelude.{◌<◌, ◌≤◌, ◌*◌, All, length};
 ghost use Rattle.blk_base.specs.declared.place.PageId.{PageId};
 ghost use Rattle.block_map_tree.specs.Pages.{IsForest, IsTreeOf, IsOnPath, IsInner};
 ghost use Rattle.block_map_tree.specs.Tree.{number_of, trees_of, most_rows};
-ghost use Rattle.block_map_tree.specs.Opening.{IsOpened, AreEnough, blank, IsTakenOver};
+ghost use Rattle.block_map_tree.specs.Opening.{IsOpened, AreEnough, IsTakenOver};
 
 use crate::Forest;
 use crate::numbers::{SLOTS, TREES, count_trees, has_tree, number};
 use blk_base::{Mappings, OpenedPage};
-use std::alloc::{AllocError, Global};
 
 /// How many pages there is to be room for: the roots, and at height 3 those below them, up to the last that is on a path of
 /// the logical size or is there.
@@ -37,18 +36,6 @@ fn count_rows(forest: &Forest, opened: &[OpenedPage]) -> u32
         }
     }
     rows
-}
-
-/// So many pages that lead nowhere.
-#[tactic(auto, unfolding(crate::specs::Opening::blank))]
-pub(crate) fn blank_pages(alloc: Global, count: usize) -> Result<Vec<Mappings>, AllocError>
-    ensures { IfOk result (λ pages. pages.items ≡ replicate count blank) }
-{
-    let mut pages = Vec::with_capacity(alloc, count)?;
-    for made in 0..count {
-        pages.push_reserved(Mappings::new());
-    }
-    Ok(pages)
 }
 
 /// Takes over what the pages of a zone's trees lead to.

@@ -6,8 +6,8 @@ ghost use Rattle.slab_journal.specs.Slab.{opening, entry_of, IsOfSlab, IsFirst, 
 
 use crate::Full;
 use crate::covering::are_covered;
-use crate::entries::{Updates, copy_of, empty_slots, slab_entry};
-use blk_base::{Geometry, Layout, Point, Update, raise, repeated};
+use crate::entries::{Updates, copy_of, slab_entry};
+use blk_base::{Geometry, Layout, Point, Update, raise, repeated, repeated_with};
 use slab_codec::{SlabEntries, SlabJournalBlock};
 use std::alloc::{AllocError, Global};
 use std::marker::Model;
@@ -62,7 +62,7 @@ impl SlabJournal {
             sequence: 1,
             filling: SlabEntries::new(),
             last: Point(FIRST_POINT - 1),
-            slots: empty_slots(alloc, geometry.slab_journal)?,
+            slots: repeated_with(alloc, SlabEntries::new, geometry.slab_journal as usize)?,
             durable: 1,
             commits: repeated(alloc, Point(0), layout.sectors_per_slab() as usize)?,
         })
