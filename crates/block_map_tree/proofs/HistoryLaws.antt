@@ -15,7 +15,7 @@ use Rattle.blk_base.specs.Regions.{IsDataBlock}
 use Rattle.page_codec.specs.Grammar.{HoldsMapping}
 use Rattle.dirty_pages.specs.declared.marks.Marks.{Marks}
 use Rattle.dirty_pages.specs.Marks.{IsLowPoint, AreClean, marks_at, changed_at, handed_out, settled}
-use Rattle.dirty_pages.specs.History.{IsWaiting, IsInWrite, IsUnwritten, IsUnreported, Becomes, IsAfter, AtMost}
+use Rattle.dirty_pages.specs.History.{IsWaiting, IsUnwritten, IsUnreported, Becomes, IsAfter, AtMost}
 use Rattle.dirty_pages.proofs.MarkLaws.{due_inside, out_inside}
 use Rattle.dirty_pages.proofs.HistoryLaws as dirty
 use Rattle.block_map_tree.specs.declared.forms.Forest.{Forest}
@@ -198,49 +198,41 @@ after old new (call ∷ calls) page form lead inner =
     )
 
 -- a page that was changed is no leaf
-waiting_inner : (old new : Tree) (calls : List Call) (page : PageId) (point : Point) → IsTree old → LeadTo old calls new
-    → IsWaiting (events_of calls) page point → IsInner old.forest page
-waiting_inner old new [] page point form lead wait = absurd wait
-waiting_inner old new (Link linked at since ∷ calls) page point form lead wait = elim wait [
-  | inl now ↦
-      let keep = calls_keep old lead.0 calls form lead.1 in
-      let lower = lower_on_path lead.0.forest linked keep.0.forest lead.2.0.path lead.2.0.lower in
-      let inner = above_inner lead.0.forest linked keep.0.forest lower in
-      subst (λ (p : PageId). IsInner old.forest p) now.0 (subst (λ (f : Forest). IsInner f (above linked)) keep.1 inner)
-  | inr before ↦ waiting_inner old lead.0 calls page point form lead.1 before
-]
-waiting_inner old new (HandOut out ∷ calls) page point form lead wait = waiting_inner old lead.0 calls page point form lead.1 wait.1
-waiting_inner old new (Write out ∷ calls) page point form lead wait = waiting_inner old lead.0 calls page point form lead.1 wait
-
-in_write_inner : (old new : Tree) (calls : List Call) (page : PageId) (point : Point) → IsTree old → LeadTo old calls new
-    → IsInWrite (events_of calls) page point → IsInner old.forest page
-in_write_inner old new [] page point form lead out = absurd out
-in_write_inner old new (Link linked at since ∷ calls) page point form lead out = in_write_inner old lead.0 calls page point form lead.1 out
-in_write_inner old new (HandOut handed ∷ calls) page point form lead out = elim out [
-  | inl now ↦ waiting_inner old lead.0 calls page point form lead.1 now.1
-  | inr before ↦ in_write_inner old lead.0 calls page point form lead.1 before
-]
-in_write_inner old new (Write handed ∷ calls) page point form lead out = in_write_inner old lead.0 calls page point form lead.1 out.1
-
 unwritten_inner : (old new : Tree) (calls : List Call) (page : PageId) (point : Point) → IsTree old → LeadTo old calls new
     → IsUnwritten (events_of calls) page point → IsInner old.forest page
-unwritten_inner old new calls page point form lead unwritten = elim unwritten [
-  | inl wait ↦ waiting_inner old new calls page point form lead wait
-  | inr out ↦ in_write_inner old new calls page point form lead out
-]
+unwritten_inner old new [] page point form lead unwritten = elim unwritten [ inl wait ↦ absurd wait | inr out ↦ absurd out ]
+unwritten_inner old new (Link linked at since ∷ calls) page point form lead unwritten =
+    let past = unwritten_inner old lead.0 calls page point form lead.1 in
+    elim unwritten [
+      | inl (inl now) ↦
+          let keep = calls_keep old lead.0 calls form lead.1 in
+          let lower = lower_on_path lead.0.forest linked keep.0.forest lead.2.0.path lead.2.0.lower in
+          let inner = above_inner lead.0.forest linked keep.0.forest lower in
+          subst (λ (p : PageId). IsInner old.forest p) now.0 (subst (λ (f : Forest). IsInner f (above linked)) keep.1 inner)
+      | inl (inr wait) ↦ past (inl wait)
+      | inr out ↦ past (inr out)
+    ]
+unwritten_inner old new (HandOut handed ∷ calls) page point form lead unwritten =
+    let past = unwritten_inner old lead.0 calls page point form lead.1 in
+    elim unwritten [ inl wait ↦ past (inl wait.1) | inr (inl now) ↦ past (inl now.1) | inr (inr out) ↦ past (inr out) ]
+unwritten_inner old new (Write handed ∷ calls) page point form lead unwritten =
+    let past = unwritten_inner old lead.0 calls page point form lead.1 in
+    elim unwritten [ inl wait ↦ past (inl wait) | inr out ↦ past (inr out.1) ]
+
+unwritten_after : (old new : Tree) (calls : List Call) (page : PageId) (point : Point) → IsTree old → LeadTo old calls new
+    → IsUnwritten (events_of calls) page point → IsAfter (marks_of old page) (events_of calls) page (marks_of new page)
+unwritten_after old new calls page point form lead unwritten = after old new calls page form lead (unwritten_inner old new calls page point form lead unwritten)
 
 -- a link that waits will be handed out
 pub kept : (old new : Tree) (calls : List Call) (page : PageId) (point : Point) → IsTree old → LeadTo old calls new
     → IsWaiting (events_of calls) page point → AtMost (marks_of new page).dirty point
 kept old new calls page point form lead wait =
-    dirty.waits (marks_of old page) (marks_of new page) (events_of calls) page point
-    (after old new calls page form lead (waiting_inner old new calls page point form lead wait)) wait
+    dirty.waits (marks_of old page) (marks_of new page) (events_of calls) page point (unwritten_after old new calls page point form lead (inl wait)) wait
 
 pub not_below : (old new : Tree) (calls : List Call) (page : PageId) (point low : Point) → IsTree old → LeadTo old calls new
     → IsUnwritten (events_of calls) page point → IsLowPoint new.marks low → low.0 ≤ point.0
 not_below old new calls page point low form lead unwritten is_low =
-    let has = dirty.has_point (marks_of old page) (marks_of new page) (events_of calls) page point
-    (after old new calls page form lead (unwritten_inner old new calls page point form lead unwritten)) unwritten in
+    let has = dirty.has_point (marks_of old page) (marks_of new page) (events_of calls) page point (unwritten_after old new calls page point form lead unwritten) unwritten in
     let least = is_low.least (number_of new.forest page) has.0 has.1 in
     let early = has.2 in
     omega arith
@@ -248,8 +240,7 @@ not_below old new calls page point low form lead unwritten is_low =
 pub not_written : (old new : Tree) (calls : List Call) (page : PageId) (point : Point) → IsTree old → LeadTo old calls new
     → IsUnwritten (events_of calls) page point → AreClean new.marks → ⊥
 not_written old new calls page point form lead unwritten written =
-    dirty.not_clean (marks_of old page) (marks_of new page) (events_of calls) page point
-    (after old new calls page form lead (unwritten_inner old new calls page point form lead unwritten)) unwritten (written (number_of new.forest page))
+    dirty.not_clean (marks_of old page) (marks_of new page) (events_of calls) page point (unwritten_after old new calls page point form lead unwritten) unwritten (written (number_of new.forest page))
 
 -- a page that was handed out is being written until it is reported
 pub is_out : (old new : Tree) (page : PageId) (point : Point) (into : MapPage) → Expires old new point page into → IsWriting new page

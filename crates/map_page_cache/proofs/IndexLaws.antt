@@ -42,7 +42,7 @@ pub searched : (entries : List IndexEntry) (page : PageId) (r : Result ℕ ℕ) 
 searched entries page (Ok place) order inside equal = record { found = record { inside = inside; named = λ d. equal_pages _ page (equal d) }; gap = tt }
 searched entries page (Err place) order inside parted =
     let sorted = searchable_from_sorted page_total (λ (e : IndexEntry). e.page) entries page (λ k d from within.
-        ap is_lt (page_total.antisymm (get_or entries (k + 1) d).page (get_or entries k d).page ∙ ap ordering_reverse (order k (k + 1) d (omega arith) within))) in
+    ap is_lt (page_total.antisymm (get_or entries (k + 1) d).page (get_or entries k d).page ∙ ap ordering_reverse (order k (k + 1) d (omega arith) within))) in
     record {
       found = tt;
       gap = record {

@@ -51,22 +51,34 @@ one_marks : (cache : CachedPages) (page : PageId) (frame : ℕ) (marks : Marks) 
 one_marks cache page frame marks form at (inl has) = has.2 ∙ ap (λ (k : ℕ). marks_at cache.marks k) (one_frame cache.pages page has.0 frame form.apart has.1 at)
 one_marks cache page frame marks form at (inr none) = absurd (absent_at cache.pages page none.0 frame at)
 
+-- what is there after a page was pushed or set
+pushed_there : (pages : List MapPage) (new content : MapPage) (k : ℕ) → k < length (pages ++ new ∷ []) → get_or (pages ++ new ∷ []) k content ≡ content
+    → ((k ≡ length pages) × (content ≡ new)) ⊎ ((k < length pages) × (get_or pages k content ≡ content))
+pushed_there pages new content k inside is =
+    let size = length-append pages (new ∷ []) in
+    elim (cases_lt k (length pages)) [
+      | inl old ↦ inr (old, sym (get_or_append_left pages (new ∷ []) content k old) ∙ is)
+      | inr last ↦ let here : k ≡ length pages = omega arith in
+          inl (here, sym is ∙ ap (λ (n : ℕ). get_or (pages ++ new ∷ []) n content) here ∙ get_or-append_seam pages new [] content)
+    ]
+
+set_there : (pages : List MapPage) (place : ℕ) (new content : MapPage) (k : ℕ) → place < length pages → k < length (set pages place new) → get_or (set pages place new) k content ≡ content
+    → ((k ≡ place) × (content ≡ new)) ⊎ ((k ≢ place) × (k < length pages) × (get_or pages k content ≡ content))
+set_there pages place new content k within inside is =
+    let size = length-set pages place new in
+    elim (cases_eq k place) [
+      | inl here ↦ inl (here, sym is ∙ ap (λ (n : ℕ). get_or (set pages place new) n content) here ∙ get_or-set_same pages place new content within)
+      | inr apart ↦ inr (apart, omega arith, sym (get_or-set_other pages place k new content apart) ∙ is)
+    ]
+
 -- the pages of a list of which one is replaced
 set_at : (pages : List MapPage) (place k : ℕ) (content : MapPage) (page : PageId) → place < length pages → IsAt (set pages place content) page k
     → ((k ≡ place) × (content.head.page ≡ page)) ⊎ ((k ≢ place) × IsAt pages page k)
 set_at pages place k content page inside at =
-    let size = length-set pages place content in
-    let within = at.inside in
-    elim (cases_eq k place) [
-      | inl here ↦ inl (
-        here,
-        sym (ap (λ (c : MapPage). c.head.page) (get_or-set_same pages place content content inside))
-            ∙ ap (λ (n : ℕ). (get_or (set pages place content) n content).head.page) (sym here) ∙ at.named content,
-      )
-      | inr apart ↦ inr (
-        apart,
-        record { inside = omega arith; named = λ d. ap (λ (c : MapPage). c.head.page) (sym (get_or-set_other pages place k content d apart)) ∙ at.named d },
-      )
+    let found = get_or (set pages place content) k content in
+    elim (set_there pages place content found k inside at.inside (get_or_default (set pages place content) k found content at.inside)) [
+      | inl here ↦ inl (here.0, ap (λ (c : MapPage). c.head.page) (sym here.1) ∙ at.named content)
+      | inr before ↦ inr (before.0, at_by pages page k found before.1 (ap (λ (c : MapPage). c.head.page) before.2 ∙ at.named content))
     ]
 
 set_other : (pages : List MapPage) (place k : ℕ) (content : MapPage) (page : PageId) → k ≢ place → IsAt pages page k → IsAt (set pages place content) page k
@@ -84,17 +96,10 @@ set_here pages place content page inside named = record {
 push_at : (pages : List MapPage) (k : ℕ) (content : MapPage) (page : PageId) → IsAt (pages ++ content ∷ []) page k
     → ((k ≡ length pages) × (content.head.page ≡ page)) ⊎ IsAt pages page k
 push_at pages k content page at =
-    let size = length-append pages (content ∷ []) in
-    let within = at.inside in
-    elim (cases_lt k (length pages)) [
-      | inl old ↦ inr (record { inside = old; named = λ d. ap (λ (c : MapPage). c.head.page) (sym (get_or_append_left pages (content ∷ []) d k old)) ∙ at.named d })
-      | inr new ↦
-          let here : k ≡ length pages = omega arith in
-          inl (
-            here,
-            sym (ap (λ (c : MapPage). c.head.page) (ap (λ (n : ℕ). get_or (pages ++ content ∷ []) n content) here ∙ get_or-append_seam pages content [] content))
-                ∙ at.named content,
-          )
+    let found = get_or (pages ++ content ∷ []) k content in
+    elim (pushed_there pages content found k at.inside (get_or_default (pages ++ content ∷ []) k found content at.inside)) [
+      | inl here ↦ inl (here.0, ap (λ (c : MapPage). c.head.page) (sym here.1) ∙ at.named content)
+      | inr before ↦ inr (at_by pages page k found before.0 (ap (λ (c : MapPage). c.head.page) before.1 ∙ at.named content))
     ]
 
 push_old : (pages : List MapPage) (k : ℕ) (content : MapPage) (page : PageId) → IsAt pages page k → IsAt (pages ++ content ∷ []) page k
@@ -338,32 +343,12 @@ one_content cache page content other form there there' =
 pub content_held : (cache : CachedPages) (page : PageId) (content : MapPage) → IsCache cache → IsThere cache page content → IsPageOf cache.geometry content
 content_held cache page content form there = subst (λ (c : MapPage). IsPageOf cache.geometry c) there.0.2 (form.each there.0.0 content there.0.1)
 
--- what is there after a page was pushed or set
-pushed_there : (pages : List MapPage) (new content : MapPage) (k : ℕ) → k < length (pages ++ new ∷ []) → get_or (pages ++ new ∷ []) k content ≡ content
-    → (content ≡ new) ⊎ ((k < length pages) × (get_or pages k content ≡ content))
-pushed_there pages new content k inside is =
-    let size = length-append pages (new ∷ []) in
-    elim (cases_lt k (length pages)) [
-      | inl old ↦ inr (old, sym (get_or_append_left pages (new ∷ []) content k old) ∙ is)
-      | inr last ↦ let here : k ≡ length pages = omega arith in
-          inl (sym is ∙ ap (λ (n : ℕ). get_or (pages ++ new ∷ []) n content) here ∙ get_or-append_seam pages new [] content)
-    ]
-
-set_there : (pages : List MapPage) (place : ℕ) (new content : MapPage) (k : ℕ) → place < length pages → k < length (set pages place new) → get_or (set pages place new) k content ≡ content
-    → ((k ≡ place) × (content ≡ new)) ⊎ ((k ≢ place) × (k < length pages) × (get_or pages k content ≡ content))
-set_there pages place new content k within inside is =
-    let size = length-set pages place new in
-    elim (cases_eq k place) [
-      | inl here ↦ inl (here, sym is ∙ ap (λ (n : ℕ). get_or (set pages place new) n content) here ∙ get_or-set_same pages place new content within)
-      | inr apart ↦ inr (apart, omega arith, sym (get_or-set_other pages place k new content apart) ∙ is)
-    ]
-
 content_step : (start old new : CachedPages) (calls : List Call) (call : Call) (page : PageId) (content : MapPage) → IsCache old → Leads old call new
     → ((before : MapPage) → IsThere old page before → IsContent start calls page before) → IsThere new page content → IsContent start (call ∷ calls) page content
 content_step start old new calls (Install from) page content form (absent, inl fills) known there =
     let there' = subst (λ (c : CachedPages). IsThere c page content) fills.after there in
     elim (pushed_there old.pages from content there'.0.0 there'.0.1 there'.0.2) [
-      | inl here ↦ inl (ap (λ (c : MapPage). c.head.page) (sym here) ∙ there'.1, here)
+      | inl here ↦ inl (ap (λ (c : MapPage). c.head.page) (sym here.1) ∙ there'.1, here.1)
       | inr before ↦ inr ((λ same. absent there'.0.0 content before.0 (ap (λ (c : MapPage). c.head.page) before.1 ∙ there'.1 ∙ sym same)), known content ((there'.0.0, before.0, before.1), there'.1))
     ]
 content_step start old new calls (Install from) page content form (absent, inr gives) known there =

@@ -2,7 +2,7 @@ ghost use Rattle.std.specs.Prelude.{◌≡◌, ◌<◌, IfOk, OnOk, OnErr, ◌�
 ghost use Rattle.page_codec.specs.declared.forms.MapPage.{MapPage};
 ghost use Rattle.page_codec.specs.Grammar.{HoldsMapping};
 ghost use Rattle.dirty_pages.specs.Marks.{clean, marks_at, NoneIsDue, IsLowPoint, AreClean};
-ghost use Rattle.map_page_cache.specs.CachedPages.{CachedPages, no_pages, IsPageOf, IsCache, IsThere, IsAbsent, Fills, GivesUp, HasNoFrame, Sets, Expires, IsWriting, Writes};
+ghost use Rattle.map_page_cache.specs.CachedPages.{CachedPages, no_pages, IsPageOf, IsCache, IsThere, IsAbsent, Fills, GivesUp, HasNoFrame, with_mapping, Sets, Expires, IsWriting, Writes};
 ghost use Rattle.map_page_cache.specs.Frames.{IsAt};
 
 use crate::NoFrame;
@@ -148,7 +148,7 @@ impl Cache {
         ensures { Sets self.old self.new page slot mapping point }
     {
         let frame = self.frame_of(page);
-        self.pages[frame].mappings.set(slot, mapping);
+        map_slot(&mut self.pages[frame], slot, mapping);
         self.marks.change(frame, point);
         self.clean.set(frame, false);
     }
@@ -196,6 +196,14 @@ impl Cache {
     {
         self.marks.low_point()
     }
+}
+
+// Maps a slot of a page.
+fn map_slot(content: &mut MapPage, slot: u16, mapping: Mapping)
+    requires { slot < PAGE_SLOTS }
+    ensures { content.new ≡ with_mapping slot mapping content.old }
+{
+    content.mappings.set(slot, mapping);
 }
 
 // Copies a page.

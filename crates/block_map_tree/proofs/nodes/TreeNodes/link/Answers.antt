@@ -19,13 +19,10 @@ change-requires c =
     let number = c.number-number.ensures ∙ ap (λ (p : PageId). number_of c.self.inside.forest p) c.page_above.ensures in
     omega (arith, place.marks_inside, number)
 
-pub invariant_of-self : goal.invariant_of-self
-invariant_of-self c =
-    let done = linking _ _ _ _ _ _ _ _ _ _ _ c.self.view_is c.self.invariant c.requires.page c.requires.above c.requires.at c.page_above.ensures c.number-number.ensures
-    c.slot.ensures.value c.index_mut.ensures.value c.set.ensures.after c.change.ensures in
-    done.form
-
 pub returns : goal.returns
 returns c =
     linking _ _ _ _ _ _ _ _ _ _ _ c.self.view_is c.self.invariant c.requires.page c.requires.above c.requires.at c.page_above.ensures c.number-number.ensures
     c.slot.ensures.value c.index_mut.ensures.value c.set.ensures.after c.change.ensures
+
+pub invariant_of-self : goal.invariant_of-self
+invariant_of-self c = (returns c).form

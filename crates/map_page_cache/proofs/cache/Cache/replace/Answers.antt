@@ -39,10 +39,8 @@ invariant_of-self c =
     let clean_is : marks_at cache.marks place ≡ clean = subst (λ (known : CachedPages). marks_at known.marks place ≡ clean) (sym c.self.view_is) c.requires.clean in
     let at = at_by cache.pages gone.head.page place gone inside (ap (λ (m : MapPage). m.head.page) (sym c.index_mut-content.ensures.value)) in
     let named = ap (λ (m : MapPage). m.head.page) c.copy_page.ensures ∙ c.requires.named in
-    let done = gives_up c.args.self.now cache c.args.page place c.args.from.now copy c.self.view_is c.self.invariant.form c.requires.absent c.requires.named
-    c.requires.held c.requires.full c.requires.inside c.requires.clean c.copy_page.ensures in
     record {
-      form = done.form;
+      form = (returns c).form;
       room = c.self.invariant.room;
       index = follows-replace c.self.inside.index c.remove.new.self c.insert.new.self cache.frames place cache.pages copy gone.head.page c.args.page
           c.self.invariant.index c.self.invariant.form.apart at c.remove.ensures c.insert.ensures named;

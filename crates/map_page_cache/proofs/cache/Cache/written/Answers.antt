@@ -1,4 +1,4 @@
-use Rattle.std.proofs.Common.{length, List, Bool, ap, ◌∙◌, sym, subst, refl, get_or}
+use Rattle.std.proofs.Common.{length, List, Bool, ap, ◌∙◌, sym, subst, get_or}
 use Rattle.std.proofs.lemmas.List.{get_or_default}
 use Rattle.page_codec.specs.declared.forms.MapPage.{MapPage}
 use Rattle.dirty_pages.specs.declared.marks.Marks.{Marks}
@@ -33,14 +33,10 @@ invariant_of-self c =
     let cache : CachedPages = record { geometry = c.self.inside.geometry; frames = c.self.inside.room; pages = c.self.inside.pages.items; marks = c.self.inside.marks } in
     let place = c.frame_of-frame.result in
     let at = subst (λ (known : CachedPages). IsAt known.pages c.args.page place) (sym c.self.view_is) c.frame_of-frame.ensures in
-    let d = page_in cache.pages place at.inside in
-    let content : MapPage = get_or cache.pages place d in
     let out = writing_in cache c.args.page place c.self.invariant.form at (subst (λ (known : CachedPages). IsWriting known c.args.page) (sym c.self.view_is) c.requires) in
     let inside = out_inside cache.marks place out in
-    let done = writes cache cache c.args.page place content c.written.new.self refl c.self.invariant.form
-    (at_in cache c.args.page place content at (sym (get_or_default cache.pages place content d at.inside))) c.written.ensures in
     record {
-      form = done.form;
+      form = (returns c).form;
       room = c.self.invariant.room;
       index = c.self.invariant.index;
       clean = subst (λ (flags : List Bool). AreFlags flags cache.frames (length cache.pages) c.written.new.self) (sym c.set.ensures)
