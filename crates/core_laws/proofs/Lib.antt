@@ -5,6 +5,5 @@ pub mod kept
 pub mod lists
 pub mod logical
 pub mod physical
-pub mod rows
 pub mod tokens
 pub mod trace

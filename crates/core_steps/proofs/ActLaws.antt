@@ -4,31 +4,31 @@ use Rattle.std.specs.Prelude.{IfSome}
 use Rattle.blk_base.specs.declared.request.Answer.TheVariants.{Stopped}
 use Rattle.disk_model.specs.Seen.{Seen}
 use Rattle.disk_model.specs.declared.call.Call.{Call}
-use Rattle.core_laws.specs.declared.items.Item.TheVariants as item
-use Rattle.core_laws.specs.declared.items.SealedBlock.{SealedBlock}
-use Rattle.core_laws.specs.declared.items.Vio.{Vio}
-use Rattle.core_laws.specs.declared.sizes.Sizes.{Sizes}
-use Rattle.core_laws.specs.declared.zones.ZoneData.TheVariants as at
-use Rattle.core_laws.specs.declared.zones.Desk.{Desk}
-use Rattle.core_laws.specs.declared.zones.DeviceZone.{DeviceZone}
-use Rattle.core_laws.specs.declared.zones.JournalZone.{JournalZone}
-use Rattle.core_laws.specs.declared.zones.LogicalZone.{LogicalZone}
-use Rattle.core_laws.specs.declared.zones.PhysicalZone.{PhysicalZone}
-use Rattle.core_laws.specs.DeskRows.{DeskBegins, DeskServes, with_notice, woken}
-use Rattle.core_laws.specs.DeskRows.DeskBegins.{answers as begun-answers, sends as begun-sends}
-use Rattle.core_laws.specs.DeskRows.DeskServes.{parks as desk-parks, answers as desk-answers, marks as desk-marks}
-use Rattle.core_laws.specs.DeviceRows.{DeviceServes, DeviceWorks}
-use Rattle.core_laws.specs.JournalRows.{PhysicalServes, JournalServes, JournalEnds, all_refused}
-use Rattle.core_laws.specs.JournalRows.PhysicalServes.{claims as physical-claims, is_full as physical-is_full, aborts_claim as physical-aborts_claim, aborts_entered_claim as physical-aborts_entered_claim}
-use Rattle.core_laws.specs.JournalRows.JournalServes.{is_stopped as journal-is_stopped, waits as journal-waits, is_full as journal-is_full, enters as journal-enters}
-use Rattle.core_laws.specs.JournalRows.JournalEnds.{commits_next as ended-commits_next, commits_alone as ended-commits_alone, commits_last as ended-commits_last, fails as ended-fails}
-use Rattle.core_laws.specs.LogicalRows.{LogicalServes}
-use Rattle.core_laws.specs.LogicalRows.LogicalServes.{arrives_retired as logical-arrives_retired, arrives_free as logical-arrives_free, arrives_held as logical-arrives_held, settles as logical-settles, gives as logical-gives, aborts as logical-aborts, aborts_entered as logical-aborts_entered}
-use Rattle.core_laws.specs.Numbers.{desk_zone}
-use Rattle.core_laws.specs.Steps.{MayBegin}
-use Rattle.core_laws.specs.Steps.Act.{begins as act-begins, answers as act-answers, hears as act-hears, serves as act-serves, serves_notice as act-serves_notice, takes as act-takes, takes_notice as act-takes_notice, enters as act-enters, enters_notice as act-enters_notice, ends as act-ends, calls as act-calls, works as act-works}
-use Rattle.core_laws.specs.Trace.{Trace, calls}
-use Rattle.core_laws.specs.Vios.{Post}
+use Rattle.core_model.specs.declared.items.Item.TheVariants as item
+use Rattle.core_model.specs.declared.items.SealedBlock.{SealedBlock}
+use Rattle.core_model.specs.declared.items.Vio.{Vio}
+use Rattle.core_model.specs.declared.sizes.Sizes.{Sizes}
+use Rattle.core_model.specs.declared.zones.ZoneData.TheVariants as at
+use Rattle.core_model.specs.declared.zones.Desk.{Desk}
+use Rattle.core_model.specs.declared.zones.DeviceZone.{DeviceZone}
+use Rattle.core_model.specs.declared.zones.JournalZone.{JournalZone}
+use Rattle.core_model.specs.declared.zones.LogicalZone.{LogicalZone}
+use Rattle.core_model.specs.declared.zones.PhysicalZone.{PhysicalZone}
+use Rattle.core_model.specs.DeskRows.{DeskBegins, DeskServes, with_notice, woken}
+use Rattle.core_model.specs.DeskRows.DeskBegins.{answers as begun-answers, sends as begun-sends}
+use Rattle.core_model.specs.DeskRows.DeskServes.{parks as desk-parks, answers as desk-answers, marks as desk-marks}
+use Rattle.core_model.specs.DeviceRows.{DeviceServes, DeviceWorks}
+use Rattle.core_model.specs.JournalRows.{PhysicalServes, JournalServes, JournalEnds, all_refused}
+use Rattle.core_model.specs.JournalRows.PhysicalServes.{claims as physical-claims, is_full as physical-is_full, aborts_claim as physical-aborts_claim, aborts_entered_claim as physical-aborts_entered_claim}
+use Rattle.core_model.specs.JournalRows.JournalServes.{is_stopped as journal-is_stopped, waits as journal-waits, is_full as journal-is_full, enters as journal-enters}
+use Rattle.core_model.specs.JournalRows.JournalEnds.{commits_next as ended-commits_next, commits_alone as ended-commits_alone, commits_last as ended-commits_last, fails as ended-fails}
+use Rattle.core_model.specs.LogicalRows.{LogicalServes}
+use Rattle.core_model.specs.LogicalRows.LogicalServes.{arrives_retired as logical-arrives_retired, arrives_free as logical-arrives_free, arrives_held as logical-arrives_held, settles as logical-settles, gives as logical-gives, aborts as logical-aborts, aborts_entered as logical-aborts_entered}
+use Rattle.core_model.specs.Numbers.{desk_zone}
+use Rattle.core_model.specs.Steps.{MayBegin}
+use Rattle.core_model.specs.Steps.Act.{begins as act-begins, answers as act-answers, hears as act-hears, serves as act-serves, serves_notice as act-serves_notice, takes as act-takes, takes_notice as act-takes_notice, enters as act-enters, enters_notice as act-enters_notice, ends as act-ends, calls as act-calls, works as act-works}
+use Rattle.core_model.specs.Trace.{Trace, calls}
+use Rattle.core_model.specs.Vios.{Post}
 use Rattle.core_steps.specs.Acts.{ActsAlone, Acts}
 use Rattle.core_steps.specs.DeviceLog.{HasCalled, failed_calls, lost_calls}
 use Rattle.core_steps.specs.declared.posts.Posts.{Posts}

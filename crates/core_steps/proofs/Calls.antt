@@ -6,14 +6,14 @@ use Rattle.disk_model.specs.declared.call.Call.TheVariants as call
 use Rattle.disk_model.specs.Causes.{Rose, HasCause}
 use Rattle.disk_model.specs.Seen.{Seen}
 use Rattle.disk_model.specs.Telling.{FailedInLog}
-use Rattle.core_laws.specs.declared.items.Item.TheVariants as item
-use Rattle.core_laws.specs.declared.items.SealedBlock.{SealedBlock}
-use Rattle.core_laws.specs.declared.items.Stage.{Stage}
-use Rattle.core_laws.specs.declared.items.Stage.TheVariants as stage
-use Rattle.core_laws.specs.declared.sizes.Sizes.{Sizes}
-use Rattle.core_laws.specs.DeviceRows.{call_of, journal_bytes}
-use Rattle.core_laws.specs.Trace.{Calls}
-use Rattle.core_laws.specs.Vios.{Post}
+use Rattle.core_model.specs.declared.items.Item.TheVariants as item
+use Rattle.core_model.specs.declared.items.SealedBlock.{SealedBlock}
+use Rattle.core_model.specs.declared.items.Stage.{Stage}
+use Rattle.core_model.specs.declared.items.Stage.TheVariants as stage
+use Rattle.core_model.specs.declared.sizes.Sizes.{Sizes}
+use Rattle.core_model.specs.DeviceRows.{call_of, journal_bytes}
+use Rattle.core_model.specs.Trace.{Calls}
+use Rattle.core_model.specs.Vios.{Post}
 use Rattle.core_steps.specs.DeviceLog.{HasCalled, HasFailed, needs_call}
 
 -- a call that succeeded

@@ -1,18 +1,18 @@
 -- What the journal has done with a committed block is one of the rows.
 use Rattle.std.proofs.Common.{◌≡◌, Bool, true, false, List, [], ◌∷◌, ◌++◌, refl, ap, sym, ◌∙◌}
 use Rattle.blk_base.specs.declared.request.Answer.TheVariants as reply
-use Rattle.core_laws.specs.declared.items.Item.TheVariants as item
-use Rattle.core_laws.specs.declared.items.Phase.TheVariants as phase
-use Rattle.core_laws.specs.declared.items.SealedBlock.{SealedBlock}
-use Rattle.core_laws.specs.declared.items.Stage.TheVariants as stage
-use Rattle.core_laws.specs.declared.items.Vio.{Vio}
-use Rattle.core_laws.specs.declared.sizes.Sizes.{Sizes}
-use Rattle.core_laws.specs.declared.zones.JournalZone.{JournalZone}
-use Rattle.core_laws.specs.JournalRows.{JournalEnds, has_block, sealed, entered_by, committed_by, all_refused}
-use Rattle.core_laws.specs.JournalRows.JournalEnds.{commits_next, commits_alone, commits_last}
-use Rattle.core_laws.specs.Numbers.{device_zone}
-use Rattle.core_laws.specs.Trace.{Enters, Commits}
-use Rattle.core_laws.specs.Vios.{Post, turned, logged}
+use Rattle.core_model.specs.declared.items.Item.TheVariants as item
+use Rattle.core_model.specs.declared.items.Phase.TheVariants as phase
+use Rattle.core_model.specs.declared.items.SealedBlock.{SealedBlock}
+use Rattle.core_model.specs.declared.items.Stage.TheVariants as stage
+use Rattle.core_model.specs.declared.items.Vio.{Vio}
+use Rattle.core_model.specs.declared.sizes.Sizes.{Sizes}
+use Rattle.core_model.specs.declared.zones.JournalZone.{JournalZone}
+use Rattle.core_model.specs.JournalRows.{JournalEnds, has_block, sealed, entered_by, committed_by, all_refused}
+use Rattle.core_model.specs.JournalRows.JournalEnds.{commits_next, commits_alone, commits_last}
+use Rattle.core_model.specs.Numbers.{device_zone}
+use Rattle.core_model.specs.Trace.{Enters, Commits}
+use Rattle.core_model.specs.Vios.{Post, turned, logged}
 
 -- there is no block for those that wait
 pub ends_last : (sizes : Sizes) (old mid : JournalZone) (b : SealedBlock) (has : Bool) (settling : Vio) (first posts : List Post) (ws : List Vio)

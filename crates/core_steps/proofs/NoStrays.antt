@@ -3,16 +3,16 @@ use Rattle.std.proofs.Common.{◌≡◌, ℕ, Bool, Some, List, [], ◌∷◌, �
 use Rattle.std.specs.List.{AllByRecursion}
 use Rattle.disk_model.specs.Seen.{Seen}
 use Rattle.vdo_model.specs.Scripts.{Script, request_at}
-use Rattle.core_laws.specs.declared.items.Item.{Item}
-use Rattle.core_laws.specs.declared.zones.Zone.{Zone}
-use Rattle.core_laws.specs.declared.zones.ZoneData.{ZoneData}
-use Rattle.core_laws.specs.declared.zones.ZoneData.TheVariants as at
-use Rattle.core_laws.specs.Facts.{DataOk}
-use Rattle.core_laws.specs.Legal.{Legal}
-use Rattle.core_laws.specs.Sessions.{Session, IsSession}
-use Rattle.core_laws.specs.Steps.{Core}
-use Rattle.core_laws.specs.Trace.{Trace}
-use Rattle.core_laws.specs.Vios.{Post}
+use Rattle.core_model.specs.declared.items.Item.{Item}
+use Rattle.core_model.specs.declared.zones.Zone.{Zone}
+use Rattle.core_model.specs.declared.zones.ZoneData.{ZoneData}
+use Rattle.core_model.specs.declared.zones.ZoneData.TheVariants as at
+use Rattle.core_model.specs.Facts.{DataOk}
+use Rattle.core_model.specs.Legal.{Legal}
+use Rattle.core_model.specs.Sessions.{Session, IsSession}
+use Rattle.core_model.specs.Steps.{Core}
+use Rattle.core_model.specs.Trace.{Trace}
+use Rattle.core_model.specs.Vios.{Post}
 use Rattle.core_laws.proofs.kept.LegalMoves.{legal_leads}
 use Rattle.core_laws.proofs.device.DataBlocks.{request_served}
 use Rattle.core_laws.proofs.kept.Rules.{has_rule, has_lanes, served_some}

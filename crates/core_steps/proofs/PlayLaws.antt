@@ -7,11 +7,11 @@ use Rattle.std.specs.List.{AllByRecursion}
 use Rattle.std.proofs.lemmas.List.Elements.{All-from_recursion}
 use Rattle.disk_model.specs.Seen.{Seen}
 use Rattle.disk_model.specs.declared.call.Call.{Call}
-use Rattle.core_laws.specs.declared.sizes.Sizes.{Sizes}
-use Rattle.core_laws.specs.declared.zones.Zone.{Zone}
-use Rattle.core_laws.specs.Steps.{Core, IsIdle, Leads}
-use Rattle.core_laws.specs.Steps.Leads.{rests, steps, moves}
-use Rattle.core_laws.specs.Trace.{Trace, Fails, calls}
+use Rattle.core_model.specs.declared.sizes.Sizes.{Sizes}
+use Rattle.core_model.specs.declared.zones.Zone.{Zone}
+use Rattle.core_model.specs.Steps.{Core, IsIdle, Leads}
+use Rattle.core_model.specs.Steps.Leads.{rests, steps, moves}
+use Rattle.core_model.specs.Trace.{Trace, Fails, calls}
 use Rattle.core_laws.proofs.trace.Parts.{calls_append}
 use Rattle.core_steps.specs.DeviceLog.{HasCalled, failed_calls, lost_calls}
 use Rattle.core_steps.specs.Moves.{HasNothing}

@@ -1,11 +1,11 @@
 -- The zones of a core at its start, one after another.
 use Rattle.std.proofs.Common.{◌≡◌, ℕ, ◌+◌, List, [], ◌∷◌, ◌++◌, length, sym, ap, subst, ◌∙◌, length-append, refl}
-use Rattle.core_laws.specs.declared.items.Item.{Item}
-use Rattle.core_laws.specs.declared.sizes.Sizes.{Sizes}
-use Rattle.core_laws.specs.declared.zones.ZoneData.{ZoneData}
-use Rattle.core_laws.specs.declared.zones.Zone.{Zone}
-use Rattle.core_laws.specs.Sessions.{Session}
-use Rattle.core_laws.specs.Start.{IsFirstData, IsFirstZone}
+use Rattle.core_model.specs.declared.items.Item.{Item}
+use Rattle.core_model.specs.declared.sizes.Sizes.{Sizes}
+use Rattle.core_model.specs.declared.zones.ZoneData.{ZoneData}
+use Rattle.core_model.specs.declared.zones.Zone.{Zone}
+use Rattle.core_model.specs.Sessions.{Session}
+use Rattle.core_model.specs.Start.{IsFirstData, IsFirstZone}
 use Rattle.plain_laws.specs.Sums.{Each}
 use Rattle.plain_laws.proofs.ListLaws.{Each-append}
 use Rattle.core_steps.specs.Starts.{AreEmptyLanes}

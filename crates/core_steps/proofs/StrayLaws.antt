@@ -2,31 +2,31 @@
 use Rattle.std.proofs.Common.{◌≡◌, ℕ, Bool, true, false, None, Some, List, [], ◌∷◌, Result, Ok, Err, IfErr, length, take, refl, sym, subst, ◌∙◌, inl, inr}
 use Rattle.std.specs.List.{AllByRecursion}
 use Rattle.std.specs.Result.{IsErrAnd}
-use Rattle.core_laws.specs.declared.items.Item.{Item}
-use Rattle.core_laws.specs.declared.items.Item.TheVariants as item
-use Rattle.core_laws.specs.declared.items.Phase.{Phase}
-use Rattle.core_laws.specs.declared.items.Phase.TheVariants as phase
-use Rattle.core_laws.specs.declared.items.SealedBlock.{SealedBlock}
-use Rattle.core_laws.specs.declared.items.Vio.{Vio}
-use Rattle.core_laws.specs.declared.sizes.Sizes.{Sizes}
-use Rattle.core_laws.specs.declared.zones.Desk.{Desk}
-use Rattle.core_laws.specs.declared.zones.DeviceZone.{DeviceZone}
-use Rattle.core_laws.specs.declared.zones.JournalZone.{JournalZone}
-use Rattle.core_laws.specs.declared.zones.LogicalZone.{LogicalZone}
-use Rattle.core_laws.specs.declared.zones.PhysicalZone.{PhysicalZone}
-use Rattle.core_laws.specs.declared.zones.Zone.{Zone}
-use Rattle.core_laws.specs.declared.zones.ZoneData.{ZoneData}
-use Rattle.core_laws.specs.declared.zones.ZoneData.TheVariants as at
-use Rattle.core_laws.specs.DeskRows.{DeskServes}
-use Rattle.core_laws.specs.DeviceRows.{DeviceServes, DeviceWorks, IsInside}
-use Rattle.core_laws.specs.DeviceRows as device
-use Rattle.core_laws.specs.JournalRows.{PhysicalServes, JournalServes, JournalEnds}
-use Rattle.core_laws.specs.LogicalRows.{LogicalServes, is_among, is_held, placed, goes_on, granted, with_slot}
-use Rattle.core_laws.specs.LogicalRows as logical
-use Rattle.core_laws.specs.Steps.{Act, sent_to}
-use Rattle.core_laws.specs.Steps.Act.{answers, serves, takes, enters, ends, calls, works}
-use Rattle.core_laws.specs.Trace.{Trace}
-use Rattle.core_laws.specs.Vios.{Post}
+use Rattle.core_model.specs.declared.items.Item.{Item}
+use Rattle.core_model.specs.declared.items.Item.TheVariants as item
+use Rattle.core_model.specs.declared.items.Phase.{Phase}
+use Rattle.core_model.specs.declared.items.Phase.TheVariants as phase
+use Rattle.core_model.specs.declared.items.SealedBlock.{SealedBlock}
+use Rattle.core_model.specs.declared.items.Vio.{Vio}
+use Rattle.core_model.specs.declared.sizes.Sizes.{Sizes}
+use Rattle.core_model.specs.declared.zones.Desk.{Desk}
+use Rattle.core_model.specs.declared.zones.DeviceZone.{DeviceZone}
+use Rattle.core_model.specs.declared.zones.JournalZone.{JournalZone}
+use Rattle.core_model.specs.declared.zones.LogicalZone.{LogicalZone}
+use Rattle.core_model.specs.declared.zones.PhysicalZone.{PhysicalZone}
+use Rattle.core_model.specs.declared.zones.Zone.{Zone}
+use Rattle.core_model.specs.declared.zones.ZoneData.{ZoneData}
+use Rattle.core_model.specs.declared.zones.ZoneData.TheVariants as at
+use Rattle.core_model.specs.DeskRows.{DeskServes}
+use Rattle.core_model.specs.DeviceRows.{DeviceServes, DeviceWorks, IsInside}
+use Rattle.core_model.specs.DeviceRows as device
+use Rattle.core_model.specs.JournalRows.{PhysicalServes, JournalServes, JournalEnds}
+use Rattle.core_model.specs.LogicalRows.{LogicalServes, is_among, is_held, placed, goes_on, granted, with_slot}
+use Rattle.core_model.specs.LogicalRows as logical
+use Rattle.core_model.specs.Steps.{Act, sent_to}
+use Rattle.core_model.specs.Steps.Act.{answers, serves, takes, enters, ends, calls, works}
+use Rattle.core_model.specs.Trace.{Trace}
+use Rattle.core_model.specs.Vios.{Post}
 use Rattle.core_laws.proofs.lists.Lists.{length-posted}
 use Rattle.core_steps.specs.Causes.{BeginsUnserved, NoRule, MemoryOrStray, HasLane, MayFault, MayFaultAt, OneMayFault}
 use Rattle.core_steps.specs.declared.fault.StepFault.{StepFault}

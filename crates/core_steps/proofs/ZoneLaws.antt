@@ -1,15 +1,15 @@
 -- Items on their way, and what a step of a zone is.
 use Rattle.std.proofs.Common.{◌≡◌, ℕ, zero, suc, Bool, List, [], ◌∷◌, ◌++◌, Some, slice_get, slice_set, refl, sym, ap, subst, ◌∙◌}
 use Rattle.std.proofs.lemmas.Option.{same_Some}
-use Rattle.core_laws.specs.declared.items.Item.{Item}
-use Rattle.core_laws.specs.declared.sizes.Sizes.{Sizes}
-use Rattle.core_laws.specs.declared.zones.ZoneData.{ZoneData}
-use Rattle.core_laws.specs.declared.zones.Zone.{Zone}
+use Rattle.core_model.specs.declared.items.Item.{Item}
+use Rattle.core_model.specs.declared.sizes.Sizes.{Sizes}
+use Rattle.core_model.specs.declared.zones.ZoneData.{ZoneData}
+use Rattle.core_model.specs.declared.zones.Zone.{Zone}
 use Rattle.core_laws.proofs.tokens.Lift.{delivered_same}
-use Rattle.core_laws.specs.Steps.{posted, delivered, Act, ZoneStep}
+use Rattle.core_model.specs.Steps.{posted, delivered, Act, ZoneStep}
 use Rattle.disk_model.specs.Seen.{Seen}
-use Rattle.core_laws.specs.Trace.{Trace}
-use Rattle.core_laws.specs.Vios.{Post}
+use Rattle.core_model.specs.Trace.{Trace}
+use Rattle.core_model.specs.Vios.{Post}
 use Rattle.core_steps.specs.Acts.{Acts, ActsAlone}
 use Rattle.core_steps.specs.Plays.{ZoneSteps}
 

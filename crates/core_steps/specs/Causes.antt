@@ -7,15 +7,15 @@ use Rattle.disk_model.specs.Seen.{Seen}
 use Rattle.vdo_model.specs.DeskLog.{IsNextLine}
 use Rattle.vdo_model.specs.Scripts.{request_at}
 use Rattle.vdo_model.specs.declared.report.DeskLine.TheVariants as line
-use Rattle.core_laws.specs.declared.items.Item.{Item}
-use Rattle.core_laws.specs.declared.sizes.Sizes.{Sizes}
-use Rattle.core_laws.specs.declared.zones.Zone.{Zone}
-use Rattle.core_laws.specs.declared.zones.ZoneData.{ZoneData}
-use Rattle.core_laws.specs.declared.zones.ZoneData.TheVariants as at
-use Rattle.core_laws.specs.DeskRows.{vio_of}
-use Rattle.core_laws.specs.Steps.{Act}
-use Rattle.core_laws.specs.Trace.{Trace}
-use Rattle.core_laws.specs.Vios.{Post}
+use Rattle.core_model.specs.declared.items.Item.{Item}
+use Rattle.core_model.specs.declared.sizes.Sizes.{Sizes}
+use Rattle.core_model.specs.declared.zones.Zone.{Zone}
+use Rattle.core_model.specs.declared.zones.ZoneData.{ZoneData}
+use Rattle.core_model.specs.declared.zones.ZoneData.TheVariants as at
+use Rattle.core_model.specs.DeskRows.{vio_of}
+use Rattle.core_model.specs.Steps.{Act}
+use Rattle.core_model.specs.Trace.{Trace}
+use Rattle.core_model.specs.Vios.{Post}
 use Rattle.core_steps.specs.Plays.{LeadsTo}
 use Rattle.core_steps.specs.declared.fault.StepFault.{StepFault}
 use Rattle.core_steps.specs.declared.fault.StepFault.TheVariants as fault

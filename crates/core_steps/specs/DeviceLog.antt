@@ -3,9 +3,9 @@ use Rattle.std.specs.Prelude.{ℕ, suc, ◌≡◌, ◌+◌, ◌-◌, ◌^◌, �
 use Rattle.blk_base.specs.declared.request.Writer.{Writer}
 use Rattle.disk_model.specs.declared.call.Call.{Call}
 use Rattle.disk_model.specs.Seen.{Seen}
-use Rattle.core_laws.specs.declared.items.Stage.{Stage}
-use Rattle.core_laws.specs.declared.items.Stage.TheVariants as stage
-use Rattle.core_laws.specs.Trace.{Trace, Fails, calls}
+use Rattle.core_model.specs.declared.items.Stage.{Stage}
+use Rattle.core_model.specs.declared.items.Stage.TheVariants as stage
+use Rattle.core_model.specs.Trace.{Trace, Fails, calls}
 
 -- how many calls failed, and how many of these found no memory for a place in the log
 abbrev pub failed_calls : Trace → ℕ

@@ -1,11 +1,11 @@
 -- What becomes of a core by an event, by a list of them, and with the trace that they make, whatever happened before.
 use Rattle.std.specs.Prelude.{ℕ, ◌≡◌, ◌≢◌, ◌⊎◌, Bool, Some, List, [], ◌∷◌, ◌++◌, slice_get, slice_set}
 use Rattle.disk_model.specs.Seen.{Seen}
-use Rattle.core_laws.specs.declared.items.Item.{Item}
-use Rattle.core_laws.specs.declared.sizes.Sizes.{Sizes}
-use Rattle.core_laws.specs.declared.zones.Zone.{Zone}
-use Rattle.core_laws.specs.Steps.{Core, IsIdle, ZoneStep, Leads}
-use Rattle.core_laws.specs.Trace.{Trace}
+use Rattle.core_model.specs.declared.items.Item.{Item}
+use Rattle.core_model.specs.declared.sizes.Sizes.{Sizes}
+use Rattle.core_model.specs.declared.zones.Zone.{Zone}
+use Rattle.core_model.specs.Steps.{Core, IsIdle, ZoneStep, Leads}
+use Rattle.core_model.specs.Trace.{Trace}
 use Rattle.core_steps.specs.DeviceLog.{HasCalled}
 use Rattle.core_steps.specs.Moves.{HasNothing}
 use Rattle.core_steps.specs.declared.events.Event.{Event}

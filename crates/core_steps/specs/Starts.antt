@@ -7,10 +7,10 @@ use Rattle.blk_base.specs.declared.journal_entry.Entry.{Entry}
 use Rattle.blk_base.specs.declared.place.Pbn.{Pbn}
 use Rattle.disk_model.specs.Seen.{Seen}
 use Rattle.vdo_model.specs.Scripts.{Script}
-use Rattle.core_laws.specs.declared.items.Item.{Item}
-use Rattle.core_laws.specs.declared.sizes.Sizes.{Sizes}
-use Rattle.core_laws.specs.Numbers.{zone_count}
-use Rattle.core_laws.specs.Sessions.{Session}
+use Rattle.core_model.specs.declared.items.Item.{Item}
+use Rattle.core_model.specs.declared.sizes.Sizes.{Sizes}
+use Rattle.core_model.specs.Numbers.{zone_count}
+use Rattle.core_model.specs.Sessions.{Session}
 
 -- a session of these sizes, requests, entries of the window and free blocks
 pub record IsOf (s : Session) (sizes : Sizes) (script : Script) (window : List Entry) (free : List Pbn) : Type 0 where

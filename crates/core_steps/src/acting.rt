@@ -1,7 +1,7 @@
 ghost use Rattle.std.specs.Prelude.{◌≡◌, [], ◌∷◌, IfOk, IfErr};
 ghost use Rattle.disk_model.specs.Seen.{Stays};
-ghost use Rattle.core_laws.specs.declared.zones.ZoneData.TheVariants as at;
-ghost use Rattle.core_laws.specs.Steps.{Act};
+ghost use Rattle.core_model.specs.declared.zones.ZoneData.TheVariants as at;
+ghost use Rattle.core_model.specs.Steps.{Act};
 ghost use Rattle.core_steps.specs.Acts.{Acts, ActsAlone};
 ghost use Rattle.core_steps.specs.Causes.{CanCount, NoRule, MemoryOrStray};
 ghost use Rattle.core_steps.specs.Starts.{Fits};
@@ -13,7 +13,7 @@ use crate::journal::{self, end_block, serve_journal};
 use crate::logical::{hear_logical, serve_logical};
 use crate::physical::{self, serve_physical};
 use crate::posts::Posts;
-use core_laws::{Desk, DeviceZone, Item, JournalZone, LogicalZone, PhysicalZone, Sizes, ZoneData};
+use core_model::{Desk, DeviceZone, Item, JournalZone, LogicalZone, PhysicalZone, Sizes, ZoneData};
 use disk_model::Disk;
 use std::alloc::Global;
 

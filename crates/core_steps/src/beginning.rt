@@ -2,12 +2,12 @@ ghost use Rattle.std.specs.Prelude.{◌≡◌, ◌<◌, ◌^◌, ◌∷◌, [], 
 ghost use Rattle.vdo_model.specs.DeskLog.{IsNextLine};
 ghost use Rattle.vdo_model.specs.Scripts.{request_at};
 ghost use Rattle.vdo_model.specs.declared.report.DeskLine.TheVariants as line;
-ghost use Rattle.core_laws.specs.declared.items.Item.TheVariants as item;
-ghost use Rattle.core_laws.specs.declared.zones.ZoneData.TheVariants as at;
-ghost use Rattle.core_laws.specs.DeskRows as rows;
-ghost use Rattle.core_laws.specs.Steps.{MayBegin};
-ghost use Rattle.core_laws.specs.Trace.{Trace};
-ghost use Rattle.core_laws.specs.Vios as vios;
+ghost use Rattle.core_model.specs.declared.items.Item.TheVariants as item;
+ghost use Rattle.core_model.specs.declared.zones.ZoneData.TheVariants as at;
+ghost use Rattle.core_model.specs.DeskRows as rows;
+ghost use Rattle.core_model.specs.Steps.{MayBegin};
+ghost use Rattle.core_model.specs.Trace.{Trace};
+ghost use Rattle.core_model.specs.Vios as vios;
 ghost use Rattle.core_steps.specs.Causes.{BeginsUnserved, CanCount, MemoryOrStray};
 
 use crate::StepFault;
@@ -17,7 +17,7 @@ use crate::numbers::{device_zone, logical_zone};
 use crate::posts::Posts;
 use crate::vios::turned;
 use blk_base::{Answer, Block, Lba, Mapping, PAGE_SLOTS, Pbn, Request, TREES, Writer};
-use core_laws::{Asks, Desk, Item, Phase, Sizes, Vio};
+use core_model::{Asks, Desk, Item, Phase, Sizes, Vio};
 use std::alloc::{AllocError, Global};
 use vdo_model::DeskLine;
 

@@ -1,8 +1,8 @@
 ghost use Rattle.std.specs.Prelude.{◌≡◌, ◌<◌, ◌≤◌, ◌+◌, true, false, length};
-ghost use Rattle.core_laws.specs.declared.zones.ZoneData.TheVariants as at;
+ghost use Rattle.core_model.specs.declared.zones.ZoneData.TheVariants as at;
 ghost use Rattle.core_steps.specs.Causes.{CanCount};
 
-use core_laws::{Desk, JournalZone, Sizes, ZoneData};
+use core_model::{Desk, JournalZone, Sizes, ZoneData};
 
 // Whether the desk can count on.
 fn desk_counts(sizes: &Sizes, desk: &Desk) -> bool

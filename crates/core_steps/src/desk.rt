@@ -1,17 +1,17 @@
 ghost use Rattle.std.specs.Prelude.{◌≡◌, ◌<◌, ◌^◌, ◌-◌, [], ◌∷◌, ◌+◌, IfOk, IfErr, OnOk, Some, None, true};
 ghost use Rattle.blk_base.specs.declared.request.Answer.{Answer};
 ghost use Rattle.blk_base.specs.declared.request.Answer.TheVariants.{Ok};
-ghost use Rattle.core_laws.specs.declared.items.Phase.TheVariants.{Reply};
+ghost use Rattle.core_model.specs.declared.items.Phase.TheVariants.{Reply};
 ghost use Rattle.vdo_model.specs.declared.report.DeskLine.TheVariants as line;
-ghost use Rattle.core_laws.specs.DeskRows as rows;
-ghost use Rattle.core_laws.specs.Trace.{Trace};
+ghost use Rattle.core_model.specs.DeskRows as rows;
+ghost use Rattle.core_model.specs.Trace.{Trace};
 ghost use Rattle.core_steps.specs.Causes.{NoRule, MemoryOrStray};
 
 use crate::StepFault;
 use crate::lists::wake_all;
 use crate::posts::Posts;
 use blk_base::{Answer, Writer};
-use core_laws::{Asks, Desk, Fifo, Phase, Sizes, Vio};
+use core_model::{Asks, Desk, Fifo, Phase, Sizes, Vio};
 use std::alloc::{AllocError, Global};
 use vdo_model::{DeskLine, FlushMark};
 

@@ -1,8 +1,8 @@
 ghost use Rattle.std.specs.Prelude.{◌≡◌, ◌⊎◌, Some, IfOk, IfErr, OnOk, slice_get};
 ghost use Rattle.std.specs.List.{AllByRecursion};
 ghost use Rattle.disk_model.specs.Seen.{Stays};
-ghost use Rattle.core_laws.specs.declared.zones.Zone.{Zone};
-ghost use Rattle.core_laws.specs.Steps.{IsIdle};
+ghost use Rattle.core_model.specs.declared.zones.Zone.{Zone};
+ghost use Rattle.core_model.specs.Steps.{IsIdle};
 ghost use Rattle.core_steps.specs.Causes.{MayFaultAt, OneMayFault, MayFaultAfter};
 ghost use Rattle.core_steps.specs.Starts.{Fits};
 ghost use Rattle.core_steps.specs.Plays.{StepsAt, HasNoWork, PlaysOne, Plays, LeadsTo};
@@ -12,7 +12,7 @@ use crate::moving::move_items;
 use crate::stepping::step_zone;
 use crate::zones::Zones;
 use crate::{StepFault, Stepped};
-use core_laws::Sizes;
+use core_model::Sizes;
 use disk_model::Disk;
 use std::alloc::Global;
 

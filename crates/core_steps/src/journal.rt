@@ -1,14 +1,14 @@
 ghost use Rattle.std.specs.Prelude.{◌≡◌, ◌+◌, [], ◌∷◌, ◌++◌, true, false, length, IfOk, IfErr, OnOk};
-ghost use Rattle.core_laws.specs.Numbers.{desk_zone, device_zone};
-ghost use Rattle.core_laws.specs.JournalRows as rows;
-ghost use Rattle.core_laws.specs.JournalRows.{JournalServes, JournalEnds};
-ghost use Rattle.core_laws.specs.Trace.{Trace};
-ghost use Rattle.core_laws.specs.Vios as vios;
-ghost use Rattle.core_laws.specs.declared.items.Item.TheVariants.{Request, Block, StopNotice};
-ghost use Rattle.core_laws.specs.declared.items.Phase.TheVariants.{Enter, AbortEnteredClaim};
-ghost use Rattle.core_laws.specs.declared.items.Stage.TheVariants.{Commit, Fail};
+ghost use Rattle.core_model.specs.Numbers.{desk_zone, device_zone};
+ghost use Rattle.core_model.specs.JournalRows as rows;
+ghost use Rattle.core_model.specs.JournalRows.{JournalServes, JournalEnds};
+ghost use Rattle.core_model.specs.Trace.{Trace};
+ghost use Rattle.core_model.specs.Vios as vios;
+ghost use Rattle.core_model.specs.declared.items.Item.TheVariants.{Request, Block, StopNotice};
+ghost use Rattle.core_model.specs.declared.items.Phase.TheVariants.{Enter, AbortEnteredClaim};
+ghost use Rattle.core_model.specs.declared.items.Stage.TheVariants.{Commit, Fail};
 ghost use Rattle.blk_base.specs.declared.request.Answer.TheVariants.{Stopped};
-ghost use Rattle.core_laws.specs.declared.zones.ZoneData.TheVariants as at;
+ghost use Rattle.core_model.specs.declared.zones.ZoneData.TheVariants as at;
 ghost use Rattle.core_steps.specs.Causes.{CanCount, NoRule, MemoryOrStray};
 ghost use Rattle.core_steps.specs.Refusals.{answer_of};
 ghost use Rattle.core_steps.specs.declared.journal.Refusal.TheVariants as refusal;
@@ -17,7 +17,7 @@ use crate::numbers::{self, DESK};
 use crate::vios::{ended, logged, turned};
 use crate::{Posts, StepFault};
 use blk_base::Answer;
-use core_laws::{Fifo, Item, JournalZone, Phase, SealedBlock, Sizes, Stage, Vio};
+use core_model::{Fifo, Item, JournalZone, Phase, SealedBlock, Sizes, Stage, Vio};
 use std::alloc::{AllocError, Global};
 
 /// Why an entry isn't handed in.

@@ -1,11 +1,11 @@
 ghost use Rattle.std.specs.Prelude.{◌≡◌, ◌≤◌, OnOk, IfErr, length};
 ghost use Rattle.std.specs.List.{AllByRecursion};
-ghost use Rattle.core_laws.specs.Steps.{posted, sent, delivered};
+ghost use Rattle.core_model.specs.Steps.{posted, sent, delivered};
 ghost use Rattle.core_steps.specs.Causes.{HasLane, MemoryOrStray};
 
 use crate::StepFault;
 use crate::posts::Posts;
-use core_laws::{Fifo, Item, Zone};
+use core_model::{Fifo, Item, Zone};
 
 // An item goes behind those of one outbox.
 fn post(outboxes: &mut Fifo<Fifo<Item>>, to: u32, item: Item) -> Result<(), StepFault>

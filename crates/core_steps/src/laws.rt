@@ -1,10 +1,10 @@
 ghost use Rattle.std.specs.Prelude.{◌≡◌, ℕ, Bool, Some, List, slice_get};
 ghost use Rattle.disk_model.specs.Seen.{Seen};
-ghost use Rattle.core_laws.specs.declared.zones.Zone.{Zone};
-ghost use Rattle.core_laws.specs.Legal.{Legal};
-ghost use Rattle.core_laws.specs.Sessions.{Session, IsSession};
-ghost use Rattle.core_laws.specs.Steps.{Core};
-ghost use Rattle.core_laws.specs.Trace.{Trace};
+ghost use Rattle.core_model.specs.declared.zones.Zone.{Zone};
+ghost use Rattle.core_model.specs.Legal.{Legal};
+ghost use Rattle.core_model.specs.Sessions.{Session, IsSession};
+ghost use Rattle.core_model.specs.Steps.{Core};
+ghost use Rattle.core_model.specs.Trace.{Trace};
 ghost use Rattle.core_steps.specs.Causes.{IsStray, MayFaultAfter};
 ghost use Rattle.core_steps.specs.Plays.{core_of};
 ghost use Rattle.core_steps.specs.declared.fault.StepFault.TheVariants.{Stray};

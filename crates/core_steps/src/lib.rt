@@ -1,5 +1,5 @@
 //! The core's events, one by one and in plain code: what each zone does with the item in front of its inbox, how items
-//! move between zones, and whole lists of such events. Each function does what the relation of `core_laws` says.
+//! move between zones, and whole lists of such events. Each function does what the relation of `core_model` says.
 #![tactic(auto)]
 
 mod acting;

@@ -1,13 +1,13 @@
 ghost use Rattle.std.specs.Prelude.{◌≡◌, ◌++◌, OnOk, IfOk, IfNone, Some, reverse};
-ghost use Rattle.core_laws.specs.DeskRows.{woken};
-ghost use Rattle.core_laws.specs.LogicalRows as rows;
-ghost use Rattle.core_laws.specs.Trace.{newest, of_address};
+ghost use Rattle.core_model.specs.DeskRows.{woken};
+ghost use Rattle.core_model.specs.LogicalRows as rows;
+ghost use Rattle.core_model.specs.Trace.{newest, of_address};
 
 use crate::numbers::DESK;
 use crate::posts::Posts;
 use crate::vios::ended;
 use blk_base::{Answer, Lba};
-use core_laws::{Fifo, Item, Lock, Logged, Phase, Vio};
+use core_model::{Fifo, Item, Lock, Logged, Phase, Vio};
 use std::alloc::{AllocError, Global};
 
 /// Whether an address is among these.

@@ -1,11 +1,11 @@
 ghost use Rattle.std.specs.Prelude.{◌≡◌, ◌<◌, ◌^◌, ◌-◌, List, [], ◌∷◌, ◌++◌, IfOk, IfErr, OnOk, None, Some, true};
-ghost use Rattle.core_laws.specs.declared.items.Item.TheVariants as item;
-ghost use Rattle.core_laws.specs.declared.items.Phase.TheVariants as phase;
-ghost use Rattle.core_laws.specs.LogicalRows as rows;
-ghost use Rattle.core_laws.specs.Numbers.{desk_zone};
-ghost use Rattle.core_laws.specs.Trace.{Trace, Aborts, Draws, Gives, Sets};
-ghost use Rattle.core_laws.specs.Vios.{Post};
-ghost use Rattle.core_laws.specs.Vios as vios;
+ghost use Rattle.core_model.specs.declared.items.Item.TheVariants as item;
+ghost use Rattle.core_model.specs.declared.items.Phase.TheVariants as phase;
+ghost use Rattle.core_model.specs.LogicalRows as rows;
+ghost use Rattle.core_model.specs.Numbers.{desk_zone};
+ghost use Rattle.core_model.specs.Trace.{Trace, Aborts, Draws, Gives, Sets};
+ghost use Rattle.core_model.specs.Vios.{Post};
+ghost use Rattle.core_model.specs.Vios as vios;
 ghost use Rattle.core_steps.specs.Causes.{NoRule, MemoryOrStray};
 
 use crate::StepFault;
@@ -16,7 +16,7 @@ use crate::numbers::{DESK, device_zone, logical_zone, physical_zone};
 use crate::posts::Posts;
 use crate::vios::{ended, logged, turned};
 use blk_base::{Answer, Block, Lba, Mapping};
-use core_laws::{Asks, Fifo, Item, Lock, LogicalZone, Phase, Sizes, Vio};
+use core_model::{Asks, Fifo, Item, Lock, LogicalZone, Phase, Sizes, Vio};
 use image_layout::mapping_at;
 use std::alloc::{AllocError, Global};
 use vdo_model::Placed;

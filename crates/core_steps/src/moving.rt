@@ -1,12 +1,12 @@
 ghost use Rattle.std.specs.Prelude.{◌≡◌, ◌≢◌, ◌<◌, [], Some, IfOk, OnOk, length, slice_get, slice_set};
-ghost use Rattle.core_laws.specs.declared.zones.Zone.{Zone};
+ghost use Rattle.core_model.specs.declared.zones.Zone.{Zone};
 ghost use Rattle.core_steps.specs.Moves.{HasNothing, has_items};
 ghost use Rattle.core_steps.specs.Plays.{MovesAll};
 ghost use Rattle.core_steps.specs.declared.fault.Stepped.TheVariants.{Did, Idle};
 
 use crate::Stepped;
 use crate::zones::Zones;
-use core_laws::{Fifo, Item, Zone};
+use core_model::{Fifo, Item, Zone};
 use std::alloc::{AllocError, Global};
 
 // Whether a list has items.

@@ -1,7 +1,7 @@
 ghost use Rattle.std.specs.Prelude.{◌≡◌};
-ghost use Rattle.core_laws.specs.Numbers as numbers;
+ghost use Rattle.core_model.specs.Numbers as numbers;
 
-use core_laws::Sizes;
+use core_model::Sizes;
 
 /// The number of the desk.
 pub(crate) const DESK: u32 = 0;

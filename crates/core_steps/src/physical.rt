@@ -1,17 +1,17 @@
 ghost use Rattle.std.specs.Prelude.{◌≡◌, [], ◌∷◌, true, IfOk, IfErr};
-ghost use Rattle.core_laws.specs.Numbers.{desk_zone};
-ghost use Rattle.core_laws.specs.JournalRows.{PhysicalServes};
-ghost use Rattle.core_laws.specs.Trace.{Trace};
-ghost use Rattle.core_laws.specs.Vios as vios;
-ghost use Rattle.core_laws.specs.declared.items.Item.TheVariants.{Request, StopNotice};
-ghost use Rattle.core_laws.specs.declared.items.Phase.TheVariants.{Claim};
+ghost use Rattle.core_model.specs.Numbers.{desk_zone};
+ghost use Rattle.core_model.specs.JournalRows.{PhysicalServes};
+ghost use Rattle.core_model.specs.Trace.{Trace};
+ghost use Rattle.core_model.specs.Vios as vios;
+ghost use Rattle.core_model.specs.declared.items.Item.TheVariants.{Request, StopNotice};
+ghost use Rattle.core_model.specs.declared.items.Phase.TheVariants.{Claim};
 ghost use Rattle.core_steps.specs.Causes.{NoRule, MemoryOrStray};
 
 use crate::numbers::{DESK, device_zone};
 use crate::vios::{ended, turned};
 use crate::{Posts, StepFault};
 use blk_base::Answer;
-use core_laws::{Item, Phase, PhysicalZone, Sizes, Vio};
+use core_model::{Item, Phase, PhysicalZone, Sizes, Vio};
 use std::alloc::{AllocError, Global};
 
 /// A write takes the first free block, or there is none.

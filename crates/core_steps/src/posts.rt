@@ -1,6 +1,6 @@
 ghost use Rattle.std.specs.Prelude.{◌≡◌, [], ◌∷◌, ◌++◌, OnOk, IfOk, IfSome, IfNone};
 
-use core_laws::{Fifo, Item};
+use core_model::{Fifo, Item};
 use std::alloc::{AllocError, Global};
 use std::marker::Model;
 
@@ -12,7 +12,7 @@ pub struct Posts {
 
 impl Model for Posts {
     ghost use Rattle.std.specs.Prelude.{List};
-    ghost use Rattle.core_laws.specs.Vios.{Post};
+    ghost use Rattle.core_model.specs.Vios.{Post};
 
     ghost Value = { List Post };
 

@@ -1,9 +1,9 @@
 ghost use Rattle.std.specs.Prelude.{◌≡◌, ◌+◌, ◌<◌, [], ◌∷◌, ◌++◌, IfOk, OnOk, length, reverse};
 ghost use Rattle.std.specs.List.{AllByRecursion};
-ghost use Rattle.core_laws.specs.declared.zones.ZoneData.TheVariants as at;
-ghost use Rattle.core_laws.specs.Numbers as numbers;
-ghost use Rattle.core_laws.specs.Sessions.{Session, IsServed};
-ghost use Rattle.core_laws.specs.Start.{IsFirst, IsFirstZone, IsFirstData};
+ghost use Rattle.core_model.specs.declared.zones.ZoneData.TheVariants as at;
+ghost use Rattle.core_model.specs.Numbers as numbers;
+ghost use Rattle.core_model.specs.Sessions.{Session, IsServed};
+ghost use Rattle.core_model.specs.Start.{IsFirst, IsFirstZone, IsFirstData};
 ghost use Rattle.plain_laws.specs.Sums.{Each};
 ghost use Rattle.core_steps.specs.Plays.{core_of};
 ghost use Rattle.core_steps.specs.Starts.{IsOf, AreEmptyLanes};
@@ -11,7 +11,7 @@ ghost use Rattle.core_steps.specs.Starts.{IsOf, AreEmptyLanes};
 use crate::numbers::{DESK, device_zone, journal_zone, logical_zone, physical_zone, zone_count};
 use crate::zones::Zones;
 use blk_base::{Entry, Pbn};
-use core_laws::{
+use core_model::{
     Desk, DeviceZone, Fifo, Item, JournalZone, LogicalZone, PhysicalZone, Sizes, Zone, ZoneData,
 };
 use std::alloc::{AllocError, Global};

@@ -1,6 +1,6 @@
 ghost use Rattle.std.specs.Prelude.{◌≡◌, [], IfOk, IfErr, IfSome, IfNone};
 ghost use Rattle.disk_model.specs.Seen.{Stays};
-ghost use Rattle.core_laws.specs.Steps.{IsIdle, MayBegin};
+ghost use Rattle.core_model.specs.Steps.{IsIdle, MayBegin};
 ghost use Rattle.core_steps.specs.Acts.{ActsAlone};
 ghost use Rattle.core_steps.specs.Causes.{BeginsUnserved, CanCount, MayFault, MemoryOrStray};
 ghost use Rattle.core_steps.specs.Starts.{Fits};
@@ -13,7 +13,7 @@ use crate::counting::can_count;
 use crate::lanes::deliver;
 use crate::posts::Posts;
 use crate::{StepFault, Stepped};
-use core_laws::{Sizes, Zone, ZoneData};
+use core_model::{Sizes, Zone, ZoneData};
 use disk_model::Disk;
 use std::alloc::Global;
 

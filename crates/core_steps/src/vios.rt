@@ -1,8 +1,8 @@
 ghost use Rattle.std.specs.Prelude.{◌≡◌};
-ghost use Rattle.core_laws.specs.Vios as vios;
+ghost use Rattle.core_model.specs.Vios as vios;
 
 use blk_base::Answer;
-use core_laws::{Logged, Phase, Vio};
+use core_model::{Logged, Phase, Vio};
 
 /// It goes on to another phase.
 pub(crate) fn turned(mut vio: Vio, phase: Phase) -> Vio

@@ -1,6 +1,6 @@
 ghost use Rattle.std.specs.Prelude.{◌≡◌};
 
-use core_laws::Zone;
+use core_model::Zone;
 use std::marker::Model;
 
 /// The zones of a core, by their numbers.
@@ -11,7 +11,7 @@ pub struct Zones {
 
 impl Model for Zones {
     ghost use Rattle.std.specs.Prelude.{List};
-    ghost use Rattle.core_laws.specs.declared.zones.Zone.{Zone};
+    ghost use Rattle.core_model.specs.declared.zones.Zone.{Zone};
 
     ghost Value = { List Zone };
 

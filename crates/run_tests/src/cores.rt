@@ -1,10 +1,10 @@
 ghost use Rattle.std.specs.Prelude.{◌≡◌, ◌++◌, [], ◌∷◌, IfOk, OnOk};
 ghost use Rattle.std.specs.List.{AllByRecursion};
-ghost use Rattle.core_laws.specs.Sessions.{IsServed};
+ghost use Rattle.core_model.specs.Sessions.{IsServed};
 ghost use Rattle.core_steps.specs.Starts.{Fits};
 
 use blk_base::{Answer, Block, Geometry, Layout, Lba, Pbn, Request, Writer};
-use core_laws::{Sizes, Zone, ZoneData};
+use core_model::{Sizes, Zone, ZoneData};
 use core_steps::{Event, StepFault, Stepped, Zones, begin, play};
 use disk_model::Disk;
 use std::alloc::{AllocError, Global};

@@ -18,22 +18,22 @@ use Rattle.vdo_model.specs.Scripts.{request_at, same_writer}
 use Rattle.vdo_model.specs.declared.report.DeskLine.{DeskLine}
 use Rattle.vdo_model.specs.declared.report.FlushMark.{FlushMark}
 use Rattle.vdo_model.specs.declared.report.DeskLine.TheVariants as line
-use Rattle.core_laws.specs.declared.items.Asks.{Asks}
-use Rattle.core_laws.specs.declared.items.Asks.TheVariants.{Read, Write, Flush}
-use Rattle.core_laws.specs.declared.items.Item.TheVariants as item
-use Rattle.core_laws.specs.declared.items.Phase.{Phase}
-use Rattle.core_laws.specs.declared.items.Phase.TheVariants as phase
-use Rattle.core_laws.specs.declared.items.Vio.{Vio}
-use Rattle.core_laws.specs.declared.sizes.Sizes.{Sizes}
-use Rattle.core_laws.specs.declared.zones.ZoneData.TheVariants as at
-use Rattle.core_laws.specs.declared.zones.Desk.{Desk}
-use Rattle.core_laws.specs.DeskRows.{DeskBegins, DeskServes, is_notified, at_once, vio_of, first_zone, is_marked, is_stopped, mark_of_vio, with_notice, woken}
-use Rattle.core_laws.specs.Facts.{HasAddress, ItemOk, DeskOk, KeptOk, IsEarned, MayReply, Carries, zone_at}
-use Rattle.core_laws.specs.Numbers.{desk_zone, logical_zone, notified_zones}
-use Rattle.core_laws.specs.RightTraces.{RightTrace, IsOpen, HasCause, MayAnswer}
-use Rattle.core_laws.specs.Sessions.{Session, IsSession, Shown}
-use Rattle.core_laws.specs.Trace.{Says, Flushes, Trace, lines, moments, entered, settled, has_stopped, logged_of}
-use Rattle.core_laws.specs.Vios.{Post, request_of, asked, begun_vio}
+use Rattle.core_model.specs.declared.items.Asks.{Asks}
+use Rattle.core_model.specs.declared.items.Asks.TheVariants.{Read, Write, Flush}
+use Rattle.core_model.specs.declared.items.Item.TheVariants as item
+use Rattle.core_model.specs.declared.items.Phase.{Phase}
+use Rattle.core_model.specs.declared.items.Phase.TheVariants as phase
+use Rattle.core_model.specs.declared.items.Vio.{Vio}
+use Rattle.core_model.specs.declared.sizes.Sizes.{Sizes}
+use Rattle.core_model.specs.declared.zones.ZoneData.TheVariants as at
+use Rattle.core_model.specs.declared.zones.Desk.{Desk}
+use Rattle.core_model.specs.DeskRows.{DeskBegins, DeskServes, is_notified, at_once, vio_of, first_zone, is_marked, is_stopped, mark_of_vio, with_notice, woken}
+use Rattle.core_model.specs.Facts.{HasAddress, ItemOk, DeskOk, KeptOk, IsEarned, MayReply, Carries, zone_at}
+use Rattle.core_model.specs.Numbers.{desk_zone, logical_zone, notified_zones}
+use Rattle.core_model.specs.RightTraces.{RightTrace, IsOpen, HasCause, MayAnswer}
+use Rattle.core_model.specs.Sessions.{Session, IsSession, Shown}
+use Rattle.core_model.specs.Trace.{Says, Flushes, Trace, lines, moments, entered, settled, has_stopped, logged_of}
+use Rattle.core_model.specs.Vios.{Post, request_of, asked, begun_vio}
 use Rattle.core_laws.proofs.kept.ActKept.{ActKept, PostOk, shown_kept, unborn_place, unborn_entry, unborn_slot}
 use Rattle.core_laws.proofs.kept.Carried.{kept_kept}
 use Rattle.core_laws.proofs.trace.DeskOfTrace.{desk_log_right, answered_begun, shown_of}

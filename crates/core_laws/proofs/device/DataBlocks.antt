@@ -21,7 +21,7 @@ use Rattle.disk_model.specs.declared.call.Call.TheVariants.{Write}
 use Rattle.image_layout.specs.Window.{IsMapped, AreWritten, journal_of, mapping_of}
 use Rattle.stop_laws.specs.Journals.{MissesJournal, block_of_slot}
 use Rattle.vdo_model.specs.Scripts.{request_at}
-use Rattle.core_laws.specs.Sessions.{Session, IsSession, IsServed}
+use Rattle.core_model.specs.Sessions.{Session, IsSession, IsServed}
 use Rattle.plain_laws.proofs.ListLaws.{every-get}
 
 -- The number of a block fits 32 bits.

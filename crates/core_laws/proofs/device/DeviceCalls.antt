@@ -21,10 +21,10 @@ use Rattle.journal_codec.proofs.PrefixLaws.{written}
 use Rattle.journal_codec.proofs.ReadLaws.{one_reading}
 use Rattle.stop_laws.specs.Journals.{HasEntry, HasNone, IsAtRest, IsUnderWay, block_of_slot}
 use Rattle.stop_laws.proofs.JournalLaws.{begins, under_way_kept}
-use Rattle.core_laws.specs.declared.zones.Logged.{Logged}
-use Rattle.core_laws.specs.RightTraces.{RightTrace, MayFollow}
-use Rattle.core_laws.specs.Sessions.{Session, IsSession, log, Stands, ReadsAs, IsFresh, EachStands, AtRest, OnItsWay, ReadsEntry, bytes_of}
-use Rattle.core_laws.specs.Trace.{Happening, Calls, Trace, entered, committed, entry_of, entries_of}
+use Rattle.core_model.specs.declared.zones.Logged.{Logged}
+use Rattle.core_model.specs.RightTraces.{RightTrace, MayFollow}
+use Rattle.core_model.specs.Sessions.{Session, IsSession, log, Stands, ReadsAs, IsFresh, EachStands, AtRest, OnItsWay, ReadsEntry, bytes_of}
+use Rattle.core_model.specs.Trace.{Happening, Calls, Trace, entered, committed, entry_of, entries_of}
 use Rattle.core_laws.proofs.trace.DeskOfTrace.{shown_of}
 use Rattle.core_laws.proofs.kept.ActKept.{shown_kept}
 use Rattle.blk_base.proofs.RegionLaws.{data_block_high}

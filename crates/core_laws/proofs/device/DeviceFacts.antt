@@ -9,25 +9,25 @@ use Rattle.disk_model.specs.declared.call.Call.TheVariants as call
 use Rattle.image_layout.specs.Window.{mapping_of}
 use Rattle.vdo_model.specs.FlushMarks.{IsMark, successes}
 use Rattle.vdo_model.specs.Places.{place_of}
-use Rattle.core_laws.specs.declared.items.Asks.{Asks}
-use Rattle.core_laws.specs.declared.items.Asks.TheVariants.{Read, Flush}
-use Rattle.core_laws.specs.declared.items.Item.TheVariants as item
-use Rattle.core_laws.specs.declared.items.Phase.{Phase}
-use Rattle.core_laws.specs.declared.items.Phase.TheVariants as phase
-use Rattle.core_laws.specs.declared.items.Vio.{Vio}
-use Rattle.core_laws.specs.declared.zones.ZoneData.TheVariants as at
-use Rattle.core_laws.specs.declared.zones.DeviceZone.{DeviceZone}
-use Rattle.core_laws.specs.declared.zones.Logged.{Logged}
-use Rattle.core_laws.specs.DeskRows.{is_marked, mark_of_vio}
-use Rattle.core_laws.specs.DeviceRows.{DeviceServes, counted, halted, stop_notices}
-use Rattle.core_laws.specs.DeviceRows as device
-use Rattle.core_laws.specs.Facts.{VioOk, Holds, Looks, IsEarned, Carries, ItemOk, DeviceOk}
-use Rattle.core_laws.specs.LogicalRows.{mapped_by}
-use Rattle.core_laws.specs.Numbers.{desk_zone, notified_zones}
-use Rattle.core_laws.specs.RightTraces.{RightTrace, HasCause, FailureMayFollow, IsMadeFor}
-use Rattle.core_laws.specs.Sessions.{Session, IsSession, HasHonestReads, value_at, value_from}
-use Rattle.core_laws.specs.Trace.{Calls, Fails, Trace, calls, moments, places, entered, settled, is_ok, has_stopped, has_read_fault}
-use Rattle.core_laws.specs.Vios.{Post, asked, turned, ended}
+use Rattle.core_model.specs.declared.items.Asks.{Asks}
+use Rattle.core_model.specs.declared.items.Asks.TheVariants.{Read, Flush}
+use Rattle.core_model.specs.declared.items.Item.TheVariants as item
+use Rattle.core_model.specs.declared.items.Phase.{Phase}
+use Rattle.core_model.specs.declared.items.Phase.TheVariants as phase
+use Rattle.core_model.specs.declared.items.Vio.{Vio}
+use Rattle.core_model.specs.declared.zones.ZoneData.TheVariants as at
+use Rattle.core_model.specs.declared.zones.DeviceZone.{DeviceZone}
+use Rattle.core_model.specs.declared.zones.Logged.{Logged}
+use Rattle.core_model.specs.DeskRows.{is_marked, mark_of_vio}
+use Rattle.core_model.specs.DeviceRows.{DeviceServes, counted, halted, stop_notices}
+use Rattle.core_model.specs.DeviceRows as device
+use Rattle.core_model.specs.Facts.{VioOk, Holds, Looks, IsEarned, Carries, ItemOk, DeviceOk}
+use Rattle.core_model.specs.LogicalRows.{mapped_by}
+use Rattle.core_model.specs.Numbers.{desk_zone, notified_zones}
+use Rattle.core_model.specs.RightTraces.{RightTrace, HasCause, FailureMayFollow, IsMadeFor}
+use Rattle.core_model.specs.Sessions.{Session, IsSession, HasHonestReads, value_at, value_from}
+use Rattle.core_model.specs.Trace.{Calls, Fails, Trace, calls, moments, places, entered, settled, is_ok, has_stopped, has_read_fault}
+use Rattle.core_model.specs.Vios.{Post, asked, turned, ended}
 use Rattle.core_laws.proofs.kept.ActKept.{PostOk, ActKept}
 use Rattle.core_laws.proofs.kept.Carried.{vio_kept, holds_kept, looks_kept}
 use Rattle.core_laws.proofs.device.DeviceCalls.{quiet_call, store_call, store_reads}

@@ -8,11 +8,11 @@ use Rattle.disk_model.specs.Log as device
 use Rattle.disk_model.proofs.ImageLaws.{settled_are_contents, block_of_mix}
 use Rattle.image_layout.specs.Window.{mapping_of, value_in, value_of}
 use Rattle.vdo_model.specs.Scripts.{value_written}
-use Rattle.core_laws.specs.declared.zones.Logged.{Logged}
-use Rattle.core_laws.specs.LogicalRows.{mapped_by}
-use Rattle.core_laws.specs.RightTraces.{RightTrace, IsWrite}
-use Rattle.core_laws.specs.Sessions.{Session, IsSession, log, Stands, ReadsAs, EachStands, AtRest, OnItsWay, IsFresh, HasPending, bytes_of, value_from}
-use Rattle.core_laws.specs.Trace.{Trace, entered, committed, settled, of_address, newest}
+use Rattle.core_model.specs.declared.zones.Logged.{Logged}
+use Rattle.core_model.specs.LogicalRows.{mapped_by}
+use Rattle.core_model.specs.RightTraces.{RightTrace, IsWrite}
+use Rattle.core_model.specs.Sessions.{Session, IsSession, log, Stands, ReadsAs, EachStands, AtRest, OnItsWay, IsFresh, HasPending, bytes_of, value_from}
+use Rattle.core_model.specs.Trace.{Trace, entered, committed, settled, of_address, newest}
 use Rattle.core_laws.proofs.device.DataBlocks.{write_whole, window_whole}
 use Rattle.core_laws.proofs.trace.DeskOfTrace.{all_settled, each_of_address, settled_writes, shown_of}
 

@@ -9,24 +9,24 @@ use Rattle.journal_codec.specs.Spelling.{block_bytes}
 use Rattle.stop_laws.specs.Journals.{HasEntry, block_of_slot}
 use Rattle.vdo_model.specs.FlushMarks.{successes}
 use Rattle.vdo_model.specs.Scripts.{value_written}
-use Rattle.core_laws.specs.declared.items.Asks.{Asks}
-use Rattle.core_laws.specs.declared.items.Asks.TheVariants.{Write}
-use Rattle.core_laws.specs.declared.items.SealedBlock.{SealedBlock}
-use Rattle.core_laws.specs.declared.items.Stage.{Stage}
-use Rattle.core_laws.specs.declared.items.Stage.TheVariants as stage
-use Rattle.core_laws.specs.declared.items.Vio.{Vio}
-use Rattle.core_laws.specs.declared.sizes.Sizes.{Sizes}
-use Rattle.core_laws.specs.declared.zones.ZoneData.TheVariants as at
-use Rattle.core_laws.specs.declared.zones.DeviceZone.{DeviceZone}
-use Rattle.core_laws.specs.declared.zones.Logged.{Logged}
-use Rattle.core_laws.specs.DeviceRows.{DeviceWorks, counted, halted, stop_notices, journal_bytes, IsItsSlot, call_of, next_stage, next_zone}
-use Rattle.core_laws.specs.DeviceRows as device
-use Rattle.core_laws.specs.Facts.{HasAddress, StandsAt, BlockOk, DeviceOk, zone_of_stage}
-use Rattle.core_laws.specs.Numbers.{zone_count, notified_zones}
-use Rattle.core_laws.specs.RightTraces.{RightTrace}
-use Rattle.core_laws.specs.Sessions.{Session, IsSession, log, Stands, AtRest, OnItsWay, bytes_of}
-use Rattle.core_laws.specs.Trace.{Happening, Calls, Fails, Trace, calls, committed, has_stopped, entry_of, entries_of}
-use Rattle.core_laws.specs.Vios.{Post, asked, logged, staged}
+use Rattle.core_model.specs.declared.items.Asks.{Asks}
+use Rattle.core_model.specs.declared.items.Asks.TheVariants.{Write}
+use Rattle.core_model.specs.declared.items.SealedBlock.{SealedBlock}
+use Rattle.core_model.specs.declared.items.Stage.{Stage}
+use Rattle.core_model.specs.declared.items.Stage.TheVariants as stage
+use Rattle.core_model.specs.declared.items.Vio.{Vio}
+use Rattle.core_model.specs.declared.sizes.Sizes.{Sizes}
+use Rattle.core_model.specs.declared.zones.ZoneData.TheVariants as at
+use Rattle.core_model.specs.declared.zones.DeviceZone.{DeviceZone}
+use Rattle.core_model.specs.declared.zones.Logged.{Logged}
+use Rattle.core_model.specs.DeviceRows.{DeviceWorks, counted, halted, stop_notices, journal_bytes, IsItsSlot, call_of, next_stage, next_zone}
+use Rattle.core_model.specs.DeviceRows as device
+use Rattle.core_model.specs.Facts.{HasAddress, StandsAt, BlockOk, DeviceOk, zone_of_stage}
+use Rattle.core_model.specs.Numbers.{zone_count, notified_zones}
+use Rattle.core_model.specs.RightTraces.{RightTrace}
+use Rattle.core_model.specs.Sessions.{Session, IsSession, log, Stands, AtRest, OnItsWay, bytes_of}
+use Rattle.core_model.specs.Trace.{Happening, Calls, Fails, Trace, calls, committed, has_stopped, entry_of, entries_of}
+use Rattle.core_model.specs.Vios.{Post, asked, logged, staged}
 use Rattle.core_laws.proofs.kept.ActKept.{ActKept}
 use Rattle.core_laws.proofs.kept.Carried.{vio_kept, entered_kept}
 use Rattle.core_laws.proofs.device.DeviceCalls.{IsSpelled, spelled_block, entries_length, quiet_call, hardens, slot_way, slot_reads, slot_call}

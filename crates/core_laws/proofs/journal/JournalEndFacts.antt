@@ -2,23 +2,23 @@
 use Rattle.std.proofs.Common.{◌≡◌, ◌≢◌, ◌⊎◌, ℕ, ◌+◌, Bool, true, false, List, [], ◌∷◌, length, refl, ap, sym, ◌∙◌, subst, inl, inr, arith}
 use Rattle.std.specs.List.{AllByRecursion}
 use Rattle.blk_base.specs.declared.request.Answer.TheVariants as reply
-use Rattle.core_laws.specs.declared.items.Item.TheVariants as item
-use Rattle.core_laws.specs.declared.items.Phase.TheVariants as phase
-use Rattle.core_laws.specs.declared.items.SealedBlock.{SealedBlock}
-use Rattle.core_laws.specs.declared.items.Stage.{Stage}
-use Rattle.core_laws.specs.declared.items.Stage.TheVariants as stage
-use Rattle.core_laws.specs.declared.items.Vio.{Vio}
-use Rattle.core_laws.specs.declared.zones.ZoneData.TheVariants as at
-use Rattle.core_laws.specs.declared.zones.JournalZone.{JournalZone}
-use Rattle.core_laws.specs.declared.zones.Logged.{Logged}
-use Rattle.core_laws.specs.Facts.{StandsAt, BlockOk, KeptOk, RestsAt, JournalOk}
-use Rattle.core_laws.specs.JournalRows.{JournalEnds, has_block, sealed, refused, all_refused, entered_by, committed_by, hands_out}
-use Rattle.core_laws.specs.JournalRows as journal
-use Rattle.core_laws.specs.RightTraces.{RightTrace}
-use Rattle.core_laws.specs.Sessions.{Session, IsSession, AtRest, OnItsWay}
-use Rattle.core_laws.specs.Tokens.{holds}
-use Rattle.core_laws.specs.Trace.{Enters, Commits, Trace, committed, of_address}
-use Rattle.core_laws.specs.Vios.{Post, turned, logged}
+use Rattle.core_model.specs.declared.items.Item.TheVariants as item
+use Rattle.core_model.specs.declared.items.Phase.TheVariants as phase
+use Rattle.core_model.specs.declared.items.SealedBlock.{SealedBlock}
+use Rattle.core_model.specs.declared.items.Stage.{Stage}
+use Rattle.core_model.specs.declared.items.Stage.TheVariants as stage
+use Rattle.core_model.specs.declared.items.Vio.{Vio}
+use Rattle.core_model.specs.declared.zones.ZoneData.TheVariants as at
+use Rattle.core_model.specs.declared.zones.JournalZone.{JournalZone}
+use Rattle.core_model.specs.declared.zones.Logged.{Logged}
+use Rattle.core_model.specs.Facts.{StandsAt, BlockOk, KeptOk, RestsAt, JournalOk}
+use Rattle.core_model.specs.JournalRows.{JournalEnds, has_block, sealed, refused, all_refused, entered_by, committed_by, hands_out}
+use Rattle.core_model.specs.JournalRows as journal
+use Rattle.core_model.specs.RightTraces.{RightTrace}
+use Rattle.core_model.specs.Sessions.{Session, IsSession, AtRest, OnItsWay}
+use Rattle.core_model.specs.Tokens.{holds}
+use Rattle.core_model.specs.Trace.{Enters, Commits, Trace, committed, of_address}
+use Rattle.core_model.specs.Vios.{Post, turned, logged}
 use Rattle.core_laws.proofs.trace.DeskOfTrace.{shown_of}
 use Rattle.core_laws.proofs.kept.ActKept.{PostOk, ActKept}
 use Rattle.core_laws.proofs.kept.Carried.{SparesVio, kept_kept, item_kept}

@@ -4,21 +4,21 @@ use Rattle.std.proofs.lemmas.Bool.{or_parts}
 use Rattle.std.specs.List.{AllByRecursion}
 use Rattle.std.proofs.lemmas.Bool.{ltb-true, ltb-false}
 use Rattle.blk_base.specs.declared.request.Answer.TheVariants as reply
-use Rattle.core_laws.specs.declared.items.Item.TheVariants as item
-use Rattle.core_laws.specs.declared.items.Phase.TheVariants as phase
-use Rattle.core_laws.specs.declared.items.Stage.TheVariants as stage
-use Rattle.core_laws.specs.declared.items.Vio.{Vio}
-use Rattle.core_laws.specs.declared.zones.ZoneData.TheVariants as at
-use Rattle.core_laws.specs.declared.zones.JournalZone.{JournalZone}
-use Rattle.core_laws.specs.declared.zones.Logged.{Logged}
-use Rattle.core_laws.specs.Facts.{VioOk, Carries, BlockOk, ItemOk, KeptOk, RestsAt, JournalOk}
-use Rattle.core_laws.specs.JournalRows.{JournalServes, is_closed, has_block, sealed, refused, all_refused, entered_by}
-use Rattle.core_laws.specs.JournalRows as journal
-use Rattle.core_laws.specs.Numbers.{desk_zone, device_zone}
-use Rattle.core_laws.specs.RightTraces.{RightTrace, EntryMayFollow, IsFull}
-use Rattle.core_laws.specs.Sessions.{Session, IsSession, AtRest}
-use Rattle.core_laws.specs.Trace.{Enters, Trace, entered, committed, settled, has_stopped}
-use Rattle.core_laws.specs.Vios.{Post, asked, logged}
+use Rattle.core_model.specs.declared.items.Item.TheVariants as item
+use Rattle.core_model.specs.declared.items.Phase.TheVariants as phase
+use Rattle.core_model.specs.declared.items.Stage.TheVariants as stage
+use Rattle.core_model.specs.declared.items.Vio.{Vio}
+use Rattle.core_model.specs.declared.zones.ZoneData.TheVariants as at
+use Rattle.core_model.specs.declared.zones.JournalZone.{JournalZone}
+use Rattle.core_model.specs.declared.zones.Logged.{Logged}
+use Rattle.core_model.specs.Facts.{VioOk, Carries, BlockOk, ItemOk, KeptOk, RestsAt, JournalOk}
+use Rattle.core_model.specs.JournalRows.{JournalServes, is_closed, has_block, sealed, refused, all_refused, entered_by}
+use Rattle.core_model.specs.JournalRows as journal
+use Rattle.core_model.specs.Numbers.{desk_zone, device_zone}
+use Rattle.core_model.specs.RightTraces.{RightTrace, EntryMayFollow, IsFull}
+use Rattle.core_model.specs.Sessions.{Session, IsSession, AtRest}
+use Rattle.core_model.specs.Trace.{Enters, Trace, entered, committed, settled, has_stopped}
+use Rattle.core_model.specs.Vios.{Post, asked, logged}
 use Rattle.core_laws.proofs.trace.DeskOfTrace.{shown_of}
 use Rattle.core_laws.proofs.trace.AbortsOfTrace.{unentered_abort}
 use Rattle.core_laws.proofs.kept.ActKept.{PostOk, ActKept, unentered_slot}

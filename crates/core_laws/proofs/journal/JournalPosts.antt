@@ -7,19 +7,19 @@ use Rattle.blk_base.specs.declared.request.Answer.TheVariants as reply
 use Rattle.blk_base.specs.declared.place.Lba.{Lba}
 use Rattle.blk_base.specs.declared.request.Writer.{Writer}
 use Rattle.vdo_model.specs.Places.{place_of, zone_of}
-use Rattle.core_laws.specs.declared.items.Asks.{Asks}
-use Rattle.core_laws.specs.declared.items.Asks.TheVariants.{Write}
-use Rattle.core_laws.specs.declared.items.Phase.{Phase}
-use Rattle.core_laws.specs.declared.items.Phase.TheVariants as phase
-use Rattle.core_laws.specs.declared.items.Vio.{Vio}
-use Rattle.core_laws.specs.declared.zones.ZoneData.{ZoneData}
-use Rattle.core_laws.specs.Facts.{VioOk, Holds, IsPlaced, IsEntered, MayReply, Carries, KeptOk}
-use Rattle.core_laws.specs.JournalRows.{refused, all_refused}
-use Rattle.core_laws.specs.Numbers.{zone_count}
-use Rattle.core_laws.specs.RightTraces.{RightTrace, HasPlace, HasCause, IsFull}
-use Rattle.core_laws.specs.Sessions.{Session, IsSession}
-use Rattle.core_laws.specs.Trace.{Trace, places, entered, settled, has_stopped, logged_of}
-use Rattle.core_laws.specs.Vios.{Post, asked, turned, ended}
+use Rattle.core_model.specs.declared.items.Asks.{Asks}
+use Rattle.core_model.specs.declared.items.Asks.TheVariants.{Write}
+use Rattle.core_model.specs.declared.items.Phase.{Phase}
+use Rattle.core_model.specs.declared.items.Phase.TheVariants as phase
+use Rattle.core_model.specs.declared.items.Vio.{Vio}
+use Rattle.core_model.specs.declared.zones.ZoneData.{ZoneData}
+use Rattle.core_model.specs.Facts.{VioOk, Holds, IsPlaced, IsEntered, MayReply, Carries, KeptOk}
+use Rattle.core_model.specs.JournalRows.{refused, all_refused}
+use Rattle.core_model.specs.Numbers.{zone_count}
+use Rattle.core_model.specs.RightTraces.{RightTrace, HasPlace, HasCause, IsFull}
+use Rattle.core_model.specs.Sessions.{Session, IsSession}
+use Rattle.core_model.specs.Trace.{Trace, places, entered, settled, has_stopped, logged_of}
+use Rattle.core_model.specs.Vios.{Post, asked, turned, ended}
 use Rattle.core_laws.proofs.kept.ActKept.{PostOk, ActKept, unentered_slot}
 use Rattle.plain_laws.proofs.OptionLaws.{some_is}
 

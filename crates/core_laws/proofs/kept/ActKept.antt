@@ -9,13 +9,13 @@ use Rattle.image_layout.specs.Window.{mapping_of}
 use Rattle.vdo_model.specs.DeskLog.{begun}
 use Rattle.vdo_model.specs.Places.{place_of}
 use Rattle.vdo_model.specs.declared.report.Placed.{Placed}
-use Rattle.core_laws.specs.declared.zones.ZoneData.{ZoneData}
-use Rattle.core_laws.specs.Facts.{ItemOk, DataOk}
-use Rattle.core_laws.specs.Numbers.{zone_count}
-use Rattle.core_laws.specs.RightTraces.{MayFollow, RightTrace, GivesRight, IsWrite}
-use Rattle.core_laws.specs.Sessions.{Session, HasHonestReads, Shown, HasPending, AtRest}
-use Rattle.core_laws.specs.Trace.{Happening, Trace, lines, places, entered, committed, settled, logged_of}
-use Rattle.core_laws.specs.Vios.{Post}
+use Rattle.core_model.specs.declared.zones.ZoneData.{ZoneData}
+use Rattle.core_model.specs.Facts.{ItemOk, DataOk}
+use Rattle.core_model.specs.Numbers.{zone_count}
+use Rattle.core_model.specs.RightTraces.{MayFollow, RightTrace, GivesRight, IsWrite}
+use Rattle.core_model.specs.Sessions.{Session, HasHonestReads, Shown, HasPending, AtRest}
+use Rattle.core_model.specs.Trace.{Happening, Trace, lines, places, entered, committed, settled, logged_of}
+use Rattle.core_model.specs.Vios.{Post}
 use Rattle.core_laws.proofs.trace.DeskOfTrace.{logged_has, entered_writes, settled_is_entered}
 use Rattle.plain_laws.proofs.OptionLaws.{none_is, option_cases, not_both}
 use Rattle.vdo_model.proofs.NameLaws.{same_tells}

@@ -7,34 +7,34 @@ use Rattle.blk_base.specs.declared.request.Answer.{Answer}
 use Rattle.blk_base.specs.declared.request.Request.{Request}
 use Rattle.blk_base.specs.declared.request.Writer.{Writer}
 use Rattle.vdo_model.specs.DeskLog.{begun}
-use Rattle.core_laws.specs.declared.items.Item.{Item}
-use Rattle.core_laws.specs.declared.items.Item.TheVariants as item
-use Rattle.core_laws.specs.declared.items.Phase.{Phase}
-use Rattle.core_laws.specs.declared.items.Phase.TheVariants as phase
-use Rattle.core_laws.specs.declared.items.SealedBlock.{SealedBlock}
-use Rattle.core_laws.specs.declared.items.Vio.{Vio}
-use Rattle.core_laws.specs.declared.sizes.Sizes.{Sizes}
-use Rattle.core_laws.specs.declared.zones.ZoneData.{ZoneData}
-use Rattle.core_laws.specs.declared.zones.ZoneData.TheVariants as at
-use Rattle.core_laws.specs.declared.zones.Desk.{Desk}
-use Rattle.core_laws.specs.declared.zones.DeviceZone.{DeviceZone}
-use Rattle.core_laws.specs.declared.zones.JournalZone.{JournalZone}
-use Rattle.core_laws.specs.declared.zones.LogicalZone.{LogicalZone}
-use Rattle.core_laws.specs.declared.zones.PhysicalZone.{PhysicalZone}
-use Rattle.core_laws.specs.DeskRows as desk
-use Rattle.core_laws.specs.DeskRows.{DeskBegins, DeskServes, vio_of, woken}
-use Rattle.core_laws.specs.DeviceRows as device
-use Rattle.core_laws.specs.DeviceRows.{DeviceServes, DeviceWorks, stop_notices}
-use Rattle.core_laws.specs.Facts.{arriving, arrival}
-use Rattle.core_laws.specs.JournalRows as journal
-use Rattle.core_laws.specs.JournalRows.{PhysicalServes, JournalServes, JournalEnds, all_refused}
-use Rattle.core_laws.specs.LogicalRows as logical
-use Rattle.core_laws.specs.LogicalRows.{LogicalServes, goes_on, next_for, read_next, looked, mapping_at, passed_to, passes_on, released, first_for, all_for, all_stopped, with_slot, placed, place_of_vio}
-use Rattle.core_laws.specs.Numbers.{notified_zones}
-use Rattle.core_laws.specs.Steps.{Act}
-use Rattle.core_laws.specs.Steps as steps
-use Rattle.core_laws.specs.Trace.{Trace, places}
-use Rattle.core_laws.specs.Vios.{Post}
+use Rattle.core_model.specs.declared.items.Item.{Item}
+use Rattle.core_model.specs.declared.items.Item.TheVariants as item
+use Rattle.core_model.specs.declared.items.Phase.{Phase}
+use Rattle.core_model.specs.declared.items.Phase.TheVariants as phase
+use Rattle.core_model.specs.declared.items.SealedBlock.{SealedBlock}
+use Rattle.core_model.specs.declared.items.Vio.{Vio}
+use Rattle.core_model.specs.declared.sizes.Sizes.{Sizes}
+use Rattle.core_model.specs.declared.zones.ZoneData.{ZoneData}
+use Rattle.core_model.specs.declared.zones.ZoneData.TheVariants as at
+use Rattle.core_model.specs.declared.zones.Desk.{Desk}
+use Rattle.core_model.specs.declared.zones.DeviceZone.{DeviceZone}
+use Rattle.core_model.specs.declared.zones.JournalZone.{JournalZone}
+use Rattle.core_model.specs.declared.zones.LogicalZone.{LogicalZone}
+use Rattle.core_model.specs.declared.zones.PhysicalZone.{PhysicalZone}
+use Rattle.core_model.specs.DeskRows as desk
+use Rattle.core_model.specs.DeskRows.{DeskBegins, DeskServes, vio_of, woken}
+use Rattle.core_model.specs.DeviceRows as device
+use Rattle.core_model.specs.DeviceRows.{DeviceServes, DeviceWorks, stop_notices}
+use Rattle.core_model.specs.Facts.{arriving, arrival}
+use Rattle.core_model.specs.JournalRows as journal
+use Rattle.core_model.specs.JournalRows.{PhysicalServes, JournalServes, JournalEnds, all_refused}
+use Rattle.core_model.specs.LogicalRows as logical
+use Rattle.core_model.specs.LogicalRows.{LogicalServes, goes_on, next_for, read_next, looked, mapping_at, passed_to, passes_on, released, first_for, all_for, all_stopped, with_slot, placed, place_of_vio}
+use Rattle.core_model.specs.Numbers.{notified_zones}
+use Rattle.core_model.specs.Steps.{Act}
+use Rattle.core_model.specs.Steps as steps
+use Rattle.core_model.specs.Trace.{Trace, places}
+use Rattle.core_model.specs.Vios.{Post}
 use Rattle.core_laws.proofs.tokens.Posts.{begun_request, begun_phase, goes_by, IsGranted, nobody, somebody, is_granted}
 use Rattle.core_laws.proofs.tokens.LeaseTokens.{IsIn, KeptIn}
 

@@ -9,25 +9,25 @@ use Rattle.disk_model.specs.declared.call.Call.{Call}
 use Rattle.disk_model.specs.declared.call.Call.TheVariants as call
 use Rattle.vdo_model.specs.DeskLog.{begun}
 use Rattle.vdo_model.specs.declared.report.DeskLine.TheVariants as line
-use Rattle.core_laws.specs.declared.items.Item.{Item}
-use Rattle.core_laws.specs.declared.items.Item.TheVariants as item
-use Rattle.core_laws.specs.declared.items.Phase.{Phase}
-use Rattle.core_laws.specs.declared.items.Phase.TheVariants as phase
-use Rattle.core_laws.specs.declared.items.SealedBlock.{SealedBlock}
-use Rattle.core_laws.specs.declared.items.Vio.{Vio}
-use Rattle.core_laws.specs.declared.zones.ZoneData.{ZoneData}
-use Rattle.core_laws.specs.declared.zones.ZoneData.TheVariants as at
-use Rattle.core_laws.specs.declared.zones.JournalZone.{JournalZone}
-use Rattle.core_laws.specs.declared.zones.Logged.{Logged}
-use Rattle.core_laws.specs.declared.zones.Zone.{Zone}
-use Rattle.core_laws.specs.Facts.{ItemOk, KeptOk, WaitsOk, DataOk, ZoneOk, Carries}
-use Rattle.core_laws.specs.Legal.{Legal}
-use Rattle.core_laws.specs.Numbers.{desk_zone, journal_zone, device_zone}
-use Rattle.core_laws.specs.Sessions.{Session, IsSession, IsFresh}
-use Rattle.core_laws.specs.Steps.{Core}
+use Rattle.core_model.specs.declared.items.Item.{Item}
+use Rattle.core_model.specs.declared.items.Item.TheVariants as item
+use Rattle.core_model.specs.declared.items.Phase.{Phase}
+use Rattle.core_model.specs.declared.items.Phase.TheVariants as phase
+use Rattle.core_model.specs.declared.items.SealedBlock.{SealedBlock}
+use Rattle.core_model.specs.declared.items.Vio.{Vio}
+use Rattle.core_model.specs.declared.zones.ZoneData.{ZoneData}
+use Rattle.core_model.specs.declared.zones.ZoneData.TheVariants as at
+use Rattle.core_model.specs.declared.zones.JournalZone.{JournalZone}
+use Rattle.core_model.specs.declared.zones.Logged.{Logged}
+use Rattle.core_model.specs.declared.zones.Zone.{Zone}
+use Rattle.core_model.specs.Facts.{ItemOk, KeptOk, WaitsOk, DataOk, ZoneOk, Carries}
+use Rattle.core_model.specs.Legal.{Legal}
+use Rattle.core_model.specs.Numbers.{desk_zone, journal_zone, device_zone}
+use Rattle.core_model.specs.Sessions.{Session, IsSession, IsFresh}
+use Rattle.core_model.specs.Steps.{Core}
 use Rattle.plain_laws.specs.Sums.{total, bit, Each}
-use Rattle.core_laws.specs.Tokens.{Token, weight, given, queued, AtMost, request_token, block_token, journal_token, claims, holder_weight, of_vio, idle_at}
-use Rattle.core_laws.specs.Trace.{Happening, Says, Enters, Commits, Trace, lines, entered}
+use Rattle.core_model.specs.Tokens.{Token, weight, given, queued, AtMost, request_token, block_token, journal_token, claims, holder_weight, of_vio, idle_at}
+use Rattle.core_model.specs.Trace.{Happening, Says, Enters, Commits, Trace, lines, entered}
 use Rattle.core_laws.proofs.tokens.BlockOwners.{block_alone, block_unnamed, sealed_alone, sealed_busy}
 use Rattle.core_laws.proofs.kept.Carried.{SparesItem}
 use Rattle.core_laws.proofs.device.DataBlocks.{data_misses}

@@ -6,22 +6,22 @@ use Rattle.blk_base.specs.declared.request.Request.{Request}
 use Rattle.blk_base.specs.declared.request.Request.TheVariants as request
 use Rattle.blk_base.specs.declared.request.Writer.{Writer}
 use Rattle.vdo_model.specs.Places.{place_of}
-use Rattle.core_laws.specs.declared.items.Item.{Item}
-use Rattle.core_laws.specs.declared.items.Item.TheVariants as item
-use Rattle.core_laws.specs.declared.items.Phase.{Phase}
-use Rattle.core_laws.specs.declared.items.Phase.TheVariants as phase
-use Rattle.core_laws.specs.declared.items.SealedBlock.{SealedBlock}
-use Rattle.core_laws.specs.declared.items.Stage.{Stage}
-use Rattle.core_laws.specs.declared.items.Stage.TheVariants as stage
-use Rattle.core_laws.specs.declared.items.Vio.{Vio}
-use Rattle.core_laws.specs.declared.zones.Logged.{Logged}
-use Rattle.core_laws.specs.DeskRows.{is_marked, mark_of_vio}
-use Rattle.core_laws.specs.Facts.{VioOk, IsUnplaced, IsPlaced, Holds, Looks, IsEntered, IsEarned, MayReply, Carries, StandsAt, BlockOk, ItemOk, KeptOk}
-use Rattle.core_laws.specs.RightTraces.{HasCause}
-use Rattle.core_laws.specs.Sessions.{Session, AtRest, OnItsWay}
-use Rattle.core_laws.specs.Tokens.{holds}
-use Rattle.core_laws.specs.Trace.{Happening, Trace, places, entered, committed, settled, gifts, newest, logged_of, gift_of}
-use Rattle.core_laws.specs.Vios.{logged, request_of}
+use Rattle.core_model.specs.declared.items.Item.{Item}
+use Rattle.core_model.specs.declared.items.Item.TheVariants as item
+use Rattle.core_model.specs.declared.items.Phase.{Phase}
+use Rattle.core_model.specs.declared.items.Phase.TheVariants as phase
+use Rattle.core_model.specs.declared.items.SealedBlock.{SealedBlock}
+use Rattle.core_model.specs.declared.items.Stage.{Stage}
+use Rattle.core_model.specs.declared.items.Stage.TheVariants as stage
+use Rattle.core_model.specs.declared.items.Vio.{Vio}
+use Rattle.core_model.specs.declared.zones.Logged.{Logged}
+use Rattle.core_model.specs.DeskRows.{is_marked, mark_of_vio}
+use Rattle.core_model.specs.Facts.{VioOk, IsUnplaced, IsPlaced, Holds, Looks, IsEntered, IsEarned, MayReply, Carries, StandsAt, BlockOk, ItemOk, KeptOk}
+use Rattle.core_model.specs.RightTraces.{HasCause}
+use Rattle.core_model.specs.Sessions.{Session, AtRest, OnItsWay}
+use Rattle.core_model.specs.Tokens.{holds}
+use Rattle.core_model.specs.Trace.{Happening, Trace, places, entered, committed, settled, gifts, newest, logged_of, gift_of}
+use Rattle.core_model.specs.Vios.{logged, request_of}
 use Rattle.core_laws.proofs.kept.Spared.{SparesRequest, SparesAddress, open_kept, place_same, entry_same, slot_same, abort_same, gift_same, stop_kept, fault_kept, abort_kept, full_kept, mapping_same, quiet_kept, committed_kept, below_kept, mark_kept, honest_before, value_same, settled_at, committed_at}
 use Rattle.core_laws.proofs.kept.StandsOn.{SparesBlock, SparesBlocks, SparesJournal, SparesEntries, stands_kept, reads_kept, rests_kept, way_kept, entry_reads_kept}
 

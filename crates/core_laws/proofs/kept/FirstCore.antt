@@ -19,22 +19,22 @@ use Rattle.image_layout.specs.Window.{IsWindow, journal_of}
 use Rattle.journal_codec.specs.Grammar.{IsSector}
 use Rattle.journal_codec.specs.Spelling.{head_bytes}
 use Rattle.journal_codec.proofs.ReadLaws.{head_of_sector}
-use Rattle.core_laws.specs.declared.items.Item.{Item}
-use Rattle.core_laws.specs.declared.sizes.Sizes.{Sizes}
-use Rattle.core_laws.specs.declared.zones.ZoneData.{ZoneData}
-use Rattle.core_laws.specs.declared.zones.ZoneData.TheVariants as at
-use Rattle.core_laws.specs.declared.zones.Desk.{Desk}
-use Rattle.core_laws.specs.declared.zones.DeviceZone.{DeviceZone}
-use Rattle.core_laws.specs.declared.zones.JournalZone.{JournalZone}
-use Rattle.core_laws.specs.declared.zones.LogicalZone.{LogicalZone}
-use Rattle.core_laws.specs.declared.zones.PhysicalZone.{PhysicalZone}
-use Rattle.core_laws.specs.declared.zones.Zone.{Zone}
-use Rattle.core_laws.specs.Legal.{Legal}
-use Rattle.core_laws.specs.Sessions.{Session, IsSession, IsFresh, AreDistinct}
-use Rattle.core_laws.specs.Start.{IsFirstLogical, IsFirstData, IsFirstZone, IsFirst}
-use Rattle.core_laws.specs.Steps.{Core}
+use Rattle.core_model.specs.declared.items.Item.{Item}
+use Rattle.core_model.specs.declared.sizes.Sizes.{Sizes}
+use Rattle.core_model.specs.declared.zones.ZoneData.{ZoneData}
+use Rattle.core_model.specs.declared.zones.ZoneData.TheVariants as at
+use Rattle.core_model.specs.declared.zones.Desk.{Desk}
+use Rattle.core_model.specs.declared.zones.DeviceZone.{DeviceZone}
+use Rattle.core_model.specs.declared.zones.JournalZone.{JournalZone}
+use Rattle.core_model.specs.declared.zones.LogicalZone.{LogicalZone}
+use Rattle.core_model.specs.declared.zones.PhysicalZone.{PhysicalZone}
+use Rattle.core_model.specs.declared.zones.Zone.{Zone}
+use Rattle.core_model.specs.Legal.{Legal}
+use Rattle.core_model.specs.Sessions.{Session, IsSession, IsFresh, AreDistinct}
+use Rattle.core_model.specs.Start.{IsFirstLogical, IsFirstData, IsFirstZone, IsFirst}
+use Rattle.core_model.specs.Steps.{Core}
 use Rattle.plain_laws.specs.Sums.{total, Each}
-use Rattle.core_laws.specs.Tokens.{is_block}
+use Rattle.core_model.specs.Tokens.{is_block}
 use Rattle.core_laws.proofs.kept.FirstState.{legal_first}
 
 -- a device of zeros

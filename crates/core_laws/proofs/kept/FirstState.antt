@@ -8,27 +8,27 @@ use Rattle.blk_base.specs.declared.request.Writer.{Writer}
 use Rattle.image_layout.specs.Window.{mapping_of}
 use Rattle.stop_laws.proofs.JournalLaws.{opened_at_rest}
 use Rattle.vdo_model.specs.declared.report.DeskLine.{DeskLine}
-use Rattle.core_laws.specs.declared.items.Item.{Item}
-use Rattle.core_laws.specs.declared.items.Item.TheVariants as item
-use Rattle.core_laws.specs.declared.items.Phase.TheVariants as phase
-use Rattle.core_laws.specs.declared.items.Vio.{Vio}
-use Rattle.core_laws.specs.declared.zones.ZoneData.{ZoneData}
-use Rattle.core_laws.specs.declared.zones.ZoneData.TheVariants as at
-use Rattle.core_laws.specs.declared.zones.Lock.{Lock}
-use Rattle.core_laws.specs.declared.zones.Zone.{Zone}
-use Rattle.core_laws.specs.Facts.{ItemOk, KeptOk, WaitsOk, LockOk, DataOk, ZoneOk, RestsAt, Rises, arrivals}
-use Rattle.core_laws.specs.Legal.{InOrder, LanesInOrder, Legal}
-use Rattle.core_laws.specs.Numbers.{desk_zone, zone_count}
-use Rattle.core_laws.specs.Sessions.{IsFresh, Session, IsSession, Shown, AtRest}
-use Rattle.core_laws.specs.Start.{IsFirstData, IsFirstZone, IsFirst}
-use Rattle.core_laws.specs.Steps.{Core}
+use Rattle.core_model.specs.declared.items.Item.{Item}
+use Rattle.core_model.specs.declared.items.Item.TheVariants as item
+use Rattle.core_model.specs.declared.items.Phase.TheVariants as phase
+use Rattle.core_model.specs.declared.items.Vio.{Vio}
+use Rattle.core_model.specs.declared.zones.ZoneData.{ZoneData}
+use Rattle.core_model.specs.declared.zones.ZoneData.TheVariants as at
+use Rattle.core_model.specs.declared.zones.Lock.{Lock}
+use Rattle.core_model.specs.declared.zones.Zone.{Zone}
+use Rattle.core_model.specs.Facts.{ItemOk, KeptOk, WaitsOk, LockOk, DataOk, ZoneOk, RestsAt, Rises, arrivals}
+use Rattle.core_model.specs.Legal.{InOrder, LanesInOrder, Legal}
+use Rattle.core_model.specs.Numbers.{desk_zone, zone_count}
+use Rattle.core_model.specs.Sessions.{IsFresh, Session, IsSession, Shown, AtRest}
+use Rattle.core_model.specs.Start.{IsFirstData, IsFirstZone, IsFirst}
+use Rattle.core_model.specs.Steps.{Core}
 use Rattle.plain_laws.specs.Sums.{total, bit, Each}
-use Rattle.core_laws.specs.Tokens.{is_block, Token, queued, weight, given, Balanced, AtMost, in_log, begins_of, answers_of, request_token, lock_weight, lease_token, is_entry, blocks_at, one_physical, block_token, journal_token, is_begin, is_answer, room_token, notified_by, notice_token}
-use Rattle.core_laws.specs.Trace.{Trace, of_address, newest}
-use Rattle.core_laws.specs.DeviceRows.{IsInside}
-use Rattle.core_laws.specs.JournalRows.{is_closed}
-use Rattle.core_laws.specs.LogicalRows.{is_among, mapped_by, mapping_at}
-use Rattle.core_laws.specs.declared.zones.LogicalZone.{LogicalZone}
+use Rattle.core_model.specs.Tokens.{is_block, Token, queued, weight, given, Balanced, AtMost, in_log, begins_of, answers_of, request_token, lock_weight, lease_token, is_entry, blocks_at, one_physical, block_token, journal_token, is_begin, is_answer, room_token, notified_by, notice_token}
+use Rattle.core_model.specs.Trace.{Trace, of_address, newest}
+use Rattle.core_model.specs.DeviceRows.{IsInside}
+use Rattle.core_model.specs.JournalRows.{is_closed}
+use Rattle.core_model.specs.LogicalRows.{is_among, mapped_by, mapping_at}
+use Rattle.core_model.specs.declared.zones.LogicalZone.{LogicalZone}
 use Rattle.byte_fields.specs.Mappings.{HoldsMapping}
 use Rattle.blk_base.proofs.RegionLaws.{data_block_high, data_block_inside}
 use Rattle.core_laws.proofs.device.DataBlocks.{blocks_fit, window_data}

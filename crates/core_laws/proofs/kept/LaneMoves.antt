@@ -4,18 +4,18 @@ use Rattle.std.specs.List.{AllByRecursion}
 use Rattle.std.proofs.lemmas.Bool.Decides.{eqb_tells}
 use Rattle.std.proofs.lemmas.Option.{same_Some}
 use Rattle.blk_base.specs.declared.request.Writer.{Writer}
-use Rattle.core_laws.specs.declared.items.Item.{Item}
-use Rattle.core_laws.specs.declared.zones.ZoneData.TheVariants as at
-use Rattle.core_laws.specs.declared.zones.ZoneData.{ZoneData}
-use Rattle.core_laws.specs.declared.zones.LogicalZone.{LogicalZone}
-use Rattle.core_laws.specs.declared.zones.Zone.{Zone}
-use Rattle.core_laws.specs.Facts.{DataOk, ZoneOk, arrivals}
-use Rattle.core_laws.specs.Legal.{InOrder, LanesInOrder}
-use Rattle.core_laws.specs.Numbers.{desk_zone}
-use Rattle.core_laws.specs.Sessions.{Session}
-use Rattle.core_laws.specs.Steps.{Core, StepOf, MoveOf, delivered}
+use Rattle.core_model.specs.declared.items.Item.{Item}
+use Rattle.core_model.specs.declared.zones.ZoneData.TheVariants as at
+use Rattle.core_model.specs.declared.zones.ZoneData.{ZoneData}
+use Rattle.core_model.specs.declared.zones.LogicalZone.{LogicalZone}
+use Rattle.core_model.specs.declared.zones.Zone.{Zone}
+use Rattle.core_model.specs.Facts.{DataOk, ZoneOk, arrivals}
+use Rattle.core_model.specs.Legal.{InOrder, LanesInOrder}
+use Rattle.core_model.specs.Numbers.{desk_zone}
+use Rattle.core_model.specs.Sessions.{Session}
+use Rattle.core_model.specs.Steps.{Core, StepOf, MoveOf, delivered}
 use Rattle.plain_laws.specs.Sums.{Each}
-use Rattle.core_laws.specs.Trace.{Trace, places}
+use Rattle.core_model.specs.Trace.{Trace, places}
 use Rattle.plain_laws.proofs.ListLaws.{every-get, every-set, get-put_same, get-put_other, Each-put}
 use Rattle.core_laws.proofs.kept.Arrivals.{Course, still, draws, sends, course}
 use Rattle.core_laws.proofs.lists.LaneLists.{arrivals-append, delivered_none, kept_in}

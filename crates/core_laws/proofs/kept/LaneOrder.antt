@@ -6,24 +6,24 @@ use Rattle.std.proofs.lemmas.Option.{same_Some}
 use Rattle.blk_base.specs.declared.request.Writer.{Writer}
 use Rattle.vdo_model.specs.DeskLog.{begun}
 use Rattle.vdo_model.specs.declared.report.Placed.{Placed}
-use Rattle.core_laws.specs.declared.items.Item.{Item}
-use Rattle.core_laws.specs.declared.items.Item.TheVariants as item
-use Rattle.core_laws.specs.declared.items.Phase.{Phase}
-use Rattle.core_laws.specs.declared.items.Phase.TheVariants as phase
-use Rattle.core_laws.specs.declared.items.Vio.{Vio}
-use Rattle.core_laws.specs.declared.zones.ZoneData.{ZoneData}
-use Rattle.core_laws.specs.declared.zones.ZoneData.TheVariants as at
-use Rattle.core_laws.specs.declared.zones.LogicalZone.{LogicalZone}
-use Rattle.core_laws.specs.declared.zones.Zone.{Zone}
-use Rattle.core_laws.specs.Facts.{DataOk, ZoneOk, arriving, arrival, arrivals}
-use Rattle.core_laws.specs.Legal.{ComesAfter, InOrder, LanesInOrder}
-use Rattle.core_laws.specs.LogicalRows.{place_of_vio}
-use Rattle.core_laws.specs.Numbers.{desk_zone, logical_zone}
-use Rattle.core_laws.specs.Sessions.{Session}
-use Rattle.core_laws.specs.Steps.{delivered, Core, StepOf}
+use Rattle.core_model.specs.declared.items.Item.{Item}
+use Rattle.core_model.specs.declared.items.Item.TheVariants as item
+use Rattle.core_model.specs.declared.items.Phase.{Phase}
+use Rattle.core_model.specs.declared.items.Phase.TheVariants as phase
+use Rattle.core_model.specs.declared.items.Vio.{Vio}
+use Rattle.core_model.specs.declared.zones.ZoneData.{ZoneData}
+use Rattle.core_model.specs.declared.zones.ZoneData.TheVariants as at
+use Rattle.core_model.specs.declared.zones.LogicalZone.{LogicalZone}
+use Rattle.core_model.specs.declared.zones.Zone.{Zone}
+use Rattle.core_model.specs.Facts.{DataOk, ZoneOk, arriving, arrival, arrivals}
+use Rattle.core_model.specs.Legal.{ComesAfter, InOrder, LanesInOrder}
+use Rattle.core_model.specs.LogicalRows.{place_of_vio}
+use Rattle.core_model.specs.Numbers.{desk_zone, logical_zone}
+use Rattle.core_model.specs.Sessions.{Session}
+use Rattle.core_model.specs.Steps.{delivered, Core, StepOf}
 use Rattle.plain_laws.specs.Sums.{Each}
-use Rattle.core_laws.specs.Trace.{Trace, lines, places}
-use Rattle.core_laws.specs.Vios.{Post}
+use Rattle.core_model.specs.Trace.{Trace, lines, places}
+use Rattle.core_model.specs.Vios.{Post}
 use Rattle.plain_laws.proofs.ListLaws.{every-append, every-map, get-put_same, get-put_other, every_one}
 use Rattle.core_laws.proofs.kept.Arrivals.{Still, Course, still, draws, sends, course, zone_in, same_zone, is_logical}
 use Rattle.core_laws.proofs.lists.LaneLists.{arrivals-append, arrivals-still, WasLane, sent_lane, still_lane, still_inbox, Before, order_behind, order_more, order_drawn, kept_in, IsBegun, all_begun}

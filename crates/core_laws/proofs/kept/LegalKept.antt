@@ -3,21 +3,21 @@ use Rattle.std.proofs.Common.{◌≡◌, ℕ, zero, suc, ◌<◌, Bool, true, fa
 use Rattle.std.specs.List.{AllByRecursion}
 use Rattle.std.proofs.lemmas.Bool.{eqb-true}
 use Rattle.std.proofs.lemmas.Option.{same_Some}
-use Rattle.core_laws.specs.declared.items.Item.{Item}
-use Rattle.core_laws.specs.declared.items.Item.TheVariants as item
-use Rattle.core_laws.specs.declared.zones.ZoneData.{ZoneData}
-use Rattle.core_laws.specs.declared.zones.Zone.{Zone}
-use Rattle.core_laws.specs.Facts.{ItemOk, ZoneOk}
-use Rattle.core_laws.specs.Legal.{Legal}
-use Rattle.core_laws.specs.Numbers.{zone_count}
-use Rattle.core_laws.specs.RightTraces.{RightTrace, GivesRight}
-use Rattle.core_laws.specs.Sessions.{Session, IsSession, HasHonestReads}
-use Rattle.core_laws.specs.Steps as steps
-use Rattle.core_laws.specs.Steps.{Act, ZoneStep, Core, StepOf, MoveOf, Leads, sent_to, sent, delivered, posted}
+use Rattle.core_model.specs.declared.items.Item.{Item}
+use Rattle.core_model.specs.declared.items.Item.TheVariants as item
+use Rattle.core_model.specs.declared.zones.ZoneData.{ZoneData}
+use Rattle.core_model.specs.declared.zones.Zone.{Zone}
+use Rattle.core_model.specs.Facts.{ItemOk, ZoneOk}
+use Rattle.core_model.specs.Legal.{Legal}
+use Rattle.core_model.specs.Numbers.{zone_count}
+use Rattle.core_model.specs.RightTraces.{RightTrace, GivesRight}
+use Rattle.core_model.specs.Sessions.{Session, IsSession, HasHonestReads}
+use Rattle.core_model.specs.Steps as steps
+use Rattle.core_model.specs.Steps.{Act, ZoneStep, Core, StepOf, MoveOf, Leads, sent_to, sent, delivered, posted}
 use Rattle.plain_laws.specs.Sums.{Each}
-use Rattle.core_laws.specs.Tokens.{request_token, lease_token, block_token, journal_token, room_token, notice_token}
-use Rattle.core_laws.specs.Trace.{Trace}
-use Rattle.core_laws.specs.Vios.{Post}
+use Rattle.core_model.specs.Tokens.{request_token, lease_token, block_token, journal_token, room_token, notice_token}
+use Rattle.core_model.specs.Trace.{Trace}
+use Rattle.core_model.specs.Vios.{Post}
 use Rattle.core_laws.proofs.kept.ActKept.{PostOk}
 use Rattle.core_laws.proofs.tokens.BlockOwners.{sealed_busy}
 use Rattle.core_laws.proofs.tokens.BlockTokens.{blocks_law, wait_to_enter}

@@ -1,18 +1,18 @@
 -- A move keeps a core legal, and so does each list of events.
 use Rattle.std.proofs.Common.{◌≡◌, ℕ, Some, List, ◌++◌, length, slice_get, slice_set, ap, sym, ◌∙◌, subst}
 use Rattle.std.specs.List.{AllByRecursion}
-use Rattle.core_laws.specs.declared.zones.Zone.{Zone}
-use Rattle.core_laws.specs.Facts.{ItemOk, ZoneOk, DataOk}
-use Rattle.core_laws.specs.Legal.{Legal}
-use Rattle.core_laws.specs.Numbers.{zone_count}
-use Rattle.core_laws.specs.RightTraces.{RightTrace, GivesRight}
-use Rattle.core_laws.specs.Sessions.{Session, IsSession, HasHonestReads}
-use Rattle.core_laws.specs.Start.{IsFirst}
-use Rattle.core_laws.specs.Steps as steps
-use Rattle.core_laws.specs.Steps.{Core, StepOf, MoveOf, Leads}
+use Rattle.core_model.specs.declared.zones.Zone.{Zone}
+use Rattle.core_model.specs.Facts.{ItemOk, ZoneOk, DataOk}
+use Rattle.core_model.specs.Legal.{Legal}
+use Rattle.core_model.specs.Numbers.{zone_count}
+use Rattle.core_model.specs.RightTraces.{RightTrace, GivesRight}
+use Rattle.core_model.specs.Sessions.{Session, IsSession, HasHonestReads}
+use Rattle.core_model.specs.Start.{IsFirst}
+use Rattle.core_model.specs.Steps as steps
+use Rattle.core_model.specs.Steps.{Core, StepOf, MoveOf, Leads}
 use Rattle.plain_laws.specs.Sums.{Each}
-use Rattle.core_laws.specs.Tokens.{request_token, lease_token, block_token, journal_token, room_token, notice_token}
-use Rattle.core_laws.specs.Trace.{Trace}
+use Rattle.core_model.specs.Tokens.{request_token, lease_token, block_token, journal_token, room_token, notice_token}
+use Rattle.core_model.specs.Trace.{Trace}
 use Rattle.core_laws.proofs.kept.FirstState.{legal_first}
 use Rattle.core_laws.proofs.kept.LaneMoves.{order_move, arrivals_move}
 use Rattle.core_laws.proofs.kept.LegalKept.{legal_step}

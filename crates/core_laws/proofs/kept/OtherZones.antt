@@ -9,23 +9,23 @@ use Rattle.vdo_model.specs.Places.{drawn, zone_of}
 use Rattle.vdo_model.specs.declared.report.DeskLine.{DeskLine}
 use Rattle.vdo_model.specs.declared.report.FlushMark.{FlushMark}
 use Rattle.vdo_model.specs.declared.report.Placed.{Placed}
-use Rattle.core_laws.specs.declared.items.Item.{Item}
-use Rattle.core_laws.specs.declared.items.Item.TheVariants as item
-use Rattle.core_laws.specs.declared.items.Vio.{Vio}
-use Rattle.core_laws.specs.declared.zones.ZoneData.{ZoneData}
-use Rattle.core_laws.specs.declared.zones.ZoneData.TheVariants as at
-use Rattle.core_laws.specs.declared.zones.LogicalZone.{LogicalZone}
-use Rattle.core_laws.specs.declared.zones.Logged.{Logged}
-use Rattle.core_laws.specs.declared.zones.Zone.{Zone}
+use Rattle.core_model.specs.declared.items.Item.{Item}
+use Rattle.core_model.specs.declared.items.Item.TheVariants as item
+use Rattle.core_model.specs.declared.items.Vio.{Vio}
+use Rattle.core_model.specs.declared.zones.ZoneData.{ZoneData}
+use Rattle.core_model.specs.declared.zones.ZoneData.TheVariants as at
+use Rattle.core_model.specs.declared.zones.LogicalZone.{LogicalZone}
+use Rattle.core_model.specs.declared.zones.Logged.{Logged}
+use Rattle.core_model.specs.declared.zones.Zone.{Zone}
 use Rattle.vdo_model.specs.ZoneOrder.{places_in}
-use Rattle.core_laws.specs.Facts.{ItemOk, DataOk, LogicalOk, ZoneOk}
-use Rattle.core_laws.specs.LogicalRows.{is_held}
-use Rattle.core_laws.specs.Numbers.{desk_zone, logical_zone, physical_zone, journal_zone, device_zone}
-use Rattle.core_laws.specs.RightTraces.{AllBelow}
-use Rattle.core_laws.specs.Sessions.{Session}
+use Rattle.core_model.specs.Facts.{ItemOk, DataOk, LogicalOk, ZoneOk}
+use Rattle.core_model.specs.LogicalRows.{is_held}
+use Rattle.core_model.specs.Numbers.{desk_zone, logical_zone, physical_zone, journal_zone, device_zone}
+use Rattle.core_model.specs.RightTraces.{AllBelow}
+use Rattle.core_model.specs.Sessions.{Session}
 use Rattle.plain_laws.specs.Sums.{Each}
-use Rattle.core_laws.specs.Tokens.{Token}
-use Rattle.core_laws.specs.Trace.{Happening, Says, Flushes, Draws, Enters, Commits, Sets, Gives, Takes, Aborts, Calls, Fails, Trace, Gift, lines, marks, places, entered, committed, settled, taken}
+use Rattle.core_model.specs.Tokens.{Token}
+use Rattle.core_model.specs.Trace.{Happening, Says, Flushes, Draws, Enters, Commits, Sets, Gives, Takes, Aborts, Calls, Fails, Trace, Gift, lines, marks, places, entered, committed, settled, taken}
 use Rattle.core_laws.proofs.kept.Carried.{SparesItem}
 use Rattle.core_laws.proofs.kept.Elsewhere.{SealedEnters}
 use Rattle.plain_laws.proofs.ListLaws.{every-map, every_both}

@@ -14,36 +14,36 @@ use Rattle.disk_model.specs.declared.call.Call.{Call}
 use Rattle.disk_model.specs.declared.call.Call.TheVariants as call
 use Rattle.stop_laws.specs.Journals.{block_of_slot}
 use Rattle.vdo_model.specs.Scripts.{Script, request_at}
-use Rattle.core_laws.specs.declared.items.Asks.{Asks}
-use Rattle.core_laws.specs.declared.items.Asks.TheVariants.{Read, Write, Flush}
-use Rattle.core_laws.specs.declared.items.Item.{Item}
-use Rattle.core_laws.specs.declared.items.Item.TheVariants as item
-use Rattle.core_laws.specs.declared.items.Phase.{Phase}
-use Rattle.core_laws.specs.declared.items.Phase.TheVariants as phase
-use Rattle.core_laws.specs.declared.items.SealedBlock.{SealedBlock}
-use Rattle.core_laws.specs.declared.items.Stage.{Stage}
-use Rattle.core_laws.specs.declared.items.Stage.TheVariants as stage
-use Rattle.core_laws.specs.declared.items.Vio.{Vio}
-use Rattle.core_laws.specs.declared.zones.Desk.{Desk}
-use Rattle.core_laws.specs.declared.zones.DeviceZone.{DeviceZone}
-use Rattle.core_laws.specs.declared.zones.JournalZone.{JournalZone}
-use Rattle.core_laws.specs.declared.zones.LogicalZone.{LogicalZone}
-use Rattle.core_laws.specs.declared.zones.PhysicalZone.{PhysicalZone}
-use Rattle.core_laws.specs.declared.zones.Zone.{Zone}
-use Rattle.core_laws.specs.declared.zones.ZoneData.{ZoneData}
-use Rattle.core_laws.specs.declared.zones.ZoneData.TheVariants as at
-use Rattle.core_laws.specs.DeskRows.{DeskBegins, DeskServes, at_once, vio_of, is_marked, is_stopped, is_notified}
-use Rattle.core_laws.specs.DeviceRows.{DeviceServes, DeviceWorks, IsInside, call_of, journal_bytes}
-use Rattle.core_laws.specs.Facts.{VioOk, MayReply, Carries, ItemOk, DataOk, DeskOk, LogicalOk, WaitsOk, zone_at, zone_of_stage}
-use Rattle.core_laws.specs.JournalRows.{PhysicalServes, JournalServes, JournalEnds, is_closed, has_block}
-use Rattle.core_laws.specs.Legal.{Legal}
-use Rattle.core_laws.specs.LogicalRows.{LogicalServes, is_among, is_held, first_for, placed, next_for, goes_on, passes_on, with_slot}
-use Rattle.core_laws.specs.Numbers.{desk_zone, logical_zone, physical_zone, journal_zone, device_zone}
-use Rattle.core_laws.specs.Sessions.{Session, IsSession, IsServed}
-use Rattle.core_laws.specs.Steps as steps
-use Rattle.core_laws.specs.Steps.{Act, HasAct, MayBegin, Core, delivered}
-use Rattle.core_laws.specs.Trace.{Trace}
-use Rattle.core_laws.specs.Vios.{Post}
+use Rattle.core_model.specs.declared.items.Asks.{Asks}
+use Rattle.core_model.specs.declared.items.Asks.TheVariants.{Read, Write, Flush}
+use Rattle.core_model.specs.declared.items.Item.{Item}
+use Rattle.core_model.specs.declared.items.Item.TheVariants as item
+use Rattle.core_model.specs.declared.items.Phase.{Phase}
+use Rattle.core_model.specs.declared.items.Phase.TheVariants as phase
+use Rattle.core_model.specs.declared.items.SealedBlock.{SealedBlock}
+use Rattle.core_model.specs.declared.items.Stage.{Stage}
+use Rattle.core_model.specs.declared.items.Stage.TheVariants as stage
+use Rattle.core_model.specs.declared.items.Vio.{Vio}
+use Rattle.core_model.specs.declared.zones.Desk.{Desk}
+use Rattle.core_model.specs.declared.zones.DeviceZone.{DeviceZone}
+use Rattle.core_model.specs.declared.zones.JournalZone.{JournalZone}
+use Rattle.core_model.specs.declared.zones.LogicalZone.{LogicalZone}
+use Rattle.core_model.specs.declared.zones.PhysicalZone.{PhysicalZone}
+use Rattle.core_model.specs.declared.zones.Zone.{Zone}
+use Rattle.core_model.specs.declared.zones.ZoneData.{ZoneData}
+use Rattle.core_model.specs.declared.zones.ZoneData.TheVariants as at
+use Rattle.core_model.specs.DeskRows.{DeskBegins, DeskServes, at_once, vio_of, is_marked, is_stopped, is_notified}
+use Rattle.core_model.specs.DeviceRows.{DeviceServes, DeviceWorks, IsInside, call_of, journal_bytes}
+use Rattle.core_model.specs.Facts.{VioOk, MayReply, Carries, ItemOk, DataOk, DeskOk, LogicalOk, WaitsOk, zone_at, zone_of_stage}
+use Rattle.core_model.specs.JournalRows.{PhysicalServes, JournalServes, JournalEnds, is_closed, has_block}
+use Rattle.core_model.specs.Legal.{Legal}
+use Rattle.core_model.specs.LogicalRows.{LogicalServes, is_among, is_held, first_for, placed, next_for, goes_on, passes_on, with_slot}
+use Rattle.core_model.specs.Numbers.{desk_zone, logical_zone, physical_zone, journal_zone, device_zone}
+use Rattle.core_model.specs.Sessions.{Session, IsSession, IsServed}
+use Rattle.core_model.specs.Steps as steps
+use Rattle.core_model.specs.Steps.{Act, HasAct, MayBegin, Core, delivered}
+use Rattle.core_model.specs.Trace.{Trace}
+use Rattle.core_model.specs.Vios.{Post}
 use Rattle.core_laws.proofs.device.DataBlocks.{request_served}
 use Rattle.core_laws.proofs.kept.LegalKept.{goes}
 use Rattle.core_laws.proofs.tokens.Lift.{delivered_same}

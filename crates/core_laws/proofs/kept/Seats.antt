@@ -1,13 +1,13 @@
 -- What a thread does with its own zone is a step of the core, though other zones went on meanwhile.
 use Rattle.std.proofs.Common.{◌≡◌, ℕ, zero, suc, Bool, true, false, List, [], ◌∷◌, ◌++◌, Some, slice_get, slice_set, nat_eq, refl, ap, sym, ◌∙◌, append_assoc}
 use Rattle.std.proofs.lemmas.Option.{same_Some}
-use Rattle.core_laws.specs.declared.items.Item.{Item}
-use Rattle.core_laws.specs.declared.sizes.Sizes.{Sizes}
-use Rattle.core_laws.specs.declared.zones.Zone.{Zone}
-use Rattle.core_laws.specs.Steps.{posted, sent_to, sent, delivered, ZoneStep, Core, StepOf}
-use Rattle.core_laws.specs.Trace.{Trace}
-use Rattle.core_laws.specs.Views.{behind, with_batches, zones_of, core_of}
-use Rattle.core_laws.specs.Vios.{Post}
+use Rattle.core_model.specs.declared.items.Item.{Item}
+use Rattle.core_model.specs.declared.sizes.Sizes.{Sizes}
+use Rattle.core_model.specs.declared.zones.Zone.{Zone}
+use Rattle.core_model.specs.Steps.{posted, sent_to, sent, delivered, ZoneStep, Core, StepOf}
+use Rattle.core_model.specs.Trace.{Trace}
+use Rattle.core_model.specs.Views.{behind, with_batches, zones_of, core_of}
+use Rattle.core_model.specs.Vios.{Post}
 
 behind_posted : (batches : List (List Item)) (to : ℕ) (x : Item) (lanes : List (List Item)) → behind batches (posted to x lanes) ≡ posted to x (behind batches lanes)
 behind_posted [] to x lanes = refl

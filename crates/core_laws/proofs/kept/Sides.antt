@@ -1,15 +1,15 @@
 -- Beside what a zone serves, everything stays as it was: the other zones, and the rest of its own lanes.
 use Rattle.std.proofs.Common.{◌≡◌, ℕ, ◌+◌, ◌≤◌, Some, List, ◌∷◌, ◌++◌, slice_get, subst, arith}
 use Rattle.std.specs.List.{AllByRecursion}
-use Rattle.core_laws.specs.declared.items.Item.{Item}
-use Rattle.core_laws.specs.declared.items.Item.TheVariants as item
-use Rattle.core_laws.specs.declared.items.Vio.{Vio}
-use Rattle.core_laws.specs.declared.zones.Zone.{Zone}
-use Rattle.core_laws.specs.Facts.{ItemOk, ZoneOk}
-use Rattle.core_laws.specs.Sessions.{Session}
+use Rattle.core_model.specs.declared.items.Item.{Item}
+use Rattle.core_model.specs.declared.items.Item.TheVariants as item
+use Rattle.core_model.specs.declared.items.Vio.{Vio}
+use Rattle.core_model.specs.declared.zones.Zone.{Zone}
+use Rattle.core_model.specs.Facts.{ItemOk, ZoneOk}
+use Rattle.core_model.specs.Sessions.{Session}
 use Rattle.plain_laws.specs.Sums.{total, Each}
-use Rattle.core_laws.specs.Tokens.{Token, weight, given, queued, AtMost}
-use Rattle.core_laws.specs.Trace.{Happening, Trace}
+use Rattle.core_model.specs.Tokens.{Token, weight, given, queued, AtMost}
+use Rattle.core_model.specs.Trace.{Happening, Trace}
 use Rattle.core_laws.proofs.kept.Carried.{SparesItem}
 use Rattle.plain_laws.proofs.ListLaws.{total-get, nobody_else, every-front}
 use Rattle.core_laws.proofs.kept.OtherZones.{OfAll}

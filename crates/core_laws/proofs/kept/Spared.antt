@@ -12,11 +12,11 @@ use Rattle.vdo_model.specs.Places.{place_of}
 use Rattle.vdo_model.specs.Scripts.{same_writer}
 use Rattle.vdo_model.specs.declared.report.DeskLine.TheVariants.{Begin, Answer}
 use Rattle.vdo_model.specs.declared.report.FlushMark.{FlushMark}
-use Rattle.core_laws.specs.declared.zones.Logged.{Logged}
-use Rattle.core_laws.specs.LogicalRows.{mapped_by}
-use Rattle.core_laws.specs.RightTraces.{IsOpen, Quiet, IsCommitted, AllBelow, HasBelow, IsFull}
-use Rattle.core_laws.specs.Sessions.{Session, HasHonestReads, value_at}
-use Rattle.core_laws.specs.Trace.{Happening, Says, Flushes, Draws, Enters, Commits, Sets, Gives, Takes, Aborts, Calls, Fails, Trace, moments, lines, places, entered, committed, settled, aborted, gifts, is_read, has_stopped, has_read_fault, of_address, newest, logged_of, gift_of, entries_of}
+use Rattle.core_model.specs.declared.zones.Logged.{Logged}
+use Rattle.core_model.specs.LogicalRows.{mapped_by}
+use Rattle.core_model.specs.RightTraces.{IsOpen, Quiet, IsCommitted, AllBelow, HasBelow, IsFull}
+use Rattle.core_model.specs.Sessions.{Session, HasHonestReads, value_at}
+use Rattle.core_model.specs.Trace.{Happening, Says, Flushes, Draws, Enters, Commits, Sets, Gives, Takes, Aborts, Calls, Fails, Trace, moments, lines, places, entered, committed, settled, aborted, gifts, is_read, has_stopped, has_read_fault, of_address, newest, logged_of, gift_of, entries_of}
 
 -- the happening is about no such request
 abbrev pub SparesRequest : Happening → Writer → Type 0

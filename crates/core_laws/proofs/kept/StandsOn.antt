@@ -13,9 +13,9 @@ use Rattle.disk_model.proofs.ImageLaws.{kept, settled-misses}
 use Rattle.image_layout.specs.Window.{mapping_of}
 use Rattle.stop_laws.specs.Journals.{HasEntry, MissesJournal, block_of_slot}
 use Rattle.stop_laws.proofs.JournalLaws.{rest_kept, under_way_kept}
-use Rattle.core_laws.specs.declared.zones.Logged.{Logged}
-use Rattle.core_laws.specs.Sessions.{Session, log, Stands, ReadsAs, EachStands, AtRest, OnItsWay, ReadsEntry, Kept, HasPending}
-use Rattle.core_laws.specs.Trace.{Happening, Calls, Fails, Trace, entered, committed, entry_of, entries_of}
+use Rattle.core_model.specs.declared.zones.Logged.{Logged}
+use Rattle.core_model.specs.Sessions.{Session, log, Stands, ReadsAs, EachStands, AtRest, OnItsWay, ReadsEntry, Kept, HasPending}
+use Rattle.core_model.specs.Trace.{Happening, Calls, Fails, Trace, entered, committed, entry_of, entries_of}
 
 -- the happening is no write of the block
 abbrev pub SparesBlock : Happening → ℕ → Type 0

@@ -8,33 +8,33 @@ use Rattle.disk_model.specs.declared.call.Call.{Call}
 use Rattle.disk_model.specs.declared.call.Call.TheVariants as call
 use Rattle.vdo_model.specs.DeskLog.{begun}
 use Rattle.vdo_model.specs.Places.{zone_of}
-use Rattle.core_laws.specs.declared.items.Item.{Item}
-use Rattle.core_laws.specs.declared.items.Item.TheVariants as item
-use Rattle.core_laws.specs.declared.items.Phase.{Phase}
-use Rattle.core_laws.specs.declared.items.Phase.TheVariants as phase
-use Rattle.core_laws.specs.declared.items.Vio.{Vio}
-use Rattle.core_laws.specs.declared.zones.ZoneData.{ZoneData}
-use Rattle.core_laws.specs.declared.zones.ZoneData.TheVariants as at
-use Rattle.core_laws.specs.declared.zones.Desk.{Desk}
-use Rattle.core_laws.specs.declared.zones.DeviceZone.{DeviceZone}
-use Rattle.core_laws.specs.declared.zones.JournalZone.{JournalZone}
-use Rattle.core_laws.specs.declared.zones.LogicalZone.{LogicalZone}
-use Rattle.core_laws.specs.declared.zones.Logged.{Logged}
-use Rattle.core_laws.specs.declared.zones.PhysicalZone.{PhysicalZone}
-use Rattle.core_laws.specs.declared.zones.Zone.{Zone}
-use Rattle.core_laws.specs.DeskRows.{DeskBegins, DeskServes, mark_of_vio}
-use Rattle.core_laws.specs.DeviceRows.{DeviceServes}
-use Rattle.core_laws.specs.Facts.{ItemOk, DataOk, DeskOk, LogicalOk, PhysicalOk, JournalOk, DeviceOk, Carries, arrivals, arriving, zone_at}
-use Rattle.core_laws.specs.JournalRows as journal
-use Rattle.core_laws.specs.Legal.{Legal, ComesAfter, InOrder}
-use Rattle.core_laws.specs.LogicalRows as logical
-use Rattle.core_laws.specs.Numbers.{desk_zone, logical_zone}
-use Rattle.core_laws.specs.Sessions.{Session, IsSession}
-use Rattle.core_laws.specs.Steps.{Core}
+use Rattle.core_model.specs.declared.items.Item.{Item}
+use Rattle.core_model.specs.declared.items.Item.TheVariants as item
+use Rattle.core_model.specs.declared.items.Phase.{Phase}
+use Rattle.core_model.specs.declared.items.Phase.TheVariants as phase
+use Rattle.core_model.specs.declared.items.Vio.{Vio}
+use Rattle.core_model.specs.declared.zones.ZoneData.{ZoneData}
+use Rattle.core_model.specs.declared.zones.ZoneData.TheVariants as at
+use Rattle.core_model.specs.declared.zones.Desk.{Desk}
+use Rattle.core_model.specs.declared.zones.DeviceZone.{DeviceZone}
+use Rattle.core_model.specs.declared.zones.JournalZone.{JournalZone}
+use Rattle.core_model.specs.declared.zones.LogicalZone.{LogicalZone}
+use Rattle.core_model.specs.declared.zones.Logged.{Logged}
+use Rattle.core_model.specs.declared.zones.PhysicalZone.{PhysicalZone}
+use Rattle.core_model.specs.declared.zones.Zone.{Zone}
+use Rattle.core_model.specs.DeskRows.{DeskBegins, DeskServes, mark_of_vio}
+use Rattle.core_model.specs.DeviceRows.{DeviceServes}
+use Rattle.core_model.specs.Facts.{ItemOk, DataOk, DeskOk, LogicalOk, PhysicalOk, JournalOk, DeviceOk, Carries, arrivals, arriving, zone_at}
+use Rattle.core_model.specs.JournalRows as journal
+use Rattle.core_model.specs.Legal.{Legal, ComesAfter, InOrder}
+use Rattle.core_model.specs.LogicalRows as logical
+use Rattle.core_model.specs.Numbers.{desk_zone, logical_zone}
+use Rattle.core_model.specs.Sessions.{Session, IsSession}
+use Rattle.core_model.specs.Steps.{Core}
 use Rattle.plain_laws.specs.Sums.{bit}
-use Rattle.core_laws.specs.Tokens.{request_token, holds, holder_weight}
-use Rattle.core_laws.specs.Trace.{Happening, Draws, Calls, Trace, places, entered}
-use Rattle.core_laws.specs.Vios.{Post, logged, gift}
+use Rattle.core_model.specs.Tokens.{request_token, holds, holder_weight}
+use Rattle.core_model.specs.Trace.{Happening, Draws, Calls, Trace, places, entered}
+use Rattle.core_model.specs.Vios.{Post, logged, gift}
 use Rattle.core_laws.proofs.kept.ActKept.{ActKept}
 use Rattle.core_laws.proofs.kept.CallSides.{side_begin, side_at_once, side_enter, side_call, side_store}
 use Rattle.core_laws.proofs.desk.DeskFacts.{desk_begins, desk_serves}

@@ -6,33 +6,33 @@ use Rattle.blk_base.specs.declared.place.Pbn.{Pbn}
 use Rattle.blk_base.specs.declared.request.Answer.TheVariants as reply
 use Rattle.disk_model.specs.declared.call.Call.{Call}
 use Rattle.disk_model.specs.declared.call.Call.TheVariants as call
-use Rattle.core_laws.specs.declared.items.Item.{Item}
-use Rattle.core_laws.specs.declared.items.Item.TheVariants as item
-use Rattle.core_laws.specs.declared.items.Phase.TheVariants as phase
-use Rattle.core_laws.specs.declared.items.SealedBlock.{SealedBlock}
-use Rattle.core_laws.specs.declared.items.Stage.{Stage}
-use Rattle.core_laws.specs.declared.items.Stage.TheVariants as stage
-use Rattle.core_laws.specs.declared.items.Vio.{Vio}
-use Rattle.core_laws.specs.declared.zones.ZoneData.{ZoneData}
-use Rattle.core_laws.specs.declared.zones.ZoneData.TheVariants as at
-use Rattle.core_laws.specs.declared.zones.Desk.{Desk}
-use Rattle.core_laws.specs.declared.zones.DeviceZone.{DeviceZone}
-use Rattle.core_laws.specs.declared.zones.PhysicalZone.{PhysicalZone}
-use Rattle.core_laws.specs.declared.zones.JournalZone.{JournalZone}
-use Rattle.core_laws.specs.declared.zones.LogicalZone.{LogicalZone}
-use Rattle.core_laws.specs.declared.zones.Zone.{Zone}
-use Rattle.core_laws.specs.DeskRows.{woken, with_notice}
-use Rattle.core_laws.specs.DeviceRows.{DeviceWorks, IsItsSlot, call_of, journal_bytes}
-use Rattle.core_laws.specs.Facts.{KeptOk, DataOk, JournalOk, DeviceOk, BlockOk}
-use Rattle.core_laws.specs.JournalRows as journal
-use Rattle.core_laws.specs.Legal.{Legal}
-use Rattle.core_laws.specs.Numbers.{desk_zone, logical_zone, journal_zone}
-use Rattle.core_laws.specs.Sessions.{Session, IsSession}
-use Rattle.core_laws.specs.Steps.{Core}
+use Rattle.core_model.specs.declared.items.Item.{Item}
+use Rattle.core_model.specs.declared.items.Item.TheVariants as item
+use Rattle.core_model.specs.declared.items.Phase.TheVariants as phase
+use Rattle.core_model.specs.declared.items.SealedBlock.{SealedBlock}
+use Rattle.core_model.specs.declared.items.Stage.{Stage}
+use Rattle.core_model.specs.declared.items.Stage.TheVariants as stage
+use Rattle.core_model.specs.declared.items.Vio.{Vio}
+use Rattle.core_model.specs.declared.zones.ZoneData.{ZoneData}
+use Rattle.core_model.specs.declared.zones.ZoneData.TheVariants as at
+use Rattle.core_model.specs.declared.zones.Desk.{Desk}
+use Rattle.core_model.specs.declared.zones.DeviceZone.{DeviceZone}
+use Rattle.core_model.specs.declared.zones.PhysicalZone.{PhysicalZone}
+use Rattle.core_model.specs.declared.zones.JournalZone.{JournalZone}
+use Rattle.core_model.specs.declared.zones.LogicalZone.{LogicalZone}
+use Rattle.core_model.specs.declared.zones.Zone.{Zone}
+use Rattle.core_model.specs.DeskRows.{woken, with_notice}
+use Rattle.core_model.specs.DeviceRows.{DeviceWorks, IsItsSlot, call_of, journal_bytes}
+use Rattle.core_model.specs.Facts.{KeptOk, DataOk, JournalOk, DeviceOk, BlockOk}
+use Rattle.core_model.specs.JournalRows as journal
+use Rattle.core_model.specs.Legal.{Legal}
+use Rattle.core_model.specs.Numbers.{desk_zone, logical_zone, journal_zone}
+use Rattle.core_model.specs.Sessions.{Session, IsSession}
+use Rattle.core_model.specs.Steps.{Core}
 use Rattle.plain_laws.specs.Sums.{total}
-use Rattle.core_laws.specs.Tokens.{Token, weight, queued, request_token, lease_token, journal_token, holder_weight, locks_at, of_vio}
-use Rattle.core_laws.specs.Trace.{Happening, Enters, Commits, Trace, has_stopped}
-use Rattle.core_laws.specs.Vios.{Post, logged}
+use Rattle.core_model.specs.Tokens.{Token, weight, queued, request_token, lease_token, journal_token, holder_weight, locks_at, of_vio}
+use Rattle.core_model.specs.Trace.{Happening, Enters, Commits, Trace, has_stopped}
+use Rattle.core_model.specs.Vios.{Post, logged}
 use Rattle.core_laws.proofs.tokens.BlockOwners.{sealed_busy}
 use Rattle.core_laws.proofs.kept.CallSides.{side_call, side_slot, side_commit, sealed}
 use Rattle.core_laws.proofs.kept.Carried.{SparesItem}

@@ -9,19 +9,19 @@ use Rattle.vdo_model.specs.declared.report.Placed.{Placed}
 use Rattle.vdo_model.specs.DeskLog.{begun}
 use Rattle.vdo_model.specs.Places.{zone_of}
 use Rattle.vdo_model.specs.declared.report.DeskLine.TheVariants as line
-use Rattle.core_laws.specs.declared.items.Item.{Item}
-use Rattle.core_laws.specs.declared.zones.ZoneData.{ZoneData}
-use Rattle.core_laws.specs.declared.zones.ZoneData.TheVariants as at
-use Rattle.core_laws.specs.declared.zones.Logged.{Logged}
-use Rattle.core_laws.specs.declared.zones.Zone.{Zone}
-use Rattle.core_laws.specs.Facts.{ItemOk, DataOk, ZoneOk}
-use Rattle.core_laws.specs.Legal.{Legal}
-use Rattle.core_laws.specs.Numbers.{desk_zone, logical_zone, physical_zone}
-use Rattle.core_laws.specs.Sessions.{Session, IsSession}
-use Rattle.core_laws.specs.Steps.{Core}
+use Rattle.core_model.specs.declared.items.Item.{Item}
+use Rattle.core_model.specs.declared.zones.ZoneData.{ZoneData}
+use Rattle.core_model.specs.declared.zones.ZoneData.TheVariants as at
+use Rattle.core_model.specs.declared.zones.Logged.{Logged}
+use Rattle.core_model.specs.declared.zones.Zone.{Zone}
+use Rattle.core_model.specs.Facts.{ItemOk, DataOk, ZoneOk}
+use Rattle.core_model.specs.Legal.{Legal}
+use Rattle.core_model.specs.Numbers.{desk_zone, logical_zone, physical_zone}
+use Rattle.core_model.specs.Sessions.{Session, IsSession}
+use Rattle.core_model.specs.Steps.{Core}
 use Rattle.plain_laws.specs.Sums.{Each}
-use Rattle.core_laws.specs.Tokens.{weight, given, in_log, begins_of, request_token, lease_token, holder_weight, of_vio}
-use Rattle.core_laws.specs.Trace.{Says, Flushes, Draws, Sets, Gives, Takes, Aborts, Trace, Gift, lines}
+use Rattle.core_model.specs.Tokens.{weight, given, in_log, begins_of, request_token, lease_token, holder_weight, of_vio}
+use Rattle.core_model.specs.Trace.{Says, Flushes, Draws, Sets, Gives, Takes, Aborts, Trace, Gift, lines}
 use Rattle.core_laws.proofs.kept.Carried.{SparesItem}
 use Rattle.core_laws.proofs.trace.DeskOfTrace.{desk_log_right}
 use Rattle.core_laws.proofs.kept.Elsewhere.{LacksRequest, LacksLock, SealedEnters, spares_answer, spares_flush, spares_draw, spares_set, spares_give, spares_take, spares_abort}

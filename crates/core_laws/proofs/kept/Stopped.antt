@@ -3,17 +3,17 @@ use Rattle.std.proofs.Common.{◌≡◌, ℕ, ◌≤◌, Bool, true, false, cond
 use Rattle.blk_base.specs.declared.request.Answer.TheVariants as reply
 use Rattle.blk_base.specs.declared.request.Writer.{Writer}
 use Rattle.vdo_model.specs.DeskLog.{answer_of}
-use Rattle.core_laws.specs.declared.zones.ZoneData.{ZoneData}
-use Rattle.core_laws.specs.declared.zones.ZoneData.TheVariants as at
-use Rattle.core_laws.specs.declared.zones.DeviceZone.{DeviceZone}
-use Rattle.core_laws.specs.declared.zones.Zone.{Zone}
-use Rattle.core_laws.specs.Facts.{DataOk, DeskOk}
-use Rattle.core_laws.specs.Legal.{Legal}
-use Rattle.core_laws.specs.Numbers.{desk_zone, device_zone, notified_zones}
-use Rattle.core_laws.specs.Sessions.{Session}
-use Rattle.core_laws.specs.Steps.{Core}
-use Rattle.core_laws.specs.Tokens.{weight, given, notice_token, heard_at, notified_by}
-use Rattle.core_laws.specs.Trace.{lines}
+use Rattle.core_model.specs.declared.zones.ZoneData.{ZoneData}
+use Rattle.core_model.specs.declared.zones.ZoneData.TheVariants as at
+use Rattle.core_model.specs.declared.zones.DeviceZone.{DeviceZone}
+use Rattle.core_model.specs.declared.zones.Zone.{Zone}
+use Rattle.core_model.specs.Facts.{DataOk, DeskOk}
+use Rattle.core_model.specs.Legal.{Legal}
+use Rattle.core_model.specs.Numbers.{desk_zone, device_zone, notified_zones}
+use Rattle.core_model.specs.Sessions.{Session}
+use Rattle.core_model.specs.Steps.{Core}
+use Rattle.core_model.specs.Tokens.{weight, given, notice_token, heard_at, notified_by}
+use Rattle.core_model.specs.Trace.{lines}
 use Rattle.plain_laws.proofs.ListLaws.{total-get, total_alone}
 use Rattle.core_laws.proofs.kept.ZoneKinds.{desk_sits}
 

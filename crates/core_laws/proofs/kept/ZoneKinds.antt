@@ -1,14 +1,14 @@
 -- Each number has its kind of zone, and what is given out once is given out by one zone.
 use Rattle.std.proofs.Common.{◌≡◌, ℕ, zero, suc, ◌<◌, ◌≤◌, List, [], ◌∷◌, length, Some, slice_get, refl, subst, arith}
-use Rattle.core_laws.specs.declared.zones.ZoneData.{ZoneData}
-use Rattle.core_laws.specs.declared.zones.ZoneData.TheVariants as at
-use Rattle.core_laws.specs.declared.zones.Zone.{Zone}
-use Rattle.core_laws.specs.Facts.{DataOk, ZoneOk}
-use Rattle.core_laws.specs.Numbers.{desk_zone, logical_zone, physical_zone, journal_zone, device_zone, zone_count}
-use Rattle.core_laws.specs.Sessions.{Session}
+use Rattle.core_model.specs.declared.zones.ZoneData.{ZoneData}
+use Rattle.core_model.specs.declared.zones.ZoneData.TheVariants as at
+use Rattle.core_model.specs.declared.zones.Zone.{Zone}
+use Rattle.core_model.specs.Facts.{DataOk, ZoneOk}
+use Rattle.core_model.specs.Numbers.{desk_zone, logical_zone, physical_zone, journal_zone, device_zone, zone_count}
+use Rattle.core_model.specs.Sessions.{Session}
 use Rattle.plain_laws.specs.Sums.{total, Each}
-use Rattle.core_laws.specs.Tokens.{given, journal_token, block_token, one_journal, one_physical}
-use Rattle.core_laws.specs.Trace.{Trace}
+use Rattle.core_model.specs.Tokens.{given, journal_token, block_token, one_journal, one_physical}
+use Rattle.core_model.specs.Trace.{Trace}
 use Rattle.plain_laws.proofs.ListLaws.{total_zero}
 
 -- what stands at a number below the length

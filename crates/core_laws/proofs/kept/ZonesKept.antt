@@ -3,19 +3,19 @@ use Rattle.std.proofs.Common.{◌≡◌, ℕ, zero, suc, Bool, true, false, Opti
 use Rattle.std.specs.List.{AllByRecursion}
 use Rattle.vdo_model.specs.FlushMarks.{successes}
 use Rattle.vdo_model.specs.Places.{drawn, zone_of}
-use Rattle.core_laws.specs.declared.items.Item.{Item}
-use Rattle.core_laws.specs.declared.items.Phase.TheVariants as phase
-use Rattle.core_laws.specs.declared.zones.ZoneData.{ZoneData}
-use Rattle.core_laws.specs.declared.zones.ZoneData.TheVariants as at
-use Rattle.core_laws.specs.declared.zones.LogicalZone.{LogicalZone}
-use Rattle.core_laws.specs.declared.zones.Zone.{Zone}
+use Rattle.core_model.specs.declared.items.Item.{Item}
+use Rattle.core_model.specs.declared.items.Phase.TheVariants as phase
+use Rattle.core_model.specs.declared.zones.ZoneData.{ZoneData}
+use Rattle.core_model.specs.declared.zones.ZoneData.TheVariants as at
+use Rattle.core_model.specs.declared.zones.LogicalZone.{LogicalZone}
+use Rattle.core_model.specs.declared.zones.Zone.{Zone}
 use Rattle.vdo_model.specs.ZoneOrder.{places_in}
-use Rattle.core_laws.specs.Facts.{WaitsOk, ItemOk, DataOk, RestsAt, ZoneOk}
-use Rattle.core_laws.specs.LogicalRows.{is_held}
-use Rattle.core_laws.specs.RightTraces.{AllBelow}
-use Rattle.core_laws.specs.Sessions.{Session}
+use Rattle.core_model.specs.Facts.{WaitsOk, ItemOk, DataOk, RestsAt, ZoneOk}
+use Rattle.core_model.specs.LogicalRows.{is_held}
+use Rattle.core_model.specs.RightTraces.{AllBelow}
+use Rattle.core_model.specs.Sessions.{Session}
 use Rattle.plain_laws.specs.Sums.{Each}
-use Rattle.core_laws.specs.Trace.{Happening, Trace, lines, calls, marks, places, entered, committed, settled, taken, has_stopped, of_address}
+use Rattle.core_model.specs.Trace.{Happening, Trace, lines, calls, marks, places, entered, committed, settled, taken, has_stopped, of_address}
 use Rattle.core_laws.proofs.kept.Spared.{SparesAddress, quiet_kept, stop_kept, abort_kept}
 use Rattle.core_laws.proofs.kept.StandsOn.{SparesJournal, SparesBlocks, SparesEntries, rests_kept, pending_kept}
 use Rattle.core_laws.proofs.kept.Carried.{SparesVio, SparesItem, kept_kept, item_kept}

@@ -5,19 +5,19 @@ use Rattle.std.proofs.lemmas.Option.{same_Some}
 use Rattle.blk_base.specs.declared.request.Writer.{Writer}
 use Rattle.vdo_model.specs.DeskLog.{begun}
 use Rattle.vdo_model.specs.declared.report.Placed.{Placed}
-use Rattle.core_laws.specs.declared.items.Item.{Item}
-use Rattle.core_laws.specs.declared.items.Item.TheVariants as item
-use Rattle.core_laws.specs.declared.items.Phase.{Phase}
-use Rattle.core_laws.specs.declared.items.Phase.TheVariants as phase
-use Rattle.core_laws.specs.declared.zones.ZoneData.{ZoneData}
-use Rattle.core_laws.specs.declared.zones.ZoneData.TheVariants as at
-use Rattle.core_laws.specs.declared.zones.Zone.{Zone}
-use Rattle.core_laws.specs.Facts.{ItemOk, DataOk, KeptOk, WaitsOk, arriving, arrival, arrivals}
-use Rattle.core_laws.specs.Legal.{ComesAfter, InOrder}
-use Rattle.core_laws.specs.Sessions.{Session}
-use Rattle.core_laws.specs.Steps.{posted, sent_to, sent, delivered}
-use Rattle.core_laws.specs.Trace.{Trace, lines}
-use Rattle.core_laws.specs.Vios.{Post}
+use Rattle.core_model.specs.declared.items.Item.{Item}
+use Rattle.core_model.specs.declared.items.Item.TheVariants as item
+use Rattle.core_model.specs.declared.items.Phase.{Phase}
+use Rattle.core_model.specs.declared.items.Phase.TheVariants as phase
+use Rattle.core_model.specs.declared.zones.ZoneData.{ZoneData}
+use Rattle.core_model.specs.declared.zones.ZoneData.TheVariants as at
+use Rattle.core_model.specs.declared.zones.Zone.{Zone}
+use Rattle.core_model.specs.Facts.{ItemOk, DataOk, KeptOk, WaitsOk, arriving, arrival, arrivals}
+use Rattle.core_model.specs.Legal.{ComesAfter, InOrder}
+use Rattle.core_model.specs.Sessions.{Session}
+use Rattle.core_model.specs.Steps.{posted, sent_to, sent, delivered}
+use Rattle.core_model.specs.Trace.{Trace, lines}
+use Rattle.core_model.specs.Vios.{Post}
 use Rattle.plain_laws.proofs.ListLaws.{every-append, every-map}
 use Rattle.core_laws.proofs.tokens.LeaseTokens.{KeptIn}
 use Rattle.core_laws.proofs.kept.Arrivals.{Still}

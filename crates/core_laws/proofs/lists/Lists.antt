@@ -1,8 +1,8 @@
 -- Lists of lists of items, after an item was posted to one of them.
 use Rattle.std.proofs.Common.{◌≡◌, ℕ, zero, suc, ◌+◌, ◌<◌, List, [], ◌∷◌, length, refl, ap, arith}
 use Rattle.std.specs.List.{AllByRecursion}
-use Rattle.core_laws.specs.declared.items.Item.{Item}
-use Rattle.core_laws.specs.Steps.{posted}
+use Rattle.core_model.specs.declared.items.Item.{Item}
+use Rattle.core_model.specs.Steps.{posted}
 use Rattle.plain_laws.specs.Sums.{total}
 use Rattle.plain_laws.proofs.ListLaws.{total-append, every-append}
 

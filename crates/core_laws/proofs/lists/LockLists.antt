@@ -4,12 +4,12 @@ use Rattle.std.proofs.lemmas.Bool.{cases_Bool}
 use Rattle.std.proofs.lemmas.Option.{same_Some}
 use Rattle.std.specs.List.{AllByRecursion}
 use Rattle.std.proofs.lemmas.Bool.Decides.{eqb_tells}
-use Rattle.core_laws.specs.declared.items.Vio.{Vio}
-use Rattle.core_laws.specs.declared.zones.Lock.{Lock}
-use Rattle.core_laws.specs.Facts.{Rises}
-use Rattle.core_laws.specs.LogicalRows.{is_held, without, first_for, but_first_for, all_for, none_for}
+use Rattle.core_model.specs.declared.items.Vio.{Vio}
+use Rattle.core_model.specs.declared.zones.Lock.{Lock}
+use Rattle.core_model.specs.Facts.{Rises}
+use Rattle.core_model.specs.LogicalRows.{is_held, without, first_for, but_first_for, all_for, none_for}
 use Rattle.plain_laws.specs.Sums.{total}
-use Rattle.core_laws.specs.Tokens.{lock_weight}
+use Rattle.core_model.specs.Tokens.{lock_weight}
 
 pub or_none : (a b : Bool) → (a || b) ≡ false → (a ≡ false) × (b ≡ false)
 or_none true b h = absurd cc

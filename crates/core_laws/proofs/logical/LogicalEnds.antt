@@ -9,25 +9,25 @@ use Rattle.blk_base.specs.declared.request.Answer.TheVariants as reply
 use Rattle.blk_base.specs.declared.request.Request.TheVariants as request
 use Rattle.byte_fields.specs.Mappings.{HoldsMapping}
 use Rattle.vdo_model.specs.Places.{zone_of}
-use Rattle.core_laws.specs.declared.items.Asks.{Asks}
-use Rattle.core_laws.specs.declared.items.Asks.TheVariants.{Read, Write, Flush}
-use Rattle.core_laws.specs.declared.items.Item.TheVariants as item
-use Rattle.core_laws.specs.declared.items.Phase.{Phase}
-use Rattle.core_laws.specs.declared.items.Phase.TheVariants as phase
-use Rattle.core_laws.specs.declared.items.Vio.{Vio}
-use Rattle.core_laws.specs.declared.zones.ZoneData.TheVariants as at
-use Rattle.core_laws.specs.declared.zones.LogicalZone.{LogicalZone}
-use Rattle.core_laws.specs.declared.zones.Logged.{Logged}
-use Rattle.core_laws.specs.DeskRows.{is_marked}
-use Rattle.core_laws.specs.DeviceRows.{IsInside}
-use Rattle.core_laws.specs.Facts.{VioOk, Holds, Looks, IsEntered, MayReply, IsEarned, Carries, WaitsOk, LogicalOk, ItemOk, zone_at}
-use Rattle.core_laws.specs.Legal.{ComesAfter}
-use Rattle.core_laws.specs.LogicalRows.{is_among, is_held, mapping_at, LogicalServes, arrives_retired, arrives_free, arrives_held, settles, gives, aborts, aborts_entered, released, granted, retire, all_stopped, all_for, with_slot}
-use Rattle.core_laws.specs.RightTraces.{RightTrace, SlotMayFollow, GiftMayFollow, Quiet, IsCommitted, AllBelow, HasCause}
-use Rattle.core_laws.specs.Sessions.{Session, IsSession, IsFresh, HasHonestReads, value_at}
-use Rattle.core_laws.specs.Tokens.{holds}
-use Rattle.core_laws.specs.Trace.{Sets, Gives, Aborts, Trace, Gift, places, entered, settled, has_stopped, of_address}
-use Rattle.core_laws.specs.Vios.{Post, turned, ended, logged, gift, asked}
+use Rattle.core_model.specs.declared.items.Asks.{Asks}
+use Rattle.core_model.specs.declared.items.Asks.TheVariants.{Read, Write, Flush}
+use Rattle.core_model.specs.declared.items.Item.TheVariants as item
+use Rattle.core_model.specs.declared.items.Phase.{Phase}
+use Rattle.core_model.specs.declared.items.Phase.TheVariants as phase
+use Rattle.core_model.specs.declared.items.Vio.{Vio}
+use Rattle.core_model.specs.declared.zones.ZoneData.TheVariants as at
+use Rattle.core_model.specs.declared.zones.LogicalZone.{LogicalZone}
+use Rattle.core_model.specs.declared.zones.Logged.{Logged}
+use Rattle.core_model.specs.DeskRows.{is_marked}
+use Rattle.core_model.specs.DeviceRows.{IsInside}
+use Rattle.core_model.specs.Facts.{VioOk, Holds, Looks, IsEntered, MayReply, IsEarned, Carries, WaitsOk, LogicalOk, ItemOk, zone_at}
+use Rattle.core_model.specs.Legal.{ComesAfter}
+use Rattle.core_model.specs.LogicalRows.{is_among, is_held, mapping_at, LogicalServes, arrives_retired, arrives_free, arrives_held, settles, gives, aborts, aborts_entered, released, granted, retire, all_stopped, all_for, with_slot}
+use Rattle.core_model.specs.RightTraces.{RightTrace, SlotMayFollow, GiftMayFollow, Quiet, IsCommitted, AllBelow, HasCause}
+use Rattle.core_model.specs.Sessions.{Session, IsSession, IsFresh, HasHonestReads, value_at}
+use Rattle.core_model.specs.Tokens.{holds}
+use Rattle.core_model.specs.Trace.{Sets, Gives, Aborts, Trace, Gift, places, entered, settled, has_stopped, of_address}
+use Rattle.core_model.specs.Vios.{Post, turned, ended, logged, gift, asked}
 use Rattle.core_laws.proofs.trace.DeskOfTrace.{shown_of}
 use Rattle.core_laws.proofs.kept.ActKept.{PostOk, ActKept, shown_kept}
 use Rattle.core_laws.proofs.kept.Carried.{kept_kept, reply_said}

@@ -11,24 +11,24 @@ use Rattle.vdo_model.specs.Scripts.{request_at, same_writer}
 use Rattle.vdo_model.specs.declared.report.DeskLine.{DeskLine}
 use Rattle.vdo_model.specs.declared.report.DeskLine.TheVariants as line
 use Rattle.vdo_model.specs.declared.report.Placed.{Placed}
-use Rattle.core_laws.specs.declared.items.Asks.{Asks}
-use Rattle.core_laws.specs.declared.items.Asks.TheVariants.{Read, Write, Flush}
-use Rattle.core_laws.specs.declared.items.Item.TheVariants as item
-use Rattle.core_laws.specs.declared.items.Phase.{Phase}
-use Rattle.core_laws.specs.declared.items.Phase.TheVariants as phase
-use Rattle.core_laws.specs.declared.items.Vio.{Vio}
-use Rattle.core_laws.specs.declared.zones.ZoneData.TheVariants as at
-use Rattle.core_laws.specs.declared.zones.Lock.{Lock}
-use Rattle.core_laws.specs.declared.zones.LogicalZone.{LogicalZone}
-use Rattle.core_laws.specs.Facts.{VioOk, HasAddress, IsUnplaced, IsPlaced, Carries, KeptOk, WaitsOk, LogicalOk, LockOk, ItemOk, zone_at}
-use Rattle.core_laws.specs.Legal.{ComesAfter}
-use Rattle.core_laws.specs.LogicalRows.{is_among, is_held, lock_of, placed, place_of_vio, drawn_by, goes_on}
-use Rattle.core_laws.specs.RightTraces.{RightTrace, GivesRight, PlaceMayFollow, Quiet, AllBelow, HasPlace}
-use Rattle.core_laws.specs.Sessions.{Session, HasHonestReads}
+use Rattle.core_model.specs.declared.items.Asks.{Asks}
+use Rattle.core_model.specs.declared.items.Asks.TheVariants.{Read, Write, Flush}
+use Rattle.core_model.specs.declared.items.Item.TheVariants as item
+use Rattle.core_model.specs.declared.items.Phase.{Phase}
+use Rattle.core_model.specs.declared.items.Phase.TheVariants as phase
+use Rattle.core_model.specs.declared.items.Vio.{Vio}
+use Rattle.core_model.specs.declared.zones.ZoneData.TheVariants as at
+use Rattle.core_model.specs.declared.zones.Lock.{Lock}
+use Rattle.core_model.specs.declared.zones.LogicalZone.{LogicalZone}
+use Rattle.core_model.specs.Facts.{VioOk, HasAddress, IsUnplaced, IsPlaced, Carries, KeptOk, WaitsOk, LogicalOk, LockOk, ItemOk, zone_at}
+use Rattle.core_model.specs.Legal.{ComesAfter}
+use Rattle.core_model.specs.LogicalRows.{is_among, is_held, lock_of, placed, place_of_vio, drawn_by, goes_on}
+use Rattle.core_model.specs.RightTraces.{RightTrace, GivesRight, PlaceMayFollow, Quiet, AllBelow, HasPlace}
+use Rattle.core_model.specs.Sessions.{Session, HasHonestReads}
 use Rattle.plain_laws.specs.Sums.{total}
-use Rattle.core_laws.specs.Tokens.{lock_weight, holds}
-use Rattle.core_laws.specs.Trace.{Happening, Draws, Trace, lines, places, entered, aborted}
-use Rattle.core_laws.specs.Vios.{Post, turned, ended, asked}
+use Rattle.core_model.specs.Tokens.{lock_weight, holds}
+use Rattle.core_model.specs.Trace.{Happening, Draws, Trace, lines, places, entered, aborted}
+use Rattle.core_model.specs.Vios.{Post, turned, ended, asked}
 use Rattle.core_laws.proofs.trace.DeskOfTrace.{shown_of}
 use Rattle.core_laws.proofs.kept.ActKept.{ActKept, shown_kept}
 use Rattle.core_laws.proofs.kept.Carried.{SparesVio, kept_kept}

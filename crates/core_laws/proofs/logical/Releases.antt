@@ -11,25 +11,25 @@ use Rattle.blk_base.specs.declared.request.Request.{Request}
 use Rattle.image_layout.specs.Window.{mapping_of, value_in}
 use Rattle.vdo_model.specs.Places.{zone_of}
 use Rattle.vdo_model.specs.Scripts.{request_at}
-use Rattle.core_laws.specs.declared.items.Asks.{Asks}
-use Rattle.core_laws.specs.declared.items.Asks.TheVariants.{Read, Write, Flush}
-use Rattle.core_laws.specs.declared.items.Item.TheVariants as item
-use Rattle.core_laws.specs.declared.items.Phase.{Phase}
-use Rattle.core_laws.specs.declared.items.Phase.TheVariants as phase
-use Rattle.core_laws.specs.declared.items.Vio.{Vio}
-use Rattle.core_laws.specs.declared.zones.Lock.{Lock}
-use Rattle.core_laws.specs.declared.zones.LogicalZone.{LogicalZone}
-use Rattle.core_laws.specs.declared.zones.Logged.{Logged}
-use Rattle.core_laws.specs.DeskRows.{is_marked}
-use Rattle.core_laws.specs.Facts.{VioOk, IsPlaced, Holds, Looks, IsEarned, Carries, KeptOk, WaitsOk, LogicalOk, LockOk}
-use Rattle.core_laws.specs.LogicalRows.{is_among, is_held, without, first_for, but_first_for, all_for, none_for, lock_of, latest_at, mapped_by, mapping_at, looked, read_next, goes_on, passed_to, released, granted, retire, all_stopped}
-use Rattle.core_laws.specs.Numbers.{logical_zone, zone_count}
-use Rattle.core_laws.specs.RightTraces.{RightTrace, Quiet, AllBelow, HasBelow, HasCause}
-use Rattle.core_laws.specs.Sessions.{Session, value_from, value_at}
+use Rattle.core_model.specs.declared.items.Asks.{Asks}
+use Rattle.core_model.specs.declared.items.Asks.TheVariants.{Read, Write, Flush}
+use Rattle.core_model.specs.declared.items.Item.TheVariants as item
+use Rattle.core_model.specs.declared.items.Phase.{Phase}
+use Rattle.core_model.specs.declared.items.Phase.TheVariants as phase
+use Rattle.core_model.specs.declared.items.Vio.{Vio}
+use Rattle.core_model.specs.declared.zones.Lock.{Lock}
+use Rattle.core_model.specs.declared.zones.LogicalZone.{LogicalZone}
+use Rattle.core_model.specs.declared.zones.Logged.{Logged}
+use Rattle.core_model.specs.DeskRows.{is_marked}
+use Rattle.core_model.specs.Facts.{VioOk, IsPlaced, Holds, Looks, IsEarned, Carries, KeptOk, WaitsOk, LogicalOk, LockOk}
+use Rattle.core_model.specs.LogicalRows.{is_among, is_held, without, first_for, but_first_for, all_for, none_for, lock_of, latest_at, mapped_by, mapping_at, looked, read_next, goes_on, passed_to, released, granted, retire, all_stopped}
+use Rattle.core_model.specs.Numbers.{logical_zone, zone_count}
+use Rattle.core_model.specs.RightTraces.{RightTrace, Quiet, AllBelow, HasBelow, HasCause}
+use Rattle.core_model.specs.Sessions.{Session, value_from, value_at}
 use Rattle.plain_laws.specs.Sums.{total, bit}
-use Rattle.core_laws.specs.Tokens.{lock_weight}
-use Rattle.core_laws.specs.Trace.{Trace, Gift, settled, aborted, gifts, has_stopped, of_address, newest, entries_of}
-use Rattle.core_laws.specs.Vios.{Post, asked, request_of, turned, ended}
+use Rattle.core_model.specs.Tokens.{lock_weight}
+use Rattle.core_model.specs.Trace.{Trace, Gift, settled, aborted, gifts, has_stopped, of_address, newest, entries_of}
+use Rattle.core_model.specs.Vios.{Post, asked, request_of, turned, ended}
 use Rattle.core_laws.proofs.kept.ActKept.{PostOk, unentered_slot}
 use Rattle.core_laws.proofs.tokens.LeaseTokens.{Leased, without_same, without_other}
 use Rattle.core_laws.proofs.lists.LockLists.{or_none, held_without, every_without, has_lock, every_but_first, every_none_for, every_all_for, first_has, none_first, rises_but_first, rises_none_for, first_below}

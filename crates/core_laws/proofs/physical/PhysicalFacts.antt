@@ -6,20 +6,20 @@ use Rattle.blk_base.specs.declared.place.Pbn.{Pbn}
 use Rattle.blk_base.specs.declared.request.Answer.{Answer}
 use Rattle.blk_base.specs.declared.request.Answer.TheVariants as reply
 use Rattle.vdo_model.specs.Places.{zone_of}
-use Rattle.core_laws.specs.declared.items.Item.TheVariants as item
-use Rattle.core_laws.specs.declared.items.Phase.{Phase}
-use Rattle.core_laws.specs.declared.items.Phase.TheVariants as phase
-use Rattle.core_laws.specs.declared.items.Vio.{Vio}
-use Rattle.core_laws.specs.declared.zones.ZoneData.{ZoneData}
-use Rattle.core_laws.specs.declared.zones.ZoneData.TheVariants as at
-use Rattle.core_laws.specs.declared.zones.PhysicalZone.{PhysicalZone}
-use Rattle.core_laws.specs.Facts.{ItemOk, DataOk, PhysicalOk, VioOk, Holds, IsEntered, Carries}
-use Rattle.core_laws.specs.JournalRows.{PhysicalServes}
-use Rattle.core_laws.specs.Numbers.{desk_zone, device_zone, zone_count}
-use Rattle.core_laws.specs.RightTraces.{RightTrace, TakeMayFollow, IsFull}
-use Rattle.core_laws.specs.Sessions.{Session, IsSession, IsFresh}
-use Rattle.core_laws.specs.Trace.{Happening, Takes, Trace, entered, taken, has_stopped}
-use Rattle.core_laws.specs.Vios.{Post, asked, turned}
+use Rattle.core_model.specs.declared.items.Item.TheVariants as item
+use Rattle.core_model.specs.declared.items.Phase.{Phase}
+use Rattle.core_model.specs.declared.items.Phase.TheVariants as phase
+use Rattle.core_model.specs.declared.items.Vio.{Vio}
+use Rattle.core_model.specs.declared.zones.ZoneData.{ZoneData}
+use Rattle.core_model.specs.declared.zones.ZoneData.TheVariants as at
+use Rattle.core_model.specs.declared.zones.PhysicalZone.{PhysicalZone}
+use Rattle.core_model.specs.Facts.{ItemOk, DataOk, PhysicalOk, VioOk, Holds, IsEntered, Carries}
+use Rattle.core_model.specs.JournalRows.{PhysicalServes}
+use Rattle.core_model.specs.Numbers.{desk_zone, device_zone, zone_count}
+use Rattle.core_model.specs.RightTraces.{RightTrace, TakeMayFollow, IsFull}
+use Rattle.core_model.specs.Sessions.{Session, IsSession, IsFresh}
+use Rattle.core_model.specs.Trace.{Happening, Takes, Trace, entered, taken, has_stopped}
+use Rattle.core_model.specs.Vios.{Post, asked, turned}
 use Rattle.core_laws.proofs.kept.ActKept.{ActKept, PostOk, shown_kept}
 use Rattle.core_laws.proofs.kept.Carried.{vio_kept, holds_kept}
 use Rattle.core_laws.proofs.trace.DeskOfTrace.{shown_of}

@@ -3,20 +3,20 @@ use Rattle.std.proofs.Common.{◌≡◌, ◌≢◌, ℕ, true, List, [], ◌∷�
 use Rattle.std.proofs.lemmas.Bool.Decides.{eqb_tells}
 use Rattle.std.proofs.lemmas.Option.{same_Some}
 use Rattle.std.specs.List.{AllByRecursion}
-use Rattle.core_laws.specs.declared.items.Item.{Item}
-use Rattle.core_laws.specs.declared.items.Item.TheVariants.{Request, Block}
-use Rattle.core_laws.specs.declared.items.SealedBlock.{SealedBlock}
-use Rattle.core_laws.specs.declared.items.Vio.{Vio}
-use Rattle.core_laws.specs.declared.zones.ZoneData.TheVariants as at
-use Rattle.core_laws.specs.declared.zones.JournalZone.{JournalZone}
-use Rattle.core_laws.specs.declared.zones.Logged.{Logged}
-use Rattle.core_laws.specs.declared.zones.Zone.{Zone}
-use Rattle.core_laws.specs.Facts.{DataOk, ZoneOk}
-use Rattle.core_laws.specs.Numbers.{journal_zone, zone_count}
-use Rattle.core_laws.specs.Sessions.{Session}
+use Rattle.core_model.specs.declared.items.Item.{Item}
+use Rattle.core_model.specs.declared.items.Item.TheVariants.{Request, Block}
+use Rattle.core_model.specs.declared.items.SealedBlock.{SealedBlock}
+use Rattle.core_model.specs.declared.items.Vio.{Vio}
+use Rattle.core_model.specs.declared.zones.ZoneData.TheVariants as at
+use Rattle.core_model.specs.declared.zones.JournalZone.{JournalZone}
+use Rattle.core_model.specs.declared.zones.Logged.{Logged}
+use Rattle.core_model.specs.declared.zones.Zone.{Zone}
+use Rattle.core_model.specs.Facts.{DataOk, ZoneOk}
+use Rattle.core_model.specs.Numbers.{journal_zone, zone_count}
+use Rattle.core_model.specs.Sessions.{Session}
 use Rattle.plain_laws.specs.Sums.{total, Each}
-use Rattle.core_laws.specs.Tokens.{weight, Balanced, AtMost, block_token, journal_token, claims, is_entry, blocks_at, idle_at}
-use Rattle.core_laws.specs.Trace.{Trace, entered}
+use Rattle.core_model.specs.Tokens.{weight, Balanced, AtMost, block_token, journal_token, claims, is_entry, blocks_at, idle_at}
+use Rattle.core_model.specs.Trace.{Trace, entered}
 use Rattle.core_laws.proofs.tokens.Owners.{has_none, alone, balanced_most, journal_is_busy, idle_none}
 use Rattle.core_laws.proofs.kept.ZoneKinds.{journal_once, block_once, journal_sits}
 

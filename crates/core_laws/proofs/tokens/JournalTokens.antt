@@ -2,34 +2,34 @@
 use Rattle.std.proofs.Common.{◌≡◌, Bool, true, false, not, List, [], ◌∷◌, refl, ap, arith}
 use Rattle.std.specs.List.{AllByRecursion}
 use Rattle.blk_base.specs.declared.request.Answer.TheVariants as reply
-use Rattle.core_laws.specs.declared.items.Item.{Item}
-use Rattle.core_laws.specs.declared.items.Item.TheVariants.{Request, Block}
-use Rattle.core_laws.specs.declared.items.Phase.TheVariants as phase
-use Rattle.core_laws.specs.declared.items.SealedBlock.{SealedBlock}
-use Rattle.core_laws.specs.declared.items.Vio.{Vio}
-use Rattle.core_laws.specs.declared.sizes.Sizes.{Sizes}
-use Rattle.core_laws.specs.declared.zones.ZoneData.{ZoneData}
-use Rattle.core_laws.specs.declared.zones.ZoneData.TheVariants as at
-use Rattle.core_laws.specs.declared.zones.Desk.{Desk}
-use Rattle.core_laws.specs.declared.zones.DeviceZone.{DeviceZone}
-use Rattle.core_laws.specs.declared.zones.JournalZone.{JournalZone}
-use Rattle.core_laws.specs.declared.zones.LogicalZone.{LogicalZone}
-use Rattle.core_laws.specs.declared.zones.PhysicalZone.{PhysicalZone}
-use Rattle.core_laws.specs.DeskRows.{DeskBegins, DeskServes}
-use Rattle.core_laws.specs.DeskRows as desk
-use Rattle.core_laws.specs.DeviceRows.{DeviceServes, DeviceWorks}
-use Rattle.core_laws.specs.DeviceRows as device
-use Rattle.core_laws.specs.JournalRows.{PhysicalServes, JournalServes, JournalEnds}
-use Rattle.core_laws.specs.JournalRows as journal
-use Rattle.core_laws.specs.LogicalRows.{LogicalServes, placed, with_slot, all_for}
-use Rattle.core_laws.specs.LogicalRows as logical
-use Rattle.core_laws.specs.Numbers.{notified_zones}
-use Rattle.core_laws.specs.Steps.{Act}
-use Rattle.core_laws.specs.Steps as act
+use Rattle.core_model.specs.declared.items.Item.{Item}
+use Rattle.core_model.specs.declared.items.Item.TheVariants.{Request, Block}
+use Rattle.core_model.specs.declared.items.Phase.TheVariants as phase
+use Rattle.core_model.specs.declared.items.SealedBlock.{SealedBlock}
+use Rattle.core_model.specs.declared.items.Vio.{Vio}
+use Rattle.core_model.specs.declared.sizes.Sizes.{Sizes}
+use Rattle.core_model.specs.declared.zones.ZoneData.{ZoneData}
+use Rattle.core_model.specs.declared.zones.ZoneData.TheVariants as at
+use Rattle.core_model.specs.declared.zones.Desk.{Desk}
+use Rattle.core_model.specs.declared.zones.DeviceZone.{DeviceZone}
+use Rattle.core_model.specs.declared.zones.JournalZone.{JournalZone}
+use Rattle.core_model.specs.declared.zones.LogicalZone.{LogicalZone}
+use Rattle.core_model.specs.declared.zones.PhysicalZone.{PhysicalZone}
+use Rattle.core_model.specs.DeskRows.{DeskBegins, DeskServes}
+use Rattle.core_model.specs.DeskRows as desk
+use Rattle.core_model.specs.DeviceRows.{DeviceServes, DeviceWorks}
+use Rattle.core_model.specs.DeviceRows as device
+use Rattle.core_model.specs.JournalRows.{PhysicalServes, JournalServes, JournalEnds}
+use Rattle.core_model.specs.JournalRows as journal
+use Rattle.core_model.specs.LogicalRows.{LogicalServes, placed, with_slot, all_for}
+use Rattle.core_model.specs.LogicalRows as logical
+use Rattle.core_model.specs.Numbers.{notified_zones}
+use Rattle.core_model.specs.Steps.{Act}
+use Rattle.core_model.specs.Steps as act
 use Rattle.plain_laws.specs.Sums.{total, bit}
-use Rattle.core_laws.specs.Tokens.{journal_token}
-use Rattle.core_laws.specs.Trace.{Trace}
-use Rattle.core_laws.specs.Vios.{Post, turned}
+use Rattle.core_model.specs.Tokens.{journal_token}
+use Rattle.core_model.specs.Trace.{Trace}
+use Rattle.core_model.specs.Vios.{Post, turned}
 use Rattle.plain_laws.proofs.ListLaws.{total-append, every_one}
 use Rattle.core_laws.proofs.tokens.Lift.{Conserves}
 use Rattle.core_laws.proofs.tokens.Posts.{split_for, of_request, Weighs, woken_weigh, refused_weigh, stopped_weigh, notices_none, goes_weigh, granted_weigh}

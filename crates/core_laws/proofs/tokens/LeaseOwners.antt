@@ -2,24 +2,24 @@
 use Rattle.std.proofs.Common.{◌≡◌, ℕ, ◌+◌, ◌<◌, ◌≤◌, Bool, true, false, not, ◌&&◌, ◌==◌, List, [], ◌∷◌, Some, slice_get, refl, sym, ◌∙◌, ap, subst, inl, inr, arith}
 use Rattle.std.specs.List.{AllByRecursion}
 use Rattle.std.proofs.lemmas.Bool.Decides.{eqb_tells}
-use Rattle.core_laws.specs.declared.items.Item.{Item}
-use Rattle.core_laws.specs.declared.items.Item.TheVariants as item
-use Rattle.core_laws.specs.declared.items.Phase.{Phase}
-use Rattle.core_laws.specs.declared.items.Phase.TheVariants as phase
-use Rattle.core_laws.specs.declared.items.Vio.{Vio}
-use Rattle.core_laws.specs.declared.sizes.Sizes.{Sizes}
-use Rattle.core_laws.specs.declared.zones.ZoneData.{ZoneData}
-use Rattle.core_laws.specs.declared.zones.ZoneData.TheVariants as at
-use Rattle.core_laws.specs.declared.zones.Lock.{Lock}
-use Rattle.core_laws.specs.declared.zones.LogicalZone.{LogicalZone}
-use Rattle.core_laws.specs.declared.zones.Zone.{Zone}
-use Rattle.core_laws.specs.Facts.{ItemOk, LockOk, DataOk, ZoneOk, zone_at}
-use Rattle.core_laws.specs.LogicalRows.{is_held}
-use Rattle.core_laws.specs.Numbers.{logical_zone}
-use Rattle.core_laws.specs.Sessions.{Session}
+use Rattle.core_model.specs.declared.items.Item.{Item}
+use Rattle.core_model.specs.declared.items.Item.TheVariants as item
+use Rattle.core_model.specs.declared.items.Phase.{Phase}
+use Rattle.core_model.specs.declared.items.Phase.TheVariants as phase
+use Rattle.core_model.specs.declared.items.Vio.{Vio}
+use Rattle.core_model.specs.declared.sizes.Sizes.{Sizes}
+use Rattle.core_model.specs.declared.zones.ZoneData.{ZoneData}
+use Rattle.core_model.specs.declared.zones.ZoneData.TheVariants as at
+use Rattle.core_model.specs.declared.zones.Lock.{Lock}
+use Rattle.core_model.specs.declared.zones.LogicalZone.{LogicalZone}
+use Rattle.core_model.specs.declared.zones.Zone.{Zone}
+use Rattle.core_model.specs.Facts.{ItemOk, LockOk, DataOk, ZoneOk, zone_at}
+use Rattle.core_model.specs.LogicalRows.{is_held}
+use Rattle.core_model.specs.Numbers.{logical_zone}
+use Rattle.core_model.specs.Sessions.{Session}
 use Rattle.plain_laws.specs.Sums.{total, bit, Each}
-use Rattle.core_laws.specs.Tokens.{Balanced, weight, given, queued, of_vio, holds, holder_weight, lock_weight, locks_at, lease_token}
-use Rattle.core_laws.specs.Trace.{Trace}
+use Rattle.core_model.specs.Tokens.{Balanced, weight, given, queued, of_vio, holds, holder_weight, lock_weight, locks_at, lease_token}
+use Rattle.core_model.specs.Trace.{Trace}
 use Rattle.plain_laws.proofs.ListLaws.{every-map, total-get, total_alone, nobody_else, summand}
 use Rattle.core_laws.proofs.tokens.LeaseTokens.{Leased}
 use Rattle.vdo_model.specs.Places.{zone_of}

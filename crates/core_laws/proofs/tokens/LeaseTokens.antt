@@ -6,35 +6,35 @@ use Rattle.blk_base.specs.declared.place.Mapping.{Mapping}
 use Rattle.blk_base.specs.declared.place.Mapping.TheVariants.{Unmapped, Zero, At}
 use Rattle.blk_base.specs.declared.request.Answer.{Answer}
 use Rattle.blk_base.specs.declared.request.Answer.TheVariants as reply
-use Rattle.core_laws.specs.declared.items.Item.{Item}
-use Rattle.core_laws.specs.declared.items.Item.TheVariants as item
-use Rattle.core_laws.specs.declared.items.Phase.{Phase}
-use Rattle.core_laws.specs.declared.items.Phase.TheVariants as phase
-use Rattle.core_laws.specs.declared.items.SealedBlock.{SealedBlock}
-use Rattle.core_laws.specs.declared.items.Vio.{Vio}
-use Rattle.core_laws.specs.declared.sizes.Sizes.{Sizes}
-use Rattle.core_laws.specs.declared.zones.ZoneData.{ZoneData}
-use Rattle.core_laws.specs.declared.zones.ZoneData.TheVariants as at
-use Rattle.core_laws.specs.declared.zones.Desk.{Desk}
-use Rattle.core_laws.specs.declared.zones.DeviceZone.{DeviceZone}
-use Rattle.core_laws.specs.declared.zones.JournalZone.{JournalZone}
-use Rattle.core_laws.specs.declared.zones.Lock.{Lock}
-use Rattle.core_laws.specs.declared.zones.LogicalZone.{LogicalZone}
-use Rattle.core_laws.specs.declared.zones.PhysicalZone.{PhysicalZone}
+use Rattle.core_model.specs.declared.items.Item.{Item}
+use Rattle.core_model.specs.declared.items.Item.TheVariants as item
+use Rattle.core_model.specs.declared.items.Phase.{Phase}
+use Rattle.core_model.specs.declared.items.Phase.TheVariants as phase
+use Rattle.core_model.specs.declared.items.SealedBlock.{SealedBlock}
+use Rattle.core_model.specs.declared.items.Vio.{Vio}
+use Rattle.core_model.specs.declared.sizes.Sizes.{Sizes}
+use Rattle.core_model.specs.declared.zones.ZoneData.{ZoneData}
+use Rattle.core_model.specs.declared.zones.ZoneData.TheVariants as at
+use Rattle.core_model.specs.declared.zones.Desk.{Desk}
+use Rattle.core_model.specs.declared.zones.DeviceZone.{DeviceZone}
+use Rattle.core_model.specs.declared.zones.JournalZone.{JournalZone}
+use Rattle.core_model.specs.declared.zones.Lock.{Lock}
+use Rattle.core_model.specs.declared.zones.LogicalZone.{LogicalZone}
+use Rattle.core_model.specs.declared.zones.PhysicalZone.{PhysicalZone}
 use Rattle.plain_laws.specs.Sums.{total, bit}
-use Rattle.core_laws.specs.Tokens.{of_vio, holds, holder_weight, lock_weight, lease_token}
-use Rattle.core_laws.specs.Trace.{Trace}
-use Rattle.core_laws.specs.Vios.{Post, turned}
-use Rattle.core_laws.specs.DeskRows.{DeskBegins, DeskServes, answers, sends, parks, marks, vio_of, first_zone, woken}
-use Rattle.core_laws.specs.LogicalRows.{LogicalServes, arrives_retired, arrives_free, arrives_held, settles, gives, aborts, aborts_entered, without, lock_of, first_for, but_first_for, all_for, none_for, placed, goes_on, read_next, looked, mapping_at, passed_to, all_stopped, with_slot}
-use Rattle.core_laws.specs.JournalRows.{PhysicalServes, claims, is_full, aborts_claim, aborts_entered_claim, JournalServes, is_stopped, waits, enters, JournalEnds, commits_next, commits_alone, commits_last, fails, all_refused, sealed, hands_out}
-use Rattle.core_laws.specs.DeviceRows.{DeviceServes, stores, store_fails, store_unmade, loads, load_fails, flushes, flush_fails, flush_unmade, DeviceWorks, makes, unmade, stop_notices}
-use Rattle.core_laws.specs.Numbers.{notified_zones}
-use Rattle.core_laws.specs.Steps.{Act}
-use Rattle.core_laws.specs.Steps as steps
-use Rattle.core_laws.specs.DeskRows as desk
-use Rattle.core_laws.specs.DeviceRows as device
-use Rattle.core_laws.specs.JournalRows as journal
+use Rattle.core_model.specs.Tokens.{of_vio, holds, holder_weight, lock_weight, lease_token}
+use Rattle.core_model.specs.Trace.{Trace}
+use Rattle.core_model.specs.Vios.{Post, turned}
+use Rattle.core_model.specs.DeskRows.{DeskBegins, DeskServes, answers, sends, parks, marks, vio_of, first_zone, woken}
+use Rattle.core_model.specs.LogicalRows.{LogicalServes, arrives_retired, arrives_free, arrives_held, settles, gives, aborts, aborts_entered, without, lock_of, first_for, but_first_for, all_for, none_for, placed, goes_on, read_next, looked, mapping_at, passed_to, all_stopped, with_slot}
+use Rattle.core_model.specs.JournalRows.{PhysicalServes, claims, is_full, aborts_claim, aborts_entered_claim, JournalServes, is_stopped, waits, enters, JournalEnds, commits_next, commits_alone, commits_last, fails, all_refused, sealed, hands_out}
+use Rattle.core_model.specs.DeviceRows.{DeviceServes, stores, store_fails, store_unmade, loads, load_fails, flushes, flush_fails, flush_unmade, DeviceWorks, makes, unmade, stop_notices}
+use Rattle.core_model.specs.Numbers.{notified_zones}
+use Rattle.core_model.specs.Steps.{Act}
+use Rattle.core_model.specs.Steps as steps
+use Rattle.core_model.specs.DeskRows as desk
+use Rattle.core_model.specs.DeviceRows as device
+use Rattle.core_model.specs.JournalRows as journal
 use Rattle.core_laws.proofs.tokens.Posts.{begun_phase, goes_by, IsGranted, nobody, somebody, is_granted}
 use Rattle.plain_laws.proofs.ListLaws.{total-append}
 use Rattle.core_laws.proofs.tokens.Lift.{Conserves, weights}

@@ -1,15 +1,15 @@
 -- A step and a move change the sums of one zone or two: what each kind of token owes is a law on the data of that zone.
 use Rattle.std.proofs.Common.{◌≡◌, ℕ, ◌+◌, ◌<◌, ◌≤◌, Bool, true, false, List, [], ◌∷◌, ◌++◌, length, Some, slice_get, slice_set, nat_eq, refl, ap, sym, ◌∙◌, arith}
 use Rattle.std.specs.List.{AllByRecursion}
-use Rattle.core_laws.specs.declared.items.Item.{Item}
-use Rattle.core_laws.specs.declared.sizes.Sizes.{Sizes}
-use Rattle.core_laws.specs.declared.zones.ZoneData.{ZoneData}
-use Rattle.core_laws.specs.declared.zones.Zone.{Zone}
+use Rattle.core_model.specs.declared.items.Item.{Item}
+use Rattle.core_model.specs.declared.sizes.Sizes.{Sizes}
+use Rattle.core_model.specs.declared.zones.ZoneData.{ZoneData}
+use Rattle.core_model.specs.declared.zones.Zone.{Zone}
 use Rattle.plain_laws.specs.Sums.{total}
-use Rattle.core_laws.specs.Steps.{sent_to, sent, delivered, ZoneStep, Core, StepOf, MoveOf}
-use Rattle.core_laws.specs.Tokens.{Token, queued, weight, given, Balanced, AtMost}
-use Rattle.core_laws.specs.Trace.{Trace}
-use Rattle.core_laws.specs.Vios.{Post}
+use Rattle.core_model.specs.Steps.{sent_to, sent, delivered, ZoneStep, Core, StepOf, MoveOf}
+use Rattle.core_model.specs.Tokens.{Token, queued, weight, given, Balanced, AtMost}
+use Rattle.core_model.specs.Trace.{Trace}
+use Rattle.core_model.specs.Vios.{Post}
 use Rattle.plain_laws.proofs.ListLaws.{total-append, total-set, get-put_other}
 use Rattle.core_laws.proofs.lists.Lists.{total-posted, length-posted}
 

@@ -1,14 +1,14 @@
 -- Who holds a token that is given out once holds it alone: nobody else has any of it.
 use Rattle.std.proofs.Common.{◌≡◌, ℕ, ◌+◌, ◌≤◌, ◌++◌, Bool, true, false, not, List, [], ◌∷◌, Some, slice_get, refl, ap, arith}
 use Rattle.std.specs.List.{AllByRecursion}
-use Rattle.core_laws.specs.declared.items.Item.{Item}
-use Rattle.core_laws.specs.declared.items.Item.TheVariants.{Request}
-use Rattle.core_laws.specs.declared.items.Vio.{Vio}
-use Rattle.core_laws.specs.declared.zones.ZoneData.{ZoneData}
-use Rattle.core_laws.specs.declared.zones.ZoneData.TheVariants as at
-use Rattle.core_laws.specs.declared.zones.Zone.{Zone}
+use Rattle.core_model.specs.declared.items.Item.{Item}
+use Rattle.core_model.specs.declared.items.Item.TheVariants.{Request}
+use Rattle.core_model.specs.declared.items.Vio.{Vio}
+use Rattle.core_model.specs.declared.zones.ZoneData.{ZoneData}
+use Rattle.core_model.specs.declared.zones.ZoneData.TheVariants as at
+use Rattle.core_model.specs.declared.zones.Zone.{Zone}
 use Rattle.plain_laws.specs.Sums.{total, bit, Each}
-use Rattle.core_laws.specs.Tokens.{Token, queued, weight, given, Balanced, AtMost, journal_token, idle_at}
+use Rattle.core_model.specs.Tokens.{Token, queued, weight, given, Balanced, AtMost, journal_token, idle_at}
 use Rattle.plain_laws.proofs.ListLaws.{total-append, total-get, nobody_else}
 use Rattle.core_laws.proofs.tokens.JournalTokens.{IsBusy}
 

@@ -10,21 +10,21 @@ use Rattle.blk_base.specs.declared.request.Answer.TheVariants as reply
 use Rattle.blk_base.specs.declared.request.Request.{Request}
 use Rattle.blk_base.specs.declared.request.Request.TheVariants as request
 use Rattle.blk_base.specs.declared.request.Writer.{Writer}
-use Rattle.core_laws.specs.declared.items.Asks.{Asks}
-use Rattle.core_laws.specs.declared.items.Asks.TheVariants.{Read, Write, Flush}
-use Rattle.core_laws.specs.declared.items.Item.TheVariants as item
-use Rattle.core_laws.specs.declared.items.Phase.TheVariants as phase
-use Rattle.core_laws.specs.declared.items.Vio.{Vio}
-use Rattle.core_laws.specs.declared.sizes.Sizes.{Sizes}
-use Rattle.core_laws.specs.declared.zones.LogicalZone.{LogicalZone}
-use Rattle.core_laws.specs.DeskRows.{vio_of, woken}
-use Rattle.core_laws.specs.DeviceRows.{stop_notices}
-use Rattle.core_laws.specs.JournalRows.{all_refused}
-use Rattle.core_laws.specs.LogicalRows.{first_for, but_first_for, all_for, none_for, looked, read_next, next_for, mapping_at, goes_on, passed_to, released, only_post, passes_on, granted, all_stopped}
-use Rattle.core_laws.specs.Numbers.{physical_zone}
+use Rattle.core_model.specs.declared.items.Asks.{Asks}
+use Rattle.core_model.specs.declared.items.Asks.TheVariants.{Read, Write, Flush}
+use Rattle.core_model.specs.declared.items.Item.TheVariants as item
+use Rattle.core_model.specs.declared.items.Phase.TheVariants as phase
+use Rattle.core_model.specs.declared.items.Vio.{Vio}
+use Rattle.core_model.specs.declared.sizes.Sizes.{Sizes}
+use Rattle.core_model.specs.declared.zones.LogicalZone.{LogicalZone}
+use Rattle.core_model.specs.DeskRows.{vio_of, woken}
+use Rattle.core_model.specs.DeviceRows.{stop_notices}
+use Rattle.core_model.specs.JournalRows.{all_refused}
+use Rattle.core_model.specs.LogicalRows.{first_for, but_first_for, all_for, none_for, looked, read_next, next_for, mapping_at, goes_on, passed_to, released, only_post, passes_on, granted, all_stopped}
+use Rattle.core_model.specs.Numbers.{physical_zone}
 use Rattle.plain_laws.specs.Sums.{total}
-use Rattle.core_laws.specs.Tokens.{Token, claims}
-use Rattle.core_laws.specs.Vios.{Post, turned, ended}
+use Rattle.core_model.specs.Tokens.{Token, claims}
+use Rattle.core_model.specs.Vios.{Post, turned, ended}
 use Rattle.core_laws.proofs.tokens.Lift.{weights}
 
 -- sums of two numbers that are the same for each element

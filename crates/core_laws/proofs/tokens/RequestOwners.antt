@@ -6,18 +6,18 @@ use Rattle.vdo_model.specs.DeskLog.{IsDeskLog, begun}
 use Rattle.vdo_model.specs.Scripts.{Script, same_writer}
 use Rattle.vdo_model.specs.declared.report.DeskLine.{DeskLine}
 use Rattle.vdo_model.specs.declared.report.DeskLine.TheVariants.{Begin, Answer}
-use Rattle.core_laws.specs.declared.items.Item.{Item}
-use Rattle.core_laws.specs.declared.items.Item.TheVariants.{Request, Block, StopNotice}
-use Rattle.core_laws.specs.declared.zones.ZoneData.{ZoneData}
-use Rattle.core_laws.specs.declared.zones.ZoneData.TheVariants as at
-use Rattle.core_laws.specs.declared.zones.Zone.{Zone}
-use Rattle.core_laws.specs.Facts.{DataOk, ZoneOk}
-use Rattle.core_laws.specs.Numbers.{desk_zone}
-use Rattle.core_laws.specs.RightTraces.{RightTrace}
-use Rattle.core_laws.specs.Sessions.{Session}
+use Rattle.core_model.specs.declared.items.Item.{Item}
+use Rattle.core_model.specs.declared.items.Item.TheVariants.{Request, Block, StopNotice}
+use Rattle.core_model.specs.declared.zones.ZoneData.{ZoneData}
+use Rattle.core_model.specs.declared.zones.ZoneData.TheVariants as at
+use Rattle.core_model.specs.declared.zones.Zone.{Zone}
+use Rattle.core_model.specs.Facts.{DataOk, ZoneOk}
+use Rattle.core_model.specs.Numbers.{desk_zone}
+use Rattle.core_model.specs.RightTraces.{RightTrace}
+use Rattle.core_model.specs.Sessions.{Session}
 use Rattle.plain_laws.specs.Sums.{total, bit, Each}
-use Rattle.core_laws.specs.Tokens.{weight, given, Balanced, begins_of, in_log, request_token}
-use Rattle.core_laws.specs.Trace.{Trace, lines}
+use Rattle.core_model.specs.Tokens.{weight, given, Balanced, begins_of, in_log, request_token}
+use Rattle.core_model.specs.Trace.{Trace, lines}
 use Rattle.core_laws.proofs.trace.DeskOfTrace.{desk_log_right}
 use Rattle.core_laws.proofs.trace.Growth.{begun_more}
 use Rattle.vdo_model.proofs.NameLaws.{same_self, same_tells}

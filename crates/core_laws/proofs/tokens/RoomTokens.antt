@@ -1,12 +1,12 @@
 -- How many requests are under way, and how many words of a stop: both counts are conserved by every act.
 use Rattle.std.proofs.Common.{List, refl}
-use Rattle.core_laws.specs.declared.items.Item.{Item}
-use Rattle.core_laws.specs.declared.sizes.Sizes.{Sizes}
-use Rattle.core_laws.specs.declared.zones.ZoneData.{ZoneData}
-use Rattle.core_laws.specs.Steps.{Act}
-use Rattle.core_laws.specs.Tokens.{room_token, is_answer, is_begin}
-use Rattle.core_laws.specs.Trace.{Trace}
-use Rattle.core_laws.specs.Vios.{Post}
+use Rattle.core_model.specs.declared.items.Item.{Item}
+use Rattle.core_model.specs.declared.sizes.Sizes.{Sizes}
+use Rattle.core_model.specs.declared.zones.ZoneData.{ZoneData}
+use Rattle.core_model.specs.Steps.{Act}
+use Rattle.core_model.specs.Tokens.{room_token, is_answer, is_begin}
+use Rattle.core_model.specs.Trace.{Trace}
+use Rattle.core_model.specs.Vios.{Post}
 use Rattle.core_laws.proofs.tokens.Lift.{Conserves}
 use Rattle.core_laws.proofs.tokens.RequestTokens.{counted_law}
 

@@ -5,19 +5,19 @@ use Rattle.vdo_model.specs.DeskLog.{IsDeskLog, begun, answered}
 use Rattle.vdo_model.specs.Scripts.{Script}
 use Rattle.vdo_model.specs.declared.report.DeskLine.{DeskLine}
 use Rattle.vdo_model.specs.declared.report.DeskLine.TheVariants.{Begin, Answer}
-use Rattle.core_laws.specs.declared.items.Item.{Item}
-use Rattle.core_laws.specs.declared.items.Item.TheVariants as item
-use Rattle.core_laws.specs.declared.zones.ZoneData.{ZoneData}
-use Rattle.core_laws.specs.declared.zones.ZoneData.TheVariants as at
-use Rattle.core_laws.specs.declared.zones.Zone.{Zone}
-use Rattle.core_laws.specs.Facts.{DataOk}
-use Rattle.core_laws.specs.Legal.{Legal, share}
-use Rattle.core_laws.specs.Numbers.{desk_zone, device_zone, notified_zones}
-use Rattle.core_laws.specs.Sessions.{Session}
-use Rattle.core_laws.specs.Steps.{Core}
+use Rattle.core_model.specs.declared.items.Item.{Item}
+use Rattle.core_model.specs.declared.items.Item.TheVariants as item
+use Rattle.core_model.specs.declared.zones.ZoneData.{ZoneData}
+use Rattle.core_model.specs.declared.zones.ZoneData.TheVariants as at
+use Rattle.core_model.specs.declared.zones.Zone.{Zone}
+use Rattle.core_model.specs.Facts.{DataOk}
+use Rattle.core_model.specs.Legal.{Legal, share}
+use Rattle.core_model.specs.Numbers.{desk_zone, device_zone, notified_zones}
+use Rattle.core_model.specs.Sessions.{Session}
+use Rattle.core_model.specs.Steps.{Core}
 use Rattle.plain_laws.specs.Sums.{total}
-use Rattle.core_laws.specs.Tokens.{Token, queued, weight, given, room_token, notice_token, is_begin, is_answer, in_log, is_word, notified_by}
-use Rattle.core_laws.specs.Trace.{lines}
+use Rattle.core_model.specs.Tokens.{Token, queued, weight, given, room_token, notice_token, is_begin, is_answer, in_log, is_word, notified_by}
+use Rattle.core_model.specs.Trace.{lines}
 use Rattle.core_laws.proofs.trace.DeskOfTrace.{desk_log_right}
 use Rattle.plain_laws.proofs.ListLaws.{total-get, total_alone}
 use Rattle.core_laws.proofs.kept.ZoneKinds.{desk_sits, device_sits}

@@ -7,10 +7,10 @@ use Rattle.blk_base.specs.declared.request.Writer.{Writer}
 use Rattle.disk_model.specs.declared.call.Call.{Call}
 use Rattle.disk_model.specs.declared.call.Call.TheVariants as call
 use Rattle.vdo_model.specs.Scripts.{same_writer}
-use Rattle.core_laws.specs.declared.zones.Logged.{Logged}
-use Rattle.core_laws.specs.RightTraces.{IsHeldBack, MayFollow, RightTrace, StopsAtFailure}
-use Rattle.core_laws.specs.Sessions.{Session}
-use Rattle.core_laws.specs.Trace.{Happening, Says, Flushes, Aborts, Calls, Fails, Sets, Trace, aborted, calls, entered, has_stopped, is_ok, is_read, logged_of}
+use Rattle.core_model.specs.declared.zones.Logged.{Logged}
+use Rattle.core_model.specs.RightTraces.{IsHeldBack, MayFollow, RightTrace, StopsAtFailure}
+use Rattle.core_model.specs.Sessions.{Session}
+use Rattle.core_model.specs.Trace.{Happening, Says, Flushes, Aborts, Calls, Fails, Sets, Trace, aborted, calls, entered, has_stopped, is_ok, is_read, logged_of}
 use Rattle.core_laws.proofs.trace.DeskOfTrace.{logged_has}
 use Rattle.core_laws.proofs.trace.Growth.{entered_stays}
 use Rattle.plain_laws.proofs.ListLaws.{every-map, every_both}

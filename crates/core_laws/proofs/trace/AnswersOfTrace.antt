@@ -17,11 +17,11 @@ use Rattle.vdo_model.specs.declared.report.DeskLine.TheVariants.{Begin, Answer}
 use Rattle.vdo_model.specs.declared.report.HistoryEntry.{HistoryEntry}
 use Rattle.vdo_model.specs.declared.report.Mark.{Mark}
 use Rattle.vdo_model.specs.declared.report.Placed.{Placed}
-use Rattle.core_laws.specs.declared.zones.Logged.{Logged}
-use Rattle.core_laws.specs.Reports.{is_there, set_in, handed_in, drawn_histories}
-use Rattle.core_laws.specs.Sessions.{Session}
-use Rattle.core_laws.specs.Trace.{Says, Flushes, Enters, Sets, Fails, Trace, lines, places, entered, settled, logged_of}
-use Rattle.core_laws.specs.RightTraces.{RightTrace, MayAnswer}
+use Rattle.core_model.specs.declared.zones.Logged.{Logged}
+use Rattle.core_model.specs.Reports.{is_there, set_in, handed_in, drawn_histories}
+use Rattle.core_model.specs.Sessions.{Session}
+use Rattle.core_model.specs.Trace.{Says, Flushes, Enters, Sets, Fails, Trace, lines, places, entered, settled, logged_of}
+use Rattle.core_model.specs.RightTraces.{RightTrace, MayAnswer}
 use Rattle.plain_laws.proofs.OptionLaws.{none_of}
 use Rattle.vdo_model.proofs.NameLaws.{same_tells}
 use Rattle.core_laws.proofs.trace.DeskOfTrace.{settled_is_entered}

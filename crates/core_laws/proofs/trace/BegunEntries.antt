@@ -3,10 +3,10 @@ use Rattle.std.proofs.Common.{◌<◌, List, [], ◌∷◌}
 use Rattle.std.specs.List.{AllByRecursion}
 use Rattle.vdo_model.specs.DeskLog.{begun}
 use Rattle.vdo_model.specs.declared.report.DeskLine.{DeskLine}
-use Rattle.core_laws.specs.declared.zones.Logged.{Logged}
-use Rattle.core_laws.specs.RightTraces.{RightTrace}
-use Rattle.core_laws.specs.Sessions.{Session}
-use Rattle.core_laws.specs.Trace.{Trace, lines, entered}
+use Rattle.core_model.specs.declared.zones.Logged.{Logged}
+use Rattle.core_model.specs.RightTraces.{RightTrace}
+use Rattle.core_model.specs.Sessions.{Session}
+use Rattle.core_model.specs.Trace.{Trace, lines, entered}
 use Rattle.plain_laws.proofs.ListLaws.{every-map}
 use Rattle.core_laws.proofs.trace.Growth.{entered_grows, begun_stays}
 

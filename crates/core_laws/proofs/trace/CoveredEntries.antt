@@ -15,11 +15,11 @@ use Rattle.vdo_model.specs.declared.report.FlushMark.{FlushMark}
 use Rattle.vdo_model.specs.declared.report.HistoryEntry.{HistoryEntry}
 use Rattle.vdo_model.specs.declared.report.Mark.{Mark}
 use Rattle.vdo_model.specs.declared.report.Mark.TheVariants.{Settled, Unsettled, Refused}
-use Rattle.core_laws.specs.declared.zones.Logged.{Logged}
-use Rattle.core_laws.specs.Reports.{set_in, handed_in}
-use Rattle.core_laws.specs.RightTraces.{RightTrace, IsWrite}
-use Rattle.core_laws.specs.Sessions.{Session}
-use Rattle.core_laws.specs.Trace.{Trace, Calls, lines, calls, entered, committed, settled, of_address, logged_of}
+use Rattle.core_model.specs.declared.zones.Logged.{Logged}
+use Rattle.core_model.specs.Reports.{set_in, handed_in}
+use Rattle.core_model.specs.RightTraces.{RightTrace, IsWrite}
+use Rattle.core_model.specs.Sessions.{Session}
+use Rattle.core_model.specs.Trace.{Trace, Calls, lines, calls, entered, committed, settled, of_address, logged_of}
 use Rattle.core_laws.proofs.trace.AnswersOfTrace.{AnswerSays, there_some, answer_says, set_is_handed}
 use Rattle.core_laws.proofs.trace.Cuts.{Cut, call_in_cut}
 use Rattle.core_laws.proofs.trace.DeskOfTrace.{AreApart, each_of_address, are_of_address, logged_has, desk_log_right, entered_apart, settled_writes, settled_is_committed}

@@ -7,7 +7,7 @@ use Rattle.stop_laws.proofs.HistoryLaws.{length_at_later, length_at_next}
 use Rattle.vdo_model.specs.FlushMarks.{successes}
 use Rattle.vdo_model.specs.Stops.{length_at}
 use Rattle.vdo_model.specs.declared.report.FlushMark.{FlushMark}
-use Rattle.core_laws.specs.Trace.{Happening, Calls, Fails, Trace, calls}
+use Rattle.core_model.specs.Trace.{Happening, Calls, Fails, Trace, calls}
 use Rattle.core_laws.proofs.trace.MarkCalls.{HasMark}
 use Rattle.core_laws.proofs.trace.Parts.{calls_append, one_is_part}
 

@@ -11,10 +11,10 @@ use Rattle.vdo_model.specs.DeskLog.{IsDeskLog, begun, answer_of}
 use Rattle.vdo_model.specs.Scripts.{Script}
 use Rattle.vdo_model.specs.declared.report.DeskLine.{DeskLine}
 use Rattle.vdo_model.specs.declared.report.DeskLine.TheVariants.{Begin, Answer}
-use Rattle.core_laws.specs.declared.zones.Logged.{Logged}
-use Rattle.core_laws.specs.Sessions.{Session, Shown}
-use Rattle.core_laws.specs.Trace.{Happening, Sets, Trace, lines, entered, committed, settled, of_address, logged_of}
-use Rattle.core_laws.specs.RightTraces.{RightTrace, IsWrite, MayFollow}
+use Rattle.core_model.specs.declared.zones.Logged.{Logged}
+use Rattle.core_model.specs.Sessions.{Session, Shown}
+use Rattle.core_model.specs.Trace.{Happening, Sets, Trace, lines, entered, committed, settled, of_address, logged_of}
+use Rattle.core_model.specs.RightTraces.{RightTrace, IsWrite, MayFollow}
 use Rattle.plain_laws.proofs.ListLaws.{every-map}
 use Rattle.plain_laws.proofs.OptionLaws.{not_both, none_is, option_cases}
 use Rattle.plain_laws.proofs.ListLaws.{each_at}

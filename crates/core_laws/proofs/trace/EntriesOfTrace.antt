@@ -16,10 +16,10 @@ use Rattle.vdo_model.specs.declared.report.DeskLine.{DeskLine}
 use Rattle.vdo_model.specs.declared.report.HistoryEntry.{HistoryEntry}
 use Rattle.vdo_model.specs.declared.report.Mark.{Mark}
 use Rattle.vdo_model.specs.declared.report.Placed.{Placed}
-use Rattle.core_laws.specs.Reports.{set_in, handed_in, drawn_histories}
-use Rattle.core_laws.specs.Sessions.{Session}
-use Rattle.core_laws.specs.Trace.{Trace, lines, places}
-use Rattle.core_laws.specs.RightTraces.{RightTrace}
+use Rattle.core_model.specs.Reports.{set_in, handed_in, drawn_histories}
+use Rattle.core_model.specs.Sessions.{Session}
+use Rattle.core_model.specs.Trace.{Trace, lines, places}
+use Rattle.core_model.specs.RightTraces.{RightTrace}
 use Rattle.plain_laws.proofs.OptionLaws.{not_both}
 use Rattle.vdo_model.proofs.NameLaws.{same_tells, same_self}
 use Rattle.core_laws.proofs.trace.PlaceWalks.{progress}

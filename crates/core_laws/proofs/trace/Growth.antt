@@ -9,10 +9,10 @@ use Rattle.vdo_model.specs.Scripts.{Script}
 use Rattle.vdo_model.specs.declared.report.DeskLine.{DeskLine}
 use Rattle.vdo_model.specs.declared.report.DeskLine.TheVariants.{Begin, Answer}
 use Rattle.vdo_model.specs.declared.report.Placed.{Placed}
-use Rattle.core_laws.specs.declared.zones.Logged.{Logged}
-use Rattle.core_laws.specs.Sessions.{Session}
-use Rattle.core_laws.specs.Trace.{Happening, Says, Flushes, Draws, Enters, Commits, Sets, Gives, Fails, Trace, Gift, lines, places, entered, committed, settled, gifts, logged_of}
-use Rattle.core_laws.specs.RightTraces.{IsWrite, MayFollow, PlaceMayFollow, EntryMayFollow, CommitMayFollow, SlotMayFollow, GiftMayFollow}
+use Rattle.core_model.specs.declared.zones.Logged.{Logged}
+use Rattle.core_model.specs.Sessions.{Session}
+use Rattle.core_model.specs.Trace.{Happening, Says, Flushes, Draws, Enters, Commits, Sets, Gives, Fails, Trace, Gift, lines, places, entered, committed, settled, gifts, logged_of}
+use Rattle.core_model.specs.RightTraces.{IsWrite, MayFollow, PlaceMayFollow, EntryMayFollow, CommitMayFollow, SlotMayFollow, GiftMayFollow}
 use Rattle.plain_laws.proofs.OptionLaws.{not_both}
 use Rattle.vdo_model.proofs.NameLaws.{same_tells}
 

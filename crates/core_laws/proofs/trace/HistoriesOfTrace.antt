@@ -14,11 +14,11 @@ use Rattle.vdo_model.specs.Places.{place_of, zone_of}
 use Rattle.vdo_model.specs.Scripts.{request_at, address_of}
 use Rattle.vdo_model.specs.declared.report.HistoryEntry.{HistoryEntry}
 use Rattle.vdo_model.specs.declared.report.Placed.{Placed}
-use Rattle.core_laws.specs.declared.zones.Logged.{Logged}
-use Rattle.core_laws.specs.Reports.{is_there, set_in, handed_in, drawn_histories}
-use Rattle.core_laws.specs.Sessions.{Session}
-use Rattle.core_laws.specs.Trace.{Trace, lines, places, entered, settled, of_address, logged_of}
-use Rattle.core_laws.specs.RightTraces.{RightTrace, IsWrite}
+use Rattle.core_model.specs.declared.zones.Logged.{Logged}
+use Rattle.core_model.specs.Reports.{is_there, set_in, handed_in, drawn_histories}
+use Rattle.core_model.specs.Sessions.{Session}
+use Rattle.core_model.specs.Trace.{Trace, lines, places, entered, settled, of_address, logged_of}
+use Rattle.core_model.specs.RightTraces.{RightTrace, IsWrite}
 use Rattle.plain_laws.proofs.ListLaws.{every-map}
 use Rattle.plain_laws.proofs.ListLaws.{each_both}
 use Rattle.vdo_model.proofs.NameLaws.{same_tells}

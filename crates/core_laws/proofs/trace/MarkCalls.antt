@@ -7,9 +7,9 @@ use Rattle.disk_model.specs.declared.call.Call.TheVariants.{Flush}
 use Rattle.vdo_model.specs.DeskLog.{begun, answer_of}
 use Rattle.vdo_model.specs.FlushMarks.{Moment, Device, successes, lines_of, calls_of, IsMark}
 use Rattle.vdo_model.specs.declared.report.FlushMark.{FlushMark}
-use Rattle.core_laws.specs.RightTraces.{RightTrace}
-use Rattle.core_laws.specs.Sessions.{Session, IsSession}
-use Rattle.core_laws.specs.Trace.{Happening, Says, Flushes, Calls, Fails, Trace, moments, lines, calls, marks, is_ok}
+use Rattle.core_model.specs.RightTraces.{RightTrace}
+use Rattle.core_model.specs.Sessions.{Session, IsSession}
+use Rattle.core_model.specs.Trace.{Happening, Says, Flushes, Calls, Fails, Trace, moments, lines, calls, marks, is_ok}
 use Rattle.plain_laws.proofs.ListLaws.{every-map}
 use Rattle.core_laws.proofs.trace.MarksOfTrace.{IsOfFlush, marks_right}
 use Rattle.plain_laws.proofs.OptionLaws.{some_is}

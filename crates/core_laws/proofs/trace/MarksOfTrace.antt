@@ -10,9 +10,9 @@ use Rattle.vdo_model.specs.FlushMarks.{Moment, Desk, Device, IsMark, mark_of_flu
 use Rattle.vdo_model.specs.Scripts.{request_at}
 use Rattle.vdo_model.specs.declared.report.DeskLine.TheVariants.{Begin, Answer}
 use Rattle.vdo_model.specs.declared.report.FlushMark.{FlushMark}
-use Rattle.core_laws.specs.Sessions.{Session, IsSession}
-use Rattle.core_laws.specs.Trace.{Happening, Says, Flushes, Calls, Fails, Trace, moments, lines, marks}
-use Rattle.core_laws.specs.RightTraces.{RightTrace, HasCause, MayFollow}
+use Rattle.core_model.specs.Sessions.{Session, IsSession}
+use Rattle.core_model.specs.Trace.{Happening, Says, Flushes, Calls, Fails, Trace, moments, lines, marks}
+use Rattle.core_model.specs.RightTraces.{RightTrace, HasCause, MayFollow}
 use Rattle.plain_laws.proofs.ListLaws.{every-map}
 use Rattle.plain_laws.proofs.OptionLaws.{none_is, not_both, option_cases}
 use Rattle.vdo_model.proofs.NameLaws.{same_tells, same_self}

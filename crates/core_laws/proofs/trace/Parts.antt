@@ -4,10 +4,10 @@ use Rattle.blk_base.specs.declared.request.Answer.TheVariants.{Ok}
 use Rattle.disk_model.specs.declared.call.Call.{Call}
 use Rattle.vdo_model.specs.declared.report.DeskLine.{DeskLine}
 use Rattle.vdo_model.specs.declared.report.DeskLine.TheVariants.{Answer}
-use Rattle.core_laws.specs.declared.zones.Logged.{Logged}
-use Rattle.core_laws.specs.RightTraces.{RightTrace}
-use Rattle.core_laws.specs.Sessions.{Session}
-use Rattle.core_laws.specs.Trace.{Says, Flushes, Enters, Commits, Calls, Fails, Trace, lines, calls, entered, committed}
+use Rattle.core_model.specs.declared.zones.Logged.{Logged}
+use Rattle.core_model.specs.RightTraces.{RightTrace}
+use Rattle.core_model.specs.Sessions.{Session}
+use Rattle.core_model.specs.Trace.{Says, Flushes, Enters, Commits, Calls, Fails, Trace, lines, calls, entered, committed}
 
 -- The lines of the desk log.
 pub lines_append : (newer older : Trace) → lines (newer ++ older) ≡ lines newer ++ lines older

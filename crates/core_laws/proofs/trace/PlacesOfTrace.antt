@@ -14,9 +14,9 @@ use Rattle.vdo_model.specs.Scripts.{Script, request_at, address_of}
 use Rattle.vdo_model.specs.declared.report.DeskLine.{DeskLine}
 use Rattle.vdo_model.specs.declared.report.DeskLine.TheVariants.{Begin, Answer}
 use Rattle.vdo_model.specs.declared.report.Placed.{Placed}
-use Rattle.core_laws.specs.Sessions.{Session}
-use Rattle.core_laws.specs.Trace.{Happening, Says, Flushes, Draws, Fails, Trace, Gift, lines, places, settled, gifts, logged_of, gift_of}
-use Rattle.core_laws.specs.RightTraces.{RightTrace, IsWrite, HasPlace, IsStoppedAtOnce, MayAnswer, MayFollow}
+use Rattle.core_model.specs.Sessions.{Session}
+use Rattle.core_model.specs.Trace.{Happening, Says, Flushes, Draws, Fails, Trace, Gift, lines, places, settled, gifts, logged_of, gift_of}
+use Rattle.core_model.specs.RightTraces.{RightTrace, IsWrite, HasPlace, IsStoppedAtOnce, MayAnswer, MayFollow}
 use Rattle.plain_laws.proofs.ListLaws.{every-map}
 use Rattle.plain_laws.proofs.OptionLaws.{some_is, some_of}
 use Rattle.vdo_model.proofs.NameLaws.{same_tells}

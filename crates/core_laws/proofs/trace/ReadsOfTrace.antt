@@ -16,11 +16,11 @@ use Rattle.vdo_model.specs.Scripts.{request_at}
 use Rattle.vdo_model.specs.declared.report.DeskLine.TheVariants.{Begin, Answer}
 use Rattle.vdo_model.specs.declared.report.HistoryEntry.{HistoryEntry}
 use Rattle.vdo_model.specs.declared.report.Placed.{Placed}
-use Rattle.core_laws.specs.declared.zones.Logged.{Logged}
-use Rattle.core_laws.specs.Reports.{opening_values, drawn_histories}
-use Rattle.core_laws.specs.Sessions.{Session, IsSession, bytes_of, value_from}
-use Rattle.core_laws.specs.Trace.{Says, Flushes, Sets, Gives, Fails, Trace, Gift, lines, places, settled, gifts, of_address, newest, gift_of}
-use Rattle.core_laws.specs.RightTraces.{RightTrace, GivesRight, HasCause}
+use Rattle.core_model.specs.declared.zones.Logged.{Logged}
+use Rattle.core_model.specs.Reports.{opening_values, drawn_histories}
+use Rattle.core_model.specs.Sessions.{Session, IsSession, bytes_of, value_from}
+use Rattle.core_model.specs.Trace.{Says, Flushes, Sets, Gives, Fails, Trace, Gift, lines, places, settled, gifts, of_address, newest, gift_of}
+use Rattle.core_model.specs.RightTraces.{RightTrace, GivesRight, HasCause}
 use Rattle.plain_laws.proofs.ListLaws.{every-map}
 use Rattle.plain_laws.proofs.OptionLaws.{not_both}
 use Rattle.plain_laws.proofs.ListLaws.{each_both}

@@ -7,10 +7,10 @@ use Rattle.vdo_model.specs.Stops.{MayShow, RightAfterStops}
 use Rattle.vdo_model.specs.ZoneOrder.{HaveSameZones}
 use Rattle.vdo_model.specs.declared.report.HistoryEntry.{HistoryEntry}
 use Rattle.vdo_model.proofs.ZoneOrderLaws.{drawn_history_same, listed_same, places_same, reads_same}
-use Rattle.core_laws.specs.Reports.{ShowsValues, listed_places, opening_values, progress_of, report_of}
-use Rattle.core_laws.specs.RightTraces.{RightTrace, GivesRight}
-use Rattle.core_laws.specs.Sessions.{Session, IsSession}
-use Rattle.core_laws.specs.Trace.{Trace, calls, lines, marks, places}
+use Rattle.core_model.specs.Reports.{ShowsValues, listed_places, opening_values, progress_of, report_of}
+use Rattle.core_model.specs.RightTraces.{RightTrace, GivesRight}
+use Rattle.core_model.specs.Sessions.{Session, IsSession}
+use Rattle.core_model.specs.Trace.{Trace, calls, lines, marks, places}
 use Rattle.core_laws.proofs.trace.DeskOfTrace.{desk_log_right}
 use Rattle.core_laws.proofs.trace.PlacesOfTrace.{places_drawn, places_all}
 use Rattle.core_laws.proofs.trace.ReadsOfTrace.{reads_right}

@@ -13,10 +13,10 @@ use Rattle.vdo_model.specs.declared.report.HistoryEntry.{HistoryEntry}
 use Rattle.vdo_model.specs.declared.report.Mark.{Mark}
 use Rattle.vdo_model.specs.declared.report.Mark.TheVariants.{Settled, Unsettled, Refused}
 use Rattle.stop_laws.proofs.HistoryLaws.{covered_within}
-use Rattle.core_laws.specs.declared.zones.Logged.{Logged}
-use Rattle.core_laws.specs.Reports.{opening_values}
-use Rattle.core_laws.specs.Sessions.{Session, value_from}
-use Rattle.core_laws.specs.Trace.{newest}
+use Rattle.core_model.specs.declared.zones.Logged.{Logged}
+use Rattle.core_model.specs.Reports.{opening_values}
+use Rattle.core_model.specs.Sessions.{Session, value_from}
+use Rattle.core_model.specs.Trace.{newest}
 use Rattle.plain_laws.proofs.ListLaws.{every-map, every-append}
 use Rattle.core_laws.proofs.trace.BegunEntries.{IsBegunBy}
 use Rattle.core_laws.proofs.lists.EntryLists.{Has, has_older}

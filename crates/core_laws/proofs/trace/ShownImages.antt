@@ -11,10 +11,10 @@ use Rattle.disk_model.proofs.ImageLaws.{block_of_image}
 use Rattle.image_layout.specs.Window.{IsWindow, journal_of, mapping_of, value_in, value_of}
 use Rattle.stop_laws.proofs.JournalLaws.{window_at_rest, window_under_way}
 use Rattle.vdo_model.specs.Scripts.{value_written}
-use Rattle.core_laws.specs.declared.zones.Logged.{Logged}
-use Rattle.core_laws.specs.RightTraces.{IsWrite}
-use Rattle.core_laws.specs.Sessions.{Session, IsSession, Shown, Kept, HasPending, AtRest, OnItsWay, EachStands, bytes_of, value_from, log}
-use Rattle.core_laws.specs.Trace.{Trace, entered, committed, of_address, newest, entry_of, entries_of}
+use Rattle.core_model.specs.declared.zones.Logged.{Logged}
+use Rattle.core_model.specs.RightTraces.{IsWrite}
+use Rattle.core_model.specs.Sessions.{Session, IsSession, Shown, Kept, HasPending, AtRest, OnItsWay, EachStands, bytes_of, value_from, log}
+use Rattle.core_model.specs.Trace.{Trace, entered, committed, of_address, newest, entry_of, entries_of}
 use Rattle.blk_base.proofs.RegionLaws.{data_block_inside}
 use Rattle.core_laws.proofs.device.DataBlocks.{mapped_data, write_whole}
 

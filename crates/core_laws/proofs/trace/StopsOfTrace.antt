@@ -13,11 +13,11 @@ use Rattle.vdo_model.specs.declared.report.DeskLine.{DeskLine}
 use Rattle.vdo_model.specs.declared.report.FlushMark.{FlushMark}
 use Rattle.vdo_model.specs.declared.report.HistoryEntry.{HistoryEntry}
 use Rattle.vdo_model.specs.declared.report.RunReport.{RunReport}
-use Rattle.core_laws.specs.declared.zones.Logged.{Logged}
-use Rattle.core_laws.specs.Reports.{ShowsValues, opening_values, report_of, drawn_histories}
-use Rattle.core_laws.specs.RightTraces.{RightTrace, IsWrite}
-use Rattle.core_laws.specs.Sessions.{Session, IsSession, bytes_of, value_from, log}
-use Rattle.core_laws.specs.Trace.{Trace, Calls, lines, calls, marks, places, entered, committed, settled, of_address, newest, entries_of}
+use Rattle.core_model.specs.declared.zones.Logged.{Logged}
+use Rattle.core_model.specs.Reports.{ShowsValues, opening_values, report_of, drawn_histories}
+use Rattle.core_model.specs.RightTraces.{RightTrace, IsWrite}
+use Rattle.core_model.specs.Sessions.{Session, IsSession, bytes_of, value_from, log}
+use Rattle.core_model.specs.Trace.{Trace, Calls, lines, calls, marks, places, entered, committed, settled, of_address, newest, entries_of}
 use Rattle.plain_laws.proofs.ListLaws.{every-map}
 use Rattle.core_laws.proofs.trace.BegunEntries.{IsBegunBy, entered_begun}
 use Rattle.core_laws.proofs.trace.CoveredEntries.{not_covered}

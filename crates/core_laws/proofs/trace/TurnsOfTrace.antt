@@ -2,10 +2,10 @@
 use Rattle.std.proofs.Common.{ℕ, ◌≡◌, ◌⊎◌, ◌<◌, ◌==◌, false, List, [], ◌∷◌, length, refl, sym, ◌∙◌, ap, subst, inl, inr, arith}
 use Rattle.std.proofs.lemmas.Bool.Decides.{eqb_tells}
 use Rattle.std.specs.List.{AllByRecursion}
-use Rattle.core_laws.specs.declared.zones.Logged.{Logged}
-use Rattle.core_laws.specs.Sessions.{Session}
-use Rattle.core_laws.specs.Trace.{Enters, Commits, Sets, Trace, entered, committed, settled, of_address}
-use Rattle.core_laws.specs.RightTraces.{RightTrace, Quiet, AllBelow}
+use Rattle.core_model.specs.declared.zones.Logged.{Logged}
+use Rattle.core_model.specs.Sessions.{Session}
+use Rattle.core_model.specs.Trace.{Enters, Commits, Sets, Trace, entered, committed, settled, of_address}
+use Rattle.core_model.specs.RightTraces.{RightTrace, Quiet, AllBelow}
 use Rattle.plain_laws.proofs.ListLaws.{every-map}
 use Rattle.plain_laws.proofs.ListLaws.{each_both}
 use Rattle.core_laws.proofs.trace.Growth.{entered_grows}

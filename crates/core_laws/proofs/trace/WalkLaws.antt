@@ -5,9 +5,9 @@ use Rattle.std.specs.List.{AllByRecursion}
 use Rattle.blk_base.specs.declared.request.Writer.{Writer}
 use Rattle.vdo_model.specs.declared.report.HistoryEntry.{HistoryEntry}
 use Rattle.vdo_model.specs.declared.report.Mark.{Mark}
-use Rattle.core_laws.specs.declared.zones.Logged.{Logged}
-use Rattle.core_laws.specs.Reports.{is_there}
-use Rattle.core_laws.specs.Trace.{logged_of}
+use Rattle.core_model.specs.declared.zones.Logged.{Logged}
+use Rattle.core_model.specs.Reports.{is_there}
+use Rattle.core_model.specs.Trace.{logged_of}
 use Rattle.plain_laws.proofs.ListLaws.{every-map}
 use Rattle.vdo_model.proofs.NameLaws.{same_tells, same_self}
 

@@ -1,6 +1,6 @@
 use Rattle.std.proofs.Common.{[], ◌∷◌}
-use Rattle.core_laws.specs.declared.zones.ZoneData.TheVariants as at
-use Rattle.core_laws.specs.Steps.{Act}
+use Rattle.core_model.specs.declared.zones.ZoneData.TheVariants as at
+use Rattle.core_model.specs.Steps.{Act}
 use Rattle.core_steps.specs.Causes.{NoRule, MemoryOrStray}
 use Rattle.core_steps.proofs.ActLaws.{device_acts, device_works}
 use Rattle.core_steps.proofs.StrayLaws.{passed_on, strays_by, device_stays, device_keeps}

@@ -4,9 +4,9 @@ use Rattle.std.proofs.lemmas.Option.{gets}
 use Rattle.blk_base.specs.declared.request.Request.{Request}
 use Rattle.vdo_model.specs.Scripts.{request_at}
 use Rattle.vdo_model.specs.declared.report.DeskLine.TheVariants as line
-use Rattle.core_laws.specs.DeskRows.{at_once, is_notified, vio_of}
-use Rattle.core_laws.specs.DeskRows.DeskBegins.{answers, sends}
-use Rattle.core_laws.specs.Trace.{Says}
+use Rattle.core_model.specs.DeskRows.{at_once, is_notified, vio_of}
+use Rattle.core_model.specs.DeskRows.DeskBegins.{answers, sends}
+use Rattle.core_model.specs.Trace.{Says}
 use Rattle.core_steps.proofs.beginning.begin_one.Goals as goal
 
 pub returns-in_ok-answer_at_once-in-Some-at_once-clause-ok : goal.returns-in_ok-answer_at_once-in-Some-at_once-clause-ok

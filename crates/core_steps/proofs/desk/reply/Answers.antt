@@ -1,8 +1,8 @@
 use Rattle.std.proofs.Common.{rules, ◌≡◌, ◌∙◌, ap, Some, true, [], ◌∷◌}
 use Rattle.vdo_model.specs.declared.report.DeskLine.TheVariants as line
-use Rattle.core_laws.specs.DeskRows.DeskServes.{answers, marks}
-use Rattle.core_laws.specs.DeskRows.{is_marked, mark_of_vio}
-use Rattle.core_laws.specs.Trace.{Says, Flushes}
+use Rattle.core_model.specs.DeskRows.DeskServes.{answers, marks}
+use Rattle.core_model.specs.DeskRows.{is_marked, mark_of_vio}
+use Rattle.core_model.specs.Trace.{Says, Flushes}
 use Rattle.core_laws.proofs.kept.Rules.{marked_is}
 use Rattle.core_steps.proofs.desk.reply.Goals as goal
 

@@ -1,5 +1,5 @@
 use Rattle.std.proofs.Common.{◌≡◌, ◌++◌}
-use Rattle.core_laws.specs.DeviceRows.{stop_notices}
+use Rattle.core_model.specs.DeviceRows.{stop_notices}
 use Rattle.core_steps.proofs.device.notify_all.Given as goal
 
 abbrev pub invariant-loop-number : goal.invariant-loop-number

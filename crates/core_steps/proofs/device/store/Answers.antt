@@ -1,8 +1,8 @@
 use Rattle.std.proofs.Common.{rules, true, false, [], ◌∷◌, refl}
 use Rattle.std.proofs.lemmas.Result.{IfOk-weaker}
 use Rattle.disk_model.specs.declared.call.Call.TheVariants as call
-use Rattle.core_laws.specs.DeviceRows.DeviceServes.{stores, store_fails}
-use Rattle.core_laws.specs.Trace.{Calls, Fails}
+use Rattle.core_model.specs.DeviceRows.DeviceServes.{stores, store_fails}
+use Rattle.core_model.specs.Trace.{Calls, Fails}
 use Rattle.core_steps.proofs.device.store.Goals as goal
 
 pub returns-in_default-clause-serves : goal.returns-in_default-clause-serves

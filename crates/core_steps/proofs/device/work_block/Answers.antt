@@ -1,8 +1,8 @@
 use Rattle.std.proofs.Common.{◌≡◌, true, false, [], ◌∷◌, refl, sym, ap, ◌∙◌, rules}
-use Rattle.core_laws.specs.declared.items.Stage.{Stage}
-use Rattle.core_laws.specs.Vios.{staged}
-use Rattle.core_laws.specs.DeviceRows.DeviceWorks.{makes, fails, unmade}
-use Rattle.core_laws.specs.Trace.{Calls, Fails}
+use Rattle.core_model.specs.declared.items.Stage.{Stage}
+use Rattle.core_model.specs.Vios.{staged}
+use Rattle.core_model.specs.DeviceRows.DeviceWorks.{makes, fails, unmade}
+use Rattle.core_model.specs.Trace.{Calls, Fails}
 use Rattle.core_steps.specs.DeviceLog.{needs_call}
 use Rattle.core_steps.proofs.Calls.{some_call, block_post}
 use Rattle.core_steps.proofs.PlayLaws.{unchanged}

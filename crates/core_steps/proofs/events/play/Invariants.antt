@@ -1,7 +1,7 @@
 use Rattle.std.proofs.Common.{◌≡◌, List, drop}
 use Rattle.std.specs.List.{AllByRecursion}
 use Rattle.disk_model.specs.Seen.{Seen, Stays}
-use Rattle.core_laws.specs.declared.zones.Zone.{Zone}
+use Rattle.core_model.specs.declared.zones.Zone.{Zone}
 use Rattle.core_steps.specs.Plays.{HasNoWork, LeadsTo, Plays}
 use Rattle.core_steps.specs.declared.fault.Stepped.TheVariants.{Did, Idle}
 use Rattle.core_steps.proofs.events.play.Given as goal

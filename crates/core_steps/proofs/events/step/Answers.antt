@@ -1,7 +1,7 @@
 use Rattle.std.proofs.Common.{rules, ◌≡◌, ◌<◌, ◌∙◌, Some, length, slice_get, refl, sym, subst}
 use Rattle.std.proofs.lemmas.Option.{same_Some, slice_get_read}
-use Rattle.core_laws.specs.declared.zones.Zone.{Zone}
-use Rattle.core_laws.specs.Steps.{IsIdle}
+use Rattle.core_model.specs.declared.zones.Zone.{Zone}
+use Rattle.core_model.specs.Steps.{IsIdle}
 use Rattle.core_steps.specs.Causes.{MayFaultAt}
 use Rattle.core_steps.proofs.StrayLaws.{passed_on}
 use Rattle.core_steps.proofs.events.step.Goals as goal

@@ -1,6 +1,6 @@
 use Rattle.std.proofs.Common.{[], ◌∷◌}
-use Rattle.core_laws.specs.Trace.{Enters, Commits}
-use Rattle.core_laws.specs.Vios.{logged}
+use Rattle.core_model.specs.Trace.{Enters, Commits}
+use Rattle.core_model.specs.Vios.{logged}
 use Rattle.core_steps.proofs.Ends.{ends_last, ends_next, ends_alone}
 use Rattle.core_steps.proofs.journal.end_committed.Goals as goal
 

@@ -1,7 +1,7 @@
 use Rattle.std.proofs.Common.{rules, [], ◌∷◌}
-use Rattle.core_laws.specs.JournalRows.JournalServes.{enters}
-use Rattle.core_laws.specs.Trace.{Enters}
-use Rattle.core_laws.specs.Vios.{logged}
+use Rattle.core_model.specs.JournalRows.JournalServes.{enters}
+use Rattle.core_model.specs.Trace.{Enters}
+use Rattle.core_model.specs.Vios.{logged}
 use Rattle.core_steps.proofs.journal.enter.Goals as goal
 
 pub returns : goal.returns

@@ -1,5 +1,5 @@
 use Rattle.std.proofs.Common.{◌≡◌, ◌++◌, length}
-use Rattle.core_laws.specs.JournalRows.{all_refused}
+use Rattle.core_model.specs.JournalRows.{all_refused}
 use Rattle.core_steps.specs.Refusals.{answer_of}
 use Rattle.core_steps.proofs.journal.refuse_all.Given as goal
 

@@ -1,6 +1,6 @@
 use Rattle.std.proofs.Common.{◌≡◌, length}
 use Rattle.std.specs.List.{AllByRecursion}
-use Rattle.core_laws.specs.Steps.{delivered}
+use Rattle.core_model.specs.Steps.{delivered}
 use Rattle.core_steps.specs.Causes.{HasLane}
 use Rattle.core_steps.proofs.lanes.deliver.Given as goal
 

@@ -1,5 +1,5 @@
 use Rattle.std.proofs.Common.{◌≡◌, take, reverse}
-use Rattle.core_laws.specs.Trace.{newest, of_address}
+use Rattle.core_model.specs.Trace.{newest, of_address}
 use Rattle.core_steps.proofs.lists.latest.Given as goal
 
 abbrev pub invariant-loop-slot : goal.invariant-loop-slot

@@ -1,5 +1,5 @@
 use Rattle.std.proofs.Common.{◌≡◌, ◌++◌, length}
-use Rattle.core_laws.specs.LogicalRows.{all_for, none_for}
+use Rattle.core_model.specs.LogicalRows.{all_for, none_for}
 use Rattle.core_steps.proofs.lists.part.Given as goal
 
 abbrev pub invariant-loop-vio : goal.invariant-loop-vio

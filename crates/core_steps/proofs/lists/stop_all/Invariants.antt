@@ -1,5 +1,5 @@
 use Rattle.std.proofs.Common.{◌≡◌, ◌++◌, length}
-use Rattle.core_laws.specs.LogicalRows.{all_stopped}
+use Rattle.core_model.specs.LogicalRows.{all_stopped}
 use Rattle.core_steps.proofs.lists.stop_all.Given as goal
 
 abbrev pub invariant-loop-vio : goal.invariant-loop-vio

@@ -1,5 +1,5 @@
 use Rattle.std.proofs.Common.{◌≡◌, ◌++◌, length}
-use Rattle.core_laws.specs.LogicalRows.{first_for, but_first_for}
+use Rattle.core_model.specs.LogicalRows.{first_for, but_first_for}
 use Rattle.core_steps.proofs.lists.take_first.Given as goal
 
 abbrev pub invariant-loop-vio : goal.invariant-loop-vio

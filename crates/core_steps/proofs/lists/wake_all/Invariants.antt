@@ -1,5 +1,5 @@
 use Rattle.std.proofs.Common.{◌≡◌, ◌++◌, length}
-use Rattle.core_laws.specs.DeskRows.{woken}
+use Rattle.core_model.specs.DeskRows.{woken}
 use Rattle.core_steps.proofs.lists.wake_all.Given as goal
 
 abbrev pub invariant-loop-vio : goal.invariant-loop-vio

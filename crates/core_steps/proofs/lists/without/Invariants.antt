@@ -1,5 +1,5 @@
 use Rattle.std.proofs.Common.{◌≡◌, ◌++◌, length}
-use Rattle.core_laws.specs.LogicalRows.{without}
+use Rattle.core_model.specs.LogicalRows.{without}
 use Rattle.core_steps.proofs.lists.without.Given as goal
 
 abbrev pub invariant-loop-lock : goal.invariant-loop-lock

@@ -1,6 +1,6 @@
 use Rattle.std.proofs.Common.{rules, refl, ◌≡◌, ◌∙◌, sym, false}
-use Rattle.core_laws.specs.LogicalRows.{is_among, is_held, drawn_by, placed, goes_on}
-use Rattle.core_laws.specs.LogicalRows.LogicalServes.{arrives_free}
+use Rattle.core_model.specs.LogicalRows.{is_among, is_held, drawn_by, placed, goes_on}
+use Rattle.core_model.specs.LogicalRows.LogicalServes.{arrives_free}
 use Rattle.core_steps.proofs.logical.arrive.Goals as goal
 
 pub returns-clause-ok : goal.returns-clause-ok

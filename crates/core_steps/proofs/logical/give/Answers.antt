@@ -1,5 +1,5 @@
 use Rattle.std.proofs.Common.{rules, refl}
-use Rattle.core_laws.specs.LogicalRows.LogicalServes.{gives}
+use Rattle.core_model.specs.LogicalRows.LogicalServes.{gives}
 use Rattle.core_steps.proofs.logical.give.Goals as goal
 
 pub returns-clause-ok : goal.returns-clause-ok

@@ -1,7 +1,7 @@
 use Rattle.std.proofs.Common.{arith, ◌≡◌, ◌≢◌, ◌<◌, false, Some, length, slice_get, get_or}
 use Rattle.std.proofs.lemmas.Grind.{common_steps}
 use Rattle.std.proofs.lemmas.Option.{gets, slice_get-get_or}
-use Rattle.core_laws.specs.declared.zones.Zone.{Zone}
+use Rattle.core_model.specs.declared.zones.Zone.{Zone}
 use Rattle.core_steps.specs.Moves.{has_items}
 use Rattle.core_steps.proofs.moving.move_items.Goals as goal
 

@@ -1,7 +1,7 @@
 use Rattle.std.proofs.Common.{rules, [], ◌∷◌, refl}
 use Rattle.std.proofs.lemmas.Result.{IfOk-weaker}
-use Rattle.core_laws.specs.JournalRows.PhysicalServes.{claims, is_full}
-use Rattle.core_laws.specs.Trace.{Takes}
+use Rattle.core_model.specs.JournalRows.PhysicalServes.{claims, is_full}
+use Rattle.core_model.specs.Trace.{Takes}
 use Rattle.core_steps.proofs.physical.claim.Goals as goal
 
 pub returns-in-Some : goal.returns-in-Some

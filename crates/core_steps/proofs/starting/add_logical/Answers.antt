@@ -1,6 +1,6 @@
 use Rattle.std.proofs.Common.{arith, ◌≡◌, ◌<◌, ap, ◌∙◌, sym}
-use Rattle.core_laws.specs.declared.sizes.Sizes.{Sizes}
-use Rattle.core_laws.specs.declared.zones.ZoneData.TheVariants as at
+use Rattle.core_model.specs.declared.sizes.Sizes.{Sizes}
+use Rattle.core_model.specs.declared.zones.ZoneData.TheVariants as at
 use Rattle.core_steps.proofs.StartLaws.{lanes_of, numbered}
 use Rattle.core_steps.proofs.starting.add_logical.Goals as goal
 

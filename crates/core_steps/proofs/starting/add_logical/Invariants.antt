@@ -1,6 +1,6 @@
 use Rattle.std.proofs.Common.{◌≡◌, ◌+◌, length, reverse}
-use Rattle.core_laws.specs.Sessions.{Session}
-use Rattle.core_laws.specs.Start.{IsFirstZone}
+use Rattle.core_model.specs.Sessions.{Session}
+use Rattle.core_model.specs.Start.{IsFirstZone}
 use Rattle.plain_laws.specs.Sums.{Each}
 use Rattle.core_steps.proofs.starting.add_logical.Given as goal
 

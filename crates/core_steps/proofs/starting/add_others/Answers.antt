@@ -1,6 +1,6 @@
 use Rattle.std.proofs.Common.{◌∙◌, ap, sym}
-use Rattle.core_laws.specs.Numbers.{physical_zone, journal_zone, device_zone}
-use Rattle.core_laws.specs.declared.zones.ZoneData.TheVariants as at
+use Rattle.core_model.specs.Numbers.{physical_zone, journal_zone, device_zone}
+use Rattle.core_model.specs.declared.zones.ZoneData.TheVariants as at
 use Rattle.core_steps.proofs.StartLaws.{lanes_of, numbered}
 use Rattle.core_steps.proofs.starting.add_others.Goals as goal
 

@@ -1,5 +1,5 @@
 use Rattle.std.proofs.Common.{ap, length, ◌∙◌, refl, sym}
-use Rattle.core_laws.specs.Numbers.{zone_count}
+use Rattle.core_model.specs.Numbers.{zone_count}
 use Rattle.core_steps.proofs.StartLaws.{lanes_of, no_zone}
 use Rattle.core_steps.proofs.starting.begin.Goals as goal
 

@@ -1,4 +1,4 @@
-use Rattle.core_laws.specs.Sessions.{IsServed}
+use Rattle.core_model.specs.Sessions.{IsServed}
 use Rattle.run_tests.proofs.Served.{one_more}
 use Rattle.run_tests.proofs.cores.requests.Goals as goal
 

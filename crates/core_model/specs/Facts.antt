@@ -13,37 +13,37 @@ use Rattle.vdo_model.specs.FlushMarks.{IsMark, successes}
 use Rattle.vdo_model.specs.Places.{drawn, place_of, zone_of}
 use Rattle.vdo_model.specs.Scripts.{request_at}
 use Rattle.vdo_model.specs.ZoneOrder.{places_in}
-use Rattle.core_laws.specs.declared.items.Asks.{Asks}
-use Rattle.core_laws.specs.declared.items.Asks.TheVariants.{Read, Write, Flush}
-use Rattle.core_laws.specs.declared.items.Item.{Item}
-use Rattle.core_laws.specs.declared.items.Item.TheVariants as item
-use Rattle.core_laws.specs.declared.items.Phase.{Phase}
-use Rattle.core_laws.specs.declared.items.Phase.TheVariants as phase
-use Rattle.core_laws.specs.declared.items.SealedBlock.{SealedBlock}
-use Rattle.core_laws.specs.declared.items.Stage.{Stage}
-use Rattle.core_laws.specs.declared.items.Stage.TheVariants as stage
-use Rattle.core_laws.specs.declared.items.Vio.{Vio}
-use Rattle.core_laws.specs.declared.sizes.Sizes.{Sizes}
-use Rattle.core_laws.specs.declared.zones.ZoneData.{ZoneData}
-use Rattle.core_laws.specs.declared.zones.ZoneData.TheVariants as at
-use Rattle.core_laws.specs.declared.zones.Desk.{Desk}
-use Rattle.core_laws.specs.declared.zones.DeviceZone.{DeviceZone}
-use Rattle.core_laws.specs.declared.zones.JournalZone.{JournalZone}
-use Rattle.core_laws.specs.declared.zones.Lock.{Lock}
-use Rattle.core_laws.specs.declared.zones.LogicalZone.{LogicalZone}
-use Rattle.core_laws.specs.declared.zones.PhysicalZone.{PhysicalZone}
-use Rattle.core_laws.specs.declared.zones.Zone.{Zone}
-use Rattle.core_laws.specs.DeskRows.{is_marked, mark_of_vio}
-use Rattle.core_laws.specs.DeviceRows.{IsInside}
-use Rattle.core_laws.specs.JournalRows.{is_closed}
-use Rattle.core_laws.specs.LogicalRows.{is_among, is_held, mapped_by, mapping_at}
-use Rattle.core_laws.specs.Numbers.{desk_zone, logical_zone, physical_zone, journal_zone, device_zone, zone_count, notified_zones}
-use Rattle.core_laws.specs.RightTraces.{IsOpen, Quiet, IsCommitted, AllBelow, HasPlace, HasBelow, HasCause}
-use Rattle.core_laws.specs.Sessions.{Session, HasHonestReads, IsFresh, Stands, ReadsAs, AtRest, OnItsWay, ReadsEntry, HasPending, value_at}
+use Rattle.core_model.specs.declared.items.Asks.{Asks}
+use Rattle.core_model.specs.declared.items.Asks.TheVariants.{Read, Write, Flush}
+use Rattle.core_model.specs.declared.items.Item.{Item}
+use Rattle.core_model.specs.declared.items.Item.TheVariants as item
+use Rattle.core_model.specs.declared.items.Phase.{Phase}
+use Rattle.core_model.specs.declared.items.Phase.TheVariants as phase
+use Rattle.core_model.specs.declared.items.SealedBlock.{SealedBlock}
+use Rattle.core_model.specs.declared.items.Stage.{Stage}
+use Rattle.core_model.specs.declared.items.Stage.TheVariants as stage
+use Rattle.core_model.specs.declared.items.Vio.{Vio}
+use Rattle.core_model.specs.declared.sizes.Sizes.{Sizes}
+use Rattle.core_model.specs.declared.zones.ZoneData.{ZoneData}
+use Rattle.core_model.specs.declared.zones.ZoneData.TheVariants as at
+use Rattle.core_model.specs.declared.zones.Desk.{Desk}
+use Rattle.core_model.specs.declared.zones.DeviceZone.{DeviceZone}
+use Rattle.core_model.specs.declared.zones.JournalZone.{JournalZone}
+use Rattle.core_model.specs.declared.zones.Lock.{Lock}
+use Rattle.core_model.specs.declared.zones.LogicalZone.{LogicalZone}
+use Rattle.core_model.specs.declared.zones.PhysicalZone.{PhysicalZone}
+use Rattle.core_model.specs.declared.zones.Zone.{Zone}
+use Rattle.core_model.specs.DeskRows.{is_marked, mark_of_vio}
+use Rattle.core_model.specs.DeviceRows.{IsInside}
+use Rattle.core_model.specs.JournalRows.{is_closed}
+use Rattle.core_model.specs.LogicalRows.{is_among, is_held, mapped_by, mapping_at}
+use Rattle.core_model.specs.Numbers.{desk_zone, logical_zone, physical_zone, journal_zone, device_zone, zone_count, notified_zones}
+use Rattle.core_model.specs.RightTraces.{IsOpen, Quiet, IsCommitted, AllBelow, HasPlace, HasBelow, HasCause}
+use Rattle.core_model.specs.Sessions.{Session, HasHonestReads, IsFresh, Stands, ReadsAs, AtRest, OnItsWay, ReadsEntry, HasPending, value_at}
 use Rattle.plain_laws.specs.Sums.{total, Each}
-use Rattle.core_laws.specs.Tokens.{lock_weight}
-use Rattle.core_laws.specs.Trace.{Trace, moments, lines, calls, marks, places, entered, committed, settled, aborted, taken, has_stopped, of_address, newest, logged_of, entries_of}
-use Rattle.core_laws.specs.Vios.{request_of, logged}
+use Rattle.core_model.specs.Tokens.{lock_weight}
+use Rattle.core_model.specs.Trace.{Trace, moments, lines, calls, marks, places, entered, committed, settled, aborted, taken, has_stopped, of_address, newest, logged_of, entries_of}
+use Rattle.core_model.specs.Vios.{request_of, logged}
 
 -- the zone where a phase is done; one that waits is in no lane, so none to a zone's number
 abbrev pub zone_at : Sizes → ℕ → Phase → ℕ

@@ -16,7 +16,7 @@ use Rattle.vdo_model.specs.declared.report.FlushMark.{FlushMark}
 use Rattle.vdo_model.specs.declared.report.Placed.{Placed}
 use Rattle.vdo_model.specs.FlushMarks.{Moment, Desk, Device, lines_of, calls_of}
 use Rattle.vdo_model.specs.Scripts.{same_writer}
-use Rattle.core_laws.specs.declared.zones.Logged.{Logged}
+use Rattle.core_model.specs.declared.zones.Logged.{Logged}
 
 -- a read that was given the bytes of its address
 pub record Gift : Type 0 where

@@ -1,9 +1,9 @@
 -- The zones of threads: each zone by what its thread knows, and what lies between two zones in a lane.
 use Rattle.std.specs.Prelude.{List, [], ◌∷◌, ◌++◌}
-use Rattle.core_laws.specs.declared.items.Item.{Item}
-use Rattle.core_laws.specs.declared.zones.Zone.{Zone}
-use Rattle.core_laws.specs.Steps.{Core}
-use Rattle.core_laws.specs.Trace.{Trace}
+use Rattle.core_model.specs.declared.items.Item.{Item}
+use Rattle.core_model.specs.declared.zones.Zone.{Zone}
+use Rattle.core_model.specs.Steps.{Core}
+use Rattle.core_model.specs.Trace.{Trace}
 
 -- what lies in the lanes goes before what is in the outboxes
 abbrev pub behind : List (List Item) → List (List Item) → List (List Item)

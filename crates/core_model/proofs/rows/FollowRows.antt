@@ -9,9 +9,9 @@ use Rattle.blk_base.specs.declared.request.Request.TheVariants as request
 use Rattle.disk_model.specs.declared.call.Call.TheVariants.{Read, Write, Flush}
 use Rattle.vdo_model.specs.FlushMarks.{Moment, Desk, Device}
 use Rattle.vdo_model.specs.declared.report.DeskLine.TheVariants.{Begin, Answer}
-use Rattle.core_laws.specs.RightTraces.{MayAnswer, MayFollow, StopsAtFailure}
-use Rattle.core_laws.specs.Trace.{Says, Flushes, Draws, Enters, Commits, Sets, Gives, Takes, Aborts, Calls, Fails, Trace, Happening}
-use Rattle.core_laws.proofs.rows.WorkedTraces.{address, block, writer, x, y, first, reader, second, other, late, flush, session, begun, took, handed_in, lasting, set, stopped, place, entry, of_first, of_second, of_other, given}
+use Rattle.core_model.specs.RightTraces.{MayAnswer, MayFollow, StopsAtFailure}
+use Rattle.core_model.specs.Trace.{Says, Flushes, Draws, Enters, Commits, Sets, Gives, Takes, Aborts, Calls, Fails, Trace, Happening}
+use Rattle.core_model.proofs.rows.WorkedTraces.{address, block, writer, x, y, first, reader, second, other, late, flush, session, begun, took, handed_in, lasting, set, stopped, place, entry, of_first, of_second, of_other, given}
 
 abbrev May : Happening → Trace → Type 0
 May h t = MayFollow session h t

@@ -15,11 +15,11 @@ use Rattle.disk_model.specs.declared.call.Call.TheVariants.{Read}
 use Rattle.image_layout.specs.Window.{IsWindow, journal_of, mapping_of, value_of}
 use Rattle.stop_laws.specs.Journals.{Surely, IsAtRest, IsUnderWay, HasEntry, block_of_slot}
 use Rattle.vdo_model.specs.Scripts.{Script, request_at, value_written}
-use Rattle.core_laws.specs.declared.sizes.Sizes.{Sizes}
-use Rattle.core_laws.specs.declared.zones.Logged.{Logged}
+use Rattle.core_model.specs.declared.sizes.Sizes.{Sizes}
+use Rattle.core_model.specs.declared.zones.Logged.{Logged}
 use Rattle.plain_laws.specs.Sums.{total}
-use Rattle.core_laws.specs.Tokens.{is_block}
-use Rattle.core_laws.specs.Trace.{Calls, Trace, calls, entered, committed, settled, of_address, newest, entry_of, entries_of}
+use Rattle.core_model.specs.Tokens.{is_block}
+use Rattle.core_model.specs.Trace.{Calls, Trace, calls, entered, committed, settled, of_address, newest, entry_of, entries_of}
 
 -- What is fixed: the sizes, the script, the blocks that the device had when its log began, its log before the session,
 -- the one image that a stop left then, the window of that image, and the data blocks that are free in it.

@@ -9,9 +9,9 @@ use Rattle.vdo_model.specs.ZoneOrder.{by_zone}
 use Rattle.vdo_model.specs.declared.report.HistoryEntry.{HistoryEntry}
 use Rattle.vdo_model.specs.declared.report.Placed.{Placed}
 use Rattle.vdo_model.specs.declared.report.RunReport.{RunReport}
-use Rattle.core_laws.specs.declared.zones.Logged.{Logged}
-use Rattle.core_laws.specs.Sessions.{Session}
-use Rattle.core_laws.specs.Trace.{Trace, lines, marks, places, entered, settled, logged_of}
+use Rattle.core_model.specs.declared.zones.Logged.{Logged}
+use Rattle.core_model.specs.Sessions.{Session}
+use Rattle.core_model.specs.Trace.{Trace, lines, marks, places, entered, settled, logged_of}
 
 abbrev pub is_there : Option Logged → Bool
 is_there None = false

@@ -13,28 +13,28 @@ use Rattle.vdo_model.specs.declared.report.DeskLine.{DeskLine}
 use Rattle.vdo_model.specs.declared.report.DeskLine.TheVariants as line
 use Rattle.vdo_model.specs.declared.report.FlushMark.{FlushMark}
 use Rattle.vdo_model.specs.declared.report.Placed.{Placed}
-use Rattle.core_laws.specs.declared.items.Asks.{Asks}
-use Rattle.core_laws.specs.declared.items.Asks.TheVariants as asks
-use Rattle.core_laws.specs.declared.items.Item.{Item}
-use Rattle.core_laws.specs.declared.items.Item.TheVariants.{Request, Block, StopNotice}
-use Rattle.core_laws.specs.declared.items.Phase.{Phase}
-use Rattle.core_laws.specs.declared.items.Phase.TheVariants as phase
-use Rattle.core_laws.specs.declared.items.SealedBlock.{SealedBlock}
-use Rattle.core_laws.specs.declared.items.Stage.{Stage}
-use Rattle.core_laws.specs.declared.items.Stage.TheVariants as stage
-use Rattle.core_laws.specs.declared.items.Vio.{Vio}
-use Rattle.core_laws.specs.declared.zones.Lock.{Lock}
-use Rattle.core_laws.specs.declared.zones.Logged.{Logged}
-use Rattle.core_laws.specs.declared.zones.ZoneData.{ZoneData}
-use Rattle.core_laws.specs.declared.zones.ZoneData.TheVariants as at
-use Rattle.core_laws.specs.DeskRows.{DeskBegins, DeskServes}
-use Rattle.core_laws.specs.DeviceRows.{DeviceServes, DeviceWorks, journal_bytes}
-use Rattle.core_laws.specs.JournalRows.{PhysicalServes, JournalServes, JournalEnds}
-use Rattle.core_laws.specs.LogicalRows.{LogicalServes}
-use Rattle.core_laws.specs.Steps.{Act, begins, answers, hears, serves, serves_notice, takes, takes_notice, enters, ends, enters_notice, calls, works}
-use Rattle.core_laws.specs.Trace.{Says, Flushes, Draws, Enters, Commits, Sets, Gives, Takes, Aborts, Calls, Fails, Trace}
-use Rattle.core_laws.specs.Vios.{Post}
-use Rattle.core_laws.proofs.rows.WorkedTraces.{address, block, x, y, script, first, reader, second, other, flush, sizes, place, of_first, of_second, given}
+use Rattle.core_model.specs.declared.items.Asks.{Asks}
+use Rattle.core_model.specs.declared.items.Asks.TheVariants as asks
+use Rattle.core_model.specs.declared.items.Item.{Item}
+use Rattle.core_model.specs.declared.items.Item.TheVariants.{Request, Block, StopNotice}
+use Rattle.core_model.specs.declared.items.Phase.{Phase}
+use Rattle.core_model.specs.declared.items.Phase.TheVariants as phase
+use Rattle.core_model.specs.declared.items.SealedBlock.{SealedBlock}
+use Rattle.core_model.specs.declared.items.Stage.{Stage}
+use Rattle.core_model.specs.declared.items.Stage.TheVariants as stage
+use Rattle.core_model.specs.declared.items.Vio.{Vio}
+use Rattle.core_model.specs.declared.zones.Lock.{Lock}
+use Rattle.core_model.specs.declared.zones.Logged.{Logged}
+use Rattle.core_model.specs.declared.zones.ZoneData.{ZoneData}
+use Rattle.core_model.specs.declared.zones.ZoneData.TheVariants as at
+use Rattle.core_model.specs.DeskRows.{DeskBegins, DeskServes}
+use Rattle.core_model.specs.DeviceRows.{DeviceServes, DeviceWorks, journal_bytes}
+use Rattle.core_model.specs.JournalRows.{PhysicalServes, JournalServes, JournalEnds}
+use Rattle.core_model.specs.LogicalRows.{LogicalServes}
+use Rattle.core_model.specs.Steps.{Act, begins, answers, hears, serves, serves_notice, takes, takes_notice, enters, ends, enters_notice, calls, works}
+use Rattle.core_model.specs.Trace.{Says, Flushes, Draws, Enters, Commits, Sets, Gives, Takes, Aborts, Calls, Fails, Trace}
+use Rattle.core_model.specs.Vios.{Post}
+use Rattle.core_model.proofs.rows.WorkedTraces.{address, block, x, y, script, first, reader, second, other, flush, sizes, place, of_first, of_second, given}
 
 -- The zones: 0 is the desk, 1 and 2 are logical, 3 is the physical zone, 4 the journal, 5 the device.
 abbrev Acts : ZoneData → List Item → ZoneData → Trace → List Post → Type 0

@@ -1,6 +1,6 @@
 -- The numbers of the zones: the desk, the logical zones, the physical zone, the journal, the device.
 use Rattle.std.specs.Prelude.{ℕ, ◌+◌}
-use Rattle.core_laws.specs.declared.sizes.Sizes.{Sizes}
+use Rattle.core_model.specs.declared.sizes.Sizes.{Sizes}
 
 abbrev pub desk_zone : ℕ
 desk_zone = 0

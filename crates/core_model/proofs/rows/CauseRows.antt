@@ -9,9 +9,9 @@ use Rattle.blk_base.specs.declared.request.Writer.{Writer}
 use Rattle.blk_base.specs.declared.request.Request.{Request}
 use Rattle.disk_model.specs.declared.call.Call.TheVariants.{Read, Flush}
 use Rattle.vdo_model.specs.declared.report.DeskLine.TheVariants.{Begin}
-use Rattle.core_laws.specs.RightTraces.{HasCause, MayAnswer}
-use Rattle.core_laws.specs.Trace.{Gift, Says, Gives, Takes, Aborts, Fails, Trace}
-use Rattle.core_laws.proofs.rows.WorkedTraces.{address, block, x, y, first, reader, second, other, late, flush, session, begun, took, handed_in, lasting, set, stopped, entry, of_first, of_other, given}
+use Rattle.core_model.specs.RightTraces.{HasCause, MayAnswer}
+use Rattle.core_model.specs.Trace.{Gift, Says, Gives, Takes, Aborts, Fails, Trace}
+use Rattle.core_model.proofs.rows.WorkedTraces.{address, block, x, y, first, reader, second, other, late, flush, session, begun, took, handed_in, lasting, set, stopped, entry, of_first, of_other, given}
 
 -- a read of an address, and a write of it
 abbrev Reads : Trace → Writer → ℕ → Answer → Type 0
