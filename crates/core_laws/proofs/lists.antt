@@ -3,3 +3,4 @@ pub mod LaneLists
 pub mod LineLaws
 pub mod Lists
 pub mod LockLists
+pub mod ZoneNames

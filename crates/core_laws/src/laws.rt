@@ -32,6 +32,7 @@ ghost use Rattle.core_model.specs.Steps.{Act, CallsDevice, Core, HasAct, Leads, 
 ghost use Rattle.core_model.specs.Trace.{Trace, aborted, calls, is_ok, is_read, lines, marks, moments, places};
 ghost use Rattle.core_model.specs.Views.{core_of};
 ghost use Rattle.core_model.specs.Vios.{Post};
+ghost use Rattle.core_model.specs.Zones.{zone_number};
 
 /// A core is legal when a session begins, and every list of events keeps it so.
 pub fn every_event_keeps_a_core_legal()
@@ -50,7 +51,7 @@ pub fn a_legal_core_goes_on()
         → slice_get core.zones n ≡ Some z → MayBegin s.sizes z.keeps → HasAct s.sizes z.keeps [] }
     ensures lanes { (s : Session) (core : Core) (n : ℕ) (z : Zone) (front rest : List Item) (new : ZoneData) (made : Trace) (posts : List Post) → IsSession s → Legal s core
         → slice_get core.zones n ≡ Some z → z.inbox ≡ front ++ rest → (front ≡ [] → rest ≡ []) → Act s.sizes z.keeps front new made posts
-        → AllByRecursion (λ (post : Post). post.0 < length z.outboxes) posts }
+        → AllByRecursion (λ (post : Post). zone_number s.sizes post.0 < length z.outboxes) posts }
 {}
 
 /// What was begun and answered in a legal core is in order, and so are the places; the desk and the logical zones have

@@ -1,4 +1,5 @@
 pub mod CauseRows
 pub mod FollowRows
 pub mod PhaseRows
+pub mod ZoneRows
 pub mod WorkedTraces

@@ -1,6 +1,8 @@
 -- What the desk does: it begins requests, and answers them.
 use Rattle.std.specs.Prelude.{ℕ, ◌+◌, ◌≡◌, ◌≤◌, Bool, true, false, Option, None, Some, List, [], ◌∷◌, ◌++◌, nat_lt, if◌then◌else◌}
 use Rattle.blk_base.specs.Sectors.{zero_block}
+use Rattle.blk_base.specs.declared.place.ZoneId.{ZoneId}
+use Rattle.blk_base.specs.declared.place.ZoneId.TheVariants as id
 use Rattle.blk_base.specs.declared.request.Answer.{Answer}
 use Rattle.blk_base.specs.declared.request.Answer.TheVariants as reply
 use Rattle.blk_base.specs.declared.request.Request.{Request}
@@ -17,7 +19,7 @@ use Rattle.core_model.specs.declared.items.Phase.TheVariants as phase
 use Rattle.core_model.specs.declared.items.Vio.{Vio}
 use Rattle.core_model.specs.declared.sizes.Sizes.{Sizes}
 use Rattle.core_model.specs.declared.zones.Desk.{Desk}
-use Rattle.core_model.specs.Numbers.{desk_zone, device_zone, notified_zones}
+use Rattle.core_model.specs.Zones.{notified_zones}
 use Rattle.core_model.specs.Trace.{Trace, Says, Flushes}
 use Rattle.core_model.specs.Vios.{Post, begun_vio, turned}
 
@@ -43,13 +45,13 @@ at_once sizes notified Write a = if nat_lt a sizes.geometry.logical then (if not
 at_once sizes notified Flush a = if notified then Some reply.Stopped else None
 
 -- a block request goes to the logical zone of its address, a flush to the device
-abbrev pub first_zone : Sizes → Vio → ℕ
-first_zone sizes v = to v.asks
+abbrev pub first_zone : Vio → ZoneId
+first_zone v = to v.asks
   where
-    to : Asks → ℕ
+    to : Asks → ZoneId
     to Read = v.home
     to Write = v.home
-    to Flush = device_zone sizes
+    to Flush = id.Device
 
 -- The next request of a stream is begun, and answered at once or sent on.
 pub data DeskBegins (sizes : Sizes) (old new : Desk) (made : Trace) (posts : List Post) : Type 0 where
@@ -59,7 +61,7 @@ pub data DeskBegins (sizes : Sizes) (old new : Desk) (made : Trace) (posts : Lis
       → DeskBegins sizes old new made posts
   sends : (w : Writer) (r : Request) (v : Vio) → IsNextLine sizes.depth old.requests (line.Begin w) old.log → request_at old.requests w ≡ Some r → vio_of sizes w r ≡ Some v
       → at_once sizes (is_notified sizes old) v.asks v.at.0 ≡ None
-      → new ≡ record old { log = line.Begin w ∷ old.log } → made ≡ Says (line.Begin w) ∷ [] → posts ≡ (first_zone sizes v, item.Request v) ∷ []
+      → new ≡ record old { log = line.Begin w ∷ old.log } → made ≡ Says (line.Begin w) ∷ [] → posts ≡ (first_zone v, item.Request v) ∷ []
       → DeskBegins sizes old new made posts
 
 -- whether an answer is that of a flush that returned
@@ -99,4 +101,4 @@ with_notice desk = record desk { notices = desk.notices + 1; parked = [] }
 
 abbrev pub woken : List Vio → List Post
 woken [] = []
-woken (v ∷ vs) = (desk_zone, item.Request v) ∷ woken vs
+woken (v ∷ vs) = (id.Desk, item.Request v) ∷ woken vs

@@ -1,7 +1,9 @@
 -- What the device zone does: one call of the device. A failed read has any bytes.
-use Rattle.std.specs.Prelude.{ℕ, zero, suc, ◌+◌, ◌≡◌, ◌<◌, Bool, true, false, Option, Some, List, [], ◌∷◌}
+use Rattle.std.specs.Prelude.{ℕ, ◌+◌, ◌≡◌, ◌<◌, Bool, true, false, Option, Some, List, [], ◌∷◌}
 use Rattle.blk_base.specs.Regions.{journal_slot_of, needed_blocks}
 use Rattle.blk_base.specs.declared.place.Pbn.{Pbn}
+use Rattle.blk_base.specs.declared.place.ZoneId.{ZoneId}
+use Rattle.blk_base.specs.declared.place.ZoneId.TheVariants as id
 use Rattle.blk_base.specs.declared.request.Answer.TheVariants as reply
 use Rattle.disk_model.specs.declared.call.Call.{Call}
 use Rattle.disk_model.specs.declared.call.Call.TheVariants.{Read, Write, Flush}
@@ -15,9 +17,10 @@ use Rattle.core_model.specs.declared.items.Stage.TheVariants as stage
 use Rattle.core_model.specs.declared.items.Vio.{Vio}
 use Rattle.core_model.specs.declared.sizes.Sizes.{Sizes}
 use Rattle.core_model.specs.declared.zones.DeviceZone.{DeviceZone}
-use Rattle.core_model.specs.Numbers.{desk_zone, physical_zone, journal_zone, device_zone, notified_zones}
+use Rattle.core_model.specs.Phases.{stage_row}
 use Rattle.core_model.specs.Trace.{Trace, Calls, Fails, entry_of}
 use Rattle.core_model.specs.Vios.{Post, turned, ended, logged, staged}
+use Rattle.core_model.specs.Zones.{notified}
 
 -- one more call succeeded
 abbrev pub counted : DeviceZone → DeviceZone
@@ -27,10 +30,10 @@ counted d = record d { calls = d.calls + 1 }
 abbrev pub halted : DeviceZone → DeviceZone
 halted d = record d { stopped = true }
 
--- the notice of that, to the zones of the numbers from 1 to this one
-abbrev pub stop_notices : ℕ → List Post
-stop_notices zero = []
-stop_notices (suc n) = (suc n, item.StopNotice) ∷ stop_notices n
+-- the notice of that, to these zones
+abbrev pub stop_notices : List ZoneId → List Post
+stop_notices [] = []
+stop_notices (to ∷ others) = (to, item.StopNotice) ∷ stop_notices others
 
 -- the block lies inside the image
 abbrev pub IsInside : Sizes → Pbn → Type 0
@@ -39,14 +42,14 @@ IsInside sizes x = x.0 < needed_blocks sizes.geometry
 pub data DeviceServes (sizes : Sizes) (old : DeviceZone) (v : Vio) (new : DeviceZone) (made : Trace) (posts : List Post) : Type 0 where
   -- the data of a write
   stores : v.phase ≡ phase.Store → old.stopped ≡ false → IsInside sizes v.block
-      → new ≡ counted old → made ≡ Calls (Write v.block v.bytes true) ∷ [] → posts ≡ (journal_zone sizes, item.Request (turned phase.Enter v)) ∷ []
+      → new ≡ counted old → made ≡ Calls (Write v.block v.bytes true) ∷ [] → posts ≡ (id.Journal, item.Request (turned phase.Enter v)) ∷ []
       → DeviceServes sizes old v new made posts
   store_fails : (kept : Bool) → v.phase ≡ phase.Store → old.stopped ≡ false → IsInside sizes v.block
       → new ≡ halted old → made ≡ Fails v.request (Write v.block v.bytes false) kept ∷ []
-      → posts ≡ (physical_zone sizes, item.Request (ended phase.AbortClaim reply.Stopped v)) ∷ stop_notices (notified_zones sizes)
+      → posts ≡ (id.Physical 0, item.Request (ended phase.AbortClaim reply.Stopped v)) ∷ stop_notices (notified sizes)
       → DeviceServes sizes old v new made posts
   store_unmade : v.phase ≡ phase.Store → old.stopped ≡ true
-      → new ≡ old → made ≡ [] → posts ≡ (physical_zone sizes, item.Request (ended phase.AbortClaim reply.Stopped v)) ∷ []
+      → new ≡ old → made ≡ [] → posts ≡ (id.Physical 0, item.Request (ended phase.AbortClaim reply.Stopped v)) ∷ []
       → DeviceServes sizes old v new made posts
   -- the block of a read
   loads : (bytes : List ℕ) → v.phase ≡ phase.Load → IsInside sizes v.block
@@ -58,14 +61,14 @@ pub data DeviceServes (sizes : Sizes) (old : DeviceZone) (v : Vio) (new : Device
   -- a flush request
   flushes : v.phase ≡ phase.Flush → old.stopped ≡ false
       → new ≡ counted old → made ≡ Calls (Flush true) ∷ []
-      → posts ≡ (desk_zone, item.Request (record v { phase = phase.Reply; answer = Some reply.Ok; calls = old.calls + 1 })) ∷ []
+      → posts ≡ (id.Desk, item.Request (record v { phase = phase.Reply; answer = Some reply.Ok; calls = old.calls + 1 })) ∷ []
       → DeviceServes sizes old v new made posts
   flush_fails : (kept : Bool) → v.phase ≡ phase.Flush → old.stopped ≡ false
       → new ≡ halted old → made ≡ Fails v.request (Flush false) kept ∷ []
-      → posts ≡ (desk_zone, item.Request (ended phase.Reply reply.Stopped v)) ∷ stop_notices (notified_zones sizes)
+      → posts ≡ (id.Desk, item.Request (ended phase.Reply reply.Stopped v)) ∷ stop_notices (notified sizes)
       → DeviceServes sizes old v new made posts
   flush_unmade : v.phase ≡ phase.Flush → old.stopped ≡ true
-      → new ≡ old → made ≡ [] → posts ≡ (desk_zone, item.Request (ended phase.Reply reply.Stopped v)) ∷ []
+      → new ≡ old → made ≡ [] → posts ≡ (id.Desk, item.Request (ended phase.Reply reply.Stopped v)) ∷ []
       → DeviceServes sizes old v new made posts
 
 -- the bytes of a sealed block: its one entry, with the first sequence of the window as its head
@@ -76,35 +79,26 @@ journal_bytes sizes b = block_bytes sizes.geometry.nonce b.sequence sizes.start 
 abbrev pub IsItsSlot : Sizes → SealedBlock → Pbn → Type 0
 IsItsSlot sizes b slot = slot.0 ≡ block_of_slot (journal_slot_of sizes.geometry b.sequence)
 
--- what a sealed block needs of the device at a stage, and the stage behind it
+-- what a sealed block needs of the device at a stage, and where it goes then
 abbrev pub call_of : Sizes → SealedBlock → Pbn → Bool → Stage → Option Call
 call_of sizes b slot ok stage.Cover = Some (Flush ok)
 call_of sizes b slot ok stage.Write = Some (Write slot (journal_bytes sizes b) ok)
 call_of sizes b slot ok stage.Harden = Some (Flush ok)
-call_of sizes b slot ok stage.Commit = Option.None
-call_of sizes b slot ok stage.Fail = Option.None
+call_of sizes b slot ok other = Option.None
 
 abbrev pub next_stage : Stage → Stage
-next_stage stage.Cover = stage.Write
-next_stage stage.Write = stage.Harden
-next_stage stage.Harden = stage.Commit
-next_stage stage.Commit = stage.Commit
-next_stage stage.Fail = stage.Fail
+next_stage now = (stage_row now).next
 
-abbrev pub next_zone : Sizes → Stage → ℕ
-next_zone sizes stage.Cover = device_zone sizes
-next_zone sizes stage.Write = device_zone sizes
-next_zone sizes stage.Harden = journal_zone sizes
-next_zone sizes stage.Commit = journal_zone sizes
-next_zone sizes stage.Fail = journal_zone sizes
+abbrev pub next_zone : Stage → ZoneId
+next_zone now = (stage_row (next_stage now)).zone
 
 pub data DeviceWorks (sizes : Sizes) (old : DeviceZone) (b : SealedBlock) (new : DeviceZone) (made : Trace) (posts : List Post) : Type 0 where
   makes : (call : Call) (slot : Pbn) → IsItsSlot sizes b slot → call_of sizes b slot true b.stage ≡ Some call → old.stopped ≡ false
-      → new ≡ counted old → made ≡ Calls call ∷ [] → posts ≡ (next_zone sizes b.stage, item.Block (staged (next_stage b.stage) b)) ∷ []
+      → new ≡ counted old → made ≡ Calls call ∷ [] → posts ≡ (next_zone b.stage, item.Block (staged (next_stage b.stage) b)) ∷ []
       → DeviceWorks sizes old b new made posts
   fails : (call : Call) (slot : Pbn) (kept : Bool) → IsItsSlot sizes b slot → call_of sizes b slot false b.stage ≡ Some call → old.stopped ≡ false
-      → new ≡ halted old → made ≡ Fails b.vio.request call kept ∷ [] → posts ≡ (journal_zone sizes, item.Block (staged stage.Fail b)) ∷ stop_notices (notified_zones sizes)
+      → new ≡ halted old → made ≡ Fails b.vio.request call kept ∷ [] → posts ≡ (id.Journal, item.Block (staged stage.Fail b)) ∷ stop_notices (notified sizes)
       → DeviceWorks sizes old b new made posts
   unmade : (call : Call) (slot : Pbn) → call_of sizes b slot false b.stage ≡ Some call → old.stopped ≡ true
-      → new ≡ old → made ≡ [] → posts ≡ (journal_zone sizes, item.Block (staged stage.Fail b)) ∷ []
+      → new ≡ old → made ≡ [] → posts ≡ (id.Journal, item.Block (staged stage.Fail b)) ∷ []
       → DeviceWorks sizes old b new made posts

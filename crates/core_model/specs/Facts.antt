@@ -1,8 +1,10 @@
 -- What a request carries, and what a zone keeps: facts on their own fields and on the trace.
-use Rattle.std.specs.Prelude.{ℕ, ◌+◌, ◌≡◌, ◌⊎◌, ◌<◌, ◌≤◌, Bool, true, false, Option, None, Some, IsNone, List, [], ◌∷◌, ◌++◌, length, drop}
+use Rattle.std.specs.Prelude.{ℕ, ◌+◌, ◌≡◌, ◌⊎◌, ◌<◌, ◌≤◌, Bool, true, false, Option, None, Some, IsNone, List, [], ◌∷◌, ◌++◌, length, drop, if◌then◌else◌}
 use Rattle.std.specs.List.{AllByRecursion}
 use Rattle.blk_base.specs.declared.place.Mapping.TheVariants.{At}
 use Rattle.blk_base.specs.declared.place.Pbn.{Pbn}
+use Rattle.blk_base.specs.declared.place.ZoneId.{ZoneId}
+use Rattle.blk_base.specs.declared.place.ZoneId.TheVariants as id
 use Rattle.blk_base.specs.declared.request.Answer.{Answer}
 use Rattle.blk_base.specs.declared.request.Answer.TheVariants as reply
 use Rattle.blk_base.specs.declared.request.Writer.{Writer}
@@ -37,50 +39,33 @@ use Rattle.core_model.specs.DeskRows.{is_marked, mark_of_vio}
 use Rattle.core_model.specs.DeviceRows.{IsInside}
 use Rattle.core_model.specs.JournalRows.{is_closed}
 use Rattle.core_model.specs.LogicalRows.{is_among, is_held, mapped_by, mapping_at}
-use Rattle.core_model.specs.Numbers.{desk_zone, logical_zone, physical_zone, journal_zone, device_zone, zone_count, notified_zones}
+use Rattle.core_model.specs.Phases.{row, number_at, stage_row}
 use Rattle.core_model.specs.RightTraces.{IsOpen, Quiet, IsCommitted, AllBelow, HasPlace, HasBelow, HasCause}
 use Rattle.core_model.specs.Sessions.{Session, HasHonestReads, IsFresh, Stands, ReadsAs, AtRest, OnItsWay, ReadsEntry, HasPending, value_at}
 use Rattle.plain_laws.specs.Sums.{total, Each}
 use Rattle.core_model.specs.Tokens.{lock_weight}
 use Rattle.core_model.specs.Trace.{Trace, moments, lines, calls, marks, places, entered, committed, settled, aborted, taken, has_stopped, of_address, newest, logged_of, entries_of}
 use Rattle.core_model.specs.Vios.{request_of, logged}
+use Rattle.core_model.specs.Zones.{zone_number, desk_zone, logical_zone, physical_zone, journal_zone, device_zone, zone_count, notified_zones}
 
--- the zone where a phase is done; one that waits is in no lane, so none to a zone's number
-abbrev pub zone_at : Sizes → ℕ → Phase → ℕ
-zone_at sizes home phase.Arrive = home
-zone_at sizes home phase.Wait = zone_count sizes
-zone_at sizes home phase.Claim = physical_zone sizes
-zone_at sizes home phase.Store = device_zone sizes
-zone_at sizes home phase.Enter = journal_zone sizes
-zone_at sizes home phase.Settle = home
-zone_at sizes home phase.Load = device_zone sizes
-zone_at sizes home phase.Loaded = home
-zone_at sizes home phase.AbortClaim = physical_zone sizes
-zone_at sizes home phase.Abort = home
-zone_at sizes home phase.AbortEnteredClaim = physical_zone sizes
-zone_at sizes home phase.AbortEntered = home
-zone_at sizes home phase.Flush = device_zone sizes
-zone_at sizes home phase.Reply = desk_zone
+-- the number of the zone where a phase, and a stage, is done
+abbrev pub zone_at : Sizes → ZoneId → Phase → ℕ
+zone_at sizes home p = number_at sizes home (row p).zone
 
 abbrev pub zone_of_stage : Sizes → Stage → ℕ
-zone_of_stage sizes stage.Cover = device_zone sizes
-zone_of_stage sizes stage.Write = device_zone sizes
-zone_of_stage sizes stage.Harden = device_zone sizes
-zone_of_stage sizes stage.Commit = journal_zone sizes
-zone_of_stage sizes stage.Fail = journal_zone sizes
+zone_of_stage sizes now = zone_number sizes (stage_row now).zone
 
 -- the address of a block request is below the logical size; a flush has none
 abbrev pub HasAddress : Sizes → Vio → Asks → Type 0
-HasAddress sizes v Read = v.at.0 < sizes.geometry.logical
-HasAddress sizes v Write = v.at.0 < sizes.geometry.logical
 HasAddress sizes v Flush = Unit {0}
+HasAddress sizes v other = v.at.0 < sizes.geometry.logical
 
 -- A request under way is one of the script, it is open, and its home is the logical zone of its address.
 pub record VioOk (s : Session) (t : Trace) (v : Vio) : Type 0 where
   pub asked : request_at s.script v.request ≡ Some (request_of v)
   pub is_open : IsOpen t v.request
   pub address : HasAddress s.sizes v v.asks
-  pub home : v.home ≡ logical_zone (zone_of s.sizes.zones v.at.0)
+  pub home : v.home ≡ id.Logical (zone_of s.sizes.zones v.at.0)
 
 -- a block request that drew no place yet
 pub record IsUnplaced (s : Session) (t : Trace) (v : Vio) : Type 0 where
@@ -196,7 +181,7 @@ pub record DeskOk (s : Session) (t : Trace) (number : ℕ) (desk : Desk) : Type 
 -- a request that waits for a lock that is held
 pub record WaitsOk (s : Session) (t : Trace) (number : ℕ) (l : LogicalZone) (v : Vio) : Type 0 where
   pub kept : KeptOk s t phase.Wait v
-  pub at_home : v.home ≡ number
+  pub at_home : zone_number s.sizes v.home ≡ number
   pub drawn_before : v.place < l.next
   pub locked : is_held v.at.0 l.held ≡ true
 
@@ -256,25 +241,11 @@ DataOk s t number (at.Device d) = DeviceOk s t number d
 
 -- the requests among these items that have yet to draw a place
 abbrev pub arriving : Phase → Writer → List Writer
-arriving phase.Arrive w = w ∷ []
-arriving phase.Wait w = []
-arriving phase.Claim w = []
-arriving phase.Store w = []
-arriving phase.Enter w = []
-arriving phase.Settle w = []
-arriving phase.Load w = []
-arriving phase.Loaded w = []
-arriving phase.AbortClaim w = []
-arriving phase.Abort w = []
-arriving phase.AbortEnteredClaim w = []
-arriving phase.AbortEntered w = []
-arriving phase.Flush w = []
-arriving phase.Reply w = []
+arriving p w = if (row p).arrives then w ∷ [] else []
 
 abbrev pub arrival : Item → List Writer
 arrival (item.Request v) = arriving v.phase v.request
-arrival (item.Block b) = []
-arrival item.StopNotice = []
+arrival other = []
 
 abbrev pub arrivals : List Item → List Writer
 arrivals [] = []

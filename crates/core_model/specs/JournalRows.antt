@@ -1,6 +1,7 @@
 -- What the physical zone and the journal do: data blocks are taken, entries are handed in and committed.
 use Rattle.std.specs.Prelude.{◌+◌, ◌≡◌, Bool, true, false, ◌||◌, List, [], ◌∷◌, ◌++◌, length, nat_lt}
 use Rattle.blk_base.specs.declared.place.Pbn.{Pbn}
+use Rattle.blk_base.specs.declared.place.ZoneId.TheVariants as id
 use Rattle.blk_base.specs.declared.request.Answer.{Answer}
 use Rattle.blk_base.specs.declared.request.Answer.TheVariants as reply
 use Rattle.core_model.specs.declared.items.Item.TheVariants as item
@@ -11,14 +12,13 @@ use Rattle.core_model.specs.declared.items.Vio.{Vio}
 use Rattle.core_model.specs.declared.sizes.Sizes.{Sizes}
 use Rattle.core_model.specs.declared.zones.JournalZone.{JournalZone}
 use Rattle.core_model.specs.declared.zones.PhysicalZone.{PhysicalZone}
-use Rattle.core_model.specs.Numbers.{physical_zone, device_zone}
 use Rattle.core_model.specs.Trace.{Trace, Enters, Commits, Takes}
 use Rattle.core_model.specs.Vios.{Post, turned, ended, logged}
 
 pub data PhysicalServes (sizes : Sizes) (old : PhysicalZone) (v : Vio) (new : PhysicalZone) (made : Trace) (posts : List Post) : Type 0 where
   -- a write takes the first free block, or there is none
   claims : (x : Pbn) (others : List Pbn) → v.phase ≡ phase.Claim → old.free ≡ x ∷ others
-      → new ≡ record old { free = others } → made ≡ Takes v.request x ∷ [] → posts ≡ (device_zone sizes, item.Request (record v { phase = phase.Store; block = x })) ∷ []
+      → new ≡ record old { free = others } → made ≡ Takes v.request x ∷ [] → posts ≡ (id.Device, item.Request (record v { phase = phase.Store; block = x })) ∷ []
       → PhysicalServes sizes old v new made posts
   is_full : v.phase ≡ phase.Claim → old.free ≡ []
       → new ≡ old → made ≡ [] → posts ≡ (v.home, item.Request (ended phase.Abort reply.Full v)) ∷ []
@@ -45,7 +45,7 @@ sealed sizes j v = record { stage = stage.Cover; sequence = sizes.start + (sizes
 
 -- a request is aborted, by way of the physical zone
 abbrev pub refused : Sizes → Answer → Vio → Post
-refused sizes answer v = (physical_zone sizes, item.Request (ended phase.AbortClaim answer v))
+refused sizes answer v = (id.Physical 0, item.Request (ended phase.AbortClaim answer v))
 
 abbrev pub all_refused : Sizes → Answer → List Vio → List Post
 all_refused sizes answer [] = []
@@ -69,7 +69,7 @@ pub data JournalServes (sizes : Sizes) (old : JournalZone) (v : Vio) (new : Jour
       → new ≡ old → made ≡ [] → posts ≡ refused sizes reply.Full v ∷ []
       → JournalServes sizes old v new made posts
   enters : v.phase ≡ phase.Enter → is_closed old ≡ false → old.busy ≡ false → has_block sizes old ≡ true
-      → new ≡ entered_by v old → made ≡ Enters (logged v) ∷ [] → posts ≡ (device_zone sizes, item.Block (sealed sizes old v)) ∷ []
+      → new ≡ entered_by v old → made ≡ Enters (logged v) ∷ [] → posts ≡ (id.Device, item.Block (sealed sizes old v)) ∷ []
       → JournalServes sizes old v new made posts
 
 -- a committed entry goes to its slot
@@ -80,7 +80,7 @@ pub data JournalEnds (sizes : Sizes) (old : JournalZone) (b : SealedBlock) (new 
   -- the block is committed, and the next entry is handed in, or nobody waits, or there is no block for those that wait
   commits_next : (w : Vio) (ws : List Vio) → b.stage ≡ stage.Commit → old.waiting ≡ w ∷ ws → has_block sizes old ≡ true
       → new ≡ entered_by w (record (committed_by b.vio old) { waiting = ws }) → made ≡ Enters (logged w) ∷ Commits (logged b.vio) ∷ []
-      → posts ≡ hands_out b.vio ∷ (device_zone sizes, item.Block (sealed sizes old w)) ∷ []
+      → posts ≡ hands_out b.vio ∷ (id.Device, item.Block (sealed sizes old w)) ∷ []
       → JournalEnds sizes old b new made posts
   commits_alone : b.stage ≡ stage.Commit → old.waiting ≡ [] → has_block sizes old ≡ true
       → new ≡ committed_by b.vio old → made ≡ Commits (logged b.vio) ∷ [] → posts ≡ hands_out b.vio ∷ []
@@ -92,5 +92,5 @@ pub data JournalEnds (sizes : Sizes) (old : JournalZone) (b : SealedBlock) (new 
   -- the block failed
   fails : b.stage ≡ stage.Fail
       → new ≡ record old { busy = false; broken = true; waiting = [] } → made ≡ []
-      → posts ≡ (physical_zone sizes, item.Request (ended phase.AbortEnteredClaim reply.Stopped b.vio)) ∷ all_refused sizes reply.Stopped old.waiting
+      → posts ≡ (id.Physical 0, item.Request (ended phase.AbortEnteredClaim reply.Stopped b.vio)) ∷ all_refused sizes reply.Stopped old.waiting
       → JournalEnds sizes old b new made posts

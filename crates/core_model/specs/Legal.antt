@@ -8,7 +8,7 @@ use Rattle.core_model.specs.declared.zones.ZoneData.TheVariants as at
 use Rattle.core_model.specs.declared.zones.LogicalZone.{LogicalZone}
 use Rattle.core_model.specs.declared.zones.Zone.{Zone}
 use Rattle.core_model.specs.Facts.{ZoneOk, arrivals}
-use Rattle.core_model.specs.Numbers.{desk_zone, zone_count, notified_zones}
+use Rattle.core_model.specs.Zones.{desk_zone, zone_count, notified_zones}
 use Rattle.core_model.specs.RightTraces.{RightTrace, GivesRight}
 use Rattle.core_model.specs.Sessions.{Session, HasHonestReads}
 use Rattle.core_model.specs.Steps.{Core}

@@ -1,4 +1,5 @@
-pub mod Numbers
+pub mod Zones
+pub mod Phases
 pub mod Trace
 pub mod Vios
 pub mod DeskRows

@@ -4,6 +4,7 @@ use Rattle.blk_base.specs.Sectors.{zero_block}
 use Rattle.blk_base.specs.declared.place.Lba.{Lba}
 use Rattle.blk_base.specs.declared.place.Mapping.{Mapping}
 use Rattle.blk_base.specs.declared.place.Mapping.TheVariants.{Unmapped, Zero, At}
+use Rattle.blk_base.specs.declared.place.ZoneId.TheVariants as id
 use Rattle.blk_base.specs.declared.request.Answer.TheVariants as reply
 use Rattle.image_layout.specs.Window.{mapping_of}
 use Rattle.vdo_model.specs.declared.report.Placed.{Placed}
@@ -16,7 +17,6 @@ use Rattle.core_model.specs.declared.sizes.Sizes.{Sizes}
 use Rattle.core_model.specs.declared.zones.Lock.{Lock}
 use Rattle.core_model.specs.declared.zones.LogicalZone.{LogicalZone}
 use Rattle.core_model.specs.declared.zones.Logged.{Logged}
-use Rattle.core_model.specs.Numbers.{desk_zone, logical_zone, physical_zone, device_zone}
 use Rattle.core_model.specs.Trace.{Trace, Draws, Sets, Gives, Aborts, of_address, newest}
 use Rattle.core_model.specs.Vios.{Post, turned, ended, logged, gift}
 
@@ -84,13 +84,13 @@ looked l v = record v { old = mapping_at l v.at.0; latest = latest_at l v.at.0 }
 
 -- where it goes: a write takes a block, a read reads the mapped one, or is given zeros; a flush takes no lock
 abbrev pub read_next : Sizes → LogicalZone → Vio → Mapping → Post
-read_next sizes l v (At x) = (device_zone sizes, item.Request (record v { phase = phase.Load; block = x }))
-read_next sizes l v Unmapped = (logical_zone l.zone, item.Request (record v { phase = phase.Loaded; bytes = zero_block }))
-read_next sizes l v Zero = (logical_zone l.zone, item.Request (record v { phase = phase.Loaded; bytes = zero_block }))
+read_next sizes l v (At x) = (id.Device, item.Request (record v { phase = phase.Load; block = x }))
+read_next sizes l v Unmapped = (id.Logical l.zone, item.Request (record v { phase = phase.Loaded; bytes = zero_block }))
+read_next sizes l v Zero = (id.Logical l.zone, item.Request (record v { phase = phase.Loaded; bytes = zero_block }))
 
 abbrev pub next_for : Sizes → LogicalZone → Vio → Asks → Option Post
 next_for sizes l v Read = Some (read_next sizes l (looked l v) (mapping_at l v.at.0))
-next_for sizes l v Write = Some (physical_zone sizes, item.Request (turned phase.Claim (looked l v)))
+next_for sizes l v Write = Some (id.Physical 0, item.Request (turned phase.Claim (looked l v)))
 next_for sizes l v Flush = None
 
 abbrev pub goes_on : Sizes → LogicalZone → Vio → Option Post
@@ -122,7 +122,7 @@ retire a l = record l { held = without a l.held; retired = record { 0 = a } ∷ 
 
 abbrev pub all_stopped : List Vio → List Post
 all_stopped [] = []
-all_stopped (v ∷ vs) = (desk_zone, item.Request (ended phase.Reply reply.Stopped v)) ∷ all_stopped vs
+all_stopped (v ∷ vs) = (id.Desk, item.Request (ended phase.Reply reply.Stopped v)) ∷ all_stopped vs
 
 -- with the slot that a write sets
 abbrev pub with_slot : LogicalZone → Vio → LogicalZone
@@ -132,7 +132,7 @@ pub data LogicalServes (sizes : Sizes) (old : LogicalZone) (v : Vio) (new : Logi
   -- it draws its place: its address is never released, or free, or held
   arrives_retired : v.phase ≡ phase.Arrive → is_among v.at.0 old.retired ≡ true
       → new ≡ drawn_by old v → made ≡ Draws (place_of_vio old v) ∷ []
-      → posts ≡ (desk_zone, item.Request (ended phase.Reply reply.Stopped (placed old v))) ∷ []
+      → posts ≡ (id.Desk, item.Request (ended phase.Reply reply.Stopped (placed old v))) ∷ []
       → LogicalServes sizes old v new made posts
   arrives_free : (post : Post) → v.phase ≡ phase.Arrive → is_among v.at.0 old.retired ≡ false → is_held v.at.0 old.held ≡ false → goes_on sizes old (placed old v) ≡ Some post
       → new ≡ record (drawn_by old v) { held = lock_of (placed old v) ∷ old.held } → made ≡ Draws (place_of_vio old v) ∷ []
@@ -145,20 +145,20 @@ pub data LogicalServes (sizes : Sizes) (old : LogicalZone) (v : Vio) (new : Logi
   -- its slot is set
   settles : (more : List Post) → v.phase ≡ phase.Settle → granted sizes v.at.0 (with_slot old v) ≡ Some more
       → new ≡ released v.at.0 (with_slot old v) → made ≡ Sets (logged v) ∷ []
-      → posts ≡ (desk_zone, item.Request (ended phase.Reply reply.Ok v)) ∷ more
+      → posts ≡ (id.Desk, item.Request (ended phase.Reply reply.Ok v)) ∷ more
       → LogicalServes sizes old v new made posts
   -- it is given its bytes
   gives : (more : List Post) → v.phase ≡ phase.Loaded → granted sizes v.at.0 old ≡ Some more
       → new ≡ released v.at.0 old → made ≡ Gives (gift v) ∷ []
-      → posts ≡ (desk_zone, item.Request (ended phase.Reply (reply.Bytes v.bytes) v)) ∷ more
+      → posts ≡ (id.Desk, item.Request (ended phase.Reply (reply.Bytes v.bytes) v)) ∷ more
       → LogicalServes sizes old v new made posts
   -- it is aborted
   aborts : (more : List Post) → v.phase ≡ phase.Abort → granted sizes v.at.0 old ≡ Some more
       → new ≡ released v.at.0 old → made ≡ []
-      → posts ≡ (desk_zone, item.Request (turned phase.Reply v)) ∷ more
+      → posts ≡ (id.Desk, item.Request (turned phase.Reply v)) ∷ more
       → LogicalServes sizes old v new made posts
   -- it is aborted with its entry handed in
   aborts_entered : v.phase ≡ phase.AbortEntered
       → new ≡ retire v.at.0 old → made ≡ Aborts (logged v) ∷ []
-      → posts ≡ (desk_zone, item.Request (turned phase.Reply v)) ∷ all_stopped (all_for v.at.0 old.waiting)
+      → posts ≡ (id.Desk, item.Request (turned phase.Reply v)) ∷ all_stopped (all_for v.at.0 old.waiting)
       → LogicalServes sizes old v new made posts

@@ -9,7 +9,7 @@ use Rattle.core_model.specs.declared.zones.JournalZone.{JournalZone}
 use Rattle.core_model.specs.declared.zones.LogicalZone.{LogicalZone}
 use Rattle.core_model.specs.declared.zones.PhysicalZone.{PhysicalZone}
 use Rattle.core_model.specs.declared.zones.Zone.{Zone}
-use Rattle.core_model.specs.Numbers.{desk_zone, logical_zone, physical_zone, journal_zone, device_zone, zone_count}
+use Rattle.core_model.specs.Zones.{desk_zone, logical_zone, physical_zone, journal_zone, device_zone, zone_count}
 use Rattle.core_model.specs.Sessions.{Session}
 use Rattle.core_model.specs.Steps.{Core}
 use Rattle.plain_laws.specs.Sums.{Each}
@@ -63,9 +63,10 @@ IsFirstData s number (at.Physical p) = IsFirstPhysical s number p
 IsFirstData s number (at.Journal j) = IsFirstJournal s number j
 IsFirstData s number (at.Device d) = IsFirstDevice s number d
 
--- a zone with nothing in its lanes
+-- a zone that made no step, with nothing in its lanes
 pub record IsFirstZone (s : Session) (number : ℕ) (z : Zone) : Type 0 where
   pub number_is : z.number ≡ number
+  pub steps : z.steps ≡ 0
   pub lanes : length z.outboxes ≡ zone_count s.sizes
   pub inbox : z.inbox ≡ []
   pub outboxes : AllByRecursion (λ lane. lane ≡ []) z.outboxes

@@ -1,5 +1,6 @@
 -- A step of one zone, and a move between two. They speak of a zone's own data and lanes and of nothing else.
-use Rattle.std.specs.Prelude.{ℕ, zero, suc, ◌≡◌, ◌≢◌, Bool, true, false, List, [], ◌∷◌, ◌++◌, Some, slice_get, slice_set, nat_eq}
+use Rattle.std.specs.Prelude.{ℕ, zero, suc, ◌+◌, ◌-◌, ◌^◌, ◌≡◌, ◌≢◌, ◌<◌, ◌≤◌, ◌⊎◌, Bool, true, false, List, [], ◌∷◌, ◌++◌, Some, slice_get, slice_set, nat_eq}
+use Rattle.blk_base.specs.declared.place.ZoneId.TheVariants as id
 use Rattle.blk_base.specs.declared.request.Answer.TheVariants as reply
 use Rattle.blk_base.specs.declared.request.Writer.{Writer}
 use Rattle.vdo_model.specs.DeskLog.{IsNextLine}
@@ -17,13 +18,13 @@ use Rattle.core_model.specs.declared.zones.JournalZone.{JournalZone}
 use Rattle.core_model.specs.declared.zones.LogicalZone.{LogicalZone}
 use Rattle.core_model.specs.declared.zones.PhysicalZone.{PhysicalZone}
 use Rattle.core_model.specs.declared.zones.Zone.{Zone}
-use Rattle.core_model.specs.Numbers.{desk_zone}
 use Rattle.core_model.specs.Trace.{Trace}
 use Rattle.core_model.specs.Vios.{Post}
 use Rattle.core_model.specs.DeskRows.{DeskBegins, DeskServes, with_notice, woken}
 use Rattle.core_model.specs.LogicalRows.{LogicalServes}
 use Rattle.core_model.specs.JournalRows.{PhysicalServes, JournalServes, JournalEnds, all_refused}
 use Rattle.core_model.specs.DeviceRows.{DeviceServes, DeviceWorks}
+use Rattle.core_model.specs.Zones.{zone_number}
 
 -- What a zone does with the item at the front of its inbox, or the desk with none: what it keeps then, what happens, and
 -- what it posts.
@@ -32,13 +33,13 @@ pub data Act (sizes : Sizes) : ZoneData → List Item → ZoneData → Trace →
   answers : {old new : Desk} {v : Vio} {made : Trace} {posts : List Post} → DeskServes sizes old v new made posts → Act sizes (at.Desk old) (Request v ∷ []) (at.Desk new) made posts
   hears : {old : Desk} → Act sizes (at.Desk old) (StopNotice ∷ []) (at.Desk (with_notice old)) [] (woken old.parked)
   serves : {old new : LogicalZone} {v : Vio} {made : Trace} {posts : List Post} → LogicalServes sizes old v new made posts → Act sizes (at.Logical old) (Request v ∷ []) (at.Logical new) made posts
-  serves_notice : {old : LogicalZone} → Act sizes (at.Logical old) (StopNotice ∷ []) (at.Logical (record old { notified = true })) [] ((desk_zone, StopNotice) ∷ [])
+  serves_notice : {old : LogicalZone} → Act sizes (at.Logical old) (StopNotice ∷ []) (at.Logical (record old { notified = true })) [] ((id.Desk, StopNotice) ∷ [])
   takes : {old new : PhysicalZone} {v : Vio} {made : Trace} {posts : List Post} → PhysicalServes sizes old v new made posts → Act sizes (at.Physical old) (Request v ∷ []) (at.Physical new) made posts
-  takes_notice : {old : PhysicalZone} → Act sizes (at.Physical old) (StopNotice ∷ []) (at.Physical (record old { notified = true })) [] ((desk_zone, StopNotice) ∷ [])
+  takes_notice : {old : PhysicalZone} → Act sizes (at.Physical old) (StopNotice ∷ []) (at.Physical (record old { notified = true })) [] ((id.Desk, StopNotice) ∷ [])
   enters : {old new : JournalZone} {v : Vio} {made : Trace} {posts : List Post} → JournalServes sizes old v new made posts → Act sizes (at.Journal old) (Request v ∷ []) (at.Journal new) made posts
   ends : {old new : JournalZone} {b : SealedBlock} {made : Trace} {posts : List Post} → JournalEnds sizes old b new made posts → Act sizes (at.Journal old) (Block b ∷ []) (at.Journal new) made posts
   enters_notice : {old : JournalZone} → Act sizes (at.Journal old) (StopNotice ∷ []) (at.Journal (record old { notified = true; waiting = [] })) []
-      ((desk_zone, StopNotice) ∷ all_refused sizes reply.Stopped old.waiting)
+      ((id.Desk, StopNotice) ∷ all_refused sizes reply.Stopped old.waiting)
   calls : {old new : DeviceZone} {v : Vio} {made : Trace} {posts : List Post} → DeviceServes sizes old v new made posts → Act sizes (at.Device old) (Request v ∷ []) (at.Device new) made posts
   works : {old new : DeviceZone} {b : SealedBlock} {made : Trace} {posts : List Post} → DeviceWorks sizes old b new made posts → Act sizes (at.Device old) (Block b ∷ []) (at.Device new) made posts
 
@@ -58,38 +59,46 @@ posted zero item (lane ∷ lanes) = (lane ++ item ∷ []) ∷ lanes
 posted (suc to) item (lane ∷ lanes) = lane ∷ posted to item lanes
 
 -- what a zone posts to itself goes to its own inbox
-abbrev pub sent_to : Bool → Post → Zone → Zone
-sent_to true post z = record z { inbox = z.inbox ++ post.1 ∷ [] }
-sent_to false post z = record z { outboxes = posted post.0 post.1 z.outboxes }
+abbrev pub sent_to : Bool → ℕ → Item → Zone → Zone
+sent_to true to item z = record z { inbox = z.inbox ++ item ∷ [] }
+sent_to false to item z = record z { outboxes = posted to item z.outboxes }
 
-abbrev pub sent : Post → Zone → Zone
-sent post z = sent_to (nat_eq post.0 z.number) post z
+abbrev pub sent : Sizes → Post → Zone → Zone
+sent sizes post z = sent_to (nat_eq (zone_number sizes post.0) z.number) (zone_number sizes post.0) post.1 z
 
-abbrev pub delivered : List Post → Zone → Zone
-delivered [] z = z
-delivered (post ∷ posts) z = delivered posts (sent post z)
+abbrev pub delivered : Sizes → List Post → Zone → Zone
+delivered sizes [] z = z
+delivered sizes (post ∷ posts) z = delivered sizes posts (sent sizes post z)
 
--- One step of a zone: it takes the front of its inbox; where that is empty, the desk begins a request.
+-- how many steps a zone may make
+abbrev pub step_limit : ℕ
+step_limit = 2 ^ 64 - 1
+
+-- One step of a zone: it takes the front of its inbox; where that is empty, the desk begins a request. Its steps are
+-- counted.
 pub record ZoneStep (sizes : Sizes) (old new : Zone) (made : Trace) : Type 0 where
   pub front : List Item
   pub rest : List Item
   pub posts : List Post
+  pub counts : old.steps < step_limit
   pub taken : old.inbox ≡ front ++ rest
   pub in_turn : front ≡ [] → rest ≡ []
   pub act : Act sizes old.keeps front new.keeps made posts
-  pub lanes : new ≡ delivered posts (record old { keeps = new.keeps; inbox = rest })
+  pub lanes : new ≡ delivered sizes posts (record old { keeps = new.keeps; inbox = rest; steps = old.steps + 1 })
 
--- A zone has no work: its inbox is empty, and, where it is the desk, no stream may begin a request.
+-- a stream may begin its next request, where the zone is the desk
 abbrev pub MayBegin : Sizes → ZoneData → Type 0
 MayBegin sizes (at.Desk desk) = (w : Writer) × IsNextLine sizes.depth desk.requests (line.Begin w) desk.log
-MayBegin sizes (at.Logical l) = ⊥
-MayBegin sizes (at.Physical p) = ⊥
-MayBegin sizes (at.Journal j) = ⊥
-MayBegin sizes (at.Device d) = ⊥
+MayBegin sizes other = ⊥
 
-pub record IsIdle (sizes : Sizes) (z : Zone) : Type 0 where
+-- there is nothing for a zone to do: its inbox is empty, and no stream may begin a request
+pub record HasNothing (sizes : Sizes) (z : Zone) : Type 0 where
   pub inbox : z.inbox ≡ []
   pub none_begins : MayBegin sizes z.keeps → ⊥
+
+-- A zone has no work: there is nothing to do, or it made all its steps.
+abbrev pub IsIdle : Sizes → Zone → Type 0
+IsIdle sizes z = HasNothing sizes z ⊎ (step_limit ≤ z.steps)
 
 -- The core: its zones by number, and what has happened.
 pub record Core : Type 0 where

@@ -1,5 +1,5 @@
 -- Tokens: what is given out once and held once. Of each token as many are held as were given.
-use Rattle.std.specs.Prelude.{ℕ, ◌+◌, ◌≡◌, ◌≤◌, ◌==◌, Bool, true, false, ◌&&◌, not, List, cond}
+use Rattle.std.specs.Prelude.{ℕ, ◌+◌, ◌≡◌, ◌≤◌, ◌==◌, Bool, ◌&&◌, not, List, [], ◌∷◌, cond}
 use Rattle.blk_base.specs.declared.place.Pbn.{Pbn}
 use Rattle.blk_base.specs.declared.request.Writer.{Writer}
 use Rattle.vdo_model.specs.Scripts.{same_writer}
@@ -8,7 +8,6 @@ use Rattle.vdo_model.specs.declared.report.DeskLine.TheVariants.{Begin, Answer}
 use Rattle.core_model.specs.declared.items.Item.{Item}
 use Rattle.core_model.specs.declared.items.Item.TheVariants.{Request, Block, StopNotice}
 use Rattle.core_model.specs.declared.items.Phase.{Phase}
-use Rattle.core_model.specs.declared.items.Phase.TheVariants.{Arrive, Wait, Claim, Store, Enter, Settle, Load, Loaded, AbortClaim, Abort, AbortEnteredClaim, AbortEntered, Flush, Reply}
 use Rattle.core_model.specs.declared.items.Vio.{Vio}
 use Rattle.core_model.specs.declared.sizes.Sizes.{Sizes}
 use Rattle.core_model.specs.declared.zones.ZoneData.{ZoneData}
@@ -16,22 +15,29 @@ use Rattle.core_model.specs.declared.zones.ZoneData.TheVariants as at
 use Rattle.core_model.specs.declared.zones.Lock.{Lock}
 use Rattle.core_model.specs.declared.zones.Logged.{Logged}
 use Rattle.core_model.specs.declared.zones.Zone.{Zone}
-use Rattle.core_model.specs.Numbers.{notified_zones}
+use Rattle.core_model.specs.Phases.{row}
+use Rattle.core_model.specs.Zones.{notified_zones}
 use Rattle.plain_laws.specs.Sums.{total, bit}
 
--- a kind of token: what an item weighs, what a zone's data weighs beside the requests that it keeps, and what it gave out
+-- a kind of token: what an item weighs, what a zone's data weighs beside the items that it keeps, and what it gave out
 pub record Token : Type 0 where
   pub item : Item → ℕ
   pub own : ZoneData → ℕ
   pub gave : ZoneData → ℕ
 
--- the weight of the requests that a zone keeps beside its lanes
+-- what a zone keeps beside its lanes, and what that weighs
+abbrev pub as_items : List Vio → List Item
+as_items [] = []
+as_items (v ∷ vs) = Request v ∷ as_items vs
+
+abbrev pub kept_items : ZoneData → List Item
+kept_items (at.Desk desk) = as_items desk.parked
+kept_items (at.Logical l) = as_items l.waiting
+kept_items (at.Journal j) = as_items j.waiting
+kept_items other = []
+
 abbrev pub queued : (Item → ℕ) → ZoneData → ℕ
-queued weigh (at.Desk desk) = total (λ v. weigh (Request v)) desk.parked
-queued weigh (at.Logical l) = total (λ v. weigh (Request v)) l.waiting
-queued weigh (at.Physical p) = 0
-queued weigh (at.Journal j) = total (λ v. weigh (Request v)) j.waiting
-queued weigh (at.Device d) = 0
+queued weigh d = total weigh (kept_items d)
 
 abbrev pub weight : Token → Zone → ℕ
 weight t z = total t.item z.inbox + total (total t.item) z.outboxes + (queued t.item z.keeps + t.own z.keeps)
@@ -51,7 +57,7 @@ AtMost t zones = total (weight t) zones ≤ total (given t) zones
 abbrev pub of_vio : (Vio → ℕ) → Item → ℕ
 of_vio f (Request v) = f v
 of_vio f (Block b) = f b.vio
-of_vio f StopNotice = 0
+of_vio f other = 0
 
 -- a number of the data of one kind of zone
 abbrev pub none : ZoneData → ℕ
@@ -68,30 +74,14 @@ answers_of w (Answer v a) = bit (same_writer v w)
 
 abbrev pub in_log : (DeskLine → ℕ) → ZoneData → ℕ
 in_log f (at.Desk desk) = total f desk.log
-in_log f (at.Logical l) = 0
-in_log f (at.Physical p) = 0
-in_log f (at.Journal j) = 0
-in_log f (at.Device d) = 0
+in_log f other = 0
 
 abbrev pub request_token : Writer → Token
 request_token w = record { item = of_vio (λ v. bit (same_writer v.request w)); own = in_log (answers_of w); gave = in_log (begins_of w) }
 
 -- Locks: whoever holds the lock of an address has the place of that lock. `test` is any test of places.
 abbrev pub holds : Phase → Bool
-holds Arrive = false
-holds Wait = false
-holds Claim = true
-holds Store = true
-holds Enter = true
-holds Settle = true
-holds Load = true
-holds Loaded = true
-holds AbortClaim = true
-holds Abort = true
-holds AbortEnteredClaim = true
-holds AbortEntered = true
-holds Flush = false
-holds Reply = false
+holds p = (row p).locks
 
 abbrev pub holder_weight : ℕ → (ℕ → Bool) → Vio → ℕ
 holder_weight a test v = bit (holds v.phase && (v.at.0 == a && test v.place))
@@ -100,36 +90,19 @@ abbrev pub lock_weight : ℕ → (ℕ → Bool) → Lock → ℕ
 lock_weight a test lock = bit (lock.at.0 == a && test lock.place)
 
 abbrev pub locks_at : ℕ → (ℕ → Bool) → ZoneData → ℕ
-locks_at a test (at.Desk desk) = 0
 locks_at a test (at.Logical l) = total (lock_weight a test) l.held
-locks_at a test (at.Physical p) = 0
-locks_at a test (at.Journal j) = 0
-locks_at a test (at.Device d) = 0
+locks_at a test other = 0
 
 abbrev pub lease_token : ℕ → (ℕ → Bool) → Token
 lease_token a test = record { item = of_vio (holder_weight a test); own = none; gave = locks_at a test }
 
 -- Data blocks: one that is free, or taken by a write whose entry wasn't handed in, or named by an entry, is so once.
 abbrev pub claims : Phase → Bool
-claims Arrive = false
-claims Wait = false
-claims Claim = false
-claims Store = true
-claims Enter = true
-claims Settle = false
-claims Load = false
-claims Loaded = false
-claims AbortClaim = false
-claims Abort = false
-claims AbortEnteredClaim = false
-claims AbortEntered = false
-claims Flush = false
-claims Reply = false
+claims p = (row p).claims
 
 abbrev pub claim_weight : ℕ → Item → ℕ
 claim_weight x (Request v) = bit (claims v.phase && v.block.0 == x)
-claim_weight x (Block b) = 0
-claim_weight x StopNotice = 0
+claim_weight x other = 0
 
 abbrev pub is_block : ℕ → Pbn → ℕ
 is_block x p = bit (p.0 == x)
@@ -138,41 +111,29 @@ abbrev pub is_entry : ℕ → Logged → ℕ
 is_entry x e = bit (e.block.0 == x)
 
 abbrev pub blocks_at : ℕ → ZoneData → ℕ
-blocks_at x (at.Desk desk) = 0
-blocks_at x (at.Logical l) = 0
 blocks_at x (at.Physical p) = total (is_block x) p.free
 blocks_at x (at.Journal j) = total (is_entry x) j.entered
-blocks_at x (at.Device d) = 0
+blocks_at x other = 0
 
 abbrev pub one_physical : ZoneData → ℕ
-one_physical (at.Desk desk) = 0
-one_physical (at.Logical l) = 0
 one_physical (at.Physical p) = 1
-one_physical (at.Journal j) = 0
-one_physical (at.Device d) = 0
+one_physical other = 0
 
 abbrev pub block_token : ℕ → Token
 block_token x = record { item = claim_weight x; own = blocks_at x; gave = one_physical }
 
 -- The journal: one sealed block is under way, or none.
 abbrev pub is_sealed : Item → ℕ
-is_sealed (Request v) = 0
 is_sealed (Block b) = 1
-is_sealed StopNotice = 0
+is_sealed other = 0
 
 abbrev pub idle_at : ZoneData → ℕ
-idle_at (at.Desk desk) = 0
-idle_at (at.Logical l) = 0
-idle_at (at.Physical p) = 0
 idle_at (at.Journal j) = bit (not j.busy)
-idle_at (at.Device d) = 0
+idle_at other = 0
 
 abbrev pub one_journal : ZoneData → ℕ
-one_journal (at.Desk desk) = 0
-one_journal (at.Logical l) = 0
-one_journal (at.Physical p) = 0
 one_journal (at.Journal j) = 1
-one_journal (at.Device d) = 0
+one_journal other = 0
 
 abbrev pub journal_token : Token
 journal_token = record { item = is_sealed; own = idle_at; gave = one_journal }
@@ -190,23 +151,16 @@ abbrev pub room_token : Token
 room_token = record { item = of_vio (λ v. 1); own = in_log is_answer; gave = in_log is_begin }
 
 abbrev pub is_word : Item → ℕ
-is_word (Request v) = 0
-is_word (Block b) = 0
 is_word StopNotice = 1
+is_word other = 0
 
 abbrev pub heard_at : ZoneData → ℕ
 heard_at (at.Desk desk) = desk.notices
-heard_at (at.Logical l) = 0
-heard_at (at.Physical p) = 0
-heard_at (at.Journal j) = 0
-heard_at (at.Device d) = 0
+heard_at other = 0
 
 abbrev pub notified_by : Sizes → ZoneData → ℕ
-notified_by sizes (at.Desk desk) = 0
-notified_by sizes (at.Logical l) = 0
-notified_by sizes (at.Physical p) = 0
-notified_by sizes (at.Journal j) = 0
 notified_by sizes (at.Device d) = cond d.stopped (notified_zones sizes) 0
+notified_by sizes other = 0
 
 abbrev pub notice_token : Sizes → Token
 notice_token sizes = record { item = is_word; own = heard_at; gave = notified_by sizes }

@@ -2,6 +2,8 @@
 use Rattle.std.specs.Prelude.{ℕ, false, None, Some, List}
 use Rattle.blk_base.specs.declared.place.Lba.{Lba}
 use Rattle.blk_base.specs.declared.place.Mapping.TheVariants.{Unmapped}
+use Rattle.blk_base.specs.declared.place.ZoneId.{ZoneId}
+use Rattle.blk_base.specs.declared.place.ZoneId.TheVariants as id
 use Rattle.blk_base.specs.declared.request.Answer.{Answer}
 use Rattle.blk_base.specs.declared.request.Request.{Request}
 use Rattle.blk_base.specs.declared.request.Request.TheVariants as request
@@ -17,12 +19,11 @@ use Rattle.core_model.specs.declared.items.Stage.{Stage}
 use Rattle.core_model.specs.declared.items.Vio.{Vio}
 use Rattle.core_model.specs.declared.sizes.Sizes.{Sizes}
 use Rattle.core_model.specs.declared.zones.Logged.{Logged}
-use Rattle.core_model.specs.Numbers.{logical_zone}
 use Rattle.core_model.specs.Trace.{Gift}
 
--- an item, with the number of the zone that it goes to
+-- an item, with the zone that it goes to
 abbrev pub Post : Type 0
-Post = ℕ × Item
+Post = ZoneId × Item
 
 -- the request of the script that asks for this
 abbrev pub asked : Asks → Lba → List ℕ → Request
@@ -40,7 +41,7 @@ begun_vio sizes w asks at bytes =
       request = w;
       asks = asks;
       at = at;
-      home = logical_zone (zone_of sizes.zones at.0);
+      home = id.Logical (zone_of sizes.zones at.0);
       phase = phase.Arrive;
       bytes = bytes;
       place = 0;

@@ -1,5 +1,5 @@
 use crate::Logged;
-use blk_base::{Answer, Block, Lba, Mapping, Pbn, Writer};
+use blk_base::{Answer, Block, Lba, Mapping, Pbn, Writer, ZoneId};
 
 /// What a request asks for.
 #[derive(Clone, Copy)]
@@ -50,8 +50,8 @@ pub struct Vio {
     pub asks: Asks,
     /// The address of a read or write.
     pub at: Lba,
-    /// The number of the logical zone of the address, among all zones.
-    pub home: u32,
+    /// The logical zone of the address.
+    pub home: ZoneId,
     pub phase: Phase,
     /// What a write gives its address, or what a read got.
     pub bytes: Block,

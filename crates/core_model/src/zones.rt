@@ -98,10 +98,11 @@ pub enum ZoneData {
     Device(DeviceZone),
 }
 
-/// A zone: its number among all zones, what it keeps, its inbox, and an outbox to each zone.
+/// A zone: its number among all zones, how many steps it made, what it keeps, its inbox, and an outbox to each zone.
 #[derive(Drop)]
 pub struct Zone {
     pub number: u32,
+    pub steps: u64,
     pub keeps: ZoneData,
     pub inbox: Fifo<Item>,
     pub outboxes: Fifo<Fifo<Item>>,

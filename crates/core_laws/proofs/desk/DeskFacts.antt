@@ -6,6 +6,7 @@ use Rattle.std.proofs.lemmas.Option.{same_Some}
 use Rattle.std.specs.List.{AllByRecursion}
 use Rattle.blk_base.specs.Sectors.{zero_block}
 use Rattle.blk_base.specs.declared.place.Lba.{Lba}
+use Rattle.blk_base.specs.declared.place.ZoneId.TheVariants as id
 use Rattle.blk_base.specs.declared.request.Answer.{Answer as Reply}
 use Rattle.blk_base.specs.declared.request.Answer.TheVariants as reply
 use Rattle.blk_base.specs.declared.request.Request.{Request}
@@ -29,7 +30,7 @@ use Rattle.core_model.specs.declared.zones.ZoneData.TheVariants as at
 use Rattle.core_model.specs.declared.zones.Desk.{Desk}
 use Rattle.core_model.specs.DeskRows.{DeskBegins, DeskServes, is_notified, at_once, vio_of, first_zone, is_marked, is_stopped, mark_of_vio, with_notice, woken}
 use Rattle.core_model.specs.Facts.{HasAddress, ItemOk, DeskOk, KeptOk, IsEarned, MayReply, Carries, zone_at}
-use Rattle.core_model.specs.Numbers.{desk_zone, logical_zone, notified_zones}
+use Rattle.core_model.specs.Zones.{desk_zone, notified_zones}
 use Rattle.core_model.specs.RightTraces.{RightTrace, IsOpen, HasCause, MayAnswer}
 use Rattle.core_model.specs.Sessions.{Session, IsSession, Shown}
 use Rattle.core_model.specs.Trace.{Says, Flushes, Trace, lines, moments, entered, settled, has_stopped, logged_of}
@@ -133,7 +134,7 @@ module _ (s : Session) (t : Trace) (w : Writer) (is : IsSession s) (right : Righ
 
   -- a block request goes to the logical zone of its address, a flush to the device
   begins_block : (q : Asks) (at : Lba) (bytes : List ℕ) → (q ≡ Read) ⊎ (q ≡ Write) → request_at s.script w ≡ Some (asked q at bytes) → at.0 < s.sizes.geometry.logical
-      → PostOk s (Says (line.Begin w) ∷ t) (logical_zone (zone_of s.sizes.zones at.0), item.Request (begun_vio s.sizes w q at bytes))
+      → PostOk s (Says (line.Begin w) ∷ t) (id.Logical (zone_of s.sizes.zones at.0), item.Request (begun_vio s.sizes w q at bytes))
   begins_block q at bytes block asks below =
       let zone = zone_below s.sizes.zones at.0 is.zones in (
         omega (arith, zone),
@@ -150,15 +151,15 @@ module _ (s : Session) (t : Trace) (w : Writer) (is : IsSession s) (right : Righ
       address Flush = tt
 
   begins_post : (notified : Bool) (r : Request) (v : Vio) → vio_of s.sizes w r ≡ Some v → request_at s.script w ≡ Some r → at_once s.sizes notified v.asks v.at.0 ≡ None
-      → PostOk s (Says (line.Begin w) ∷ t) (first_zone s.sizes v, item.Request v)
+      → PostOk s (Says (line.Begin w) ∷ t) (first_zone v, item.Request v)
   begins_post notified (request.Read at) v served asks none =
       let once : at_once s.sizes notified Read at.0 ≡ None = rw (← same_Some _ _ served) at none in
-      subst (λ (u : Vio). PostOk s (Says (line.Begin w) ∷ t) (first_zone s.sizes u, item.Request u)) (same_Some _ _ served) (begins_block Read at zero_block (inl refl) asks (sent_below at.0 s.sizes.geometry.logical _ once))
+      subst (λ (u : Vio). PostOk s (Says (line.Begin w) ∷ t) (first_zone u, item.Request u)) (same_Some _ _ served) (begins_block Read at zero_block (inl refl) asks (sent_below at.0 s.sizes.geometry.logical _ once))
   begins_post notified (request.Write at bytes false) v served asks none =
       let once : at_once s.sizes notified Write at.0 ≡ None = rw (← same_Some _ _ served) at none in
-      subst (λ (u : Vio). PostOk s (Says (line.Begin w) ∷ t) (first_zone s.sizes u, item.Request u)) (same_Some _ _ served) (begins_block Write at bytes (inr refl) asks (sent_below at.0 s.sizes.geometry.logical _ once))
+      subst (λ (u : Vio). PostOk s (Says (line.Begin w) ∷ t) (first_zone u, item.Request u)) (same_Some _ _ served) (begins_block Write at bytes (inr refl) asks (sent_below at.0 s.sizes.geometry.logical _ once))
   begins_post notified request.Flush v served asks none =
-      subst (λ (u : Vio). PostOk s (Says (line.Begin w) ∷ t) (first_zone s.sizes u, item.Request u)) (same_Some _ _ served) (omega arith, (record { asked = asks; is_open = begins_open; address = tt; home = refl }, refl, refl))
+      subst (λ (u : Vio). PostOk s (Says (line.Begin w) ∷ t) (first_zone u, item.Request u)) (same_Some _ _ served) (omega arith, (record { asked = asks; is_open = begins_open; address = tt; home = refl }, refl, refl))
   begins_post notified (request.Write at bytes true) v served asks none = absurd cc
   begins_post notified (request.Discard at) v served asks none = absurd cc
 

@@ -2,6 +2,7 @@
 use Rattle.std.proofs.Common.{◌≡◌, ◌≢◌, ℕ, zero, suc, ◌+◌, ◌≤◌, Bool, true, false, Some, IsSome, List, [], ◌∷◌, refl, ap, sym, ◌∙◌, subst, arith}
 use Rattle.std.specs.List.{AllByRecursion}
 use Rattle.blk_base.specs.declared.place.Lba.{Lba}
+use Rattle.blk_base.specs.declared.place.ZoneId.TheVariants as id
 use Rattle.blk_base.specs.declared.request.Answer.TheVariants as reply
 use Rattle.blk_base.specs.declared.request.Writer.{Writer}
 use Rattle.disk_model.specs.declared.call.Call.{Call}
@@ -23,7 +24,7 @@ use Rattle.core_model.specs.DeviceRows.{DeviceServes, counted, halted, stop_noti
 use Rattle.core_model.specs.DeviceRows as device
 use Rattle.core_model.specs.Facts.{VioOk, Holds, Looks, IsEarned, Carries, ItemOk, DeviceOk}
 use Rattle.core_model.specs.LogicalRows.{mapped_by}
-use Rattle.core_model.specs.Numbers.{desk_zone, notified_zones}
+use Rattle.core_model.specs.Zones.{logical_zones, notified}
 use Rattle.core_model.specs.RightTraces.{RightTrace, HasCause, FailureMayFollow, IsMadeFor}
 use Rattle.core_model.specs.Sessions.{Session, IsSession, HasHonestReads, value_at, value_from}
 use Rattle.core_model.specs.Trace.{Calls, Fails, Trace, calls, moments, places, entered, settled, is_ok, has_stopped, has_read_fault}
@@ -39,9 +40,12 @@ use Rattle.core_laws.proofs.kept.Spared.{mapping_by}
 use Rattle.core_laws.proofs.kept.StandsOn.{succeeded, failed}
 
 -- the stop notices
-pub notices_ok : (s : Session) (t : Trace) (n : ℕ) → n ≤ notified_zones s.sizes → has_stopped t ≡ true → AllByRecursion (PostOk s t) (stop_notices n)
-notices_ok s t zero within stopped = tt
-notices_ok s t (suc n) within stopped = ((omega (arith, within), (within, stopped)), notices_ok s t n (omega (arith, within)) stopped)
+logical_ok : (s : Session) (t : Trace) (n : ℕ) → n ≤ s.sizes.zones → has_stopped t ≡ true → AllByRecursion (PostOk s t) (stop_notices (logical_zones n))
+logical_ok s t zero within stopped = tt
+logical_ok s t (suc n) within stopped = ((omega (arith, within), (omega (arith, within), stopped)), logical_ok s t n (omega (arith, within)) stopped)
+
+pub notices_ok : (s : Session) (t : Trace) → has_stopped t ≡ true → AllByRecursion (PostOk s t) (stop_notices (notified s.sizes))
+notices_ok s t stopped = ((omega arith, (omega arith, stopped)), ((omega arith, (omega arith, stopped)), logical_ok s t s.sizes.zones (omega arith) stopped))
 
 -- a request that goes on
 turned_holds : (s : Session) (t : Trace) (v : Vio) (next : Phase) → Holds s t v → Holds s t (turned next v)
@@ -83,7 +87,7 @@ cause_fault s t w q at bytes is some faulty = rw is (some, faulty)
 cause_unflushed : (s : Session) (t : Trace) (w : Writer) (q : Asks) (at : Lba) (bytes : List ℕ) → q ≡ Flush → has_stopped t ≡ true → HasCause s t w (asked q at bytes) reply.Stopped
 cause_unflushed s t w q at bytes is stopped = rw is stopped
 
-pub unflushed_post : (s : Session) (t : Trace) (v : Vio) → has_stopped t ≡ true → VioOk s t v → v.asks ≡ Flush → PostOk s t (desk_zone, item.Request (ended phase.Reply reply.Stopped v))
+pub unflushed_post : (s : Session) (t : Trace) (v : Vio) → has_stopped t ≡ true → VioOk s t v → v.asks ≡ Flush → PostOk s t (id.Desk, item.Request (ended phase.Reply reply.Stopped v))
 unflushed_post s t v stopped ok is = (omega arith, (ended_ok s t v phase.Reply reply.Stopped ok, cause_unflushed s t v.request v.asks v.at v.bytes is stopped, refl))
 
 fault_post : (s : Session) (t : Trace) (v : Vio) → IsSession s → has_read_fault t v.request ≡ true → VioOk s t v → Looks s t v → PostOk s t (v.home, item.Request (ended phase.Abort reply.ReadFault v))
@@ -171,7 +175,7 @@ module _ (s : Session) (t : Trace) (n : ℕ) (old : DeviceZone) (v : Vio) (sessi
         right = now;
         gives = λ g honest. g honest;
         own = record { number_is = k.number_is; calls_is = not_counted c kept refl; stopped_is = refl };
-        posts_ok = (stopped_post s (h ∷ t) v now refl (vio_kept s h t v tt ok.0) (holds_kept s h t v tt tt carries.0) carries.1, notices_ok s (h ∷ t) (notified_zones s.sizes) (omega arith) refl);
+        posts_ok = (stopped_post s (h ∷ t) v now refl (vio_kept s h t v tt ok.0) (holds_kept s h t v tt tt carries.0) carries.1, notices_ok s (h ∷ t) refl);
       })
   serves_kept new made posts (device.store_unmade is halts e m p) =
       let carries = in_phase phase.Store is in
@@ -237,7 +241,7 @@ module _ (s : Session) (t : Trace) (n : ℕ) (old : DeviceZone) (v : Vio) (sessi
         right = quiet_call s t c failed may (λ x. tt) right;
         gives = λ g honest. g honest;
         own = record { number_is = k.number_is; calls_is = not_counted c kept refl; stopped_is = refl };
-        posts_ok = (unflushed_post s (h ∷ t) v refl (vio_kept s h t v tt ok.0) (in_phase phase.Flush is), notices_ok s (h ∷ t) (notified_zones s.sizes) (omega arith) refl);
+        posts_ok = (unflushed_post s (h ∷ t) v refl (vio_kept s h t v tt ok.0) (in_phase phase.Flush is), notices_ok s (h ∷ t) refl);
       })
   serves_kept new made posts (device.flush_unmade is halts e m p) =
       act_is s t n (at.Device new) (at.Device old) made [] posts _ (ap at.Device e) m p

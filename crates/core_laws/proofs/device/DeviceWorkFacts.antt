@@ -21,8 +21,8 @@ use Rattle.core_model.specs.declared.zones.DeviceZone.{DeviceZone}
 use Rattle.core_model.specs.declared.zones.Logged.{Logged}
 use Rattle.core_model.specs.DeviceRows.{DeviceWorks, counted, halted, stop_notices, journal_bytes, IsItsSlot, call_of, next_stage, next_zone}
 use Rattle.core_model.specs.DeviceRows as device
-use Rattle.core_model.specs.Facts.{HasAddress, StandsAt, BlockOk, DeviceOk, zone_of_stage}
-use Rattle.core_model.specs.Numbers.{zone_count, notified_zones}
+use Rattle.core_model.specs.Facts.{HasAddress, StandsAt, BlockOk, DeviceOk}
+use Rattle.core_model.specs.Zones.{zone_number, zone_count}
 use Rattle.core_model.specs.RightTraces.{RightTrace}
 use Rattle.core_model.specs.Sessions.{Session, IsSession, log, Stands, AtRest, OnItsWay, bytes_of}
 use Rattle.core_model.specs.Trace.{Happening, Calls, Fails, Trace, calls, committed, has_stopped, entry_of, entries_of}
@@ -183,12 +183,10 @@ unmade_by s t b stage.Harden c slot stopped is stands = (inr stands.0, stopped)
 unmade_by s t b stage.Commit c slot stopped is stands = absurd cc
 unmade_by s t b stage.Fail c slot stopped is stands = absurd cc
 
-zone_is : (s : Session) (b : SealedBlock) (q : Stage) (c : Call) (slot : Pbn) → call_of s.sizes b slot true q ≡ Some c → (next_zone s.sizes q < zone_count s.sizes) × (next_zone s.sizes q ≡ zone_of_stage s.sizes (next_stage q))
-zone_is s b stage.Cover c slot is = (omega arith, refl)
-zone_is s b stage.Write c slot is = (omega arith, refl)
-zone_is s b stage.Harden c slot is = (omega arith, refl)
+zone_is : (s : Session) (b : SealedBlock) (q : Stage) (c : Call) (slot : Pbn) → call_of s.sizes b slot true q ≡ Some c → zone_number s.sizes (next_zone q) < zone_count s.sizes
 zone_is s b stage.Commit c slot is = absurd cc
 zone_is s b stage.Fail c slot is = absurd cc
+zone_is s b other c slot is = omega arith
 
 -- a call that succeeds counts
 call_counts : (sizes : Sizes) (b : SealedBlock) (q : Stage) (c : Call) (slot : Pbn) (older : List Call) → call_of sizes b slot true q ≡ Some c → successes (c ∷ older) ≡ successes older + 1
@@ -221,7 +219,7 @@ module _ (s : Session) (t : Trace) (n : ℕ) (old : DeviceZone) (b : SealedBlock
         right = now.right;
         gives = λ g honest. g (honest_before s (Calls c) t honest);
         own = record { number_is = k.number_is; calls_is = ap (λ m. m + 1) k.calls_is ∙ sym (call_counts s.sizes b b.stage c slot (calls t) is); stopped_is = k.stopped_is };
-        posts_ok = ((zone.0, (block_over s t succeeded b (next_stage b.stage) ok now.stands, zone.1)), tt);
+        posts_ok = ((zone, (block_over s t succeeded b (next_stage b.stage) ok now.stands, refl)), tt);
       })
   works_kept new made posts (device.fails c slot kept place is runs e m p) =
       let h = Fails b.vio.request c kept in
@@ -232,7 +230,7 @@ module _ (s : Session) (t : Trace) (n : ℕ) (old : DeviceZone) (b : SealedBlock
         right = now.right;
         gives = λ g honest. g honest;
         own = record { number_is = k.number_is; calls_is = k.calls_is ∙ sym stops.0; stopped_is = sym stops.1 };
-        posts_ok = ((omega arith, (block_over s t failed b stage.Fail ok now.stands, refl)), notices_ok s (h ∷ t) (notified_zones s.sizes) (omega arith) stops.1);
+        posts_ok = ((omega arith, (block_over s t failed b stage.Fail ok now.stands, refl)), notices_ok s (h ∷ t) stops.1);
       })
   works_kept new made posts (device.unmade c slot is halts e m p) =
       act_is s t n (at.Device new) (at.Device old) made [] posts _ (ap at.Device e) m p

@@ -19,6 +19,7 @@ use Rattle.core_model.specs.Sessions.{Session, IsSession, AtRest, OnItsWay}
 use Rattle.core_model.specs.Tokens.{holds}
 use Rattle.core_model.specs.Trace.{Enters, Commits, Trace, committed, of_address}
 use Rattle.core_model.specs.Vios.{Post, turned, logged}
+use Rattle.core_model.specs.Zones.{zone_number}
 use Rattle.core_laws.proofs.trace.DeskOfTrace.{shown_of}
 use Rattle.core_laws.proofs.kept.ActKept.{PostOk, ActKept}
 use Rattle.core_laws.proofs.kept.Carried.{SparesVio, kept_kept, item_kept}
@@ -141,7 +142,7 @@ module _ (s : Session) (t : Trace) (n : ℕ) (old : JournalZone) (b : SealedBloc
         posts_ok = (
           (
             (settle_post s t b session right ok rest).0,
-            item_kept s then (first ∷ t) b.vio.home (item.Request (turned phase.Settle b.vio)) (other_enters s t b.vio w far.0 mine.0.2) (settle_post s t b session right ok rest).1,
+            item_kept s then (first ∷ t) (zone_number s.sizes b.vio.home) (item.Request (turned phase.Settle b.vio)) (other_enters s t b.vio w far.0 mine.0.2) (settle_post s t b session right ok rest).1,
           ),
           (
             (

@@ -3,6 +3,7 @@ use Rattle.std.proofs.Common.{◌≡◌, ℕ, ◌+◌, ◌<◌, Bool, true, fals
 use Rattle.std.proofs.lemmas.Bool.{or_parts}
 use Rattle.std.specs.List.{AllByRecursion}
 use Rattle.std.proofs.lemmas.Bool.{ltb-true, ltb-false}
+use Rattle.blk_base.specs.declared.place.ZoneId.TheVariants as id
 use Rattle.blk_base.specs.declared.request.Answer.TheVariants as reply
 use Rattle.core_model.specs.declared.items.Item.TheVariants as item
 use Rattle.core_model.specs.declared.items.Phase.TheVariants as phase
@@ -14,7 +15,6 @@ use Rattle.core_model.specs.declared.zones.Logged.{Logged}
 use Rattle.core_model.specs.Facts.{VioOk, Carries, BlockOk, ItemOk, KeptOk, RestsAt, JournalOk}
 use Rattle.core_model.specs.JournalRows.{JournalServes, is_closed, has_block, sealed, refused, all_refused, entered_by}
 use Rattle.core_model.specs.JournalRows as journal
-use Rattle.core_model.specs.Numbers.{desk_zone, device_zone}
 use Rattle.core_model.specs.RightTraces.{RightTrace, EntryMayFollow, IsFull}
 use Rattle.core_model.specs.Sessions.{Session, IsSession, AtRest}
 use Rattle.core_model.specs.Trace.{Enters, Trace, entered, committed, settled, has_stopped}
@@ -134,7 +134,7 @@ module _ (s : Session) (t : Trace) (n : ℕ) (old : JournalZone) (v : Vio) (sess
       let idle = rests_idle s t old.busy old.broken busy (or_parts old.notified old.broken closed).1 k.rests in
       let same : length old.entered ≡ length (committed t) = ap length (k.entered_is ∙ idle.0) in
       let room = room_for _ _ has in
-      act_is s t n (at.Journal new) (at.Journal (entered_by v old)) made (h ∷ []) posts ((device_zone s.sizes, item.Block (sealed s.sizes old v)) ∷ []) (ap at.Journal e) m p
+      act_is s t n (at.Journal new) (at.Journal (entered_by v old)) made (h ∷ []) posts ((id.Device, item.Block (sealed s.sizes old v)) ∷ []) (ap at.Journal e) m p
       (record {
         right = enter_right s t v right ok.0 is (in_phase is) idle.0 idle.1;
         gives = λ g honest. g honest;
@@ -167,7 +167,7 @@ journal_serves s t n old new v made posts session right k ok apart act = serves_
 
 -- The journal hears that the session is stopped.
 pub journal_notified : (s : Session) (t : Trace) (n : ℕ) (old : JournalZone) → IsSession s → RightTrace s t → has_stopped t ≡ true → JournalOk s t n old
-    → ActKept s t n (at.Journal (record old { notified = true; waiting = [] })) [] ((desk_zone, item.StopNotice) ∷ all_refused s.sizes reply.Stopped old.waiting)
+    → ActKept s t n (at.Journal (record old { notified = true; waiting = [] })) [] ((id.Desk, item.StopNotice) ∷ all_refused s.sizes reply.Stopped old.waiting)
 journal_notified s t n old session right stopped k = record {
   right = right;
   gives = λ g h. g h;

@@ -1,5 +1,5 @@
 -- What the journal posts: aborted requests, each with an answer that it may have.
-use Rattle.std.proofs.Common.{◌≡◌, ℕ, ◌<◌, true, Some, IsNone, IsSome, List, [], ◌∷◌, refl, subst, arith}
+use Rattle.std.proofs.Common.{◌≡◌, ℕ, ◌<◌, true, Some, IsNone, IsSome, List, [], ◌∷◌, refl, ap, subst, arith}
 use Rattle.std.specs.List.{AllByRecursion}
 use Rattle.std.proofs.Math.Nat.{mod-lt}
 use Rattle.blk_base.specs.declared.request.Answer.{Answer}
@@ -15,7 +15,7 @@ use Rattle.core_model.specs.declared.items.Vio.{Vio}
 use Rattle.core_model.specs.declared.zones.ZoneData.{ZoneData}
 use Rattle.core_model.specs.Facts.{VioOk, Holds, IsPlaced, IsEntered, MayReply, Carries, KeptOk}
 use Rattle.core_model.specs.JournalRows.{refused, all_refused}
-use Rattle.core_model.specs.Numbers.{zone_count}
+use Rattle.core_model.specs.Zones.{zone_number, zone_count}
 use Rattle.core_model.specs.RightTraces.{RightTrace, HasPlace, HasCause, IsFull}
 use Rattle.core_model.specs.Sessions.{Session, IsSession}
 use Rattle.core_model.specs.Trace.{Trace, places, entered, settled, has_stopped, logged_of}
@@ -72,10 +72,10 @@ pub may_fill : (s : Session) (t : Trace) (v : Vio) (next : Phase) → v.asks ≡
 may_fill s t v next is k full = cause_full s t v.request v.asks v.at v.bytes is k.not_entered (some_is _ _ k.placed) full
 
 -- the home of a request is a zone
-pub home_within : (s : Session) (t : Trace) (v : Vio) → IsSession s → VioOk s t v → v.home < zone_count s.sizes
+pub home_within : (s : Session) (t : Trace) (v : Vio) → IsSession s → VioOk s t v → zone_number s.sizes v.home < zone_count s.sizes
 home_within s t v session ok =
     let below : zone_of s.sizes.zones v.at.0 < s.sizes.zones = mod-lt _ (let some = session.zones in omega (arith, some)) in
-    let home = ok.home in
+    let home = ap (zone_number s.sizes) ok.home in
     omega (arith, below, home)
 
 module _ (s : Session) (t : Trace) where

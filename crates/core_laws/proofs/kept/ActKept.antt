@@ -11,7 +11,7 @@ use Rattle.vdo_model.specs.Places.{place_of}
 use Rattle.vdo_model.specs.declared.report.Placed.{Placed}
 use Rattle.core_model.specs.declared.zones.ZoneData.{ZoneData}
 use Rattle.core_model.specs.Facts.{ItemOk, DataOk}
-use Rattle.core_model.specs.Numbers.{zone_count}
+use Rattle.core_model.specs.Zones.{zone_number, zone_count}
 use Rattle.core_model.specs.RightTraces.{MayFollow, RightTrace, GivesRight, IsWrite}
 use Rattle.core_model.specs.Sessions.{Session, HasHonestReads, Shown, HasPending, AtRest}
 use Rattle.core_model.specs.Trace.{Happening, Trace, lines, places, entered, committed, settled, logged_of}
@@ -24,7 +24,7 @@ use Rattle.core_laws.proofs.kept.StandsOn.{SparesBlock, SparesBlocks, SparesJour
 
 -- a post to one of the zones, with what it must carry
 abbrev pub PostOk : Session → Trace → Post → Type 0
-PostOk s t post = (post.0 < zone_count s.sizes) × ItemOk s t post.0 post.1
+PostOk s t post = (zone_number s.sizes post.0 < zone_count s.sizes) × ItemOk s t (zone_number s.sizes post.0) post.1
 
 pub record ActKept (s : Session) (t : Trace) (n : ℕ) (new : ZoneData) (made : Trace) (posts : List Post) : Type 0 where
   pub right : RightTrace s (made ++ t)

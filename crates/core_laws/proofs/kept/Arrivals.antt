@@ -1,8 +1,9 @@
 -- Which acts concern the requests that have yet to draw a place: the desk alone sends one on, and its logical zone takes it.
-use Rattle.std.proofs.Common.{◌∙◌, ◌≡◌, ℕ, zero, suc, ◌⊎◌, Option, None, Some, List, [], ◌∷◌, ◌++◌, refl, ap, inl, inr}
+use Rattle.std.proofs.Common.{◌∙◌, ◌≡◌, ℕ, ◌⊎◌, Option, None, Some, List, [], ◌∷◌, ◌++◌, refl, ap, inl, inr}
 use Rattle.std.specs.List.{AllByRecursion}
 use Rattle.blk_base.specs.declared.place.Mapping.{Mapping}
 use Rattle.blk_base.specs.declared.place.Mapping.TheVariants.{Unmapped, Zero, At}
+use Rattle.blk_base.specs.declared.place.ZoneId.{ZoneId}
 use Rattle.blk_base.specs.declared.request.Answer.{Answer}
 use Rattle.blk_base.specs.declared.request.Request.{Request}
 use Rattle.blk_base.specs.declared.request.Writer.{Writer}
@@ -30,7 +31,7 @@ use Rattle.core_model.specs.JournalRows as journal
 use Rattle.core_model.specs.JournalRows.{PhysicalServes, JournalServes, JournalEnds, all_refused}
 use Rattle.core_model.specs.LogicalRows as logical
 use Rattle.core_model.specs.LogicalRows.{LogicalServes, goes_on, next_for, read_next, looked, mapping_at, passed_to, passes_on, released, first_for, all_for, all_stopped, with_slot, placed, place_of_vio}
-use Rattle.core_model.specs.Numbers.{notified_zones}
+use Rattle.core_model.specs.Zones.{notified}
 use Rattle.core_model.specs.Steps.{Act}
 use Rattle.core_model.specs.Steps as steps
 use Rattle.core_model.specs.Trace.{Trace, places}
@@ -47,7 +48,7 @@ pub data Course (old : ZoneData) (front : List Item) (made : Trace) (posts : Lis
   still : AllByRecursion Still posts → ((t : Trace) → places (made ++ t) ≡ places t) → Course old front made posts
   draws : (l : LogicalZone) (v : Vio) → old ≡ at.Logical l → front ≡ item.Request v ∷ [] → v.phase ≡ phase.Arrive → AllByRecursion Still posts
       → ((t : Trace) → places (made ++ t) ≡ place_of_vio l v ∷ places t) → Course old front made posts
-  sends : (d : Desk) (w : Writer) (to : ℕ) (x : Item) → old ≡ at.Desk d → w.number ≡ begun w.stream d.log → (arrival x ≡ w ∷ []) ⊎ (arrival x ≡ []) → posts ≡ (to, x) ∷ []
+  sends : (d : Desk) (w : Writer) (to : ZoneId) (x : Item) → old ≡ at.Desk d → w.number ≡ begun w.stream d.log → (arrival x ≡ w ∷ []) ⊎ (arrival x ≡ []) → posts ≡ (to, x) ∷ []
       → ((t : Trace) → places (made ++ t) ≡ places t) → Course old front made posts
 
 -- a request in another phase than Arrive
@@ -76,9 +77,9 @@ refused_still : (sizes : Sizes) (answer : Answer) (vs : List Vio) → AllByRecur
 refused_still sizes answer [] = tt
 refused_still sizes answer (v ∷ vs) = (refl, refused_still sizes answer vs)
 
-notices_still : (n : ℕ) → AllByRecursion Still (stop_notices n)
-notices_still zero = tt
-notices_still (suc n) = (refl, notices_still n)
+notices_still : (ids : List ZoneId) → AllByRecursion Still (stop_notices ids)
+notices_still [] = tt
+notices_still (to ∷ ids) = (refl, notices_still ids)
 
 woken_still : (vs : List Vio) → AllByRecursion (IsIn phase.Reply) vs → AllByRecursion Still (woken vs)
 woken_still [] h = tt
@@ -92,7 +93,7 @@ begun_arrival sizes w r v is = elim (begun_phase sizes w r v is) [
 
 begin_course : (sizes : Sizes) (old new : Desk) (made : Trace) (posts : List Post) → DeskBegins sizes old new made posts → Course (at.Desk old) [] made posts
 begin_course sizes old new made posts (desk.answers w r v reply i h served o n m q) = still (rw q tt) (λ t. rw m refl)
-begin_course sizes old new made posts (desk.sends w r v i h served o n m q) = sends old w (desk.first_zone sizes v) (item.Request v) refl i.0 (begun_arrival sizes w r v served) q (λ t. rw m refl)
+begin_course sizes old new made posts (desk.sends w r v i h served o n m q) = sends old w (desk.first_zone v) (item.Request v) refl i.0 (begun_arrival sizes w r v served) q (λ t. rw m refl)
 
 desk_course : (sizes : Sizes) (old : Desk) (v : Vio) (new : Desk) (made : Trace) (posts : List Post) → DeskServes sizes old v new made posts → Course (at.Desk old) (item.Request v ∷ []) made posts
 desk_course sizes old v new made posts (desk.parks reply p h s t n m q) = still (rw q tt) (λ t. rw m refl)
@@ -128,17 +129,17 @@ end_course sizes old b new made posts (journal.fails c n m q) = still (rw q (ref
 
 device_course : (sizes : Sizes) (old : DeviceZone) (v : Vio) (new : DeviceZone) (made : Trace) (posts : List Post) → DeviceServes sizes old v new made posts → Course (at.Device old) (item.Request v ∷ []) made posts
 device_course sizes old v new made posts (device.stores p s inside n m q) = still (rw q (refl, tt)) (λ t. rw m refl)
-device_course sizes old v new made posts (device.store_fails kept p s inside n m q) = still (rw q (refl, notices_still (notified_zones sizes))) (λ t. rw m refl)
+device_course sizes old v new made posts (device.store_fails kept p s inside n m q) = still (rw q (refl, notices_still (notified sizes))) (λ t. rw m refl)
 device_course sizes old v new made posts (device.store_unmade p s n m q) = still (rw q (refl, tt)) (λ t. rw m refl)
 device_course sizes old v new made posts (device.loads bytes p inside n m q) = still (rw q (refl, tt)) (λ t. rw m refl)
 device_course sizes old v new made posts (device.load_fails bytes kept p inside n m q) = still (rw q (refl, tt)) (λ t. rw m refl)
 device_course sizes old v new made posts (device.flushes p s n m q) = still (rw q (refl, tt)) (λ t. rw m refl)
-device_course sizes old v new made posts (device.flush_fails kept p s n m q) = still (rw q (refl, notices_still (notified_zones sizes))) (λ t. rw m refl)
+device_course sizes old v new made posts (device.flush_fails kept p s n m q) = still (rw q (refl, notices_still (notified sizes))) (λ t. rw m refl)
 device_course sizes old v new made posts (device.flush_unmade p s n m q) = still (rw q (refl, tt)) (λ t. rw m refl)
 
 work_course : (sizes : Sizes) (old : DeviceZone) (b : SealedBlock) (new : DeviceZone) (made : Trace) (posts : List Post) → DeviceWorks sizes old b new made posts → Course (at.Device old) (item.Block b ∷ []) made posts
 work_course sizes old b new made posts (device.makes call slot i c s n m q) = still (rw q (refl, tt)) (λ t. rw m refl)
-work_course sizes old b new made posts (device.fails call slot kept i c s n m q) = still (rw q (refl, notices_still (notified_zones sizes))) (λ t. rw m refl)
+work_course sizes old b new made posts (device.fails call slot kept i c s n m q) = still (rw q (refl, notices_still (notified sizes))) (λ t. rw m refl)
 work_course sizes old b new made posts (device.unmade call slot c s n m q) = still (rw q (refl, tt)) (λ t. rw m refl)
 
 -- each act is one of the three
@@ -158,11 +159,8 @@ course sizes old front new made posts (steps.works act) kept = work_course sizes
 
 -- the number of a logical zone among the logical ones, and None of another zone
 abbrev pub zone_in : ZoneData → Option ℕ
-zone_in (at.Desk d) = None
 zone_in (at.Logical l) = Some l.zone
-zone_in (at.Physical p) = None
-zone_in (at.Journal j) = None
-zone_in (at.Device d) = None
+zone_in other = None
 
 passed_zone : (a : ℕ) (l : LogicalZone) (o : Option Vio) → (passed_to a l o).zone ≡ l.zone
 passed_zone a l None = refl

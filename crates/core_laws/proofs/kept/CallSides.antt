@@ -22,7 +22,7 @@ use Rattle.core_model.specs.declared.zones.Logged.{Logged}
 use Rattle.core_model.specs.declared.zones.Zone.{Zone}
 use Rattle.core_model.specs.Facts.{ItemOk, KeptOk, WaitsOk, DataOk, ZoneOk, Carries}
 use Rattle.core_model.specs.Legal.{Legal}
-use Rattle.core_model.specs.Numbers.{desk_zone, journal_zone, device_zone}
+use Rattle.core_model.specs.Zones.{desk_zone, journal_zone, device_zone}
 use Rattle.core_model.specs.Sessions.{Session, IsSession, IsFresh}
 use Rattle.core_model.specs.Steps.{Core}
 use Rattle.plain_laws.specs.Sums.{total, bit, Each}
@@ -35,7 +35,8 @@ use Rattle.core_laws.proofs.kept.Elsewhere.{LacksRequest, LacksLock, LacksBlock,
 use Rattle.core_laws.proofs.tokens.LeaseOwners.{any}
 use Rattle.plain_laws.proofs.ListLaws.{total-get, nobody_else, every-map, every-front}
 use Rattle.core_laws.proofs.kept.OtherZones.{OfAll, all_both, all_weaker, all_always, all_lack, each_lane, zone_spared, data_says, data_enters, data_commits, data_calls, SparesIdle, by_busy}
-use Rattle.core_laws.proofs.tokens.Owners.{has_none, kept_by}
+use Rattle.core_laws.proofs.tokens.Owners.{has_none}
+use Rattle.core_laws.proofs.tokens.Lift.{kept_by}
 use Rattle.core_laws.proofs.tokens.RequestOwners.{Names}
 use Rattle.core_laws.proofs.kept.Sides.{Sides, sides_before, sides_after}
 use Rattle.core_laws.proofs.kept.StandsOn.{SparesBlocks, SparesJournal, IsCallOf, spares_all, write_spares, block_spared, journal_spared}

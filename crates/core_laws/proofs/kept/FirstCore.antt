@@ -167,7 +167,7 @@ abbrev no_lanes : List (List Item)
 no_lanes = [] ∷ [] ∷ [] ∷ [] ∷ [] ∷ [] ∷ []
 
 abbrev empty_zone : ℕ → ZoneData → Zone
-empty_zone number keeps = record { number = number; keeps = keeps; inbox = []; outboxes = no_lanes }
+empty_zone number keeps = record { number = number; steps = 0; keeps = keeps; inbox = []; outboxes = no_lanes }
 
 abbrev logical : ℕ → LogicalZone
 logical zone = record { zone = zone; notified = false; next = 0; places = []; held = []; waiting = []; retired = []; window = []; slots = [] }
@@ -208,7 +208,7 @@ each_of P (x ∷ xs) h zero y e = subst (P 0) (same_Some _ _ e) h.0
 each_of P (x ∷ xs) h (suc i) y e = each_of (λ k. P (suc k)) xs h.1 i y e
 
 empty_first : (n number : ℕ) (keeps : ZoneData) → IsFirstData (small_session n) number keeps → IsFirstZone (small_session n) number (empty_zone number keeps)
-empty_first n number keeps own = record { number_is = refl; lanes = refl; inbox = refl; outboxes = (refl, (refl, (refl, (refl, (refl, (refl, tt)))))); own = own }
+empty_first n number keeps own = record { number_is = refl; steps = refl; lanes = refl; inbox = refl; outboxes = (refl, (refl, (refl, (refl, (refl, (refl, tt)))))); own = own }
 
 logical_first : (n zone : ℕ) → zone < 2 → IsFirstLogical (small_session n) (1 + zone) (logical zone)
 logical_first n zone below = record { number_is = refl; among = below; notified = refl; next = refl; places = refl; held = refl; waiting = refl; retired = refl; window = refl; slots = refl }

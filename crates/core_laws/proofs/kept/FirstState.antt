@@ -9,7 +9,6 @@ use Rattle.image_layout.specs.Window.{mapping_of}
 use Rattle.stop_laws.proofs.JournalLaws.{opened_at_rest}
 use Rattle.vdo_model.specs.declared.report.DeskLine.{DeskLine}
 use Rattle.core_model.specs.declared.items.Item.{Item}
-use Rattle.core_model.specs.declared.items.Item.TheVariants as item
 use Rattle.core_model.specs.declared.items.Phase.TheVariants as phase
 use Rattle.core_model.specs.declared.items.Vio.{Vio}
 use Rattle.core_model.specs.declared.zones.ZoneData.{ZoneData}
@@ -18,12 +17,12 @@ use Rattle.core_model.specs.declared.zones.Lock.{Lock}
 use Rattle.core_model.specs.declared.zones.Zone.{Zone}
 use Rattle.core_model.specs.Facts.{ItemOk, KeptOk, WaitsOk, LockOk, DataOk, ZoneOk, RestsAt, Rises, arrivals}
 use Rattle.core_model.specs.Legal.{InOrder, LanesInOrder, Legal}
-use Rattle.core_model.specs.Numbers.{desk_zone, zone_count}
+use Rattle.core_model.specs.Zones.{desk_zone, zone_count}
 use Rattle.core_model.specs.Sessions.{IsFresh, Session, IsSession, Shown, AtRest}
 use Rattle.core_model.specs.Start.{IsFirstData, IsFirstZone, IsFirst}
 use Rattle.core_model.specs.Steps.{Core}
 use Rattle.plain_laws.specs.Sums.{total, bit, Each}
-use Rattle.core_model.specs.Tokens.{is_block, Token, queued, weight, given, Balanced, AtMost, in_log, begins_of, answers_of, request_token, lock_weight, lease_token, is_entry, blocks_at, one_physical, block_token, journal_token, is_begin, is_answer, room_token, notified_by, notice_token}
+use Rattle.core_model.specs.Tokens.{is_block, Token, as_items, queued, weight, given, Balanced, AtMost, in_log, begins_of, answers_of, request_token, lock_weight, lease_token, is_entry, blocks_at, one_physical, block_token, journal_token, is_begin, is_answer, room_token, notified_by, notice_token}
 use Rattle.core_model.specs.Trace.{Trace, of_address, newest}
 use Rattle.core_model.specs.DeviceRows.{IsInside}
 use Rattle.core_model.specs.JournalRows.{is_closed}
@@ -48,11 +47,10 @@ no_lanes w [] h = refl
 no_lanes w (l ∷ ls) h = omega (arith, ap (total w) h.0, no_lanes w ls h.1)
 
 none_queued : (w : Item → ℕ) (s : Session) (n : ℕ) (d : ZoneData) → IsFirstData s n d → queued w d ≡ 0
-none_queued w s n (at.Desk d) h = ap (total (λ (v : Vio). w (item.Request v))) h.parked
-none_queued w s n (at.Logical l) h = ap (total (λ (v : Vio). w (item.Request v))) h.waiting
-none_queued w s n (at.Physical p) h = refl
-none_queued w s n (at.Journal j) h = ap (total (λ (v : Vio). w (item.Request v))) h.waiting
-none_queued w s n (at.Device d) h = refl
+none_queued w s n (at.Desk d) h = ap (λ vs. total w (as_items vs)) h.parked
+none_queued w s n (at.Logical l) h = ap (λ vs. total w (as_items vs)) h.waiting
+none_queued w s n (at.Journal j) h = ap (λ vs. total w (as_items vs)) h.waiting
+none_queued w s n other h = refl
 
 -- at the start a zone weighs what its data weighs
 bare_weight : (t : Token) (s : Session) (n : ℕ) (z : Zone) → IsFirstZone s n z → weight t z ≡ t.own z.keeps

@@ -1,5 +1,5 @@
 -- Each stream's requests come to a logical zone in their order, over each move; and only the desk sends them.
-use Rattle.std.proofs.Common.{◌≡◌, ℕ, List, [], ◌∷◌, ◌++◌, Some, slice_get, slice_set, refl, sym, ◌∙◌, ap, subst, inl, inr, append_assoc}
+use Rattle.std.proofs.Common.{◌≡◌, ℕ, ◌+◌, List, [], ◌∷◌, ◌++◌, Some, slice_get, slice_set, refl, sym, ◌∙◌, ap, subst, inl, inr, append_assoc}
 use Rattle.std.specs.List.{AllByRecursion}
 use Rattle.std.proofs.lemmas.Bool.Decides.{eqb_tells}
 use Rattle.std.proofs.lemmas.Option.{same_Some}
@@ -11,7 +11,7 @@ use Rattle.core_model.specs.declared.zones.LogicalZone.{LogicalZone}
 use Rattle.core_model.specs.declared.zones.Zone.{Zone}
 use Rattle.core_model.specs.Facts.{DataOk, ZoneOk, arrivals}
 use Rattle.core_model.specs.Legal.{InOrder, LanesInOrder}
-use Rattle.core_model.specs.Numbers.{desk_zone}
+use Rattle.core_model.specs.Zones.{desk_zone}
 use Rattle.core_model.specs.Sessions.{Session}
 use Rattle.core_model.specs.Steps.{Core, StepOf, MoveOf, delivered}
 use Rattle.plain_laws.specs.Sums.{Each}
@@ -181,9 +181,9 @@ module _ (s : Session) (old new : Core) (st : StepOf s.sizes old new) (each : Ea
       subst (λ (z : Zone). AllByRecursion (λ lane. arrivals lane ≡ []) z.outboxes) (sym st.step.lanes) (by_course (course s.sizes st.zone.keeps st.step.front st.zone'.keeps st.made st.step.posts st.step.act (kept_in s old.trace st.number st.zone.keeps (each st.number st.zone st.had).own)) before)
     where
       by_course : Course st.zone.keeps st.step.front st.made st.step.posts → AllByRecursion (λ lane. arrivals lane ≡ []) st.zone.outboxes
-          → AllByRecursion (λ lane. arrivals lane ≡ []) (delivered st.step.posts (record st.zone { keeps = st.zone'.keeps; inbox = st.step.rest })).outboxes
-      by_course (still q made) before = delivered_none st.step.posts (record st.zone { keeps = st.zone'.keeps; inbox = st.step.rest }) q before
-      by_course (draws l v is front p q made) before = delivered_none st.step.posts (record st.zone { keeps = st.zone'.keeps; inbox = st.step.rest }) q before
+          → AllByRecursion (λ lane. arrivals lane ≡ []) (delivered s.sizes st.step.posts (record st.zone { keeps = st.zone'.keeps; inbox = st.step.rest; steps = st.zone.steps + 1 })).outboxes
+      by_course (still q made) before = delivered_none s.sizes st.step.posts (record st.zone { keeps = st.zone'.keeps; inbox = st.step.rest; steps = st.zone.steps + 1 }) q before
+      by_course (draws l v is front p q made) before = delivered_none s.sizes st.step.posts (record st.zone { keeps = st.zone'.keeps; inbox = st.step.rest; steps = st.zone.steps + 1 }) q before
       by_course (sends d w to x is number ar q made) before =
           let own = subst (λ (d : ZoneData). DataOk s old.trace st.number d) is (each st.number st.zone st.had).own in absurd (ne own.number_is)
 

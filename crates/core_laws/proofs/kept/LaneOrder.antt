@@ -1,5 +1,5 @@
 -- Each stream's requests come to a logical zone in their order, over each step.
-use Rattle.std.proofs.Common.{◌≡◌, ℕ, ◌⊎◌, ◌<◌, List, [], ◌∷◌, ◌++◌, Some, slice_get, slice_set, nat_eq, sym, ◌∙◌, ap, subst, inl, inr, append_assoc, arith}
+use Rattle.std.proofs.Common.{◌≡◌, ℕ, ◌+◌, ◌⊎◌, ◌<◌, List, [], ◌∷◌, ◌++◌, Some, slice_get, slice_set, nat_eq, sym, ◌∙◌, ap, subst, inl, inr, append_assoc, arith}
 use Rattle.std.specs.List.{AllByRecursion}
 use Rattle.std.proofs.lemmas.Bool.Decides.{eqb_tells}
 use Rattle.std.proofs.lemmas.Option.{same_Some}
@@ -18,7 +18,7 @@ use Rattle.core_model.specs.declared.zones.Zone.{Zone}
 use Rattle.core_model.specs.Facts.{DataOk, ZoneOk, arriving, arrival, arrivals}
 use Rattle.core_model.specs.Legal.{ComesAfter, InOrder, LanesInOrder}
 use Rattle.core_model.specs.LogicalRows.{place_of_vio}
-use Rattle.core_model.specs.Numbers.{desk_zone, logical_zone}
+use Rattle.core_model.specs.Zones.{zone_number, desk_zone, logical_zone}
 use Rattle.core_model.specs.Sessions.{Session}
 use Rattle.core_model.specs.Steps.{delivered, Core, StepOf}
 use Rattle.plain_laws.specs.Sums.{Each}
@@ -56,7 +56,7 @@ module _ (s : Session) (old new : Core) (st : StepOf s.sizes old new) (each : Ea
   the_course = course s.sizes st.zone.keeps st.step.front st.zone'.keeps st.made st.step.posts st.step.act (kept_in s old.trace st.number st.zone.keeps (each st.number st.zone st.had).own)
 
   before_posts : Zone
-  before_posts = record st.zone { keeps = st.zone'.keeps; inbox = st.step.rest }
+  before_posts = record st.zone { keeps = st.zone'.keeps; inbox = st.step.rest; steps = st.zone.steps + 1 }
 
   number_of : (n : ℕ) (z : Zone) (l : LogicalZone) → slice_get old.zones n ≡ Some z → z.keeps ≡ at.Logical l → n ≡ logical_zone l.zone
   number_of n z l had keeps = (subst (λ (d : ZoneData). DataOk s old.trace n d) keeps (each n z had).own).number_is
@@ -77,7 +77,7 @@ module _ (s : Session) (old new : Core) (st : StepOf s.sizes old new) (each : Ea
       ends : (ps : List Placed) → AllByRecursion Still st.step.posts → places (st.made ++ old.trace) ≡ ps → InOrder l.zone ps (arrivals st.step.rest ++ arrivals lane)
           → InOrder l.zone (places (st.made ++ old.trace)) (arrivals st.zone'.inbox ++ arrivals lane)
       ends ps q m h =
-          let inbox : arrivals st.zone'.inbox ≡ arrivals st.step.rest = ap (λ (z : Zone). arrivals z.inbox) st.step.lanes ∙ still_inbox st.step.posts before_posts q in
+          let inbox : arrivals st.zone'.inbox ≡ arrivals st.step.rest = ap (λ (z : Zone). arrivals z.inbox) st.step.lanes ∙ still_inbox s.sizes st.step.posts before_posts q in
           subst (λ (ps : List Placed). InOrder l.zone ps (arrivals st.zone'.inbox ++ arrivals lane)) (sym m)
           (subst (λ (us : List Writer). InOrder l.zone ps (us ++ arrivals lane)) (sym inbox) h)
 
@@ -121,14 +121,14 @@ module _ (s : Session) (old new : Core) (st : StepOf s.sizes old new) (each : Ea
         ]
       ]
 
-      by_course : Course st.zone.keeps st.step.front st.made st.step.posts → slice_get (delivered st.step.posts before_posts).outboxes n ≡ Some lane → InOrder l.zone (places (st.made ++ old.trace)) (arrivals z.inbox ++ arrivals lane)
+      by_course : Course st.zone.keeps st.step.front st.made st.step.posts → slice_get (delivered s.sizes st.step.posts before_posts).outboxes n ≡ Some lane → InOrder l.zone (places (st.made ++ old.trace)) (arrivals z.inbox ++ arrivals lane)
       by_course (still q m) lane_is =
-          let r = still_lane st.step.posts before_posts n lane q lane_is in
+          let r = still_lane s.sizes st.step.posts before_posts n lane q lane_is in
           subst (λ (ps : List Placed). InOrder l.zone ps (arrivals z.inbox ++ arrivals lane)) (sym (m old.trace)) (same r.old r.was r.is)
       by_course (draws here v is_here front p q m) lane_is = let k = number_of st.number st.zone here st.had is_here in absurd (omega (arith, k, is_desk))
       by_course (sends d w to x is number ar q m) lane_is =
           let own = subst (λ (d : ZoneData). DataOk s old.trace st.number d) is (each st.number st.zone st.had).own in
-          let r = sent_lane (nat_eq to st.zone.number) (to, x) before_posts n lane (subst (λ (ps : List Post). slice_get (delivered ps before_posts).outboxes n ≡ Some lane) q lane_is) in
+          let r = sent_lane (nat_eq (zone_number s.sizes to) st.zone.number) (zone_number s.sizes to) x before_posts n lane (subst (λ (ps : List Post). slice_get (delivered s.sizes ps before_posts).outboxes n ≡ Some lane) q lane_is) in
           subst (λ (ps : List Placed). InOrder l.zone ps (arrivals z.inbox ++ arrivals lane)) (sym (m old.trace)) (by_lane w x r (number ∙ ap (begun w.stream) own.log_is) ar)
 
   -- at another zone, where another zone than the desk steps

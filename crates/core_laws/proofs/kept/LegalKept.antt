@@ -1,5 +1,5 @@
 -- Each step and each move keeps a core legal, and so does each list of events.
-use Rattle.std.proofs.Common.{◌≡◌, ℕ, zero, suc, ◌<◌, Bool, true, false, Some, List, [], ◌∷◌, ◌++◌, length, nat_eq, slice_get, slice_set, refl, ap, sym, ◌∙◌, subst}
+use Rattle.std.proofs.Common.{◌≡◌, ℕ, zero, suc, ◌+◌, ◌<◌, Bool, true, false, Some, List, [], ◌∷◌, ◌++◌, length, nat_eq, slice_get, slice_set, refl, ap, sym, ◌∙◌, subst}
 use Rattle.std.specs.List.{AllByRecursion}
 use Rattle.std.proofs.lemmas.Bool.{eqb-true}
 use Rattle.std.proofs.lemmas.Option.{same_Some}
@@ -9,7 +9,7 @@ use Rattle.core_model.specs.declared.zones.ZoneData.{ZoneData}
 use Rattle.core_model.specs.declared.zones.Zone.{Zone}
 use Rattle.core_model.specs.Facts.{ItemOk, ZoneOk}
 use Rattle.core_model.specs.Legal.{Legal}
-use Rattle.core_model.specs.Numbers.{zone_count}
+use Rattle.core_model.specs.Zones.{zone_number, zone_count}
 use Rattle.core_model.specs.RightTraces.{RightTrace, GivesRight}
 use Rattle.core_model.specs.Sessions.{Session, IsSession, HasHonestReads}
 use Rattle.core_model.specs.Steps as steps
@@ -52,63 +52,73 @@ each-posted P zero x (y ∷ ys) each k (suc n) l e = each (suc n) l e
 each-posted P (suc to) x (y ∷ ys) each k zero l e = each 0 l e
 each-posted P (suc to) x (y ∷ ys) each k (suc n) l e = each-posted (λ m. P (suc m)) to x ys (λ m. each (suc m)) k n l e
 
-sent_ok : (s : Session) (t : Trace) (n : ℕ) (b : Bool) (p : Post) (z : Zone) → nat_eq p.0 z.number ≡ b → PostOk s t p → LanesOk s t n z → LanesOk s t n (sent_to b p z)
-sent_ok s t n true p z e k ok =
-    let home : p.0 ≡ n = eqb-true p.0 z.number e ∙ ok.number_is in
+sent_ok : (s : Session) (t : Trace) (n : ℕ) (b : Bool) (to : ℕ) (it : Item) (z : Zone) → nat_eq to z.number ≡ b → ItemOk s t to it → LanesOk s t n z → LanesOk s t n (sent_to b to it z)
+sent_ok s t n true to it z e k ok =
+    let home : to ≡ n = eqb-true to z.number e ∙ ok.number_is in
     record {
       number_is = ok.number_is;
       lanes = ok.lanes;
-      inbox = every-append (ItemOk s t n) z.inbox (p.1 ∷ []) ok.inbox (subst (λ (m : ℕ). ItemOk s t m p.1) home k.1, tt);
+      inbox = every-append (ItemOk s t n) z.inbox (it ∷ []) ok.inbox (subst (λ (m : ℕ). ItemOk s t m it) home k, tt);
       outboxes = ok.outboxes;
     }
-sent_ok s t n false p z e k ok = record {
+sent_ok s t n false to it z e k ok = record {
   number_is = ok.number_is;
-  lanes = length-posted p.0 p.1 z.outboxes ∙ ok.lanes;
+  lanes = length-posted to it z.outboxes ∙ ok.lanes;
   inbox = ok.inbox;
-  outboxes = each-posted (ItemOk s t) p.0 p.1 z.outboxes ok.outboxes k.1;
+  outboxes = each-posted (ItemOk s t) to it z.outboxes ok.outboxes k;
 }
 
-delivered_ok : (s : Session) (t : Trace) (n : ℕ) (ps : List Post) (z : Zone) → AllByRecursion (PostOk s t) ps → LanesOk s t n z → LanesOk s t n (delivered ps z)
+delivered_ok : (s : Session) (t : Trace) (n : ℕ) (ps : List Post) (z : Zone) → AllByRecursion (PostOk s t) ps → LanesOk s t n z → LanesOk s t n (delivered s.sizes ps z)
 delivered_ok s t n [] z k ok = ok
-delivered_ok s t n (p ∷ ps) z k ok = delivered_ok s t n ps (sent p z) k.1 (sent_ok s t n (nat_eq p.0 z.number) p z refl k.0 ok)
+delivered_ok s t n (p ∷ ps) z k ok =
+    let to = zone_number s.sizes p.0 in
+    delivered_ok s t n ps (sent s.sizes p z) k.1 (sent_ok s t n (nat_eq to z.number) to p.1 z refl k.0.1 ok)
+
+module _ (s : Session) (session : IsSession s) (old : Core) (legal : Legal s old) (n : ℕ) (z : Zone) (had : slice_get old.zones n ≡ Some z) where
+  by_act : (keeps : ZoneData) (front : List Item) (keeps' : ZoneData) (made : Trace) (posts : List Post) → Act s.sizes keeps front keeps' made posts → (rest : List Item) → z.keeps ≡ keeps → z.inbox ≡ front ++ rest → (front ≡ [] → rest ≡ [])
+      → ActOk s session old legal n z had keeps' made posts rest
+  by_act keeps front keeps' made posts (steps.begins {old = d} {new = d'} act) rest is taken turn = rw (turn refl) (begins_ok s session old legal n z had d d' made posts is (taken ∙ turn refl) act)
+  by_act keeps front keeps' made posts (steps.answers {old = d} {new = d'} {v = v} act) rest is taken turn = answers_ok s session old legal n z had v rest taken d d' made posts is act
+  by_act keeps front keeps' made posts (steps.hears {old = d}) rest is taken turn = hears_ok s session old legal n z had rest taken d is
+  by_act keeps front keeps' made posts (steps.serves {old = d} {new = d'} {v = v} act) rest is taken turn = serves_ok s session old legal n z had v rest taken d d' made posts is act
+  by_act keeps front keeps' made posts (steps.serves_notice {old = d}) rest is taken turn = serves_notice_ok s session old legal n z had rest taken d is
+  by_act keeps front keeps' made posts (steps.takes {old = d} {new = d'} {v = v} act) rest is taken turn = takes_ok s session old legal n z had v rest taken d d' made posts is act
+  by_act keeps front keeps' made posts (steps.takes_notice {old = d}) rest is taken turn = takes_notice_ok s session old legal n z had rest taken d is
+  by_act keeps front keeps' made posts (steps.enters {old = d} {new = d'} {v = v} act) rest is taken turn = enters_ok s session old legal n z had v rest taken d d' made posts is act
+  by_act keeps front keeps' made posts (steps.ends {old = d} {new = d'} {b = b} act) rest is taken turn = ends_ok s session old legal n z had b rest taken d is d' made posts act
+  by_act keeps front keeps' made posts (steps.enters_notice {old = d}) rest is taken turn = enters_notice_ok s session old legal n z had rest taken d is
+  by_act keeps front keeps' made posts (steps.calls {old = d} {new = d'} {v = v} act) rest is taken turn = calls_ok s session old legal n z had v rest taken d d' made posts is act
+  by_act keeps front keeps' made posts (steps.works {old = d} {new = d'} {b = b} act) rest is taken turn = works_ok s session old legal n z had b rest taken d d' made posts is act
+
+  pub act_ok : (front rest : List Item) (new : ZoneData) (made : Trace) (posts : List Post) → z.inbox ≡ front ++ rest → (front ≡ [] → rest ≡ []) → Act s.sizes z.keeps front new made posts
+      → ActOk s session old legal n z had new made posts rest
+  act_ok front rest new made posts taken turn act = by_act z.keeps front new made posts act rest refl taken turn
+
+  -- each post has a lane
+  pub goes : (front rest : List Item) (new : ZoneData) (made : Trace) (posts : List Post) → z.inbox ≡ front ++ rest → (front ≡ [] → rest ≡ []) → Act s.sizes z.keeps front new made posts
+      → Within s.sizes (length z.outboxes) posts
+  goes front rest new made posts taken turn act =
+      every-map {P = PostOk s (made ++ old.trace)} {Q = λ (p : Post). zone_number s.sizes p.0 < length z.outboxes} (λ p k. subst (λ (m : ℕ). zone_number s.sizes p.0 < m) (sym (legal.each n z had).lanes) k.0)
+      posts (act_ok front rest new made posts taken turn act).0.posts_ok
 
 module _ (s : Session) (session : IsSession s) (old new : Core) (legal : Legal s old) (st : StepOf s.sizes old new) where
-  n : ℕ
-  n = st.number
-
-  by_act : (keeps : ZoneData) (front : List Item) (keeps' : ZoneData) (made : Trace) (posts : List Post) → Act s.sizes keeps front keeps' made posts → (rest : List Item) → st.zone.keeps ≡ keeps → st.zone.inbox ≡ front ++ rest → (front ≡ [] → rest ≡ [])
-      → ActOk s session old legal st.number st.zone st.had keeps' made posts rest
-  by_act keeps front keeps' made posts (steps.begins {old = d} {new = d'} act) rest is taken turn = rw (turn refl) (begins_ok s session old legal st.number st.zone st.had d d' made posts is (taken ∙ turn refl) act)
-  by_act keeps front keeps' made posts (steps.answers {old = d} {new = d'} {v = v} act) rest is taken turn = answers_ok s session old legal st.number st.zone st.had v rest taken d d' made posts is act
-  by_act keeps front keeps' made posts (steps.hears {old = d}) rest is taken turn = hears_ok s session old legal st.number st.zone st.had rest taken d is
-  by_act keeps front keeps' made posts (steps.serves {old = d} {new = d'} {v = v} act) rest is taken turn = serves_ok s session old legal st.number st.zone st.had v rest taken d d' made posts is act
-  by_act keeps front keeps' made posts (steps.serves_notice {old = d}) rest is taken turn = serves_notice_ok s session old legal st.number st.zone st.had rest taken d is
-  by_act keeps front keeps' made posts (steps.takes {old = d} {new = d'} {v = v} act) rest is taken turn = takes_ok s session old legal st.number st.zone st.had v rest taken d d' made posts is act
-  by_act keeps front keeps' made posts (steps.takes_notice {old = d}) rest is taken turn = takes_notice_ok s session old legal st.number st.zone st.had rest taken d is
-  by_act keeps front keeps' made posts (steps.enters {old = d} {new = d'} {v = v} act) rest is taken turn = enters_ok s session old legal st.number st.zone st.had v rest taken d d' made posts is act
-  by_act keeps front keeps' made posts (steps.ends {old = d} {new = d'} {b = b} act) rest is taken turn = ends_ok s session old legal st.number st.zone st.had b rest taken d is d' made posts act
-  by_act keeps front keeps' made posts (steps.enters_notice {old = d}) rest is taken turn = enters_notice_ok s session old legal st.number st.zone st.had rest taken d is
-  by_act keeps front keeps' made posts (steps.calls {old = d} {new = d'} {v = v} act) rest is taken turn = calls_ok s session old legal st.number st.zone st.had v rest taken d d' made posts is act
-  by_act keeps front keeps' made posts (steps.works {old = d} {new = d'} {b = b} act) rest is taken turn = works_ok s session old legal st.number st.zone st.had b rest taken d d' made posts is act
-
   abbrev t' : Trace
   t' = st.made ++ old.trace
 
-  act_ok : ActOk s session old legal st.number st.zone st.had st.zone'.keeps st.made st.step.posts st.step.rest
-  act_ok = by_act st.zone.keeps st.step.front st.zone'.keeps st.made st.step.posts st.step.act st.step.rest refl st.step.taken st.step.in_turn
+  stepped : ActOk s session old legal st.number st.zone st.had st.zone'.keeps st.made st.step.posts st.step.rest
+  stepped = act_ok s session old legal st.number st.zone st.had st.step.front st.step.rest st.zone'.keeps st.made st.step.posts st.step.taken st.step.in_turn st.step.act
+
+  lanes_there : Within s.sizes (length st.zone.outboxes) st.step.posts
+  lanes_there = goes s session old legal st.number st.zone st.had st.step.front st.step.rest st.zone'.keeps st.made st.step.posts st.step.taken st.step.in_turn st.step.act
 
   zone_ok : ZoneOk s old.trace st.number st.zone
   zone_ok = legal.each st.number st.zone st.had
 
-  -- each post has a lane
-  pub goes : Within (length st.zone.outboxes) st.step.posts
-  goes = every-map {P = PostOk s t'} {Q = λ (p : Post). p.0 < length st.zone.outboxes} (λ p k. subst (λ (m : ℕ). p.0 < m) (sym zone_ok.lanes) k.0) st.step.posts act_ok.0.posts_ok
-
   lanes_ok : LanesOk s t' st.number st.zone'
   lanes_ok =
-      let served : Zone = record st.zone { keeps = st.zone'.keeps; inbox = st.step.rest } in
-      let first : LanesOk s t' st.number served = record { number_is = zone_ok.number_is; lanes = zone_ok.lanes; inbox = act_ok.1.inbox; outboxes = act_ok.1.outboxes } in
-      subst (λ (z : Zone). LanesOk s t' st.number z) (sym st.step.lanes) (delivered_ok s t' st.number st.step.posts served act_ok.0.posts_ok first)
+      let served : Zone = record st.zone { keeps = st.zone'.keeps; inbox = st.step.rest; steps = st.zone.steps + 1 } in
+      let first : LanesOk s t' st.number served = record { number_is = zone_ok.number_is; lanes = zone_ok.lanes; inbox = stepped.1.inbox; outboxes = stepped.1.outboxes } in
+      subst (λ (z : Zone). LanesOk s t' st.number z) (sym st.step.lanes) (delivered_ok s t' st.number st.step.posts served stepped.0.posts_ok first)
 
   zones_is : new.zones ≡ slice_set old.zones st.number st.zone'
   zones_is = ap (λ (core : Core). core.zones) st.has
@@ -126,11 +136,11 @@ module _ (s : Session) (session : IsSession s) (old new : Core) (legal : Legal s
     inbox = lanes_ok.inbox;
     outboxes = lanes_ok.outboxes;
     arrivals_from = arrivals_step s old new st legal.each st.number st.zone' has_now;
-    own = act_ok.0.own;
+    own = stepped.0.own;
   }
 
   each_ok : Each (ZoneOk s t') (slice_set old.zones st.number st.zone')
-  each_ok = each_other old.zones st.number st.zone st.zone' st.had act_ok.1.others zone_ok'
+  each_ok = each_other old.zones st.number st.zone st.zone' st.had stepped.1.others zone_ok'
     where
       each_other : (zones : List Zone) (i : ℕ) (z z' : Zone) → slice_get zones i ≡ Some z → Each (λ j y. (j ≡ i → ⊥) → ZoneOk s t' j y) zones → ZoneOk s t' i z' → Each (ZoneOk s t') (slice_set zones i z')
       each_other zones i z z' had others ok' = Each-put_other {P = λ j y. (j ≡ i → ⊥) → ZoneOk s t' j y} {Q = ZoneOk s t'} zones i z z' had others (λ j y ne f. f ne) ok'
@@ -149,14 +159,14 @@ module _ (s : Session) (session : IsSession s) (old new : Core) (legal : Legal s
   legal_step = record {
     count = ap length zones_is ∙ length-put old.zones st.number st.zone' ∙ legal.count;
     each = subst (λ (core : Core). Each (ZoneOk s core.trace) core.zones) (sym st.has) each_ok;
-    requests = λ w. balance_step (request_token w) s.sizes old new st goes (requests_law w s.sizes st.zone.keeps st.step.front st.zone'.keeps st.made st.step.posts st.step.act) (legal.requests w);
-    leases = λ a test. balance_step (lease_token a test) s.sizes old new st goes
+    requests = λ w. balance_step (request_token w) s.sizes old new st lanes_there (requests_law w s.sizes st.zone.keeps st.step.front st.zone'.keeps st.made st.step.posts st.step.act) (legal.requests w);
+    leases = λ a test. balance_step (lease_token a test) s.sizes old new st lanes_there
         (leases_law a test s.sizes st.zone.keeps st.step.front st.zone'.keeps st.made st.step.posts st.step.act (kept_in s old.trace st.number st.zone.keeps zone_ok.own) sealed_in leased) (legal.leases a test);
-    blocks = λ x. at_most_step (block_token x) s.sizes old new st goes (blocks_law x s.sizes st.zone.keeps st.step.front st.zone'.keeps st.made st.step.posts st.step.act (wait_to_enter s old.trace st.number st.zone.keeps zone_ok.own)) (legal.blocks x);
-    journal = balance_step journal_token s.sizes old new st goes (journal_law s.sizes st.zone.keeps st.step.front st.zone'.keeps st.made st.step.posts st.step.act busy) legal.journal;
-    room = balance_step room_token s.sizes old new st goes (room_law s.sizes st.zone.keeps st.step.front st.zone'.keeps st.made st.step.posts st.step.act) legal.room;
-    stop_notices = balance_step (notice_token s.sizes) s.sizes old new st goes (notices_law s.sizes st.zone.keeps st.step.front st.zone'.keeps st.made st.step.posts st.step.act) legal.stop_notices;
+    blocks = λ x. at_most_step (block_token x) s.sizes old new st lanes_there (blocks_law x s.sizes st.zone.keeps st.step.front st.zone'.keeps st.made st.step.posts st.step.act (wait_to_enter s old.trace st.number st.zone.keeps zone_ok.own)) (legal.blocks x);
+    journal = balance_step journal_token s.sizes old new st lanes_there (journal_law s.sizes st.zone.keeps st.step.front st.zone'.keeps st.made st.step.posts st.step.act busy) legal.journal;
+    room = balance_step room_token s.sizes old new st lanes_there (room_law s.sizes st.zone.keeps st.step.front st.zone'.keeps st.made st.step.posts st.step.act) legal.room;
+    stop_notices = balance_step (notice_token s.sizes) s.sizes old new st lanes_there (notices_law s.sizes st.zone.keeps st.step.front st.zone'.keeps st.made st.step.posts st.step.act) legal.stop_notices;
     in_order = order_step s old new st legal.each (places_begun s old.trace legal.right) legal.in_order;
-    right = subst (RightTrace s) (sym trace_is) act_ok.0.right;
-    gives_right = subst (λ (t : Trace). HasHonestReads s t → GivesRight s t) (sym trace_is) (act_ok.0.gives legal.gives_right);
+    right = subst (RightTrace s) (sym trace_is) stepped.0.right;
+    gives_right = subst (λ (t : Trace). HasHonestReads s t → GivesRight s t) (sym trace_is) (stepped.0.gives legal.gives_right);
   }

@@ -4,7 +4,7 @@ use Rattle.std.specs.List.{AllByRecursion}
 use Rattle.core_model.specs.declared.zones.Zone.{Zone}
 use Rattle.core_model.specs.Facts.{ItemOk, ZoneOk, DataOk}
 use Rattle.core_model.specs.Legal.{Legal}
-use Rattle.core_model.specs.Numbers.{zone_count}
+use Rattle.core_model.specs.Zones.{zone_count}
 use Rattle.core_model.specs.RightTraces.{RightTrace, GivesRight}
 use Rattle.core_model.specs.Sessions.{Session, IsSession, HasHonestReads}
 use Rattle.core_model.specs.Start.{IsFirst}

@@ -2,6 +2,7 @@
 -- the same.
 use Rattle.std.proofs.Common.{ℕ, ◌+◌, ◌≡◌, Bool, true, false, not, ◌&&◌, Option, None, Some, List, [], ◌∷◌, ◌++◌, refl, sym, ap, ◌∙◌}
 use Rattle.blk_base.specs.declared.place.Pbn.{Pbn}
+use Rattle.blk_base.specs.declared.place.ZoneId.TheVariants as id
 use Rattle.blk_base.specs.declared.request.Answer.{Answer}
 use Rattle.blk_base.specs.declared.request.Answer.TheVariants as reply
 use Rattle.disk_model.specs.declared.call.Call.TheVariants.{Read}
@@ -26,7 +27,7 @@ use Rattle.core_model.specs.DeskRows.{DeskServes, parks, answers, marks, is_noti
 use Rattle.core_model.specs.DeviceRows.{DeviceServes, DeviceWorks, counted, halted, stop_notices, next_stage, next_zone}
 use Rattle.core_model.specs.JournalRows.{PhysicalServes, JournalServes, JournalEnds, is_closed, has_block, sealed, refused, all_refused, entered_by, committed_by, hands_out}
 use Rattle.core_model.specs.LogicalRows.{LogicalServes, is_among, is_held, lock_of, all_for, placed, place_of_vio, drawn_by, goes_on, granted, released, retire, all_stopped, with_slot}
-use Rattle.core_model.specs.Numbers.{desk_zone, physical_zone, journal_zone, device_zone, notified_zones}
+use Rattle.core_model.specs.Zones.{notified}
 use Rattle.core_model.specs.Steps.{Act, CallsDevice}
 use Rattle.core_model.specs.Steps as steps
 use Rattle.core_model.specs.Trace.{Trace, Flushes, Says, Draws, Enters, Commits, Sets, Gives, Takes, Aborts, Calls}
@@ -37,7 +38,7 @@ abbrev Result : Type 0 → Type 0
 Result Z = Z × Trace × List Post
 
 abbrev to_desk : Phase → Vio → Post
-to_desk now v = (desk_zone, item.Request (turned now v))
+to_desk now v = (id.Desk, item.Request (turned now v))
 
 -- the desk
 abbrev reply_at : Desk → Vio → Answer → (waits marked : Bool) → Result Desk
@@ -61,7 +62,7 @@ desk_is sizes desk v new made posts (marks is asks answer n m q) = rw (n, m, q, 
 -- the physical zone
 abbrev claim_at : Sizes → PhysicalZone → Vio → List Pbn → Result PhysicalZone
 claim_at sizes p v [] = (p, [], (v.home, item.Request (ended phase.Abort reply.Full v)) ∷ [])
-claim_at sizes p v (x ∷ others) = (record p { free = others }, Takes v.request x ∷ [], (device_zone sizes, item.Request (record v { phase = phase.Store; block = x })) ∷ [])
+claim_at sizes p v (x ∷ others) = (record p { free = others }, Takes v.request x ∷ [], (id.Device, item.Request (record v { phase = phase.Store; block = x })) ∷ [])
 
 abbrev physical_at : Sizes → PhysicalZone → Vio → Phase → Result PhysicalZone
 physical_at sizes p v phase.Claim = claim_at sizes p v p.free
@@ -78,7 +79,7 @@ physical_is sizes p v new made posts (PhysicalServes.aborts_entered_claim is n m
 
 -- a logical zone
 abbrev arrival_at : LogicalZone → Vio → (retired held : Bool) → Option Post → Result LogicalZone
-arrival_at l v true held next = (drawn_by l v, Draws (place_of_vio l v) ∷ [], (desk_zone, item.Request (ended phase.Reply reply.Stopped (placed l v))) ∷ [])
+arrival_at l v true held next = (drawn_by l v, Draws (place_of_vio l v) ∷ [], (id.Desk, item.Request (ended phase.Reply reply.Stopped (placed l v))) ∷ [])
 arrival_at l v false true next = (record (drawn_by l v) { waiting = l.waiting ++ turned phase.Wait (placed l v) ∷ [] }, Draws (place_of_vio l v) ∷ [], [])
 arrival_at l v false false (Some post) = (record (drawn_by l v) { held = lock_of (placed l v) ∷ l.held }, Draws (place_of_vio l v) ∷ [], post ∷ [])
 arrival_at l v false false None = (l, [], [])
@@ -91,8 +92,8 @@ passes l a made post None = (l, [], [])
 abbrev logical_at : Sizes → LogicalZone → Vio → Phase → Result LogicalZone
 logical_at sizes l v phase.Arrive = arrival_at l v (is_among v.at.0 l.retired) (is_held v.at.0 l.held) (goes_on sizes l (placed l v))
 logical_at sizes l v phase.Settle =
-    passes (with_slot l v) v.at.0 (Sets (logged v) ∷ []) (desk_zone, item.Request (ended phase.Reply reply.Ok v)) (granted sizes v.at.0 (with_slot l v))
-logical_at sizes l v phase.Loaded = passes l v.at.0 (Gives (gift v) ∷ []) (desk_zone, item.Request (ended phase.Reply (reply.Bytes v.bytes) v)) (granted sizes v.at.0 l)
+    passes (with_slot l v) v.at.0 (Sets (logged v) ∷ []) (id.Desk, item.Request (ended phase.Reply reply.Ok v)) (granted sizes v.at.0 (with_slot l v))
+logical_at sizes l v phase.Loaded = passes l v.at.0 (Gives (gift v) ∷ []) (id.Desk, item.Request (ended phase.Reply (reply.Bytes v.bytes) v)) (granted sizes v.at.0 l)
 logical_at sizes l v phase.Abort = passes l v.at.0 [] (to_desk phase.Reply v) (granted sizes v.at.0 l)
 logical_at sizes l v phase.AbortEntered = (retire v.at.0 l, Aborts (logged v) ∷ [], to_desk phase.Reply v ∷ all_stopped (all_for v.at.0 l.waiting))
 logical_at sizes l v other = (l, [], [])
@@ -112,7 +113,7 @@ abbrev entry_at : Sizes → JournalZone → Vio → (closed busy room : Bool) �
 entry_at sizes j v true busy room = (j, [], refused sizes reply.Stopped v ∷ [])
 entry_at sizes j v false true room = (record j { waiting = j.waiting ++ v ∷ [] }, [], [])
 entry_at sizes j v false false false = (j, [], refused sizes reply.Full v ∷ [])
-entry_at sizes j v false false true = (entered_by v j, Enters (logged v) ∷ [], (device_zone sizes, item.Block (sealed sizes j v)) ∷ [])
+entry_at sizes j v false false true = (entered_by v j, Enters (logged v) ∷ [], (id.Device, item.Block (sealed sizes j v)) ∷ [])
 
 journal_is : (sizes : Sizes) (j : JournalZone) (v : Vio) (new : JournalZone) (made : Trace) (posts : List Post) → JournalServes sizes j v new made posts
     → (new, made, posts) ≡ entry_at sizes j v (is_closed j) j.busy (has_block sizes j)
@@ -123,7 +124,7 @@ journal_is sizes j v new made posts (JournalServes.enters is open_yet idle room 
 
 abbrev commit_at : Sizes → JournalZone → SealedBlock → List Vio → (room : Bool) → Result JournalZone
 commit_at sizes j b (w ∷ ws) true =
-    (entered_by w (record (committed_by b.vio j) { waiting = ws }), Enters (logged w) ∷ Commits (logged b.vio) ∷ [], hands_out b.vio ∷ (device_zone sizes, item.Block (sealed sizes j w)) ∷ [])
+    (entered_by w (record (committed_by b.vio j) { waiting = ws }), Enters (logged w) ∷ Commits (logged b.vio) ∷ [], hands_out b.vio ∷ (id.Device, item.Block (sealed sizes j w)) ∷ [])
 commit_at sizes j b [] true = (committed_by b.vio j, Commits (logged b.vio) ∷ [], hands_out b.vio ∷ [])
 commit_at sizes j b waiting false = (record (committed_by b.vio j) { waiting = [] }, Commits (logged b.vio) ∷ [], hands_out b.vio ∷ all_refused sizes reply.Full j.waiting)
 
@@ -132,7 +133,7 @@ end_at sizes j b stage.Commit = commit_at sizes j b j.waiting (has_block sizes j
 end_at sizes j b stage.Fail = (
   record j { busy = false; broken = true; waiting = [] },
   [],
-  (physical_zone sizes, item.Request (ended phase.AbortEnteredClaim reply.Stopped b.vio)) ∷ all_refused sizes reply.Stopped j.waiting,
+  (id.Physical 0, item.Request (ended phase.AbortEnteredClaim reply.Stopped b.vio)) ∷ all_refused sizes reply.Stopped j.waiting,
 )
 end_at sizes j b other = (j, [], [])
 
@@ -153,18 +154,18 @@ abbrev Behind : Type 0
 Behind = DeviceZone × List Post
 
 abbrev store_at : Sizes → DeviceZone → Vio → Bool → Trace → Behind
-store_at sizes d v true made = (d, (physical_zone sizes, item.Request (ended phase.AbortClaim reply.Stopped v)) ∷ [])
-store_at sizes d v false (Calls call ∷ []) = (counted d, (journal_zone sizes, item.Request (turned phase.Enter v)) ∷ [])
-store_at sizes d v false other = (halted d, (physical_zone sizes, item.Request (ended phase.AbortClaim reply.Stopped v)) ∷ stop_notices (notified_zones sizes))
+store_at sizes d v true made = (d, (id.Physical 0, item.Request (ended phase.AbortClaim reply.Stopped v)) ∷ [])
+store_at sizes d v false (Calls call ∷ []) = (counted d, (id.Journal, item.Request (turned phase.Enter v)) ∷ [])
+store_at sizes d v false other = (halted d, (id.Physical 0, item.Request (ended phase.AbortClaim reply.Stopped v)) ∷ stop_notices (notified sizes))
 
 abbrev load_at : DeviceZone → Vio → Trace → Behind
 load_at d v (Calls (Read x bytes ok) ∷ []) = (counted d, (v.home, item.Request (record v { phase = phase.Loaded; bytes = bytes })) ∷ [])
 load_at d v other = (d, (v.home, item.Request (ended phase.Abort reply.ReadFault v)) ∷ [])
 
 abbrev flush_at : Sizes → DeviceZone → Vio → Bool → Trace → Behind
-flush_at sizes d v true made = (d, (desk_zone, item.Request (ended phase.Reply reply.Stopped v)) ∷ [])
-flush_at sizes d v false (Calls call ∷ []) = (counted d, (desk_zone, item.Request (record v { phase = phase.Reply; answer = Some reply.Ok; calls = d.calls + 1 })) ∷ [])
-flush_at sizes d v false other = (halted d, (desk_zone, item.Request (ended phase.Reply reply.Stopped v)) ∷ stop_notices (notified_zones sizes))
+flush_at sizes d v true made = (d, (id.Desk, item.Request (ended phase.Reply reply.Stopped v)) ∷ [])
+flush_at sizes d v false (Calls call ∷ []) = (counted d, (id.Desk, item.Request (record v { phase = phase.Reply; answer = Some reply.Ok; calls = d.calls + 1 })) ∷ [])
+flush_at sizes d v false other = (halted d, (id.Desk, item.Request (ended phase.Reply reply.Stopped v)) ∷ stop_notices (notified sizes))
 
 abbrev device_at : Sizes → DeviceZone → Vio → Trace → Phase → Behind
 device_at sizes d v made phase.Store = store_at sizes d v d.stopped made
@@ -184,9 +185,9 @@ device_is sizes d v new made posts (DeviceServes.flush_fails kept is goes n m q)
 device_is sizes d v new made posts (DeviceServes.flush_unmade is stops n m q) = rw (n, m, q, is, stops) refl
 
 abbrev work_at : Sizes → DeviceZone → SealedBlock → Bool → Trace → Behind
-work_at sizes d b true made = (d, (journal_zone sizes, item.Block (staged stage.Fail b)) ∷ [])
-work_at sizes d b false (Calls call ∷ []) = (counted d, (next_zone sizes b.stage, item.Block (staged (next_stage b.stage) b)) ∷ [])
-work_at sizes d b false other = (halted d, (journal_zone sizes, item.Block (staged stage.Fail b)) ∷ stop_notices (notified_zones sizes))
+work_at sizes d b true made = (d, (id.Journal, item.Block (staged stage.Fail b)) ∷ [])
+work_at sizes d b false (Calls call ∷ []) = (counted d, (next_zone b.stage, item.Block (staged (next_stage b.stage) b)) ∷ [])
+work_at sizes d b false other = (halted d, (id.Journal, item.Block (staged stage.Fail b)) ∷ stop_notices (notified sizes))
 
 work_is : (sizes : Sizes) (d : DeviceZone) (b : SealedBlock) (new : DeviceZone) (made : Trace) (posts : List Post) → DeviceWorks sizes d b new made posts
     → (new, posts) ≡ work_at sizes d b d.stopped made

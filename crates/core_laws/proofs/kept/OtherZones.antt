@@ -20,7 +20,7 @@ use Rattle.core_model.specs.declared.zones.Zone.{Zone}
 use Rattle.vdo_model.specs.ZoneOrder.{places_in}
 use Rattle.core_model.specs.Facts.{ItemOk, DataOk, LogicalOk, ZoneOk}
 use Rattle.core_model.specs.LogicalRows.{is_held}
-use Rattle.core_model.specs.Numbers.{desk_zone, logical_zone, physical_zone, journal_zone, device_zone}
+use Rattle.core_model.specs.Zones.{desk_zone, logical_zone, physical_zone, journal_zone, device_zone}
 use Rattle.core_model.specs.RightTraces.{AllBelow}
 use Rattle.core_model.specs.Sessions.{Session}
 use Rattle.plain_laws.specs.Sums.{Each}
@@ -29,7 +29,8 @@ use Rattle.core_model.specs.Trace.{Happening, Says, Flushes, Draws, Enters, Comm
 use Rattle.core_laws.proofs.kept.Carried.{SparesItem}
 use Rattle.core_laws.proofs.kept.Elsewhere.{SealedEnters}
 use Rattle.plain_laws.proofs.ListLaws.{every-map, every_both}
-use Rattle.core_laws.proofs.tokens.Owners.{kept_by, HasNone}
+use Rattle.core_laws.proofs.tokens.Lift.{kept_by}
+use Rattle.core_laws.proofs.tokens.Owners.{HasNone}
 use Rattle.core_laws.proofs.kept.Spared.{SparesAddress, of_other, below_kept, settled_at}
 use Rattle.core_laws.proofs.kept.StandsOn.{SparesJournal, SparesBlocks, SparesEntries, IsCallOf, succeeded, failed, spares_all}
 use Rattle.core_laws.proofs.kept.ZonesKept.{SparesRests, SparesData, SparesQueue, SparesZone}

@@ -1,10 +1,11 @@
 -- In a legal core a rule applies to the item in front of each inbox, and each post of a rule has a lane.
-use Rattle.std.proofs.Common.{◌⊎◌, ◌≡◌, ℕ, ◌<◌, ◌≤◌, true, false, None, Some, Option, List, [], ◌∷◌, ◌++◌, length, slice_get, slice_set, refl, ap, sym, ◌∙◌, subst, inl, inr, arith}
+use Rattle.std.proofs.Common.{◌⊎◌, ◌≡◌, ℕ, ◌<◌, ◌≤◌, true, false, None, Some, Option, List, [], ◌∷◌, ◌++◌, length, slice_get, refl, ap, sym, ◌∙◌, subst, inl, inr, arith}
 use Rattle.std.proofs.lemmas.Bool.{cases_Bool}
 use Rattle.std.proofs.lemmas.Bool.Decides.{eqb_tells}
 use Rattle.std.specs.List.{AllByRecursion}
 use Rattle.blk_base.specs.Regions.{journal_slot_of}
 use Rattle.blk_base.specs.declared.place.Pbn.{Pbn}
+use Rattle.blk_base.specs.declared.place.ZoneId.{ZoneId}
 use Rattle.blk_base.specs.declared.request.Answer.{Answer}
 use Rattle.blk_base.specs.declared.request.Answer.TheVariants as reply
 use Rattle.blk_base.specs.declared.request.Request.{Request}
@@ -38,7 +39,7 @@ use Rattle.core_model.specs.Facts.{VioOk, MayReply, Carries, ItemOk, DataOk, Des
 use Rattle.core_model.specs.JournalRows.{PhysicalServes, JournalServes, JournalEnds, is_closed, has_block}
 use Rattle.core_model.specs.Legal.{Legal}
 use Rattle.core_model.specs.LogicalRows.{LogicalServes, is_among, is_held, first_for, placed, next_for, goes_on, passes_on, with_slot}
-use Rattle.core_model.specs.Numbers.{desk_zone, logical_zone, physical_zone, journal_zone, device_zone}
+use Rattle.core_model.specs.Zones.{zone_number, desk_zone, logical_zone, physical_zone, journal_zone, device_zone}
 use Rattle.core_model.specs.Sessions.{Session, IsSession, IsServed}
 use Rattle.core_model.specs.Steps as steps
 use Rattle.core_model.specs.Steps.{Act, HasAct, MayBegin, Core, delivered}
@@ -46,7 +47,6 @@ use Rattle.core_model.specs.Trace.{Trace}
 use Rattle.core_model.specs.Vios.{Post}
 use Rattle.core_laws.proofs.device.DataBlocks.{request_served}
 use Rattle.core_laws.proofs.kept.LegalKept.{goes}
-use Rattle.core_laws.proofs.tokens.Lift.{delivered_same}
 use Rattle.plain_laws.proofs.ListLaws.{every-map}
 use Rattle.plain_laws.proofs.OptionLaws.{option_cases, some_of}
 use Rattle.core_laws.proofs.physical.PhysicalFacts.{zone_below}
@@ -61,19 +61,16 @@ marked_is asks other marked = absurd cc
 
 module _ (s : Session) (session : IsSession s) (t : Trace) where
   -- a request's home is a logical zone
-  abbrev IsHome : ℕ → Type 0
-  IsHome home = (1 ≤ home) × (home ≤ s.sizes.zones)
+  abbrev IsHome : ZoneId → Type 0
+  IsHome home = (1 ≤ zone_number s.sizes home) × (zone_number s.sizes home ≤ s.sizes.zones)
 
   at_home : (v : Vio) → VioOk s t v → IsHome v.home
-  at_home v ok = let home = ok.home in let below = zone_below s.sizes.zones v.at.0 session.zones in (omega (arith, home), omega (arith, home, below))
+  at_home v ok = let home = ap (zone_number s.sizes) ok.home in let below = zone_below s.sizes.zones v.at.0 session.zones in (omega (arith, home), omega (arith, home, below))
 
   -- a block is in a lane to the journal or to the device
   stage_behind : (q : Stage) → journal_zone s.sizes ≤ zone_of_stage s.sizes q
   stage_behind stage.Cover = omega arith
-  stage_behind stage.Write = omega arith
-  stage_behind stage.Harden = omega arith
-  stage_behind stage.Commit = omega arith
-  stage_behind stage.Fail = omega arith
+  stage_behind other = omega arith
 
   -- the desk
   replies : (desk : Desk) (v : Vio) (o : Option Answer) → v.answer ≡ o → v.phase ≡ phase.Reply → MayReply s t v o → HasAct s.sizes (at.Desk desk) (item.Request v ∷ [])
@@ -273,33 +270,9 @@ module _ (s : Session) (session : IsSession s) (core : Core) (legal : Legal s co
     where
       by_kind : (d : ZoneData) → DataOk s core.trace n d → MayBegin s.sizes d → HasAct s.sizes d []
       by_kind (at.Desk desk) own begins = desk_starts s session core.trace n desk own begins
-      by_kind (at.Logical l) own begins = absurd begins
-      by_kind (at.Physical p) own begins = absurd begins
-      by_kind (at.Journal j) own begins = absurd begins
-      by_kind (at.Device d) own begins = absurd begins
+      by_kind other own begins = absurd begins
 
   -- the posts of an act are those of a step, and each of these has a lane
   pub has_lanes : (front rest : List Item) (new : ZoneData) (made : Trace) (posts : List Post) → z.inbox ≡ front ++ rest → (front ≡ [] → rest ≡ []) → Act s.sizes z.keeps front new made posts
-      → AllByRecursion (λ (post : Post). post.0 < length z.outboxes) posts
-  has_lanes front rest new made posts taken turn act =
-      let served : Zone = record z { keeps = new; inbox = rest } in
-      let zone' : Zone = delivered posts served in
-      let keeps : new ≡ zone'.keeps = sym (delivered_same posts served).keeps_is in
-      let after : Core = record { zones = slice_set core.zones n zone'; trace = made ++ core.trace } in
-      goes s session core after legal (record {
-        number = n;
-        zone = z;
-        zone' = zone';
-        made = made;
-        had = had;
-        step = record {
-          front = front;
-          rest = rest;
-          posts = posts;
-          taken = taken;
-          in_turn = turn;
-          act = subst (λ (d : ZoneData). Act s.sizes z.keeps front d made posts) keeps act;
-          lanes = ap (λ (d : ZoneData). delivered posts (record z { keeps = d; inbox = rest })) keeps;
-        };
-        has = refl;
-      })
+      → AllByRecursion (λ (post : Post). zone_number s.sizes post.0 < length z.outboxes) posts
+  has_lanes = goes s session core legal n z had

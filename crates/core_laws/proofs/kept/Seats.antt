@@ -1,5 +1,5 @@
 -- What a thread does with its own zone is a step of the core, though other zones went on meanwhile.
-use Rattle.std.proofs.Common.{◌≡◌, ℕ, zero, suc, Bool, true, false, List, [], ◌∷◌, ◌++◌, Some, slice_get, slice_set, nat_eq, refl, ap, sym, ◌∙◌, append_assoc}
+use Rattle.std.proofs.Common.{◌≡◌, ℕ, zero, suc, ◌+◌, Bool, true, false, List, [], ◌∷◌, ◌++◌, Some, slice_get, slice_set, nat_eq, refl, ap, sym, ◌∙◌, append_assoc}
 use Rattle.std.proofs.lemmas.Option.{same_Some}
 use Rattle.core_model.specs.declared.items.Item.{Item}
 use Rattle.core_model.specs.declared.sizes.Sizes.{Sizes}
@@ -8,6 +8,7 @@ use Rattle.core_model.specs.Steps.{posted, sent_to, sent, delivered, ZoneStep, C
 use Rattle.core_model.specs.Trace.{Trace}
 use Rattle.core_model.specs.Views.{behind, with_batches, zones_of, core_of}
 use Rattle.core_model.specs.Vios.{Post}
+use Rattle.core_model.specs.Zones.{zone_number}
 
 behind_posted : (batches : List (List Item)) (to : ℕ) (x : Item) (lanes : List (List Item)) → behind batches (posted to x lanes) ≡ posted to x (behind batches lanes)
 behind_posted [] to x lanes = refl
@@ -15,13 +16,15 @@ behind_posted (b ∷ bs) to x [] = refl
 behind_posted (b ∷ bs) zero x (l ∷ ls) = ap (λ (lane : List Item). lane ∷ behind bs ls) (sym (append_assoc b l (x ∷ [])))
 behind_posted (b ∷ bs) (suc to) x (l ∷ ls) = ap (λ (lanes : List (List Item)). (b ++ l) ∷ lanes) (behind_posted bs to x ls)
 
-sent_behind : (batches : List (List Item)) (b : Bool) (p : Post) (z : Zone) → with_batches batches (sent_to b p z) ≡ sent_to b p (with_batches batches z)
-sent_behind batches true p z = refl
-sent_behind batches false p z = ap (λ (lanes : List (List Item)). record z { outboxes = lanes }) (behind_posted batches p.0 p.1 z.outboxes)
+sent_behind : (batches : List (List Item)) (b : Bool) (to : ℕ) (it : Item) (z : Zone) → with_batches batches (sent_to b to it z) ≡ sent_to b to it (with_batches batches z)
+sent_behind batches true to it z = refl
+sent_behind batches false to it z = ap (λ (lanes : List (List Item)). record z { outboxes = lanes }) (behind_posted batches to it z.outboxes)
 
-delivered_behind : (batches : List (List Item)) (ps : List Post) (z : Zone) → with_batches batches (delivered ps z) ≡ delivered ps (with_batches batches z)
-delivered_behind batches [] z = refl
-delivered_behind batches (p ∷ ps) z = delivered_behind batches ps (sent p z) ∙ ap (delivered ps) (sent_behind batches (nat_eq p.0 z.number) p z)
+delivered_behind : (sizes : Sizes) (batches : List (List Item)) (ps : List Post) (z : Zone) → with_batches batches (delivered sizes ps z) ≡ delivered sizes ps (with_batches batches z)
+delivered_behind sizes batches [] z = refl
+delivered_behind sizes batches (p ∷ ps) z =
+    let to = zone_number sizes p.0 in
+    delivered_behind sizes batches ps (sent sizes p z) ∙ ap (delivered sizes ps) (sent_behind batches (nat_eq to z.number) to p.1 z)
 
 -- A step of a zone by itself is one of the zone with what lies in its lanes.
 pub step_behind : (sizes : Sizes) (batches : List (List Item)) (old new : Zone) (made : Trace) → ZoneStep sizes old new made → ZoneStep sizes (with_batches batches old) (with_batches batches new) made
@@ -30,10 +33,11 @@ step_behind sizes batches old new made s =
       front = s.front;
       rest = s.rest;
       posts = s.posts;
+      counts = s.counts;
       taken = s.taken;
       in_turn = s.in_turn;
       act = s.act;
-      lanes = ap (with_batches batches) s.lanes ∙ delivered_behind batches s.posts (record old { keeps = new.keeps; inbox = s.rest });
+      lanes = ap (with_batches batches) s.lanes ∙ delivered_behind sizes batches s.posts (record old { keeps = new.keeps; inbox = s.rest; steps = old.steps + 1 });
     }
 
 -- what lies in the lanes from the zone of a number

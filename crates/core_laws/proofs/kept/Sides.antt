@@ -8,9 +8,10 @@ use Rattle.core_model.specs.declared.zones.Zone.{Zone}
 use Rattle.core_model.specs.Facts.{ItemOk, ZoneOk}
 use Rattle.core_model.specs.Sessions.{Session}
 use Rattle.plain_laws.specs.Sums.{total, Each}
-use Rattle.core_model.specs.Tokens.{Token, weight, given, queued, AtMost}
+use Rattle.core_model.specs.Tokens.{Token, weight, given, AtMost}
 use Rattle.core_model.specs.Trace.{Happening, Trace}
 use Rattle.core_laws.proofs.kept.Carried.{SparesItem}
+use Rattle.core_laws.proofs.tokens.Lift.{kept_weight, queued_is}
 use Rattle.plain_laws.proofs.ListLaws.{total-get, nobody_else, every-front}
 use Rattle.core_laws.proofs.kept.OtherZones.{OfAll}
 use Rattle.core_laws.proofs.kept.ZonesKept.{SparesZone, zone_kept, items_kept, lanes_kept}
@@ -48,12 +49,13 @@ module _ (t : Token) (zones : List Zone) (n : ℕ) (z : Zone) (once : total (giv
     pub outboxes : total (total t.item) z.outboxes ≡ 0
     pub behind : total (λ u. t.item (item.Request u)) vs ≡ 0
 
-  pub kept_alone : (v : Vio) (vs : List Vio) → queued t.item z.keeps ≡ t.item (item.Request v) + total (λ u. t.item (item.Request u)) vs → 1 ≤ t.item (item.Request v) → KeptAlone v vs
+  pub kept_alone : (v : Vio) (vs : List Vio) → kept_weight t z.keeps ≡ t.item (item.Request v) + total (λ u. t.item (item.Request u)) vs → 1 ≤ t.item (item.Request v) → KeptAlone v vs
   kept_alone v vs line has =
       let here = total-get (weight t) zones n z had in
+      let queue = queued_is t.item z.keeps in
       record {
-        others = nobody_else (weight t) zones n z had (omega (arith, once, most, line, has));
-        inbox = omega (arith, once, most, here, line, has);
-        outboxes = omega (arith, once, most, here, line, has);
-        behind = omega (arith, once, most, here, line, has);
+        others = nobody_else (weight t) zones n z had (omega (arith, once, most, line, queue, has));
+        inbox = omega (arith, once, most, here, line, queue, has);
+        outboxes = omega (arith, once, most, here, line, queue, has);
+        behind = omega (arith, once, most, here, line, queue, has);
       }

@@ -28,7 +28,7 @@ use Rattle.core_model.specs.Facts.{ItemOk, DataOk, DeskOk, LogicalOk, PhysicalOk
 use Rattle.core_model.specs.JournalRows as journal
 use Rattle.core_model.specs.Legal.{Legal, ComesAfter, InOrder}
 use Rattle.core_model.specs.LogicalRows as logical
-use Rattle.core_model.specs.Numbers.{desk_zone, logical_zone}
+use Rattle.core_model.specs.Zones.{zone_number, desk_zone, logical_zone}
 use Rattle.core_model.specs.Sessions.{Session, IsSession}
 use Rattle.core_model.specs.Steps.{Core}
 use Rattle.plain_laws.specs.Sums.{bit}
@@ -45,7 +45,7 @@ use Rattle.core_laws.proofs.tokens.LeaseOwners.{any, leased_front}
 use Rattle.core_laws.proofs.tokens.LeaseTokens.{Leased}
 use Rattle.core_laws.proofs.logical.LogicalEnds.{logical_serves}
 use Rattle.vdo_model.proofs.NameLaws.{same_self}
-use Rattle.core_laws.proofs.tokens.Owners.{kept_by}
+use Rattle.core_laws.proofs.tokens.Lift.{kept_by}
 use Rattle.core_laws.proofs.physical.PhysicalFacts.{physical_serves}
 use Rattle.core_laws.proofs.kept.Sides.{Sides}
 use Rattle.core_laws.proofs.kept.StepSides.{first_ok, before, rest_lacks, rest_unlocked, side_answer, side_flush, side_draw, side_set, side_give, side_abort, side_take}
@@ -143,8 +143,8 @@ module _ (s : Session) (session : IsSession s) (core : Core) (legal : Legal s co
         own : LogicalOk s core.trace n old
         own = own_ok (at.Logical old) keeps
 
-        home : (q : Phase) → v.phase ≡ q → zone_at s.sizes v.home q ≡ v.home → n ≡ logical_zone (zone_of s.sizes.zones v.at.0)
-        home q is at_home = front_ok.2 ∙ ap (zone_at s.sizes v.home) is ∙ at_home ∙ front_ok.0.home
+        home : (q : Phase) → v.phase ≡ q → zone_at s.sizes v.home q ≡ zone_number s.sizes v.home → n ≡ logical_zone (zone_of s.sizes.zones v.at.0)
+        home q is at_home = front_ok.2 ∙ ap (zone_at s.sizes v.home) is ∙ at_home ∙ ap (zone_number s.sizes) front_ok.0.home
 
         drawn : made ≡ Draws (logical.place_of_vio old v) ∷ [] → Sides s (made ++ core.trace) core.zones n (record z { inbox = rest })
         drawn m = made_is made _ rest m (side_draw s session core legal n z had (item.Request v) rest taken (logical.place_of_vio old v) refl own.number_is)

@@ -3,6 +3,7 @@ use Rattle.std.proofs.Common.{◌≡◌, ℕ, ◌+◌, ◌<◌, Bool, true, fals
 use Rattle.std.proofs.lemmas.Option.{same_Some}
 use Rattle.std.specs.List.{AllByRecursion}
 use Rattle.blk_base.specs.declared.place.Pbn.{Pbn}
+use Rattle.blk_base.specs.declared.place.ZoneId.TheVariants as id
 use Rattle.blk_base.specs.declared.request.Answer.TheVariants as reply
 use Rattle.disk_model.specs.declared.call.Call.{Call}
 use Rattle.disk_model.specs.declared.call.Call.TheVariants as call
@@ -26,11 +27,11 @@ use Rattle.core_model.specs.DeviceRows.{DeviceWorks, IsItsSlot, call_of, journal
 use Rattle.core_model.specs.Facts.{KeptOk, DataOk, JournalOk, DeviceOk, BlockOk}
 use Rattle.core_model.specs.JournalRows as journal
 use Rattle.core_model.specs.Legal.{Legal}
-use Rattle.core_model.specs.Numbers.{desk_zone, logical_zone, journal_zone}
+use Rattle.core_model.specs.Zones.{logical_zone, journal_zone}
 use Rattle.core_model.specs.Sessions.{Session, IsSession}
 use Rattle.core_model.specs.Steps.{Core}
 use Rattle.plain_laws.specs.Sums.{total}
-use Rattle.core_model.specs.Tokens.{Token, weight, queued, request_token, lease_token, journal_token, holder_weight, locks_at, of_vio}
+use Rattle.core_model.specs.Tokens.{Token, weight, request_token, lease_token, journal_token, holder_weight, locks_at, of_vio}
 use Rattle.core_model.specs.Trace.{Happening, Enters, Commits, Trace, has_stopped}
 use Rattle.core_model.specs.Vios.{Post, logged}
 use Rattle.core_laws.proofs.tokens.BlockOwners.{sealed_busy}
@@ -47,6 +48,7 @@ use Rattle.plain_laws.proofs.ListLaws.{total-get, every_both}
 use Rattle.core_laws.proofs.lists.LockLists.{counts_held}
 use Rattle.core_laws.proofs.logical.LogicalEnds.{logical_notified}
 use Rattle.core_laws.proofs.kept.OtherZones.{OfAll, all_both, all_weaker, all_lack, zone_spared, data_enters, HeldAtHome}
+use Rattle.core_laws.proofs.tokens.Lift.{kept_weight, queued_is}
 use Rattle.core_laws.proofs.tokens.Owners.{has_none, each_zero, balanced_most}
 use Rattle.core_laws.proofs.physical.PhysicalFacts.{physical_notified}
 use Rattle.core_laws.proofs.tokens.RequestOwners.{request_once}
@@ -113,8 +115,8 @@ module _ (s : Session) (session : IsSession s) (core : Core) (legal : Legal s co
         entering : w.phase ≡ phase.Enter
         entering = (subst (λ (vs : List Vio). AllByRecursion (KeptOk s core.trace phase.Enter) vs) waits own.waiting).0.2
 
-        line_of : (t : Token) → queued t.item z.keeps ≡ t.item (item.Request w) + total (λ u. t.item (item.Request u)) ws
-        line_of t = ap (queued t.item) keeps ∙ ap (total (λ u. t.item (item.Request u))) waits
+        line_of : (t : Token) → kept_weight t z.keeps ≡ t.item (item.Request w) + total (λ u. t.item (item.Request u)) ws
+        line_of t = ap (kept_weight t) keeps ∙ ap (total (λ u. t.item (item.Request u))) waits
 
         request_kept : KeptAlone (request_token w.request) core.zones n z (request_once s core.trace legal.right core.zones legal.each w.request) (balanced_most (request_token w.request) core.zones (legal.requests w.request)) had w ws
         request_kept = kept_alone (request_token w.request) core.zones n z _ _ had w ws (line_of (request_token w.request)) (let one = own_name w in omega (arith, one))
@@ -137,9 +139,10 @@ module _ (s : Session) (session : IsSession s) (core : Core) (legal : Legal s co
                 let gave = given_at_home s core.trace w.at.0 core.zones legal.each any j y there (place ∙ ap logical_zone home) ∙ ap (locks_at w.at.0 any) is in
                 let here = total-get (weight (lease_token w.at.0 any)) core.zones n z had in
                 let line = line_of (lease_token w.at.0 any) in
+                let queue = queued_is (lease_token w.at.0 any).item z.keeps in
                 let one = holder_one w phase.Enter entering refl in
                 let balance = legal.leases w.at.0 any in
-                counts_held w.at.0 l.held (omega (arith, gave, here, line, one, balance))
+                counts_held w.at.0 l.held (omega (arith, gave, here, line, queue, one, balance))
             by (at.Physical p) is = tt
             by (at.Journal jn) is = tt
             by (at.Device d) is = tt
@@ -196,11 +199,11 @@ module _ (s : Session) (session : IsSession s) (core : Core) (legal : Legal s co
     pub hears_ok : (old : Desk) → z.keeps ≡ at.Desk old → Own (at.Desk (with_notice old)) [] (woken old.parked) rest
     hears_ok old keeps = (desk_hears s core.trace n old legal.right stopped (own_ok s session core legal n z had (at.Desk old) keeps), same)
 
-    pub serves_notice_ok : (old : LogicalZone) → z.keeps ≡ at.Logical old → Own (at.Logical (record old { notified = true })) [] ((desk_zone, item.StopNotice) ∷ []) rest
+    pub serves_notice_ok : (old : LogicalZone) → z.keeps ≡ at.Logical old → Own (at.Logical (record old { notified = true })) [] ((id.Desk, item.StopNotice) ∷ []) rest
     serves_notice_ok old keeps = (logical_notified s core.trace n old legal.right stopped (own_ok s session core legal n z had (at.Logical old) keeps), same)
 
-    pub takes_notice_ok : (old : PhysicalZone) → z.keeps ≡ at.Physical old → Own (at.Physical (record old { notified = true })) [] ((desk_zone, item.StopNotice) ∷ []) rest
+    pub takes_notice_ok : (old : PhysicalZone) → z.keeps ≡ at.Physical old → Own (at.Physical (record old { notified = true })) [] ((id.Desk, item.StopNotice) ∷ []) rest
     takes_notice_ok old keeps = (physical_notified s core.trace n old legal.right stopped (own_ok s session core legal n z had (at.Physical old) keeps), same)
 
-    pub enters_notice_ok : (old : JournalZone) → z.keeps ≡ at.Journal old → Own (at.Journal (record old { notified = true; waiting = [] })) [] ((desk_zone, item.StopNotice) ∷ journal.all_refused s.sizes reply.Stopped old.waiting) rest
+    pub enters_notice_ok : (old : JournalZone) → z.keeps ≡ at.Journal old → Own (at.Journal (record old { notified = true; waiting = [] })) [] ((id.Desk, item.StopNotice) ∷ journal.all_refused s.sizes reply.Stopped old.waiting) rest
     enters_notice_ok old keeps = (journal_notified s core.trace n old session legal.right stopped (own_ok s session core legal n z had (at.Journal old) keeps), same)

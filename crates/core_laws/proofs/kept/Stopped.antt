@@ -9,7 +9,7 @@ use Rattle.core_model.specs.declared.zones.DeviceZone.{DeviceZone}
 use Rattle.core_model.specs.declared.zones.Zone.{Zone}
 use Rattle.core_model.specs.Facts.{DataOk, DeskOk}
 use Rattle.core_model.specs.Legal.{Legal}
-use Rattle.core_model.specs.Numbers.{desk_zone, device_zone, notified_zones}
+use Rattle.core_model.specs.Zones.{desk_zone, device_zone, notified_zones}
 use Rattle.core_model.specs.Sessions.{Session}
 use Rattle.core_model.specs.Steps.{Core}
 use Rattle.core_model.specs.Tokens.{weight, given, notice_token, heard_at, notified_by}

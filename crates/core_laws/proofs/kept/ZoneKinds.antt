@@ -4,7 +4,7 @@ use Rattle.core_model.specs.declared.zones.ZoneData.{ZoneData}
 use Rattle.core_model.specs.declared.zones.ZoneData.TheVariants as at
 use Rattle.core_model.specs.declared.zones.Zone.{Zone}
 use Rattle.core_model.specs.Facts.{DataOk, ZoneOk}
-use Rattle.core_model.specs.Numbers.{desk_zone, logical_zone, physical_zone, journal_zone, device_zone, zone_count}
+use Rattle.core_model.specs.Zones.{desk_zone, logical_zone, physical_zone, journal_zone, device_zone, zone_count}
 use Rattle.core_model.specs.Sessions.{Session}
 use Rattle.plain_laws.specs.Sums.{total, Each}
 use Rattle.core_model.specs.Tokens.{given, journal_token, block_token, one_journal, one_physical}

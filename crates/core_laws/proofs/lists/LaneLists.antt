@@ -1,5 +1,5 @@
 -- The requests that have yet to draw a place, in the lanes and in their order.
-use Rattle.std.proofs.Common.{◌≡◌, ℕ, zero, suc, ◌⊎◌, ◌<◌, Bool, true, false, List, [], ◌∷◌, ◌++◌, Some, slice_get, nat_eq, refl, sym, ◌∙◌, ap, inl, inr, append_assoc}
+use Rattle.std.proofs.Common.{◌≡◌, ℕ, zero, suc, ◌⊎◌, ◌<◌, Bool, true, false, List, [], ◌∷◌, ◌++◌, Some, slice_get, nat_eq, if◌then◌else◌, refl, sym, ◌∙◌, ap, inl, inr, append_assoc}
 use Rattle.std.specs.List.{AllByRecursion}
 use Rattle.std.proofs.lemmas.Option.{same_Some}
 use Rattle.blk_base.specs.declared.request.Writer.{Writer}
@@ -7,17 +7,19 @@ use Rattle.vdo_model.specs.DeskLog.{begun}
 use Rattle.vdo_model.specs.declared.report.Placed.{Placed}
 use Rattle.core_model.specs.declared.items.Item.{Item}
 use Rattle.core_model.specs.declared.items.Item.TheVariants as item
-use Rattle.core_model.specs.declared.items.Phase.{Phase}
 use Rattle.core_model.specs.declared.items.Phase.TheVariants as phase
 use Rattle.core_model.specs.declared.zones.ZoneData.{ZoneData}
 use Rattle.core_model.specs.declared.zones.ZoneData.TheVariants as at
+use Rattle.core_model.specs.declared.sizes.Sizes.{Sizes}
 use Rattle.core_model.specs.declared.zones.Zone.{Zone}
 use Rattle.core_model.specs.Facts.{ItemOk, DataOk, KeptOk, WaitsOk, arriving, arrival, arrivals}
 use Rattle.core_model.specs.Legal.{ComesAfter, InOrder}
+use Rattle.core_model.specs.Phases.{row}
 use Rattle.core_model.specs.Sessions.{Session}
 use Rattle.core_model.specs.Steps.{posted, sent_to, sent, delivered}
 use Rattle.core_model.specs.Trace.{Trace, lines}
 use Rattle.core_model.specs.Vios.{Post}
+use Rattle.core_model.specs.Zones.{zone_number}
 use Rattle.plain_laws.proofs.ListLaws.{every-append, every-map}
 use Rattle.core_laws.proofs.tokens.LeaseTokens.{KeptIn}
 use Rattle.core_laws.proofs.kept.Arrivals.{Still}
@@ -45,9 +47,9 @@ was_lane zero x (l ∷ ls) (suc n) lane h = record { old = lane; was = h; is = i
 was_lane (suc to) x (l ∷ ls) zero lane h = record { old = l; was = refl; is = inl (sym (same_Some _ _ h)) }
 was_lane (suc to) x (l ∷ ls) (suc n) lane h = let r = was_lane to x ls n lane h in record { old = r.old; was = r.was; is = r.is }
 
-pub sent_lane : (b : Bool) (p : Post) (z : Zone) (n : ℕ) (lane : List Item) → slice_get (sent_to b p z).outboxes n ≡ Some lane → WasLane z.outboxes n p.1 lane
-sent_lane true p z n lane h = record { old = lane; was = h; is = inl refl }
-sent_lane false p z n lane h = was_lane p.0 p.1 z.outboxes n lane h
+pub sent_lane : (b : Bool) (to : ℕ) (it : Item) (z : Zone) (n : ℕ) (lane : List Item) → slice_get (sent_to b to it z).outboxes n ≡ Some lane → WasLane z.outboxes n it lane
+sent_lane true to it z n lane h = record { old = lane; was = h; is = inl refl }
+sent_lane false to it z n lane h = was_lane to it z.outboxes n lane h
 
 -- a lane with the arrivals that it had
 pub record SameLane (lanes : List (List Item)) (n : ℕ) (lane : List Item) : Type 0 where
@@ -55,41 +57,41 @@ pub record SameLane (lanes : List (List Item)) (n : ℕ) (lane : List Item) : Ty
   pub was : slice_get lanes n ≡ Some old
   pub is : arrivals lane ≡ arrivals old
 
-sent_still_lane : (b : Bool) (p : Post) (z : Zone) (n : ℕ) (lane : List Item) → Still p → slice_get (sent_to b p z).outboxes n ≡ Some lane → SameLane z.outboxes n lane
-sent_still_lane true p z n lane h e = record { old = lane; was = e; is = refl }
-sent_still_lane false p z n lane h e =
-    let r = was_lane p.0 p.1 z.outboxes n lane e in
-    record { old = r.old; was = r.was; is = elim r.is [ inl same ↦ ap arrivals same | inr more ↦ ap arrivals more ∙ arrivals-still r.old p.1 h ] }
+sent_still_lane : (b : Bool) (to : ℕ) (it : Item) (z : Zone) (n : ℕ) (lane : List Item) → arrival it ≡ [] → slice_get (sent_to b to it z).outboxes n ≡ Some lane → SameLane z.outboxes n lane
+sent_still_lane true to it z n lane h e = record { old = lane; was = e; is = refl }
+sent_still_lane false to it z n lane h e =
+    let r = was_lane to it z.outboxes n lane e in
+    record { old = r.old; was = r.was; is = elim r.is [ inl same ↦ ap arrivals same | inr more ↦ ap arrivals more ∙ arrivals-still r.old it h ] }
 
 -- posts that need no place change no arrivals
-pub still_lane : (ps : List Post) (z : Zone) (n : ℕ) (lane : List Item) → AllByRecursion Still ps → slice_get (delivered ps z).outboxes n ≡ Some lane → SameLane z.outboxes n lane
-still_lane [] z n lane h e = record { old = lane; was = e; is = refl }
-still_lane (p ∷ ps) z n lane h e =
-    let r = still_lane ps (sent p z) n lane h.1 e in
-    let q = sent_still_lane (nat_eq p.0 z.number) p z n r.old h.0 r.was in
+pub still_lane : (sizes : Sizes) (ps : List Post) (z : Zone) (n : ℕ) (lane : List Item) → AllByRecursion Still ps → slice_get (delivered sizes ps z).outboxes n ≡ Some lane → SameLane z.outboxes n lane
+still_lane sizes [] z n lane h e = record { old = lane; was = e; is = refl }
+still_lane sizes (p ∷ ps) z n lane h e =
+    let r = still_lane sizes ps (sent sizes p z) n lane h.1 e in
+    let q = sent_still_lane (nat_eq (zone_number sizes p.0) z.number) (zone_number sizes p.0) p.1 z n r.old h.0 r.was in
     record { old = q.old; was = q.was; is = r.is ∙ q.is }
 
-sent_still_inbox : (b : Bool) (p : Post) (z : Zone) → Still p → arrivals (sent_to b p z).inbox ≡ arrivals z.inbox
-sent_still_inbox true p z h = arrivals-still z.inbox p.1 h
-sent_still_inbox false p z h = refl
+sent_still_inbox : (b : Bool) (to : ℕ) (it : Item) (z : Zone) → arrival it ≡ [] → arrivals (sent_to b to it z).inbox ≡ arrivals z.inbox
+sent_still_inbox true to it z h = arrivals-still z.inbox it h
+sent_still_inbox false to it z h = refl
 
-pub still_inbox : (ps : List Post) (z : Zone) → AllByRecursion Still ps → arrivals (delivered ps z).inbox ≡ arrivals z.inbox
-still_inbox [] z h = refl
-still_inbox (p ∷ ps) z h = still_inbox ps (sent p z) h.1 ∙ sent_still_inbox (nat_eq p.0 z.number) p z h.0
+pub still_inbox : (sizes : Sizes) (ps : List Post) (z : Zone) → AllByRecursion Still ps → arrivals (delivered sizes ps z).inbox ≡ arrivals z.inbox
+still_inbox sizes [] z h = refl
+still_inbox sizes (p ∷ ps) z h = still_inbox sizes ps (sent sizes p z) h.1 ∙ sent_still_inbox (nat_eq (zone_number sizes p.0) z.number) (zone_number sizes p.0) p.1 z h.0
 
 -- lanes without arrivals stay without
-sent_none : (b : Bool) (p : Post) (z : Zone) → Still p → AllByRecursion (λ lane. arrivals lane ≡ []) z.outboxes → AllByRecursion (λ lane. arrivals lane ≡ []) (sent_to b p z).outboxes
-sent_none true p z h k = k
-sent_none false p z h k = posted_none p.0 z.outboxes k
+sent_none : (b : Bool) (to : ℕ) (it : Item) (z : Zone) → arrival it ≡ [] → AllByRecursion (λ lane. arrivals lane ≡ []) z.outboxes → AllByRecursion (λ lane. arrivals lane ≡ []) (sent_to b to it z).outboxes
+sent_none true to it z h k = k
+sent_none false to it z h k = posted_none to z.outboxes k
   where
-    posted_none : (to : ℕ) (lanes : List (List Item)) → AllByRecursion (λ lane. arrivals lane ≡ []) lanes → AllByRecursion (λ lane. arrivals lane ≡ []) (posted to p.1 lanes)
+    posted_none : (to : ℕ) (lanes : List (List Item)) → AllByRecursion (λ lane. arrivals lane ≡ []) lanes → AllByRecursion (λ lane. arrivals lane ≡ []) (posted to it lanes)
     posted_none to [] k = tt
-    posted_none zero (l ∷ ls) k = (arrivals-still l p.1 h ∙ k.0, k.1)
+    posted_none zero (l ∷ ls) k = (arrivals-still l it h ∙ k.0, k.1)
     posted_none (suc to) (l ∷ ls) k = (k.0, posted_none to ls k.1)
 
-pub delivered_none : (ps : List Post) (z : Zone) → AllByRecursion Still ps → AllByRecursion (λ lane. arrivals lane ≡ []) z.outboxes → AllByRecursion (λ lane. arrivals lane ≡ []) (delivered ps z).outboxes
-delivered_none [] z h k = k
-delivered_none (p ∷ ps) z h k = delivered_none ps (sent p z) h.1 (sent_none (nat_eq p.0 z.number) p z h.0 k)
+pub delivered_none : (sizes : Sizes) (ps : List Post) (z : Zone) → AllByRecursion Still ps → AllByRecursion (λ lane. arrivals lane ≡ []) z.outboxes → AllByRecursion (λ lane. arrivals lane ≡ []) (delivered sizes ps z).outboxes
+delivered_none sizes [] z h k = k
+delivered_none sizes (p ∷ ps) z h k = delivered_none sizes ps (sent sizes p z) h.1 (sent_none (nat_eq (zone_number sizes p.0) z.number) (zone_number sizes p.0) p.1 z h.0 k)
 
 -- the order of arrivals
 
@@ -123,24 +125,11 @@ kept_in s t n (at.Device d) ok = tt
 abbrev pub IsBegun : Trace → Writer → Type 0
 IsBegun t w = w.number < begun w.stream (lines t)
 
-arriving_begun : (t : Trace) (w : Writer) (q : Phase) → IsBegun t w → AllByRecursion (IsBegun t) (arriving q w)
-arriving_begun t w phase.Arrive h = (h, tt)
-arriving_begun t w phase.Wait h = tt
-arriving_begun t w phase.Claim h = tt
-arriving_begun t w phase.Store h = tt
-arriving_begun t w phase.Enter h = tt
-arriving_begun t w phase.Settle h = tt
-arriving_begun t w phase.Load h = tt
-arriving_begun t w phase.Loaded h = tt
-arriving_begun t w phase.AbortClaim h = tt
-arriving_begun t w phase.Abort h = tt
-arriving_begun t w phase.AbortEnteredClaim h = tt
-arriving_begun t w phase.AbortEntered h = tt
-arriving_begun t w phase.Flush h = tt
-arriving_begun t w phase.Reply h = tt
+arriving_begun : (t : Trace) (w : Writer) (b : Bool) → IsBegun t w → AllByRecursion (IsBegun t) (if b then w ∷ [] else [])
+arriving_begun t w true h = (h, tt)
+arriving_begun t w false h = tt
 
 pub all_begun : (s : Session) (t : Trace) (n : ℕ) (items : List Item) → AllByRecursion (ItemOk s t n) items → AllByRecursion (IsBegun t) (arrivals items)
 all_begun s t n [] h = tt
-all_begun s t n (item.Request v ∷ items) h = every-append (IsBegun t) (arriving v.phase v.request) (arrivals items) (arriving_begun t v.request v.phase h.0.0.is_open.is_begun) (all_begun s t n items h.1)
-all_begun s t n (item.Block b ∷ items) h = all_begun s t n items h.1
-all_begun s t n (item.StopNotice ∷ items) h = all_begun s t n items h.1
+all_begun s t n (item.Request v ∷ items) h = every-append (IsBegun t) (arriving v.phase v.request) (arrivals items) (arriving_begun t v.request (row v.phase).arrives h.0.0.is_open.is_begun) (all_begun s t n items h.1)
+all_begun s t n (other ∷ items) h = all_begun s t n items h.1

@@ -4,10 +4,12 @@ use Rattle.std.specs.List.{AllByRecursion}
 use Rattle.std.proofs.lemmas.Bool.Decides.{eqb_tells}
 use Rattle.blk_base.specs.declared.place.Mapping.TheVariants.{At}
 use Rattle.blk_base.specs.declared.place.Pbn.{Pbn}
+use Rattle.blk_base.specs.declared.place.ZoneId.TheVariants as id
 use Rattle.blk_base.specs.declared.request.Answer.{Answer}
 use Rattle.blk_base.specs.declared.request.Answer.TheVariants as reply
 use Rattle.blk_base.specs.declared.request.Request.TheVariants as request
 use Rattle.byte_fields.specs.Mappings.{HoldsMapping}
+use Rattle.core_model.specs.Zones.{zone_number}
 use Rattle.vdo_model.specs.Places.{zone_of}
 use Rattle.core_model.specs.declared.items.Asks.{Asks}
 use Rattle.core_model.specs.declared.items.Asks.TheVariants.{Read, Write, Flush}
@@ -45,7 +47,7 @@ use Rattle.core_laws.proofs.kept.StandsOn.{spares_all}
 
 -- a request with another phase and answer
 reply_ok : (s : Session) (t : Trace) (v : Vio) (answer : Option Answer) → VioOk s t v → MayReply s t (record v { phase = phase.Reply; answer = answer }) answer
-    → PostOk s t (0, item.Request (record v { phase = phase.Reply; answer = answer }))
+    → PostOk s t (id.Desk, item.Request (record v { phase = phase.Reply; answer = answer }))
 reply_ok s t v answer ok may = (omega arith, (record { asked = ok.asked; is_open = ok.is_open; address = ok.address; home = ok.home }, may, refl))
 
 -- a request that goes on to the desk has the answer that it had
@@ -73,10 +75,10 @@ module _ (s : Session) (session : IsSession s) (t : Trace) (right : RightTrace s
   carried : (q : Phase) → v.phase ≡ q → Carries s t v q
   carried q is = subst (λ (p : Phase). Carries s t v p) is front.1
 
-  zone_is : (q : Phase) → v.phase ≡ q → zone_at s.sizes v.home q ≡ v.home → zone_of s.sizes.zones v.at.0 ≡ l.zone
+  zone_is : (q : Phase) → v.phase ≡ q → zone_at s.sizes v.home q ≡ zone_number s.sizes v.home → zone_of s.sizes.zones v.at.0 ≡ l.zone
   zone_is q is at_home =
-      let home : v.home ≡ n = sym (front.2 ∙ ap (zone_at s.sizes v.home) is ∙ at_home) in
-      let a = ok.home in let b = k.number_is in omega (arith, a, b, home)
+      let home : zone_number s.sizes v.home ≡ n = sym (front.2 ∙ ap (zone_at s.sizes v.home) is ∙ at_home) in
+      let a = ap (zone_number s.sizes) ok.home in let b = k.number_is in omega (arith, a, b, home)
 
   -- Its slot is set.
   module _ (is : v.phase ≡ phase.Settle) where
@@ -160,7 +162,7 @@ module _ (s : Session) (session : IsSession s) (t : Trace) (right : RightTrace s
           | inr other ↦ quiet_kept (Sets e) t a other.1 (k.quiet a zone free alive)
         ]
 
-    settles_kept : (more : List Post) → granted s.sizes v.at.0 (with_slot l v) ≡ Some more → ActKept s t n (at.Logical (released v.at.0 (with_slot l v))) (Sets (logged v) ∷ []) ((0, item.Request (ended phase.Reply reply.Ok v)) ∷ more)
+    settles_kept : (more : List Post) → granted s.sizes v.at.0 (with_slot l v) ≡ Some more → ActKept s t n (at.Logical (released v.at.0 (with_slot l v))) (Sets (logged v) ∷ []) ((id.Desk, item.Request (ended phase.Reply reply.Ok v)) ∷ more)
     settles_kept more grants =
         let both = release_ok s t' n (with_slot l v) slot_ok v leased (zone_is phase.Settle is refl) quiet_set below_set more grants in
         let open_now : VioOk s t' v = record { asked = ok.asked; is_open = record { is_begun = ok.is_open.is_begun; unanswered = ok.is_open.unanswered }; address = ok.address; home = ok.home } in
@@ -239,7 +241,7 @@ module _ (s : Session) (session : IsSession s) (t : Trace) (right : RightTrace s
       in_order = k.in_order;
     }
 
-    gives_kept : (more : List Post) → granted s.sizes v.at.0 l ≡ Some more → ActKept s t n (at.Logical (released v.at.0 l)) (Gives (gift v) ∷ []) ((0, item.Request (ended phase.Reply (reply.Bytes v.bytes) v)) ∷ more)
+    gives_kept : (more : List Post) → granted s.sizes v.at.0 l ≡ Some more → ActKept s t n (at.Logical (released v.at.0 l)) (Gives (gift v) ∷ []) ((id.Desk, item.Request (ended phase.Reply (reply.Bytes v.bytes) v)) ∷ more)
     gives_kept more grants =
         let both = release_ok s u n l given_ok v leased (zone_is phase.Loaded is refl) (quiet_same v.at.0 held.quiet) below_give more grants in
         let open_now : VioOk s u v = record { asked = ok.asked; is_open = record { is_begun = ok.is_open.is_begun; unanswered = ok.is_open.unanswered }; address = ok.address; home = ok.home } in
@@ -253,7 +255,7 @@ module _ (s : Session) (session : IsSession s) (t : Trace) (right : RightTrace s
         }
 
   -- It is aborted, before its entry was handed in or after.
-  pub aborts_kept : (more : List Post) → v.phase ≡ phase.Abort → granted s.sizes v.at.0 l ≡ Some more → ActKept s t n (at.Logical (released v.at.0 l)) [] ((0, item.Request (turned phase.Reply v)) ∷ more)
+  pub aborts_kept : (more : List Post) → v.phase ≡ phase.Abort → granted s.sizes v.at.0 l ≡ Some more → ActKept s t n (at.Logical (released v.at.0 l)) [] ((id.Desk, item.Request (turned phase.Reply v)) ∷ more)
   aborts_kept more is grants =
       let facts = carried phase.Abort is in
       let both = release_ok s t n l k v leased (zone_is phase.Abort is refl) facts.0.quiet (below_more t v.at.0 v.place (v.place + 1) (omega arith) facts.0.below) more grants in
@@ -301,7 +303,7 @@ module _ (s : Session) (session : IsSession s) (t : Trace) (right : RightTrace s
       in_order = k.in_order;
     }
 
-    pub aborts_entered_kept : ActKept s t n (at.Logical (retire v.at.0 l)) (Aborts (logged v) ∷ []) ((0, item.Request (turned phase.Reply v)) ∷ all_stopped (all_for v.at.0 l.waiting))
+    pub aborts_entered_kept : ActKept s t n (at.Logical (retire v.at.0 l)) (Aborts (logged v) ∷ []) ((id.Desk, item.Request (turned phase.Reply v)) ∷ all_stopped (all_for v.at.0 l.waiting))
     aborts_entered_kept =
         let both = retire_ok s gone n l gone_ok v leased (zone_is phase.AbortEntered is refl) right_abort carries_it.2 (λ place less. inl (refl, less)) in
         let open_now : VioOk s gone v = record { asked = ok.asked; is_open = record { is_begun = ok.is_open.is_begun; unanswered = ok.is_open.unanswered }; address = ok.address; home = ok.home } in
@@ -321,7 +323,7 @@ logical_serves s t n old v new made posts session right k front lacks in_turn le
 
 -- a stop notice
 pub logical_notified : (s : Session) (t : Trace) (n : ℕ) (old : LogicalZone) → RightTrace s t → has_stopped t ≡ true → LogicalOk s t n old
-    → ActKept s t n (at.Logical (record old { notified = true })) [] ((0, item.StopNotice) ∷ [])
+    → ActKept s t n (at.Logical (record old { notified = true })) [] ((id.Desk, item.StopNotice) ∷ [])
 logical_notified s t n old right stopped k = record {
   right = right;
   gives = λ f honest. f honest;

@@ -2,9 +2,11 @@
 use Rattle.std.proofs.Common.{◌≡◌, ◌⊎◌, ℕ, zero, suc, ◌+◌, ◌<◌, ◌≤◌, ◌==◌, ◌||◌, Bool, true, false, if◌then◌else◌, Some, IsNone, List, [], ◌∷◌, ◌++◌, refl, ap, sym, ◌∙◌, subst, inl, inr, arith}
 use Rattle.std.specs.List.{AllByRecursion}
 use Rattle.std.proofs.lemmas.Bool.Decides.{eqb_tells}
+use Rattle.blk_base.specs.declared.place.ZoneId.TheVariants as id
 use Rattle.blk_base.specs.declared.request.Answer.TheVariants as reply
 use Rattle.blk_base.specs.declared.request.Request.TheVariants as request
 use Rattle.blk_base.specs.declared.request.Writer.{Writer}
+use Rattle.core_model.specs.Zones.{zone_number}
 use Rattle.vdo_model.specs.DeskLog.{answer_of, before_begin}
 use Rattle.vdo_model.specs.Places.{zone_of, Follows, IsOfZone}
 use Rattle.vdo_model.specs.Scripts.{request_at, same_writer}
@@ -68,11 +70,11 @@ module _ (s : Session) (t : Trace) (right : RightTrace s t) (n : ℕ) (l : Logic
   ok : VioOk s t v
   ok = front.0
 
-  home : (q : Phase) → v.phase ≡ q → zone_at s.sizes v.home q ≡ v.home → v.home ≡ n
+  home : (q : Phase) → v.phase ≡ q → zone_at s.sizes v.home q ≡ zone_number s.sizes v.home → zone_number s.sizes v.home ≡ n
   home q is at_home = sym (front.2 ∙ ap (zone_at s.sizes v.home) is ∙ at_home)
 
-  zone_is : v.home ≡ n → zone_of s.sizes.zones v.at.0 ≡ l.zone
-  zone_is at_home = let a = ok.home in let b = k.number_is in omega (arith, a, b, at_home)
+  zone_is : zone_number s.sizes v.home ≡ n → zone_of s.sizes.zones v.at.0 ≡ l.zone
+  zone_is at_home = let a = ap (zone_number s.sizes) ok.home in let b = k.number_is in omega (arith, a, b, at_home)
 
   carried : (q : Phase) → v.phase ≡ q → Carries s t v q
   carried q is = subst (λ (p : Phase). Carries s t v p) is front.1
@@ -91,7 +93,7 @@ module _ (s : Session) (t : Trace) (right : RightTrace s t) (n : ℕ) (l : Logic
     unplaced : IsUnplaced s t v
     unplaced = carried phase.Arrive arrives
 
-    at_home : v.home ≡ n
+    at_home : zone_number s.sizes v.home ≡ n
     at_home = home phase.Arrive arrives refl
 
     of_zone : (asks : Asks) → (asks ≡ Read) ⊎ (asks ≡ Write) → HasAddress s.sizes v asks → request_at s.script v.request ≡ Some (asked asks v.at v.bytes)
@@ -165,7 +167,7 @@ module _ (s : Session) (t : Trace) (right : RightTrace s t) (n : ℕ) (l : Logic
     gives_same : (HasHonestReads s t → GivesRight s t) → HasHonestReads s t' → GivesRight s t'
     gives_same f honest = f honest
 
-    pub retired_kept : is_among v.at.0 l.retired ≡ true → ActKept s t n (at.Logical (drawn_by l v)) (Draws p ∷ []) ((0, item.Request (ended phase.Reply reply.Stopped v')) ∷ [])
+    pub retired_kept : is_among v.at.0 l.retired ≡ true → ActKept s t n (at.Logical (drawn_by l v)) (Draws p ∷ []) ((id.Desk, item.Request (ended phase.Reply reply.Stopped v')) ∷ [])
     retired_kept retired =
         let stopped = k.retired_so v.at.0 retired in
         record { right = right'; gives = gives_same; own = drawn_ok; posts_ok = (stopped_ok s t' v' right' stopped.0 stopped.1 placed_ok is_placed, tt) }

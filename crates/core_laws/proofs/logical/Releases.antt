@@ -6,6 +6,7 @@ use Rattle.blk_base.specs.Sectors.{zero_block}
 use Rattle.blk_base.specs.declared.place.Mapping.{Mapping}
 use Rattle.blk_base.specs.declared.place.Mapping.TheVariants.{Unmapped, Zero, At}
 use Rattle.blk_base.specs.declared.place.Pbn.{Pbn}
+use Rattle.blk_base.specs.declared.place.ZoneId.TheVariants as id
 use Rattle.blk_base.specs.declared.request.Answer.TheVariants as reply
 use Rattle.blk_base.specs.declared.request.Request.{Request}
 use Rattle.image_layout.specs.Window.{mapping_of, value_in}
@@ -23,7 +24,7 @@ use Rattle.core_model.specs.declared.zones.Logged.{Logged}
 use Rattle.core_model.specs.DeskRows.{is_marked}
 use Rattle.core_model.specs.Facts.{VioOk, IsPlaced, Holds, Looks, IsEarned, Carries, KeptOk, WaitsOk, LogicalOk, LockOk}
 use Rattle.core_model.specs.LogicalRows.{is_among, is_held, without, first_for, but_first_for, all_for, none_for, lock_of, latest_at, mapped_by, mapping_at, looked, read_next, goes_on, passed_to, released, granted, retire, all_stopped}
-use Rattle.core_model.specs.Numbers.{logical_zone, zone_count}
+use Rattle.core_model.specs.Zones.{zone_number, zone_count}
 use Rattle.core_model.specs.RightTraces.{RightTrace, Quiet, AllBelow, HasBelow, HasCause}
 use Rattle.core_model.specs.Sessions.{Session, value_from, value_at}
 use Rattle.plain_laws.specs.Sums.{total, bit}
@@ -52,12 +53,12 @@ pub asked_read : (asks : Asks) (v : Vio) (bytes : List ℕ) → asks ≡ Read �
 asked_read asks v bytes is = rw is refl
 
 module _ (s : Session) (t : Trace) (n : ℕ) (l : LogicalZone) (k : LogicalOk s t n l) (u : Vio) (ok : VioOk s t u) (place : IsPlaced s t u)
-    (quiet : Quiet t u.at.0) (below : AllBelow t u.at.0 u.place) (home : u.home ≡ n) where
+    (quiet : Quiet t u.at.0) (below : AllBelow t u.at.0 u.place) (home : zone_number s.sizes u.home ≡ n) where
   among : n < zone_count s.sizes
   among = let a = k.among in let b = k.number_is in omega (arith, a, b)
 
   zone_is : zone_of s.sizes.zones u.at.0 ≡ l.zone
-  zone_is = let a = ok.home in let b = k.number_is in omega (arith, a, b, home)
+  zone_is = let a = ap (zone_number s.sizes) ok.home in let b = k.number_is in omega (arith, a, b, home)
 
   latest_is : latest_at l u.at.0 ≡ newest (of_address u.at.0 (settled t))
   latest_is = ap newest (k.slots_are u.at.0 zone_is)
@@ -89,7 +90,7 @@ module _ (s : Session) (t : Trace) (n : ℕ) (l : LogicalZone) (k : LogicalOk s 
     looks : (v : Vio) → v.asks ≡ Read → Holds s t v → v.latest ≡ latest_at l u.at.0 → v.at.0 ≡ u.at.0 → Looks s t v
     looks v read held is same = record { held = held; is_read = read; latest = is ∙ latest_is ∙ ap (λ a. newest (of_address a (settled t))) (sym same) }
 
-    zero_ok : zero_block ≡ value_at s t u.at.0 → PostOk s t (logical_zone l.zone, item.Request (record (looked l u) { phase = phase.Loaded; bytes = zero_block }))
+    zero_ok : zero_block ≡ value_at s t u.at.0 → PostOk s t (id.Logical l.zone, item.Request (record (looked l u) { phase = phase.Loaded; bytes = zero_block }))
     zero_ok is =
         let v : Vio = record (looked l u) { phase = phase.Loaded; bytes = zero_block } in
         let asked_is : request_at s.script u.request ≡ Some (request_of v) = ok.asked ∙ ap (λ (r : Request). Some r) (asked_read u.asks u zero_block is_read) in
@@ -145,7 +146,7 @@ not_marked Read = refl
 not_marked Write = refl
 not_marked Flush = refl
 
-pub stopped_ok : (s : Session) (t : Trace) (v : Vio) → RightTrace s t → has_stopped t ≡ true → HasBelow v.at.0 v.place (aborted t) → VioOk s t v → IsPlaced s t v → PostOk s t (0, item.Request (ended phase.Reply reply.Stopped v))
+pub stopped_ok : (s : Session) (t : Trace) (v : Vio) → RightTrace s t → has_stopped t ≡ true → HasBelow v.at.0 v.place (aborted t) → VioOk s t v → IsPlaced s t v → PostOk s t (id.Desk, item.Request (ended phase.Reply reply.Stopped v))
 stopped_ok s t v right stopped behind ok place = (
   omega arith,
   (

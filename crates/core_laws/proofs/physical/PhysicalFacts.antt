@@ -3,6 +3,7 @@ use Rattle.std.proofs.Common.{◌≡◌, ℕ, zero, suc, ◌<◌, ◌≤◌, ◌
 use Rattle.std.proofs.Math.Nat.{mod-lt}
 use Rattle.std.specs.List.{AllByRecursion}
 use Rattle.blk_base.specs.declared.place.Pbn.{Pbn}
+use Rattle.blk_base.specs.declared.place.ZoneId.TheVariants as id
 use Rattle.blk_base.specs.declared.request.Answer.{Answer}
 use Rattle.blk_base.specs.declared.request.Answer.TheVariants as reply
 use Rattle.vdo_model.specs.Places.{zone_of}
@@ -15,7 +16,7 @@ use Rattle.core_model.specs.declared.zones.ZoneData.TheVariants as at
 use Rattle.core_model.specs.declared.zones.PhysicalZone.{PhysicalZone}
 use Rattle.core_model.specs.Facts.{ItemOk, DataOk, PhysicalOk, VioOk, Holds, IsEntered, Carries}
 use Rattle.core_model.specs.JournalRows.{PhysicalServes}
-use Rattle.core_model.specs.Numbers.{desk_zone, device_zone, zone_count}
+use Rattle.core_model.specs.Zones.{device_zone, zone_count}
 use Rattle.core_model.specs.RightTraces.{RightTrace, TakeMayFollow, IsFull}
 use Rattle.core_model.specs.Sessions.{Session, IsSession, IsFresh}
 use Rattle.core_model.specs.Trace.{Happening, Takes, Trace, entered, taken, has_stopped}
@@ -98,7 +99,7 @@ physical_serves s t n old v new made posts is right own it (PhysicalServes.abort
 
 -- What it does with a stop notice.
 pub physical_notified : (s : Session) (t : Trace) (n : ℕ) (old : PhysicalZone) → RightTrace s t → has_stopped t ≡ true → PhysicalOk s t n old
-    → ActKept s t n (at.Physical (record old { notified = true })) [] ((desk_zone, item.StopNotice) ∷ [])
+    → ActKept s t n (at.Physical (record old { notified = true })) [] ((id.Desk, item.StopNotice) ∷ [])
 physical_notified s t n old right stopped own = record {
   right = right;
   gives = λ gives. gives;

@@ -12,7 +12,7 @@ use Rattle.core_model.specs.declared.zones.JournalZone.{JournalZone}
 use Rattle.core_model.specs.declared.zones.Logged.{Logged}
 use Rattle.core_model.specs.declared.zones.Zone.{Zone}
 use Rattle.core_model.specs.Facts.{DataOk, ZoneOk}
-use Rattle.core_model.specs.Numbers.{journal_zone, zone_count}
+use Rattle.core_model.specs.Zones.{journal_zone, zone_count}
 use Rattle.core_model.specs.Sessions.{Session}
 use Rattle.plain_laws.specs.Sums.{total, Each}
 use Rattle.core_model.specs.Tokens.{weight, Balanced, AtMost, block_token, journal_token, claims, is_entry, blocks_at, idle_at}

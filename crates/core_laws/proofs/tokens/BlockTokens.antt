@@ -26,7 +26,7 @@ use Rattle.core_model.specs.JournalRows as journal
 use Rattle.core_model.specs.LogicalRows.{LogicalServes, placed, with_slot, goes_on, all_for, all_stopped}
 use Rattle.core_model.specs.LogicalRows as logical
 use Rattle.core_model.specs.Facts.{DataOk}
-use Rattle.core_model.specs.Numbers.{notified_zones}
+use Rattle.core_model.specs.Zones.{notified}
 use Rattle.core_model.specs.Sessions.{Session}
 use Rattle.core_model.specs.Steps.{Act}
 use Rattle.core_model.specs.Steps as act
@@ -132,17 +132,17 @@ module _ (x : ℕ) where
 
     calls_law : (old new : DeviceZone) (v : Vio) (made : Trace) (posts : List Post) → DeviceServes sizes old v new made posts → Shrinks block (at.Device old) (Request v ∷ []) (at.Device new) posts
     calls_law old new v made posts (device.stores f runs inside n m p) = rw p (omega (arith, by_phase v phase.Store f))
-    calls_law old new v made posts (device.store_fails kept f runs inside n m p) = rw p (omega (arith, notices_none block (notified_zones sizes) refl))
+    calls_law old new v made posts (device.store_fails kept f runs inside n m p) = rw p (omega (arith, notices_none block (notified sizes) refl))
     calls_law old new v made posts (device.store_unmade f halts n m p) = rw p (omega arith)
     calls_law old new v made posts (device.loads bytes f inside n m p) = rw p (omega arith)
     calls_law old new v made posts (device.load_fails bytes kept f inside n m p) = rw p (omega arith)
     calls_law old new v made posts (device.flushes f runs n m p) = rw p (omega arith)
-    calls_law old new v made posts (device.flush_fails kept f runs n m p) = rw p (omega (arith, notices_none block (notified_zones sizes) refl))
+    calls_law old new v made posts (device.flush_fails kept f runs n m p) = rw p (omega (arith, notices_none block (notified sizes) refl))
     calls_law old new v made posts (device.flush_unmade f halts n m p) = rw p (omega arith)
 
     works_law : (old new : DeviceZone) (b : SealedBlock) (made : Trace) (posts : List Post) → DeviceWorks sizes old b new made posts → Shrinks block (at.Device old) (Block b ∷ []) (at.Device new) posts
     works_law old new b made posts (device.makes call slot its needs runs n m p) = rw p (omega arith)
-    works_law old new b made posts (device.fails call slot kept its needs runs n m p) = rw p (omega (arith, notices_none block (notified_zones sizes) refl))
+    works_law old new b made posts (device.fails call slot kept its needs runs n m p) = rw p (omega (arith, notices_none block (notified sizes) refl))
     works_law old new b made posts (device.unmade call slot needs halts n m p) = rw p (omega arith)
 
     -- no act makes more of a block

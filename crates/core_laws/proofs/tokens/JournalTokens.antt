@@ -23,7 +23,7 @@ use Rattle.core_model.specs.JournalRows.{PhysicalServes, JournalServes, JournalE
 use Rattle.core_model.specs.JournalRows as journal
 use Rattle.core_model.specs.LogicalRows.{LogicalServes, placed, with_slot, all_for}
 use Rattle.core_model.specs.LogicalRows as logical
-use Rattle.core_model.specs.Numbers.{notified_zones}
+use Rattle.core_model.specs.Zones.{notified}
 use Rattle.core_model.specs.Steps.{Act}
 use Rattle.core_model.specs.Steps as act
 use Rattle.plain_laws.specs.Sums.{total, bit}
@@ -96,19 +96,19 @@ module _ (sizes : Sizes) where
   calls_law : (old new : DeviceZone) (v : Vio) (made : Trace) (posts : List Post) → DeviceServes sizes old v new made posts → Conserves journal_token (at.Device old) (Request v ∷ []) (at.Device new) posts
   calls_law old new v made posts (device.stores f runs inside n m p) = rw p (omega arith)
   calls_law old new v made posts (device.store_fails kept f runs inside n m p) =
-      rw p (omega (arith, notices_none journal_token (notified_zones sizes) refl))
+      rw p (omega (arith, notices_none journal_token (notified sizes) refl))
   calls_law old new v made posts (device.store_unmade f halts n m p) = rw p (omega arith)
   calls_law old new v made posts (device.loads bytes f inside n m p) = rw p (omega arith)
   calls_law old new v made posts (device.load_fails bytes kept f inside n m p) = rw p (omega arith)
   calls_law old new v made posts (device.flushes f runs n m p) = rw p (omega arith)
   calls_law old new v made posts (device.flush_fails kept f runs n m p) =
-      rw p (omega (arith, notices_none journal_token (notified_zones sizes) refl))
+      rw p (omega (arith, notices_none journal_token (notified sizes) refl))
   calls_law old new v made posts (device.flush_unmade f halts n m p) = rw p (omega arith)
 
   works_law : (old new : DeviceZone) (b : SealedBlock) (made : Trace) (posts : List Post) → DeviceWorks sizes old b new made posts → Conserves journal_token (at.Device old) (Block b ∷ []) (at.Device new) posts
   works_law old new b made posts (device.makes call slot its needs runs n m p) = rw p (omega arith)
   works_law old new b made posts (device.fails call slot kept its needs runs n m p) =
-      rw p (omega (arith, notices_none journal_token (notified_zones sizes) refl))
+      rw p (omega (arith, notices_none journal_token (notified sizes) refl))
   works_law old new b made posts (device.unmade call slot needs halts n m p) = rw p (omega arith)
 
   -- one sealed block is under way, or the journal is idle

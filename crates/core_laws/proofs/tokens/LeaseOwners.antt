@@ -4,8 +4,7 @@ use Rattle.std.specs.List.{AllByRecursion}
 use Rattle.std.proofs.lemmas.Bool.Decides.{eqb_tells}
 use Rattle.core_model.specs.declared.items.Item.{Item}
 use Rattle.core_model.specs.declared.items.Item.TheVariants as item
-use Rattle.core_model.specs.declared.items.Phase.{Phase}
-use Rattle.core_model.specs.declared.items.Phase.TheVariants as phase
+use Rattle.blk_base.specs.declared.place.ZoneId.{ZoneId}
 use Rattle.core_model.specs.declared.items.Vio.{Vio}
 use Rattle.core_model.specs.declared.sizes.Sizes.{Sizes}
 use Rattle.core_model.specs.declared.zones.ZoneData.{ZoneData}
@@ -13,9 +12,10 @@ use Rattle.core_model.specs.declared.zones.ZoneData.TheVariants as at
 use Rattle.core_model.specs.declared.zones.Lock.{Lock}
 use Rattle.core_model.specs.declared.zones.LogicalZone.{LogicalZone}
 use Rattle.core_model.specs.declared.zones.Zone.{Zone}
-use Rattle.core_model.specs.Facts.{ItemOk, LockOk, DataOk, ZoneOk, zone_at}
+use Rattle.core_model.specs.Facts.{ItemOk, LockOk, DataOk, ZoneOk}
 use Rattle.core_model.specs.LogicalRows.{is_held}
-use Rattle.core_model.specs.Numbers.{logical_zone}
+use Rattle.core_model.specs.Phases.{Where, AtDesk, AtHome, AtPhysical, AtJournal, AtDevice, InNoLane, row, number_at}
+use Rattle.core_model.specs.Zones.{zone_number, logical_zone}
 use Rattle.core_model.specs.Sessions.{Session}
 use Rattle.plain_laws.specs.Sums.{total, bit, Each}
 use Rattle.core_model.specs.Tokens.{Balanced, weight, given, queued, of_vio, holds, holder_weight, lock_weight, locks_at, lease_token}
@@ -100,22 +100,14 @@ module _ (s : Session) (t : Trace) (a : ℕ) where
               omega (arith, x, y)
         ]
 
--- A request served at a logical zone with a lock is served at its home.
-at_home : (sizes : Sizes) (n zone home : ℕ) (q : Phase) → n ≡ logical_zone zone → zone < sizes.zones → n ≡ zone_at sizes home q → holds q ≡ true → n ≡ home
-at_home sizes n zone home phase.Arrive is below to h = to
-at_home sizes n zone home phase.Wait is below to h = absurd (omega (arith, is, below, to))
-at_home sizes n zone home phase.Claim is below to h = absurd (omega (arith, is, below, to))
-at_home sizes n zone home phase.Store is below to h = absurd (omega (arith, is, below, to))
-at_home sizes n zone home phase.Enter is below to h = absurd (omega (arith, is, below, to))
-at_home sizes n zone home phase.Settle is below to h = to
-at_home sizes n zone home phase.Load is below to h = absurd (omega (arith, is, below, to))
-at_home sizes n zone home phase.Loaded is below to h = to
-at_home sizes n zone home phase.AbortClaim is below to h = absurd (omega (arith, is, below, to))
-at_home sizes n zone home phase.Abort is below to h = to
-at_home sizes n zone home phase.AbortEnteredClaim is below to h = absurd (omega (arith, is, below, to))
-at_home sizes n zone home phase.AbortEntered is below to h = to
-at_home sizes n zone home phase.Flush is below to h = cc
-at_home sizes n zone home phase.Reply is below to h = cc
+-- A request served at a logical zone is served at its home.
+at_home : (sizes : Sizes) (n zone : ℕ) (home : ZoneId) (q : Where) → n ≡ logical_zone zone → zone < sizes.zones → n ≡ number_at sizes home q → n ≡ zone_number sizes home
+at_home sizes n zone home AtHome is below to = to
+at_home sizes n zone home AtDesk is below to = absurd (omega (arith, is, below, to))
+at_home sizes n zone home AtPhysical is below to = absurd (omega (arith, is, below, to))
+at_home sizes n zone home AtJournal is below to = absurd (omega (arith, is, below, to))
+at_home sizes n zone home AtDevice is below to = absurd (omega (arith, is, below, to))
+at_home sizes n zone home InNoLane is below to = absurd (omega (arith, is, below, to))
 
 -- its weight
 front_weight : (test : ℕ → Bool) (v : Vio) → holds v.phase ≡ true → holder_weight v.at.0 test v ≡ bit (test v.place)
@@ -139,7 +131,7 @@ leased_front s t zones n z l v rest each balance had front keeps h test =
     let ok = each n z had in
     let own = subst (λ (d : ZoneData). DataOk s t n d) keeps ok.own in
     let first = (subst (λ (items : List Item). AllByRecursion (ItemOk s t n) items) front ok.inbox).0 in
-    let home : n ≡ home_of s v.at.0 = at_home s.sizes n l.zone v.home v.phase own.number_is own.among first.2 h ∙ first.0.home in
+    let home : n ≡ home_of s v.at.0 = at_home s.sizes n l.zone v.home (row v.phase).zone own.number_is own.among first.2 ∙ ap (zone_number s.sizes) first.0.home in
     let a = v.at.0 in
     let gave : (test : ℕ → Bool) → total (given (lease_token a test)) zones ≡ total (lock_weight a test) l.held = λ test. given_at_home s t a zones each test n z had home ∙ ap (locks_at a test) keeps in
     let bound : (test : ℕ → Bool) → bit (test v.place) ≤ total (lock_weight a test) l.held = λ test.

@@ -1,9 +1,10 @@
 -- One holder for each lock, with the lock's place: the law of each kind of zone.
-use Rattle.std.proofs.Common.{◌⊎◌, ◌≡◌, ℕ, zero, suc, ◌+◌, Bool, true, false, ◌&&◌, ◌==◌, Option, None, Some, List, [], ◌∷◌, refl, sym, ◌∙◌, ap, subst, inl, inr, arith}
+use Rattle.std.proofs.Common.{◌⊎◌, ◌≡◌, ℕ, ◌+◌, Bool, true, false, ◌&&◌, ◌==◌, Option, None, Some, List, [], ◌∷◌, refl, sym, ◌∙◌, ap, subst, inl, inr, arith}
 use Rattle.std.specs.List.{AllByRecursion}
 use Rattle.std.proofs.lemmas.Bool.Decides.{eqb_tells}
 use Rattle.blk_base.specs.declared.place.Mapping.{Mapping}
 use Rattle.blk_base.specs.declared.place.Mapping.TheVariants.{Unmapped, Zero, At}
+use Rattle.blk_base.specs.declared.place.ZoneId.{ZoneId}
 use Rattle.blk_base.specs.declared.request.Answer.{Answer}
 use Rattle.blk_base.specs.declared.request.Answer.TheVariants as reply
 use Rattle.core_model.specs.declared.items.Item.{Item}
@@ -29,7 +30,7 @@ use Rattle.core_model.specs.DeskRows.{DeskBegins, DeskServes, answers, sends, pa
 use Rattle.core_model.specs.LogicalRows.{LogicalServes, arrives_retired, arrives_free, arrives_held, settles, gives, aborts, aborts_entered, without, lock_of, first_for, but_first_for, all_for, none_for, placed, goes_on, read_next, looked, mapping_at, passed_to, all_stopped, with_slot}
 use Rattle.core_model.specs.JournalRows.{PhysicalServes, claims, is_full, aborts_claim, aborts_entered_claim, JournalServes, is_stopped, waits, enters, JournalEnds, commits_next, commits_alone, commits_last, fails, all_refused, sealed, hands_out}
 use Rattle.core_model.specs.DeviceRows.{DeviceServes, stores, store_fails, store_unmade, loads, load_fails, flushes, flush_fails, flush_unmade, DeviceWorks, makes, unmade, stop_notices}
-use Rattle.core_model.specs.Numbers.{notified_zones}
+use Rattle.core_model.specs.Zones.{notified}
 use Rattle.core_model.specs.Steps.{Act}
 use Rattle.core_model.specs.Steps as steps
 use Rattle.core_model.specs.DeskRows as desk
@@ -216,25 +217,25 @@ journal_end_law a test sizes old b new made posts (fails c n m q) all_wait p =
     let y = refused_weight a test sizes reply.Stopped old.waiting all_wait in
     rw (n, q) (omega (arith, x, y))
 
-notices_weight : (a : ℕ) (test : ℕ → Bool) (n : ℕ) → weights (lease_token a test) (stop_notices n) ≡ 0
-notices_weight a test zero = refl
-notices_weight a test (suc n) = omega (arith, notices_weight a test n)
+notices_weight : (a : ℕ) (test : ℕ → Bool) (ids : List ZoneId) → weights (lease_token a test) (stop_notices ids) ≡ 0
+notices_weight a test [] = refl
+notices_weight a test (to ∷ ids) = omega (arith, notices_weight a test ids)
 
 device_law : (a : ℕ) (test : ℕ → Bool) (sizes : Sizes) (old : DeviceZone) (v : Vio) (new : DeviceZone) (made : Trace) (posts : List Post) → DeviceServes sizes old v new made posts
     → Conserves (lease_token a test) (at.Device old) (item.Request v ∷ []) (at.Device new) posts
 device_law a test sizes old v new made posts (stores p s inside n m q) = let x = by_phase a test v phase.Store p in rw q (omega (arith, x))
-device_law a test sizes old v new made posts (store_fails kept p s inside n m q) = let x = by_phase a test v phase.Store p in rw q (omega (arith, x, notices_weight a test (notified_zones sizes)))
+device_law a test sizes old v new made posts (store_fails kept p s inside n m q) = let x = by_phase a test v phase.Store p in rw q (omega (arith, x, notices_weight a test (notified sizes)))
 device_law a test sizes old v new made posts (store_unmade p s n m q) = let x = by_phase a test v phase.Store p in rw q (omega (arith, x))
 device_law a test sizes old v new made posts (loads bytes p inside n m q) = let x = by_phase a test v phase.Load p in rw q (omega (arith, x))
 device_law a test sizes old v new made posts (load_fails bytes kept p inside n m q) = let x = by_phase a test v phase.Load p in rw q (omega (arith, x))
 device_law a test sizes old v new made posts (flushes p s n m q) = let x = by_phase a test v phase.Flush p in rw q (omega (arith, x))
-device_law a test sizes old v new made posts (flush_fails kept p s n m q) = let x = by_phase a test v phase.Flush p in rw q (omega (arith, x, notices_weight a test (notified_zones sizes)))
+device_law a test sizes old v new made posts (flush_fails kept p s n m q) = let x = by_phase a test v phase.Flush p in rw q (omega (arith, x, notices_weight a test (notified sizes)))
 device_law a test sizes old v new made posts (flush_unmade p s n m q) = let x = by_phase a test v phase.Flush p in rw q (omega (arith, x))
 
 device_work_law : (a : ℕ) (test : ℕ → Bool) (sizes : Sizes) (old : DeviceZone) (b : SealedBlock) (new : DeviceZone) (made : Trace) (posts : List Post) → DeviceWorks sizes old b new made posts
     → Conserves (lease_token a test) (at.Device old) (item.Block b ∷ []) (at.Device new) posts
 device_work_law a test sizes old b new made posts (makes call slot i c s n m q) = rw q (omega arith)
-device_work_law a test sizes old b new made posts (device.fails call slot kept i c s n m q) = rw q (omega (arith, notices_weight a test (notified_zones sizes)))
+device_work_law a test sizes old b new made posts (device.fails call slot kept i c s n m q) = rw q (omega (arith, notices_weight a test (notified sizes)))
 device_work_law a test sizes old b new made posts (unmade call slot c s n m q) = rw q (omega arith)
 
 -- who is begun has no lock yet

@@ -2,14 +2,18 @@
 use Rattle.std.proofs.Common.{◌≡◌, ℕ, ◌+◌, ◌<◌, ◌≤◌, Bool, true, false, List, [], ◌∷◌, ◌++◌, length, Some, slice_get, slice_set, nat_eq, refl, ap, sym, ◌∙◌, arith}
 use Rattle.std.specs.List.{AllByRecursion}
 use Rattle.core_model.specs.declared.items.Item.{Item}
+use Rattle.core_model.specs.declared.items.Item.TheVariants.{Request}
+use Rattle.core_model.specs.declared.items.Vio.{Vio}
 use Rattle.core_model.specs.declared.sizes.Sizes.{Sizes}
 use Rattle.core_model.specs.declared.zones.ZoneData.{ZoneData}
+use Rattle.core_model.specs.declared.zones.ZoneData.TheVariants as at
 use Rattle.core_model.specs.declared.zones.Zone.{Zone}
 use Rattle.plain_laws.specs.Sums.{total}
 use Rattle.core_model.specs.Steps.{sent_to, sent, delivered, ZoneStep, Core, StepOf, MoveOf}
-use Rattle.core_model.specs.Tokens.{Token, queued, weight, given, Balanced, AtMost}
+use Rattle.core_model.specs.Tokens.{Token, as_items, queued, weight, given, Balanced, AtMost}
 use Rattle.core_model.specs.Trace.{Trace}
 use Rattle.core_model.specs.Vios.{Post}
+use Rattle.core_model.specs.Zones.{zone_number}
 use Rattle.plain_laws.proofs.ListLaws.{total-append, total-set, get-put_other}
 use Rattle.core_laws.proofs.lists.Lists.{total-posted, length-posted}
 
@@ -19,8 +23,30 @@ weights t [] = 0
 weights t (p ∷ ps) = t.item p.1 + weights t ps
 
 -- all posts go to one of so many zones
-abbrev pub Within : ℕ → List Post → Type 0
-Within zones posts = AllByRecursion (λ (p : Post). p.0 < zones) posts
+abbrev pub Within : Sizes → ℕ → List Post → Type 0
+Within sizes zones posts = AllByRecursion (λ (p : Post). zone_number sizes p.0 < zones) posts
+
+-- the requests that a zone keeps beside its lanes
+abbrev pub kept_by : ZoneData → List Vio
+kept_by (at.Desk desk) = desk.parked
+kept_by (at.Logical l) = l.waiting
+kept_by (at.Journal j) = j.waiting
+kept_by other = []
+
+items_total : (weigh : Item → ℕ) (vs : List Vio) → total weigh (as_items vs) ≡ total (λ v. weigh (Request v)) vs
+items_total weigh [] = refl
+items_total weigh (v ∷ vs) = ap (λ n. weigh (Request v) + n) (items_total weigh vs)
+
+pub queued_is : (weigh : Item → ℕ) (d : ZoneData) → queued weigh d ≡ total (λ v. weigh (Request v)) (kept_by d)
+queued_is weigh (at.Desk desk) = items_total weigh desk.parked
+queued_is weigh (at.Logical l) = items_total weigh l.waiting
+queued_is weigh (at.Journal j) = items_total weigh j.waiting
+queued_is weigh (at.Physical p) = refl
+queued_is weigh (at.Device d) = refl
+
+-- what they weigh
+abbrev pub kept_weight : Token → ZoneData → ℕ
+kept_weight t d = total (λ v. t.item (Request v)) (kept_by d)
 
 -- posts change neither the number, nor the data, nor how many lanes there are
 pub record SameData (z z' : Zone) : Type 0 where
@@ -28,50 +54,55 @@ pub record SameData (z z' : Zone) : Type 0 where
   pub keeps_is : z'.keeps ≡ z.keeps
   pub lanes : length z'.outboxes ≡ length z.outboxes
 
-pub sent_same : (b : Bool) (p : Post) (z : Zone) → SameData z (sent_to b p z)
-sent_same true p z = record { number_is = refl; keeps_is = refl; lanes = refl }
-sent_same false p z = record { number_is = refl; keeps_is = refl; lanes = length-posted p.0 p.1 z.outboxes }
+pub sent_same : (b : Bool) (to : ℕ) (it : Item) (z : Zone) → SameData z (sent_to b to it z)
+sent_same true to it z = record { number_is = refl; keeps_is = refl; lanes = refl }
+sent_same false to it z = record { number_is = refl; keeps_is = refl; lanes = length-posted to it z.outboxes }
 
-pub delivered_same : (ps : List Post) (z : Zone) → SameData z (delivered ps z)
-delivered_same [] z = record { number_is = refl; keeps_is = refl; lanes = refl }
-delivered_same (p ∷ ps) z =
-    let a = sent_same (nat_eq p.0 z.number) p z in
-    let b = delivered_same ps (sent p z) in
+pub delivered_same : (sizes : Sizes) (ps : List Post) (z : Zone) → SameData z (delivered sizes ps z)
+delivered_same sizes [] z = record { number_is = refl; keeps_is = refl; lanes = refl }
+delivered_same sizes (p ∷ ps) z =
+    let to = zone_number sizes p.0 in
+    let a = sent_same (nat_eq to z.number) to p.1 z in
+    let b = delivered_same sizes ps (sent sizes p z) in
     record { number_is = b.number_is ∙ a.number_is; keeps_is = b.keeps_is ∙ a.keeps_is; lanes = b.lanes ∙ a.lanes }
 
-sent_weight : (t : Token) (b : Bool) (p : Post) (z : Zone) → p.0 < length z.outboxes → weight t (sent_to b p z) ≡ weight t z + t.item p.1
-sent_weight t true p z h = omega (arith, total-append t.item z.inbox (p.1 ∷ []))
-sent_weight t false p z h = omega (arith, total-posted t.item p.0 p.1 z.outboxes h)
+sent_weight : (t : Token) (b : Bool) (to : ℕ) (it : Item) (z : Zone) → to < length z.outboxes → weight t (sent_to b to it z) ≡ weight t z + t.item it
+sent_weight t true to it z h = omega (arith, total-append t.item z.inbox (it ∷ []))
+sent_weight t false to it z h = omega (arith, total-posted t.item to it z.outboxes h)
 
-pub delivered_weight : (t : Token) (ps : List Post) (z : Zone) → Within (length z.outboxes) ps → weight t (delivered ps z) ≡ weight t z + weights t ps
-delivered_weight t [] z h = omega arith
-delivered_weight t (p ∷ ps) z h =
-    let a = sent_weight t (nat_eq p.0 z.number) p z h.0 in
-    let s = sent_same (nat_eq p.0 z.number) p z in
-    let w : Within (length (sent p z).outboxes) ps = rw s.lanes h.1 in
-    let b = delivered_weight t ps (sent p z) w in
+pub delivered_weight : (t : Token) (sizes : Sizes) (ps : List Post) (z : Zone) → Within sizes (length z.outboxes) ps → weight t (delivered sizes ps z) ≡ weight t z + weights t ps
+delivered_weight t sizes [] z h = omega arith
+delivered_weight t sizes (p ∷ ps) z h =
+    let to = zone_number sizes p.0 in
+    let a = sent_weight t (nat_eq to z.number) to p.1 z h.0 in
+    let s = sent_same (nat_eq to z.number) to p.1 z in
+    let w : Within sizes (length (sent sizes p z).outboxes) ps = rw s.lanes h.1 in
+    let b = delivered_weight t sizes ps (sent sizes p z) w in
     omega (arith, a, b)
 
 -- What a token owes at an act: what items and data weigh changes with what is given out; or no more than that.
 abbrev pub Conserves : Token → ZoneData → List Item → ZoneData → List Post → Type 0
 Conserves t old front new posts =
-    weights t posts + (queued t.item new + t.own new) + t.gave old ≡ total t.item front + (queued t.item old + t.own old) + t.gave new
+    weights t posts + (kept_weight t new + t.own new) + t.gave old ≡ total t.item front + (kept_weight t old + t.own old) + t.gave new
 
 abbrev pub Shrinks : Token → ZoneData → List Item → ZoneData → List Post → Type 0
 Shrinks t old front new posts =
-    weights t posts + (queued t.item new + t.own new) + t.gave old ≤ total t.item front + (queued t.item old + t.own old) + t.gave new
+    weights t posts + (kept_weight t new + t.own new) + t.gave old ≤ total t.item front + (kept_weight t old + t.own old) + t.gave new
 
-module _ (t : Token) (sizes : Sizes) (old new : Zone) (made : Trace) (s : ZoneStep sizes old new made) (goes : Within (length old.outboxes) s.posts) where
-  after : weight t new ≡ total t.item s.rest + total (total t.item) old.outboxes + (queued t.item new.keeps + t.own new.keeps) + weights t s.posts
+module _ (t : Token) (sizes : Sizes) (old new : Zone) (made : Trace) (s : ZoneStep sizes old new made) (goes : Within sizes (length old.outboxes) s.posts) where
+  after : weight t new ≡ total t.item s.rest + total (total t.item) old.outboxes + (kept_weight t new.keeps + t.own new.keeps) + weights t s.posts
   after =
-      let z : Zone = record old { keeps = new.keeps; inbox = s.rest } in
-      ap (weight t) s.lanes ∙ delivered_weight t s.posts z goes
+      let z : Zone = record old { keeps = new.keeps; inbox = s.rest; steps = old.steps + 1 } in
+      let a = ap (weight t) s.lanes ∙ delivered_weight t sizes s.posts z goes in
+      let b = queued_is t.item new.keeps in
+      omega (arith, a, b)
 
-  before : weight t old ≡ total t.item s.front + total t.item s.rest + total (total t.item) old.outboxes + (queued t.item old.keeps + t.own old.keeps)
+  before : weight t old ≡ total t.item s.front + total t.item s.rest + total (total t.item) old.outboxes + (kept_weight t old.keeps + t.own old.keeps)
   before =
       let c = ap (total t.item) s.taken in
       let d = total-append t.item s.front s.rest in
-      omega (arith, c, d)
+      let e = queued_is t.item old.keeps in
+      omega (arith, c, d, e)
 
   step_conserves : Conserves t old.keeps s.front new.keeps s.posts → weight t new + given t old ≡ weight t old + given t new
   step_conserves law = omega (arith, after, before, law)
@@ -80,7 +111,7 @@ module _ (t : Token) (sizes : Sizes) (old new : Zone) (made : Trace) (s : ZoneSt
   step_shrinks law = omega (arith, after, before, law)
 
 -- over a step of the core
-module _ (t : Token) (sizes : Sizes) (old new : Core) (s : StepOf sizes old new) (goes : Within (length s.zone.outboxes) s.step.posts) where
+module _ (t : Token) (sizes : Sizes) (old new : Core) (s : StepOf sizes old new) (goes : Within sizes (length s.zone.outboxes) s.step.posts) where
   pub balance_step : Conserves t s.zone.keeps s.step.front s.zone'.keeps s.step.posts → Balanced t old.zones → Balanced t new.zones
   balance_step law held =
       let a = step_conserves t sizes s.zone s.zone' s.made s.step goes law in

@@ -1,5 +1,5 @@
 -- The words of a stop: as many are under way or heard as the device gave out, at every act.
-use Rattle.std.proofs.Common.{◌≡◌, Bool, false, cond, List, [], ◌∷◌, refl, ap, arith}
+use Rattle.std.proofs.Common.{◌≡◌, Bool, false, cond, List, [], ◌∷◌, refl, ap, ◌∙◌, arith}
 use Rattle.std.specs.List.{AllByRecursion}
 use Rattle.blk_base.specs.declared.request.Answer.TheVariants as reply
 use Rattle.core_model.specs.declared.items.Item.{Item}
@@ -17,13 +17,13 @@ use Rattle.core_model.specs.declared.zones.LogicalZone.{LogicalZone}
 use Rattle.core_model.specs.declared.zones.PhysicalZone.{PhysicalZone}
 use Rattle.core_model.specs.DeskRows.{DeskBegins, DeskServes}
 use Rattle.core_model.specs.DeskRows as desk
-use Rattle.core_model.specs.DeviceRows.{DeviceServes, DeviceWorks}
+use Rattle.core_model.specs.DeviceRows.{DeviceServes, DeviceWorks, stop_notices}
 use Rattle.core_model.specs.DeviceRows as device
 use Rattle.core_model.specs.JournalRows.{PhysicalServes, JournalServes, JournalEnds}
 use Rattle.core_model.specs.JournalRows as journal
 use Rattle.core_model.specs.LogicalRows.{LogicalServes, placed, with_slot, all_for}
 use Rattle.core_model.specs.LogicalRows as logical
-use Rattle.core_model.specs.Numbers.{notified_zones}
+use Rattle.core_model.specs.Zones.{notified, notified_zones}
 use Rattle.core_model.specs.Steps.{Act}
 use Rattle.core_model.specs.Steps as act
 use Rattle.plain_laws.specs.Sums.{total}
@@ -31,7 +31,8 @@ use Rattle.core_model.specs.Tokens.{Token, notice_token}
 use Rattle.core_model.specs.Trace.{Trace}
 use Rattle.core_model.specs.Vios.{Post, turned}
 use Rattle.plain_laws.proofs.ListLaws.{total-append, every_one}
-use Rattle.core_laws.proofs.tokens.Lift.{Conserves}
+use Rattle.core_laws.proofs.tokens.Lift.{Conserves, weights}
+use Rattle.core_laws.proofs.lists.ZoneNames.{notified_count}
 use Rattle.core_laws.proofs.tokens.Posts.{split_for, of_request, Weighs, woken_weigh, refused_weigh, stopped_weigh, notices_each, goes_weigh, granted_weigh}
 
 module _ (sizes : Sizes) where
@@ -40,6 +41,10 @@ module _ (sizes : Sizes) where
 
   each_weighs : (vs : List Vio) → AllByRecursion (λ v. Weighs word v (of_request word v)) vs
   each_weighs vs = every_one _ vs (λ v u same free. refl)
+
+  -- each zone that is notified has its notice
+  all_notices : weights word (stop_notices (notified sizes)) ≡ notified_zones sizes
+  all_notices = notices_each word (notified sizes) refl ∙ notified_count sizes
 
   -- what the device gave out before and after a call that fails
   gave_none : (b : Bool) → b ≡ false → cond b (notified_zones sizes) 0 ≡ 0
@@ -95,19 +100,19 @@ module _ (sizes : Sizes) where
   calls_law : (old new : DeviceZone) (v : Vio) (made : Trace) (posts : List Post) → DeviceServes sizes old v new made posts → Conserves word (at.Device old) (Request v ∷ []) (at.Device new) posts
   calls_law old new v made posts (device.stores f runs inside n m p) = rw (n, p) (omega arith)
   calls_law old new v made posts (device.store_fails kept f runs inside n m p) =
-      rw (n, p) (omega (arith, notices_each word (notified_zones sizes) refl, gave_none old.stopped runs))
+      rw (n, p) (omega (arith, all_notices, gave_none old.stopped runs))
   calls_law old new v made posts (device.store_unmade f halts n m p) = rw (n, p) (omega arith)
   calls_law old new v made posts (device.loads bytes f inside n m p) = rw (n, p) (omega arith)
   calls_law old new v made posts (device.load_fails bytes kept f inside n m p) = rw (n, p) (omega arith)
   calls_law old new v made posts (device.flushes f runs n m p) = rw (n, p) (omega arith)
   calls_law old new v made posts (device.flush_fails kept f runs n m p) =
-      rw (n, p) (omega (arith, notices_each word (notified_zones sizes) refl, gave_none old.stopped runs))
+      rw (n, p) (omega (arith, all_notices, gave_none old.stopped runs))
   calls_law old new v made posts (device.flush_unmade f halts n m p) = rw (n, p) (omega arith)
 
   works_law : (old new : DeviceZone) (b : SealedBlock) (made : Trace) (posts : List Post) → DeviceWorks sizes old b new made posts → Conserves word (at.Device old) (Block b ∷ []) (at.Device new) posts
   works_law old new b made posts (device.makes call slot its needs runs n m p) = rw (n, p) (omega arith)
   works_law old new b made posts (device.fails call slot kept its needs runs n m p) =
-      rw (n, p) (omega (arith, notices_each word (notified_zones sizes) refl, gave_none old.stopped runs))
+      rw (n, p) (omega (arith, all_notices, gave_none old.stopped runs))
   works_law old new b made posts (device.unmade call slot needs halts n m p) = rw (n, p) (omega arith)
 
   -- as many words of a stop are under way or heard as were given out

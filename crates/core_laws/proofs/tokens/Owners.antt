@@ -3,34 +3,17 @@ use Rattle.std.proofs.Common.{◌≡◌, ℕ, ◌+◌, ◌≤◌, ◌++◌, Bool
 use Rattle.std.specs.List.{AllByRecursion}
 use Rattle.core_model.specs.declared.items.Item.{Item}
 use Rattle.core_model.specs.declared.items.Item.TheVariants.{Request}
-use Rattle.core_model.specs.declared.items.Vio.{Vio}
-use Rattle.core_model.specs.declared.zones.ZoneData.{ZoneData}
-use Rattle.core_model.specs.declared.zones.ZoneData.TheVariants as at
 use Rattle.core_model.specs.declared.zones.Zone.{Zone}
 use Rattle.plain_laws.specs.Sums.{total, bit, Each}
-use Rattle.core_model.specs.Tokens.{Token, queued, weight, given, Balanced, AtMost, journal_token, idle_at}
+use Rattle.core_model.specs.Tokens.{Token, weight, given, Balanced, AtMost, journal_token, idle_at}
 use Rattle.plain_laws.proofs.ListLaws.{total-append, total-get, nobody_else}
 use Rattle.core_laws.proofs.tokens.JournalTokens.{IsBusy}
+use Rattle.core_laws.proofs.tokens.Lift.{kept_by, queued_is}
 
 -- a sum of nothing
 pub each_zero : {X : Type 0} (f : X → ℕ) (xs : List X) → total f xs ≡ 0 → AllByRecursion (λ x. f x ≡ 0) xs
 each_zero f [] h = tt
 each_zero f (x ∷ xs) h = (omega (arith, h), each_zero f xs (omega (arith, h)))
-
--- the requests that a zone keeps beside its lanes
-abbrev pub kept_by : ZoneData → List Vio
-kept_by (at.Desk desk) = desk.parked
-kept_by (at.Logical l) = l.waiting
-kept_by (at.Physical p) = []
-kept_by (at.Journal j) = j.waiting
-kept_by (at.Device d) = []
-
-pub queued_is : (weigh : Item → ℕ) (d : ZoneData) → queued weigh d ≡ total (λ v. weigh (Request v)) (kept_by d)
-queued_is weigh (at.Desk desk) = refl
-queued_is weigh (at.Logical l) = refl
-queued_is weigh (at.Physical p) = refl
-queued_is weigh (at.Journal j) = refl
-queued_is weigh (at.Device d) = refl
 
 -- a zone without any of a kind of token: nothing in its lanes, nothing that it keeps
 pub record HasNone (t : Token) (z : Zone) : Type 0 where

@@ -1,10 +1,12 @@
 -- What lists of posts weigh, and what they leave of the requests that a zone keeps, for any kind of token.
-use Rattle.std.proofs.Common.{◌≡◌, ◌⊎◌, ℕ, zero, suc, ◌+◌, ◌≤◌, true, false, List, [], ◌∷◌, Option, None, Some, inl, inr, refl, ap, sym, subst, arith}
+use Rattle.std.proofs.Common.{◌≡◌, ◌⊎◌, ℕ, ◌+◌, ◌≤◌, true, false, List, [], ◌∷◌, length, Option, None, Some, inl, inr, refl, ap, sym, subst, arith}
 use Rattle.std.proofs.lemmas.Bool.Decides.{eqb_tells}
 use Rattle.std.proofs.lemmas.Option.{same_Some}
 use Rattle.std.specs.List.{AllByRecursion}
 use Rattle.blk_base.specs.declared.place.Mapping.{Mapping}
 use Rattle.blk_base.specs.declared.place.Mapping.TheVariants.{Unmapped, Zero, At}
+use Rattle.blk_base.specs.declared.place.ZoneId.{ZoneId}
+use Rattle.blk_base.specs.declared.place.ZoneId.TheVariants as id
 use Rattle.blk_base.specs.declared.request.Answer.{Answer}
 use Rattle.blk_base.specs.declared.request.Answer.TheVariants as reply
 use Rattle.blk_base.specs.declared.request.Request.{Request}
@@ -21,7 +23,6 @@ use Rattle.core_model.specs.DeskRows.{vio_of, woken}
 use Rattle.core_model.specs.DeviceRows.{stop_notices}
 use Rattle.core_model.specs.JournalRows.{all_refused}
 use Rattle.core_model.specs.LogicalRows.{first_for, but_first_for, all_for, none_for, looked, read_next, next_for, mapping_at, goes_on, passed_to, released, only_post, passes_on, granted, all_stopped}
-use Rattle.core_model.specs.Numbers.{physical_zone}
 use Rattle.plain_laws.specs.Sums.{total}
 use Rattle.core_model.specs.Tokens.{Token, claims}
 use Rattle.core_model.specs.Vios.{Post, turned, ended}
@@ -61,7 +62,7 @@ begun_phase sizes w (request.Discard at) v is = absurd cc
 
 -- what is posted for a request that goes on with the lock of its address, by a fact of each post that it may be
 pub goes_by : (P : Post → Type 0) (sizes : Sizes) (l : LogicalZone) (v : Vio) (post : Post) → goes_on sizes l v ≡ Some post
-    → (v.asks ≡ Read → P (read_next sizes l (looked l v) (mapping_at l v.at.0))) → (v.asks ≡ Write → P (physical_zone sizes, item.Request (turned phase.Claim (looked l v)))) → P post
+    → (v.asks ≡ Read → P (read_next sizes l (looked l v) (mapping_at l v.at.0))) → (v.asks ≡ Write → P (id.Physical 0, item.Request (turned phase.Claim (looked l v)))) → P post
 goes_by P sizes l v post is reads writes = by v.asks refl is
   where
     by : (asks : Asks) → v.asks ≡ asks → next_for sizes l v asks ≡ Some post → P post
@@ -103,13 +104,13 @@ module _ (t : Token) where
   stopped_weigh (v ∷ vs) = omega (arith, stopped_weigh vs)
 
   -- the stop notices
-  pub notices_none : (n : ℕ) → t.item item.StopNotice ≡ 0 → weights t (stop_notices n) ≡ 0
-  notices_none zero h = refl
-  notices_none (suc n) h = omega (arith, h, notices_none n h)
+  pub notices_none : (ids : List ZoneId) → t.item item.StopNotice ≡ 0 → weights t (stop_notices ids) ≡ 0
+  notices_none [] h = refl
+  notices_none (to ∷ ids) h = omega (arith, h, notices_none ids h)
 
-  pub notices_each : (n : ℕ) → t.item item.StopNotice ≡ 1 → weights t (stop_notices n) ≡ n
-  notices_each zero h = refl
-  notices_each (suc n) h = omega (arith, h, notices_each n h)
+  pub notices_each : (ids : List ZoneId) → t.item item.StopNotice ≡ 1 → weights t (stop_notices ids) ≡ length ids
+  notices_each [] h = refl
+  notices_each (to ∷ ids) h = omega (arith, h, notices_each ids h)
 
   -- each that is the same request, and has taken no block, weighs this
   abbrev pub Weighs : Vio → ℕ → Type 0

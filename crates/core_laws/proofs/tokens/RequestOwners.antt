@@ -12,7 +12,7 @@ use Rattle.core_model.specs.declared.zones.ZoneData.{ZoneData}
 use Rattle.core_model.specs.declared.zones.ZoneData.TheVariants as at
 use Rattle.core_model.specs.declared.zones.Zone.{Zone}
 use Rattle.core_model.specs.Facts.{DataOk, ZoneOk}
-use Rattle.core_model.specs.Numbers.{desk_zone}
+use Rattle.core_model.specs.Zones.{desk_zone}
 use Rattle.core_model.specs.RightTraces.{RightTrace}
 use Rattle.core_model.specs.Sessions.{Session}
 use Rattle.plain_laws.specs.Sums.{total, bit, Each}

@@ -4,6 +4,7 @@ use Rattle.blk_base.specs.Sectors.{zero_block}
 use Rattle.blk_base.specs.declared.place.Lba.{Lba}
 use Rattle.blk_base.specs.declared.place.Mapping.TheVariants.{Unmapped, At}
 use Rattle.blk_base.specs.declared.place.Pbn.{Pbn}
+use Rattle.blk_base.specs.declared.place.ZoneId.TheVariants as id
 use Rattle.blk_base.specs.declared.request.Answer.{Answer}
 use Rattle.blk_base.specs.declared.request.Answer.TheVariants as reply
 use Rattle.blk_base.specs.declared.request.Request.TheVariants as request
@@ -36,65 +37,64 @@ use Rattle.core_model.specs.Trace.{Says, Flushes, Draws, Enters, Commits, Sets, 
 use Rattle.core_model.specs.Vios.{Post}
 use Rattle.core_model.proofs.rows.WorkedTraces.{address, block, x, y, script, first, reader, second, other, flush, sizes, place, of_first, of_second, given}
 
--- The zones: 0 is the desk, 1 and 2 are logical, 3 is the physical zone, 4 the journal, 5 the device.
 abbrev Acts : ZoneData → List Item → ZoneData → Trace → List Post → Type 0
 Acts = Act sizes
 
--- a request of zone 1, of address 0
-abbrev vio : Writer → Asks → Phase → ℕ → ℕ → Vio
+-- a request of address 0, which is in logical zone 0
+abbrev pub vio : Writer → Asks → Phase → ℕ → ℕ → Vio
 vio w what now n b =
-    record { request = w; asks = what; at = address 0; home = 1; phase = now; bytes = x; place = n; old = Unmapped; latest = None; block = block b; answer = None; calls = 0 }
+    record { request = w; asks = what; at = address 0; home = id.Logical 0; phase = now; bytes = x; place = n; old = Unmapped; latest = None; block = block b; answer = None; calls = 0 }
 
 -- the first write, once it has its block; the reader, which reads that block
-abbrev writes : Phase → Vio
+abbrev pub writes : Phase → Vio
 writes now = vio first asks.Write now 0 85
 
-abbrev reads : Phase → Vio
+abbrev pub reads : Phase → Vio
 reads now = vio reader asks.Read now 2 85
 
 abbrev answered : Answer → Vio → Vio
 answered answer v = record v { answer = Some answer }
 
 -- the desk: its log and its marks, how many stop notices have come, and who waits for them
-abbrev desk : List DeskLine → List FlushMark → ℕ → List Vio → ZoneData
+abbrev pub desk : List DeskLine → List FlushMark → ℕ → List Vio → ZoneData
 desk log marks notices parked = at.Desk (record { requests = script; log = log; marks = marks; notices = notices; parked = parked })
 
--- zone 1: its next place and its places, its locks and who waits for one, the retired addresses, and the slots that are set
-abbrev logical : ℕ → List Placed → List Lock → List Vio → List Lba → List Logged → ZoneData
+-- logical zone 0: its next place and its places, its locks and who waits for one, the retired addresses, and the slots that are set
+abbrev pub logical : ℕ → List Placed → List Lock → List Vio → List Lba → List Logged → ZoneData
 logical next places held waiting retired slots =
     at.Logical (record { zone = 0; notified = false; next = next; places = places; held = held; waiting = waiting; retired = retired; window = []; slots = slots })
 
 abbrev lock : ℕ → Lock
 lock n = record { at = address 0; place = n }
 
-abbrev physical : List Pbn → ZoneData
+abbrev pub physical : List Pbn → ZoneData
 physical free = at.Physical (record { notified = false; free = free })
 
 -- the journal: whether a block is under way, who waits, and the entries that were handed in and are committed
-abbrev journal : Bool → List Vio → List Logged → List Logged → ZoneData
+abbrev pub journal : Bool → List Vio → List Logged → List Logged → ZoneData
 journal busy waiting entered committed = at.Journal (record { notified = false; busy = busy; broken = false; waiting = waiting; entered = entered; committed = committed })
 
 abbrev sealed : Stage → SealedBlock
 sealed now = record { stage = now; sequence = 1; vio = writes phase.Enter }
 
-abbrev device : Bool → ℕ → ZoneData
+abbrev pub device : Bool → ℕ → ZoneData
 device stopped made = at.Device (record { stopped = stopped; calls = made })
 
 -- what the device sends where the session is stopped
 abbrev notify : List Post
-notify = (4, StopNotice) ∷ (3, StopNotice) ∷ (2, StopNotice) ∷ (1, StopNotice) ∷ []
+notify = (id.Journal, StopNotice) ∷ (id.Physical 0, StopNotice) ∷ (id.Logical 1, StopNotice) ∷ (id.Logical 0, StopNotice) ∷ []
 
 -- (begins): a write and a read go to their home, a flush to the device; one outside of the logical size, and a write after a
 -- stop, is answered at once
-begins_a_write : Acts (desk [] [] 0 []) [] (desk (line.Begin first ∷ []) [] 0 []) (Says (line.Begin first) ∷ []) ((1, Request (vio first asks.Write phase.Arrive 0 0)) ∷ [])
+begins_a_write : Acts (desk [] [] 0 []) [] (desk (line.Begin first ∷ []) [] 0 []) (Says (line.Begin first) ∷ []) ((id.Logical 0, Request (vio first asks.Write phase.Arrive 0 0)) ∷ [])
 begins_a_write = begins (DeskBegins.sends first (request.Write (address 0) x false) _ (refl, refl, omega arith) refl refl refl refl refl refl)
 
 begins_a_flush : Acts (desk [] [] 0 []) [] (desk (line.Begin flush ∷ []) [] 0 []) (Says (line.Begin flush) ∷ [])
-    ((5, Request (record (vio flush asks.Flush phase.Flush 0 0) { bytes = zero_block })) ∷ [])
+    ((id.Device, Request (record (vio flush asks.Flush phase.Flush 0 0) { bytes = zero_block })) ∷ [])
 begins_a_flush = begins (DeskBegins.sends flush request.Flush _ (refl, refl, omega arith) refl refl refl refl refl refl)
 
 begins_a_read : Acts (desk (line.Begin first ∷ []) [] 0 []) [] (desk (line.Begin reader ∷ line.Begin first ∷ []) [] 0 []) (Says (line.Begin reader) ∷ [])
-    ((1, Request (record (vio reader asks.Read phase.Arrive 0 0) { bytes = zero_block })) ∷ [])
+    ((id.Logical 0, Request (record (vio reader asks.Read phase.Arrive 0 0) { bytes = zero_block })) ∷ [])
 begins_a_read = begins (DeskBegins.sends reader (request.Read (address 0)) _ (refl, refl, omega arith) refl refl refl refl refl refl)
 
 begins_out_of_range : Act (record sizes { geometry = record sizes.geometry { logical = 812 } }) (desk (line.Begin second ∷ []) [] 0 []) []
@@ -115,21 +115,21 @@ replies_to_a_flush = answers (DeskServes.marks refl refl refl refl refl refl)
 replies_later : Acts (desk [] [] 3 []) (Request (answered reply.Stopped (writes phase.Reply)) ∷ []) (desk [] [] 3 (answered reply.Stopped (writes phase.Reply) ∷ [])) [] []
 replies_later = answers (DeskServes.parks reply.Stopped refl refl refl refl refl refl refl)
 
-replies_at_last : Acts (desk [] [] 3 (answered reply.Stopped (writes phase.Reply) ∷ [])) (StopNotice ∷ []) (desk [] [] 4 []) [] ((0, Request (answered reply.Stopped (writes phase.Reply))) ∷ [])
+replies_at_last : Acts (desk [] [] 3 (answered reply.Stopped (writes phase.Reply) ∷ [])) (StopNotice ∷ []) (desk [] [] 4 []) [] ((id.Desk, Request (answered reply.Stopped (writes phase.Reply))) ∷ [])
 replies_at_last = hears
 
 -- Arrive: the address is free, or held, or retired; then a write claims a block, a read goes to the block that is mapped, or
 -- has zeros
 arrives : Acts (logical 0 [] [] [] [] []) (Request (vio first asks.Write phase.Arrive 0 0) ∷ []) (logical 1 (place first 0 0 ∷ []) (lock 0 ∷ []) [] [] []) (Draws (place first 0 0) ∷ [])
-    ((3, Request (vio first asks.Write phase.Claim 0 0)) ∷ [])
+    ((id.Physical 0, Request (vio first asks.Write phase.Claim 0 0)) ∷ [])
 arrives = serves (LogicalServes.arrives_free _ refl refl refl refl refl refl refl)
 
 arrives_to_read : Acts (logical 2 [] [] [] [] (of_first ∷ [])) (Request (vio reader asks.Read phase.Arrive 0 0) ∷ []) (logical 3 (place reader 0 2 ∷ []) (lock 2 ∷ []) [] [] (of_first ∷ []))
-    (Draws (place reader 0 2) ∷ []) ((5, Request (record (reads phase.Load) { old = At (block 85); latest = Some of_first })) ∷ [])
+    (Draws (place reader 0 2) ∷ []) ((id.Device, Request (record (reads phase.Load) { old = At (block 85); latest = Some of_first })) ∷ [])
 arrives_to_read = serves (LogicalServes.arrives_free _ refl refl refl refl refl refl refl)
 
 arrives_to_zeros : Acts (logical 2 [] [] [] [] []) (Request (vio reader asks.Read phase.Arrive 0 0) ∷ []) (logical 3 (place reader 0 2 ∷ []) (lock 2 ∷ []) [] [] [])
-    (Draws (place reader 0 2) ∷ []) ((1, Request (record (vio reader asks.Read phase.Loaded 2 0) { bytes = zero_block })) ∷ [])
+    (Draws (place reader 0 2) ∷ []) ((id.Logical 0, Request (record (vio reader asks.Read phase.Loaded 2 0) { bytes = zero_block })) ∷ [])
 arrives_to_zeros = serves (LogicalServes.arrives_free _ refl refl refl refl refl refl refl)
 
 arrives_to_wait : Acts (logical 2 [] (lock 0 ∷ []) [] [] []) (Request (vio reader asks.Read phase.Arrive 0 0) ∷ [])
@@ -137,126 +137,126 @@ arrives_to_wait : Acts (logical 2 [] (lock 0 ∷ []) [] [] []) (Request (vio rea
 arrives_to_wait = serves (LogicalServes.arrives_held refl refl refl refl refl refl)
 
 arrives_retired : Acts (logical 2 [] [] [] (address 0 ∷ []) []) (Request (vio reader asks.Read phase.Arrive 0 0) ∷ []) (logical 3 (place reader 0 2 ∷ []) [] [] (address 0 ∷ []) [])
-    (Draws (place reader 0 2) ∷ []) ((0, Request (answered reply.Stopped (vio reader asks.Read phase.Reply 2 0))) ∷ [])
+    (Draws (place reader 0 2) ∷ []) ((id.Desk, Request (answered reply.Stopped (vio reader asks.Read phase.Reply 2 0))) ∷ [])
 arrives_retired = serves (LogicalServes.arrives_retired refl refl refl refl refl)
 
 -- Claim: the next free block, or none
-claims : Acts (physical (block 85 ∷ block 86 ∷ [])) (Request (vio first asks.Write phase.Claim 0 0) ∷ []) (physical (block 86 ∷ [])) (Takes first (block 85) ∷ []) ((5, Request (writes phase.Store)) ∷ [])
+claims : Acts (physical (block 85 ∷ block 86 ∷ [])) (Request (vio first asks.Write phase.Claim 0 0) ∷ []) (physical (block 86 ∷ [])) (Takes first (block 85) ∷ []) ((id.Device, Request (writes phase.Store)) ∷ [])
 claims = takes (PhysicalServes.claims (block 85) (block 86 ∷ []) refl refl refl refl refl)
 
-claims_none : Acts (physical []) (Request (vio first asks.Write phase.Claim 0 0) ∷ []) (physical []) [] ((1, Request (answered reply.Full (vio first asks.Write phase.Abort 0 0))) ∷ [])
+claims_none : Acts (physical []) (Request (vio first asks.Write phase.Claim 0 0) ∷ []) (physical []) [] ((id.Logical 0, Request (answered reply.Full (vio first asks.Write phase.Abort 0 0))) ∷ [])
 claims_none = takes (PhysicalServes.is_full refl refl refl refl refl)
 
 -- Store: the data is written, or not
-stores : Acts (device false 6) (Request (writes phase.Store) ∷ []) (device false 7) (Calls (Write (block 85) x true) ∷ []) ((4, Request (writes phase.Enter)) ∷ [])
+stores : Acts (device false 6) (Request (writes phase.Store) ∷ []) (device false 7) (Calls (Write (block 85) x true) ∷ []) ((id.Journal, Request (writes phase.Enter)) ∷ [])
 stores = calls (DeviceServes.stores refl refl (omega arith) refl refl refl)
 
 stores_in_vain : Acts (device false 6) (Request (writes phase.Store) ∷ []) (device true 6) (Fails first (Write (block 85) x false) true ∷ [])
-    ((3, Request (answered reply.Stopped (writes phase.AbortClaim))) ∷ notify)
+    ((id.Physical 0, Request (answered reply.Stopped (writes phase.AbortClaim))) ∷ notify)
 stores_in_vain = calls (DeviceServes.store_fails true refl refl (omega arith) refl refl refl)
 
-stores_no_more : Acts (device true 6) (Request (writes phase.Store) ∷ []) (device true 6) [] ((3, Request (answered reply.Stopped (writes phase.AbortClaim))) ∷ [])
+stores_no_more : Acts (device true 6) (Request (writes phase.Store) ∷ []) (device true 6) [] ((id.Physical 0, Request (answered reply.Stopped (writes phase.AbortClaim))) ∷ [])
 stores_no_more = calls (DeviceServes.store_unmade refl refl refl refl refl)
 
 -- Enter: the entry is handed in, or waits, or has no block, or the journal was notified
-enters_now : Acts (journal false [] [] []) (Request (writes phase.Enter) ∷ []) (journal true [] (of_first ∷ []) []) (Enters of_first ∷ []) ((5, Block (sealed stage.Cover)) ∷ [])
+enters_now : Acts (journal false [] [] []) (Request (writes phase.Enter) ∷ []) (journal true [] (of_first ∷ []) []) (Enters of_first ∷ []) ((id.Device, Block (sealed stage.Cover)) ∷ [])
 enters_now = enters (JournalServes.enters refl refl refl refl refl refl refl)
 
 enters_later : Acts (journal true [] [] []) (Request (writes phase.Enter) ∷ []) (journal true (writes phase.Enter ∷ []) [] []) [] []
 enters_later = enters (JournalServes.waits refl refl refl refl refl refl)
 
-enters_full : Acts (journal false [] (of_second ∷ []) []) (Request (writes phase.Enter) ∷ []) (journal false [] (of_second ∷ []) []) [] ((3, Request (answered reply.Full (writes phase.AbortClaim))) ∷ [])
+enters_full : Acts (journal false [] (of_second ∷ []) []) (Request (writes phase.Enter) ∷ []) (journal false [] (of_second ∷ []) []) [] ((id.Physical 0, Request (answered reply.Full (writes phase.AbortClaim))) ∷ [])
 enters_full = enters (JournalServes.is_full refl refl refl refl refl refl refl)
 
 -- Cover, Write, Harden: each call leads to the next stage, or to Fail
-covers : Acts (device false 7) (Block (sealed stage.Cover) ∷ []) (device false 8) (Calls (Flush true) ∷ []) ((5, Block (sealed stage.Write)) ∷ [])
+covers : Acts (device false 7) (Block (sealed stage.Cover) ∷ []) (device false 8) (Calls (Flush true) ∷ []) ((id.Device, Block (sealed stage.Write)) ∷ [])
 covers = works (DeviceWorks.makes (Flush true) (block 1) refl refl refl refl refl refl)
 
-hardens : Acts (device false 9) (Block (sealed stage.Harden) ∷ []) (device false 10) (Calls (Flush true) ∷ []) ((4, Block (sealed stage.Commit)) ∷ [])
+hardens : Acts (device false 9) (Block (sealed stage.Harden) ∷ []) (device false 10) (Calls (Flush true) ∷ []) ((id.Journal, Block (sealed stage.Commit)) ∷ [])
 hardens = works (DeviceWorks.makes (Flush true) (block 1) refl refl refl refl refl refl)
 
-writes_a_block : Acts (device false 8) (Block (sealed stage.Write) ∷ []) (device false 9) (Calls (Write (block 1) (journal_bytes sizes (sealed stage.Write)) true) ∷ []) ((5, Block (sealed stage.Harden)) ∷ [])
+writes_a_block : Acts (device false 8) (Block (sealed stage.Write) ∷ []) (device false 9) (Calls (Write (block 1) (journal_bytes sizes (sealed stage.Write)) true) ∷ []) ((id.Device, Block (sealed stage.Harden)) ∷ [])
 writes_a_block = works (DeviceWorks.makes (Write (block 1) (journal_bytes sizes (sealed stage.Write)) true) (block 1) refl refl refl refl refl refl)
 
-hardens_in_vain : Acts (device false 9) (Block (sealed stage.Harden) ∷ []) (device true 9) (Fails first (Flush false) false ∷ []) ((4, Block (sealed stage.Fail)) ∷ notify)
+hardens_in_vain : Acts (device false 9) (Block (sealed stage.Harden) ∷ []) (device true 9) (Fails first (Flush false) false ∷ []) ((id.Journal, Block (sealed stage.Fail)) ∷ notify)
 hardens_in_vain = works (DeviceWorks.fails (Flush false) (block 1) false refl refl refl refl refl refl)
 
-hardens_no_more : Acts (device true 9) (Block (sealed stage.Harden) ∷ []) (device true 9) [] ((4, Block (sealed stage.Fail)) ∷ [])
+hardens_no_more : Acts (device true 9) (Block (sealed stage.Harden) ∷ []) (device true 9) [] ((id.Journal, Block (sealed stage.Fail)) ∷ [])
 hardens_no_more = works (DeviceWorks.unmade (Flush false) (block 1) refl refl refl refl refl)
 
 -- Commit, Fail: the entry goes to its slot, or is aborted; those that wait have no block, or are stopped
-commits : Acts (journal true [] [] []) (Block (sealed stage.Commit) ∷ []) (journal false [] [] (of_first ∷ [])) (Commits of_first ∷ []) ((1, Request (writes phase.Settle)) ∷ [])
+commits : Acts (journal true [] [] []) (Block (sealed stage.Commit) ∷ []) (journal false [] [] (of_first ∷ [])) (Commits of_first ∷ []) ((id.Logical 0, Request (writes phase.Settle)) ∷ [])
 commits = ends (JournalEnds.commits_alone refl refl refl refl refl refl)
 
 commits_the_last : Acts (journal true (writes phase.Enter ∷ []) (of_first ∷ []) []) (Block (sealed stage.Commit) ∷ []) (journal false [] (of_first ∷ []) (of_first ∷ [])) (Commits of_first ∷ [])
-    ((1, Request (writes phase.Settle)) ∷ (3, Request (answered reply.Full (writes phase.AbortClaim))) ∷ [])
+    ((id.Logical 0, Request (writes phase.Settle)) ∷ (id.Physical 0, Request (answered reply.Full (writes phase.AbortClaim))) ∷ [])
 commits_the_last = ends (JournalEnds.commits_last refl refl refl refl refl)
 
 commits_and_enters : Acts (journal true (writes phase.Enter ∷ []) [] []) (Block (sealed stage.Commit) ∷ []) (journal true [] (of_first ∷ []) (of_first ∷ [])) (Enters of_first ∷ Commits of_first ∷ [])
-    ((1, Request (writes phase.Settle)) ∷ (5, Block (sealed stage.Cover)) ∷ [])
+    ((id.Logical 0, Request (writes phase.Settle)) ∷ (id.Device, Block (sealed stage.Cover)) ∷ [])
 commits_and_enters = ends (JournalEnds.commits_next _ _ refl refl refl refl refl refl)
 
 fails : Acts (journal true (writes phase.Enter ∷ []) [] []) (Block (sealed stage.Fail) ∷ []) (at.Journal (record { notified = false; busy = false; broken = true; waiting = []; entered = []; committed = [] })) []
-    ((3, Request (answered reply.Stopped (writes phase.AbortEnteredClaim))) ∷ (3, Request (answered reply.Stopped (writes phase.AbortClaim))) ∷ [])
+    ((id.Physical 0, Request (answered reply.Stopped (writes phase.AbortEnteredClaim))) ∷ (id.Physical 0, Request (answered reply.Stopped (writes phase.AbortClaim))) ∷ [])
 fails = ends (JournalEnds.fails refl refl refl refl)
 
 -- Settle: the slot is set, and the lock goes to the reader
 settles : Acts (logical 3 [] (lock 0 ∷ []) (reads phase.Wait ∷ []) [] []) (Request (writes phase.Settle) ∷ []) (logical 3 [] (lock 2 ∷ []) [] [] (of_first ∷ [])) (Sets of_first ∷ [])
-    ((0, Request (answered reply.Ok (writes phase.Reply))) ∷ (5, Request (record (reads phase.Load) { old = At (block 85); latest = Some of_first })) ∷ [])
+    ((id.Desk, Request (answered reply.Ok (writes phase.Reply))) ∷ (id.Device, Request (record (reads phase.Load) { old = At (block 85); latest = Some of_first })) ∷ [])
 settles = serves (LogicalServes.settles _ refl refl refl refl refl)
 
 -- Load: the block is read, or not
-loads : Acts (device true 6) (Request (reads phase.Load) ∷ []) (device true 7) (Calls (Read (block 85) y true) ∷ []) ((1, Request (record (reads phase.Loaded) { bytes = y })) ∷ [])
+loads : Acts (device true 6) (Request (reads phase.Load) ∷ []) (device true 7) (Calls (Read (block 85) y true) ∷ []) ((id.Logical 0, Request (record (reads phase.Loaded) { bytes = y })) ∷ [])
 loads = calls (DeviceServes.loads y refl (omega arith) refl refl refl)
 
-loads_in_vain : Acts (device false 6) (Request (reads phase.Load) ∷ []) (device false 6) (Fails reader (Read (block 85) y false) true ∷ []) ((1, Request (answered reply.ReadFault (reads phase.Abort))) ∷ [])
+loads_in_vain : Acts (device false 6) (Request (reads phase.Load) ∷ []) (device false 6) (Fails reader (Read (block 85) y false) true ∷ []) ((id.Logical 0, Request (answered reply.ReadFault (reads phase.Abort))) ∷ [])
 loads_in_vain = calls (DeviceServes.load_fails y true refl (omega arith) refl refl refl)
 
 -- Loaded: it is given its bytes, and the lock is free
-gives : Acts (logical 3 [] (lock 2 ∷ []) [] [] []) (Request (reads phase.Loaded) ∷ []) (logical 3 [] [] [] [] []) (Gives (given 2) ∷ []) ((0, Request (answered (reply.Bytes x) (reads phase.Reply))) ∷ [])
+gives : Acts (logical 3 [] (lock 2 ∷ []) [] [] []) (Request (reads phase.Loaded) ∷ []) (logical 3 [] [] [] [] []) (Gives (given 2) ∷ []) ((id.Desk, Request (answered (reply.Bytes x) (reads phase.Reply))) ∷ [])
 gives = serves (LogicalServes.gives _ refl refl refl refl refl)
 
 -- AbortClaim, AbortEnteredClaim: it passes by
-aborts_claim : Acts (physical []) (Request (answered reply.Full (writes phase.AbortClaim)) ∷ []) (physical []) [] ((1, Request (answered reply.Full (writes phase.Abort))) ∷ [])
+aborts_claim : Acts (physical []) (Request (answered reply.Full (writes phase.AbortClaim)) ∷ []) (physical []) [] ((id.Logical 0, Request (answered reply.Full (writes phase.Abort))) ∷ [])
 aborts_claim = takes (PhysicalServes.aborts_claim refl refl refl refl)
 
-aborts_entered_claim : Acts (physical []) (Request (answered reply.Stopped (writes phase.AbortEnteredClaim)) ∷ []) (physical []) [] ((1, Request (answered reply.Stopped (writes phase.AbortEntered))) ∷ [])
+aborts_entered_claim : Acts (physical []) (Request (answered reply.Stopped (writes phase.AbortEnteredClaim)) ∷ []) (physical []) [] ((id.Logical 0, Request (answered reply.Stopped (writes phase.AbortEntered))) ∷ [])
 aborts_entered_claim = takes (PhysicalServes.aborts_entered_claim refl refl refl refl)
 
 -- Abort: the lock goes to the reader; AbortEntered: the address is retired, and the reader is stopped
 aborts : Acts (logical 3 [] (lock 0 ∷ []) (reads phase.Wait ∷ []) [] []) (Request (answered reply.Full (writes phase.Abort)) ∷ []) (logical 3 [] (lock 2 ∷ []) [] [] []) []
-    ((0, Request (answered reply.Full (writes phase.Reply))) ∷ (1, Request (record (reads phase.Loaded) { bytes = zero_block })) ∷ [])
+    ((id.Desk, Request (answered reply.Full (writes phase.Reply))) ∷ (id.Logical 0, Request (record (reads phase.Loaded) { bytes = zero_block })) ∷ [])
 aborts = serves (LogicalServes.aborts _ refl refl refl refl refl)
 
 aborts_entered : Acts (logical 3 [] (lock 0 ∷ []) (reads phase.Wait ∷ []) [] []) (Request (answered reply.Stopped (writes phase.AbortEntered)) ∷ []) (logical 3 [] [] [] (address 0 ∷ []) []) (Aborts of_first ∷ [])
-    ((0, Request (answered reply.Stopped (writes phase.Reply))) ∷ (0, Request (answered reply.Stopped (reads phase.Reply))) ∷ [])
+    ((id.Desk, Request (answered reply.Stopped (writes phase.Reply))) ∷ (id.Desk, Request (answered reply.Stopped (reads phase.Reply))) ∷ [])
 aborts_entered = serves (LogicalServes.aborts_entered refl refl refl refl)
 
 -- Flush: it returns with its mark, or is stopped
 flushes : Acts (device false 9) (Request (vio flush asks.Flush phase.Flush 0 0) ∷ []) (device false 10) (Calls (Flush true) ∷ [])
-    ((0, Request (record (vio flush asks.Flush phase.Reply 0 0) { answer = Some reply.Ok; calls = 10 })) ∷ [])
+    ((id.Desk, Request (record (vio flush asks.Flush phase.Reply 0 0) { answer = Some reply.Ok; calls = 10 })) ∷ [])
 flushes = calls (DeviceServes.flushes refl refl refl refl refl)
 
 flushes_in_vain : Acts (device false 9) (Request (vio flush asks.Flush phase.Flush 0 0) ∷ []) (device true 9) (Fails flush (Flush false) true ∷ [])
-    ((0, Request (answered reply.Stopped (vio flush asks.Flush phase.Reply 0 0))) ∷ notify)
+    ((id.Desk, Request (answered reply.Stopped (vio flush asks.Flush phase.Reply 0 0))) ∷ notify)
 flushes_in_vain = calls (DeviceServes.flush_fails true refl refl refl refl refl)
 
-flushes_no_more : Acts (device true 9) (Request (vio flush asks.Flush phase.Flush 0 0) ∷ []) (device true 9) [] ((0, Request (answered reply.Stopped (vio flush asks.Flush phase.Reply 0 0))) ∷ [])
+flushes_no_more : Acts (device true 9) (Request (vio flush asks.Flush phase.Flush 0 0) ∷ []) (device true 9) [] ((id.Desk, Request (answered reply.Stopped (vio flush asks.Flush phase.Reply 0 0))) ∷ [])
 flushes_no_more = calls (DeviceServes.flush_unmade refl refl refl refl refl)
 
 -- (stop notice): it is passed on to the desk; in the journal those that wait are aborted, and no entry is handed in any more
 notifies : Acts (logical 0 [] [] [] [] []) (StopNotice ∷ []) (at.Logical (record { zone = 0; notified = true; next = 0; places = []; held = []; waiting = []; retired = []; window = []; slots = [] })) []
-    ((0, StopNotice) ∷ [])
+    ((id.Desk, StopNotice) ∷ [])
 notifies = serves_notice
 
-notifies_physical : Acts (physical []) (StopNotice ∷ []) (at.Physical (record { notified = true; free = [] })) [] ((0, StopNotice) ∷ [])
+notifies_physical : Acts (physical []) (StopNotice ∷ []) (at.Physical (record { notified = true; free = [] })) [] ((id.Desk, StopNotice) ∷ [])
 notifies_physical = takes_notice
 
 abbrev closed : ZoneData
 closed = at.Journal (record { notified = true; busy = true; broken = false; waiting = []; entered = []; committed = [] })
 
-notifies_journal : Acts (journal true (writes phase.Enter ∷ []) [] []) (StopNotice ∷ []) closed [] ((0, StopNotice) ∷ (3, Request (answered reply.Stopped (writes phase.AbortClaim))) ∷ [])
+notifies_journal : Acts (journal true (writes phase.Enter ∷ []) [] []) (StopNotice ∷ []) closed [] ((id.Desk, StopNotice) ∷ (id.Physical 0, Request (answered reply.Stopped (writes phase.AbortClaim))) ∷ [])
 notifies_journal = enters_notice
 
-enters_no_more : Acts closed (Request (writes phase.Enter) ∷ []) closed [] ((3, Request (answered reply.Stopped (writes phase.AbortClaim))) ∷ [])
+enters_no_more : Acts closed (Request (writes phase.Enter) ∷ []) closed [] ((id.Physical 0, Request (answered reply.Stopped (writes phase.AbortClaim))) ∷ [])
 enters_no_more = enters (JournalServes.is_stopped refl refl refl refl refl)

@@ -1,0 +1,138 @@
+-- The zones, the table of phases and stages, and the steps of a zone, at a core of two logical zones.
+use Rattle.std.proofs.Common.{◌≡◌, ℕ, Bool, true, false, List, [], ◌∷◌, length, refl, inl, inr, arith}
+use Rattle.blk_base.specs.declared.place.ZoneId.{ZoneId}
+use Rattle.blk_base.specs.declared.place.ZoneId.TheVariants as id
+use Rattle.blk_base.specs.declared.request.Writer.{Writer}
+use Rattle.core_model.specs.declared.items.Item.{Item}
+use Rattle.core_model.specs.declared.items.Item.TheVariants.{Request, StopNotice}
+use Rattle.core_model.specs.declared.items.Phase.{Phase}
+use Rattle.core_model.specs.declared.items.Phase.TheVariants as phase
+use Rattle.core_model.specs.declared.items.Stage.{Stage}
+use Rattle.core_model.specs.declared.items.Stage.TheVariants as stage
+use Rattle.core_model.specs.declared.zones.Zone.{Zone}
+use Rattle.core_model.specs.declared.zones.ZoneData.{ZoneData}
+use Rattle.core_model.specs.declared.zones.ZoneData.TheVariants as at
+use Rattle.core_model.specs.Facts.{zone_at, zone_of_stage, arriving}
+use Rattle.core_model.specs.Phases.{stage_row}
+use Rattle.core_model.specs.Steps.{ZoneStep, IsIdle, takes_notice}
+use Rattle.core_model.specs.Tokens.{holds, claims, kept_items}
+use Rattle.core_model.specs.Zones.{IsZone, zone_number, zone_count, notified, notified_zones}
+use Rattle.core_model.proofs.rows.PhaseRows.{writes, reads, desk, logical, physical, journal, device}
+use Rattle.core_model.proofs.rows.WorkedTraces.{block, first, sizes}
+
+-- the desk, two logical zones, one physical zone, the journal and the device are there, and have the numbers from 0 to 5
+are_zones : IsZone sizes id.Desk × IsZone sizes (id.Logical 0) × IsZone sizes (id.Logical 1) × IsZone sizes (id.Physical 0) × IsZone sizes id.Journal × IsZone sizes id.Device
+are_zones = (tt, omega arith, omega arith, omega arith, tt, tt)
+
+abbrev numbers : List ZoneId → List ℕ
+numbers [] = []
+numbers (name ∷ names) = zone_number sizes name ∷ numbers names
+
+have_numbers : numbers (id.Desk ∷ id.Logical 0 ∷ id.Logical 1 ∷ id.Physical 0 ∷ id.Journal ∷ id.Device ∷ []) ≡ 0 ∷ 1 ∷ 2 ∷ 3 ∷ 4 ∷ 5 ∷ []
+have_numbers = refl
+
+-- others aren't there: a third logical zone, a second physical one, a hash zone, the index; a kind that no core has yet has
+-- the number behind all
+no_logical_zone : IsZone sizes (id.Logical 2) → ⊥
+no_logical_zone is = absurd (omega (arith, is))
+
+no_physical_zone : IsZone sizes (id.Physical 1) → ⊥
+no_physical_zone is = absurd (omega (arith, is))
+
+no_others : (IsZone sizes (id.Hash 0) → ⊥) × (IsZone sizes id.Index → ⊥) × (zone_number sizes (id.Hash 0) ≡ zone_count sizes) × (zone_number sizes id.Index ≡ zone_count sizes)
+no_others = (λ is. is, λ is. is, refl, refl)
+
+-- the device notifies all but the desk and itself
+are_notified : (notified sizes ≡ id.Journal ∷ id.Physical 0 ∷ id.Logical 1 ∷ id.Logical 0 ∷ []) × (length (notified sizes) ≡ notified_zones sizes)
+are_notified = (refl, refl)
+
+-- A line of the table of phases, of a request of logical zone 1: the number of the zone where it is done (6 is none), and
+-- whether it has the lock, has a block, and has yet to arrive.
+abbrev IsRow : Phase → ℕ → Bool → Bool → List Writer → Type 0
+IsRow now number locks has_block arrives = (zone_at sizes (id.Logical 1) now ≡ number) × (holds now ≡ locks) × (claims now ≡ has_block) × (arriving now first ≡ arrives)
+
+row_arrive : IsRow phase.Arrive 2 false false (first ∷ [])
+row_arrive = (refl, refl, refl, refl)
+
+row_wait : IsRow phase.Wait 6 false false []
+row_wait = (refl, refl, refl, refl)
+
+row_claim : IsRow phase.Claim 3 true false []
+row_claim = (refl, refl, refl, refl)
+
+row_store : IsRow phase.Store 5 true true []
+row_store = (refl, refl, refl, refl)
+
+row_enter : IsRow phase.Enter 4 true true []
+row_enter = (refl, refl, refl, refl)
+
+row_settle : IsRow phase.Settle 2 true false []
+row_settle = (refl, refl, refl, refl)
+
+row_load : IsRow phase.Load 5 true false []
+row_load = (refl, refl, refl, refl)
+
+row_loaded : IsRow phase.Loaded 2 true false []
+row_loaded = (refl, refl, refl, refl)
+
+row_abort_claim : IsRow phase.AbortClaim 3 true false []
+row_abort_claim = (refl, refl, refl, refl)
+
+row_abort : IsRow phase.Abort 2 true false []
+row_abort = (refl, refl, refl, refl)
+
+row_abort_entered_claim : IsRow phase.AbortEnteredClaim 3 true false []
+row_abort_entered_claim = (refl, refl, refl, refl)
+
+row_abort_entered : IsRow phase.AbortEntered 2 true false []
+row_abort_entered = (refl, refl, refl, refl)
+
+row_flush : IsRow phase.Flush 5 false false []
+row_flush = (refl, refl, refl, refl)
+
+row_reply : IsRow phase.Reply 0 false false []
+row_reply = (refl, refl, refl, refl)
+
+-- a line of the table of stages: the number of the zone where it is done, and the stage behind it
+abbrev IsStageRow : Stage → ℕ → Stage → Type 0
+IsStageRow now number next = (zone_of_stage sizes now ≡ number) × ((stage_row now).next ≡ next)
+
+row_of_stages : IsStageRow stage.Cover 5 stage.Write × IsStageRow stage.Write 5 stage.Harden × IsStageRow stage.Harden 5 stage.Commit × IsStageRow stage.Commit 4 stage.Commit × IsStageRow stage.Fail 4 stage.Fail
+row_of_stages = ((refl, refl), (refl, refl), (refl, refl), (refl, refl), (refl, refl))
+
+-- what each kind of zone keeps beside its lanes
+kept_requests : (kept_items (desk [] [] 0 (writes phase.Reply ∷ [])) ≡ Request (writes phase.Reply) ∷ []) × (kept_items (logical 1 [] [] (reads phase.Wait ∷ []) [] []) ≡ Request (reads phase.Wait) ∷ [])
+    × (kept_items (journal true (writes phase.Enter ∷ reads phase.Enter ∷ []) [] []) ≡ Request (writes phase.Enter) ∷ Request (reads phase.Enter) ∷ [])
+kept_requests = (refl, refl, refl)
+
+kept_none : (kept_items (physical (block 85 ∷ [])) ≡ []) × (kept_items (device false 6) ≡ [])
+kept_none = (refl, refl)
+
+-- the physical zone that made so many steps, with the stop notice in its inbox
+abbrev of_steps : ℕ → ZoneData → List Item → List (List Item) → Zone
+of_steps made keeps inbox outboxes = record { number = 3; steps = made; keeps = keeps; inbox = inbox; outboxes = outboxes }
+
+abbrev told : ZoneData
+told = at.Physical (record { notified = true; free = [] })
+
+-- a step is counted, up to the last one
+counts_a_step : ZoneStep sizes (of_steps 7 (physical []) (StopNotice ∷ []) ([] ∷ [])) (of_steps 8 told [] ((StopNotice ∷ []) ∷ [])) []
+counts_a_step = record { front = StopNotice ∷ []; rest = []; posts = _; counts = omega arith; taken = refl; in_turn = λ none. absurd cc; act = takes_notice; lanes = refl }
+
+counts_the_last : ZoneStep sizes (of_steps 18446744073709551614 (physical []) (StopNotice ∷ []) ([] ∷ [])) (of_steps 18446744073709551615 told [] ((StopNotice ∷ []) ∷ [])) []
+counts_the_last = record { front = StopNotice ∷ []; rest = []; posts = _; counts = omega arith; taken = refl; in_turn = λ none. absurd cc; act = takes_notice; lanes = refl }
+
+-- none is made behind that, and then the zone has no work, though an item lies in its inbox
+makes_no_more : (new : Zone) → ZoneStep sizes (of_steps 18446744073709551615 (physical []) (StopNotice ∷ []) ([] ∷ [])) new [] → ⊥
+makes_no_more new step = let below = step.counts in absurd (omega (arith, below))
+
+has_no_more_work : IsIdle sizes (of_steps 18446744073709551615 (physical []) (StopNotice ∷ []) ([] ∷ []))
+has_no_more_work = inr (omega arith)
+
+-- before that it has work where an item lies in its inbox, and none where none does
+has_work : IsIdle sizes (of_steps 18446744073709551614 (physical []) (StopNotice ∷ []) ([] ∷ [])) → ⊥
+has_work (inl nothing) = let empty = nothing.inbox in absurd cc
+has_work (inr all) = absurd (omega (arith, all))
+
+has_no_work : IsIdle sizes (of_steps 7 (physical []) [] ([] ∷ []))
+has_no_work = inl (record { inbox = refl; none_begins = λ may. may })
