@@ -44,7 +44,7 @@ use Rattle.core_model.specs.RightTraces.{IsOpen, Quiet, IsCommitted, AllBelow, H
 use Rattle.core_model.specs.Sessions.{Session, HasHonestReads, IsFresh, Stands, ReadsAs, AtRest, OnItsWay, ReadsEntry, HasPending, value_at}
 use Rattle.plain_laws.specs.Sums.{total, Each}
 use Rattle.core_model.specs.Tokens.{lock_weight}
-use Rattle.core_model.specs.Trace.{Trace, moments, lines, calls, marks, places, entered, committed, settled, aborted, taken, has_stopped, of_address, newest, logged_of, entries_of}
+use Rattle.core_model.specs.Trace.{Trace, moments, lines, calls, marks, places, entered, committed, done, aborted, taken, has_stopped, of_address, newest, logged_of, entries_of}
 use Rattle.core_model.specs.Vios.{request_of, logged}
 use Rattle.core_model.specs.Zones.{zone_number, desk_zone, logical_zone, physical_zone, journal_zone, device_zone, zone_count, notified_zones}
 
@@ -86,20 +86,20 @@ pub record Holds (s : Session) (t : Trace) (v : Vio) : Type 0 where
   pub below : AllBelow t v.at.0 v.place
   pub old_held : HoldsMapping v.old
   -- it knows what its address is mapped to, by the slots that are set
-  pub old_is : v.old ≡ mapping_of (entries_of s.window (settled t)) v.at.0
+  pub old_is : v.old ≡ mapping_of (entries_of s.window (done t)) v.at.0
 
 -- a read that holds it, and knows the last write of its address
 pub record Looks (s : Session) (t : Trace) (v : Vio) : Type 0 where
   pub held : Holds s t v
   pub is_read : v.asks ≡ Read
-  pub latest : v.latest ≡ newest (of_address v.at.0 (settled t))
+  pub latest : v.latest ≡ newest (of_address v.at.0 (done t))
 
 -- a write whose entry was handed in
 pub record IsEntered (s : Session) (t : Trace) (v : Vio) : Type 0 where
   pub is_write : v.asks ≡ Write
   pub placed : HasPlace s t v.request v.at.0 v.place
   pub entry : logged_of (entered t) v.request ≡ Some (logged v)
-  pub unsettled : IsNone (logged_of (settled t) v.request)
+  pub unset : IsNone (logged_of (done t) v.request)
   pub unaborted : IsNone (logged_of (aborted t) v.request)
 
 -- its answer is one that it may have
@@ -141,7 +141,7 @@ pub record BlockOk (s : Session) (t : Trace) (b : SealedBlock) : Type 0 where
   pub phase : b.vio.phase ≡ phase.Enter
   pub is_entered : IsEntered s t b.vio
   pub last : entered t ≡ logged b.vio ∷ committed t
-  pub others : of_address b.vio.at.0 (committed t) ≡ of_address b.vio.at.0 (settled t)
+  pub others : of_address b.vio.at.0 (committed t) ≡ of_address b.vio.at.0 (done t)
   pub below : AllBelow t b.vio.at.0 b.vio.place
   pub fresh : IsFresh s b.vio.block
   pub old_held : HoldsMapping b.vio.old
@@ -191,7 +191,7 @@ pub record LogicalOk (s : Session) (t : Trace) (number : ℕ) (l : LogicalZone) 
   pub places_is : l.places ≡ places_in l.zone (places t)
   pub next_is : l.next ≡ drawn l.zone (places t)
   pub window_is : l.window ≡ s.window
-  pub slots_are : (a : ℕ) → zone_of s.sizes.zones a ≡ l.zone → of_address a l.slots ≡ of_address a (settled t)
+  pub slots_are : (a : ℕ) → zone_of s.sizes.zones a ≡ l.zone → of_address a l.slots ≡ of_address a (done t)
   -- each address is mapped to a block that an entry can hold
   pub mapped : (a : ℕ) → HoldsMapping (mapping_at l a)
   pub inside : (a : ℕ) (x : Pbn) → mapping_at l a ≡ At x → IsInside s.sizes x
@@ -200,7 +200,7 @@ pub record LogicalOk (s : Session) (t : Trace) (number : ℕ) (l : LogicalZone) 
   pub below : (a : ℕ) → zone_of s.sizes.zones a ≡ l.zone → AllBelow t a l.next
   pub locks : AllByRecursion (LockOk s l) l.held
   pub once : (a : ℕ) → total (lock_weight a (λ p. true)) l.held ≤ 1
-  -- a lock that is free: all entries of its address are settled
+  -- a lock that is free: all entries of its address are done
   pub quiet : (a : ℕ) → zone_of s.sizes.zones a ≡ l.zone → is_held a l.held ≡ false → is_among a l.retired ≡ false → Quiet t a
   -- who waits for a lock came behind its holder, and in the order of places
   pub waiting : AllByRecursion (WaitsOk s t number l) l.waiting

@@ -11,14 +11,14 @@ use Rattle.vdo_model.specs.declared.report.Placed.{Placed}
 use Rattle.vdo_model.specs.declared.report.RunReport.{RunReport}
 use Rattle.core_model.specs.declared.zones.Logged.{Logged}
 use Rattle.core_model.specs.Sessions.{Session}
-use Rattle.core_model.specs.Trace.{Trace, lines, marks, places, entered, settled, logged_of}
+use Rattle.core_model.specs.Trace.{Trace, lines, marks, places, entered, done, logged_of}
 
 abbrev pub is_there : Option Logged → Bool
 is_there None = false
 is_there (Some e) = true
 
 abbrev pub set_in : Trace → Writer → Bool
-set_in t w = is_there (logged_of (settled t) w)
+set_in t w = is_there (logged_of (done t) w)
 
 abbrev pub handed_in : Trace → Writer → Bool
 handed_in t w = is_there (logged_of (entered t) w)

@@ -21,30 +21,30 @@ use Rattle.vdo_model.specs.declared.report.DeskLine.TheVariants as line
 use Rattle.vdo_model.specs.declared.report.Placed.{Placed}
 use Rattle.core_model.specs.declared.zones.Logged.{Logged}
 use Rattle.core_model.specs.Sessions.{Session, Shown, value_at}
-use Rattle.core_model.specs.Trace.{Happening, Says, Flushes, Draws, Enters, Commits, Sets, Gives, Takes, Aborts, Calls, Fails, Trace, Gift, moments, lines, places, entered, committed, settled, aborted, gifts, taken, is_read, is_ok, has_stopped, has_read_fault, of_address, logged_of, gift_of, entries_of}
+use Rattle.core_model.specs.Trace.{Happening, Says, Flushes, Draws, Enters, Commits, Sets, Gives, Takes, Aborts, Calls, Fails, Trace, Gift, moments, lines, places, entered, committed, done, aborted, gifts, taken, is_read, is_ok, has_stopped, has_read_fault, of_address, logged_of, gift_of, entries_of}
 
 -- a request is begun and not answered
 pub record IsOpen (t : Trace) (w : Writer) : Type 0 where
   pub is_begun : w.number < begun w.stream (lines t)
   pub unanswered : IsNone (answer_of (lines t) w)
 
--- the entries of an address: all of them are settled; the last one is handed in and not committed; it is committed and
--- not settled
+-- the entries of an address: all of them are done; the last one is handed in and not committed; it is committed and
+-- not done
 pub record Quiet (t : Trace) (a : ℕ) : Type 0 where
   pub all_committed : of_address a (entered t) ≡ of_address a (committed t)
-  pub all_settled : of_address a (committed t) ≡ of_address a (settled t)
+  pub all_done : of_address a (committed t) ≡ of_address a (done t)
 
 pub record IsPending (t : Trace) (e : Logged) : Type 0 where
   pub last : of_address e.at.0 (entered t) ≡ e ∷ of_address e.at.0 (committed t)
-  pub others : of_address e.at.0 (committed t) ≡ of_address e.at.0 (settled t)
+  pub others : of_address e.at.0 (committed t) ≡ of_address e.at.0 (done t)
 
 pub record IsCommitted (t : Trace) (e : Logged) : Type 0 where
   pub all_committed : of_address e.at.0 (entered t) ≡ of_address e.at.0 (committed t)
-  pub last : of_address e.at.0 (committed t) ≡ e ∷ of_address e.at.0 (settled t)
+  pub last : of_address e.at.0 (committed t) ≡ e ∷ of_address e.at.0 (done t)
 
--- whatever was settled or given at an address has a lower place
+-- whatever was done or given at an address has a lower place
 pub record AllBelow (t : Trace) (a place : ℕ) : Type 0 where
-  pub writes : AllByRecursion (λ (e : Logged). e.at.0 ≡ a → e.place < place) (settled t)
+  pub writes : AllByRecursion (λ (e : Logged). e.at.0 ≡ a → e.place < place) (done t)
   pub reads : AllByRecursion (λ (g : Gift). g.at.0 ≡ a → g.place < place) (gifts t)
 
 -- a request has this place at its address
@@ -83,9 +83,9 @@ HasCause s t w (request.Read at) reply.ReadFault = IsSome (place_of (places t) w
 HasCause s t w (request.Read at) other = ⊥
 -- a write: its slot was set; its address isn't below the logical size; the session is stopped, and its slot isn't set; no
 -- block is left for it
-HasCause s t w (request.Write at bytes fua) reply.Ok = IsSome (logged_of (settled t) w)
+HasCause s t w (request.Write at bytes fua) reply.Ok = IsSome (logged_of (done t) w)
 HasCause s t w (request.Write at bytes fua) reply.Range = s.sizes.geometry.logical ≤ at.0
-HasCause s t w (request.Write at bytes fua) reply.Stopped = (has_stopped t ≡ true) × IsSome (place_of (places t) w) × IsNone (logged_of (settled t) w)
+HasCause s t w (request.Write at bytes fua) reply.Stopped = (has_stopped t ≡ true) × IsSome (place_of (places t) w) × IsNone (logged_of (done t) w)
 HasCause s t w (request.Write at bytes fua) reply.Full = IsSome (place_of (places t) w) × IsNone (logged_of (entered t) w) × IsFull s t
 HasCause s t w (request.Write at bytes fua) other = ⊥
 HasCause s t w (request.Discard at) a = ⊥
@@ -96,7 +96,7 @@ HasCause s t w request.Flush other = ⊥
 -- A write is stopped before it reached its zone: it was just begun.
 pub record IsStoppedAtOnce (t : Trace) (w : Writer) : Type 0 where
   pub stopped : has_stopped t ≡ true
-  pub unset : IsNone (logged_of (settled t) w)
+  pub unset : IsNone (logged_of (done t) w)
   pub older : Trace
   pub begun_last : t ≡ Says (line.Begin w) ∷ older
 
@@ -117,7 +117,7 @@ pub record PlaceMayFollow (s : Session) (p : Placed) (t : Trace) : Type 0 where
   pub next : IsNextPlace s.sizes.zones s.sizes.geometry.logical s.script (lines t) p (places t)
   pub not_entered : IsNone (logged_of (entered t) p.request)
 
--- an entry may be handed in, be committed, and be settled
+-- an entry may be handed in, be committed, and be done
 pub record EntryMayFollow (s : Session) (e : Logged) (t : Trace) : Type 0 where
   pub is_open : IsOpen t e.request
   pub is_write : IsWrite s t e
@@ -142,7 +142,7 @@ pub record SlotMayFollow (s : Session) (e : Logged) (t : Trace) : Type 0 where
 pub record AbortMayFollow (s : Session) (e : Logged) (t : Trace) : Type 0 where
   pub is_open : IsOpen t e.request
   pub handed_in : logged_of (entered t) e.request ≡ Some e
-  pub unset : IsNone (logged_of (settled t) e.request)
+  pub unset : IsNone (logged_of (done t) e.request)
   pub stopped : has_stopped t ≡ true
 
 -- a write may take the next free data block
@@ -165,9 +165,8 @@ GoesOn t call = is_read call ≡ false → has_stopped t ≡ false
 
 -- a read of the device is made for a read of an address that is mapped to its block, by the slots that are set
 abbrev pub IsMadeFor : Session → Trace → Writer → Call → Type 0
-IsMadeFor s t w (call.Read x bytes ok) = (at : Lba) × (request_at s.script w ≡ Some (request.Read at)) × (mapping_of (entries_of s.window (settled t)) at.0 ≡ At x)
-IsMadeFor s t w (call.Write x bytes ok) = Unit {0}
-IsMadeFor s t w (call.Flush ok) = Unit {0}
+IsMadeFor s t w (call.Read x bytes ok) = (at : Lba) × (request_at s.script w ≡ Some (request.Read at)) × (mapping_of (entries_of s.window (done t)) at.0 ≡ At x)
+IsMadeFor s t w other = Unit {0}
 
 -- a call may succeed, and one that was made for a request may fail
 pub record CallMayFollow (c : Call) (t : Trace) : Type 0 where
@@ -209,7 +208,7 @@ GivesRight s (other ∷ t) = GivesRight s t
 -- a write was handed in, and its slot isn't set
 pub record IsHeldBack (t : Trace) (e : Logged) : Type 0 where
   pub handed_in : logged_of (entered t) e.request ≡ Some e
-  pub unset : IsNone (logged_of (settled t) e.request)
+  pub unset : IsNone (logged_of (done t) e.request)
 
 -- no write or flush of the device follows one that failed, at any moment
 abbrev pub StopsAtFailure : Trace → Type 0

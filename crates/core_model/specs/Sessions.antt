@@ -19,7 +19,7 @@ use Rattle.core_model.specs.declared.sizes.Sizes.{Sizes}
 use Rattle.core_model.specs.declared.zones.Logged.{Logged}
 use Rattle.plain_laws.specs.Sums.{total}
 use Rattle.core_model.specs.Tokens.{is_block}
-use Rattle.core_model.specs.Trace.{Calls, Trace, calls, entered, committed, settled, of_address, newest, entry_of, entries_of}
+use Rattle.core_model.specs.Trace.{Calls, Trace, calls, entered, committed, done, of_address, newest, entry_of, entries_of}
 
 -- What is fixed: the sizes, the script, the blocks that the device had when its log began, its log before the session,
 -- the one image that a stop left then, the window of that image, and the data blocks that are free in it.
@@ -127,4 +127,4 @@ value_from s a None = value_of s.image s.window a
 value_from s a (Some e) = bytes_of s e
 
 abbrev pub value_at : Session → Trace → ℕ → List ℕ
-value_at s t a = value_from s a (newest (of_address a (settled t)))
+value_at s t a = value_from s a (newest (of_address a (done t)))

@@ -94,11 +94,11 @@ committed [] = []
 committed (Commits e ∷ t) = e ∷ committed t
 committed (other ∷ t) = committed t
 
--- those whose slot was set
-abbrev pub settled : Trace → List Logged
-settled [] = []
-settled (Sets e ∷ t) = e ∷ settled t
-settled (other ∷ t) = settled t
+-- those that are done: their slot was set. A write is answered when it is done, and that it is answered is another line
+abbrev pub done : Trace → List Logged
+done [] = []
+done (Sets e ∷ t) = e ∷ done t
+done (other ∷ t) = done t
 
 -- those that were aborted
 abbrev pub aborted : Trace → List Logged
@@ -121,8 +121,7 @@ taken (other ∷ t) = taken t
 -- a call of the device that reads, and one that succeeds
 abbrev pub is_read : Call → Bool
 is_read (Read at bytes ok) = true
-is_read (Write at bytes ok) = false
-is_read (Flush ok) = false
+is_read other = false
 
 abbrev pub is_ok : Call → Bool
 is_ok (Read at bytes ok) = ok

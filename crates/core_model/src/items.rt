@@ -59,7 +59,7 @@ pub struct Vio {
     pub place: u64,
     /// The mapping of its address when it took the lock.
     pub old: Mapping,
-    /// The last write of its address that was settled in this session when it took the lock.
+    /// The last write of its address that was done in this session when it took the lock.
     pub latest: Option<Logged>,
     /// The data block that it has taken, or that it reads; block 0 until then.
     pub block: Pbn,

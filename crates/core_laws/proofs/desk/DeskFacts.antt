@@ -33,7 +33,7 @@ use Rattle.core_model.specs.Facts.{HasAddress, ItemOk, DeskOk, KeptOk, IsEarned,
 use Rattle.core_model.specs.Zones.{desk_zone, notified_zones}
 use Rattle.core_model.specs.RightTraces.{RightTrace, IsOpen, HasCause, MayAnswer}
 use Rattle.core_model.specs.Sessions.{Session, IsSession, Shown}
-use Rattle.core_model.specs.Trace.{Says, Flushes, Trace, lines, moments, entered, settled, has_stopped, logged_of}
+use Rattle.core_model.specs.Trace.{Says, Flushes, Trace, lines, moments, entered, done, has_stopped, logged_of}
 use Rattle.core_model.specs.Vios.{Post, request_of, asked, begun_vio}
 use Rattle.core_laws.proofs.kept.ActKept.{ActKept, PostOk, shown_kept, unborn_place, unborn_entry, unborn_slot}
 use Rattle.core_laws.proofs.kept.Carried.{kept_kept}
@@ -79,7 +79,7 @@ once_notified : (notified : Bool) (b : Reply) → ◌≡◌ {A = Option Reply} (
 once_notified true b is = (refl, same_Some _ _ is)
 once_notified false b is = absurd cc
 
-pub once_cause : (s : Session) (t : Trace) (w : Writer) (notified : Bool) (r : Request) (v : Vio) (a : Reply) (older : Trace) → t ≡ Says (line.Begin w) ∷ older → vio_of s.sizes w r ≡ Some v → IsNone (logged_of (settled t) w) → (notified ≡ true → has_stopped t ≡ true)
+pub once_cause : (s : Session) (t : Trace) (w : Writer) (notified : Bool) (r : Request) (v : Vio) (a : Reply) (older : Trace) → t ≡ Says (line.Begin w) ∷ older → vio_of s.sizes w r ≡ Some v → IsNone (logged_of (done t) w) → (notified ≡ true → has_stopped t ≡ true)
     → at_once s.sizes notified v.asks v.at.0 ≡ Some a → MayAnswer s t w r a
 once_cause s t w notified (request.Read at) v a older last served unset heard_so is =
     let once : at_once s.sizes notified Read at.0 ≡ Some a = rw (← same_Some _ _ served) at is in

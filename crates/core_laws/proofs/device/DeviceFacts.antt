@@ -27,7 +27,7 @@ use Rattle.core_model.specs.LogicalRows.{mapped_by}
 use Rattle.core_model.specs.Zones.{logical_zones, notified}
 use Rattle.core_model.specs.RightTraces.{RightTrace, HasCause, FailureMayFollow, IsMadeFor}
 use Rattle.core_model.specs.Sessions.{Session, IsSession, HasHonestReads, value_at, value_from}
-use Rattle.core_model.specs.Trace.{Calls, Fails, Trace, calls, moments, places, entered, settled, is_ok, has_stopped, has_read_fault}
+use Rattle.core_model.specs.Trace.{Calls, Fails, Trace, calls, moments, places, entered, done, is_ok, has_stopped, has_read_fault}
 use Rattle.core_model.specs.Vios.{Post, asked, turned, ended}
 use Rattle.core_laws.proofs.kept.ActKept.{PostOk, ActKept}
 use Rattle.core_laws.proofs.kept.Carried.{vio_kept, holds_kept, looks_kept}
@@ -115,9 +115,9 @@ flush_mark s t n old v k ok = record {
 
 -- a call that fails is no success
 no_success : (c : Call) (older : List Call) → is_ok c ≡ false → successes (c ∷ older) ≡ successes older
-no_success (call.Read x bytes done) older fails = rw fails refl
-no_success (call.Write x bytes done) older fails = rw fails refl
-no_success (call.Flush done) older fails = rw fails refl
+no_success (call.Read x bytes over) older fails = rw fails refl
+no_success (call.Write x bytes over) older fails = rw fails refl
+no_success (call.Flush over) older fails = rw fails refl
 
 module _ (s : Session) (t : Trace) (n : ℕ) (old : DeviceZone) (v : Vio) (session : IsSession s) (right : RightTrace s t) (k : DeviceOk s t n old) (ok : ItemOk s t n (item.Request v))
     (apart : v.phase ≡ phase.Store → AllByRecursion (λ (e : Logged). v.block.0 ≢ e.block.0) (entered t)) where
@@ -133,10 +133,10 @@ module _ (s : Session) (t : Trace) (n : ℕ) (old : DeviceZone) (v : Vio) (sessi
   not_counted c false fails = k.calls_is
 
   -- the read of its block is made for it
-  made_for : (bytes : List ℕ) (done : Bool) → v.phase ≡ phase.Load → IsMadeFor s t v.request (call.Read v.block bytes done)
-  made_for bytes done is =
+  made_for : (bytes : List ℕ) (over : Bool) → v.phase ≡ phase.Load → IsMadeFor s t v.request (call.Read v.block bytes over)
+  made_for bytes over is =
       let carries = in_phase phase.Load is in
-      (v.at, ok.0.asked ∙ ap (λ q. Some (asked q v.at v.bytes)) carries.0.is_read, mapping_by s.window (settled t) v.at.0 ∙ ap (λ o. mapped_by o (mapping_of s.window v.at.0)) (sym carries.0.latest) ∙ carries.1)
+      (v.at, ok.0.asked ∙ ap (λ q. Some (asked q v.at v.bytes)) carries.0.is_read, mapping_by s.window (done t) v.at.0 ∙ ap (λ o. mapped_by o (mapping_of s.window v.at.0)) (sym carries.0.latest) ∙ carries.1)
 
   load_value : (bytes : List ℕ) → v.phase ≡ phase.Load → HasHonestReads s (Calls (call.Read v.block bytes true) ∷ t) → bytes ≡ value_at s t v.at.0
   load_value bytes is honest =

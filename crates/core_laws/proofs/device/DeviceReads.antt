@@ -12,9 +12,9 @@ use Rattle.core_model.specs.declared.zones.Logged.{Logged}
 use Rattle.core_model.specs.LogicalRows.{mapped_by}
 use Rattle.core_model.specs.RightTraces.{RightTrace, IsWrite}
 use Rattle.core_model.specs.Sessions.{Session, IsSession, log, Stands, ReadsAs, EachStands, AtRest, OnItsWay, IsFresh, HasPending, bytes_of, value_from}
-use Rattle.core_model.specs.Trace.{Trace, entered, committed, settled, of_address, newest}
+use Rattle.core_model.specs.Trace.{Trace, entered, committed, done, of_address, newest}
 use Rattle.core_laws.proofs.device.DataBlocks.{write_whole, window_whole}
-use Rattle.core_laws.proofs.trace.DeskOfTrace.{all_settled, each_of_address, settled_writes, shown_of}
+use Rattle.core_laws.proofs.trace.DeskOfTrace.{all_done, each_of_address, done_writes, shown_of}
 
 -- what stands is what a read gives
 pub stands_reads : (s : Session) (t : Trace) (x : ℕ) (bytes : List ℕ) → Stands s t x bytes → ReadsAs s t x bytes
@@ -47,20 +47,20 @@ newest_has P (f ∷ es) e is all = let same : f ≡ e = cc in subst P same all.0
 
 -- the block of the last write of an address stands, and is whole
 module _ (s : Session) (t : Trace) (session : IsSession s) (right : RightTrace s t) where
-  newest_of : (P : Logged → Type 0) (a : ℕ) (e : Logged) → newest (of_address a (settled t)) ≡ Some e → AllByRecursion P (settled t) → P e
-  newest_of P a e is all = newest_has P (of_address a (settled t)) e is (each_of_address P a (settled t) all)
+  newest_of : (P : Logged → Type 0) (a : ℕ) (e : Logged) → newest (of_address a (done t)) ≡ Some e → AllByRecursion P (done t) → P e
+  newest_of P a e is all = newest_has P (of_address a (done t)) e is (each_of_address P a (done t) all)
 
-  pub latest_stands : (a : ℕ) (e : Logged) → newest (of_address a (settled t)) ≡ Some e → HasBlockOf s t e
-  latest_stands a e is = newest_of (HasBlockOf s t) a e is (all_settled (HasBlockOf s t) s t right (each_all s t (committed t) (committed_stand s t right)))
+  pub latest_stands : (a : ℕ) (e : Logged) → newest (of_address a (done t)) ≡ Some e → HasBlockOf s t e
+  latest_stands a e is = newest_of (HasBlockOf s t) a e is (all_done (HasBlockOf s t) s t right (each_all s t (committed t) (committed_stand s t right)))
 
-  latest_whole : (a : ℕ) (e : Logged) → newest (of_address a (settled t)) ≡ Some e → length (bytes_of s e) ≡ 4096
+  latest_whole : (a : ℕ) (e : Logged) → newest (of_address a (done t)) ≡ Some e → length (bytes_of s e) ≡ 4096
   latest_whole a e is =
-      let write = newest_of (IsWrite s t) a e is (settled_writes s t right) in
+      let write = newest_of (IsWrite s t) a e is (done_writes s t right) in
       let value : bytes_of s e ≡ write.bytes = ap value_written write.asked in
       ap length value ∙ write_whole s e.request e.at write.bytes false session write.asked
 
   -- the value of an address, by its last write or the window
-  pub read_value : (a : ℕ) (latest : Option Logged) (x : Pbn) (bytes : List ℕ) → latest ≡ newest (of_address a (settled t)) → mapped_by latest (mapping_of s.window a) ≡ At x
+  pub read_value : (a : ℕ) (latest : Option Logged) (x : Pbn) (bytes : List ℕ) → latest ≡ newest (of_address a (done t)) → mapped_by latest (mapping_of s.window a) ≡ At x
       → length bytes ≡ 4096 → IsMixOf (device.settled s.blocks (log s t) x.0) bytes → bytes ≡ value_from s a latest
   read_value a None x bytes is maps size mix =
       let value : value_of s.image s.window a ≡ device.block_at s.image x.0 = ap (value_in s.image) maps in

@@ -32,7 +32,7 @@ use Rattle.core_laws.proofs.kept.Carried.{vio_kept, entered_kept}
 use Rattle.core_laws.proofs.device.DeviceCalls.{IsSpelled, spelled_block, entries_length, quiet_call, hardens, slot_way, slot_reads, slot_call}
 use Rattle.core_laws.proofs.device.DeviceFacts.{notices_ok}
 use Rattle.core_laws.proofs.journal.JournalPosts.{act_is}
-use Rattle.core_laws.proofs.kept.Spared.{SparesRequest, SparesAddress, below_kept, committed_at, settled_at, honest_before}
+use Rattle.core_laws.proofs.kept.Spared.{SparesRequest, SparesAddress, below_kept, committed_at, done_at, honest_before}
 use Rattle.core_laws.proofs.kept.StandsOn.{IsCallOf, succeeded, failed, SparesEntries, spares_all, block_spared, journal_spared, each_kept, rests_kept, way_kept}
 
 -- a block that has come further, by a call or by none
@@ -43,7 +43,7 @@ over s t h b next ok same of_request of_address stands = record {
   phase = ok.phase;
   is_entered = entered_kept s h t b.vio of_request ok.is_entered;
   last = same.entered_same ∙ ok.last ∙ ap (λ es. logged b.vio ∷ es) (sym same.committed_same);
-  others = committed_at h t b.vio.at.0 of_address ∙ ok.others ∙ sym (settled_at h t b.vio.at.0 of_address);
+  others = committed_at h t b.vio.at.0 of_address ∙ ok.others ∙ sym (done_at h t b.vio.at.0 of_address);
   below = below_kept h t b.vio.at.0 b.vio.place of_address ok.below;
   fresh = ok.fresh;
   old_held = ok.old_held;

@@ -85,7 +85,7 @@ module _ (s : Session) (t : Trace) (b : SealedBlock) (session : IsSession s) (ri
     (
       record { asked = ok.vio.asked; is_open = record { is_begun = ok.vio.is_open.is_begun; unanswered = ok.vio.is_open.unanswered }; address = ok.vio.address; home = ok.vio.home },
       (
-        record { is_write = ok.is_entered.is_write; placed = ok.is_entered.placed; entry = ok.is_entered.entry; unsettled = ok.is_entered.unsettled; unaborted = ok.is_entered.unaborted },
+        record { is_write = ok.is_entered.is_write; placed = ok.is_entered.placed; entry = ok.is_entered.entry; unset = ok.is_entered.unset; unaborted = ok.is_entered.unaborted },
         record {
           all_committed = ap (of_address b.vio.at.0) ok.last;
           last = of_same (logged b.vio) (committed t) ∙ ap (λ es. logged b.vio ∷ es) ok.others;
@@ -196,7 +196,7 @@ module _ (s : Session) (t : Trace) (n : ℕ) (old : JournalZone) (b : SealedBloc
             omega arith,
             (
               ended_ok s t b.vio phase.AbortEnteredClaim reply.Stopped ok.vio,
-              (ended_entered s t b.vio phase.AbortEnteredClaim reply.Stopped ok.is_entered, may_stop s t b.vio phase.AbortEnteredClaim ok.is_entered.is_write (stands_as stage.Fail is).1 ok.is_entered.placed ok.is_entered.unsettled, (stands_as stage.Fail is).1),
+              (ended_entered s t b.vio phase.AbortEnteredClaim reply.Stopped ok.is_entered, may_stop s t b.vio phase.AbortEnteredClaim ok.is_entered.is_write (stands_as stage.Fail is).1 ok.is_entered.placed ok.is_entered.unset, (stands_as stage.Fail is).1),
               refl,
             ),
           ),

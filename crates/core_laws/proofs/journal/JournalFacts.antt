@@ -17,7 +17,7 @@ use Rattle.core_model.specs.JournalRows.{JournalServes, is_closed, has_block, se
 use Rattle.core_model.specs.JournalRows as journal
 use Rattle.core_model.specs.RightTraces.{RightTrace, EntryMayFollow, IsFull}
 use Rattle.core_model.specs.Sessions.{Session, IsSession, AtRest}
-use Rattle.core_model.specs.Trace.{Enters, Trace, entered, committed, settled, has_stopped}
+use Rattle.core_model.specs.Trace.{Enters, Trace, entered, committed, done, has_stopped}
 use Rattle.core_model.specs.Vios.{Post, asked, logged}
 use Rattle.core_laws.proofs.trace.DeskOfTrace.{shown_of}
 use Rattle.core_laws.proofs.trace.AbortsOfTrace.{unentered_abort}
@@ -45,7 +45,7 @@ module _ (s : Session) (t : Trace) (v : Vio) (right : RightTrace s t) (ok : VioO
     idle = idle;
     quiet = carries.0.quiet;
     below = carries.0.below;
-    old_is = carries.0.old_is ∙ mapping_same s.window (settled t) (committed t) v.at.0 (sym carries.0.quiet.all_settled);
+    old_is = carries.0.old_is ∙ mapping_same s.window (done t) (committed t) v.at.0 (sym carries.0.quiet.all_done);
   }
 
   rest_now : AtRest s (Enters (logged v) ∷ t) (committed t)
@@ -70,11 +70,11 @@ module _ (s : Session) (t : Trace) (v : Vio) (right : RightTrace s t) (ok : VioO
       is_write = carries.1;
       placed = carries.0.is_placed.placed;
       entry = rw (same_self v.request) refl;
-      unsettled = unentered_slot s t v.request right carries.0.is_placed.not_entered;
+      unset = unentered_slot s t v.request right carries.0.is_placed.not_entered;
       unaborted = unentered_abort s t v.request right carries.0.is_placed.not_entered;
     };
     last = ap (λ es. logged v ∷ es) idle;
-    others = carries.0.quiet.all_settled;
+    others = carries.0.quiet.all_done;
     below = record { writes = carries.0.below.writes; reads = carries.0.below.reads };
     fresh = carries.2;
     old_held = carries.0.old_held;

@@ -18,7 +18,7 @@ use Rattle.core_model.specs.JournalRows.{refused, all_refused}
 use Rattle.core_model.specs.Zones.{zone_number, zone_count}
 use Rattle.core_model.specs.RightTraces.{RightTrace, HasPlace, HasCause, IsFull}
 use Rattle.core_model.specs.Sessions.{Session, IsSession}
-use Rattle.core_model.specs.Trace.{Trace, places, entered, settled, has_stopped, logged_of}
+use Rattle.core_model.specs.Trace.{Trace, places, entered, done, has_stopped, logged_of}
 use Rattle.core_model.specs.Vios.{Post, asked, turned, ended}
 use Rattle.core_laws.proofs.kept.ActKept.{PostOk, ActKept, unentered_slot}
 use Rattle.plain_laws.proofs.OptionLaws.{some_is}
@@ -45,10 +45,10 @@ ended_holds s t v next a k = record {
 }
 
 pub ended_entered : (s : Session) (t : Trace) (v : Vio) (next : Phase) (a : Answer) → IsEntered s t v → IsEntered s t (ended next a v)
-ended_entered s t v next a k = record { is_write = k.is_write; placed = k.placed; entry = k.entry; unsettled = k.unsettled; unaborted = k.unaborted }
+ended_entered s t v next a k = record { is_write = k.is_write; placed = k.placed; entry = k.entry; unset = k.unset; unaborted = k.unaborted }
 
 pub turned_entered : (s : Session) (t : Trace) (v : Vio) (next : Phase) → IsEntered s t v → IsEntered s t (turned next v)
-turned_entered s t v next k = record { is_write = k.is_write; placed = k.placed; entry = k.entry; unsettled = k.unsettled; unaborted = k.unaborted }
+turned_entered s t v next k = record { is_write = k.is_write; placed = k.placed; entry = k.entry; unset = k.unset; unaborted = k.unaborted }
 
 -- what its phase says that it carries
 pub carries_at : (s : Session) (t : Trace) (v : Vio) (q : Phase) → v.phase ≡ q → Carries s t v v.phase → Carries s t v q
@@ -56,7 +56,7 @@ carries_at s t v q is k = subst (λ (p : Phase). Carries s t v p) is k
 
 -- once the session is stopped, a write whose slot isn't set may be answered so; where no block is left for it, one that has
 -- its place and isn't handed in is answered `Full`
-cause_stopped : (s : Session) (t : Trace) (w : Writer) (q : Asks) (at : Lba) (bytes : List ℕ) → q ≡ Write → has_stopped t ≡ true → IsSome (place_of (places t) w) → IsNone (logged_of (settled t) w)
+cause_stopped : (s : Session) (t : Trace) (w : Writer) (q : Asks) (at : Lba) (bytes : List ℕ) → q ≡ Write → has_stopped t ≡ true → IsSome (place_of (places t) w) → IsNone (logged_of (done t) w)
     → HasCause s t w (asked q at bytes) reply.Stopped
 cause_stopped s t w q at bytes is stopped placed none = rw is (stopped, placed, none)
 
@@ -64,7 +64,7 @@ cause_full : (s : Session) (t : Trace) (w : Writer) (q : Asks) (at : Lba) (bytes
     → HasCause s t w (asked q at bytes) reply.Full
 cause_full s t w q at bytes is none some full = rw is (some, none, full)
 
-pub may_stop : (s : Session) (t : Trace) (v : Vio) (next : Phase) → v.asks ≡ Write → has_stopped t ≡ true → HasPlace s t v.request v.at.0 v.place → IsNone (logged_of (settled t) v.request)
+pub may_stop : (s : Session) (t : Trace) (v : Vio) (next : Phase) → v.asks ≡ Write → has_stopped t ≡ true → HasPlace s t v.request v.at.0 v.place → IsNone (logged_of (done t) v.request)
     → MayReply s t (ended next reply.Stopped v) (Some reply.Stopped)
 may_stop s t v next is stopped placed none = cause_stopped s t v.request v.asks v.at v.bytes is stopped (some_is _ _ placed) none
 

@@ -14,9 +14,9 @@ use Rattle.core_model.specs.Facts.{ItemOk, DataOk}
 use Rattle.core_model.specs.Zones.{zone_number, zone_count}
 use Rattle.core_model.specs.RightTraces.{MayFollow, RightTrace, GivesRight, IsWrite}
 use Rattle.core_model.specs.Sessions.{Session, HasHonestReads, Shown, HasPending, AtRest}
-use Rattle.core_model.specs.Trace.{Happening, Trace, lines, places, entered, committed, settled, logged_of}
+use Rattle.core_model.specs.Trace.{Happening, Trace, lines, places, entered, committed, done, logged_of}
 use Rattle.core_model.specs.Vios.{Post}
-use Rattle.core_laws.proofs.trace.DeskOfTrace.{logged_has, entered_writes, settled_is_entered}
+use Rattle.core_laws.proofs.trace.DeskOfTrace.{logged_has, entered_writes, done_is_entered}
 use Rattle.plain_laws.proofs.OptionLaws.{none_is, option_cases, not_both}
 use Rattle.vdo_model.proofs.NameLaws.{same_tells}
 use Rattle.core_laws.proofs.trace.PlacesOfTrace.{IsBegun, places_begun}
@@ -55,7 +55,7 @@ place_has P (q ∷ ps) w p had all = elim (same_tells q.request w) [
   | inr other ↦ place_has P ps w p (rw other.0 at had) all.1
 ]
 
--- A request that isn't begun has no place, and its entry wasn't handed in nor settled.
+-- A request that isn't begun has no place, and its entry wasn't handed in nor done.
 module _ (s : Session) (t : Trace) (w : Writer) (right : RightTrace s t) (late : begun w.stream (lines t) ≤ w.number) where
   no_begin : (v : Writer) → v ≡ w → v.number < begun v.stream (lines t) → ⊥
   no_begin v is early = let here = subst (λ (x : Writer). x.number < begun x.stream (lines t)) is early in omega (arith, here, late)
@@ -75,15 +75,15 @@ module _ (s : Session) (t : Trace) (w : Writer) (right : RightTrace s t) (late :
         absurd (no_begin some.0.request has.1 place.0)
   ]
 
-  pub unborn_slot : IsNone (logged_of (settled t) w)
-  unborn_slot = elim (option_cases (logged_of (settled t) w)) [
-    | inl none ↦ none_is (logged_of (settled t) w) none
-    | inr some ↦ let has = settled_is_entered s t w some.0 right some.1 in absurd (not_both (logged_of (entered t) w) some.0 unborn_entry has)
+  pub unborn_slot : IsNone (logged_of (done t) w)
+  unborn_slot = elim (option_cases (logged_of (done t) w)) [
+    | inl none ↦ none_is (logged_of (done t) w) none
+    | inr some ↦ let has = done_is_entered s t w some.0 right some.1 in absurd (not_both (logged_of (entered t) w) some.0 unborn_entry has)
   ]
 
--- one whose entry wasn't handed in isn't settled
-pub unentered_slot : (s : Session) (t : Trace) (w : Writer) → RightTrace s t → IsNone (logged_of (entered t) w) → IsNone (logged_of (settled t) w)
-unentered_slot s t w right none_entered = elim (option_cases (logged_of (settled t) w)) [
-  | inl none ↦ none_is (logged_of (settled t) w) none
-  | inr some ↦ let has = settled_is_entered s t w some.0 right some.1 in absurd (not_both (logged_of (entered t) w) some.0 none_entered has)
+-- one whose entry wasn't handed in isn't done
+pub unentered_slot : (s : Session) (t : Trace) (w : Writer) → RightTrace s t → IsNone (logged_of (entered t) w) → IsNone (logged_of (done t) w)
+unentered_slot s t w right none_entered = elim (option_cases (logged_of (done t) w)) [
+  | inl none ↦ none_is (logged_of (done t) w) none
+  | inr some ↦ let has = done_is_entered s t w some.0 right some.1 in absurd (not_both (logged_of (entered t) w) some.0 none_entered has)
 ]

@@ -20,9 +20,9 @@ use Rattle.core_model.specs.Facts.{VioOk, IsUnplaced, IsPlaced, Holds, Looks, Is
 use Rattle.core_model.specs.RightTraces.{HasCause}
 use Rattle.core_model.specs.Sessions.{Session, AtRest, OnItsWay}
 use Rattle.core_model.specs.Tokens.{holds}
-use Rattle.core_model.specs.Trace.{Happening, Trace, places, entered, committed, settled, gifts, newest, logged_of, gift_of}
+use Rattle.core_model.specs.Trace.{Happening, Trace, places, entered, committed, done, gifts, newest, logged_of, gift_of}
 use Rattle.core_model.specs.Vios.{logged, request_of}
-use Rattle.core_laws.proofs.kept.Spared.{SparesRequest, SparesAddress, open_kept, place_same, entry_same, slot_same, abort_same, gift_same, stop_kept, fault_kept, abort_kept, full_kept, mapping_same, quiet_kept, committed_kept, below_kept, mark_kept, honest_before, value_same, settled_at, committed_at}
+use Rattle.core_laws.proofs.kept.Spared.{SparesRequest, SparesAddress, open_kept, place_same, entry_same, slot_same, abort_same, gift_same, stop_kept, fault_kept, abort_kept, full_kept, mapping_same, quiet_kept, committed_kept, below_kept, mark_kept, honest_before, value_same, done_at, committed_at}
 use Rattle.core_laws.proofs.kept.StandsOn.{SparesBlock, SparesBlocks, SparesJournal, SparesEntries, stands_kept, reads_kept, rests_kept, way_kept, entry_reads_kept}
 
 -- the happening is about no such request, nor its address where it holds the lock, nor its block before it is handed in
@@ -47,7 +47,7 @@ SparesItem s t h item.StopNotice = Unit {0}
 pub record SaysSame (h : Happening) (t : Trace) (w : Writer) : Type 0 where
   pub of_place : place_of (places (h ∷ t)) w ≡ place_of (places t) w
   pub of_entry : logged_of (entered (h ∷ t)) w ≡ logged_of (entered t) w
-  pub of_slot : logged_of (settled (h ∷ t)) w ≡ logged_of (settled t) w
+  pub of_slot : logged_of (done (h ∷ t)) w ≡ logged_of (done t) w
   pub of_gift : gift_of (gifts (h ∷ t)) w ≡ gift_of (gifts t) w
 
 says_same : (h : Happening) (t : Trace) (w : Writer) → SparesRequest h w → SaysSame h t w
@@ -104,14 +104,14 @@ module _ (s : Session) (h : Happening) (t : Trace) where
     quiet = quiet_kept h t v.at.0 off k.quiet;
     below = below_kept h t v.at.0 v.place off k.below;
     old_held = k.old_held;
-    old_is = k.old_is ∙ sym (mapping_same s.window (settled (h ∷ t)) (settled t) v.at.0 (settled_at h t v.at.0 off));
+    old_is = k.old_is ∙ sym (mapping_same s.window (done (h ∷ t)) (done t) v.at.0 (done_at h t v.at.0 off));
   }
 
   pub looks_kept : (v : Vio) → SparesRequest h v.request → SparesAddress h v.at.0 → Looks s t v → Looks s (h ∷ t) v
   looks_kept v apart off k = record {
     held = holds_kept v apart off k.held;
     is_read = k.is_read;
-    latest = k.latest ∙ ap newest (sym (settled_at h t v.at.0 off));
+    latest = k.latest ∙ ap newest (sym (done_at h t v.at.0 off));
   }
 
   pub entered_kept : (v : Vio) → SparesRequest h v.request → IsEntered s t v → IsEntered s (h ∷ t) v
@@ -119,7 +119,7 @@ module _ (s : Session) (h : Happening) (t : Trace) where
     is_write = k.is_write;
     placed = place_same h t v.request apart ∙ k.placed;
     entry = entry_same h t v.request apart ∙ k.entry;
-    unsettled = rw (slot_same h t v.request apart) k.unsettled;
+    unset = rw (slot_same h t v.request apart) k.unset;
     unaborted = rw (abort_same h t v.request apart) k.unaborted;
   }
 
@@ -168,7 +168,7 @@ module _ (s : Session) (h : Happening) (t : Trace) where
         phase = k.phase;
         is_entered = entered_kept v spares.of_request k.is_entered;
         last = spares.of_entries.entered_same ∙ k.last ∙ ap (λ es. logged v ∷ es) (sym spares.of_entries.committed_same);
-        others = committed_at h t v.at.0 spares.of_address ∙ k.others ∙ sym (settled_at h t v.at.0 spares.of_address);
+        others = committed_at h t v.at.0 spares.of_address ∙ k.others ∙ sym (done_at h t v.at.0 spares.of_address);
         below = below_kept h t v.at.0 v.place spares.of_address k.below;
         fresh = k.fresh;
         old_held = k.old_held;

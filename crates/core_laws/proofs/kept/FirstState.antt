@@ -160,7 +160,7 @@ module _ (s : Session) (session : IsSession s) where
     below = λ a e. record { writes = tt; reads = tt };
     locks = subst (λ (locks : List Lock). AllByRecursion (LockOk s l) locks) (sym h.held) tt;
     once = λ a. omega (arith, ap (total (lock_weight a (λ p. true))) h.held);
-    quiet = λ a e free living. record { all_committed = refl; all_settled = refl };
+    quiet = λ a e free living. record { all_committed = refl; all_done = refl };
     waiting = subst (λ (vs : List Vio). AllByRecursion (WaitsOk s [] n l) vs) (sym h.waiting) tt;
     in_line = subst (λ (locks : List Lock). AllByRecursion (λ (lock : Lock). AllByRecursion (λ v. v.at.0 ≡ lock.at.0 → lock.place < v.place) l.waiting) locks) (sym h.held) tt;
     in_order = subst Rises (sym h.waiting) tt;

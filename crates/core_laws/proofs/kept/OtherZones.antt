@@ -25,13 +25,13 @@ use Rattle.core_model.specs.RightTraces.{AllBelow}
 use Rattle.core_model.specs.Sessions.{Session}
 use Rattle.plain_laws.specs.Sums.{Each}
 use Rattle.core_model.specs.Tokens.{Token}
-use Rattle.core_model.specs.Trace.{Happening, Says, Flushes, Draws, Enters, Commits, Sets, Gives, Takes, Aborts, Calls, Fails, Trace, Gift, lines, marks, places, entered, committed, settled, taken}
+use Rattle.core_model.specs.Trace.{Happening, Says, Flushes, Draws, Enters, Commits, Sets, Gives, Takes, Aborts, Calls, Fails, Trace, Gift, lines, marks, places, entered, committed, done, taken}
 use Rattle.core_laws.proofs.kept.Carried.{SparesItem}
 use Rattle.core_laws.proofs.kept.Elsewhere.{SealedEnters}
 use Rattle.plain_laws.proofs.ListLaws.{every-map, every_both}
 use Rattle.core_laws.proofs.tokens.Lift.{kept_by}
 use Rattle.core_laws.proofs.tokens.Owners.{HasNone}
-use Rattle.core_laws.proofs.kept.Spared.{SparesAddress, of_other, below_kept, settled_at}
+use Rattle.core_laws.proofs.kept.Spared.{SparesAddress, of_other, below_kept, done_at}
 use Rattle.core_laws.proofs.kept.StandsOn.{SparesJournal, SparesBlocks, SparesEntries, IsCallOf, succeeded, failed, spares_all}
 use Rattle.core_laws.proofs.kept.ZonesKept.{SparesRests, SparesData, SparesQueue, SparesZone}
 
@@ -144,7 +144,7 @@ module _ (s : Session) (t : Trace) (j : ℕ) where
   data_sets e (at.Logical l) ok other = record {
     same_places = refl;
     same_drawn = refl;
-    same_slots = λ a zone. of_other e (settled t) a (off_zone e.at.0 a l ok other zone);
+    same_slots = λ a zone. of_other e (done t) a (off_zone e.at.0 a l ok other zone);
     still_below = λ a zone place b. below_kept (Sets e) t a place (off_zone e.at.0 a l ok other zone) b;
     off_free = λ a zone free. off_zone e.at.0 a l ok other zone;
   }
@@ -222,7 +222,7 @@ module _ (s : Session) (t : Trace) (j : ℕ) where
   call_data h (at.Logical z) ok other m l p below off idle same took = record {
     same_places = ap (places_in z.zone) p;
     same_drawn = ap (drawn z.zone) p;
-    same_slots = λ a zone. settled_at h t a (off a);
+    same_slots = λ a zone. done_at h t a (off a);
     still_below = λ a zone place b. below a place b;
     off_free = λ a zone free. off a;
   }

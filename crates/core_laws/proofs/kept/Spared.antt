@@ -16,7 +16,7 @@ use Rattle.core_model.specs.declared.zones.Logged.{Logged}
 use Rattle.core_model.specs.LogicalRows.{mapped_by}
 use Rattle.core_model.specs.RightTraces.{IsOpen, Quiet, IsCommitted, AllBelow, HasBelow, IsFull}
 use Rattle.core_model.specs.Sessions.{Session, HasHonestReads, value_at}
-use Rattle.core_model.specs.Trace.{Happening, Says, Flushes, Draws, Enters, Commits, Sets, Gives, Takes, Aborts, Calls, Fails, Trace, moments, lines, places, entered, committed, settled, aborted, gifts, is_read, has_stopped, has_read_fault, of_address, newest, logged_of, gift_of, entries_of}
+use Rattle.core_model.specs.Trace.{Happening, Says, Flushes, Draws, Enters, Commits, Sets, Gives, Takes, Aborts, Calls, Fails, Trace, moments, lines, places, entered, committed, done, aborted, gifts, is_read, has_stopped, has_read_fault, of_address, newest, logged_of, gift_of, entries_of}
 
 -- the happening is about no such request
 abbrev pub SparesRequest : Happening → Writer → Type 0
@@ -58,7 +58,7 @@ pub entry_same : (h : Happening) (t : Trace) (w : Writer) → SparesRequest h w 
 entry_same (Enters e) t w apart = rw apart refl
 entry_same other t w apart = refl
 
-pub slot_same : (h : Happening) (t : Trace) (w : Writer) → SparesRequest h w → logged_of (settled (h ∷ t)) w ≡ logged_of (settled t) w
+pub slot_same : (h : Happening) (t : Trace) (w : Writer) → SparesRequest h w → logged_of (done (h ∷ t)) w ≡ logged_of (done t) w
 slot_same (Sets e) t w apart = rw apart refl
 slot_same other t w apart = refl
 
@@ -85,20 +85,20 @@ pub committed_at : (h : Happening) (t : Trace) (a : ℕ) → SparesAddress h a �
 committed_at (Commits e) t a apart = of_other e (committed t) a apart
 committed_at other t a apart = refl
 
-pub settled_at : (h : Happening) (t : Trace) (a : ℕ) → SparesAddress h a → of_address a (settled (h ∷ t)) ≡ of_address a (settled t)
-settled_at (Sets e) t a apart = of_other e (settled t) a apart
-settled_at other t a apart = refl
+pub done_at : (h : Happening) (t : Trace) (a : ℕ) → SparesAddress h a → of_address a (done (h ∷ t)) ≡ of_address a (done t)
+done_at (Sets e) t a apart = of_other e (done t) a apart
+done_at other t a apart = refl
 
 pub quiet_kept : (h : Happening) (t : Trace) (a : ℕ) → SparesAddress h a → Quiet t a → Quiet (h ∷ t) a
 quiet_kept h t a apart q = record {
   all_committed = entered_at h t a apart ∙ q.all_committed ∙ sym (committed_at h t a apart);
-  all_settled = committed_at h t a apart ∙ q.all_settled ∙ sym (settled_at h t a apart);
+  all_done = committed_at h t a apart ∙ q.all_done ∙ sym (done_at h t a apart);
 }
 
 pub committed_kept : (h : Happening) (t : Trace) (e : Logged) → SparesAddress h e.at.0 → IsCommitted t e → IsCommitted (h ∷ t) e
 committed_kept h t e apart q = record {
   all_committed = entered_at h t e.at.0 apart ∙ q.all_committed ∙ sym (committed_at h t e.at.0 apart);
-  last = committed_at h t e.at.0 apart ∙ q.last ∙ ap (λ es. e ∷ es) (sym (settled_at h t e.at.0 apart));
+  last = committed_at h t e.at.0 apart ∙ q.last ∙ ap (λ es. e ∷ es) (sym (done_at h t e.at.0 apart));
 }
 
 pub below_kept : (h : Happening) (t : Trace) (a place : ℕ) → SparesAddress h a → AllBelow t a place → AllBelow (h ∷ t) a place
@@ -166,4 +166,4 @@ pub mapping_same : (window : List Entry) (es fs : List Logged) (a : ℕ) → of_
 mapping_same window es fs a same = mapping_by window es a ∙ ap (λ xs. mapped_by (newest xs) (mapping_of window a)) same ∙ sym (mapping_by window fs a)
 
 pub value_same : (s : Session) (h : Happening) (t : Trace) (a : ℕ) → SparesAddress h a → value_at s (h ∷ t) a ≡ value_at s t a
-value_same s h t a apart = rw (settled_at h t a apart) refl
+value_same s h t a apart = rw (done_at h t a apart) refl

@@ -15,7 +15,7 @@ use Rattle.core_model.specs.LogicalRows.{is_held}
 use Rattle.core_model.specs.RightTraces.{AllBelow}
 use Rattle.core_model.specs.Sessions.{Session}
 use Rattle.plain_laws.specs.Sums.{Each}
-use Rattle.core_model.specs.Trace.{Happening, Trace, lines, calls, marks, places, entered, committed, settled, taken, has_stopped, of_address}
+use Rattle.core_model.specs.Trace.{Happening, Trace, lines, calls, marks, places, entered, committed, done, taken, has_stopped, of_address}
 use Rattle.core_laws.proofs.kept.Spared.{SparesAddress, quiet_kept, stop_kept, abort_kept}
 use Rattle.core_laws.proofs.kept.StandsOn.{SparesJournal, SparesBlocks, SparesEntries, rests_kept, pending_kept}
 use Rattle.core_laws.proofs.kept.Carried.{SparesVio, SparesItem, kept_kept, item_kept}
@@ -25,7 +25,7 @@ use Rattle.plain_laws.proofs.ListLaws.{every_both}
 pub record SparesLogical (s : Session) (t : Trace) (h : Happening) (l : LogicalZone) : Type 0 where
   pub same_places : places_in l.zone (places (h ∷ t)) ≡ places_in l.zone (places t)
   pub same_drawn : drawn l.zone (places (h ∷ t)) ≡ drawn l.zone (places t)
-  pub same_slots : (a : ℕ) → zone_of s.sizes.zones a ≡ l.zone → of_address a (settled (h ∷ t)) ≡ of_address a (settled t)
+  pub same_slots : (a : ℕ) → zone_of s.sizes.zones a ≡ l.zone → of_address a (done (h ∷ t)) ≡ of_address a (done t)
   pub still_below : (a : ℕ) → zone_of s.sizes.zones a ≡ l.zone → (place : ℕ) → AllBelow t a place → AllBelow (h ∷ t) a place
   pub off_free : (a : ℕ) → zone_of s.sizes.zones a ≡ l.zone → is_held a l.held ≡ false → SparesAddress h a
 

@@ -28,7 +28,7 @@ use Rattle.core_model.specs.LogicalRows.{is_among, is_held, mapping_at, LogicalS
 use Rattle.core_model.specs.RightTraces.{RightTrace, SlotMayFollow, GiftMayFollow, Quiet, IsCommitted, AllBelow, HasCause}
 use Rattle.core_model.specs.Sessions.{Session, IsSession, IsFresh, HasHonestReads, value_at}
 use Rattle.core_model.specs.Tokens.{holds}
-use Rattle.core_model.specs.Trace.{Sets, Gives, Aborts, Trace, Gift, places, entered, settled, has_stopped, of_address}
+use Rattle.core_model.specs.Trace.{Sets, Gives, Aborts, Trace, Gift, places, entered, done, has_stopped, of_address}
 use Rattle.core_model.specs.Vios.{Post, turned, ended, logged, gift, asked}
 use Rattle.core_laws.proofs.trace.DeskOfTrace.{shown_of}
 use Rattle.core_laws.proofs.kept.ActKept.{PostOk, ActKept, shown_kept}
@@ -98,14 +98,14 @@ module _ (s : Session) (session : IsSession s) (t : Trace) (right : RightTrace s
     right_set = (may_set, shown_kept s (Sets e) t (record { entered_same = refl; committed_same = refl }) tt (spares_all (Sets (logged v)) (λ x. tt) (entered t)) tt (λ a y there. tt) (shown_of s t right), right)
 
     quiet_set : Quiet t' v.at.0
-    quiet_set = record { all_committed = facts.1.all_committed; all_settled = facts.1.last ∙ sym (of_same e (settled t)) }
+    quiet_set = record { all_committed = facts.1.all_committed; all_done = facts.1.last ∙ sym (of_same e (done t)) }
 
     below_set : AllBelow t' v.at.0 (v.place + 1)
     below_set =
         let more = below_more t v.at.0 v.place (v.place + 1) (omega arith) facts.2 in
         record { writes = ((λ same. omega arith), more.writes); reads = more.reads }
 
-    same_slots : (a : ℕ) → zone_of s.sizes.zones a ≡ l.zone → of_address a (e ∷ l.slots) ≡ of_address a (e ∷ settled t)
+    same_slots : (a : ℕ) → zone_of s.sizes.zones a ≡ l.zone → of_address a (e ∷ l.slots) ≡ of_address a (e ∷ done t)
     same_slots a zone = rw (k.slots_are a zone) refl
 
     mapped_set : (a : ℕ) → HoldsMapping (mapping_at (with_slot l v) a)
@@ -202,7 +202,7 @@ module _ (s : Session) (session : IsSession s) (t : Trace) (right : RightTrace s
     right_give = (may_give, shown_kept s (Gives g) t (record { entered_same = refl; committed_same = refl }) tt (spares_all (Gives (gift v)) (λ x. tt) (entered t)) tt (λ a y there. tt) (shown_of s t right), right)
 
     quiet_same : (a : ℕ) → Quiet t a → Quiet u a
-    quiet_same a q = record { all_committed = q.all_committed; all_settled = q.all_settled }
+    quiet_same a q = record { all_committed = q.all_committed; all_done = q.all_done }
 
     below_give : AllBelow u v.at.0 (v.place + 1)
     below_give =
@@ -271,7 +271,7 @@ module _ (s : Session) (session : IsSession s) (t : Trace) (right : RightTrace s
 
     right_abort : RightTrace s gone
     right_abort = (
-      record { is_open = ok.is_open; handed_in = carries_it.0.entry; unset = carries_it.0.unsettled; stopped = carries_it.2 },
+      record { is_open = ok.is_open; handed_in = carries_it.0.entry; unset = carries_it.0.unset; stopped = carries_it.2 },
       shown_kept s (Aborts (logged v)) t (record { entered_same = refl; committed_same = refl }) tt (spares_all (Aborts (logged v)) (λ x. tt) (entered t)) tt (λ a y there. tt) (shown_of s t right),
       right,
     )

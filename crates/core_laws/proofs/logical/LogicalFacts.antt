@@ -132,7 +132,7 @@ module _ (s : Session) (t : Trace) (right : RightTrace s t) (n : ℕ) (l : Logic
     below' a m b = record { writes = b.writes; reads = b.reads }
 
     quiet' : (a : ℕ) → Quiet t a → Quiet t' a
-    quiet' a q = record { all_committed = q.all_committed; all_settled = q.all_settled }
+    quiet' a q = record { all_committed = q.all_committed; all_done = q.all_done }
 
     waits' : AllByRecursion (WaitsOk s t' n (drawn_by l v)) l.waiting
     waits' = every_both {P = λ (u : Vio). LacksRequest v.request (item.Request u)} {Q = WaitsOk s t n l} {R = WaitsOk s t' n (drawn_by l v)}

@@ -29,7 +29,7 @@ use Rattle.core_model.specs.RightTraces.{RightTrace, Quiet, AllBelow, HasBelow, 
 use Rattle.core_model.specs.Sessions.{Session, value_from, value_at}
 use Rattle.plain_laws.specs.Sums.{total, bit}
 use Rattle.core_model.specs.Tokens.{lock_weight}
-use Rattle.core_model.specs.Trace.{Trace, Gift, settled, aborted, gifts, has_stopped, of_address, newest, entries_of}
+use Rattle.core_model.specs.Trace.{Trace, Gift, done, aborted, gifts, has_stopped, of_address, newest, entries_of}
 use Rattle.core_model.specs.Vios.{Post, asked, request_of, turned, ended}
 use Rattle.core_laws.proofs.kept.ActKept.{PostOk, unentered_slot}
 use Rattle.core_laws.proofs.tokens.LeaseTokens.{Leased, without_same, without_other}
@@ -44,7 +44,7 @@ use Rattle.core_laws.proofs.kept.Spared.{mapping_by}
 -- below a greater place
 pub below_more : (t : Trace) (a m n : ℕ) → m ≤ n → AllBelow t a m → AllBelow t a n
 below_more t a m n less k = record {
-  writes = every-map {P = λ (e : Logged). e.at.0 ≡ a → e.place < m} {Q = λ (e : Logged). e.at.0 ≡ a → e.place < n} (λ e f same. (let g = f same in omega (arith, g, less))) (settled t) k.writes;
+  writes = every-map {P = λ (e : Logged). e.at.0 ≡ a → e.place < m} {Q = λ (e : Logged). e.at.0 ≡ a → e.place < n} (λ e f same. (let g = f same in omega (arith, g, less))) (done t) k.writes;
   reads = every-map {P = λ (g : Gift). g.at.0 ≡ a → g.place < m} {Q = λ (g : Gift). g.at.0 ≡ a → g.place < n} (λ g f same. (let h = f same in omega (arith, h, less))) (gifts t) k.reads;
 }
 
@@ -60,14 +60,14 @@ module _ (s : Session) (t : Trace) (n : ℕ) (l : LogicalZone) (k : LogicalOk s 
   zone_is : zone_of s.sizes.zones u.at.0 ≡ l.zone
   zone_is = let a = ap (zone_number s.sizes) ok.home in let b = k.number_is in omega (arith, a, b, home)
 
-  latest_is : latest_at l u.at.0 ≡ newest (of_address u.at.0 (settled t))
+  latest_is : latest_at l u.at.0 ≡ newest (of_address u.at.0 (done t))
   latest_is = ap newest (k.slots_are u.at.0 zone_is)
 
   mapping_is : mapping_at l u.at.0 ≡ mapped_by (latest_at l u.at.0) (mapping_of s.window u.at.0)
   mapping_is = ap (λ w. mapped_by (latest_at l u.at.0) (mapping_of w u.at.0)) k.window_is
 
-  old_is : mapping_at l u.at.0 ≡ mapping_of (entries_of s.window (settled t)) u.at.0
-  old_is = mapping_is ∙ ap (λ o. mapped_by o (mapping_of s.window u.at.0)) latest_is ∙ sym (mapping_by s.window (settled t) u.at.0)
+  old_is : mapping_at l u.at.0 ≡ mapping_of (entries_of s.window (done t)) u.at.0
+  old_is = mapping_is ∙ ap (λ o. mapped_by o (mapping_of s.window u.at.0)) latest_is ∙ sym (mapping_by s.window (done t) u.at.0)
 
   holds : Holds s t (looked l u)
   holds = record { is_placed = record { block_request = place.block_request; placed = place.placed; not_entered = place.not_entered }; quiet = quiet; below = below; old_held = k.mapped u.at.0; old_is = old_is }
@@ -75,7 +75,7 @@ module _ (s : Session) (t : Trace) (n : ℕ) (l : LogicalZone) (k : LogicalOk s 
   vio_ok : VioOk s t (looked l u)
   vio_ok = record { asked = ok.asked; is_open = ok.is_open; address = ok.address; home = ok.home }
 
-  -- a read of zeros: nothing was settled, and the window maps the address to no block
+  -- a read of zeros: nothing was done, and the window maps the address to no block
   unmapped : (o : Option Logged) (m opening : Mapping) → ((x : Pbn) → m ≢ At x) → m ≡ mapped_by o opening → (o ≡ None) × (opening ≡ m)
   unmapped None m opening off is = (refl, sym is)
   unmapped (Some e) m opening off is = absurd (off e.block is)
@@ -88,7 +88,7 @@ module _ (s : Session) (t : Trace) (n : ℕ) (l : LogicalZone) (k : LogicalOk s 
 
   module _ (is_read : u.asks ≡ Read) where
     looks : (v : Vio) → v.asks ≡ Read → Holds s t v → v.latest ≡ latest_at l u.at.0 → v.at.0 ≡ u.at.0 → Looks s t v
-    looks v read held is same = record { held = held; is_read = read; latest = is ∙ latest_is ∙ ap (λ a. newest (of_address a (settled t))) (sym same) }
+    looks v read held is same = record { held = held; is_read = read; latest = is ∙ latest_is ∙ ap (λ a. newest (of_address a (done t))) (sym same) }
 
     zero_ok : zero_block ≡ value_at s t u.at.0 → PostOk s t (id.Logical l.zone, item.Request (record (looked l u) { phase = phase.Loaded; bytes = zero_block }))
     zero_ok is =
@@ -264,7 +264,7 @@ module _ (s : Session) (t : Trace) (n : ℕ) (l : LogicalZone) (k : LogicalOk s 
           | inr there ↦ let old = once_without b in rw there.0 (omega (arith, old))
         ]
 
-    -- It goes on with a place above all that is settled or given at the address.
+    -- It goes on with a place above all that is done or given at the address.
     passes_ok : (w : Vio) → first_for v.at.0 l.waiting ≡ Some w → AllBelow t v.at.0 (v.place + 1) → (post : Post) → goes_on s.sizes l w ≡ Some post → PostOk s t post
     passes_ok w is below post goes =
         let has = first_has (WaitsOk s t n l) v.at.0 l.waiting w is k.waiting in

@@ -65,9 +65,9 @@ abbrev HasDone : Call → Type 0
 HasDone c = is_read c ≡ false → is_ok c ≡ true
 
 writes_failed : (c : Call) (b : Bool) → (not (is_read c) || b) ≡ false → is_read c ≡ false → ⊥
-writes_failed (call.Read x bytes done) b none writes = cc
-writes_failed (call.Write x bytes done) b none writes = cc
-writes_failed (call.Flush done) b none writes = cc
+writes_failed (call.Read x bytes over) b none writes = cc
+writes_failed (call.Write x bytes over) b none writes = cc
+writes_failed (call.Flush over) b none writes = cc
 
 pub all_done : (s : Session) (t : Trace) → RightTrace s t → has_stopped t ≡ false → AllByRecursion HasDone (calls t)
 all_done s [] right goes = tt

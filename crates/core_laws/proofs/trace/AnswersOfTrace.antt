@@ -20,11 +20,11 @@ use Rattle.vdo_model.specs.declared.report.Placed.{Placed}
 use Rattle.core_model.specs.declared.zones.Logged.{Logged}
 use Rattle.core_model.specs.Reports.{is_there, set_in, handed_in, drawn_histories}
 use Rattle.core_model.specs.Sessions.{Session}
-use Rattle.core_model.specs.Trace.{Says, Flushes, Enters, Sets, Fails, Trace, lines, places, entered, settled, logged_of}
+use Rattle.core_model.specs.Trace.{Says, Flushes, Enters, Sets, Fails, Trace, lines, places, entered, done, logged_of}
 use Rattle.core_model.specs.RightTraces.{RightTrace, MayAnswer}
 use Rattle.plain_laws.proofs.OptionLaws.{none_of}
 use Rattle.vdo_model.proofs.NameLaws.{same_tells}
-use Rattle.core_laws.proofs.trace.DeskOfTrace.{settled_is_entered}
+use Rattle.core_laws.proofs.trace.DeskOfTrace.{done_is_entered}
 use Rattle.core_laws.proofs.trace.PlaceWalks.{progress}
 use Rattle.core_laws.proofs.trace.PlacesOfTrace.{places_drawn}
 
@@ -55,10 +55,10 @@ there_some None is = absurd cc
 
 cause_says : (s : Session) (t : Trace) (w : Writer) (at : Lba) (bytes : List ℕ) (fua : Bool) (a : Reply) → at.0 < s.sizes.geometry.logical → MayAnswer s t w (request.Write at bytes fua) a
     → AnswerSays (set_in t w) (handed_in t w) (Some a)
-cause_says s t w at bytes fua reply.Ok below cause = there_true (logged_of (settled t) w) cause
+cause_says s t w at bytes fua reply.Ok below cause = there_true (logged_of (done t) w) cause
 cause_says s t w at bytes fua reply.Range below cause = absurd (omega arith)
-cause_says s t w at bytes fua reply.Stopped below (inl cause) = there_false (logged_of (settled t) w) cause.2
-cause_says s t w at bytes fua reply.Stopped below (inr at_once) = there_false (logged_of (settled t) w) at_once.unset
+cause_says s t w at bytes fua reply.Stopped below (inl cause) = there_false (logged_of (done t) w) cause.2
+cause_says s t w at bytes fua reply.Stopped below (inr at_once) = there_false (logged_of (done t) w) at_once.unset
 cause_says s t w at bytes fua reply.Full below cause = there_false (logged_of (entered t) w) cause.1
 cause_says s t w at bytes fua other below cause = absurd cause
 
@@ -115,8 +115,8 @@ discard_unanswered s (other ∷ t) w at right asked = discard_unanswered s t w a
 -- an entry whose slot is set was handed in
 pub set_is_handed : (s : Session) (t : Trace) (w : Writer) → RightTrace s t → set_in t w ≡ true → handed_in t w ≡ true
 set_is_handed s t w right set =
-    let e = there_some (logged_of (settled t) w) set in
-    ap is_there (settled_is_entered s t w e.0 right e.1)
+    let e = there_some (logged_of (done t) w) set in
+    ap is_there (done_is_entered s t w e.0 right e.1)
 
 -- the mark by an answer is the mark without it
 mark_said : (is_set handed : Bool) (o : Option Reply) → (is_set ≡ true → handed ≡ true) → AnswerSays is_set handed o → mark_of o is_set handed ≡ mark_of None is_set handed

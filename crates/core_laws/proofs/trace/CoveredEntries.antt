@@ -19,10 +19,10 @@ use Rattle.core_model.specs.declared.zones.Logged.{Logged}
 use Rattle.core_model.specs.Reports.{set_in, handed_in}
 use Rattle.core_model.specs.RightTraces.{RightTrace, IsWrite}
 use Rattle.core_model.specs.Sessions.{Session}
-use Rattle.core_model.specs.Trace.{Trace, Calls, lines, calls, entered, committed, settled, of_address, logged_of}
+use Rattle.core_model.specs.Trace.{Trace, Calls, lines, calls, entered, committed, done, of_address, logged_of}
 use Rattle.core_laws.proofs.trace.AnswersOfTrace.{AnswerSays, there_some, answer_says, set_is_handed}
 use Rattle.core_laws.proofs.trace.Cuts.{Cut, call_in_cut}
-use Rattle.core_laws.proofs.trace.DeskOfTrace.{AreApart, each_of_address, are_of_address, logged_has, desk_log_right, entered_apart, settled_writes, settled_is_committed}
+use Rattle.core_laws.proofs.trace.DeskOfTrace.{AreApart, each_of_address, are_of_address, logged_has, desk_log_right, entered_apart, done_writes, done_is_committed}
 use Rattle.core_laws.proofs.lists.EntryLists.{Has, has_it, has_at, has_older, not_in_both}
 use Rattle.core_laws.proofs.lists.LineLaws.{answer_later, answered_before, before_later}
 use Rattle.core_laws.proofs.trace.MarkCalls.{HasMark}
@@ -62,8 +62,8 @@ module _ (s : Session) (t : Trace) (right : RightTrace s t) where
       set_ok (handed_in t e.request) b (set_is_handed s t e.request right set) (subst (λ (is_set : Bool). AnswerSays is_set (handed_in t e.request) (Some b)) set says) in
       let set_old : set_in older e.request ≡ true =
       subst (AnswerSays (set_in older e.request) (handed_in older e.request)) (answer ∙ ap (λ (r : Reply). Some r) ok) (answer_says s older e.request e.at write.bytes false right_old write.asked below) in
-      let found = there_some (logged_of (settled older) e.request) set_old in
-      has_it (committed older) e.request found.0 (settled_is_committed s older e.request found.0 right_old found.1)
+      let found = there_some (logged_of (done older) e.request) set_old in
+      has_it (committed older) e.request found.0 (done_is_committed s older e.request found.0 right_old found.1)
 
   -- What was answered before a flush began is answered when the device's flush was called.
   answered_by_call : (f : FlushMark) (has : HasMark t f) (w : Writer) → is_answered (answer_of (before_begin (lines t) f.request) w) ≡ true
@@ -78,15 +78,15 @@ module _ (s : Session) (t : Trace) (right : RightTrace s t) where
       (subst (λ (ls : List DeskLine). is_answered (answer_of ls w) ≡ true) begins before)
 
   -- A settled write that was answered before a flush began was committed when the device's flush was called.
-  covered_committed : (f : FlushMark) (has : HasMark t f) (a : ℕ) (w : Writer) → a < s.sizes.geometry.logical → Has (of_address a (settled t)) w
+  covered_committed : (f : FlushMark) (has : HasMark t f) (a : ℕ) (w : Writer) → a < s.sizes.geometry.logical → Has (of_address a (done t)) w
       → is_answered (answer_of (before_begin (lines t) f.request) w) ≡ true → Has (committed (Calls (Flush true) ∷ has.older)) w
   covered_committed f has a w below set before =
-      let found = there_some (logged_of (of_address a (settled t)) w) set in
+      let found = there_some (logged_of (of_address a (done t)) w) set in
       let e = found.0 in
-      let facts = logged_has (λ (x : Logged). IsWrite s t x × (x.at.0 ≡ a)) (of_address a (settled t)) w e found.1
-      (each_both (IsWrite s t) (λ (x : Logged). x.at.0 ≡ a) (of_address a (settled t)) (each_of_address (IsWrite s t) a (settled t) (settled_writes s t right)) (are_of_address a (settled t))) in
+      let facts = logged_has (λ (x : Logged). IsWrite s t x × (x.at.0 ≡ a)) (of_address a (done t)) w e found.1
+      (each_both (IsWrite s t) (λ (x : Logged). x.at.0 ≡ a) (of_address a (done t)) (each_of_address (IsWrite s t) a (done t) (done_writes s t right)) (are_of_address a (done t))) in
       let name : w ≡ e.request = sym facts.1 in
-      let set_now : set_in t e.request ≡ true = subst (Has (settled t)) name (has_at a (settled t) w set) in
+      let set_now : set_in t e.request ≡ true = subst (Has (done t)) name (has_at a (done t) w set) in
       let answer = answered_by_call f has e.request (subst (λ (v : Writer). is_answered (answer_of (before_begin (lines t) f.request) v) ≡ true) name before) in
       subst (Has (committed (Calls (Flush true) ∷ has.older))) facts.1
       (answered_committed has.later (Calls (Flush true) ∷ has.older) has.parts e facts.0.0 (omega (arith, facts.0.1, below)) set_now answer.0 answer.1)
@@ -94,7 +94,7 @@ module _ (s : Session) (t : Trace) (right : RightTrace s t) where
   -- So no newer entry is covered than those that an image shows.
   pub not_covered : (prefix : List Call) (c : Cut t prefix) (newer_es es fewer : List Logged) → entered t ≡ newer_es ++ es → es ≡ fewer ++ committed c.older
       → (f : FlushMark) → HasMark t f → length_at (calls t) f.calls ≤ length prefix → (a : ℕ) → a < s.sizes.geometry.logical → (x : HistoryEntry)
-      → (is_lasting true x.mark ≡ false) ⊎ Has (of_address a newer_es) x.request → (is_settled x.mark ≡ true → Has (of_address a (settled t)) x.request)
+      → (is_lasting true x.mark ≡ false) ⊎ Has (of_address a newer_es) x.request → (is_settled x.mark ≡ true → Has (of_address a (done t)) x.request)
       → is_covered (lines t) f x ≡ true → ⊥
   not_covered prefix c newer_es es fewer of_entered has_committed f has by_then a below x of_newer there taken =
       let both = and_parts (is_settled x.mark) (is_answered (answer_of (before_begin (lines t) f.request) x.request)) taken in

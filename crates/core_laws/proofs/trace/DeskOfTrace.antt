@@ -1,4 +1,4 @@
--- The desk log of a right trace is well formed, and each settled entry is a committed one, each committed one an entered
+-- The desk log of a right trace is well formed, and each done entry is a committed one, each committed one an entered
 -- one.
 use Rattle.std.proofs.Common.{ℕ, ◌≡◌, ◌<◌, ◌==◌, List, [], ◌∷◌, Some, IsNone, refl, sym, ◌∙◌, subst, inl, inr, arith}
 use Rattle.std.proofs.lemmas.Option.{same_Some}
@@ -13,13 +13,13 @@ use Rattle.vdo_model.specs.declared.report.DeskLine.{DeskLine}
 use Rattle.vdo_model.specs.declared.report.DeskLine.TheVariants.{Begin, Answer}
 use Rattle.core_model.specs.declared.zones.Logged.{Logged}
 use Rattle.core_model.specs.Sessions.{Session, Shown}
-use Rattle.core_model.specs.Trace.{Happening, Sets, Trace, lines, entered, committed, settled, of_address, logged_of}
+use Rattle.core_model.specs.Trace.{Happening, Sets, Trace, lines, entered, committed, done, of_address, logged_of}
 use Rattle.core_model.specs.RightTraces.{RightTrace, IsWrite, MayFollow}
 use Rattle.plain_laws.proofs.ListLaws.{every-map}
 use Rattle.plain_laws.proofs.OptionLaws.{not_both, none_is, option_cases}
 use Rattle.plain_laws.proofs.ListLaws.{each_at}
 use Rattle.vdo_model.proofs.NameLaws.{same_tells, same_self}
-use Rattle.core_laws.proofs.trace.Growth.{desk_grows, entered_grows, committed_grows, settled_grows, begun_more, write_stays}
+use Rattle.core_laws.proofs.trace.Growth.{desk_grows, entered_grows, committed_grows, done_grows, begun_more, write_stays}
 
 -- the desk log is well formed
 pub desk_log_right : (s : Session) (t : Trace) → RightTrace s t → IsDeskLog s.sizes.depth s.script (lines t)
@@ -137,28 +137,28 @@ committed_stays s h t w e right may is = committed_grows (λ es. logged_of es w 
       | inr other ↦ rw other.0 is
     ])
 
--- each settled entry is a committed one
-pub settled_committed : (s : Session) (t : Trace) → RightTrace s t → AllByRecursion (IsKnown (committed t)) (settled t)
-settled_committed s [] right = tt
-settled_committed s (h ∷ t) right =
+-- each done entry is a committed one
+pub done_committed : (s : Session) (t : Trace) → RightTrace s t → AllByRecursion (IsKnown (committed t)) (done t)
+done_committed s [] right = tt
+done_committed s (h ∷ t) right =
     let stays : (e : Logged) → IsKnown (committed t) e → IsKnown (committed (h ∷ t)) e = λ e is. committed_stays s h t e.request e right.2 right.0 is in
-    let rest = every-map {P = IsKnown (committed t)} {Q = IsKnown (committed (h ∷ t))} stays (settled t) (settled_committed s t right.2) in
-    settled_grows (AllByRecursion (IsKnown (committed (h ∷ t)))) s h t right.0 rest (λ e came next.
+    let rest = every-map {P = IsKnown (committed t)} {Q = IsKnown (committed (h ∷ t))} stays (done t) (done_committed s t right.2) in
+    done_grows (AllByRecursion (IsKnown (committed (h ∷ t)))) s h t right.0 rest (λ e came next.
     let known = each_of_address (IsKnown (committed t)) e.at.0 (committed t) (committed_known s t right.2) in
     (stays e (each_at (IsKnown (committed t)) e _ _ next.is_committed.last known).0, rest))
 
--- what holds of all committed entries holds of all settled ones
-pub all_settled : (P : Logged → Type 0) (s : Session) (t : Trace) → RightTrace s t → AllByRecursion P (committed t) → AllByRecursion P (settled t)
-all_settled P s t right all = every-map {P = IsKnown (committed t)} {Q = P} (λ e is. (logged_has P (committed t) e.request e is all).0) (settled t) (settled_committed s t right)
+-- what holds of all committed entries holds of all done ones
+pub all_done : (P : Logged → Type 0) (s : Session) (t : Trace) → RightTrace s t → AllByRecursion P (committed t) → AllByRecursion P (done t)
+all_done P s t right all = every-map {P = IsKnown (committed t)} {Q = P} (λ e is. (logged_has P (committed t) e.request e is all).0) (done t) (done_committed s t right)
 
--- each settled entry is an entered one
-pub settled_entered : (s : Session) (t : Trace) → RightTrace s t → AllByRecursion (IsKnown (entered t)) (settled t)
-settled_entered s t right = all_settled (IsKnown (entered t)) s t right (committed_entered s t right)
+-- each done entry is an entered one
+pub done_entered : (s : Session) (t : Trace) → RightTrace s t → AllByRecursion (IsKnown (entered t)) (done t)
+done_entered s t right = all_done (IsKnown (entered t)) s t right (committed_entered s t right)
 
 -- the same by the names of requests
-pub settled_is_committed : (s : Session) (t : Trace) (w : Writer) (e : Logged) → RightTrace s t → logged_of (settled t) w ≡ Some e → logged_of (committed t) w ≡ Some e
-settled_is_committed s t w e right is =
-    let known = logged_has (IsKnown (committed t)) (settled t) w e is (settled_committed s t right) in
+pub done_is_committed : (s : Session) (t : Trace) (w : Writer) (e : Logged) → RightTrace s t → logged_of (done t) w ≡ Some e → logged_of (committed t) w ≡ Some e
+done_is_committed s t w e right is =
+    let known = logged_has (IsKnown (committed t)) (done t) w e is (done_committed s t right) in
     subst (λ (x : Writer). logged_of (committed t) x ≡ Some e) known.1 known.0
 
 -- a committed entry is an entered one
@@ -167,28 +167,28 @@ committed_is_entered s t w e right is =
     let known = logged_has (IsKnown (entered t)) (committed t) w e is (committed_entered s t right) in
     subst (λ (x : Writer). logged_of (entered t) x ≡ Some e) known.1 known.0
 
--- a settled entry is an entered one
-pub settled_is_entered : (s : Session) (t : Trace) (w : Writer) (e : Logged) → RightTrace s t → logged_of (settled t) w ≡ Some e → logged_of (entered t) w ≡ Some e
-settled_is_entered s t w e right is = committed_is_entered s t w e right (settled_is_committed s t w e right is)
+-- a done entry is an entered one
+pub done_is_entered : (s : Session) (t : Trace) (w : Writer) (e : Logged) → RightTrace s t → logged_of (done t) w ≡ Some e → logged_of (entered t) w ≡ Some e
+done_is_entered s t w e right is = committed_is_entered s t w e right (done_is_committed s t w e right is)
 
 -- the slot of a request is set once
-pub settled_once : (s : Session) (t : Trace) (e : Logged) → RightTrace s t → MayFollow s (Sets e) t → IsNone (logged_of (settled t) e.request)
-settled_once s t e right may = elim (option_cases (logged_of (settled t) e.request)) [
+pub done_once : (s : Session) (t : Trace) (e : Logged) → RightTrace s t → MayFollow s (Sets e) t → IsNone (logged_of (done t) e.request)
+done_once s t e right may = elim (option_cases (logged_of (done t) e.request)) [
   | inl none ↦ none_is _ none
   | inr some ↦
       let P : Logged → Type 0 = λ f. f.at.0 ≡ e.at.0 → f.place < e.place in
-      let below = (logged_has P (settled t) e.request some.0 some.1 may.below.writes).0 in
+      let below = (logged_has P (done t) e.request some.0 some.1 may.below.writes).0 in
       let known = each_of_address (IsKnown (committed t)) e.at.0 (committed t) (committed_known s t right) in
       let mine = (each_at (IsKnown (committed t)) e _ _ may.is_committed.last known).0 in
-      let same : some.0 ≡ e = same_Some _ _ (sym (settled_is_committed s t e.request some.0 right some.1) ∙ mine) in
+      let same : some.0 ≡ e = same_Some _ _ (sym (done_is_committed s t e.request some.0 right some.1) ∙ mine) in
       let less : e.place < e.place = subst P same below refl in
       absurd (omega (arith, less))
 ]
 
--- a settled entry stays settled
-pub settled_stays : (s : Session) (h : Happening) (t : Trace) (w : Writer) (e : Logged) → RightTrace s t → MayFollow s h t → logged_of (settled t) w ≡ Some e → logged_of (settled (h ∷ t)) w ≡ Some e
-settled_stays s h t w e right may is = settled_grows (λ es. logged_of es w ≡ Some e) s h t may is (λ f came next. elim (same_tells f.request w) [
-  | inl same ↦ absurd (not_both (logged_of (settled t) w) e (subst (λ (x : Writer). IsNone (logged_of (settled t) x)) same.1 (settled_once s t f right next)) is)
+-- a done entry stays done
+pub done_stays : (s : Session) (h : Happening) (t : Trace) (w : Writer) (e : Logged) → RightTrace s t → MayFollow s h t → logged_of (done t) w ≡ Some e → logged_of (done (h ∷ t)) w ≡ Some e
+done_stays s h t w e right may is = done_grows (λ es. logged_of es w ≡ Some e) s h t may is (λ f came next. elim (same_tells f.request w) [
+  | inl same ↦ absurd (not_both (logged_of (done t) w) e (subst (λ (x : Writer). IsNone (logged_of (done t) x)) same.1 (done_once s t f right next)) is)
   | inr other ↦ rw other.0 is
 ])
 
@@ -204,6 +204,6 @@ entered_writes s (h ∷ t) right =
 pub committed_writes : (s : Session) (t : Trace) → RightTrace s t → AllByRecursion (IsWrite s t) (committed t)
 committed_writes s t right = all_committed (IsWrite s t) s t right (entered_writes s t right)
 
--- and each settled one
-pub settled_writes : (s : Session) (t : Trace) → RightTrace s t → AllByRecursion (IsWrite s t) (settled t)
-settled_writes s t right = all_settled (IsWrite s t) s t right (committed_writes s t right)
+-- and each done one
+pub done_writes : (s : Session) (t : Trace) → RightTrace s t → AllByRecursion (IsWrite s t) (done t)
+done_writes s t right = all_done (IsWrite s t) s t right (committed_writes s t right)

@@ -11,7 +11,7 @@ use Rattle.vdo_model.specs.declared.report.DeskLine.TheVariants.{Begin, Answer}
 use Rattle.vdo_model.specs.declared.report.Placed.{Placed}
 use Rattle.core_model.specs.declared.zones.Logged.{Logged}
 use Rattle.core_model.specs.Sessions.{Session}
-use Rattle.core_model.specs.Trace.{Happening, Says, Flushes, Draws, Enters, Commits, Sets, Gives, Fails, Trace, Gift, lines, places, entered, committed, settled, gifts, logged_of}
+use Rattle.core_model.specs.Trace.{Happening, Says, Flushes, Draws, Enters, Commits, Sets, Gives, Fails, Trace, Gift, lines, places, entered, committed, done, gifts, logged_of}
 use Rattle.core_model.specs.RightTraces.{IsWrite, MayFollow, PlaceMayFollow, EntryMayFollow, CommitMayFollow, SlotMayFollow, GiftMayFollow}
 use Rattle.plain_laws.proofs.OptionLaws.{not_both}
 use Rattle.vdo_model.proofs.NameLaws.{same_tells}
@@ -45,11 +45,11 @@ pub committed_grows : (P : List Logged → Type 0) (s : Session) (h : Happening)
 committed_grows P s (Commits e) t may same grown = grown e refl may
 committed_grows P s other t may same grown = same
 
--- the settled ones
-pub settled_grows : (P : List Logged → Type 0) (s : Session) (h : Happening) (t : Trace) → MayFollow s h t → P (settled t)
-    → ((e : Logged) → h ≡ Sets e → SlotMayFollow s e t → P (e ∷ settled t)) → P (settled (h ∷ t))
-settled_grows P s (Sets e) t may same grown = grown e refl may
-settled_grows P s other t may same grown = same
+-- the done ones
+pub done_grows : (P : List Logged → Type 0) (s : Session) (h : Happening) (t : Trace) → MayFollow s h t → P (done t)
+    → ((e : Logged) → h ≡ Sets e → SlotMayFollow s e t → P (e ∷ done t)) → P (done (h ∷ t))
+done_grows P s (Sets e) t may same grown = grown e refl may
+done_grows P s other t may same grown = same
 
 -- the gifts
 pub gifts_grow : (P : List Gift → Type 0) (s : Session) (h : Happening) (t : Trace) → MayFollow s h t → P (gifts t)

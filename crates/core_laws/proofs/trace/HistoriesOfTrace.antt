@@ -17,14 +17,14 @@ use Rattle.vdo_model.specs.declared.report.Placed.{Placed}
 use Rattle.core_model.specs.declared.zones.Logged.{Logged}
 use Rattle.core_model.specs.Reports.{is_there, set_in, handed_in, drawn_histories}
 use Rattle.core_model.specs.Sessions.{Session}
-use Rattle.core_model.specs.Trace.{Trace, lines, places, entered, settled, of_address, logged_of}
+use Rattle.core_model.specs.Trace.{Trace, lines, places, entered, done, of_address, logged_of}
 use Rattle.core_model.specs.RightTraces.{RightTrace, IsWrite}
 use Rattle.plain_laws.proofs.ListLaws.{every-map}
 use Rattle.plain_laws.proofs.ListLaws.{each_both}
 use Rattle.vdo_model.proofs.NameLaws.{same_tells}
-use Rattle.core_laws.proofs.trace.DeskOfTrace.{each_of_address, are_of_address, entered_writes, settled_writes}
+use Rattle.core_laws.proofs.trace.DeskOfTrace.{each_of_address, are_of_address, entered_writes, done_writes}
 use Rattle.core_laws.proofs.trace.PlacesOfTrace.{places_drawn}
-use Rattle.core_laws.proofs.trace.TurnsOfTrace.{entered_falling, settled_falling}
+use Rattle.core_laws.proofs.trace.TurnsOfTrace.{entered_falling, done_falling}
 use Rattle.core_laws.proofs.trace.WalkLaws.{Walks}
 use Rattle.core_laws.proofs.trace.PlaceWalks.{IsPut, Fits, places_walk}
 use Rattle.core_laws.proofs.trace.AnswersOfTrace.{set_is_handed, histories_are}
@@ -89,13 +89,13 @@ entered_walks s t a right =
     (places_drawn s t right) (entered_falling s t a right) (writes_put s t a (entered t) writes) fits)
 
 -- and those whose slots were set: its settled entries stand for these
-pub settled_walks : (s : Session) (t : Trace) (a : ℕ) → RightTrace s t → Walks is_settled (history_of (drawn_histories s t) a) (of_address a (settled t))
+pub settled_walks : (s : Session) (t : Trace) (a : ℕ) → RightTrace s t → Walks is_settled (history_of (drawn_histories s t) a) (of_address a (done t))
 settled_walks s t a right =
-    let writes = settled_writes s t right in
-    let fits : AllByRecursion (Fits is_settled s.script (set_in t) (handed_in t) a (of_address a (settled t))) (places t) =
+    let writes = done_writes s t right in
+    let fits : AllByRecursion (Fits is_settled s.script (set_in t) (handed_in t) a (of_address a (done t))) (places t) =
     every _ (places t) (λ p r asked has.
     settled_is (set_in t p.request) (handed_in t p.request)
-    ∙ ap is_there (sym (logged_at s t a (settled t) p.request r writes asked has))) in
-    subst (λ (hs : List HistoryEntry). Walks is_settled (history_of hs a) (of_address a (settled t))) (sym (histories_are s t right))
-    (places_walk is_settled s.sizes.zones s.sizes.geometry.logical s.script (lines t) (set_in t) (handed_in t) (zone_of s.sizes.zones a) a (places t) (of_address a (settled t))
-    (places_drawn s t right) (settled_falling s t a right) (writes_put s t a (settled t) writes) fits)
+    ∙ ap is_there (sym (logged_at s t a (done t) p.request r writes asked has))) in
+    subst (λ (hs : List HistoryEntry). Walks is_settled (history_of hs a) (of_address a (done t))) (sym (histories_are s t right))
+    (places_walk is_settled s.sizes.zones s.sizes.geometry.logical s.script (lines t) (set_in t) (handed_in t) (zone_of s.sizes.zones a) a (places t) (of_address a (done t))
+    (places_drawn s t right) (done_falling s t a right) (writes_put s t a (done t) writes) fits)

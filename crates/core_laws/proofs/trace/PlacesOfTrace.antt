@@ -15,13 +15,13 @@ use Rattle.vdo_model.specs.declared.report.DeskLine.{DeskLine}
 use Rattle.vdo_model.specs.declared.report.DeskLine.TheVariants.{Begin, Answer}
 use Rattle.vdo_model.specs.declared.report.Placed.{Placed}
 use Rattle.core_model.specs.Sessions.{Session}
-use Rattle.core_model.specs.Trace.{Happening, Says, Flushes, Draws, Fails, Trace, Gift, lines, places, settled, gifts, logged_of, gift_of}
+use Rattle.core_model.specs.Trace.{Happening, Says, Flushes, Draws, Fails, Trace, Gift, lines, places, done, gifts, logged_of, gift_of}
 use Rattle.core_model.specs.RightTraces.{RightTrace, IsWrite, HasPlace, IsStoppedAtOnce, MayAnswer, MayFollow}
 use Rattle.plain_laws.proofs.ListLaws.{every-map}
 use Rattle.plain_laws.proofs.OptionLaws.{some_is, some_of}
 use Rattle.vdo_model.proofs.NameLaws.{same_tells}
 use Rattle.core_laws.proofs.trace.Growth.{places_grow, gifts_grow, begun_stays, before_stays, place_stays}
-use Rattle.core_laws.proofs.trace.DeskOfTrace.{logged_has, settled_writes}
+use Rattle.core_laws.proofs.trace.DeskOfTrace.{logged_has, done_writes}
 
 -- each place is of a request that was begun
 abbrev pub IsBegun : Trace → Placed → Type 0
@@ -110,10 +110,10 @@ gift_placed s t w g right is =
     let has = gift_has (IsPlacedGift s t) (gifts t) w g is (gifts_placed s t right) in
     some_is _ _ (subst (λ (x : Writer). HasPlace s t x g.at.0 g.place) has.1 has.0)
 
-settled_placed : (s : Session) (t : Trace) (w : Writer) → RightTrace s t → IsSome (logged_of (settled t) w) → IsSome (place_of (places t) w)
-settled_placed s t w right some =
+done_placed : (s : Session) (t : Trace) (w : Writer) → RightTrace s t → IsSome (logged_of (done t) w) → IsSome (place_of (places t) w)
+done_placed s t w right some =
     let e = some_of _ some in
-    let has = logged_has (IsWrite s t) (settled t) w e.0 e.1 (settled_writes s t right) in
+    let has = logged_has (IsWrite s t) (done t) w e.0 e.1 (done_writes s t right) in
     some_is _ _ (subst (λ (x : Writer). HasPlace s t x e.0.at.0 e.0.place) has.1 has.0.placed)
 
 -- why a block request below the logical size was answered: it has a place, or was stopped at once
@@ -124,7 +124,7 @@ cause_placed s t w (request.Read at) a reply.Range right has below cause = let i
 cause_placed s t w (request.Read at) a reply.Stopped right has below cause = inl (some_is _ _ cause.1.placed)
 cause_placed s t w (request.Read at) a reply.ReadFault right has below cause = inl cause.0
 cause_placed s t w (request.Read at) a other right has below cause = absurd cause
-cause_placed s t w (request.Write at bytes fua) a reply.Ok right has below cause = inl (settled_placed s t w right cause)
+cause_placed s t w (request.Write at bytes fua) a reply.Ok right has below cause = inl (done_placed s t w right cause)
 cause_placed s t w (request.Write at bytes fua) a reply.Range right has below cause = let is : at.0 ≡ a = same_Some _ _ has in absurd (omega arith)
 cause_placed s t w (request.Write at bytes fua) a reply.Stopped right has below (inl cause) = inl cause.1
 cause_placed s t w (request.Write at bytes fua) a reply.Stopped right has below (inr at_once) = inr (refl, at_once)

@@ -19,13 +19,13 @@ use Rattle.vdo_model.specs.declared.report.Placed.{Placed}
 use Rattle.core_model.specs.declared.zones.Logged.{Logged}
 use Rattle.core_model.specs.Reports.{opening_values, drawn_histories}
 use Rattle.core_model.specs.Sessions.{Session, IsSession, bytes_of, value_from}
-use Rattle.core_model.specs.Trace.{Says, Flushes, Sets, Gives, Fails, Trace, Gift, lines, places, settled, gifts, of_address, newest, gift_of}
+use Rattle.core_model.specs.Trace.{Says, Flushes, Sets, Gives, Fails, Trace, Gift, lines, places, done, gifts, of_address, newest, gift_of}
 use Rattle.core_model.specs.RightTraces.{RightTrace, GivesRight, HasCause}
 use Rattle.plain_laws.proofs.ListLaws.{every-map}
 use Rattle.plain_laws.proofs.OptionLaws.{not_both}
 use Rattle.plain_laws.proofs.ListLaws.{each_both}
 use Rattle.vdo_model.proofs.NameLaws.{same_tells}
-use Rattle.core_laws.proofs.trace.DeskOfTrace.{settled_writes}
+use Rattle.core_laws.proofs.trace.DeskOfTrace.{done_writes}
 use Rattle.core_laws.proofs.trace.PlacesOfTrace.{gifts_placed, gift_has, IsPlacedGift}
 use Rattle.core_laws.proofs.trace.TurnsOfTrace.{below_at}
 use Rattle.core_laws.proofs.trace.WalkLaws.{Walks}
@@ -48,11 +48,11 @@ later_before s e es a n less = rw (le-ltb e.place n (omega arith)) refl
 
 -- a gift has the value of its address below its place
 abbrev pub IsRightGift : Session → Trace → Gift → Type 0
-IsRightGift s t g = g.bytes ≡ value_before s (of_address g.at.0 (settled t)) g.at.0 g.place
+IsRightGift s t g = g.bytes ≡ value_before s (of_address g.at.0 (done t)) g.at.0 g.place
 
 gift_after : (s : Session) (e : Logged) (t : Trace) (g : Gift) → (g.at.0 ≡ e.at.0 → g.place < e.place) → IsRightGift s t g → IsRightGift s (Sets e ∷ t) g
 gift_after s e t g less is = elim (eqb_tells e.at.0 g.at.0) [
-  | inl same ↦ rw same.0 (is ∙ sym (later_before s e (of_address g.at.0 (settled t)) g.at.0 g.place (less (sym same.1))))
+  | inl same ↦ rw same.0 (is ∙ sym (later_before s e (of_address g.at.0 (done t)) g.at.0 g.place (less (sym same.1))))
   | inr other ↦ rw other.0 is
 ]
 
@@ -63,7 +63,7 @@ gifts_right s (Sets e ∷ t) right gives =
     let below : Gift → Type 0 = λ g. g.at.0 ≡ e.at.0 → g.place < e.place in
     every-map {P = λ g. below g × IsRightGift s t g} {Q = IsRightGift s (Sets e ∷ t)} (λ g is. gift_after s e t g is.0 is.1) (gifts t) (each_both below (IsRightGift s t) (gifts t) right.0.below.reads (gifts_right s t right.2 gives))
 gifts_right s (Gives g ∷ t) right gives = (
-  gives.0 ∙ sym (newest_before s (of_address g.at.0 (settled t)) g.at.0 g.place (below_at t g.at.0 g.place right.0.below)),
+  gives.0 ∙ sym (newest_before s (of_address g.at.0 (done t)) g.at.0 g.place (below_at t g.at.0 g.place right.0.below)),
   gifts_right s t right.2 gives.1,
 )
 gifts_right s (other ∷ t) right gives = gifts_right s t right.2 gives
@@ -122,6 +122,6 @@ reads_right s t is right gives w at bytes p asked answered placed =
     let has = (gift_has (IsPlacedGift s t) (gifts t) w g given (gifts_placed s t right)).0 in
     let p_is = same_Some p _ (sym placed ∙ has) in
     let place_is : p.place ≡ place = ap (λ (x : Placed). x.place) p_is in
-    let puts = writes_put s t at.0 (settled t) (settled_writes s t right) in
-    let walked = walk_value s (places t) (zone_of s.sizes.zones at.0) at.0 place (history_of (drawn_histories s t) at.0) (of_address at.0 (settled t)) puts (settled_walks s t at.0 right) in
+    let puts = writes_put s t at.0 (done t) (done_writes s t right) in
+    let walked = walk_value s (places t) (zone_of s.sizes.zones at.0) at.0 place (history_of (drawn_histories s t) at.0) (of_address at.0 (done t)) puts (settled_walks s t at.0 right) in
     subst (λ (n : ℕ). bytes ≡ value_below s.script (places t) (opening_values s at.0) (history_of (drawn_histories s t) at.0) n) (sym place_is) (value ∙ sym walked)

@@ -17,7 +17,7 @@ use Rattle.core_model.specs.declared.zones.Logged.{Logged}
 use Rattle.core_model.specs.Reports.{ShowsValues, opening_values, report_of, drawn_histories}
 use Rattle.core_model.specs.RightTraces.{RightTrace, IsWrite}
 use Rattle.core_model.specs.Sessions.{Session, IsSession, bytes_of, value_from, log}
-use Rattle.core_model.specs.Trace.{Trace, Calls, lines, calls, marks, places, entered, committed, settled, of_address, newest, entries_of}
+use Rattle.core_model.specs.Trace.{Trace, Calls, lines, calls, marks, places, entered, committed, done, of_address, newest, entries_of}
 use Rattle.plain_laws.proofs.ListLaws.{every-map}
 use Rattle.core_laws.proofs.trace.BegunEntries.{IsBegunBy, entered_begun}
 use Rattle.core_laws.proofs.trace.CoveredEntries.{not_covered}
@@ -73,9 +73,9 @@ module _ (s : Session) (t : Trace) (session : IsSession s) (right : RightTrace s
       let walks : Walks (is_lasting true) history (of_address a newer_es ++ of_address a es) =
       subst (Walks (is_lasting true) history) (ap (of_address a) all_entered ∙ of_address_append a newer_es es) (entered_walks s t a right) in
       let parts = shown_part history (of_address a newer_es) (of_address a es) walks in
-      let there = each_newer (λ (x : HistoryEntry). is_settled x.mark ≡ true → Has (of_address a (settled t)) x.request) parts.newer parts.shown
-      (subst (AllByRecursion (λ (x : HistoryEntry). is_settled x.mark ≡ true → Has (of_address a (settled t)) x.request)) parts.part
-      (each_there is_settled history (of_address a (settled t)) (settled_walks s t a right))) in
+      let there = each_newer (λ (x : HistoryEntry). is_settled x.mark ≡ true → Has (of_address a (done t)) x.request) parts.newer parts.shown
+      (subst (AllByRecursion (λ (x : HistoryEntry). is_settled x.mark ≡ true → Has (of_address a (done t)) x.request)) parts.part
+      (each_there is_settled history (of_address a (done t)) (settled_walks s t a right))) in
       let facts = each_both _ _ parts.newer parts.of_newer there in
       record {
         newer = parts.newer;

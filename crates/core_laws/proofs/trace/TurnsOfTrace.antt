@@ -1,10 +1,10 @@
--- The entries of an address take turns: one is handed in, committed and settled before the next, at a higher place.
+-- The entries of an address take turns: one is handed in, committed and done before the next, at a higher place.
 use Rattle.std.proofs.Common.{ℕ, ◌≡◌, ◌⊎◌, ◌<◌, ◌==◌, false, List, [], ◌∷◌, length, refl, sym, ◌∙◌, ap, subst, inl, inr, arith}
 use Rattle.std.proofs.lemmas.Bool.Decides.{eqb_tells}
 use Rattle.std.specs.List.{AllByRecursion}
 use Rattle.core_model.specs.declared.zones.Logged.{Logged}
 use Rattle.core_model.specs.Sessions.{Session}
-use Rattle.core_model.specs.Trace.{Enters, Commits, Sets, Trace, entered, committed, settled, of_address}
+use Rattle.core_model.specs.Trace.{Enters, Commits, Sets, Trace, entered, committed, done, of_address}
 use Rattle.core_model.specs.RightTraces.{RightTrace, Quiet, AllBelow}
 use Rattle.plain_laws.proofs.ListLaws.{every-map}
 use Rattle.plain_laws.proofs.ListLaws.{each_both}
@@ -15,13 +15,13 @@ use Rattle.core_laws.proofs.trace.DeskOfTrace.{each_of_address, are_of_address}
 pub record HasPendingAt (t : Trace) (a : ℕ) : Type 0 where
   pub entry : Logged
   pub last : of_address a (entered t) ≡ entry ∷ of_address a (committed t)
-  pub others : of_address a (committed t) ≡ of_address a (settled t)
+  pub others : of_address a (committed t) ≡ of_address a (done t)
 
--- the last entry of an address is committed and not settled
+-- the last entry of an address is committed and not done
 pub record HasCommittedAt (t : Trace) (a : ℕ) : Type 0 where
   pub entry : Logged
   pub all_committed : of_address a (entered t) ≡ of_address a (committed t)
-  pub last : of_address a (committed t) ≡ entry ∷ of_address a (settled t)
+  pub last : of_address a (committed t) ≡ entry ∷ of_address a (done t)
 
 abbrev pub TakesTurns : Trace → ℕ → Type 0
 TakesTurns t a = Quiet t a ⊎ HasPendingAt t a ⊎ HasCommittedAt t a
@@ -38,26 +38,26 @@ of_other : (a : ℕ) (e : Logged) (es : List Logged) → (e.at.0 == a) ≡ false
 of_other a e es other = rw other refl
 
 -- the states say nothing but of these three lists
-turns_of : (t u : Trace) (a : ℕ) → of_address a (entered u) ≡ of_address a (entered t) → of_address a (committed u) ≡ of_address a (committed t) → of_address a (settled u) ≡ of_address a (settled t)
+turns_of : (t u : Trace) (a : ℕ) → of_address a (entered u) ≡ of_address a (entered t) → of_address a (committed u) ≡ of_address a (committed t) → of_address a (done u) ≡ of_address a (done t)
     → TakesTurns t a → TakesTurns u a
 turns_of t u a e c d turns = elim turns [
-  | inl quiet ↦ inl (record { all_committed = e ∙ quiet.all_committed ∙ sym c; all_settled = c ∙ quiet.all_settled ∙ sym d })
+  | inl quiet ↦ inl (record { all_committed = e ∙ quiet.all_committed ∙ sym c; all_done = c ∙ quiet.all_done ∙ sym d })
   | inr rest ↦ elim rest [
     | inl pending ↦ inr (inl (record { entry = pending.entry; last = e ∙ pending.last ∙ ap (λ (xs : List Logged). pending.entry ∷ xs) (sym c); others = c ∙ pending.others ∙ sym d }))
-    | inr done ↦ inr (inr (record { entry = done.entry; all_committed = e ∙ done.all_committed ∙ sym c; last = c ∙ done.last ∙ ap (λ (xs : List Logged). done.entry ∷ xs) (sym d) }))
+    | inr over ↦ inr (inr (record { entry = over.entry; all_committed = e ∙ over.all_committed ∙ sym c; last = c ∙ over.last ∙ ap (λ (xs : List Logged). over.entry ∷ xs) (sym d) }))
   ]
 ]
 
 -- each address is in one of the three states
 pub at_address : (s : Session) (t : Trace) (a : ℕ) → RightTrace s t → TakesTurns t a
-at_address s [] a right = inl (record { all_committed = refl; all_settled = refl })
+at_address s [] a right = inl (record { all_committed = refl; all_done = refl })
 at_address s (Enters e ∷ t) a right = elim (eqb_tells e.at.0 a) [
   | inl same ↦
       let quiet : Quiet t a = subst (Quiet t) same.1 right.0.quiet in
       inr (inl (record {
         entry = e;
         last = of_head a e (entered t) same.1 ∙ ap (λ (xs : List Logged). e ∷ xs) quiet.all_committed;
-        others = quiet.all_settled;
+        others = quiet.all_done;
       }))
   | inr other ↦ turns_of t (Enters e ∷ t) a (of_other a e (entered t) other.0) refl refl (at_address s t a right.2)
 ]
@@ -73,7 +73,7 @@ at_address s (Commits e ∷ t) a right = elim (eqb_tells e.at.0 a) [
                 all_committed = last ∙ sym (of_head a e (committed t) same.1);
                 last = of_head a e (committed t) same.1 ∙ ap (λ (xs : List Logged). e ∷ xs) pending.others;
               }))
-          | inr done ↦ absurd (not_longer e (of_address a (committed t)) (sym done.all_committed ∙ last))
+          | inr over ↦ absurd (not_longer e (of_address a (committed t)) (sym over.all_committed ∙ last))
         ]
       ]
   | inr other ↦ turns_of t (Commits e ∷ t) a refl (of_other a e (committed t) other.0) refl (at_address s t a right.2)
@@ -81,9 +81,9 @@ at_address s (Commits e ∷ t) a right = elim (eqb_tells e.at.0 a) [
 at_address s (Sets e ∷ t) a right = elim (eqb_tells e.at.0 a) [
   | inl same ↦
       let all : of_address a (entered t) ≡ of_address a (committed t) = subst (λ (b : ℕ). of_address b (entered t) ≡ of_address b (committed t)) same.1 right.0.is_committed.all_committed in
-      let last : of_address a (committed t) ≡ e ∷ of_address a (settled t) = subst (λ (b : ℕ). of_address b (committed t) ≡ e ∷ of_address b (settled t)) same.1 right.0.is_committed.last in
-      inl (record { all_committed = all; all_settled = last ∙ sym (of_head a e (settled t) same.1) })
-  | inr other ↦ turns_of t (Sets e ∷ t) a refl refl (of_other a e (settled t) other.0) (at_address s t a right.2)
+      let last : of_address a (committed t) ≡ e ∷ of_address a (done t) = subst (λ (b : ℕ). of_address b (committed t) ≡ e ∷ of_address b (done t)) same.1 right.0.is_committed.last in
+      inl (record { all_committed = all; all_done = last ∙ sym (of_head a e (done t) same.1) })
+  | inr other ↦ turns_of t (Sets e ∷ t) a refl refl (of_other a e (done t) other.0) (at_address s t a right.2)
 ]
 at_address s (other ∷ t) a right = turns_of t (other ∷ t) a refl refl refl (at_address s t a right.2)
 
@@ -92,12 +92,12 @@ abbrev pub IsFalling : List Logged → Type 0
 IsFalling [] = Unit {0}
 IsFalling (e ∷ older) = AllByRecursion (λ (f : Logged). f.place < e.place) older × IsFalling older
 
--- whatever was settled at an address is below
-pub below_at : (t : Trace) (a place : ℕ) → AllBelow t a place → AllByRecursion (λ (f : Logged). f.place < place) (of_address a (settled t))
+-- whatever was done at an address is below
+pub below_at : (t : Trace) (a place : ℕ) → AllBelow t a place → AllByRecursion (λ (f : Logged). f.place < place) (of_address a (done t))
 below_at t a place below =
     let P : Logged → Type 0 = λ f. f.at.0 ≡ a → f.place < place in
-    let each = each_both P (λ (f : Logged). f.at.0 ≡ a) (of_address a (settled t)) (each_of_address P a (settled t) below.writes) (are_of_address a (settled t)) in
-    every-map {P = λ f. P f × (f.at.0 ≡ a)} {Q = λ (f : Logged). f.place < place} (λ f is. is.0 is.1) (of_address a (settled t)) each
+    let each = each_both P (λ (f : Logged). f.at.0 ≡ a) (of_address a (done t)) (each_of_address P a (done t) below.writes) (are_of_address a (done t)) in
+    every-map {P = λ f. P f × (f.at.0 ≡ a)} {Q = λ (f : Logged). f.place < place} (λ f is. is.0 is.1) (of_address a (done t)) each
 
 -- the entered entries of an address fall in place
 pub entered_falling : (s : Session) (t : Trace) (a : ℕ) → RightTrace s t → IsFalling (of_address a (entered t))
@@ -106,30 +106,30 @@ entered_falling s (h ∷ t) a right =
     let rest = entered_falling s t a right.2 in
     entered_grows (λ es. IsFalling (of_address a es)) s h t right.0 rest (λ e came next. elim (eqb_tells e.at.0 a) [
       | inl same ↦
-          let all : of_address a (entered t) ≡ of_address a (settled t) = subst (λ (b : ℕ). of_address b (entered t) ≡ of_address b (settled t)) same.1 (next.quiet.all_committed ∙ next.quiet.all_settled) in
+          let all : of_address a (entered t) ≡ of_address a (done t) = subst (λ (b : ℕ). of_address b (entered t) ≡ of_address b (done t)) same.1 (next.quiet.all_committed ∙ next.quiet.all_done) in
           let below = below_at t a e.place (subst (λ (b : ℕ). AllBelow t b e.place) same.1 next.below) in
           let mine : AllByRecursion (λ (f : Logged). f.place < e.place) (of_address a (entered t)) = subst (AllByRecursion (λ (f : Logged). f.place < e.place)) (sym all) below in
           rw same.0 (mine, rest)
       | inr other ↦ rw other.0 rest
     ])
 
--- what a list of entries has and each tail of it has too, the committed and the settled ones of an address have
+-- what a list of entries has and each tail of it has too, the committed and the done ones of an address have
 pub committed_at : (P : List Logged → Type 0) (s : Session) (t : Trace) (a : ℕ) → ((e : Logged) (es : List Logged) → P (e ∷ es) → P es) → RightTrace s t → P (of_address a (entered t)) → P (of_address a (committed t))
 committed_at P s t a tail right all = elim (at_address s t a right) [
   | inl quiet ↦ subst P quiet.all_committed all
   | inr rest ↦ elim rest [
     | inl pending ↦ tail pending.entry _ (subst P pending.last all)
-    | inr done ↦ subst P done.all_committed all
+    | inr over ↦ subst P over.all_committed all
   ]
 ]
 
--- and so have the settled ones
-pub settled_at : (P : List Logged → Type 0) (s : Session) (t : Trace) (a : ℕ) → ((e : Logged) (es : List Logged) → P (e ∷ es) → P es) → RightTrace s t → P (of_address a (committed t)) → P (of_address a (settled t))
-settled_at P s t a tail right all = elim (at_address s t a right) [
-  | inl quiet ↦ subst P quiet.all_settled all
+-- and so have the done ones
+pub done_at : (P : List Logged → Type 0) (s : Session) (t : Trace) (a : ℕ) → ((e : Logged) (es : List Logged) → P (e ∷ es) → P es) → RightTrace s t → P (of_address a (committed t)) → P (of_address a (done t))
+done_at P s t a tail right all = elim (at_address s t a right) [
+  | inl quiet ↦ subst P quiet.all_done all
   | inr rest ↦ elim rest [
     | inl pending ↦ subst P pending.others all
-    | inr done ↦ tail done.entry _ (subst P done.last all)
+    | inr over ↦ tail over.entry _ (subst P over.last all)
   ]
 ]
 
@@ -137,6 +137,6 @@ settled_at P s t a tail right all = elim (at_address s t a right) [
 pub committed_falling : (s : Session) (t : Trace) (a : ℕ) → RightTrace s t → IsFalling (of_address a (committed t))
 committed_falling s t a right = committed_at IsFalling s t a (λ e es falls. falls.1) right (entered_falling s t a right)
 
--- and so do the settled ones
-pub settled_falling : (s : Session) (t : Trace) (a : ℕ) → RightTrace s t → IsFalling (of_address a (settled t))
-settled_falling s t a right = settled_at IsFalling s t a (λ e es falls. falls.1) right (committed_falling s t a right)
+-- and so do the done ones
+pub done_falling : (s : Session) (t : Trace) (a : ℕ) → RightTrace s t → IsFalling (of_address a (done t))
+done_falling s t a right = done_at IsFalling s t a (λ e es falls. falls.1) right (committed_falling s t a right)

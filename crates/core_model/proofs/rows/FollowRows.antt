@@ -117,7 +117,7 @@ takes_no_block_twice may = let next : 86 ≡ 85 = ap (λ b. b.0) (same_Some _ _ 
 takes_no_block_beyond : May (Takes other (block 87)) (Takes second (block 86) ∷ took) → ⊥
 takes_no_block_beyond may = let next = may.next in absurd cc
 
--- An entry is handed in once, of a write that has its place, while no other is; those of its address are settled, nothing at its
+-- An entry is handed in once, of a write that has its place, while no other is; those of its address are done, nothing at its
 -- address has a later place, and it says what its address was mapped to.
 enters : May (Enters of_second) set
 enters = record {
@@ -125,7 +125,7 @@ enters = record {
   is_write = record { bytes = y; asked = refl; placed = refl };
   once = refl;
   idle = refl;
-  quiet = record { all_committed = refl; all_settled = refl };
+  quiet = record { all_committed = refl; all_done = refl };
   below = record { writes = ((λ same. omega arith), tt); reads = tt };
   old_is = refl;
 }
@@ -146,7 +146,7 @@ enters_alone : May (Enters of_other) handed_in → ⊥
 enters_alone may = let idle = ap length may.idle in absurd (omega (arith, idle))
 
 enters_behind_a_slot : May (Enters of_second) lasting → ⊥
-enters_behind_a_slot may = let quiet = ap length may.quiet.all_settled in absurd (omega (arith, quiet))
+enters_behind_a_slot may = let quiet = ap length may.quiet.all_done in absurd (omega (arith, quiet))
 
 enters_behind_a_write : May (Enters (entry first 0 0 (At (block 86)) 85)) (Sets of_second ∷ Commits of_second ∷ Enters of_second ∷ took) → ⊥
 enters_behind_a_write may = let below = may.below.writes.0 refl in absurd (omega (arith, below))
@@ -198,13 +198,13 @@ sets_behind_a_read may = let below = may.below.reads.0 refl in absurd (omega (ar
 sets_unless_aborted : May (Sets of_first) (Aborts of_first ∷ stopped lasting) → ⊥
 sets_unless_aborted may = let no = may.unaborted in absurd cc
 
--- A read is given its bytes at its place, when the entries of its address are settled.
+-- A read is given its bytes at its place, when the entries of its address are done.
 gives : May (Gives (given 2)) set
 gives = record {
   is_open = record { is_begun = omega arith; unanswered = refl };
   asked = refl;
   placed = refl;
-  quiet = record { all_committed = refl; all_settled = refl };
+  quiet = record { all_committed = refl; all_done = refl };
   below = record { writes = ((λ same. omega arith), tt); reads = tt };
 }
 
@@ -220,8 +220,8 @@ gives_at_its_place may = let placed : 2 ≡ 3 = ap (λ p. p.place) (same_Some _ 
 gives_what_is_committed : May (Gives (given 2)) handed_in → ⊥
 gives_what_is_committed may = let quiet = ap length may.quiet.all_committed in absurd (omega (arith, quiet))
 
-gives_what_is_settled : May (Gives (given 2)) lasting → ⊥
-gives_what_is_settled may = let quiet = ap length may.quiet.all_settled in absurd (omega (arith, quiet))
+gives_what_is_done : May (Gives (given 2)) lasting → ⊥
+gives_what_is_done may = let quiet = ap length may.quiet.all_done in absurd (omega (arith, quiet))
 
 gives_behind_a_write : May (Gives (given 2)) (Sets (entry second 0 3 Unmapped 85) ∷ Commits (entry second 0 3 Unmapped 85) ∷ Enters (entry second 0 3 Unmapped 85) ∷ took) → ⊥
 gives_behind_a_write may = let below = may.below.writes.0 refl in absurd (omega (arith, below))
