@@ -5,8 +5,9 @@ pub mod Carried
 pub mod Elsewhere
 pub mod FirstCore
 pub mod FirstState
-pub mod LaneMoves
-pub mod LaneOrder
+pub mod KeptPhases
+pub mod Moved
+pub mod Streams
 pub mod LegalKept
 pub mod LegalMoves
 pub mod OneResult

@@ -1,5 +1,4 @@
 pub mod EntryLists
-pub mod LaneLists
 pub mod LineLaws
 pub mod Lists
 pub mod LockLists

@@ -247,15 +247,10 @@ abbrev pub arrival : Item → List Writer
 arrival (item.Request v) = arriving v.phase v.request
 arrival other = []
 
-abbrev pub arrivals : List Item → List Writer
-arrivals [] = []
-arrivals (it ∷ items) = arrival it ++ arrivals items
-
--- a zone with its lanes; the desk alone sends requests that have yet to draw a place
+-- a zone with its lanes
 pub record ZoneOk (s : Session) (t : Trace) (number : ℕ) (z : Zone) : Type 0 where
   pub number_is : z.number ≡ number
   pub lanes : length z.outboxes ≡ zone_count s.sizes
   pub inbox : AllByRecursion (ItemOk s t number) z.inbox
   pub outboxes : Each (λ to. AllByRecursion (ItemOk s t to)) z.outboxes
-  pub arrivals_from : (number ≡ desk_zone → ⊥) → AllByRecursion (λ lane. arrivals lane ≡ []) z.outboxes
   pub own : DataOk s t number z.keeps

@@ -7,31 +7,21 @@ use Rattle.core_model.specs.declared.items.Item.{Item}
 use Rattle.core_model.specs.declared.zones.ZoneData.TheVariants as at
 use Rattle.core_model.specs.declared.zones.LogicalZone.{LogicalZone}
 use Rattle.core_model.specs.declared.zones.Zone.{Zone}
-use Rattle.core_model.specs.Facts.{ZoneOk, arrivals}
+use Rattle.core_model.specs.Arrivals.{arrivals_at}
+use Rattle.core_model.specs.Facts.{ZoneOk}
 use Rattle.core_model.specs.Zones.{desk_zone, zone_count, notified_zones}
 use Rattle.core_model.specs.RightTraces.{RightTrace, GivesRight}
 use Rattle.core_model.specs.Sessions.{Session, HasHonestReads}
 use Rattle.core_model.specs.Steps.{Core}
+use Rattle.core_model.specs.Streams.{Flows}
 use Rattle.plain_laws.specs.Sums.{Each}
 use Rattle.core_model.specs.Tokens.{Balanced, AtMost, request_token, lease_token, block_token, journal_token, room_token, notice_token}
 use Rattle.core_model.specs.Trace.{Trace, places}
 
--- in a zone, each stream's places are drawn in the order of its requests: a request has a greater number than those with
--- a place, and than those of its stream before it
+-- in a zone, each stream's places are drawn in the order of its requests: a request has a greater number than those of its
+-- stream that have a place there
 abbrev pub ComesAfter : ℕ → Writer → Placed → Type 0
 ComesAfter zone w p = p.zone ≡ zone → p.request.stream ≡ w.stream → p.request.number < w.number
-
-abbrev pub InOrder : ℕ → List Placed → List Writer → Type 0
-InOrder zone drawn [] = Unit {0}
-InOrder zone drawn (w ∷ later) =
-    AllByRecursion (ComesAfter zone w) drawn × AllByRecursion (λ (u : Writer). w.stream ≡ u.stream → w.number < u.number) later × InOrder zone drawn later
-
--- those on the way from the desk to a logical zone: the ones in its inbox, then the ones in the lane
-abbrev pub LanesInOrder : Trace → List Zone → Type 0
-LanesInOrder t zones =
-    (n : ℕ) (z desk : Zone) (l : LogicalZone) (lane : List Item)
-    → slice_get zones n ≡ Some z → z.keeps ≡ at.Logical l → slice_get zones desk_zone ≡ Some desk → slice_get desk.outboxes n ≡ Some lane
-    → InOrder l.zone (places t) (arrivals z.inbox ++ arrivals lane)
 
 -- how many items a lane has at most, and how many requests a zone keeps: those under way, and the stop notices
 abbrev pub share : Session → ℕ
@@ -52,7 +42,8 @@ pub record Legal (s : Session) (core : Core) : Type 0 where
   -- no request and no stop notice is lost or doubled
   pub room : Balanced room_token core.zones
   pub stop_notices : Balanced (notice_token s.sizes) core.zones
-  pub in_order : LanesInOrder core.trace core.zones
+  -- requests come to each logical zone in the order in which they were sent
+  pub in_order : (zone : ℕ) → zone < s.sizes.zones → Flows (arrivals_at s zone) core.trace core.zones
   pub right : RightTrace s core.trace
   -- on an honest device alone
   pub gives_right : HasHonestReads s core.trace → GivesRight s core.trace

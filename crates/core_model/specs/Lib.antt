@@ -12,6 +12,8 @@ pub mod Sessions
 pub mod RightTraces
 pub mod Reports
 pub mod Facts
+pub mod Streams
+pub mod Arrivals
 pub mod Legal
 pub mod Views
 pub mod Start

@@ -54,7 +54,7 @@ pub shown_mark : (s : Session) (m : FlushMark) (t : Trace) → Shown s t → Sho
 shown_mark s m t k = shown_kept s (Flushes m) t (record { entered_same = refl; committed_same = refl }) tt (spares_all (Flushes m) (λ x. tt) (entered t)) tt (λ a y is. tt) k
 
 -- a request is among the begun ones once its Begin stands
-begun_now : (w : Writer) (older : List DeskLine) → w.number ≡ begun w.stream older → w.number < begun w.stream (line.Begin w ∷ older)
+pub begun_now : (w : Writer) (older : List DeskLine) → w.number ≡ begun w.stream older → w.number < begun w.stream (line.Begin w ∷ older)
 begun_now w older number = elim (eqb_tells w.stream w.stream) [
   | inl same ↦ rw same.0 (omega (arith, number))
   | inr other ↦ absurd (other.1 refl)

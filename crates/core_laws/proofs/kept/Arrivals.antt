@@ -1,13 +1,24 @@
--- Which acts concern the requests that have yet to draw a place: the desk alone sends one on, and its logical zone takes it.
-use Rattle.std.proofs.Common.{◌∙◌, ◌≡◌, ℕ, ◌⊎◌, Option, None, Some, List, [], ◌∷◌, ◌++◌, refl, ap, inl, inr}
+-- What each act owes of the arrivals: the desk alone sends requests that have yet to draw a place, and their logical zone takes them.
+use Rattle.std.proofs.Common.{◌∙◌, ◌≡◌, ◌<◌, ◌≤◌, ◌==◌, ℕ, zero, suc, ◌⊎◌, Bool, true, false, cond, if◌then◌else◌, Option, None, Some, IsSome, List, [], ◌∷◌, ◌++◌, nat_eq, refl, sym, subst, ap, inl, inr, arith}
 use Rattle.std.specs.List.{AllByRecursion}
+use Rattle.std.proofs.lemmas.Bool.Decides.{eqb_tells}
+use Rattle.std.proofs.lemmas.List.{append-nil}
+use Rattle.std.proofs.lemmas.Option.{same_Some}
 use Rattle.blk_base.specs.declared.place.Mapping.{Mapping}
 use Rattle.blk_base.specs.declared.place.Mapping.TheVariants.{Unmapped, Zero, At}
 use Rattle.blk_base.specs.declared.place.ZoneId.{ZoneId}
+use Rattle.blk_base.specs.declared.place.ZoneId.TheVariants as id
 use Rattle.blk_base.specs.declared.request.Answer.{Answer}
 use Rattle.blk_base.specs.declared.request.Request.{Request}
+use Rattle.blk_base.specs.declared.request.Request.TheVariants as request
 use Rattle.blk_base.specs.declared.request.Writer.{Writer}
 use Rattle.vdo_model.specs.DeskLog.{begun}
+use Rattle.vdo_model.specs.Places.{place_of, zone_of}
+use Rattle.vdo_model.specs.Scripts.{request_at}
+use Rattle.vdo_model.specs.declared.report.DeskLine.TheVariants as line
+use Rattle.vdo_model.specs.declared.report.Placed.{Placed}
+use Rattle.core_model.specs.declared.items.Asks.{Asks}
+use Rattle.core_model.specs.declared.items.Asks.TheVariants.{Read, Write, Flush}
 use Rattle.core_model.specs.declared.items.Item.{Item}
 use Rattle.core_model.specs.declared.items.Item.TheVariants as item
 use Rattle.core_model.specs.declared.items.Phase.{Phase}
@@ -22,38 +33,46 @@ use Rattle.core_model.specs.declared.zones.DeviceZone.{DeviceZone}
 use Rattle.core_model.specs.declared.zones.JournalZone.{JournalZone}
 use Rattle.core_model.specs.declared.zones.LogicalZone.{LogicalZone}
 use Rattle.core_model.specs.declared.zones.PhysicalZone.{PhysicalZone}
+use Rattle.core_model.specs.Arrivals.{arrivals_at, drew_in, only_of, sent_to_zone, zone_asked}
 use Rattle.core_model.specs.DeskRows as desk
-use Rattle.core_model.specs.DeskRows.{DeskBegins, DeskServes, vio_of, woken}
+use Rattle.core_model.specs.DeskRows.{DeskBegins, DeskServes, first_zone, is_marked, vio_of, woken}
 use Rattle.core_model.specs.DeviceRows as device
 use Rattle.core_model.specs.DeviceRows.{DeviceServes, DeviceWorks, stop_notices}
-use Rattle.core_model.specs.Facts.{arriving, arrival}
+use Rattle.core_model.specs.Facts.{Carries, DataOk, HasAddress, IsEarned, ItemOk, MayReply, VioOk, arriving, arrival}
 use Rattle.core_model.specs.JournalRows as journal
 use Rattle.core_model.specs.JournalRows.{PhysicalServes, JournalServes, JournalEnds, all_refused}
 use Rattle.core_model.specs.LogicalRows as logical
-use Rattle.core_model.specs.LogicalRows.{LogicalServes, goes_on, next_for, read_next, looked, mapping_at, passed_to, passes_on, released, first_for, all_for, all_stopped, with_slot, placed, place_of_vio}
-use Rattle.core_model.specs.Zones.{notified}
+use Rattle.core_model.specs.LogicalRows.{LogicalServes, goes_on, read_next, looked, mapping_at, first_for, all_for, all_stopped, with_slot, placed, place_of_vio}
+use Rattle.core_model.specs.Legal.{ComesAfter}
+use Rattle.core_model.specs.Zones.{desk_zone, device_zone, logical_zone, notified, zone_number}
+use Rattle.core_model.specs.RightTraces.{RightTrace, HasCause, MayFollow}
+use Rattle.core_model.specs.Sessions.{Session}
 use Rattle.core_model.specs.Steps.{Act}
 use Rattle.core_model.specs.Steps as steps
-use Rattle.core_model.specs.Trace.{Trace, places}
-use Rattle.core_model.specs.Vios.{Post}
+use Rattle.core_model.specs.Streams.{counted}
+use Rattle.core_model.specs.Trace.{Happening, Trace, Says, lines, places}
+use Rattle.core_model.specs.Vios.{Post, asked, request_of}
+use Rattle.plain_laws.proofs.OptionLaws.{none_of, some_of}
+use Rattle.vdo_model.proofs.NameLaws.{same_tells}
+use Rattle.plain_laws.proofs.ListLaws.{every-append, every-front, every-map}
+use Rattle.core_laws.proofs.desk.DeskFacts.{begun_now}
+use Rattle.core_laws.proofs.kept.ActKept.{unborn_place}
+use Rattle.core_laws.proofs.kept.Streams.{Keeps, items_to}
 use Rattle.core_laws.proofs.tokens.Posts.{begun_request, begun_phase, goes_by, IsGranted, nobody, somebody, is_granted}
 use Rattle.core_laws.proofs.tokens.LeaseTokens.{IsIn, KeptIn}
+use Rattle.core_laws.proofs.trace.Growth.{begun_stays}
+use Rattle.core_laws.proofs.trace.PlacesOfTrace.{cause_placed}
 
 -- what is posted has its place, or needs none
 abbrev pub Still : Post → Type 0
 Still p = arrival p.1 ≡ []
 
--- an act, as far as it concerns those that have yet to draw a place
-pub data Course (old : ZoneData) (front : List Item) (made : Trace) (posts : List Post) : Type 0 where
-  still : AllByRecursion Still posts → ((t : Trace) → places (made ++ t) ≡ places t) → Course old front made posts
-  draws : (l : LogicalZone) (v : Vio) → old ≡ at.Logical l → front ≡ item.Request v ∷ [] → v.phase ≡ phase.Arrive → AllByRecursion Still posts
-      → ((t : Trace) → places (made ++ t) ≡ place_of_vio l v ∷ places t) → Course old front made posts
-  sends : (d : Desk) (w : Writer) (to : ZoneId) (x : Item) → old ≡ at.Desk d → w.number ≡ begun w.stream d.log → (arrival x ≡ w ∷ []) ⊎ (arrival x ≡ []) → posts ≡ (to, x) ∷ []
-      → ((t : Trace) → places (made ++ t) ≡ places t) → Course old front made posts
-
 -- a request in another phase than Arrive
 arrives : (v : Vio) (q : Phase) → v.phase ≡ q → arriving v.phase v.request ≡ arriving q v.request
 arrives v q p = ap (λ (h : Phase). arriving h v.request) p
+
+past : (v : Vio) {q : Phase} → v.phase ≡ q → counted arrival (item.Request v ∷ []) ≡ arriving q v.request ++ []
+past v p = ap (λ (q : Phase). arriving q v.request ++ []) p
 
 -- the posts of each row that are lists
 
@@ -85,120 +104,265 @@ woken_still : (vs : List Vio) → AllByRecursion (IsIn phase.Reply) vs → AllBy
 woken_still [] h = tt
 woken_still (v ∷ vs) h = (arrives v phase.Reply h.0, woken_still vs h.1)
 
-begun_arrival : (sizes : Sizes) (w : Writer) (r : Request) (v : Vio) → vio_of sizes w r ≡ Some v → (arrival (item.Request v) ≡ w ∷ []) ⊎ (arrival (item.Request v) ≡ [])
-begun_arrival sizes w r v is = elim (begun_phase sizes w r v is) [
-  | inl arriving ↦ inl (arrives v phase.Arrive arriving ∙ ap (λ u. u ∷ []) (begun_request sizes w r v is))
-  | inr flush ↦ inr (arrives v phase.Flush flush)
+-- An answer to a request that has its place, or to a flush, changes nothing of what was sent.
+answer_sends : (s : Session) (t : Trace) (w : Writer) (a : Answer) (zone : ℕ) → RightTrace s t → IsSome (place_of (places t) w) ⊎ (zone_asked s.sizes.zones (request_at s.script w) ≡ None)
+    → sent_to_zone s zone (Says (line.Answer w a) ∷ t) ≡ sent_to_zone s zone t
+answer_sends s [] w a zone right why = refl
+answer_sends s (Says (line.Begin v) ∷ t) w a zone right why = elim (same_tells w v) [
+  | inl same ↦ rw same.0 (elim why [
+    | inl some ↦
+        let p = some_of _ some in
+        let number = right.0.0 in
+        let late : begun w.stream (lines t) ≤ w.number = subst (λ (x : Writer). begun x.stream (lines t) ≤ x.number) (sym same.1) (omega (arith, number)) in
+        let none = none_of _ (unborn_place s t w right.2 late) in
+        let both : Some p.0 ≡ None = sym p.1 ∙ none in
+        absurd cc
+    | inr flush ↦
+        let here : zone_asked s.sizes.zones (request_at s.script v) ≡ None = subst (λ (x : Writer). zone_asked s.sizes.zones (request_at s.script x) ≡ None) same.1 flush in
+        sym (ap (λ (o : Option ℕ). sent_to_zone s zone t ++ only_of zone o v) here ∙ append-nil (sent_to_zone s zone t))
+  ])
+  | inr other ↦ rw other.0 refl
+]
+answer_sends s (other ∷ t) w a zone right why = refl
+
+-- What an act does with the requests that have yet to draw a place.
+pub data Course (s : Session) (t : Trace) (old : ZoneData) (front : List Item) (made : Trace) (posts : List Post) : Type 0 where
+  still : counted arrival front ≡ [] → AllByRecursion Still posts → places (made ++ t) ≡ places t → ((zone : ℕ) → sent_to_zone s zone (made ++ t) ≡ sent_to_zone s zone t)
+      → Course s t old front made posts
+  draws : (l : LogicalZone) (v : Vio) → old ≡ at.Logical l → front ≡ item.Request v ∷ [] → v.phase ≡ phase.Arrive → AllByRecursion Still posts
+      → places (made ++ t) ≡ place_of_vio l v ∷ places t → ((zone : ℕ) → sent_to_zone s zone (made ++ t) ≡ sent_to_zone s zone t)
+      → Course s t old front made posts
+  sends : (d : Desk) → old ≡ at.Desk d → places (made ++ t) ≡ places t
+      → ((zone : ℕ) → sent_to_zone s zone (made ++ t) ≡ sent_to_zone s zone t ++ counted arrival (items_to s.sizes (logical_zone zone) posts))
+      → Course s t old front made posts
+
+module _ (s : Session) (t : Trace) where
+  logical_course : (old : LogicalZone) (v : Vio) (new : LogicalZone) (made : Trace) (posts : List Post) → LogicalServes s.sizes old v new made posts → Course s t (at.Logical old) (item.Request v ∷ []) made posts
+  logical_course old v new made posts (logical.arrives_retired p d n m q) = draws old v refl refl p (rw q (refl, tt)) (rw m refl) (λ zone. rw m refl)
+  logical_course old v new made posts (logical.arrives_free post p d f goes n m q) = draws old v refl refl p (rw q (goes_still s.sizes old (placed old v) post goes, tt)) (rw m refl) (λ zone. rw m refl)
+  logical_course old v new made posts (logical.arrives_held p d f n m q) = draws old v refl refl p (rw q tt) (rw m refl) (λ zone. rw m refl)
+  logical_course old v new made posts (logical.settles more p grants n m q) = still (past v p) (rw q (refl, passes_still s.sizes (with_slot old v) (first_for v.at.0 old.waiting) more (is_granted s.sizes (with_slot old v) (first_for v.at.0 old.waiting) more grants))) (rw m refl) (λ zone. rw m refl)
+  logical_course old v new made posts (logical.gives more p grants n m q) = still (past v p) (rw q (refl, passes_still s.sizes old (first_for v.at.0 old.waiting) more (is_granted s.sizes old (first_for v.at.0 old.waiting) more grants))) (rw m refl) (λ zone. rw m refl)
+  logical_course old v new made posts (logical.aborts more p grants n m q) = still (past v p) (rw q (refl, passes_still s.sizes old (first_for v.at.0 old.waiting) more (is_granted s.sizes old (first_for v.at.0 old.waiting) more grants))) (rw m refl) (λ zone. rw m refl)
+  logical_course old v new made posts (logical.aborts_entered p n m q) = still (past v p) (rw q (refl, stopped_still (all_for v.at.0 old.waiting))) (rw m refl) (λ zone. rw m refl)
+
+  physical_course : (old : PhysicalZone) (v : Vio) (new : PhysicalZone) (made : Trace) (posts : List Post) → PhysicalServes s.sizes old v new made posts → Course s t (at.Physical old) (item.Request v ∷ []) made posts
+  physical_course old v new made posts (journal.claims x xs p f n m q) = still (past v p) (rw q (refl, tt)) (rw m refl) (λ zone. rw m refl)
+  physical_course old v new made posts (journal.PhysicalServes.is_full p f n m q) = still (past v p) (rw q (refl, tt)) (rw m refl) (λ zone. rw m refl)
+  physical_course old v new made posts (journal.aborts_claim p n m q) = still (past v p) (rw q (refl, tt)) (rw m refl) (λ zone. rw m refl)
+  physical_course old v new made posts (journal.aborts_entered_claim p n m q) = still (past v p) (rw q (refl, tt)) (rw m refl) (λ zone. rw m refl)
+
+  journal_course : (old : JournalZone) (v : Vio) (new : JournalZone) (made : Trace) (posts : List Post) → JournalServes s.sizes old v new made posts → Course s t (at.Journal old) (item.Request v ∷ []) made posts
+  journal_course old v new made posts (journal.is_stopped p c n m q) = still (past v p) (rw q (refl, tt)) (rw m refl) (λ zone. rw m refl)
+  journal_course old v new made posts (journal.waits p c b n m q) = still (past v p) (rw q tt) (rw m refl) (λ zone. rw m refl)
+  journal_course old v new made posts (journal.is_full p c b h n m q) = still (past v p) (rw q (refl, tt)) (rw m refl) (λ zone. rw m refl)
+  journal_course old v new made posts (journal.enters p c b h n m q) = still (past v p) (rw q (refl, tt)) (rw m refl) (λ zone. rw m refl)
+
+  end_course : (old : JournalZone) (b : SealedBlock) (new : JournalZone) (made : Trace) (posts : List Post) → JournalEnds s.sizes old b new made posts → Course s t (at.Journal old) (item.Block b ∷ []) made posts
+  end_course old b new made posts (journal.commits_next w ws c f h n m q) = still refl (rw q (refl, (refl, tt))) (rw m refl) (λ zone. rw m refl)
+  end_course old b new made posts (journal.commits_alone c f h n m q) = still refl (rw q (refl, tt)) (rw m refl) (λ zone. rw m refl)
+  end_course old b new made posts (journal.commits_last c h n m q) = still refl (rw q (refl, refused_still s.sizes _ old.waiting)) (rw m refl) (λ zone. rw m refl)
+  end_course old b new made posts (journal.fails c n m q) = still refl (rw q (refl, refused_still s.sizes _ old.waiting)) (rw m refl) (λ zone. rw m refl)
+
+  device_course : (old : DeviceZone) (v : Vio) (new : DeviceZone) (made : Trace) (posts : List Post) → DeviceServes s.sizes old v new made posts → Course s t (at.Device old) (item.Request v ∷ []) made posts
+  device_course old v new made posts (device.stores p s inside n m q) = still (past v p) (rw q (refl, tt)) (rw m refl) (λ zone. rw m refl)
+  device_course old v new made posts (device.store_fails kept p up inside n m q) = still (past v p) (rw q (refl, notices_still (notified s.sizes))) (rw m refl) (λ zone. rw m refl)
+  device_course old v new made posts (device.store_unmade p s n m q) = still (past v p) (rw q (refl, tt)) (rw m refl) (λ zone. rw m refl)
+  device_course old v new made posts (device.loads bytes p inside n m q) = still (past v p) (rw q (refl, tt)) (rw m refl) (λ zone. rw m refl)
+  device_course old v new made posts (device.load_fails bytes kept p inside n m q) = still (past v p) (rw q (refl, tt)) (rw m refl) (λ zone. rw m refl)
+  device_course old v new made posts (device.flushes p s n m q) = still (past v p) (rw q (refl, tt)) (rw m refl) (λ zone. rw m refl)
+  device_course old v new made posts (device.flush_fails kept p up n m q) = still (past v p) (rw q (refl, notices_still (notified s.sizes))) (rw m refl) (λ zone. rw m refl)
+  device_course old v new made posts (device.flush_unmade p s n m q) = still (past v p) (rw q (refl, tt)) (rw m refl) (λ zone. rw m refl)
+
+  work_course : (old : DeviceZone) (b : SealedBlock) (new : DeviceZone) (made : Trace) (posts : List Post) → DeviceWorks s.sizes old b new made posts → Course s t (at.Device old) (item.Block b ∷ []) made posts
+  work_course old b new made posts (device.makes call slot i c s n m q) = still refl (rw q (refl, tt)) (rw m refl) (λ zone. rw m refl)
+  work_course old b new made posts (device.fails call slot kept i c up n m q) = still refl (rw q (refl, notices_still (notified s.sizes))) (rw m refl) (λ zone. rw m refl)
+  work_course old b new made posts (device.unmade call slot c s n m q) = still refl (rw q (refl, tt)) (rw m refl) (λ zone. rw m refl)
+
+
+-- a request that goes to its home is posted to one logical zone
+at_home : (sizes : Sizes) (zone z : ℕ) (w : Writer) (x : Item) → arrival x ≡ w ∷ [] → only_of zone (Some z) w ≡ counted arrival (items_to sizes (logical_zone zone) ((id.Logical z, x) ∷ []))
+at_home sizes zone z w x is = elim (eqb_tells z zone) [
+  | inl same ↦ elim (eqb_tells (logical_zone z) (logical_zone zone)) [
+    | inl there ↦ rw (same.0, there.0) (sym (ap (λ (us : List Writer). us ++ []) is))
+    | inr apart ↦ absurd (apart.1 (ap logical_zone same.1))
+  ]
+  | inr other ↦ elim (eqb_tells (logical_zone z) (logical_zone zone)) [
+    | inl there ↦ absurd (other.1 (omega (arith, there.1)))
+    | inr apart ↦ rw (other.0, apart.0) refl
+  ]
 ]
 
-begin_course : (sizes : Sizes) (old new : Desk) (made : Trace) (posts : List Post) → DeskBegins sizes old new made posts → Course (at.Desk old) [] made posts
-begin_course sizes old new made posts (desk.answers w r v reply i h served o n m q) = still (rw q tt) (λ t. rw m refl)
-begin_course sizes old new made posts (desk.sends w r v i h served o n m q) = sends old w (desk.first_zone v) (item.Request v) refl i.0 (begun_arrival sizes w r v served) q (λ t. rw m refl)
+to_nobody : (b : Bool) (x : Item) → arrival x ≡ [] → [] ≡ counted arrival (cond b (x ∷ []) [])
+to_nobody true x is = sym (ap (λ (us : List Writer). us ++ []) is)
+to_nobody false x is = refl
 
-desk_course : (sizes : Sizes) (old : Desk) (v : Vio) (new : Desk) (made : Trace) (posts : List Post) → DeskServes sizes old v new made posts → Course (at.Desk old) (item.Request v ∷ []) made posts
-desk_course sizes old v new made posts (desk.parks reply p h s t n m q) = still (rw q tt) (λ t. rw m refl)
-desk_course sizes old v new made posts (desk.answers reply p h s k n m q) = still (rw q tt) (λ t. rw m refl)
-desk_course sizes old v new made posts (desk.marks p k h n m q) = still (rw q tt) (λ t. rw m refl)
+-- a request that is begun is posted to the logical zone of its address, where it has one
+posted_begun : (sizes : Sizes) (zone : ℕ) (w : Writer) (r : Request) (v : Vio) → vio_of sizes w r ≡ Some v
+    → only_of zone (zone_asked sizes.zones (Some r)) w ≡ counted arrival (items_to sizes (logical_zone zone) ((first_zone v, item.Request v) ∷ []))
+posted_begun sizes zone w (request.Read at) v is = subst (λ (v : Vio). only_of zone (zone_asked sizes.zones (Some (request.Read at))) w ≡ counted arrival (items_to sizes (logical_zone zone) ((first_zone v, item.Request v) ∷ []))) (same_Some _ _ is) (at_home sizes zone (zone_of sizes.zones at.0) w _ refl)
+posted_begun sizes zone w (request.Write at bytes false) v is = subst (λ (v : Vio). only_of zone (zone_asked sizes.zones (Some (request.Write at bytes false))) w ≡ counted arrival (items_to sizes (logical_zone zone) ((first_zone v, item.Request v) ∷ []))) (same_Some _ _ is) (at_home sizes zone (zone_of sizes.zones at.0) w _ refl)
+posted_begun sizes zone w request.Flush v is = subst (λ (v : Vio). [] ≡ counted arrival (items_to sizes (logical_zone zone) ((first_zone v, item.Request v) ∷ []))) (same_Some _ _ is) (to_nobody (nat_eq (device_zone sizes) (logical_zone zone)) _ refl)
+posted_begun sizes zone w (request.Write at bytes true) v is = absurd cc
+posted_begun sizes zone w (request.Discard at) v is = absurd cc
 
-logical_course : (sizes : Sizes) (old : LogicalZone) (v : Vio) (new : LogicalZone) (made : Trace) (posts : List Post) → LogicalServes sizes old v new made posts → Course (at.Logical old) (item.Request v ∷ []) made posts
-logical_course sizes old v new made posts (logical.arrives_retired p d n m q) = draws old v refl refl p (rw q (refl, tt)) (λ t. rw m refl)
-logical_course sizes old v new made posts (logical.arrives_free post p d f goes n m q) = draws old v refl refl p (rw q (goes_still sizes old (placed old v) post goes, tt)) (λ t. rw m refl)
-logical_course sizes old v new made posts (logical.arrives_held p d f n m q) = draws old v refl refl p (rw q tt) (λ t. rw m refl)
-logical_course sizes old v new made posts (logical.settles more p grants n m q) = still (rw q (refl, passes_still sizes (with_slot old v) (first_for v.at.0 old.waiting) more (is_granted sizes (with_slot old v) (first_for v.at.0 old.waiting) more grants))) (λ t. rw m refl)
-logical_course sizes old v new made posts (logical.gives more p grants n m q) = still (rw q (refl, passes_still sizes old (first_for v.at.0 old.waiting) more (is_granted sizes old (first_for v.at.0 old.waiting) more grants))) (λ t. rw m refl)
-logical_course sizes old v new made posts (logical.aborts more p grants n m q) = still (rw q (refl, passes_still sizes old (first_for v.at.0 old.waiting) more (is_granted sizes old (first_for v.at.0 old.waiting) more grants))) (λ t. rw m refl)
-logical_course sizes old v new made posts (logical.aborts_entered p n m q) = still (rw q (refl, stopped_still (all_for v.at.0 old.waiting))) (λ t. rw m refl)
+-- a request that is answered by its vio has its place, or is a flush
+answer_placed : (s : Session) (t : Trace) (v : Vio) (a : Answer) → RightTrace s t → VioOk s t v → HasCause s t v.request (request_of v) a
+    → IsSome (place_of (places t) v.request) ⊎ (zone_asked s.sizes.zones (request_at s.script v.request) ≡ None)
+answer_placed s t v a right ok cause = by v.asks ok.asked ok.address cause
+  where
+    by : (asks : Asks) → request_at s.script v.request ≡ Some (asked asks v.at v.bytes) → HasAddress s.sizes v asks → HasCause s t v.request (asked asks v.at v.bytes) a
+        → IsSome (place_of (places t) v.request) ⊎ (zone_asked s.sizes.zones (request_at s.script v.request) ≡ None)
+    by Read is below cause = inl (cause_placed s t v.request (request.Read v.at) v.at.0 a right refl below cause)
+    by Write is below cause = inl (cause_placed s t v.request (request.Write v.at v.bytes false) v.at.0 a right refl below cause)
+    by Flush is below cause = inr (ap (zone_asked s.sizes.zones) is)
 
-physical_course : (sizes : Sizes) (old : PhysicalZone) (v : Vio) (new : PhysicalZone) (made : Trace) (posts : List Post) → PhysicalServes sizes old v new made posts → Course (at.Physical old) (item.Request v ∷ []) made posts
-physical_course sizes old v new made posts (journal.claims x xs p f n m q) = still (rw q (refl, tt)) (λ t. rw m refl)
-physical_course sizes old v new made posts (journal.PhysicalServes.is_full p f n m q) = still (rw q (refl, tt)) (λ t. rw m refl)
-physical_course sizes old v new made posts (journal.aborts_claim p n m q) = still (rw q (refl, tt)) (λ t. rw m refl)
-physical_course sizes old v new made posts (journal.aborts_entered_claim p n m q) = still (rw q (refl, tt)) (λ t. rw m refl)
+module _ (s : Session) (t : Trace) (right : RightTrace s t) where
+  begin_course : (old new : Desk) (made : Trace) (posts : List Post) → old.requests ≡ s.script → DeskBegins s.sizes old new made posts → Course s t (at.Desk old) [] made posts
+  begin_course old new made posts script (desk.answers w r v reply i h served o n m q) =
+      still refl (rw q tt) (rw m refl) (λ zone. elim (same_tells w w) [ inl same ↦ rw (m, same.0) refl | inr other ↦ absurd (other.1 refl) ])
+  begin_course old new made posts script (desk.sends w r v i h served o n m q) =
+      sends old refl (rw m refl) (λ zone.
+        let here : request_at s.script w ≡ Some r = subst (λ (script : _). request_at script w ≡ Some r) script h in
+        rw (m, q) (ap (λ (us : List Writer). sent_to_zone s zone t ++ us) (ap (λ (o : Option Request). only_of zone (zone_asked s.sizes.zones o) w) here ∙ posted_begun s.sizes zone w r v served)))
 
-journal_course : (sizes : Sizes) (old : JournalZone) (v : Vio) (new : JournalZone) (made : Trace) (posts : List Post) → JournalServes sizes old v new made posts → Course (at.Journal old) (item.Request v ∷ []) made posts
-journal_course sizes old v new made posts (journal.is_stopped p c n m q) = still (rw q (refl, tt)) (λ t. rw m refl)
-journal_course sizes old v new made posts (journal.waits p c b n m q) = still (rw q tt) (λ t. rw m refl)
-journal_course sizes old v new made posts (journal.is_full p c b h n m q) = still (rw q (refl, tt)) (λ t. rw m refl)
-journal_course sizes old v new made posts (journal.enters p c b h n m q) = still (rw q (refl, tt)) (λ t. rw m refl)
+  desk_course : (old : Desk) (v : Vio) (new : Desk) (made : Trace) (posts : List Post) → ItemOk s t desk_zone (item.Request v) → DeskServes s.sizes old v new made posts
+      → Course s t (at.Desk old) (item.Request v ∷ []) made posts
+  desk_course old v new made posts ok (desk.parks reply p h stopped told n m q) = still (past v p) (rw q tt) (rw m refl) (λ zone. rw m refl)
+  desk_course old v new made posts ok (desk.answers reply p h stopped k n m q) =
+      still (past v p) (rw q tt) (rw m refl) (λ zone. rw m (answer_sends s t v.request reply zone right (answer_placed s t v reply right ok.0 (earned reply p h k))))
+    where
+      earned : (a : Answer) → v.phase ≡ phase.Reply → v.answer ≡ Some a → is_marked v.asks a ≡ false → HasCause s t v.request (request_of v) a
+      earned a p h k =
+          let reply : MayReply s t v v.answer = subst (λ (q : Phase). Carries s t v q) p ok.1 in
+          let has : IsEarned s t v a (is_marked v.asks a) = subst (λ (o : Option Answer). MayReply s t v o) h reply in
+          subst (λ (b : Bool). IsEarned s t v a b) k has
+  desk_course old v new made posts ok (desk.marks p k h n m q) = still (past v p) (rw q tt) (rw m refl) (λ zone. rw m refl)
 
-end_course : (sizes : Sizes) (old : JournalZone) (b : SealedBlock) (new : JournalZone) (made : Trace) (posts : List Post) → JournalEnds sizes old b new made posts → Course (at.Journal old) (item.Block b ∷ []) made posts
-end_course sizes old b new made posts (journal.commits_next w ws c f h n m q) = still (rw q (refl, (refl, tt))) (λ t. rw m refl)
-end_course sizes old b new made posts (journal.commits_alone c f h n m q) = still (rw q (refl, tt)) (λ t. rw m refl)
-end_course sizes old b new made posts (journal.commits_last c h n m q) = still (rw q (refl, refused_still sizes _ old.waiting)) (λ t. rw m refl)
-end_course sizes old b new made posts (journal.fails c n m q) = still (rw q (refl, refused_still sizes _ old.waiting)) (λ t. rw m refl)
+  -- each act is one of the three
+  pub course : (n : ℕ) (old : ZoneData) (front : List Item) (new : ZoneData) (made : Trace) (posts : List Post) → Act s.sizes old front new made posts → DataOk s t n old → AllByRecursion (ItemOk s t n) front
+      → KeptIn old → Course s t old front made posts
+  course n old front new made posts (steps.begins act) ok fronts kept = begin_course _ _ _ _ ok.requests act
+  course n old front new made posts (steps.answers {v = v} act) ok fronts kept = desk_course _ v _ _ _ (subst (λ (m : ℕ). ItemOk s t m (item.Request v)) ok.number_is fronts.0) act
+  course n old front new made posts (steps.hears {old = d}) ok fronts kept = still refl (woken_still d.parked kept) refl (λ zone. refl)
+  course n old front new made posts (steps.serves act) ok fronts kept = logical_course s t _ _ _ _ _ act
+  course n old front new made posts steps.serves_notice ok fronts kept = still refl (refl, tt) refl (λ zone. refl)
+  course n old front new made posts (steps.takes act) ok fronts kept = physical_course s t _ _ _ _ _ act
+  course n old front new made posts steps.takes_notice ok fronts kept = still refl (refl, tt) refl (λ zone. refl)
+  course n old front new made posts (steps.enters act) ok fronts kept = journal_course s t _ _ _ _ _ act
+  course n old front new made posts (steps.ends act) ok fronts kept = end_course s t _ _ _ _ _ act
+  course n old front new made posts (steps.enters_notice {old = j}) ok fronts kept = still refl (refl, refused_still s.sizes _ j.waiting) refl (λ zone. refl)
+  course n old front new made posts (steps.calls act) ok fronts kept = device_course s t _ _ _ _ _ act
+  course n old front new made posts (steps.works act) ok fronts kept = work_course s t _ _ _ _ _ act
 
-device_course : (sizes : Sizes) (old : DeviceZone) (v : Vio) (new : DeviceZone) (made : Trace) (posts : List Post) → DeviceServes sizes old v new made posts → Course (at.Device old) (item.Request v ∷ []) made posts
-device_course sizes old v new made posts (device.stores p s inside n m q) = still (rw q (refl, tt)) (λ t. rw m refl)
-device_course sizes old v new made posts (device.store_fails kept p s inside n m q) = still (rw q (refl, notices_still (notified sizes))) (λ t. rw m refl)
-device_course sizes old v new made posts (device.store_unmade p s n m q) = still (rw q (refl, tt)) (λ t. rw m refl)
-device_course sizes old v new made posts (device.loads bytes p inside n m q) = still (rw q (refl, tt)) (λ t. rw m refl)
-device_course sizes old v new made posts (device.load_fails bytes kept p inside n m q) = still (rw q (refl, tt)) (λ t. rw m refl)
-device_course sizes old v new made posts (device.flushes p s n m q) = still (rw q (refl, tt)) (λ t. rw m refl)
-device_course sizes old v new made posts (device.flush_fails kept p s n m q) = still (rw q (refl, notices_still (notified sizes))) (λ t. rw m refl)
-device_course sizes old v new made posts (device.flush_unmade p s n m q) = still (rw q (refl, tt)) (λ t. rw m refl)
+-- posts that need no place count for nothing
+still_counted : (sizes : Sizes) (n : ℕ) (ps : List Post) → AllByRecursion Still ps → counted arrival (items_to sizes n ps) ≡ []
+still_counted sizes n [] h = refl
+still_counted sizes n (p ∷ ps) h = one (nat_eq (zone_number sizes p.0) n) (still_counted sizes n ps h.1)
+  where
+    one : (b : Bool) → counted arrival (items_to sizes n ps) ≡ [] → counted arrival (cond b (p.1 ∷ items_to sizes n ps) (items_to sizes n ps)) ≡ []
+    one true rest = ap (λ (us : List Writer). us ++ counted arrival (items_to sizes n ps)) h.0 ∙ rest
+    one false rest = rest
 
-work_course : (sizes : Sizes) (old : DeviceZone) (b : SealedBlock) (new : DeviceZone) (made : Trace) (posts : List Post) → DeviceWorks sizes old b new made posts → Course (at.Device old) (item.Block b ∷ []) made posts
-work_course sizes old b new made posts (device.makes call slot i c s n m q) = still (rw q (refl, tt)) (λ t. rw m refl)
-work_course sizes old b new made posts (device.fails call slot kept i c s n m q) = still (rw q (refl, notices_still (notified sizes))) (λ t. rw m refl)
-work_course sizes old b new made posts (device.unmade call slot c s n m q) = still (rw q (refl, tt)) (λ t. rw m refl)
+-- What each act owes of the arrivals at a logical zone.
+module _ (s : Session) (t : Trace) (zone n : ℕ) (old : ZoneData) (front : List Item) (made : Trace) (posts : List Post) (ok : DataOk s t n old) where
+  pub arrivals_kept : Course s t old front made posts → Keeps (arrivals_at s zone) s.sizes n t front made posts
+  arrivals_kept (still f q p sent) = record {
+    sends = λ is. sent zone ∙ sym (ap (λ (us : List Writer). sent_to_zone s zone t ++ us) (still_counted s.sizes (logical_zone zone) posts q) ∙ append-nil (sent_to_zone s zone t));
+    sent_same = λ ne. sent zone;
+    nothing = λ ne. still_counted s.sizes (logical_zone zone) posts q;
+    takes = λ is. ap (drew_in zone) p ∙ sym (ap (λ (us : List Writer). drew_in zone (places t) ++ us) f ∙ append-nil (drew_in zone (places t)));
+    taken_same = λ ne. ap (drew_in zone) p;
+  }
+  arrivals_kept (draws l v is fronts arrives q p sent) =
+      let number : n ≡ logical_zone l.zone = (subst (λ (d : ZoneData). DataOk s t n d) is ok).number_is in
+      record {
+        sends = λ from. absurd (omega (arith, from, number));
+        sent_same = λ ne. sent zone;
+        nothing = λ ne. still_counted s.sizes (logical_zone zone) posts q;
+        takes = λ to. ap (drew_in zone) p ∙ at_own l v (elim (eqb_tells l.zone zone) [ inl same ↦ same.1 | inr other ↦ absurd (other.1 (omega (arith, number, to))) ]) fronts arrives;
+        taken_same = λ ne. ap (drew_in zone) p ∙ elsewhere l v (λ e. ne (number ∙ ap logical_zone e));
+      }
+    where
+      at_own : (l : LogicalZone) (v : Vio) → l.zone ≡ zone → front ≡ item.Request v ∷ [] → v.phase ≡ phase.Arrive → drew_in zone (place_of_vio l v ∷ places t) ≡ drew_in zone (places t) ++ counted arrival front
+      at_own l v is fronts arrives = elim (eqb_tells l.zone zone) [
+        | inl same ↦ rw (same.0, fronts) (sym (ap (λ (us : List Writer). drew_in zone (places t) ++ us) (past v arrives)))
+        | inr other ↦ absurd (other.1 is)
+      ]
 
--- each act is one of the three
-pub course : (sizes : Sizes) (old : ZoneData) (front : List Item) (new : ZoneData) (made : Trace) (posts : List Post) → Act sizes old front new made posts → KeptIn old → Course old front made posts
-course sizes old front new made posts (steps.begins act) kept = begin_course sizes _ _ _ _ act
-course sizes old front new made posts (steps.answers act) kept = desk_course sizes _ _ _ _ _ act
-course sizes old front new made posts (steps.hears {old = d}) kept = still (woken_still d.parked kept) (λ t. refl)
-course sizes old front new made posts (steps.serves act) kept = logical_course sizes _ _ _ _ _ act
-course sizes old front new made posts steps.serves_notice kept = still (refl, tt) (λ t. refl)
-course sizes old front new made posts (steps.takes act) kept = physical_course sizes _ _ _ _ _ act
-course sizes old front new made posts steps.takes_notice kept = still (refl, tt) (λ t. refl)
-course sizes old front new made posts (steps.enters act) kept = journal_course sizes _ _ _ _ _ act
-course sizes old front new made posts (steps.ends act) kept = end_course sizes _ _ _ _ _ act
-course sizes old front new made posts (steps.enters_notice {old = j}) kept = still (refl, refused_still sizes _ j.waiting) (λ t. refl)
-course sizes old front new made posts (steps.calls act) kept = device_course sizes _ _ _ _ _ act
-course sizes old front new made posts (steps.works act) kept = work_course sizes _ _ _ _ _ act
+      elsewhere : (l : LogicalZone) (v : Vio) → (l.zone ≡ zone → ⊥) → drew_in zone (place_of_vio l v ∷ places t) ≡ drew_in zone (places t)
+      elsewhere l v ne = elim (eqb_tells l.zone zone) [ inl same ↦ absurd (ne same.1) | inr other ↦ rw other.0 refl ]
+  arrivals_kept (sends d is p sent) =
+      let number : n ≡ desk_zone = (subst (λ (d : ZoneData). DataOk s t n d) is ok).number_is in
+      record {
+        sends = λ from. sent zone;
+        sent_same = λ ne. absurd (ne number);
+        nothing = λ ne. absurd (ne number);
+        takes = λ to. absurd (omega (arith, to, number));
+        taken_same = λ ne. ap (drew_in zone) p;
+      }
 
--- the number of a logical zone among the logical ones, and None of another zone
-abbrev pub zone_in : ZoneData → Option ℕ
-zone_in (at.Logical l) = Some l.zone
-zone_in other = None
+-- In their order: each request is of a greater number than those of its stream before it.
+abbrev pub Before : Writer → Writer → Type 0
+Before w u = w.stream ≡ u.stream → w.number < u.number
 
-passed_zone : (a : ℕ) (l : LogicalZone) (o : Option Vio) → (passed_to a l o).zone ≡ l.zone
-passed_zone a l None = refl
-passed_zone a l (Some v) = refl
+abbrev pub Rising : List Writer → Type 0
+Rising [] = Unit {0}
+Rising (u ∷ us) = AllByRecursion (Before u) us × Rising us
 
-logical_zone_kept : (sizes : Sizes) (old : LogicalZone) (v : Vio) (new : LogicalZone) (made : Trace) (posts : List Post) → LogicalServes sizes old v new made posts → new.zone ≡ old.zone
-logical_zone_kept sizes old v new made posts (logical.arrives_retired p d n m q) = rw n refl
-logical_zone_kept sizes old v new made posts (logical.arrives_free post p d f goes n m q) = rw n refl
-logical_zone_kept sizes old v new made posts (logical.arrives_held p d f n m q) = rw n refl
-logical_zone_kept sizes old v new made posts (logical.settles more p grants n m q) = rw n (passed_zone v.at.0 (with_slot old v) (first_for v.at.0 old.waiting))
-logical_zone_kept sizes old v new made posts (logical.gives more p grants n m q) = rw n (passed_zone v.at.0 old (first_for v.at.0 old.waiting))
-logical_zone_kept sizes old v new made posts (logical.aborts more p grants n m q) = rw n (passed_zone v.at.0 old (first_for v.at.0 old.waiting))
-logical_zone_kept sizes old v new made posts (logical.aborts_entered p n m q) = rw n refl
+rising_more : (us : List Writer) (w : Writer) → Rising us → AllByRecursion (λ u. Before u w) us → Rising (us ++ w ∷ [])
+rising_more [] w rises before = (tt, tt)
+rising_more (u ∷ us) w rises before = (every-append (Before u) us (w ∷ []) rises.0 (before.0, tt), rising_more us w rises.1 before.1)
 
--- an act changes no zone into another
-pub same_zone : (sizes : Sizes) (old : ZoneData) (front : List Item) (new : ZoneData) (made : Trace) (posts : List Post) → Act sizes old front new made posts → zone_in new ≡ zone_in old
-same_zone sizes old front new made posts (steps.begins act) = refl
-same_zone sizes old front new made posts (steps.answers act) = refl
-same_zone sizes old front new made posts steps.hears = refl
-same_zone sizes old front new made posts (steps.serves act) = ap (λ (n : ℕ). Some n) (logical_zone_kept sizes _ _ _ _ _ act)
-same_zone sizes old front new made posts steps.serves_notice = refl
-same_zone sizes old front new made posts (steps.takes act) = refl
-same_zone sizes old front new made posts steps.takes_notice = refl
-same_zone sizes old front new made posts (steps.enters act) = refl
-same_zone sizes old front new made posts (steps.ends act) = refl
-same_zone sizes old front new made posts steps.enters_notice = refl
-same_zone sizes old front new made posts (steps.calls act) = refl
-same_zone sizes old front new made posts (steps.works act) = refl
+-- whoever stands behind some follows them
+rising_behind : (us vs : List Writer) (w : Writer) → Rising (us ++ w ∷ vs) → AllByRecursion (λ u. Before u w) us
+rising_behind [] vs w rises = tt
+rising_behind (u ∷ us) vs w rises = ((every-front (Before u) us (w ∷ vs) rises.0).1.0, rising_behind us vs w rises.1)
 
--- data of a logical zone
-pub record IsLogical (d : ZoneData) (zone : ℕ) : Type 0 where
-  pub logical : LogicalZone
-  pub is : d ≡ at.Logical logical
-  pub zone_is : logical.zone ≡ zone
+abbrev pub IsBegun : Trace → Writer → Type 0
+IsBegun t w = w.number < begun w.stream (lines t)
 
-pub is_logical : (d : ZoneData) (zone : ℕ) → zone_in d ≡ Some zone → IsLogical d zone
-is_logical (at.Desk d) zone e = absurd (cc)
-is_logical (at.Logical l) zone e = record { logical = l; is = refl; zone_is = cc }
-is_logical (at.Physical p) zone e = absurd (cc)
-is_logical (at.Journal j) zone e = absurd (cc)
-is_logical (at.Device d) zone e = absurd (cc)
+record IsSentRight (t : Trace) (us : List Writer) : Type 0 where
+  pub begun_all : AllByRecursion (IsBegun t) us
+  pub rises : Rising us
+
+sent_more : (s : Session) (zone : ℕ) (t : Trace) (w : Writer) (o : Option ℕ) → w.number ≡ begun w.stream (lines t) → IsSentRight t (sent_to_zone s zone t)
+    → AllByRecursion (IsBegun (Says (line.Begin w) ∷ t)) (sent_to_zone s zone t) → IsSentRight (Says (line.Begin w) ∷ t) (sent_to_zone s zone t ++ only_of zone o w)
+sent_more s zone t w None number right stays = record { begun_all = subst (λ (us : List Writer). AllByRecursion (IsBegun (Says (line.Begin w) ∷ t)) us) (sym (append-nil _)) stays; rises = subst Rising (sym (append-nil _)) right.rises }
+sent_more s zone t w (Some z) number right stays = elim (eqb_tells z zone) [
+  | inl same ↦ rw same.0 (record {
+    begun_all = every-append (IsBegun (Says (line.Begin w) ∷ t)) (sent_to_zone s zone t) (w ∷ []) stays (begun_now w (lines t) number, tt);
+    rises = rising_more (sent_to_zone s zone t) w right.rises (every-map {P = IsBegun t} {Q = λ u. Before u w} (λ u below same. subst (λ (n : ℕ). u.number < n) (sym number) (subst (λ (stream : ℕ). u.number < begun stream (lines t)) same below)) (sent_to_zone s zone t) right.begun_all);
+  })
+  | inr other ↦ rw other.0 (record { begun_all = subst (λ (us : List Writer). AllByRecursion (IsBegun (Says (line.Begin w) ∷ t)) us) (sym (append-nil _)) stays; rises = subst Rising (sym (append-nil _)) right.rises })
+]
+
+-- what holds of the requests that were sent still holds one happening later
+later : (s : Session) (h : Happening) (t : Trace) (us : List Writer) → MayFollow s h t → IsSentRight t us → IsSentRight (h ∷ t) us
+later s h t us may right = record { begun_all = every-map {P = IsBegun t} {Q = IsBegun (h ∷ t)} (λ w is. begun_stays s h t w may is) us right.begun_all; rises = right.rises }
+
+sent_right : (s : Session) (zone : ℕ) (t : Trace) → RightTrace s t → IsSentRight t (sent_to_zone s zone t)
+sent_right s zone [] right = record { begun_all = tt; rises = tt }
+sent_right s zone (Says (line.Begin w) ∷ t) right =
+    let before = sent_right s zone t right.2 in
+    sent_more s zone t w (zone_asked s.sizes.zones (request_at s.script w)) right.0.0 before (later s (Says (line.Begin w)) t (sent_to_zone s zone t) right.0 before).begun_all
+sent_right s zone (Says (line.Answer w a) ∷ Says (line.Begin v) ∷ t) right = elim (same_tells w v) [
+  | inl same ↦ rw same.0 (later s (Says (line.Answer w a)) (Says (line.Begin v) ∷ t) (sent_to_zone s zone t) right.0 (later s (Says (line.Begin v)) t (sent_to_zone s zone t) right.2.0 (sent_right s zone t right.2.2)))
+  | inr other ↦ rw other.0 (later s (Says (line.Answer w a)) (Says (line.Begin v) ∷ t) _ right.0 (sent_right s zone (Says (line.Begin v) ∷ t) right.2))
+]
+sent_right s zone (h ∷ t) right = later s h t (sent_to_zone s zone t) right.0 (sent_right s zone t right.2)
+
+-- each place of the zone is of one that drew in it
+drew_of : (P : Writer → Type 0) (zone : ℕ) (ps : List Placed) → AllByRecursion P (drew_in zone ps) → AllByRecursion (λ (p : Placed). p.zone ≡ zone → P p.request) ps
+drew_of P zone [] h = tt
+drew_of P zone (p ∷ ps) h = elim (eqb_tells p.zone zone) [
+  | inl same ↦ let both = every-front P (drew_in zone ps) (p.request ∷ []) (rw same.0 at h) in (λ is. both.1.0, drew_of P zone ps both.0)
+  | inr other ↦ (λ is. absurd (other.1 is), drew_of P zone ps (rw other.0 at h))
+]
+
+-- A request that arrives in its turn follows all of its stream that drew a place of the zone.
+pub arrives_in_turn : (s : Session) (t : Trace) (zone : ℕ) (w : Writer) (more : List Writer) → RightTrace s t → sent_to_zone s zone t ≡ drew_in zone (places t) ++ w ∷ more
+    → AllByRecursion (ComesAfter zone w) (places t)
+arrives_in_turn s t zone w more right is =
+    let rises = subst Rising is (sent_right s zone t right).rises in
+    every-map {P = λ (p : Placed). p.zone ≡ zone → Before p.request w} {Q = ComesAfter zone w} (λ p before. before) (places t) (drew_of (λ u. Before u w) zone (places t) (rising_behind (drew_in zone (places t)) more w rises))

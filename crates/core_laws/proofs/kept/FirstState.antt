@@ -15,9 +15,11 @@ use Rattle.core_model.specs.declared.zones.ZoneData.{ZoneData}
 use Rattle.core_model.specs.declared.zones.ZoneData.TheVariants as at
 use Rattle.core_model.specs.declared.zones.Lock.{Lock}
 use Rattle.core_model.specs.declared.zones.Zone.{Zone}
-use Rattle.core_model.specs.Facts.{ItemOk, KeptOk, WaitsOk, LockOk, DataOk, ZoneOk, RestsAt, Rises, arrivals}
-use Rattle.core_model.specs.Legal.{InOrder, LanesInOrder, Legal}
-use Rattle.core_model.specs.Zones.{desk_zone, zone_count}
+use Rattle.core_model.specs.Facts.{ItemOk, KeptOk, WaitsOk, LockOk, DataOk, ZoneOk, RestsAt, Rises, arrival}
+use Rattle.core_model.specs.Arrivals.{arrivals_at}
+use Rattle.core_model.specs.Legal.{Legal}
+use Rattle.core_model.specs.Streams.{Flows, counted}
+use Rattle.core_model.specs.Zones.{desk_zone, logical_zone, zone_count}
 use Rattle.core_model.specs.Sessions.{IsFresh, Session, IsSession, Shown, AtRest}
 use Rattle.core_model.specs.Start.{IsFirstData, IsFirstZone, IsFirst}
 use Rattle.core_model.specs.Steps.{Core}
@@ -182,15 +184,17 @@ module _ (s : Session) (session : IsSession s) where
     lanes = f.lanes;
     inbox = subst (λ (items : List Item). AllByRecursion (ItemOk s [] n) items) (sym f.inbox) tt;
     outboxes = λ to lane e. subst (λ (items : List Item). AllByRecursion (ItemOk s [] to) items) (sym (every-get (λ lane. lane ≡ []) z.outboxes to lane f.outboxes e)) tt;
-    arrivals_from = λ ne. every-map {P = λ lane. lane ≡ []} {Q = λ lane. arrivals lane ≡ []} (λ lane e. ap arrivals e) z.outboxes f.outboxes;
     own = data_at_start n z.keeps f.own;
   }
 
-  order_at_start : (zones : List Zone) → Each (IsFirstZone s) zones → LanesInOrder [] zones
-  order_at_start zones first n z desk l lane hz kz hd hl =
-      let inbox = ap arrivals (first n z hz).inbox in
-      let empty = ap arrivals (every-get (λ lane. lane ≡ []) desk.outboxes n lane (first desk_zone desk hd).outboxes hl) in
-      subst (λ (us : List Writer). InOrder l.zone [] (us ++ arrivals lane)) (sym inbox) (subst (λ (us : List Writer). InOrder l.zone [] us) (sym empty) tt)
+  flows_at_start : (zones : List Zone) (zone : ℕ) → Each (IsFirstZone s) zones → Flows (arrivals_at s zone) [] zones
+  flows_at_start zones zone first = record {
+    in_order = λ receiver sender lane hr hs hl.
+      let inbox = (first (logical_zone zone) receiver hr).inbox in
+      let empty = every-get (λ lane. lane ≡ []) sender.outboxes (logical_zone zone) lane (first desk_zone sender hs).outboxes hl in
+      sym (ap (λ (items : List Item). counted arrival items ++ counted arrival lane) inbox ∙ ap (counted arrival) empty);
+    alone = λ n z had ne lane hl. ap (counted arrival) (every-get (λ lane. lane ≡ []) z.outboxes (logical_zone zone) lane (first n z had).outboxes hl);
+  }
 
   legal_zones : (zones : List Zone) → length zones ≡ zone_count s.sizes → Each (IsFirstZone s) zones → Legal s (record { zones = zones; trace = [] })
   legal_zones zones count first = record {
@@ -202,7 +206,7 @@ module _ (s : Session) (session : IsSession s) where
     journal = balanced_at_start s zones first journal_token (journal_idle s);
     room = balanced_at_start s zones first room_token (no_lines is_answer is_begin s);
     stop_notices = balanced_at_start s zones first (notice_token s.sizes) (no_words s);
-    in_order = order_at_start zones first;
+    in_order = λ zone below. flows_at_start zones zone first;
     right = shown_at_start;
     gives_right = λ honest. tt;
   }

@@ -1,12 +1,14 @@
 -- Each step and each move keeps a core legal, and so does each list of events.
-use Rattle.std.proofs.Common.{◌≡◌, ℕ, zero, suc, ◌+◌, ◌<◌, Bool, true, false, Some, List, [], ◌∷◌, ◌++◌, length, nat_eq, slice_get, slice_set, refl, ap, sym, ◌∙◌, subst}
+use Rattle.std.proofs.Common.{◌≡◌, ℕ, zero, suc, ◌+◌, ◌<◌, Bool, true, false, Some, List, [], ◌∷◌, ◌++◌, length, nat_eq, slice_get, slice_set, refl, ap, sym, ◌∙◌, subst, arith}
 use Rattle.std.specs.List.{AllByRecursion}
 use Rattle.std.proofs.lemmas.Bool.{eqb-true}
 use Rattle.std.proofs.lemmas.Option.{same_Some}
+use Rattle.blk_base.specs.declared.request.Writer.{Writer}
 use Rattle.core_model.specs.declared.items.Item.{Item}
 use Rattle.core_model.specs.declared.items.Item.TheVariants as item
 use Rattle.core_model.specs.declared.zones.ZoneData.{ZoneData}
 use Rattle.core_model.specs.declared.zones.Zone.{Zone}
+use Rattle.core_model.specs.Arrivals.{arrivals_at}
 use Rattle.core_model.specs.Facts.{ItemOk, ZoneOk}
 use Rattle.core_model.specs.Legal.{Legal}
 use Rattle.core_model.specs.Zones.{zone_number, zone_count}
@@ -22,16 +24,15 @@ use Rattle.core_laws.proofs.kept.ActKept.{PostOk}
 use Rattle.core_laws.proofs.tokens.BlockOwners.{sealed_busy}
 use Rattle.core_laws.proofs.tokens.BlockTokens.{blocks_law, wait_to_enter}
 use Rattle.core_laws.proofs.tokens.JournalTokens.{IsBusy, journal_law}
-use Rattle.core_laws.proofs.lists.LaneLists.{kept_in}
-use Rattle.core_laws.proofs.kept.LaneMoves.{arrivals_step}
-use Rattle.core_laws.proofs.kept.LaneOrder.{order_step}
+use Rattle.core_laws.proofs.kept.Arrivals.{arrivals_kept, course}
+use Rattle.core_laws.proofs.kept.KeptPhases.{kept_in}
+use Rattle.core_laws.proofs.kept.Streams.{flows_step}
 use Rattle.core_laws.proofs.tokens.LeaseOwners.{leased_front}
 use Rattle.core_laws.proofs.tokens.LeaseTokens.{LeasedIn, SealedIn, leases_law}
 use Rattle.core_laws.proofs.tokens.Lift.{Within, balance_step, at_most_step}
-use Rattle.plain_laws.proofs.ListLaws.{Each-put_other, every-append, every-map, length-put, get-put_same}
+use Rattle.plain_laws.proofs.ListLaws.{Each-put_other, every-append, every-front, every-map, length-put, get-put_same}
 use Rattle.core_laws.proofs.lists.Lists.{length-posted}
 use Rattle.core_laws.proofs.tokens.NoticeTokens.{notices_law}
-use Rattle.core_laws.proofs.trace.PlacesOfTrace.{places_begun}
 use Rattle.core_laws.proofs.tokens.RequestTokens.{requests_law}
 use Rattle.core_laws.proofs.tokens.RoomTokens.{room_law}
 use Rattle.core_laws.proofs.kept.StepActs.{ActOk, begins_ok, answers_ok, serves_ok, takes_ok, enters_ok, calls_ok}
@@ -135,7 +136,6 @@ module _ (s : Session) (session : IsSession s) (old new : Core) (legal : Legal s
     lanes = lanes_ok.lanes;
     inbox = lanes_ok.inbox;
     outboxes = lanes_ok.outboxes;
-    arrivals_from = arrivals_step s old new st legal.each st.number st.zone' has_now;
     own = stepped.0.own;
   }
 
@@ -144,6 +144,10 @@ module _ (s : Session) (session : IsSession s) (old new : Core) (legal : Legal s
     where
       each_other : (zones : List Zone) (i : ℕ) (z z' : Zone) → slice_get zones i ≡ Some z → Each (λ j y. (j ≡ i → ⊥) → ZoneOk s t' j y) zones → ZoneOk s t' i z' → Each (ZoneOk s t') (slice_set zones i z')
       each_other zones i z z' had others ok' = Each-put_other {P = λ j y. (j ≡ i → ⊥) → ZoneOk s t' j y} {Q = ZoneOk s t'} zones i z z' had others (λ j y ne f. f ne) ok'
+
+  -- what the zone took from its inbox
+  fronts : AllByRecursion (ItemOk s old.trace st.number) st.step.front
+  fronts = (every-front (ItemOk s old.trace st.number) st.step.front st.step.rest (subst (λ (items : List Item). AllByRecursion (ItemOk s old.trace st.number) items) st.step.taken zone_ok.inbox)).0
 
   -- what the laws of the tokens ask
   busy : IsBusy st.zone.keeps st.step.front
@@ -166,7 +170,10 @@ module _ (s : Session) (session : IsSession s) (old new : Core) (legal : Legal s
     journal = balance_step journal_token s.sizes old new st lanes_there (journal_law s.sizes st.zone.keeps st.step.front st.zone'.keeps st.made st.step.posts st.step.act busy) legal.journal;
     room = balance_step room_token s.sizes old new st lanes_there (room_law s.sizes st.zone.keeps st.step.front st.zone'.keeps st.made st.step.posts st.step.act) legal.room;
     stop_notices = balance_step (notice_token s.sizes) s.sizes old new st lanes_there (notices_law s.sizes st.zone.keeps st.step.front st.zone'.keeps st.made st.step.posts st.step.act) legal.stop_notices;
-    in_order = order_step s old new st legal.each (places_begun s old.trace legal.right) legal.in_order;
+    in_order = λ zone below. flows_step Writer (arrivals_at s zone) s.sizes (λ e. absurd (omega (arith, e))) old new st zone_ok.number_is
+        (arrivals_kept s old.trace zone st.number st.zone.keeps st.step.front st.made st.step.posts zone_ok.own
+        (course s old.trace legal.right st.number st.zone.keeps st.step.front st.zone'.keeps st.made st.step.posts st.step.act zone_ok.own fronts (kept_in s old.trace st.number st.zone.keeps zone_ok.own)))
+        (legal.in_order zone below);
     right = subst (RightTrace s) (sym trace_is) stepped.0.right;
     gives_right = subst (λ (t : Trace). HasHonestReads s t → GivesRight s t) (sym trace_is) (stepped.0.gives legal.gives_right);
   }

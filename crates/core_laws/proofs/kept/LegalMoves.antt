@@ -1,7 +1,9 @@
 -- A move keeps a core legal, and so does each list of events.
-use Rattle.std.proofs.Common.{◌≡◌, ℕ, Some, List, ◌++◌, length, slice_get, slice_set, ap, sym, ◌∙◌, subst}
+use Rattle.std.proofs.Common.{◌≡◌, ℕ, Some, List, ◌++◌, length, slice_get, slice_set, ap, sym, ◌∙◌, subst, arith}
 use Rattle.std.specs.List.{AllByRecursion}
+use Rattle.blk_base.specs.declared.request.Writer.{Writer}
 use Rattle.core_model.specs.declared.zones.Zone.{Zone}
+use Rattle.core_model.specs.Arrivals.{arrivals_at}
 use Rattle.core_model.specs.Facts.{ItemOk, ZoneOk, DataOk}
 use Rattle.core_model.specs.Legal.{Legal}
 use Rattle.core_model.specs.Zones.{zone_count}
@@ -14,7 +16,7 @@ use Rattle.plain_laws.specs.Sums.{Each}
 use Rattle.core_model.specs.Tokens.{request_token, lease_token, block_token, journal_token, room_token, notice_token}
 use Rattle.core_model.specs.Trace.{Trace}
 use Rattle.core_laws.proofs.kept.FirstState.{legal_first}
-use Rattle.core_laws.proofs.kept.LaneMoves.{order_move, arrivals_move}
+use Rattle.core_laws.proofs.kept.Streams.{flows_move}
 use Rattle.core_laws.proofs.kept.LegalKept.{legal_step}
 use Rattle.core_laws.proofs.tokens.Lift.{balance_move, at_most_move}
 use Rattle.plain_laws.proofs.ListLaws.{Each-put, every-append, every-front, length-put, get-put_other}
@@ -65,7 +67,7 @@ module _ (s : Session) (old new : Core) (m : MoveOf old new) (legal : Legal s ol
   each_now : Each (ZoneOk s old.trace) new.zones
   each_now j z had =
       let k = lanes_now j z (subst (λ (zs : List Zone). slice_get zs j ≡ Some z) zones_is had) in
-      record { number_is = k.0; lanes = k.1; inbox = k.2; outboxes = k.3; arrivals_from = arrivals_move s old new m legal.each j z had; own = k.4 }
+      record { number_is = k.0; lanes = k.1; inbox = k.2; outboxes = k.3; own = k.4 }
 
   pub legal_move : Legal s new
   legal_move = record {
@@ -77,7 +79,7 @@ module _ (s : Session) (old new : Core) (m : MoveOf old new) (legal : Legal s ol
     journal = balance_move journal_token old new m legal.journal;
     room = balance_move room_token old new m legal.room;
     stop_notices = balance_move (notice_token s.sizes) old new m legal.stop_notices;
-    in_order = order_move s old new m legal.each legal.in_order;
+    in_order = λ zone below. flows_move Writer (arrivals_at s zone) s.sizes (λ e. absurd (omega (arith, e))) old new m (legal.in_order zone below);
     right = subst (RightTrace s) (sym trace_is) legal.right;
     gives_right = subst (λ (t : Trace). HasHonestReads s t → GivesRight s t) (sym trace_is) legal.gives_right;
   }

@@ -24,9 +24,11 @@ use Rattle.core_model.specs.declared.zones.PhysicalZone.{PhysicalZone}
 use Rattle.core_model.specs.declared.zones.Zone.{Zone}
 use Rattle.core_model.specs.DeskRows.{DeskBegins, DeskServes, mark_of_vio}
 use Rattle.core_model.specs.DeviceRows.{DeviceServes}
-use Rattle.core_model.specs.Facts.{ItemOk, DataOk, DeskOk, LogicalOk, PhysicalOk, JournalOk, DeviceOk, Carries, arrivals, arriving, zone_at}
+use Rattle.core_model.specs.Facts.{ItemOk, DataOk, DeskOk, LogicalOk, PhysicalOk, JournalOk, DeviceOk, Carries, arrival, arriving, zone_at}
 use Rattle.core_model.specs.JournalRows as journal
-use Rattle.core_model.specs.Legal.{Legal, ComesAfter, InOrder}
+use Rattle.core_model.specs.Arrivals.{drew_in}
+use Rattle.core_model.specs.Legal.{Legal, ComesAfter}
+use Rattle.core_model.specs.Streams.{counted}
 use Rattle.core_model.specs.LogicalRows as logical
 use Rattle.core_model.specs.Zones.{zone_number, desk_zone, logical_zone}
 use Rattle.core_model.specs.Sessions.{Session, IsSession}
@@ -35,6 +37,7 @@ use Rattle.plain_laws.specs.Sums.{bit}
 use Rattle.core_model.specs.Tokens.{request_token, holds, holder_weight}
 use Rattle.core_model.specs.Trace.{Happening, Draws, Calls, Trace, places, entered}
 use Rattle.core_model.specs.Vios.{Post, logged, gift}
+use Rattle.core_laws.proofs.kept.Arrivals.{arrives_in_turn}
 use Rattle.core_laws.proofs.kept.ActKept.{ActKept}
 use Rattle.core_laws.proofs.kept.CallSides.{side_begin, side_at_once, side_enter, side_call, side_store}
 use Rattle.core_laws.proofs.desk.DeskFacts.{desk_begins, desk_serves}
@@ -125,13 +128,12 @@ module _ (s : Session) (session : IsSession s) (core : Core) (legal : Legal s co
         let k : LogicalOk s core.trace n old = own_ok (at.Logical old) keeps in
         let place = k.number_is in let among = k.among in
         let lane = stood desk.zone.outboxes n (omega (arith, lanes, place, among)) in
-        let order = legal.in_order n z desk.zone old lane.it had keeps desk.had lane.is in
-        let here = subst (λ (items : List Item). InOrder old.zone (places core.trace) (arrivals items ++ arrivals lane.it)) taken order in
-        (arrives (arrivals lane.it) v.phase is here).0
+        let order = (legal.in_order old.zone among).in_order z desk.zone lane.it (subst (λ (i : ℕ). slice_get core.zones i ≡ Some z) place had) desk.had (subst (λ (i : ℕ). slice_get desk.zone.outboxes i ≡ Some lane.it) place lane.is) in
+        arrives_in_turn s core.trace old.zone v.request (counted arrival rest ++ counted arrival lane.it) legal.right
+        (order ∙ ap (λ (us : List Writer). drew_in old.zone (places core.trace) ++ (us ++ counted arrival lane.it)) (ap (counted arrival) taken ∙ first v.phase is))
       where
-        arrives : (more : List Writer) (q : Phase) → q ≡ phase.Arrive → InOrder old.zone (places core.trace) ((arriving q v.request ++ arrivals rest) ++ more)
-            → InOrder old.zone (places core.trace) (v.request ∷ (arrivals rest ++ more))
-        arrives more q is order = rw is at order
+        first : (q : Phase) → q ≡ phase.Arrive → arriving q v.request ++ counted arrival rest ≡ v.request ∷ counted arrival rest
+        first q is = rw is refl
 
     leased : (old : LogicalZone) → z.keeps ≡ at.Logical old → holds v.phase ≡ true → Leased old v
     leased old keeps held = leased_front s core.trace core.zones n z old v rest legal.each (legal.leases v.at.0) had taken keeps held

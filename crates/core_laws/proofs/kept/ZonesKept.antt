@@ -125,6 +125,5 @@ zone_kept s t h n z spares k = record {
   lanes = k.lanes;
   inbox = items_kept s t h n z.inbox spares.inbox k.inbox;
   outboxes = lanes_kept s t h z.outboxes spares.outboxes k.outboxes;
-  arrivals_from = k.arrivals_from;
   own = data_kept s t h n z.keeps spares.own spares.queue k.own;
 }

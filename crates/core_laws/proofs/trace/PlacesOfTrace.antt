@@ -16,7 +16,7 @@ use Rattle.vdo_model.specs.declared.report.DeskLine.TheVariants.{Begin, Answer}
 use Rattle.vdo_model.specs.declared.report.Placed.{Placed}
 use Rattle.core_model.specs.Sessions.{Session}
 use Rattle.core_model.specs.Trace.{Happening, Says, Flushes, Draws, Fails, Trace, Gift, lines, places, done, gifts, logged_of, gift_of}
-use Rattle.core_model.specs.RightTraces.{RightTrace, IsWrite, HasPlace, IsStoppedAtOnce, MayAnswer, MayFollow}
+use Rattle.core_model.specs.RightTraces.{RightTrace, IsWrite, HasPlace, IsStoppedAtOnce, HasCause, MayAnswer, MayFollow}
 use Rattle.plain_laws.proofs.ListLaws.{every-map}
 use Rattle.plain_laws.proofs.OptionLaws.{some_is, some_of}
 use Rattle.vdo_model.proofs.NameLaws.{same_tells}
@@ -116,22 +116,28 @@ done_placed s t w right some =
     let has = logged_has (IsWrite s t) (done t) w e.0 e.1 (done_writes s t right) in
     some_is _ _ (subst (λ (x : Writer). HasPlace s t x e.0.at.0 e.0.place) has.1 has.0.placed)
 
--- why a block request below the logical size was answered: it has a place, or was stopped at once
-cause_placed : (s : Session) (t : Trace) (w : Writer) (r : Request) (a : ℕ) (answer : Reply) → RightTrace s t → address_of r ≡ Some a → a < s.sizes.geometry.logical → MayAnswer s t w r answer
-    → IsSome (place_of (places t) w) ⊎ ((answer ≡ Stopped) × IsStoppedAtOnce t w)
-cause_placed s t w (request.Read at) a (reply.Bytes bytes) right has below cause = inl (gift_placed s t w _ right cause.1)
+-- a block request below the logical size with a cause of its answer has a place
+pub cause_placed : (s : Session) (t : Trace) (w : Writer) (r : Request) (a : ℕ) (answer : Reply) → RightTrace s t → address_of r ≡ Some a → a < s.sizes.geometry.logical → HasCause s t w r answer
+    → IsSome (place_of (places t) w)
+cause_placed s t w (request.Read at) a (reply.Bytes bytes) right has below cause = gift_placed s t w _ right cause.1
 cause_placed s t w (request.Read at) a reply.Range right has below cause = let is : at.0 ≡ a = same_Some _ _ has in absurd (omega arith)
-cause_placed s t w (request.Read at) a reply.Stopped right has below cause = inl (some_is _ _ cause.1.placed)
-cause_placed s t w (request.Read at) a reply.ReadFault right has below cause = inl cause.0
+cause_placed s t w (request.Read at) a reply.Stopped right has below cause = some_is _ _ cause.1.placed
+cause_placed s t w (request.Read at) a reply.ReadFault right has below cause = cause.0
 cause_placed s t w (request.Read at) a other right has below cause = absurd cause
-cause_placed s t w (request.Write at bytes fua) a reply.Ok right has below cause = inl (done_placed s t w right cause)
+cause_placed s t w (request.Write at bytes fua) a reply.Ok right has below cause = done_placed s t w right cause
 cause_placed s t w (request.Write at bytes fua) a reply.Range right has below cause = let is : at.0 ≡ a = same_Some _ _ has in absurd (omega arith)
-cause_placed s t w (request.Write at bytes fua) a reply.Stopped right has below (inl cause) = inl cause.1
-cause_placed s t w (request.Write at bytes fua) a reply.Stopped right has below (inr at_once) = inr (refl, at_once)
-cause_placed s t w (request.Write at bytes fua) a reply.Full right has below cause = inl cause.0
+cause_placed s t w (request.Write at bytes fua) a reply.Stopped right has below cause = cause.1
+cause_placed s t w (request.Write at bytes fua) a reply.Full right has below cause = cause.0
 cause_placed s t w (request.Write at bytes fua) a other right has below cause = absurd cause
 cause_placed s t w (request.Discard at) a answer right has below cause = absurd cause
 cause_placed s t w request.Flush a answer right has below cause = absurd cc
+
+-- and one that may be answered so has a place, or was stopped at once
+may_placed : (s : Session) (t : Trace) (w : Writer) (r : Request) (a : ℕ) (answer : Reply) → RightTrace s t → address_of r ≡ Some a → a < s.sizes.geometry.logical → MayAnswer s t w r answer
+    → IsSome (place_of (places t) w) ⊎ ((answer ≡ Stopped) × IsStoppedAtOnce t w)
+may_placed s t w (request.Write at bytes fua) a reply.Stopped right has below (inl cause) = inl (cause_placed s t w (request.Write at bytes fua) a reply.Stopped right has below cause)
+may_placed s t w (request.Write at bytes fua) a reply.Stopped right has below (inr at_once) = inr (refl, at_once)
+may_placed s t w r a answer right has below cause = inl (cause_placed s t w r a answer right has below cause)
 
 place_is_some : (s : Session) (h : Happening) (t : Trace) (w : Writer) → MayFollow s h t → IsSome (place_of (places t) w) → IsSome (place_of (places (h ∷ t)) w)
 place_is_some s h t w may some = let p = some_of _ some in some_is _ _ (place_stays s h t w p.0 may p.1)
@@ -157,7 +163,7 @@ places_all s (Says (Begin v) ∷ t) w r a right asked has below = λ answered. p
 places_all s (Says (Answer v b) ∷ t) w r a right asked has below = elim (same_tells v w) [
   | inl same ↦ λ answered.
       let cause = right.0.1 r (subst (λ (x : Writer). request_at s.script x ≡ Some r) (sym same.1) asked) in
-      let mine = cause_placed s t w r a b right.2 has below (subst (λ (x : Writer). MayAnswer s t x r b) same.1 cause) in
+      let mine = may_placed s t w r a b right.2 has below (subst (λ (x : Writer). MayAnswer s t x r b) same.1 cause) in
       elim mine [
         | inl placed ↦ inl placed
         | inr at_once ↦ inr (record {
