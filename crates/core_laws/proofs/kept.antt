@@ -23,3 +23,4 @@ pub mod StepSides
 pub mod Stopped
 pub mod ZoneKinds
 pub mod ZonesKept
+pub mod ViewLaws

@@ -30,7 +30,7 @@ ghost use Rattle.core_model.specs.Sessions.{Session, IsSession, HasHonestReads};
 ghost use Rattle.core_model.specs.Start.{IsFirst};
 ghost use Rattle.core_model.specs.Steps.{Act, CallsDevice, Core, HasAct, Leads, MayBegin, MoveOf, StepOf, ZoneStep};
 ghost use Rattle.core_model.specs.Trace.{Trace, aborted, calls, is_ok, is_read, lines, marks, moments, places};
-ghost use Rattle.core_model.specs.Views.{core_of};
+ghost use Rattle.core_model.specs.Views.{AreEmptyLanes, PostsBatch, ReceivesBatch, TakesBatch, View, core_of, zones_seen};
 ghost use Rattle.core_model.specs.Vios.{Post};
 ghost use Rattle.core_model.specs.Zones.{zone_number};
 
@@ -120,4 +120,17 @@ pub fn an_act_has_one_result()
 pub fn a_view_steps_as_its_zone()
     ensures { (sizes : Sizes) (views : List Zone) (lanes : List (List (List Item))) (n : ℕ) (old new : Zone) (made t : Trace) → slice_get views n ≡ Some old
         → ZoneStep sizes old new made → StepOf sizes (core_of views lanes t) (core_of (slice_set views n new) lanes (made ++ t)) }
+{}
+
+/// The views of threads and the lanes between them stand for one core. Posting a batch to a lane and receiving it leave that
+/// core as it is, and taking it is a move; where every lane is empty at the start, they stand for the first core.
+pub fn the_views_stand_for_a_core()
+    ensures posts { (from to : ℕ) (views views' : List View) (lanes lanes' : List (List (List Item))) (t : Trace) → PostsBatch from to views views' lanes lanes'
+        → core_of (zones_seen views') lanes' t ≡ core_of (zones_seen views) lanes t }
+    ensures receives { (from to : ℕ) (views views' : List View) (lanes : List (List (List Item))) (t : Trace) → ReceivesBatch from to views views' lanes
+        → core_of (zones_seen views') lanes t ≡ core_of (zones_seen views) lanes t }
+    ensures takes { (from to : ℕ) (views views' : List View) (lanes lanes' : List (List (List Item))) (t : Trace) → TakesBatch from to views views' lanes lanes'
+        → MoveOf (core_of (zones_seen views) lanes t) (core_of (zones_seen views') lanes' t) }
+    ensures first { (s : Session) (core : Core) (views : List View) (lanes : List (List (List Item))) → IsFirst s core → zones_seen views ≡ core.zones → AreEmptyLanes lanes
+        → core_of (zones_seen views) lanes [] ≡ core }
 {}

@@ -1,0 +1,180 @@
+-- What threads do with batches, as moves of the core that their views and the lanes stand for.
+use Rattle.std.proofs.Common.{◌≡◌, ◌≢◌, ℕ, zero, suc, List, [], ◌∷◌, ◌++◌, Some, slice_get, slice_set, refl, ap, sym, ◌∙◌, subst}
+use Rattle.std.proofs.lemmas.List.{append-nil}
+use Rattle.std.proofs.lemmas.Option.{same_Some}
+use Rattle.std.specs.List.{AllByRecursion}
+use Rattle.core_model.specs.declared.items.Item.{Item}
+use Rattle.core_model.specs.declared.zones.Zone.{Zone}
+use Rattle.core_model.specs.Sessions.{Session}
+use Rattle.core_model.specs.Start.{IsFirst}
+use Rattle.core_model.specs.Steps.{Core, MoveOf}
+use Rattle.core_model.specs.Trace.{Trace}
+use Rattle.core_model.specs.Views.{View, LaneHolds, PostsBatch, ReceivesBatch, TakesBatch, AreEmptyLanes, behind, with_batches, with_batch, zones_of, zones_seen, core_of}
+use Rattle.core_laws.proofs.kept.Seats.{batches_of, view_get, view_put}
+use Rattle.plain_laws.proofs.ListLaws.{get-put_same}
+
+-- a view in its place
+pub seen_get : (views : List View) (n : ℕ) (view : View) → slice_get views n ≡ Some view → slice_get (zones_seen views) n ≡ Some view.zone
+seen_get [] n view h = absurd cc
+seen_get (y ∷ ys) zero view h = ap (λ (v : View). Some v.zone) (same_Some _ _ h)
+seen_get (y ∷ ys) (suc n) view h = seen_get ys n view h
+
+seen_put : (views : List View) (n : ℕ) (view : View) → zones_seen (slice_set views n view) ≡ slice_set (zones_seen views) n view.zone
+seen_put [] n view = refl
+seen_put (y ∷ ys) zero view = refl
+seen_put (y ∷ ys) (suc n) view = ap (λ (zones : List Zone). y.zone ∷ zones) (seen_put ys n view)
+
+-- the same zone stands in its place
+put_same : {X : Type 0} (xs : List X) (n : ℕ) (x : X) → slice_get xs n ≡ Some x → slice_set xs n x ≡ xs
+put_same [] n x h = refl
+put_same {X = X} (y ∷ ys) zero x h = ap (λ (z : X). z ∷ ys) (sym (same_Some _ _ h))
+put_same {X = X} (y ∷ ys) (suc n) x h = ap (λ (zs : List X). y ∷ zs) (put_same ys n x h)
+
+-- the batches of a zone
+row_of : (lanes : List (List (List Item))) (n : ℕ) (row : List (List Item)) → slice_get lanes n ≡ Some row → batches_of n lanes ≡ row
+row_of [] n row h = absurd cc
+row_of (b ∷ bs) zero row h = same_Some _ _ h
+row_of (b ∷ bs) (suc n) row h = row_of bs n row h
+
+-- other batches from a zone
+row_put : (views : List Zone) (lanes : List (List (List Item))) (n : ℕ) (z : Zone) (row row' : List (List Item)) → slice_get views n ≡ Some z → slice_get lanes n ≡ Some row
+    → zones_of views (slice_set lanes n row') ≡ slice_set (zones_of views lanes) n (with_batches row' z)
+row_put [] lanes n z row row' h k = absurd cc
+row_put (y ∷ ys) [] n z row row' h k = absurd cc
+row_put (y ∷ ys) (b ∷ bs) zero z row row' h k = ap (λ (v : Zone). with_batches row' v ∷ zones_of ys bs) (same_Some _ _ h)
+row_put (y ∷ ys) (b ∷ bs) (suc n) z row row' h k = ap (λ (zones : List Zone). with_batches b y ∷ zones) (row_put ys bs n z row row' h k)
+
+-- a batch that was in the outbox is in the lane
+behind_posted : (row lanes : List (List Item)) (to : ℕ) (batch : List Item) → slice_get row to ≡ Some [] → slice_get lanes to ≡ Some batch → behind (slice_set row to batch) (slice_set lanes to []) ≡ behind row lanes
+behind_posted [] lanes to batch h k = absurd cc
+behind_posted (b ∷ bs) [] to batch h k = absurd cc
+behind_posted (b ∷ bs) (l ∷ ls) zero batch h k =
+    let was : b ≡ [] = same_Some _ _ h in
+    ap (λ (lane : List Item). lane ∷ behind bs ls) (append-nil batch ∙ sym (same_Some _ _ k) ∙ ap (λ (front : List Item). front ++ l) (sym was))
+behind_posted (b ∷ bs) (l ∷ ls) (suc to) batch h k = ap (λ (lanes : List (List Item)). (b ++ l) ∷ lanes) (behind_posted bs ls to batch h k)
+
+-- what lies in a lane, and what is behind it
+behind_get : (row lanes : List (List Item)) (to : ℕ) (batch left : List Item) → slice_get row to ≡ Some batch → slice_get lanes to ≡ Some left → slice_get (behind row lanes) to ≡ Some (batch ++ left)
+behind_get [] lanes to batch left h k = absurd cc
+behind_get (b ∷ bs) [] to batch left h k = absurd cc
+behind_get (b ∷ bs) (l ∷ ls) zero batch left h k = ap (λ (front : List Item). Some (front ++ l)) (same_Some _ _ h) ∙ ap (λ (rest : List Item). Some (batch ++ rest)) (same_Some _ _ k)
+behind_get (b ∷ bs) (l ∷ ls) (suc to) batch left h k = behind_get bs ls to batch left h k
+
+behind_taken : (row lanes : List (List Item)) (to : ℕ) (batch left : List Item) → slice_get row to ≡ Some batch → slice_get lanes to ≡ Some left → behind (slice_set row to []) lanes ≡ slice_set (behind row lanes) to left
+behind_taken [] lanes to batch left h k = absurd cc
+behind_taken (b ∷ bs) [] to batch left h k = absurd cc
+behind_taken (b ∷ bs) (l ∷ ls) zero batch left h k = ap (λ (lane : List Item). lane ∷ behind bs ls) (same_Some _ _ k)
+behind_taken (b ∷ bs) (l ∷ ls) (suc to) batch left h k = ap (λ (lanes : List (List Item)). (b ++ l) ∷ lanes) (behind_taken bs ls to batch left h k)
+
+abbrev at_moment : List Zone → Trace → Core
+at_moment zones t = record { zones = zones; trace = t }
+
+-- A batch that is posted counts to the lane, as it counted to the outbox.
+pub posts_batch : (from to : ℕ) (views views' : List View) (lanes lanes' : List (List (List Item))) (t : Trace) → PostsBatch from to views views' lanes lanes'
+    → core_of (zones_seen views') lanes' t ≡ core_of (zones_seen views) lanes t
+posts_batch from to views views' lanes lanes' t p = ap (λ (zones : List Zone). at_moment zones t) zones_same
+  where
+    sender' : Zone
+    sender' = record p.sender.zone { outboxes = slice_set p.sender.zone.outboxes to [] }
+
+    row' : List (List Item)
+    row' = slice_set p.empty.row to p.batch
+
+    there : slice_get (zones_seen views) from ≡ Some p.sender.zone
+    there = seen_get views from p.sender p.had
+
+    same : with_batches row' sender' ≡ with_batches (batches_of from lanes) p.sender.zone
+    same = ap (λ (lanes : List (List Item)). record p.sender.zone { outboxes = lanes }) (behind_posted p.empty.row p.sender.zone.outboxes to p.batch p.empty.holds p.outbox)
+        ∙ ap (λ (row : List (List Item)). with_batches row p.sender.zone) (sym (row_of lanes from p.empty.row p.empty.had))
+
+    put_twice : {X : Type 0} (xs : List X) (n : ℕ) (x y : X) → slice_set (slice_set xs n x) n y ≡ slice_set xs n y
+    put_twice [] n x y = refl
+    put_twice (z ∷ zs) zero x y = refl
+    put_twice {X = X} (z ∷ zs) (suc n) x y = ap (λ (ws : List X). z ∷ ws) (put_twice zs n x y)
+
+    zones_same : zones_of (zones_seen views') lanes' ≡ zones_of (zones_seen views) lanes
+    zones_same =
+        ap (λ (vs : List View). zones_of (zones_seen vs) lanes') p.views_is ∙ ap (λ (ls : List (List (List Item))). zones_of (zones_seen (slice_set views from (record p.sender { zone = sender' }))) ls) p.lanes_is
+        ∙ ap (λ (zs : List Zone). zones_of zs (with_batch lanes from p.empty.row to p.batch)) (seen_put views from (record p.sender { zone = sender' }))
+        ∙ row_put (slice_set (zones_seen views) from sender') lanes from sender' p.empty.row row' (get-put_same (zones_seen views) from p.sender.zone sender' there) p.empty.had
+        ∙ ap (λ (zs : List Zone). slice_set zs from (with_batches row' sender')) (view_put (zones_seen views) lanes from sender')
+        ∙ put_twice (zones_of (zones_seen views) lanes) from (with_batches (batches_of from lanes) sender') (with_batches row' sender')
+        ∙ ap (λ (z : Zone). slice_set (zones_of (zones_seen views) lanes) from z) same
+        ∙ put_same (zones_of (zones_seen views) lanes) from (with_batches (batches_of from lanes) p.sender.zone) (view_get (zones_seen views) lanes from p.sender.zone there)
+
+-- One that is received still counts to the lane.
+pub receives_batch : (from to : ℕ) (views views' : List View) (lanes : List (List (List Item))) (t : Trace) → ReceivesBatch from to views views' lanes
+    → core_of (zones_seen views') lanes t ≡ core_of (zones_seen views) lanes t
+receives_batch from to views views' lanes t r =
+    ap (λ (zones : List Zone). core_of zones lanes t)
+    (ap zones_seen r.views_is ∙ seen_put views to (record r.receiver { received = slice_set r.receiver.received from r.batch }) ∙ put_same (zones_seen views) to r.receiver.zone (seen_get views to r.receiver r.had))
+
+-- One that is taken moves.
+pub takes_batch : (from to : ℕ) (views views' : List View) (lanes lanes' : List (List (List Item))) (t : Trace) → TakesBatch from to views views' lanes lanes'
+    → MoveOf (core_of (zones_seen views) lanes t) (core_of (zones_seen views') lanes' t)
+takes_batch from to views views' lanes lanes' t k = record {
+  from = from;
+  to = to;
+  source = with_batches (batches_of from lanes) k.sender.zone;
+  target = with_batches (batches_of to lanes) k.receiver.zone;
+  part = k.batch;
+  left = k.left;
+  apart = k.apart;
+  had_source = view_get (zones_seen views) lanes from k.sender.zone there;
+  had_target = view_get (zones_seen views) lanes to k.receiver.zone (seen_get views to k.receiver k.had_receiver);
+  outbox = subst (λ (row : List (List Item)). slice_get (behind row k.sender.zone.outboxes) to ≡ Some (k.batch ++ k.left)) (sym row_is) (behind_get k.lane.row k.sender.zone.outboxes to k.batch k.left k.lane.holds k.outbox);
+  has = ap (λ (zones : List Zone). at_moment zones t) zones_moved;
+}
+  where
+    there : slice_get (zones_seen views) from ≡ Some k.sender.zone
+    there = seen_get views from k.sender k.had_sender
+
+    row_is : batches_of from lanes ≡ k.lane.row
+    row_is = row_of lanes from k.lane.row k.lane.had
+
+    receiver' : Zone
+    receiver' = record k.receiver.zone { inbox = k.receiver.zone.inbox ++ k.batch }
+
+    row' : List (List Item)
+    row' = slice_set k.lane.row to []
+
+    -- the batches from the receiver stay
+    own_row : (rows : List (List (List Item))) (i j : ℕ) (row : List (List Item)) → i ≢ j → batches_of j (slice_set rows i row) ≡ batches_of j rows
+    own_row [] i j row apart = refl
+    own_row (b ∷ bs) zero zero row apart = absurd (apart refl)
+    own_row (b ∷ bs) zero (suc j) row apart = refl
+    own_row (b ∷ bs) (suc i) zero row apart = refl
+    own_row (b ∷ bs) (suc i) (suc j) row apart = own_row bs i j row (λ e. apart (ap suc e))
+
+    sent : with_batches row' k.sender.zone ≡ record (with_batches (batches_of from lanes) k.sender.zone) { outboxes = slice_set (behind (batches_of from lanes) k.sender.zone.outboxes) to k.left }
+    sent = ap (λ (lanes : List (List Item)). record k.sender.zone { outboxes = lanes })
+        (behind_taken k.lane.row k.sender.zone.outboxes to k.batch k.left k.lane.holds k.outbox ∙ ap (λ (row : List (List Item)). slice_set (behind row k.sender.zone.outboxes) to k.left) (sym row_is))
+
+    zones_moved : zones_of (zones_seen views') lanes'
+        ≡ slice_set (slice_set (zones_of (zones_seen views) lanes) from (record (with_batches (batches_of from lanes) k.sender.zone) { outboxes = slice_set (behind (batches_of from lanes) k.sender.zone.outboxes) to k.left }))
+            to (record (with_batches (batches_of to lanes) k.receiver.zone) { inbox = k.receiver.zone.inbox ++ k.batch })
+    zones_moved =
+        ap (λ (vs : List View). zones_of (zones_seen vs) lanes') k.views_is
+        ∙ ap (λ (ls : List (List (List Item))). zones_of (zones_seen (slice_set views to (record k.receiver { zone = receiver'; received = slice_set k.receiver.received from [] }))) ls) k.lanes_is
+        ∙ ap (λ (zs : List Zone). zones_of zs (slice_set lanes from row')) (seen_put views to (record k.receiver { zone = receiver'; received = slice_set k.receiver.received from [] }))
+        ∙ view_put (zones_seen views) (slice_set lanes from row') to receiver'
+        ∙ ap (λ (row : List (List Item)). slice_set (zones_of (zones_seen views) (slice_set lanes from row')) to (with_batches row receiver')) (own_row lanes from to row' k.apart)
+        ∙ ap (λ (zs : List Zone). slice_set zs to (with_batches (batches_of to lanes) receiver')) (row_put (zones_seen views) lanes from k.sender.zone k.lane.row row' there k.lane.had)
+        ∙ ap (λ (z : Zone). slice_set (slice_set (zones_of (zones_seen views) lanes) from z) to (with_batches (batches_of to lanes) receiver')) sent
+
+-- with nothing in any lane, the views are the zones
+nothing_behind : (row lanes : List (List Item)) → AllByRecursion (λ batch. batch ≡ []) row → behind row lanes ≡ lanes
+nothing_behind [] lanes h = refl
+nothing_behind (b ∷ bs) [] h = refl
+nothing_behind (b ∷ bs) (l ∷ ls) h = ap (λ (front : List Item). (front ++ l) ∷ behind bs ls) h.0 ∙ ap (λ (lanes : List (List Item)). l ∷ lanes) (nothing_behind bs ls h.1)
+
+zones_alone : (zones : List Zone) (lanes : List (List (List Item))) → AreEmptyLanes lanes → zones_of zones lanes ≡ zones
+zones_alone [] lanes h = refl
+zones_alone (z ∷ zs) [] h = refl
+zones_alone (z ∷ zs) (b ∷ bs) h =
+    ap (λ (lanes : List (List Item)). (record z { outboxes = lanes }) ∷ zones_of zs bs) (nothing_behind b z.outboxes h.0) ∙ ap (λ (zones : List Zone). z ∷ zones) (zones_alone zs bs h.1)
+
+-- At the start they stand for the first core.
+pub first_views : (s : Session) (core : Core) (views : List View) (lanes : List (List (List Item))) → IsFirst s core → zones_seen views ≡ core.zones → AreEmptyLanes lanes → core_of (zones_seen views) lanes [] ≡ core
+first_views s core views lanes first seen empty =
+    ap (λ (zones : List Zone). core_of zones lanes []) seen ∙ ap (λ (zones : List Zone). at_moment zones []) (zones_alone core.zones lanes empty) ∙ ap (λ (t : Trace). at_moment core.zones t) (sym first.trace_is)
