@@ -3,3 +3,5 @@ pub mod FollowRows
 pub mod PhaseRows
 pub mod ZoneRows
 pub mod WorkedTraces
+pub mod StreamRows
+pub mod ViewRows
