@@ -1,8 +1,9 @@
 //! The laws of the core that other crates stand on.
 
-ghost use Rattle.std.specs.Prelude.{◌≡◌, ◌<◌, ◌≤◌, ◌⊎◌, ℕ, Bool, true, false, length, Some, IsSome, List, [], ◌∷◌, slice_get, slice_set, ◌++◌};
+ghost use Rattle.std.specs.Prelude.{◌≡◌, ◌<◌, ◌≤◌, ◌⊎◌, ◌↔◌, ℕ, Bool, true, false, length, Some, IsSome, List, [], ◌∷◌, slice_get, slice_set, ◌++◌};
 ghost use Rattle.std.specs.List.{AllByRecursion};
-ghost use Rattle.blk_base.specs.declared.request.Answer.TheVariants.{Stopped};
+ghost use Rattle.blk_base.specs.declared.request.Answer.{Answer};
+ghost use Rattle.blk_base.specs.declared.request.Answer.TheVariants.{Range, Stopped};
 ghost use Rattle.blk_base.specs.declared.request.Request.{Request};
 ghost use Rattle.blk_base.specs.declared.request.Writer.{Writer};
 ghost use Rattle.disk_model.specs.declared.call.Call.{Call};
@@ -55,7 +56,7 @@ pub fn a_legal_core_goes_on()
 {}
 
 /// What was begun and answered in a legal core is in order, and so are the places; the desk and the logical zones have
-/// them. A request is answered as stopped only where the device's zone has stopped the session, since a write or flush
+/// them. A block request is answered `Range` exactly where its address isn't below the logical size. A request is answered as stopped only where the device's zone has stopped the session, since a write or flush
 /// failed. Where each request of the script is answered, that is a right run.
 pub fn a_legal_core_is_in_order()
     ensures desk_log { (s : Session) (core : Core) → Legal s core → IsDeskLog s.sizes.depth s.script (lines core.trace) }
@@ -68,6 +69,8 @@ pub fn a_legal_core_is_in_order()
         → (desk.log ≡ lines core.trace) × (desk.marks ≡ marks core.trace) }
     ensures at_zone { (s : Session) (core : Core) (n : ℕ) (z : Zone) (l : LogicalZone) → Legal s core → slice_get core.zones n ≡ Some z → z.keeps ≡ Logical l
         → l.places ≡ places_in l.zone (places core.trace) }
+    ensures range { (s : Session) (core : Core) (w : Writer) (r : Request) (a : ℕ) (answer : Answer) → Legal s core → request_at s.script w ≡ Some r → address_of r ≡ Some a
+        → answer_of (lines core.trace) w ≡ Some answer → (answer ≡ Range) ↔ (s.sizes.geometry.logical ≤ a) }
     ensures stopped { (s : Session) (core : Core) (w : Writer) (n : ℕ) (z : Zone) (d : DeviceZone) → Legal s core → answer_of (lines core.trace) w ≡ Some Stopped
         → slice_get core.zones n ≡ Some z → z.keeps ≡ Device d → d.stopped ≡ true }
     ensures run { (s : Session) (core : Core) → IsSession s → Legal s core → AllAnswered s.script (lines core.trace)

@@ -100,9 +100,10 @@ pub record IsStoppedAtOnce (t : Trace) (w : Writer) : Type 0 where
   pub older : Trace
   pub begun_last : t ≡ Says (line.Begin w) ∷ older
 
--- a request may be answered so: it has its cause, or it is a write that is stopped at once
+-- a request may be answered so: it has its cause, or it is a write below the logical size that is stopped at once
 abbrev pub MayAnswer : Session → Trace → Writer → Request → Answer → Type 0
-MayAnswer s t w (request.Write at bytes fua) reply.Stopped = HasCause s t w (request.Write at bytes fua) reply.Stopped ⊎ IsStoppedAtOnce t w
+MayAnswer s t w (request.Write at bytes fua) reply.Stopped =
+    HasCause s t w (request.Write at bytes fua) reply.Stopped ⊎ ((at.0 < s.sizes.geometry.logical) × IsStoppedAtOnce t w)
 MayAnswer s t w r a = HasCause s t w r a
 
 -- a line may follow this trace

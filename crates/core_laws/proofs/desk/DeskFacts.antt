@@ -66,10 +66,11 @@ cause_may s t w (request.Write at bytes fua) reply.Stopped cause = inl cause
 cause_may s t w r a cause = cause
 
 -- a request that is answered at once may be answered so
-once_range : (s : Session) (t : Trace) (w : Writer) (r : Request) (a : ℕ) (o : Option Reply) (answer : Reply) → (s.sizes.geometry.logical ≤ a → MayAnswer s t w r reply.Range) → ((b : Reply) → o ≡ Some b → MayAnswer s t w r b)
+once_range : (s : Session) (t : Trace) (w : Writer) (r : Request) (a : ℕ) (o : Option Reply) (answer : Reply) → (s.sizes.geometry.logical ≤ a → MayAnswer s t w r reply.Range)
+    → (a < s.sizes.geometry.logical → (b : Reply) → o ≡ Some b → MayAnswer s t w r b)
     → (if nat_lt a s.sizes.geometry.logical then o else Some reply.Range) ≡ Some answer → MayAnswer s t w r answer
 once_range s t w r a o answer range within is = elim (cases_Bool (nat_lt a s.sizes.geometry.logical)) [
-  | inl below ↦ within answer (rw below at is)
+  | inl below ↦ within (ltb-true a s.sizes.geometry.logical below) answer (rw below at is)
   | inr past ↦
       let same : Some reply.Range ≡ Some answer = rw past at is in
       subst (λ (x : Reply). MayAnswer s t w r x) (same_Some _ _ same) (range (ltb-false a s.sizes.geometry.logical past))
@@ -83,11 +84,11 @@ pub once_cause : (s : Session) (t : Trace) (w : Writer) (notified : Bool) (r : R
     → at_once s.sizes notified v.asks v.at.0 ≡ Some a → MayAnswer s t w r a
 once_cause s t w notified (request.Read at) v a older last served unset heard_so is =
     let once : at_once s.sizes notified Read at.0 ≡ Some a = rw (← same_Some _ _ served) at is in
-    once_range s t w (request.Read at) at.0 None a (λ past. past) (λ b none. absurd cc) once
+    once_range s t w (request.Read at) at.0 None a (λ past. past) (λ below b none. absurd cc) once
 once_cause s t w notified (request.Write at bytes false) v a older last served unset heard_so is =
     let once : at_once s.sizes notified Write at.0 ≡ Some a = rw (← same_Some _ _ served) at is in
-    once_range s t w (request.Write at bytes false) at.0 _ a (λ past. past) (λ b stopped.
-    let both = once_notified notified b stopped in subst (λ (x : Reply). MayAnswer s t w (request.Write at bytes false) x) both.1 (inr (record { stopped = heard_so both.0; unset = unset; older = older; begun_last = last }))) once
+    once_range s t w (request.Write at bytes false) at.0 _ a (λ past. past) (λ below b stopped.
+    let both = once_notified notified b stopped in subst (λ (x : Reply). MayAnswer s t w (request.Write at bytes false) x) both.1 (inr (below, record { stopped = heard_so both.0; unset = unset; older = older; begun_last = last }))) once
 once_cause s t w notified request.Flush v a older last served unset heard_so is =
     let once : at_once s.sizes notified Flush 0 ≡ Some a = rw (← same_Some _ _ served) at is in
     let both = once_notified notified a once in subst (λ (x : Reply). MayAnswer s t w request.Flush x) both.1 (heard_so both.0)

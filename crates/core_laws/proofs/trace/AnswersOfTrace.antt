@@ -58,7 +58,7 @@ cause_says : (s : Session) (t : Trace) (w : Writer) (at : Lba) (bytes : List ℕ
 cause_says s t w at bytes fua reply.Ok below cause = there_true (logged_of (done t) w) cause
 cause_says s t w at bytes fua reply.Range below cause = absurd (omega arith)
 cause_says s t w at bytes fua reply.Stopped below (inl cause) = there_false (logged_of (done t) w) cause.2
-cause_says s t w at bytes fua reply.Stopped below (inr at_once) = there_false (logged_of (done t) w) at_once.unset
+cause_says s t w at bytes fua reply.Stopped below (inr at_once) = there_false (logged_of (done t) w) at_once.1.unset
 cause_says s t w at bytes fua reply.Full below cause = there_false (logged_of (entered t) w) cause.1
 cause_says s t w at bytes fua other below cause = absurd cause
 

@@ -1,5 +1,5 @@
 -- The places of a right trace are right, and so is a run in which each request is answered.
-use Rattle.std.proofs.Common.{ℕ, ◌≡◌, ◌⊎◌, ◌<◌, true, List, [], ◌∷◌, Some, None, IsSome, IsNone, refl, sym, ◌∙◌, ap, subst, inl, inr, arith}
+use Rattle.std.proofs.Common.{ℕ, ◌≡◌, ◌⊎◌, ◌<◌, ◌≤◌, ◌↔◌, true, List, [], ◌∷◌, Some, None, IsSome, IsNone, refl, sym, ◌∙◌, ap, subst, inl, inr, arith}
 use Rattle.std.proofs.lemmas.Option.{same_Some}
 use Rattle.std.specs.List.{AllByRecursion}
 use Rattle.blk_base.specs.declared.request.Answer.{Answer as Reply}
@@ -116,27 +116,35 @@ done_placed s t w right some =
     let has = logged_has (IsWrite s t) (done t) w e.0 e.1 (done_writes s t right) in
     some_is _ _ (subst (λ (x : Writer). HasPlace s t x e.0.at.0 e.0.place) has.1 has.0.placed)
 
--- a block request below the logical size with a cause of its answer has a place
+-- the cause of an answer of a block request: its address isn't below the logical size, or it has a place
+cause_tells : (s : Session) (t : Trace) (w : Writer) (r : Request) (a : ℕ) (answer : Reply) → RightTrace s t → address_of r ≡ Some a → HasCause s t w r answer
+    → ((answer ≡ reply.Range) × (s.sizes.geometry.logical ≤ a)) ⊎ IsSome (place_of (places t) w)
+cause_tells s t w (request.Read at) a reply.Range right has cause = inl (refl, subst (λ (n : ℕ). s.sizes.geometry.logical ≤ n) (same_Some _ _ has) cause)
+cause_tells s t w (request.Read at) a (reply.Bytes bytes) right has cause = inr (gift_placed s t w _ right cause.1)
+cause_tells s t w (request.Read at) a reply.Stopped right has cause = inr (some_is _ _ cause.1.placed)
+cause_tells s t w (request.Read at) a reply.ReadFault right has cause = inr cause.0
+cause_tells s t w (request.Read at) a other right has cause = absurd cause
+cause_tells s t w (request.Write at bytes fua) a reply.Range right has cause = inl (refl, subst (λ (n : ℕ). s.sizes.geometry.logical ≤ n) (same_Some _ _ has) cause)
+cause_tells s t w (request.Write at bytes fua) a reply.Ok right has cause = inr (done_placed s t w right cause)
+cause_tells s t w (request.Write at bytes fua) a reply.Stopped right has cause = inr cause.1
+cause_tells s t w (request.Write at bytes fua) a reply.Full right has cause = inr cause.0
+cause_tells s t w (request.Write at bytes fua) a other right has cause = absurd cause
+cause_tells s t w (request.Discard at) a answer right has cause = absurd cause
+cause_tells s t w request.Flush a answer right has cause = absurd cc
+
+-- one below the logical size with a cause of its answer has a place
 pub cause_placed : (s : Session) (t : Trace) (w : Writer) (r : Request) (a : ℕ) (answer : Reply) → RightTrace s t → address_of r ≡ Some a → a < s.sizes.geometry.logical → HasCause s t w r answer
     → IsSome (place_of (places t) w)
-cause_placed s t w (request.Read at) a (reply.Bytes bytes) right has below cause = gift_placed s t w _ right cause.1
-cause_placed s t w (request.Read at) a reply.Range right has below cause = let is : at.0 ≡ a = same_Some _ _ has in absurd (omega arith)
-cause_placed s t w (request.Read at) a reply.Stopped right has below cause = some_is _ _ cause.1.placed
-cause_placed s t w (request.Read at) a reply.ReadFault right has below cause = cause.0
-cause_placed s t w (request.Read at) a other right has below cause = absurd cause
-cause_placed s t w (request.Write at bytes fua) a reply.Ok right has below cause = done_placed s t w right cause
-cause_placed s t w (request.Write at bytes fua) a reply.Range right has below cause = let is : at.0 ≡ a = same_Some _ _ has in absurd (omega arith)
-cause_placed s t w (request.Write at bytes fua) a reply.Stopped right has below cause = cause.1
-cause_placed s t w (request.Write at bytes fua) a reply.Full right has below cause = cause.0
-cause_placed s t w (request.Write at bytes fua) a other right has below cause = absurd cause
-cause_placed s t w (request.Discard at) a answer right has below cause = absurd cause
-cause_placed s t w request.Flush a answer right has below cause = absurd cc
+cause_placed s t w r a answer right has below cause = elim (cause_tells s t w r a answer right has cause) [
+  | inl range ↦ absurd (omega (arith, range.1, below))
+  | inr placed ↦ placed
+]
 
 -- and one that may be answered so has a place, or was stopped at once
 may_placed : (s : Session) (t : Trace) (w : Writer) (r : Request) (a : ℕ) (answer : Reply) → RightTrace s t → address_of r ≡ Some a → a < s.sizes.geometry.logical → MayAnswer s t w r answer
     → IsSome (place_of (places t) w) ⊎ ((answer ≡ Stopped) × IsStoppedAtOnce t w)
 may_placed s t w (request.Write at bytes fua) a reply.Stopped right has below (inl cause) = inl (cause_placed s t w (request.Write at bytes fua) a reply.Stopped right has below cause)
-may_placed s t w (request.Write at bytes fua) a reply.Stopped right has below (inr at_once) = inr (refl, at_once)
+may_placed s t w (request.Write at bytes fua) a reply.Stopped right has below (inr at_once) = inr (refl, at_once.1)
 may_placed s t w r a answer right has below cause = inl (cause_placed s t w r a answer right has below cause)
 
 place_is_some : (s : Session) (h : Happening) (t : Trace) (w : Writer) → MayFollow s h t → IsSome (place_of (places t) w) → IsSome (place_of (places (h ∷ t)) w)
@@ -188,3 +196,61 @@ places_all s (Draws p ∷ t) w r a right asked has below = λ answered. elim (pl
 ]
 places_all s (Fails v c true ∷ t) w r a right asked has below = places_all s t w r a right.2 asked has below
 places_all s (other ∷ t) w r a right asked has below = places_all s t w r a right.2 asked has below
+
+-- a block request with a place has an address below the logical size
+placed_inside : (s : Session) (t : Trace) (w : Writer) (r : Request) (a : ℕ) → RightTrace s t → request_at s.script w ≡ Some r → address_of r ≡ Some a → IsSome (place_of (places t) w) → a < s.sizes.geometry.logical
+placed_inside s t w r a right asked has some =
+    let p = some_of _ some in
+    let ((q, b, asked_too, has_too, below, zone), is) = place_of_zone s.sizes.zones s.sizes.geometry.logical s.script (lines t) (places t) w p.0 (places_drawn s t right) p.1 in
+    let here : request_at s.script w ≡ Some q = subst (λ (x : Writer). request_at s.script x ≡ Some q) is asked_too in
+    let q_is : q ≡ r = same_Some _ _ (sym here ∙ asked) in
+    let b_is : b ≡ a = same_Some _ _ (sym (subst (λ (x : Request). address_of x ≡ Some b) q_is has_too) ∙ has) in
+    omega (arith, below, b_is)
+
+-- an answer is `Range` exactly where the address isn't below the logical size
+abbrev pub TellsRange : Session → ℕ → Reply → Type 0
+TellsRange s a answer = (answer ≡ reply.Range) ↔ (s.sizes.geometry.logical ≤ a)
+
+range_past : (s : Session) (t : Trace) (w : Writer) (r : Request) (a : ℕ) → address_of r ≡ Some a → HasCause s t w r reply.Range → s.sizes.geometry.logical ≤ a
+range_past s t w (request.Read at) a has cause = subst (λ (n : ℕ). s.sizes.geometry.logical ≤ n) (same_Some _ _ has) cause
+range_past s t w (request.Write at bytes fua) a has cause = subst (λ (n : ℕ). s.sizes.geometry.logical ≤ n) (same_Some _ _ has) cause
+range_past s t w (request.Discard at) a has cause = absurd cause
+range_past s t w request.Flush a has cause = absurd cc
+
+cause_range : (s : Session) (t : Trace) (w : Writer) (r : Request) (a : ℕ) (answer : Reply) → RightTrace s t → request_at s.script w ≡ Some r → address_of r ≡ Some a → HasCause s t w r answer → TellsRange s a answer
+cause_range s t w r a answer right asked has cause = elim (cause_tells s t w r a answer right has cause) [
+  | inl range ↦ (λ is. range.1, λ past. range.0)
+  | inr placed ↦ (
+    λ is. range_past s t w r a has (subst (λ (b : Reply). HasCause s t w r b) is cause),
+    λ past. let below = placed_inside s t w r a right asked has placed in absurd (omega (arith, past, below)),
+  )
+]
+
+may_range : (s : Session) (t : Trace) (w : Writer) (r : Request) (a : ℕ) (answer : Reply) → RightTrace s t → request_at s.script w ≡ Some r → address_of r ≡ Some a → MayAnswer s t w r answer → TellsRange s a answer
+may_range s t w (request.Write at bytes fua) a reply.Stopped right asked has (inl cause) = cause_range s t w (request.Write at bytes fua) a reply.Stopped right asked has cause
+may_range s t w (request.Write at bytes fua) a reply.Stopped right asked has (inr at_once) =
+    let below = at_once.0 in let is : at.0 ≡ a = same_Some _ _ has in (λ none. absurd cc, λ past. absurd (omega (arith, past, below, is)))
+may_range s t w r a answer right asked has cause = cause_range s t w r a answer right asked has cause
+
+-- each block request that is answered is answered `Range` exactly there
+pub range_told : (s : Session) (t : Trace) (w : Writer) (r : Request) (a : ℕ) (answer : Reply) → RightTrace s t → request_at s.script w ≡ Some r → address_of r ≡ Some a → answer_of (lines t) w ≡ Some answer
+    → TellsRange s a answer
+range_told s [] w r a answer right asked has answered = absurd cc
+range_told s (Says (Begin v) ∷ t) w r a answer right asked has answered = range_told s t w r a answer right.2 asked has answered
+range_told s (Says (Answer v b) ∷ t) w r a answer right asked has answered = elim (same_tells v w) [
+  | inl same ↦
+      let cause = right.0.1 r (subst (λ (x : Writer). request_at s.script x ≡ Some r) (sym same.1) asked) in
+      let is : b ≡ answer = same_Some _ _ (rw same.0 at answered) in
+      subst (TellsRange s a) is (may_range s t w r a b right.2 asked has (subst (λ (x : Writer). MayAnswer s t x r b) same.1 cause))
+  | inr other ↦ range_told s t w r a answer right.2 asked has (rw other.0 at answered)
+]
+range_told s (Flushes mark ∷ t) w r a answer right asked has answered = elim (same_tells mark.request w) [
+  | inl same ↦
+      let flush = subst (λ (x : Writer). request_at s.script x ≡ Some request.Flush) same.1 right.0.1 in
+      let r_is : r ≡ request.Flush = same_Some _ _ (sym asked ∙ flush) in
+      let none : None ≡ Some a = subst (λ (q : Request). address_of q ≡ Some a) r_is has in
+      absurd cc
+  | inr other ↦ range_told s t w r a answer right.2 asked has (rw other.0 at answered)
+]
+range_told s (Fails v c true ∷ t) w r a answer right asked has answered = range_told s t w r a answer right.2 asked has answered
+range_told s (other ∷ t) w r a answer right asked has answered = range_told s t w r a answer right.2 asked has answered

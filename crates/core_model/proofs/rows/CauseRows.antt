@@ -115,19 +115,24 @@ abbrev MayBeStopped : Trace → Request → Type 0
 MayBeStopped t r = MayAnswer session t second r Stopped
 
 stopped_at_once : MayBeStopped (Says (Begin second) ∷ stopped []) (request.Write (address 0) y false)
-stopped_at_once = inr (record { stopped = refl; unset = refl; older = stopped []; begun_last = refl })
+stopped_at_once = inr (omega arith, record { stopped = refl; unset = refl; older = stopped []; begun_last = refl })
 
 at_once_after_a_stop : MayBeStopped (Says (Begin second) ∷ []) (request.Write (address 0) y false) → ⊥
 at_once_after_a_stop (inl cause) = let is = cause.0 in absurd cc
-at_once_after_a_stop (inr at_once) = let is = at_once.stopped in absurd cc
+at_once_after_a_stop (inr at_once) = let is = at_once.1.stopped in absurd cc
 
 at_once_alone : MayBeStopped (Says (Begin other) ∷ Says (Begin second) ∷ stopped []) (request.Write (address 0) y false) → ⊥
 at_once_alone (inl cause) = let placed = cause.1 in absurd cc
-at_once_alone (inr at_once) = let same : 1 ≡ 0 = ap begun_number at_once.begun_last in absurd (omega (arith, same))
+at_once_alone (inr at_once) = let same : 1 ≡ 0 = ap begun_number at_once.1.begun_last in absurd (omega (arith, same))
   where
     begun_number : Trace → ℕ
     begun_number (Says (Begin w) ∷ t) = w.number
     begun_number t = 0
+
+-- nor where its address isn't below the logical size
+at_once_inside : MayBeStopped (Says (Begin second) ∷ stopped []) (request.Write (address 1000) y false) → ⊥
+at_once_inside (inl cause) = let placed = cause.1 in absurd cc
+at_once_inside (inr at_once) = let below = at_once.0 in absurd (omega (arith, below))
 
 at_once_of_a_write : MayBeStopped (Says (Begin second) ∷ stopped []) (request.Read (address 0)) → ⊥
 at_once_of_a_write may = may.1.behind

@@ -3,7 +3,7 @@ use Rattle.core_model.specs.declared.zones.ZoneData.{ZoneData}
 use Rattle.core_model.specs.Facts.{DataOk}
 use Rattle.core_laws.proofs.trace.DeskOfTrace.{desk_log_right}
 use Rattle.core_laws.proofs.kept.Stopped.{stopped_at_device}
-use Rattle.core_laws.proofs.trace.PlacesOfTrace.{places_drawn, places_all}
+use Rattle.core_laws.proofs.trace.PlacesOfTrace.{places_drawn, places_all, range_told}
 use Rattle.core_laws.proofs.trace.ReportOfTrace.{run_right}
 use Rattle.core_laws.proofs.laws.a_legal_core_is_in_order.Goals as goal
 
@@ -29,3 +29,6 @@ returns-clause-run c = λ s core session legal. run_right s core.trace session l
 
 pub returns-clause-stopped : goal.returns-clause-stopped
 returns-clause-stopped c = stopped_at_device
+
+pub returns-clause-range : goal.returns-clause-range
+returns-clause-range c = λ s core w r a answer legal. range_told s core.trace w r a answer legal.right
