@@ -1,13 +1,12 @@
+pub mod ActRows
+pub mod ActSums
 pub mod BlockOwners
-pub mod BlockTokens
-pub mod JournalTokens
+pub mod Known
 pub mod LeaseOwners
 pub mod LeaseTokens
 pub mod Lift
-pub mod NoticeTokens
 pub mod Owners
 pub mod Posts
 pub mod RequestOwners
-pub mod RequestTokens
-pub mod RoomTokens
 pub mod Rooms
+pub mod TokenLaws

@@ -1,22 +1,16 @@
 -- The legal states of the core.
-use Rattle.std.specs.Prelude.{ℕ, ◌+◌, ◌*◌, ◌≡◌, ◌<◌, Bool, List, [], ◌∷◌, ◌++◌, Some, slice_get, length}
-use Rattle.std.specs.List.{AllByRecursion}
+use Rattle.std.specs.Prelude.{ℕ, ◌+◌, ◌*◌, ◌≡◌, ◌<◌, Bool, length}
 use Rattle.blk_base.specs.declared.request.Writer.{Writer}
 use Rattle.vdo_model.specs.declared.report.Placed.{Placed}
-use Rattle.core_model.specs.declared.items.Item.{Item}
-use Rattle.core_model.specs.declared.zones.ZoneData.TheVariants as at
-use Rattle.core_model.specs.declared.zones.LogicalZone.{LogicalZone}
-use Rattle.core_model.specs.declared.zones.Zone.{Zone}
 use Rattle.core_model.specs.Arrivals.{arrivals_at}
 use Rattle.core_model.specs.Facts.{ZoneOk}
-use Rattle.core_model.specs.Zones.{desk_zone, zone_count, notified_zones}
+use Rattle.core_model.specs.Zones.{zone_count, notified_zones}
 use Rattle.core_model.specs.RightTraces.{RightTrace, GivesRight}
 use Rattle.core_model.specs.Sessions.{Session, HasHonestReads}
 use Rattle.core_model.specs.Steps.{Core}
 use Rattle.core_model.specs.Streams.{Flows}
 use Rattle.plain_laws.specs.Sums.{Each}
 use Rattle.core_model.specs.Tokens.{Balanced, AtMost, request_token, lease_token, block_token, journal_token, room_token, notice_token}
-use Rattle.core_model.specs.Trace.{Trace, places}
 
 -- in a zone, each stream's places are drawn in the order of its requests: a request has a greater number than those of its
 -- stream that have a place there

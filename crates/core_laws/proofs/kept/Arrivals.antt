@@ -1,5 +1,5 @@
 -- What each act owes of the arrivals: the desk alone sends requests that have yet to draw a place, and their logical zone takes them.
-use Rattle.std.proofs.Common.{◌∙◌, ◌≡◌, ◌<◌, ◌≤◌, ◌==◌, ℕ, zero, suc, ◌⊎◌, Bool, true, false, cond, if◌then◌else◌, Option, None, Some, IsSome, List, [], ◌∷◌, ◌++◌, nat_eq, refl, sym, subst, ap, inl, inr, arith}
+use Rattle.std.proofs.Common.{◌∙◌, ◌≡◌, ◌<◌, ◌≤◌, ℕ, ◌⊎◌, Bool, true, false, cond, Option, None, Some, IsSome, List, [], ◌∷◌, ◌++◌, nat_eq, refl, sym, subst, ap, inl, inr, arith}
 use Rattle.std.specs.List.{AllByRecursion}
 use Rattle.std.proofs.lemmas.Bool.Decides.{eqb_tells}
 use Rattle.std.proofs.lemmas.List.{append-nil}
@@ -58,8 +58,8 @@ use Rattle.plain_laws.proofs.ListLaws.{every-append, every-front, every-map}
 use Rattle.core_laws.proofs.desk.DeskFacts.{begun_now}
 use Rattle.core_laws.proofs.kept.ActKept.{unborn_place}
 use Rattle.core_laws.proofs.kept.Streams.{Keeps, items_to}
-use Rattle.core_laws.proofs.tokens.Posts.{begun_request, begun_phase, goes_by, IsGranted, nobody, somebody, is_granted}
-use Rattle.core_laws.proofs.tokens.LeaseTokens.{IsIn, KeptIn}
+use Rattle.core_laws.proofs.tokens.Posts.{goes_by, IsGranted, nobody, somebody, is_granted}
+use Rattle.core_laws.proofs.tokens.Known.{IsIn, KeptIn}
 use Rattle.core_laws.proofs.trace.Growth.{begun_stays}
 use Rattle.core_laws.proofs.trace.PlacesOfTrace.{cause_placed}
 

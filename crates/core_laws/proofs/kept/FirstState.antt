@@ -4,7 +4,6 @@ use Rattle.std.specs.List.{AllByRecursion}
 use Rattle.blk_base.specs.declared.place.Mapping.{Mapping}
 use Rattle.blk_base.specs.declared.place.Mapping.TheVariants.{Unmapped, Zero, At}
 use Rattle.blk_base.specs.declared.place.Pbn.{Pbn}
-use Rattle.blk_base.specs.declared.request.Writer.{Writer}
 use Rattle.image_layout.specs.Window.{mapping_of}
 use Rattle.stop_laws.proofs.JournalLaws.{opened_at_rest}
 use Rattle.vdo_model.specs.declared.report.DeskLine.{DeskLine}
@@ -33,7 +32,7 @@ use Rattle.core_model.specs.declared.zones.LogicalZone.{LogicalZone}
 use Rattle.byte_fields.specs.Mappings.{HoldsMapping}
 use Rattle.blk_base.proofs.RegionLaws.{data_block_high, data_block_inside}
 use Rattle.core_laws.proofs.device.DataBlocks.{blocks_fit, window_data}
-use Rattle.plain_laws.proofs.ListLaws.{every-get, every-map}
+use Rattle.plain_laws.proofs.ListLaws.{every-get}
 
 -- sums of what each thing has, as the one is at most the other
 total_at_most : {X : Type 0} (f g : X → ℕ) (xs : List X) → Each (λ i x. f x ≤ g x) xs → total f xs ≤ total g xs

@@ -7,7 +7,7 @@ use Rattle.core_model.specs.Facts.{DataOk, KeptOk, WaitsOk}
 use Rattle.core_model.specs.Sessions.{Session}
 use Rattle.core_model.specs.Trace.{Trace}
 use Rattle.plain_laws.proofs.ListLaws.{every-map}
-use Rattle.core_laws.proofs.tokens.LeaseTokens.{KeptIn}
+use Rattle.core_laws.proofs.tokens.Known.{KeptIn}
 
 pub kept_in : (s : Session) (t : Trace) (n : ℕ) (d : ZoneData) → DataOk s t n d → KeptIn d
 kept_in s t n (at.Desk d) ok = every-map {P = KeptOk s t phase.Reply} (λ v h. h.2) d.parked ok.parked

@@ -17,24 +17,21 @@ use Rattle.core_model.specs.Sessions.{Session, IsSession, HasHonestReads}
 use Rattle.core_model.specs.Steps as steps
 use Rattle.core_model.specs.Steps.{Act, ZoneStep, Core, StepOf, MoveOf, Leads, sent_to, sent, delivered, posted}
 use Rattle.plain_laws.specs.Sums.{Each}
-use Rattle.core_model.specs.Tokens.{request_token, lease_token, block_token, journal_token, room_token, notice_token}
+use Rattle.core_model.specs.Tokens.{Token, Balanced, request_token, lease_token, block_token, journal_token, room_token, notice_token}
 use Rattle.core_model.specs.Trace.{Trace}
 use Rattle.core_model.specs.Vios.{Post}
 use Rattle.core_laws.proofs.kept.ActKept.{PostOk}
 use Rattle.core_laws.proofs.tokens.BlockOwners.{sealed_busy}
-use Rattle.core_laws.proofs.tokens.BlockTokens.{blocks_law, wait_to_enter}
-use Rattle.core_laws.proofs.tokens.JournalTokens.{IsBusy, journal_law}
 use Rattle.core_laws.proofs.kept.Arrivals.{arrivals_kept, course}
 use Rattle.core_laws.proofs.kept.KeptPhases.{kept_in}
 use Rattle.core_laws.proofs.kept.Streams.{flows_step}
 use Rattle.core_laws.proofs.tokens.LeaseOwners.{leased_front}
-use Rattle.core_laws.proofs.tokens.LeaseTokens.{LeasedIn, SealedIn, leases_law}
-use Rattle.core_laws.proofs.tokens.Lift.{Within, balance_step, at_most_step}
+use Rattle.core_laws.proofs.tokens.ActSums.{IsRow, act_row}
+use Rattle.core_laws.proofs.tokens.Known.{Known}
+use Rattle.core_laws.proofs.tokens.Lift.{Within, Conserves, balance_step, at_most_step}
+use Rattle.core_laws.proofs.tokens.TokenLaws.{requests_law, room_law, notices_law, journal_law, blocks_law, leases_law}
 use Rattle.plain_laws.proofs.ListLaws.{Each-put_other, every-append, every-front, every-map, length-put, get-put_same}
 use Rattle.core_laws.proofs.lists.Lists.{length-posted}
-use Rattle.core_laws.proofs.tokens.NoticeTokens.{notices_law}
-use Rattle.core_laws.proofs.tokens.RequestTokens.{requests_law}
-use Rattle.core_laws.proofs.tokens.RoomTokens.{room_law}
 use Rattle.core_laws.proofs.kept.StepActs.{ActOk, begins_ok, answers_ok, serves_ok, takes_ok, enters_ok, calls_ok}
 use Rattle.core_laws.proofs.kept.StepBlocks.{works_ok, ends_ok, hears_ok, serves_notice_ok, takes_notice_ok, enters_notice_ok}
 use Rattle.core_laws.proofs.kept.StepSides.{first_ok}
@@ -149,27 +146,34 @@ module _ (s : Session) (session : IsSession s) (old new : Core) (legal : Legal s
   fronts : AllByRecursion (ItemOk s old.trace st.number) st.step.front
   fronts = (every-front (ItemOk s old.trace st.number) st.step.front st.step.rest (subst (λ (items : List Item). AllByRecursion (ItemOk s old.trace st.number) items) st.step.taken zone_ok.inbox)).0
 
-  -- what the laws of the tokens ask
-  busy : IsBusy st.zone.keeps st.step.front
-  busy b j is keeps = sealed_busy s old.trace old.zones legal.each st.number st.zone st.step.rest st.had b legal.journal (st.step.taken ∙ ap (λ items. items ++ st.step.rest) is) st.number st.zone j st.had keeps
+  -- what a legal core knows of the act, and the row that it is
+  known : Known st.zone.keeps st.step.front
+  known = record {
+    kept = kept_in s old.trace st.number st.zone.keeps zone_ok.own;
+    sealed = λ b is. (first_ok s session old legal st.number st.zone st.had (item.Block b) st.step.rest (at_front (item.Block b) is)).0.phase;
+    busy = λ b j is keeps. sealed_busy s old.trace old.zones legal.each st.number st.zone st.step.rest st.had b legal.journal (at_front (item.Block b) is) st.number st.zone j st.had keeps;
+    leased = λ l v keeps is held. leased_front s old.trace old.zones st.number st.zone l v st.step.rest legal.each (legal.leases v.at.0) st.had (at_front (item.Request v) is) keeps held;
+  }
+    where
+      at_front : (it : Item) → st.step.front ≡ it ∷ [] → st.zone.inbox ≡ it ∷ st.step.rest
+      at_front it is = st.step.taken ∙ ap (λ items. items ++ st.step.rest) is
 
-  leased : LeasedIn st.zone.keeps st.step.front
-  leased l v keeps is held = leased_front s old.trace old.zones st.number st.zone l v st.step.rest legal.each (legal.leases v.at.0) st.had (st.step.taken ∙ ap (λ items. items ++ st.step.rest) is) keeps held
+  the_row : IsRow s.sizes st.zone.keeps st.step.front st.zone'.keeps st.step.posts
+  the_row = act_row s.sizes st.zone.keeps st.step.front st.zone'.keeps st.made st.step.posts st.step.act known
 
-  sealed_in : SealedIn st.step.front
-  sealed_in b is = (first_ok s session old legal st.number st.zone st.had (item.Block b) st.step.rest (st.step.taken ∙ ap (λ items. items ++ st.step.rest) is)).0.phase
+  balanced : (t : Token) → Conserves t st.zone.keeps st.zone'.keeps the_row.before the_row.after → Balanced t old.zones → Balanced t new.zones
+  balanced t = balance_step t s.sizes old new st lanes_there the_row
 
   pub legal_step : Legal s new
   legal_step = record {
     count = ap length zones_is ∙ length-put old.zones st.number st.zone' ∙ legal.count;
     each = subst (λ (core : Core). Each (ZoneOk s core.trace) core.zones) (sym st.has) each_ok;
-    requests = λ w. balance_step (request_token w) s.sizes old new st lanes_there (requests_law w s.sizes st.zone.keeps st.step.front st.zone'.keeps st.made st.step.posts st.step.act) (legal.requests w);
-    leases = λ a test. balance_step (lease_token a test) s.sizes old new st lanes_there
-        (leases_law a test s.sizes st.zone.keeps st.step.front st.zone'.keeps st.made st.step.posts st.step.act (kept_in s old.trace st.number st.zone.keeps zone_ok.own) sealed_in leased) (legal.leases a test);
-    blocks = λ x. at_most_step (block_token x) s.sizes old new st lanes_there (blocks_law x s.sizes st.zone.keeps st.step.front st.zone'.keeps st.made st.step.posts st.step.act (wait_to_enter s old.trace st.number st.zone.keeps zone_ok.own)) (legal.blocks x);
-    journal = balance_step journal_token s.sizes old new st lanes_there (journal_law s.sizes st.zone.keeps st.step.front st.zone'.keeps st.made st.step.posts st.step.act busy) legal.journal;
-    room = balance_step room_token s.sizes old new st lanes_there (room_law s.sizes st.zone.keeps st.step.front st.zone'.keeps st.made st.step.posts st.step.act) legal.room;
-    stop_notices = balance_step (notice_token s.sizes) s.sizes old new st lanes_there (notices_law s.sizes st.zone.keeps st.step.front st.zone'.keeps st.made st.step.posts st.step.act) legal.stop_notices;
+    requests = λ w. balanced (request_token w) (requests_law s.sizes w the_row.row) (legal.requests w);
+    leases = λ a test. balanced (lease_token a test) (leases_law s.sizes a test the_row.row) (legal.leases a test);
+    blocks = λ x. at_most_step (block_token x) s.sizes old new st lanes_there the_row (blocks_law s.sizes x the_row.row) (legal.blocks x);
+    journal = balanced journal_token (journal_law s.sizes the_row.row) legal.journal;
+    room = balanced room_token (room_law s.sizes the_row.row) legal.room;
+    stop_notices = balanced (notice_token s.sizes) (notices_law s.sizes the_row.row) legal.stop_notices;
     in_order = λ zone below. flows_step Writer (arrivals_at s zone) s.sizes (λ e. absurd (omega (arith, e))) old new st zone_ok.number_is
         (arrivals_kept s old.trace zone st.number st.zone.keeps st.step.front st.made st.step.posts zone_ok.own
         (course s old.trace legal.right st.number st.zone.keeps st.step.front st.zone'.keeps st.made st.step.posts st.step.act zone_ok.own fronts (kept_in s old.trace st.number st.zone.keeps zone_ok.own)))

@@ -45,7 +45,7 @@ use Rattle.core_laws.proofs.device.DeviceFacts.{device_serves}
 use Rattle.core_laws.proofs.kept.Elsewhere.{LacksRequest, LacksLock}
 use Rattle.core_laws.proofs.journal.JournalFacts.{journal_serves}
 use Rattle.core_laws.proofs.tokens.LeaseOwners.{any, leased_front}
-use Rattle.core_laws.proofs.tokens.LeaseTokens.{Leased}
+use Rattle.core_laws.proofs.tokens.Known.{Leased}
 use Rattle.core_laws.proofs.logical.LogicalEnds.{logical_serves}
 use Rattle.vdo_model.proofs.NameLaws.{same_self}
 use Rattle.core_laws.proofs.tokens.Lift.{kept_by}

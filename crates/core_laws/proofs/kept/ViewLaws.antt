@@ -9,7 +9,7 @@ use Rattle.core_model.specs.Sessions.{Session}
 use Rattle.core_model.specs.Start.{IsFirst}
 use Rattle.core_model.specs.Steps.{Core, MoveOf}
 use Rattle.core_model.specs.Trace.{Trace}
-use Rattle.core_model.specs.Views.{View, LaneHolds, PostsBatch, ReceivesBatch, TakesBatch, AreEmptyLanes, behind, with_batches, with_batch, zones_of, zones_seen, core_of}
+use Rattle.core_model.specs.Views.{View, PostsBatch, ReceivesBatch, TakesBatch, AreEmptyLanes, behind, with_batches, with_batch, zones_of, zones_seen, core_of}
 use Rattle.core_laws.proofs.kept.Seats.{batches_of, view_get, view_put}
 use Rattle.plain_laws.proofs.ListLaws.{get-put_same}
 

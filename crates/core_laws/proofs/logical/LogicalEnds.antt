@@ -36,7 +36,7 @@ use Rattle.core_laws.proofs.kept.Carried.{kept_kept, reply_said}
 use Rattle.blk_base.proofs.RegionLaws.{data_block_high}
 use Rattle.core_laws.proofs.device.DataBlocks.{blocks_fit}
 use Rattle.core_laws.proofs.kept.Elsewhere.{LacksRequest, other_request}
-use Rattle.core_laws.proofs.tokens.LeaseTokens.{Leased}
+use Rattle.core_laws.proofs.tokens.Known.{Leased}
 use Rattle.plain_laws.proofs.ListLaws.{every-map, every_both}
 use Rattle.core_laws.proofs.logical.LogicalFacts.{spares_waiting, retired_kept, held_kept, free_kept}
 use Rattle.plain_laws.proofs.OptionLaws.{some_is}

@@ -32,7 +32,8 @@ use Rattle.core_model.specs.Tokens.{lock_weight}
 use Rattle.core_model.specs.Trace.{Trace, Gift, done, aborted, gifts, has_stopped, of_address, newest, entries_of}
 use Rattle.core_model.specs.Vios.{Post, asked, request_of, turned, ended}
 use Rattle.core_laws.proofs.kept.ActKept.{PostOk, unentered_slot}
-use Rattle.core_laws.proofs.tokens.LeaseTokens.{Leased, without_same, without_other}
+use Rattle.core_laws.proofs.tokens.Known.{Leased}
+use Rattle.core_laws.proofs.tokens.LeaseTokens.{without_same, without_other}
 use Rattle.core_laws.proofs.lists.LockLists.{or_none, held_without, every_without, has_lock, every_but_first, every_none_for, every_all_for, first_has, none_first, rises_but_first, rises_none_for, first_below}
 use Rattle.plain_laws.proofs.ListLaws.{every-map}
 use Rattle.plain_laws.proofs.OptionLaws.{some_is}

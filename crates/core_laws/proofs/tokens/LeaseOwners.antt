@@ -21,7 +21,7 @@ use Rattle.plain_laws.specs.Sums.{total, bit, Each}
 use Rattle.core_model.specs.Tokens.{Balanced, weight, given, queued, of_vio, holds, holder_weight, lock_weight, locks_at, lease_token}
 use Rattle.core_model.specs.Trace.{Trace}
 use Rattle.plain_laws.proofs.ListLaws.{every-map, total-get, total_alone, nobody_else, summand}
-use Rattle.core_laws.proofs.tokens.LeaseTokens.{Leased}
+use Rattle.core_laws.proofs.tokens.Known.{Leased}
 use Rattle.vdo_model.specs.Places.{zone_of}
 
 -- the number of the logical zone of an address

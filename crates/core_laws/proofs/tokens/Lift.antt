@@ -9,18 +9,14 @@ use Rattle.core_model.specs.declared.zones.ZoneData.{ZoneData}
 use Rattle.core_model.specs.declared.zones.ZoneData.TheVariants as at
 use Rattle.core_model.specs.declared.zones.Zone.{Zone}
 use Rattle.plain_laws.specs.Sums.{total}
-use Rattle.core_model.specs.Steps.{sent_to, sent, delivered, ZoneStep, Core, StepOf, MoveOf}
+use Rattle.core_model.specs.Steps.{sent_to, sent, delivered, Core, StepOf, MoveOf}
 use Rattle.core_model.specs.Tokens.{Token, as_items, queued, weight, given, Balanced, AtMost}
-use Rattle.core_model.specs.Trace.{Trace}
 use Rattle.core_model.specs.Vios.{Post}
 use Rattle.core_model.specs.Zones.{zone_number}
 use Rattle.plain_laws.proofs.ListLaws.{total-append, total-set, get-put_other}
 use Rattle.core_laws.proofs.lists.Lists.{total-posted, length-posted}
-
--- what the posts weigh
-abbrev pub weights : Token → List Post → ℕ
-weights t [] = 0
-weights t (p ∷ ps) = t.item p.1 + weights t ps
+use Rattle.core_laws.proofs.tokens.ActRows.{Sum}
+use Rattle.core_laws.proofs.tokens.ActSums.{IsRow, posts_sum}
 
 -- all posts go to one of so many zones
 abbrev pub Within : Sizes → ℕ → List Post → Type 0
@@ -70,7 +66,7 @@ sent_weight : (t : Token) (b : Bool) (to : ℕ) (it : Item) (z : Zone) → to < 
 sent_weight t true to it z h = omega (arith, total-append t.item z.inbox (it ∷ []))
 sent_weight t false to it z h = omega (arith, total-posted t.item to it z.outboxes h)
 
-pub delivered_weight : (t : Token) (sizes : Sizes) (ps : List Post) (z : Zone) → Within sizes (length z.outboxes) ps → weight t (delivered sizes ps z) ≡ weight t z + weights t ps
+pub delivered_weight : (t : Token) (sizes : Sizes) (ps : List Post) (z : Zone) → Within sizes (length z.outboxes) ps → weight t (delivered sizes ps z) ≡ weight t z + posts_sum ps t.item
 delivered_weight t sizes [] z h = omega arith
 delivered_weight t sizes (p ∷ ps) z h =
     let to = zone_number sizes p.0 in
@@ -81,73 +77,63 @@ delivered_weight t sizes (p ∷ ps) z h =
     omega (arith, a, b)
 
 -- What a token owes at an act: what items and data weigh changes with what is given out; or no more than that.
-abbrev pub Conserves : Token → ZoneData → List Item → ZoneData → List Post → Type 0
-Conserves t old front new posts =
-    weights t posts + (kept_weight t new + t.own new) + t.gave old ≡ total t.item front + (kept_weight t old + t.own old) + t.gave new
+abbrev pub Conserves : Token → ZoneData → ZoneData → Sum → Sum → Type 0
+Conserves t old new before after = after t.item + t.own new + t.gave old ≡ before t.item + t.own old + t.gave new
 
-abbrev pub Shrinks : Token → ZoneData → List Item → ZoneData → List Post → Type 0
-Shrinks t old front new posts =
-    weights t posts + (kept_weight t new + t.own new) + t.gave old ≤ total t.item front + (kept_weight t old + t.own old) + t.gave new
-
-module _ (t : Token) (sizes : Sizes) (old new : Zone) (made : Trace) (s : ZoneStep sizes old new made) (goes : Within sizes (length old.outboxes) s.posts) where
-  after : weight t new ≡ total t.item s.rest + total (total t.item) old.outboxes + (kept_weight t new.keeps + t.own new.keeps) + weights t s.posts
-  after =
-      let z : Zone = record old { keeps = new.keeps; inbox = s.rest; steps = old.steps + 1 } in
-      let a = ap (weight t) s.lanes ∙ delivered_weight t sizes s.posts z goes in
-      let b = queued_is t.item new.keeps in
-      omega (arith, a, b)
-
-  before : weight t old ≡ total t.item s.front + total t.item s.rest + total (total t.item) old.outboxes + (kept_weight t old.keeps + t.own old.keeps)
-  before =
-      let c = ap (total t.item) s.taken in
-      let d = total-append t.item s.front s.rest in
-      let e = queued_is t.item old.keeps in
-      omega (arith, c, d, e)
-
-  step_conserves : Conserves t old.keeps s.front new.keeps s.posts → weight t new + given t old ≡ weight t old + given t new
-  step_conserves law = omega (arith, after, before, law)
-
-  step_shrinks : Shrinks t old.keeps s.front new.keeps s.posts → weight t new + given t old ≤ weight t old + given t new
-  step_shrinks law = omega (arith, after, before, law)
+abbrev pub Shrinks : Token → ZoneData → ZoneData → Sum → Sum → Type 0
+Shrinks t old new before after = after t.item + t.own new + t.gave old ≤ before t.item + t.own old + t.gave new
 
 -- over a step of the core
-module _ (t : Token) (sizes : Sizes) (old new : Core) (s : StepOf sizes old new) (goes : Within sizes (length s.zone.outboxes) s.step.posts) where
-  pub balance_step : Conserves t s.zone.keeps s.step.front s.zone'.keeps s.step.posts → Balanced t old.zones → Balanced t new.zones
-  balance_step law held =
-      let a = step_conserves t sizes s.zone s.zone' s.made s.step goes law in
-      let b = total-set (weight t) old.zones s.number s.zone s.zone' s.had in
-      let c = total-set (given t) old.zones s.number s.zone s.zone' s.had in
-      rw s.has (omega (arith, a, b, c, held))
+module _ (t : Token) (sizes : Sizes) (old new : Core) (s : StepOf sizes old new) (goes : Within sizes (length s.zone.outboxes) s.step.posts)
+    (r : IsRow sizes s.zone.keeps s.step.front s.zone'.keeps s.step.posts) where
+  abbrev z : Zone
+  z = record s.zone { keeps = s.zone'.keeps; inbox = s.step.rest; steps = s.zone.steps + 1 }
 
-  pub at_most_step : Shrinks t s.zone.keeps s.step.front s.zone'.keeps s.step.posts → AtMost t old.zones → AtMost t new.zones
+  -- what the zone weighs, by the row
+  here : weight t s.zone' + r.before t.item + t.own s.zone.keeps ≡ weight t s.zone + r.after t.item + t.own s.zone'.keeps
+  here =
+      let a = ap (weight t) s.step.lanes ∙ delivered_weight t sizes s.step.posts z goes in
+      let b = ap (total t.item) s.step.taken in
+      omega (arith, a, b, total-append t.item s.step.front s.step.rest, r.was t.item, r.is t.item)
+
+  abbrev pub StepLaw : (Token → ZoneData → ZoneData → Sum → Sum → Type 0) → Type 0
+  StepLaw Law = Law t s.zone.keeps s.zone'.keeps r.before r.after
+
+  pub balance_step : StepLaw Conserves → Balanced t old.zones → Balanced t new.zones
+  balance_step law held =
+      let a = total-set (weight t) old.zones s.number s.zone s.zone' s.had in
+      let b = total-set (given t) old.zones s.number s.zone s.zone' s.had in
+      rw s.has (omega (arith, here, law, a, b, held))
+
+  pub at_most_step : StepLaw Shrinks → AtMost t old.zones → AtMost t new.zones
   at_most_step law held =
-      let a = step_shrinks t sizes s.zone s.zone' s.made s.step goes law in
-      let b = total-set (weight t) old.zones s.number s.zone s.zone' s.had in
-      let c = total-set (given t) old.zones s.number s.zone s.zone' s.had in
-      rw s.has (omega (arith, a, b, c, held))
+      let a = total-set (weight t) old.zones s.number s.zone s.zone' s.had in
+      let b = total-set (given t) old.zones s.number s.zone s.zone' s.had in
+      rw s.has (omega (arith, here, law, a, b, held))
 
 -- over a move
 module _ (t : Token) (old new : Core) (m : MoveOf old new) where
+  abbrev source' : Zone
+  source' = record m.source { outboxes = slice_set m.source.outboxes m.to m.left }
+
+  abbrev target' : Zone
+  target' = record m.target { inbox = m.target.inbox ++ m.part }
+
+  -- a number of each zone, before and after
+  both : (f : Zone → ℕ) → total f new.zones + f m.source + f m.target ≡ total f old.zones + f source' + f target'
+  both f =
+      let still : slice_get (slice_set old.zones m.from source') m.to ≡ Some m.target = get-put_other old.zones m.from m.to source' (λ e. m.apart (sym e)) ∙ m.had_target in
+      let a = total-set f old.zones m.from m.source source' m.had_source in
+      let b = total-set f (slice_set old.zones m.from source') m.to m.target target' still in
+      rw m.has (omega (arith, a, b))
+
   same_weight : total (weight t) new.zones ≡ total (weight t) old.zones
   same_weight =
-      let source' : Zone = record m.source { outboxes = slice_set m.source.outboxes m.to m.left } in
-      let target' : Zone = record m.target { inbox = m.target.inbox ++ m.part } in
-      let still : slice_get (slice_set old.zones m.from source') m.to ≡ Some m.target = get-put_other old.zones m.from m.to source' (λ e. m.apart (sym e)) ∙ m.had_target in
-      let a = total-set (weight t) old.zones m.from m.source source' m.had_source in
-      let b = total-set (weight t) (slice_set old.zones m.from source') m.to m.target target' still in
       let e = total-set (total t.item) m.source.outboxes m.to (m.part ++ m.left) m.left m.outbox in
-      let f = total-append t.item m.part m.left in
-      let g = total-append t.item m.target.inbox m.part in
-      rw m.has (omega (arith, a, b, e, f, g))
+      omega (arith, both (weight t), e, total-append t.item m.part m.left, total-append t.item m.target.inbox m.part)
 
   same_given : total (given t) new.zones ≡ total (given t) old.zones
-  same_given =
-      let source' : Zone = record m.source { outboxes = slice_set m.source.outboxes m.to m.left } in
-      let target' : Zone = record m.target { inbox = m.target.inbox ++ m.part } in
-      let still : slice_get (slice_set old.zones m.from source') m.to ≡ Some m.target = get-put_other old.zones m.from m.to source' (λ e. m.apart (sym e)) ∙ m.had_target in
-      let c = total-set (given t) old.zones m.from m.source source' m.had_source in
-      let d = total-set (given t) (slice_set old.zones m.from source') m.to m.target target' still in
-      rw m.has (omega (arith, c, d))
+  same_given = omega (arith, both (given t))
 
   pub balance_move : Balanced t old.zones → Balanced t new.zones
   balance_move held = same_weight ∙ held ∙ sym same_given

@@ -7,7 +7,7 @@ use Rattle.core_model.specs.declared.zones.Zone.{Zone}
 use Rattle.plain_laws.specs.Sums.{total, bit, Each}
 use Rattle.core_model.specs.Tokens.{Token, weight, given, Balanced, AtMost, journal_token, idle_at}
 use Rattle.plain_laws.proofs.ListLaws.{total-append, total-get, nobody_else}
-use Rattle.core_laws.proofs.tokens.JournalTokens.{IsBusy}
+use Rattle.core_laws.proofs.tokens.Known.{IsBusy}
 use Rattle.core_laws.proofs.tokens.Lift.{kept_by, queued_is}
 
 -- a sum of nothing

@@ -1,0 +1,132 @@
+-- The rows of the table of phases as the tokens see them: what a zone's data was and is, and the items that were there
+-- (the front, and those that are kept) and are there (those that are posted, and those that are kept), by their sum.
+use Rattle.std.proofs.Common.{◌≡◌, ℕ, ◌+◌, ◌*◌, true, false, Option, Some, List, [], ◌∷◌}
+use Rattle.blk_base.specs.declared.place.Mapping.{Mapping}
+use Rattle.blk_base.specs.declared.place.Pbn.{Pbn}
+use Rattle.blk_base.specs.declared.request.Answer.{Answer}
+use Rattle.blk_base.specs.declared.request.Answer.TheVariants as reply
+use Rattle.blk_base.specs.declared.request.Writer.{Writer}
+use Rattle.vdo_model.specs.declared.report.DeskLine.TheVariants as line
+use Rattle.vdo_model.specs.declared.report.FlushMark.{FlushMark}
+use Rattle.core_model.specs.declared.items.Item.{Item}
+use Rattle.core_model.specs.declared.items.Item.TheVariants.{Request, Block, StopNotice}
+use Rattle.core_model.specs.declared.items.Phase.{Phase}
+use Rattle.core_model.specs.declared.items.Phase.TheVariants as phase
+use Rattle.core_model.specs.declared.items.SealedBlock.{SealedBlock}
+use Rattle.core_model.specs.declared.items.Stage.{Stage}
+use Rattle.core_model.specs.declared.items.Vio.{Vio}
+use Rattle.core_model.specs.declared.sizes.Sizes.{Sizes}
+use Rattle.core_model.specs.declared.zones.ZoneData.{ZoneData}
+use Rattle.core_model.specs.declared.zones.ZoneData.TheVariants as at
+use Rattle.core_model.specs.declared.zones.Desk.{Desk}
+use Rattle.core_model.specs.declared.zones.DeviceZone.{DeviceZone}
+use Rattle.core_model.specs.declared.zones.JournalZone.{JournalZone}
+use Rattle.core_model.specs.declared.zones.Logged.{Logged}
+use Rattle.core_model.specs.declared.zones.LogicalZone.{LogicalZone}
+use Rattle.core_model.specs.declared.zones.PhysicalZone.{PhysicalZone}
+use Rattle.core_model.specs.DeskRows.{with_notice}
+use Rattle.core_model.specs.DeviceRows.{counted, halted}
+use Rattle.core_model.specs.JournalRows.{entered_by, committed_by, sealed}
+use Rattle.core_model.specs.LogicalRows.{drawn_by, placed, lock_of, without, all_for, none_for, retire}
+use Rattle.core_model.specs.Tokens.{holds, claims}
+use Rattle.core_model.specs.Vios.{turned, ended, staged}
+use Rattle.core_model.specs.Zones.{notified_zones}
+use Rattle.plain_laws.specs.Sums.{total}
+use Rattle.core_laws.proofs.tokens.Known.{Leased}
+
+-- what items have together of what one may have
+abbrev pub Sum : Type 0
+Sum = (Item → ℕ) → ℕ
+
+-- requests in a phase, and those that are to be answered so
+abbrev pub all_in : Phase → List Vio → Sum
+all_in q vs f = total (λ v. f (Request (turned q v))) vs
+
+abbrev pub all_ended : Phase → Answer → List Vio → Sum
+all_ended q a vs f = total (λ v. f (Request (ended q a v))) vs
+
+-- how a request goes on that has the lock of its address
+pub record Onward : Type 0 where
+  pub phase : Phase
+  pub old : Mapping
+  pub latest : Option Logged
+  pub block : Pbn
+  pub bytes : List ℕ
+  pub locks : holds phase ≡ true
+  pub unclaimed : claims phase ≡ false
+
+abbrev pub onward : Onward → Vio → Vio
+onward on v = record v { phase = on.phase; old = on.old; latest = on.latest; block = on.block; bytes = on.bytes }
+
+-- a request with its answer
+abbrev pub replied : Option Answer → Vio → Vio
+replied answer v = record v { phase = phase.Reply; answer = answer }
+
+pub data Row (sizes : Sizes) : ZoneData → ZoneData → Sum → Sum → Type 0 where
+  -- the desk
+  says : (d : Desk) (w : Writer) (a : Answer) → Row sizes (at.Desk d) (at.Desk (record d { log = line.Answer w a ∷ line.Begin w ∷ d.log })) (all_in phase.Reply d.parked) (all_in phase.Reply d.parked)
+  begins : (d : Desk) (v : Vio) → Row sizes (at.Desk d) (at.Desk (record d { log = line.Begin v.request ∷ d.log })) (all_in phase.Reply d.parked) (λ f. f (Request (turned phase.Arrive v)) + all_in phase.Reply d.parked f)
+  begins_flush : (d : Desk) (v : Vio) → Row sizes (at.Desk d) (at.Desk (record d { log = line.Begin v.request ∷ d.log })) (all_in phase.Reply d.parked) (λ f. f (Request (turned phase.Flush v)) + all_in phase.Reply d.parked f)
+  parks : (d : Desk) (v : Vio) (parked : List Vio)
+      → Row sizes (at.Desk d) (at.Desk (record d { parked = parked })) (λ f. f (Request (turned phase.Reply v)) + all_in phase.Reply d.parked f) (λ f. f (Request (turned phase.Reply v)) + all_in phase.Reply d.parked f)
+  answers : (d : Desk) (v : Vio) (a : Answer) (marks : List FlushMark)
+      → Row sizes (at.Desk d) (at.Desk (record d { log = line.Answer v.request a ∷ d.log; marks = marks })) (λ f. f (Request (turned phase.Reply v)) + all_in phase.Reply d.parked f) (all_in phase.Reply d.parked)
+  hears : (d : Desk) → Row sizes (at.Desk d) (at.Desk (with_notice d)) (λ f. f StopNotice + all_in phase.Reply d.parked f) (all_in phase.Reply d.parked)
+  -- a logical zone
+  arrives_retired : (l : LogicalZone) (v : Vio)
+      → Row sizes (at.Logical l) (at.Logical (drawn_by l v)) (λ f. f (Request (turned phase.Arrive v)) + all_in phase.Wait l.waiting f) (λ f. f (Request (ended phase.Reply reply.Stopped (placed l v))) + all_in phase.Wait l.waiting f)
+  arrives_free : (l : LogicalZone) (v : Vio) (on : Onward)
+      → Row sizes (at.Logical l) (at.Logical (record (drawn_by l v) { held = lock_of (placed l v) ∷ l.held }))
+      (λ f. f (Request (turned phase.Arrive v)) + all_in phase.Wait l.waiting f) (λ f. f (Request (onward on (placed l v))) + all_in phase.Wait l.waiting f)
+  arrives_held : (l : LogicalZone) (v : Vio) (waiting : List Vio)
+      → Row sizes (at.Logical l) (at.Logical (record (drawn_by l v) { waiting = waiting })) (λ f. f (Request (turned phase.Arrive v)) + all_in phase.Wait l.waiting f) (λ f. f (Request (turned phase.Wait (placed l v))) + all_in phase.Wait l.waiting f)
+  -- a request leaves its lock, and nobody waits for it, or one does
+  leaves : (l : LogicalZone) (slots : List Logged) (v : Vio) (q : Phase) (a : Option Answer) → holds q ≡ true → Leased l v
+      → Row sizes (at.Logical l) (at.Logical (record l { slots = slots; held = without v.at.0 l.held })) (λ f. f (Request (turned q v)) + all_in phase.Wait l.waiting f) (λ f. f (Request (replied a v)) + all_in phase.Wait l.waiting f)
+  hands_on : (l : LogicalZone) (slots : List Logged) (v : Vio) (q : Phase) (a : Option Answer) (w : Vio) (on : Onward) (others : List Vio) → holds q ≡ true → Leased l v
+      → Row sizes (at.Logical l) (at.Logical (record l { slots = slots; held = lock_of w ∷ without v.at.0 l.held; waiting = others }))
+      (λ f. f (Request (turned q v)) + (f (Request (turned phase.Wait w)) + all_in phase.Wait others f)) (λ f. f (Request (replied a v)) + (f (Request (onward on w)) + all_in phase.Wait others f))
+  retires : (l : LogicalZone) (v : Vio) → Leased l v
+      → Row sizes (at.Logical l) (at.Logical (retire v.at.0 l)) (λ f. f (Request (turned phase.AbortEntered v)) + (all_in phase.Wait (all_for v.at.0 l.waiting) f + all_in phase.Wait (none_for v.at.0 l.waiting) f))
+      (λ f. f (Request (turned phase.Reply v)) + (all_ended phase.Reply reply.Stopped (all_for v.at.0 l.waiting) f + all_in phase.Wait (none_for v.at.0 l.waiting) f))
+  tells_logical : (l : LogicalZone) → Row sizes (at.Logical l) (at.Logical (record l { notified = true })) (λ f. f StopNotice + all_in phase.Wait l.waiting f) (λ f. f StopNotice + all_in phase.Wait l.waiting f)
+  -- the physical zone
+  claims_block : (p : PhysicalZone) (v : Vio) (x : Pbn) (others : List Pbn)
+      → Row sizes (at.Physical (record p { free = x ∷ others })) (at.Physical (record p { free = others })) (λ f. f (Request (turned phase.Claim v))) (λ f. f (Request (record v { phase = phase.Store; block = x })))
+  finds_none : (p : PhysicalZone) (v : Vio) → Row sizes (at.Physical p) (at.Physical p) (λ f. f (Request (turned phase.Claim v))) (λ f. f (Request (ended phase.Abort reply.Full v)))
+  aborts_claim : (p : PhysicalZone) (v : Vio) → Row sizes (at.Physical p) (at.Physical p) (λ f. f (Request (turned phase.AbortClaim v))) (λ f. f (Request (turned phase.Abort v)))
+  aborts_entered_claim : (p : PhysicalZone) (v : Vio) → Row sizes (at.Physical p) (at.Physical p) (λ f. f (Request (turned phase.AbortEnteredClaim v))) (λ f. f (Request (turned phase.AbortEntered v)))
+  tells_physical : (p : PhysicalZone) → Row sizes (at.Physical p) (at.Physical (record p { notified = true })) (λ f. f StopNotice) (λ f. f StopNotice)
+  -- the journal
+  refuses : (j : JournalZone) (v : Vio) (a : Answer)
+      → Row sizes (at.Journal j) (at.Journal j) (λ f. f (Request (turned phase.Enter v)) + all_in phase.Enter j.waiting f) (λ f. f (Request (ended phase.AbortClaim a v)) + all_in phase.Enter j.waiting f)
+  waits : (j : JournalZone) (v : Vio) (waiting : List Vio)
+      → Row sizes (at.Journal j) (at.Journal (record j { waiting = waiting })) (λ f. f (Request (turned phase.Enter v)) + all_in phase.Enter j.waiting f) (λ f. f (Request (turned phase.Enter v)) + all_in phase.Enter j.waiting f)
+  enters : (j : JournalZone) (v : Vio)
+      → Row sizes (at.Journal (record j { busy = false })) (at.Journal (entered_by v j)) (λ f. f (Request (turned phase.Enter v)) + all_in phase.Enter j.waiting f) (λ f. f (Block (sealed sizes j (turned phase.Enter v))) + all_in phase.Enter j.waiting f)
+  commits : (j : JournalZone) (b : SealedBlock) (v : Vio) (a : Answer)
+      → Row sizes (at.Journal (record j { busy = true })) (at.Journal (record (committed_by v j) { waiting = [] })) (λ f. f (Block (record b { vio = turned phase.Enter v })) + all_in phase.Enter j.waiting f)
+      (λ f. f (Request (turned phase.Settle v)) + all_ended phase.AbortClaim a j.waiting f)
+  commits_next : (j : JournalZone) (b : SealedBlock) (v w : Vio) (ws : List Vio)
+      → Row sizes (at.Journal (record j { busy = true })) (at.Journal (entered_by w (record (committed_by v j) { waiting = ws })))
+      (λ f. f (Block (record b { vio = turned phase.Enter v })) + (f (Request (turned phase.Enter w)) + all_in phase.Enter ws f))
+      (λ f. f (Request (turned phase.Settle v)) + (f (Block (sealed sizes j (turned phase.Enter w))) + all_in phase.Enter ws f))
+  fails : (j : JournalZone) (b : SealedBlock) (v : Vio)
+      → Row sizes (at.Journal (record j { busy = true })) (at.Journal (record j { busy = false; broken = true; waiting = [] })) (λ f. f (Block (record b { vio = turned phase.Enter v })) + all_in phase.Enter j.waiting f)
+      (λ f. f (Request (ended phase.AbortEnteredClaim reply.Stopped v)) + all_ended phase.AbortClaim reply.Stopped j.waiting f)
+  tells_journal : (j : JournalZone)
+      → Row sizes (at.Journal j) (at.Journal (record j { notified = true; waiting = [] })) (λ f. f StopNotice + all_in phase.Enter j.waiting f) (λ f. f StopNotice + all_ended phase.AbortClaim reply.Stopped j.waiting f)
+  -- the device
+  stores : (d : DeviceZone) (v : Vio) → Row sizes (at.Device d) (at.Device (counted d)) (λ f. f (Request (turned phase.Store v))) (λ f. f (Request (turned phase.Enter v)))
+  store_fails : (d : DeviceZone) (v : Vio)
+      → Row sizes (at.Device (record d { stopped = false })) (at.Device (halted d)) (λ f. f (Request (turned phase.Store v))) (λ f. f (Request (ended phase.AbortClaim reply.Stopped v)) + notified_zones sizes * f StopNotice)
+  store_unmade : (d : DeviceZone) (v : Vio) → Row sizes (at.Device d) (at.Device d) (λ f. f (Request (turned phase.Store v))) (λ f. f (Request (ended phase.AbortClaim reply.Stopped v)))
+  loads : (d : DeviceZone) (v : Vio) (bytes : List ℕ) → Row sizes (at.Device d) (at.Device (counted d)) (λ f. f (Request (turned phase.Load v))) (λ f. f (Request (record v { phase = phase.Loaded; bytes = bytes })))
+  load_fails : (d : DeviceZone) (v : Vio) → Row sizes (at.Device d) (at.Device d) (λ f. f (Request (turned phase.Load v))) (λ f. f (Request (ended phase.Abort reply.ReadFault v)))
+  flushes : (d : DeviceZone) (v : Vio) → Row sizes (at.Device d) (at.Device (counted d)) (λ f. f (Request (turned phase.Flush v))) (λ f. f (Request (record v { phase = phase.Reply; answer = Some reply.Ok; calls = d.calls + 1 })))
+  flush_fails : (d : DeviceZone) (v : Vio)
+      → Row sizes (at.Device (record d { stopped = false })) (at.Device (halted d)) (λ f. f (Request (turned phase.Flush v))) (λ f. f (Request (ended phase.Reply reply.Stopped v)) + notified_zones sizes * f StopNotice)
+  flush_unmade : (d : DeviceZone) (v : Vio) → Row sizes (at.Device d) (at.Device d) (λ f. f (Request (turned phase.Flush v))) (λ f. f (Request (ended phase.Reply reply.Stopped v)))
+  works : (d : DeviceZone) (calls : ℕ) (b : SealedBlock) (next : Stage) → Row sizes (at.Device d) (at.Device (record d { calls = calls })) (λ f. f (Block b)) (λ f. f (Block (staged next b)))
+  work_fails : (d : DeviceZone) (b : SealedBlock) (next : Stage)
+      → Row sizes (at.Device (record d { stopped = false })) (at.Device (halted d)) (λ f. f (Block b)) (λ f. f (Block (staged next b)) + notified_zones sizes * f StopNotice)

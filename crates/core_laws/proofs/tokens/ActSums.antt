@@ -1,0 +1,285 @@
+-- Each act is one of the rows that the tokens see.
+use Rattle.std.proofs.Common.{◌≡◌, ℕ, suc, ◌+◌, ◌*◌, true, false, Option, None, Some, List, [], ◌∷◌, ◌++◌, length, refl, ap, ◌∙◌, subst, inl, inr, arith}
+use Rattle.std.proofs.lemmas.Bool.Decides.{eqb_tells}
+use Rattle.std.proofs.lemmas.Option.{same_Some}
+use Rattle.std.specs.List.{AllByRecursion}
+use Rattle.blk_base.specs.Sectors.{zero_block}
+use Rattle.blk_base.specs.declared.place.Mapping.{Mapping}
+use Rattle.blk_base.specs.declared.place.Mapping.TheVariants.{Unmapped, Zero, At}
+use Rattle.blk_base.specs.declared.place.Pbn.{Pbn}
+use Rattle.blk_base.specs.declared.place.ZoneId.{ZoneId}
+use Rattle.blk_base.specs.declared.place.ZoneId.TheVariants as id
+use Rattle.blk_base.specs.declared.request.Answer.{Answer}
+use Rattle.blk_base.specs.declared.request.Answer.TheVariants as reply
+use Rattle.core_model.specs.declared.items.Item.{Item}
+use Rattle.core_model.specs.declared.items.Item.TheVariants.{Request, Block, StopNotice}
+use Rattle.core_model.specs.declared.items.Phase.{Phase}
+use Rattle.core_model.specs.declared.items.Phase.TheVariants as phase
+use Rattle.core_model.specs.declared.items.SealedBlock.{SealedBlock}
+use Rattle.core_model.specs.declared.items.Stage.TheVariants as stage
+use Rattle.core_model.specs.declared.items.Vio.{Vio}
+use Rattle.core_model.specs.declared.sizes.Sizes.{Sizes}
+use Rattle.core_model.specs.declared.zones.ZoneData.{ZoneData}
+use Rattle.core_model.specs.declared.zones.ZoneData.TheVariants as at
+use Rattle.core_model.specs.declared.zones.Desk.{Desk}
+use Rattle.core_model.specs.declared.zones.DeviceZone.{DeviceZone}
+use Rattle.core_model.specs.declared.zones.JournalZone.{JournalZone}
+use Rattle.core_model.specs.declared.zones.Logged.{Logged}
+use Rattle.core_model.specs.declared.zones.LogicalZone.{LogicalZone}
+use Rattle.core_model.specs.declared.zones.PhysicalZone.{PhysicalZone}
+use Rattle.core_model.specs.DeskRows as desk
+use Rattle.core_model.specs.DeskRows.{DeskBegins, DeskServes, woken}
+use Rattle.core_model.specs.DeviceRows as device
+use Rattle.core_model.specs.DeviceRows.{DeviceServes, DeviceWorks, halted, stop_notices}
+use Rattle.core_model.specs.JournalRows as journal
+use Rattle.core_model.specs.JournalRows.{PhysicalServes, JournalServes, JournalEnds, all_refused, sealed, committed_by, hands_out}
+use Rattle.core_model.specs.LogicalRows as logical
+use Rattle.core_model.specs.LogicalRows.{LogicalServes, placed, with_slot, first_for, but_first_for, all_for, none_for, looked, read_next, latest_at, mapping_at, goes_on, passed_to, passes_on, all_stopped}
+use Rattle.core_model.specs.Steps as steps
+use Rattle.core_model.specs.Steps.{Act}
+use Rattle.core_model.specs.Tokens.{holds, claims, as_items, queued}
+use Rattle.core_model.specs.Trace.{Trace}
+use Rattle.core_model.specs.Vios.{Post, turned}
+use Rattle.core_model.specs.Zones.{notified, notified_zones}
+use Rattle.plain_laws.specs.Sums.{total}
+use Rattle.plain_laws.proofs.ListLaws.{every-map}
+use Rattle.core_laws.proofs.lists.LockLists.{every_but_first, every_none_for}
+use Rattle.core_laws.proofs.lists.ZoneNames.{notified_count}
+use Rattle.core_laws.proofs.tokens.ActRows as row
+use Rattle.core_laws.proofs.tokens.ActRows.{Row, Sum, all_in, all_ended, Onward, onward, replied}
+use Rattle.core_laws.proofs.tokens.Known.{Known, IsIn, KeptIn, Leased}
+use Rattle.core_laws.proofs.tokens.Posts.{begun_request, begun_phase, goes_by, IsGranted, nobody, somebody, is_granted}
+
+-- what the posts have together
+abbrev pub posts_sum : List Post → Sum
+posts_sum [] f = 0
+posts_sum (p ∷ ps) f = f p.1 + posts_sum ps f
+
+-- An act is one of the rows: the items that were there, and that are there.
+pub record IsRow (sizes : Sizes) (old : ZoneData) (front : List Item) (new : ZoneData) (posts : List Post) : Type 0 where
+  pub before : Sum
+  pub after : Sum
+  pub row : Row sizes old new before after
+  pub was : (f : Item → ℕ) → total f front + queued f old ≡ before f
+  pub is : (f : Item → ℕ) → posts_sum posts f + queued f new ≡ after f
+
+module _ (sizes : Sizes) where
+  is_row : {old new : ZoneData} {front : List Item} {posts : List Post} {before after : Sum} → Row sizes old new before after → ((f : Item → ℕ) → total f front + queued f old ≡ before f)
+      → ((f : Item → ℕ) → posts_sum posts f + queued f new ≡ after f) → IsRow sizes old front new posts
+  is_row {before = before} {after = after} the_row was is = record { before = before; after = after; row = the_row; was = was; is = is }
+
+  -- a request in a phase is itself, and so are all of a list
+  turned_is : (v : Vio) (q : Phase) → v.phase ≡ q → v ≡ turned q v
+  turned_is v q is = rw (← is) refl
+
+  in_phase : (f : Item → ℕ) (v : Vio) (q : Phase) → v.phase ≡ q → f (Request v) ≡ f (Request (turned q v))
+  in_phase f v q is = ap (λ (u : Vio). f (Request u)) (turned_is v q is)
+
+  all_are : (f : Item → ℕ) (q : Phase) (vs : List Vio) → AllByRecursion (IsIn q) vs → total f (as_items vs) ≡ all_in q vs f
+  all_are f q [] all = refl
+  all_are f q (v ∷ vs) all = omega (arith, in_phase f v q all.0, all_are f q vs all.1)
+
+  items_more : (f : Item → ℕ) (vs : List Vio) (v : Vio) → total f (as_items (vs ++ v ∷ [])) ≡ f (Request v) + total f (as_items vs)
+  items_more f [] v = refl
+  items_more f (u ∷ vs) v = omega (arith, items_more f vs v)
+
+  -- the posts that are lists
+  woken_sum : (f : Item → ℕ) (vs : List Vio) → posts_sum (woken vs) f ≡ total f (as_items vs)
+  woken_sum f [] = refl
+  woken_sum f (v ∷ vs) = omega (arith, woken_sum f vs)
+
+  stopped_sum : (f : Item → ℕ) (vs : List Vio) → posts_sum (all_stopped vs) f ≡ all_ended phase.Reply reply.Stopped vs f
+  stopped_sum f [] = refl
+  stopped_sum f (v ∷ vs) = omega (arith, stopped_sum f vs)
+
+  refused_sum : (f : Item → ℕ) (a : Answer) (vs : List Vio) → posts_sum (all_refused sizes a vs) f ≡ all_ended phase.AbortClaim a vs f
+  refused_sum f a [] = refl
+  refused_sum f a (v ∷ vs) = omega (arith, refused_sum f a vs)
+
+  notices_sum : (f : Item → ℕ) (names : List ZoneId) → posts_sum (stop_notices names) f ≡ length names * f StopNotice
+  notices_sum f [] = omega arith
+  notices_sum f (to ∷ names) =
+      let rest = notices_sum f names in
+      let more : suc (length names) * f StopNotice ≡ f StopNotice + length names * f StopNotice = omega arith in
+      omega (arith, rest, more)
+
+  all_notices : (f : Item → ℕ) → posts_sum (stop_notices (notified sizes)) f ≡ notified_zones sizes * f StopNotice
+  all_notices f = notices_sum f (notified sizes) ∙ ap (λ n. n * f StopNotice) (notified_count sizes)
+
+  -- the desk
+  begin_row : (old new : Desk) (made : Trace) (posts : List Post) → KeptIn (at.Desk old) → DeskBegins sizes old new made posts → IsRow sizes (at.Desk old) [] (at.Desk new) posts
+  begin_row old new made posts kept (desk.answers w r v a next asks served once n m q) = rw (n, q) (is_row (row.says old w a) (λ f. omega (arith, all_are f phase.Reply old.parked kept)) (λ f. omega (arith, all_are f phase.Reply old.parked kept)))
+  begin_row old new made posts kept (desk.sends w r v next asks served once n m q) =
+      rw (n, q, ← begun_request sizes w r v served) (elim (begun_phase sizes w r v served) [
+        | inl is ↦ is_row (row.begins old v) (λ f. omega (arith, all_are f phase.Reply old.parked kept)) (λ f. omega (arith, in_phase f v phase.Arrive is, all_are f phase.Reply old.parked kept))
+        | inr is ↦ is_row (row.begins_flush old v) (λ f. omega (arith, all_are f phase.Reply old.parked kept)) (λ f. omega (arith, in_phase f v phase.Flush is, all_are f phase.Reply old.parked kept))
+      ])
+
+  desk_row : (old : Desk) (v : Vio) (new : Desk) (made : Trace) (posts : List Post) → KeptIn (at.Desk old) → DeskServes sizes old v new made posts → IsRow sizes (at.Desk old) (Request v ∷ []) (at.Desk new) posts
+  desk_row old v new made posts kept (desk.parks a p has stops notified n m q) =
+      rw (n, q) (is_row (row.parks old v (old.parked ++ v ∷ [])) (λ f. omega (arith, in_phase f v phase.Reply p, all_are f phase.Reply old.parked kept))
+      (λ f. omega (arith, in_phase f v phase.Reply p, items_more f old.parked v, all_are f phase.Reply old.parked kept)))
+  desk_row old v new made posts kept (desk.answers a p has notified marked n m q) =
+      rw (n, q) (is_row (row.answers old v a old.marks) (λ f. omega (arith, in_phase f v phase.Reply p, all_are f phase.Reply old.parked kept)) (λ f. omega (arith, all_are f phase.Reply old.parked kept)))
+  desk_row old v new made posts kept (desk.marks p asks has n m q) =
+      rw (n, q) (is_row (row.answers old v reply.Ok _) (λ f. omega (arith, in_phase f v phase.Reply p, all_are f phase.Reply old.parked kept)) (λ f. omega (arith, all_are f phase.Reply old.parked kept)))
+
+  -- a logical zone: who goes on with a lock, and who gets it
+  abbrev looked_on : (l : LogicalZone) (v : Vio) (q : Phase) → Pbn → List ℕ → holds q ≡ true → claims q ≡ false → Onward
+  looked_on l v q x bytes locks unclaimed = record { phase = q; old = mapping_at l v.at.0; latest = latest_at l v.at.0; block = x; bytes = bytes; locks = locks; unclaimed = unclaimed }
+
+  went_on : (l : LogicalZone) (v : Vio) (post : Post) → goes_on sizes l v ≡ Some post → (on : Onward) × (post.1 ≡ Request (onward on v))
+  went_on l v post goes = goes_by (λ p. (on : Onward) × (p.1 ≡ Request (onward on v))) sizes l v post goes (λ reads. read (mapping_at l v.at.0)) (λ writes. (looked_on l v phase.Claim v.block v.bytes refl refl, refl))
+    where
+      read : (m : Mapping) → (on : Onward) × ((read_next sizes l (looked l v) m).1 ≡ Request (onward on v))
+      read (At x) = (looked_on l v phase.Load x v.bytes refl refl, refl)
+      read Unmapped = (looked_on l v phase.Loaded v.block zero_block refl refl, refl)
+      read Zero = (looked_on l v phase.Loaded v.block zero_block refl refl, refl)
+
+  first_taken : (a : ℕ) (f : Vio → ℕ) (vs : List Vio) (w : Vio) → first_for a vs ≡ Some w → total f vs ≡ f w + total f (but_first_for a vs)
+  first_taken a f [] w is = absurd cc
+  first_taken a f (v ∷ vs) w is = elim (eqb_tells v.at.0 a) [
+    | inl same ↦ rw same.0 (ap (λ u. f u + total f vs) (same_Some _ _ (rw same.0 at is)))
+    | inr other ↦ let rest = first_taken a f vs w (rw other.0 at is) in rw other.0 (omega (arith, rest))
+  ]
+
+  split_for : (f : Vio → ℕ) (a : ℕ) (vs : List Vio) → total f (all_for a vs) + total f (none_for a vs) ≡ total f vs
+  split_for f a [] = refl
+  split_for f a (v ∷ vs) =
+      let rest = split_for f a vs in
+      elim (eqb_tells v.at.0 a) [ inl same ↦ rw same.0 (omega (arith, rest)) | inr other ↦ rw other.0 (omega (arith, rest)) ]
+
+  -- a request leaves its lock
+  module _ (l : LogicalZone) (slots : List Logged) (v : Vio) (q : Phase) (in_it : v.phase ≡ q) (locks : holds q ≡ true) (leased : Leased l v) (kept : KeptIn (at.Logical l)) (a : Option Answer) where
+    abbrev set : LogicalZone
+    set = record l { slots = slots }
+
+    left_row : (o : Option Vio) (more : List Post) → first_for v.at.0 l.waiting ≡ o → IsGranted sizes set o more
+        → IsRow sizes (at.Logical l) (Request v ∷ []) (at.Logical (passed_to v.at.0 set o)) ((id.Desk, Request (replied a v)) ∷ more)
+    left_row None more first nobody =
+        is_row (row.leaves l slots v q a locks leased) (λ f. omega (arith, in_phase f v q in_it, all_are f phase.Wait l.waiting kept)) (λ f. omega (arith, all_are f phase.Wait l.waiting kept))
+    left_row (Some w) more first (somebody u post goes) =
+        let on = went_on set w post goes in
+        let others = but_first_for v.at.0 l.waiting in
+        let taken : (f : Item → ℕ) → all_in phase.Wait l.waiting f ≡ f (Request (turned phase.Wait w)) + all_in phase.Wait others f = λ f. first_taken v.at.0 (λ u. f (Request (turned phase.Wait u))) l.waiting w first in
+        is_row (row.hands_on l slots v q a w on.0 others locks leased) (λ f. omega (arith, in_phase f v q in_it, all_are f phase.Wait l.waiting kept, taken f))
+        (λ f. omega (arith, ap f on.1, all_are f phase.Wait others (every_but_first (IsIn phase.Wait) v.at.0 l.waiting kept)))
+
+    leaves_row : (more : List Post) → passes_on sizes set (first_for v.at.0 l.waiting) ≡ Some more
+        → IsRow sizes (at.Logical l) (Request v ∷ []) (at.Logical (passed_to v.at.0 set (first_for v.at.0 l.waiting))) ((id.Desk, Request (replied a v)) ∷ more)
+    leaves_row more grants = left_row (first_for v.at.0 l.waiting) more refl (is_granted sizes set (first_for v.at.0 l.waiting) more grants)
+
+  logical_row : (old : LogicalZone) (v : Vio) (new : LogicalZone) (made : Trace) (posts : List Post) → KeptIn (at.Logical old) → (holds v.phase ≡ true → Leased old v) → LogicalServes sizes old v new made posts
+      → IsRow sizes (at.Logical old) (Request v ∷ []) (at.Logical new) posts
+  logical_row old v new made posts kept leased (logical.arrives_retired p among n m q) =
+      rw (n, q) (is_row (row.arrives_retired old v) (λ f. omega (arith, in_phase f v phase.Arrive p, all_are f phase.Wait old.waiting kept)) (λ f. omega (arith, all_are f phase.Wait old.waiting kept)))
+  logical_row old v new made posts kept leased (logical.arrives_free post p among held goes n m q) =
+      let on = went_on old (placed old v) post goes in
+      rw (n, q) (is_row (row.arrives_free old v on.0) (λ f. omega (arith, in_phase f v phase.Arrive p, all_are f phase.Wait old.waiting kept)) (λ f. omega (arith, ap f on.1, all_are f phase.Wait old.waiting kept)))
+  logical_row old v new made posts kept leased (logical.arrives_held p among held n m q) =
+      rw (n, q) (is_row (row.arrives_held old v (old.waiting ++ turned phase.Wait (placed old v) ∷ [])) (λ f. omega (arith, in_phase f v phase.Arrive p, all_are f phase.Wait old.waiting kept))
+      (λ f. omega (arith, items_more f old.waiting (turned phase.Wait (placed old v)), all_are f phase.Wait old.waiting kept)))
+  logical_row old v new made posts kept leased (logical.settles more p grants n m q) =
+      rw (n, q) (leaves_row old (with_slot old v).slots v phase.Settle p refl (leased (ap holds p)) kept (Some reply.Ok) more grants)
+  logical_row old v new made posts kept leased (logical.gives more p grants n m q) =
+      rw (n, q) (leaves_row old old.slots v phase.Loaded p refl (leased (ap holds p)) kept (Some (reply.Bytes v.bytes)) more grants)
+  logical_row old v new made posts kept leased (logical.aborts more p grants n m q) =
+      rw (n, q) (leaves_row old old.slots v phase.Abort p refl (leased (ap holds p)) kept v.answer more grants)
+  logical_row old v new made posts kept leased (logical.aborts_entered p n m q) =
+      let split : (f : Item → ℕ) → all_in phase.Wait (all_for v.at.0 old.waiting) f + all_in phase.Wait (none_for v.at.0 old.waiting) f ≡ all_in phase.Wait old.waiting f = λ f. split_for (λ u. f (Request (turned phase.Wait u))) v.at.0 old.waiting in
+      let others = every-map {P = λ u. IsIn phase.Wait u × (u.at.0 ≡ v.at.0 → ⊥)} {Q = IsIn phase.Wait} (λ u both. both.0) (none_for v.at.0 old.waiting) (every_none_for (IsIn phase.Wait) v.at.0 old.waiting kept) in
+      rw (n, q) (is_row (row.retires old v (leased (ap holds p))) (λ f. omega (arith, in_phase f v phase.AbortEntered p, split f, all_are f phase.Wait old.waiting kept))
+      (λ f. omega (arith, stopped_sum f (all_for v.at.0 old.waiting), all_are f phase.Wait (none_for v.at.0 old.waiting) others)))
+
+  -- the physical zone
+  physical_row : (old : PhysicalZone) (v : Vio) (new : PhysicalZone) (made : Trace) (posts : List Post) → PhysicalServes sizes old v new made posts → IsRow sizes (at.Physical old) (Request v ∷ []) (at.Physical new) posts
+  physical_row old v new made posts (journal.claims x others p free n m q) =
+      let is : record old { free = x ∷ others } ≡ old = rw (← free) refl in
+      subst (λ (o : PhysicalZone). IsRow sizes (at.Physical o) (Request v ∷ []) (at.Physical new) posts) is
+      (rw (n, q) (is_row (row.claims_block old v x others) (λ f. omega (arith, in_phase f v phase.Claim p)) (λ f. omega arith)))
+  physical_row old v new made posts (journal.is_full p none n m q) = rw (n, q) (is_row (row.finds_none old v) (λ f. omega (arith, in_phase f v phase.Claim p)) (λ f. omega arith))
+  physical_row old v new made posts (journal.aborts_claim p n m q) = rw (n, q) (is_row (row.aborts_claim old v) (λ f. omega (arith, in_phase f v phase.AbortClaim p)) (λ f. omega arith))
+  physical_row old v new made posts (journal.aborts_entered_claim p n m q) = rw (n, q) (is_row (row.aborts_entered_claim old v) (λ f. omega (arith, in_phase f v phase.AbortEnteredClaim p)) (λ f. omega arith))
+
+  -- the journal
+  journal_row : (old : JournalZone) (v : Vio) (new : JournalZone) (made : Trace) (posts : List Post) → KeptIn (at.Journal old) → JournalServes sizes old v new made posts → IsRow sizes (at.Journal old) (Request v ∷ []) (at.Journal new) posts
+  journal_row old v new made posts kept (journal.is_stopped p closed n m q) =
+      rw (n, q) (is_row (row.refuses old v reply.Stopped) (λ f. omega (arith, in_phase f v phase.Enter p, all_are f phase.Enter old.waiting kept)) (λ f. omega (arith, all_are f phase.Enter old.waiting kept)))
+  journal_row old v new made posts kept (journal.waits p closed busy n m q) =
+      rw (n, q) (is_row (row.waits old v (old.waiting ++ v ∷ [])) (λ f. omega (arith, in_phase f v phase.Enter p, all_are f phase.Enter old.waiting kept))
+      (λ f. omega (arith, in_phase f v phase.Enter p, items_more f old.waiting v, all_are f phase.Enter old.waiting kept)))
+  journal_row old v new made posts kept (journal.is_full p closed busy has n m q) =
+      rw (n, q) (is_row (row.refuses old v reply.Full) (λ f. omega (arith, in_phase f v phase.Enter p, all_are f phase.Enter old.waiting kept)) (λ f. omega (arith, all_are f phase.Enter old.waiting kept)))
+  journal_row old v new made posts kept (journal.enters p closed busy has n m q) =
+      let is : record old { busy = false } ≡ old = rw (← busy) refl in
+      subst (λ (o : JournalZone). IsRow sizes (at.Journal o) (Request v ∷ []) (at.Journal new) posts) is
+      (rw (n, q) (is_row (row.enters old v) (λ f. omega (arith, in_phase f v phase.Enter p, all_are f phase.Enter old.waiting kept))
+      (λ f. omega (arith, ap (λ (u : Vio). f (Block (sealed sizes old u))) (turned_is v phase.Enter p), all_are f phase.Enter old.waiting kept))))
+
+  -- a sealed block with the request of its entry in its phase
+  block_in : (f : Item → ℕ) (b : SealedBlock) → b.vio.phase ≡ phase.Enter → f (Block b) ≡ f (Block (record b { vio = turned phase.Enter b.vio }))
+  block_in f b p = ap (λ (u : Vio). f (Block (record b { vio = u }))) (turned_is b.vio phase.Enter p)
+
+  module _ (old : JournalZone) (b : SealedBlock) (kept : KeptIn (at.Journal old)) (p : b.vio.phase ≡ phase.Enter) where
+    ends_busy : (new : JournalZone) (made : Trace) (posts : List Post) → JournalEnds sizes old b new made posts → IsRow sizes (at.Journal (record old { busy = true })) (Block b ∷ []) (at.Journal new) posts
+    ends_busy new made posts (journal.commits_next w ws is waits has n m q) =
+        let waiting = subst (λ vs. AllByRecursion (IsIn phase.Enter) vs) waits kept in
+        rw (n, q) (is_row (row.commits_next old b b.vio w ws)
+        (λ f. omega (arith, block_in f b p, ap (λ vs. total f (as_items vs)) waits, in_phase f w phase.Enter waiting.0, all_are f phase.Enter ws waiting.1))
+        (λ f. omega (arith, ap (λ (u : Vio). f (Block (sealed sizes old u))) (turned_is w phase.Enter waiting.0), all_are f phase.Enter ws waiting.1)))
+    ends_busy new made posts (journal.commits_alone is none has n m q) =
+        let alone : (f : Item → ℕ) → all_ended phase.AbortClaim reply.Full old.waiting f ≡ 0 = λ f. ap (λ vs. all_ended phase.AbortClaim reply.Full vs f) none in
+        let empty : record (committed_by b.vio old) { waiting = [] } ≡ committed_by b.vio old = rw (← none) refl in
+        rw (n, q) (subst (λ (j : JournalZone). IsRow sizes (at.Journal (record old { busy = true })) (Block b ∷ []) (at.Journal j) (hands_out b.vio ∷ [])) empty
+        (is_row (row.commits old b b.vio reply.Full) (λ f. omega (arith, block_in f b p, all_are f phase.Enter old.waiting kept)) (λ f. omega (arith, alone f))))
+    ends_busy new made posts (journal.commits_last is has n m q) =
+        rw (n, q) (is_row (row.commits old b b.vio reply.Full) (λ f. omega (arith, block_in f b p, all_are f phase.Enter old.waiting kept)) (λ f. omega (arith, refused_sum f reply.Full old.waiting)))
+    ends_busy new made posts (journal.fails is n m q) =
+        rw (n, q) (is_row (row.fails old b b.vio) (λ f. omega (arith, block_in f b p, all_are f phase.Enter old.waiting kept)) (λ f. omega (arith, refused_sum f reply.Stopped old.waiting)))
+
+    ends_row : (new : JournalZone) (made : Trace) (posts : List Post) → old.busy ≡ true → JournalEnds sizes old b new made posts → IsRow sizes (at.Journal old) (Block b ∷ []) (at.Journal new) posts
+    ends_row new made posts busy act =
+        let is : record old { busy = true } ≡ old = rw (← busy) refl in
+        subst (λ (o : JournalZone). IsRow sizes (at.Journal o) (Block b ∷ []) (at.Journal new) posts) is (ends_busy new made posts act)
+
+  -- the device, which runs, or goes on as it is
+  runs : (old : DeviceZone) (front : List Item) (new : DeviceZone) (posts : List Post) → old.stopped ≡ false
+      → IsRow sizes (at.Device (record old { stopped = false })) front (at.Device new) posts → IsRow sizes (at.Device old) front (at.Device new) posts
+  runs old front new posts going is_one =
+      let is : record old { stopped = false } ≡ old = rw (← going) refl in
+      subst (λ (o : DeviceZone). IsRow sizes (at.Device o) front (at.Device new) posts) is is_one
+
+  device_row : (old : DeviceZone) (v : Vio) (new : DeviceZone) (made : Trace) (posts : List Post) → DeviceServes sizes old v new made posts → IsRow sizes (at.Device old) (Request v ∷ []) (at.Device new) posts
+  device_row old v new made posts (device.stores p going inside n m q) = rw (n, q) (is_row (row.stores old v) (λ f. omega (arith, in_phase f v phase.Store p)) (λ f. omega arith))
+  device_row old v new made posts (device.store_fails known p going inside n m q) =
+      rw (n, q) (runs old _ _ _ going (is_row (row.store_fails old v) (λ f. omega (arith, in_phase f v phase.Store p)) (λ f. omega (arith, all_notices f))))
+  device_row old v new made posts (device.store_unmade p stopped n m q) = rw (n, q) (is_row (row.store_unmade old v) (λ f. omega (arith, in_phase f v phase.Store p)) (λ f. omega arith))
+  device_row old v new made posts (device.loads bytes p inside n m q) = rw (n, q) (is_row (row.loads old v bytes) (λ f. omega (arith, in_phase f v phase.Load p)) (λ f. omega arith))
+  device_row old v new made posts (device.load_fails bytes known p inside n m q) = rw (n, q) (is_row (row.load_fails old v) (λ f. omega (arith, in_phase f v phase.Load p)) (λ f. omega arith))
+  device_row old v new made posts (device.flushes p going n m q) = rw (n, q) (is_row (row.flushes old v) (λ f. omega (arith, in_phase f v phase.Flush p)) (λ f. omega arith))
+  device_row old v new made posts (device.flush_fails known p going n m q) =
+      rw (n, q) (runs old _ _ _ going (is_row (row.flush_fails old v) (λ f. omega (arith, in_phase f v phase.Flush p)) (λ f. omega (arith, all_notices f))))
+  device_row old v new made posts (device.flush_unmade p stopped n m q) = rw (n, q) (is_row (row.flush_unmade old v) (λ f. omega (arith, in_phase f v phase.Flush p)) (λ f. omega arith))
+
+  work_row : (old : DeviceZone) (b : SealedBlock) (new : DeviceZone) (made : Trace) (posts : List Post) → DeviceWorks sizes old b new made posts → IsRow sizes (at.Device old) (Block b ∷ []) (at.Device new) posts
+  work_row old b new made posts (device.makes call slot place needs going n m q) = rw (n, q) (is_row (row.works old _ b (device.next_stage b.stage)) (λ f. omega arith) (λ f. omega arith))
+  work_row old b new made posts (device.fails call slot known place needs going n m q) =
+      rw (n, q) (runs old _ _ _ going (is_row (row.work_fails old b stage.Fail) (λ f. omega arith) (λ f. omega (arith, all_notices f))))
+  work_row old b new made posts (device.unmade call slot needs stopped n m q) = rw (n, q) (is_row (row.works old old.calls b stage.Fail) (λ f. omega arith) (λ f. omega arith))
+
+  -- each act, of what a legal core knows
+  pub act_row : (old : ZoneData) (front : List Item) (new : ZoneData) (made : Trace) (posts : List Post) → Act sizes old front new made posts → Known old front → IsRow sizes old front new posts
+  act_row old front new made posts (steps.begins act) known = begin_row _ _ _ _ known.kept act
+  act_row old front new made posts (steps.answers act) known = desk_row _ _ _ _ _ known.kept act
+  act_row old front new made posts (steps.hears {old = d}) known = is_row (row.hears d) (λ f. omega (arith, all_are f phase.Reply d.parked known.kept)) (λ f. omega (arith, woken_sum f d.parked, all_are f phase.Reply d.parked known.kept))
+  act_row old front new made posts (steps.serves act) known = logical_row _ _ _ _ _ known.kept (known.leased _ _ refl refl) act
+  act_row old front new made posts (steps.serves_notice {old = l}) known =
+      is_row (row.tells_logical l) (λ f. omega (arith, all_are f phase.Wait l.waiting known.kept)) (λ f. omega (arith, all_are f phase.Wait l.waiting known.kept))
+  act_row old front new made posts (steps.takes act) known = physical_row _ _ _ _ _ act
+  act_row old front new made posts (steps.takes_notice {old = p}) known = is_row (row.tells_physical p) (λ f. omega arith) (λ f. omega arith)
+  act_row old front new made posts (steps.enters act) known = journal_row _ _ _ _ _ known.kept act
+  act_row old front new made posts (steps.ends {old = j} {b = b} act) known = ends_row j b known.kept (known.sealed b refl) _ _ _ (known.busy b j refl refl) act
+  act_row old front new made posts (steps.enters_notice {old = j}) known =
+      is_row (row.tells_journal j) (λ f. omega (arith, all_are f phase.Enter j.waiting known.kept)) (λ f. omega (arith, refused_sum f reply.Stopped j.waiting))
+  act_row old front new made posts (steps.calls act) known = device_row _ _ _ _ _ act
+  act_row old front new made posts (steps.works act) known = work_row _ _ _ _ _ act

@@ -1,0 +1,54 @@
+-- What each row does to each kind of token. A row that doesn't touch a token stands in its last clause.
+use Rattle.std.proofs.Common.{◌≡◌, ℕ, ◌==◌, Bool, ◌&&◌, List, [], ◌∷◌, refl, ap, arith}
+use Rattle.blk_base.specs.declared.request.Writer.{Writer}
+use Rattle.core_model.specs.declared.items.Item.TheVariants.{Request}
+use Rattle.core_model.specs.declared.items.Vio.{Vio}
+use Rattle.core_model.specs.declared.sizes.Sizes.{Sizes}
+use Rattle.core_model.specs.declared.zones.ZoneData.{ZoneData}
+use Rattle.core_model.specs.Tokens.{request_token, room_token, notice_token, journal_token, block_token, lease_token}
+use Rattle.plain_laws.specs.Sums.{total, bit}
+use Rattle.core_laws.proofs.tokens.ActRows as row
+use Rattle.core_laws.proofs.tokens.ActRows.{Row, Sum, Onward}
+use Rattle.core_laws.proofs.tokens.LeaseTokens.{freed}
+use Rattle.core_laws.proofs.tokens.Lift.{Conserves, Shrinks}
+
+module _ (sizes : Sizes) where
+  -- the requests are begun and answered at the desk
+  pub requests_law : (w : Writer) → {old new : ZoneData} {before after : Sum} → Row sizes old new before after → Conserves (request_token w) old new before after
+  requests_law w (row.says d v a) = omega arith
+  requests_law w other = omega arith
+
+  pub room_law : {old new : ZoneData} {before after : Sum} → Row sizes old new before after → Conserves room_token old new before after
+  room_law (row.says d v a) = omega arith
+  room_law other = omega arith
+
+  -- the words of a stop are given out at the device, and heard at the desk
+  pub notices_law : {old new : ZoneData} {before after : Sum} → Row sizes old new before after → Conserves (notice_token sizes) old new before after
+  notices_law (row.hears d) = omega arith
+  notices_law other = omega arith
+
+  -- a sealed block is under way while the journal is busy
+  pub journal_law : {old new : ZoneData} {before after : Sum} → Row sizes old new before after → Conserves journal_token old new before after
+  journal_law (row.enters j v) = omega arith
+  journal_law other = omega arith
+
+  -- a data block goes from those that are free to a write, and from it to its entry
+  nothing : (vs : List Vio) → total (λ v. 0) vs ≡ 0
+  nothing [] = refl
+  nothing (v ∷ vs) = omega (arith, nothing vs)
+
+  unclaimed : (x : ℕ) (on : Onward) (v : Vio) → (block_token x).item (Request (row.onward on v)) ≡ 0
+  unclaimed x on v = ap (λ b. bit (b && (on.block.0 == x))) on.unclaimed
+
+  pub blocks_law : (x : ℕ) → {old new : ZoneData} {before after : Sum} → Row sizes old new before after → Shrinks (block_token x) old new before after
+  blocks_law x (row.claims_block p v y others) = omega arith
+  blocks_law x other = omega (arith, nothing, unclaimed x)
+
+  -- a lock goes to who arrives first, or from who leaves it to the first that waits
+  pub leases_law : (a : ℕ) (test : ℕ → Bool) {old new : ZoneData} {before after : Sum} → Row sizes old new before after → Conserves (lease_token a test) old new before after
+  leases_law a test (row.arrives_free l v on) = omega (arith, ap (λ b. bit (b && (v.at.0 == a && test l.next))) on.locks)
+  leases_law a test (row.leaves l slots v q answer locks leased) = omega (arith, ap (λ b. bit (b && (v.at.0 == a && test v.place))) locks, freed a test l v leased)
+  leases_law a test (row.hands_on l slots v q answer w on others locks leased) =
+      omega (arith, ap (λ b. bit (b && (v.at.0 == a && test v.place))) locks, ap (λ b. bit (b && (w.at.0 == a && test w.place))) on.locks, freed a test l v leased)
+  leases_law a test (row.retires l v leased) = omega (arith, freed a test l v leased)
+  leases_law a test other = omega arith
