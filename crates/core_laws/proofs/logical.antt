@@ -1,3 +1,4 @@
+pub mod LockLaws
 pub mod LogicalEnds
 pub mod LogicalFacts
 pub mod Releases

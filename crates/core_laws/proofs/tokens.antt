@@ -1,11 +1,9 @@
 pub mod ActRows
 pub mod ActSums
-pub mod BlockOwners
 pub mod Known
 pub mod LeaseOwners
 pub mod LeaseTokens
 pub mod Lift
-pub mod Owners
 pub mod Posts
 pub mod RequestOwners
 pub mod Rooms

@@ -1,12 +1,16 @@
 -- What a request carries, and what a zone keeps: facts on their own fields and on the trace.
 use Rattle.std.specs.Prelude.{ℕ, ◌+◌, ◌≡◌, ◌⊎◌, ◌<◌, ◌≤◌, Bool, true, false, Option, None, Some, IsNone, List, [], ◌∷◌, length, drop, if◌then◌else◌}
 use Rattle.std.specs.List.{AllByRecursion}
+use Rattle.blk_base.specs.declared.journal_entry.Entry.{Entry}
+use Rattle.blk_base.specs.declared.place.Lba.{Lba}
+use Rattle.blk_base.specs.declared.place.Mapping.{Mapping}
 use Rattle.blk_base.specs.declared.place.Mapping.TheVariants.{At}
 use Rattle.blk_base.specs.declared.place.Pbn.{Pbn}
 use Rattle.blk_base.specs.declared.place.ZoneId.{ZoneId}
 use Rattle.blk_base.specs.declared.place.ZoneId.TheVariants as id
 use Rattle.blk_base.specs.declared.request.Answer.{Answer}
 use Rattle.blk_base.specs.declared.request.Answer.TheVariants as reply
+use Rattle.blk_base.specs.declared.request.Request.{Request}
 use Rattle.blk_base.specs.declared.request.Writer.{Writer}
 use Rattle.image_layout.specs.Window.{mapping_of}
 use Rattle.byte_fields.specs.Mappings.{HoldsMapping}
@@ -14,6 +18,8 @@ use Rattle.vdo_model.specs.DeskLog.{answer_of}
 use Rattle.vdo_model.specs.FlushMarks.{IsMark, successes}
 use Rattle.vdo_model.specs.Places.{drawn, place_of, zone_of}
 use Rattle.vdo_model.specs.Scripts.{request_at}
+use Rattle.vdo_model.specs.declared.report.FlushMark.{FlushMark}
+use Rattle.vdo_model.specs.declared.report.Placed.{Placed}
 use Rattle.vdo_model.specs.ZoneOrder.{places_in}
 use Rattle.core_model.specs.declared.items.Asks.{Asks}
 use Rattle.core_model.specs.declared.items.Asks.TheVariants.{Read, Write, Flush}
@@ -32,21 +38,22 @@ use Rattle.core_model.specs.declared.zones.Desk.{Desk}
 use Rattle.core_model.specs.declared.zones.DeviceZone.{DeviceZone}
 use Rattle.core_model.specs.declared.zones.JournalZone.{JournalZone}
 use Rattle.core_model.specs.declared.zones.Lock.{Lock}
+use Rattle.core_model.specs.declared.zones.Logged.{Logged}
 use Rattle.core_model.specs.declared.zones.LogicalZone.{LogicalZone}
 use Rattle.core_model.specs.declared.zones.PhysicalZone.{PhysicalZone}
 use Rattle.core_model.specs.declared.zones.Zone.{Zone}
 use Rattle.core_model.specs.DeskRows.{is_marked, mark_of_vio}
 use Rattle.core_model.specs.DeviceRows.{IsInside}
 use Rattle.core_model.specs.JournalRows.{is_closed}
-use Rattle.core_model.specs.LogicalRows.{is_among, is_held, mapped_by, mapping_at}
+use Rattle.core_model.specs.LogicalRows.{is_among, is_held, mapped_by}
 use Rattle.core_model.specs.Phases.{row, number_at, stage_row}
+use Rattle.core_model.specs.Zones.{zone_number, zone_count, notified_zones}
 use Rattle.core_model.specs.RightTraces.{IsOpen, Quiet, IsCommitted, AllBelow, HasPlace, HasBelow, HasCause}
 use Rattle.core_model.specs.Sessions.{Session, HasHonestReads, IsFresh, Stands, ReadsAs, AtRest, OnItsWay, ReadsEntry, HasPending, value_at}
 use Rattle.plain_laws.specs.Sums.{total, Each}
 use Rattle.core_model.specs.Tokens.{lock_weight}
 use Rattle.core_model.specs.Trace.{Trace, moments, lines, calls, marks, places, entered, committed, done, aborted, taken, has_stopped, of_address, newest, logged_of, entries_of}
-use Rattle.core_model.specs.Vios.{request_of, logged}
-use Rattle.core_model.specs.Zones.{zone_number, desk_zone, logical_zone, physical_zone, journal_zone, device_zone, zone_count, notified_zones}
+use Rattle.core_model.specs.Vios.{asked, request_of, logged}
 
 -- the number of the zone where a phase, and a stage, is done
 abbrev pub zone_at : Sizes → ZoneId → Phase → ℕ
@@ -56,64 +63,84 @@ abbrev pub zone_of_stage : Sizes → Stage → ℕ
 zone_of_stage sizes now = zone_number sizes (stage_row now).zone
 
 -- the address of a block request is below the logical size; a flush has none
-abbrev pub HasAddress : Sizes → Vio → Asks → Type 0
-HasAddress sizes v Flush = Unit {0}
-HasAddress sizes v other = v.at.0 < sizes.geometry.logical
+abbrev pub HasAddress : Sizes → Lba → Asks → Type 0
+HasAddress sizes at Flush = Unit {0}
+HasAddress sizes at other = at.0 < sizes.geometry.logical
+
+-- What a request carries is said of those of its fields that matter: so it stays where its other fields change.
 
 -- A request under way is one of the script, it is open, and its home is the logical zone of its address.
-pub record VioOk (s : Session) (t : Trace) (v : Vio) : Type 0 where
-  pub asked : request_at s.script v.request ≡ Some (request_of v)
-  pub is_open : IsOpen t v.request
-  pub address : HasAddress s.sizes v v.asks
-  pub home : v.home ≡ id.Logical (zone_of s.sizes.zones v.at.0)
+pub record IsUnderWay (s : Session) (t : Trace) (w : Writer) (asks : Asks) (at : Lba) (bytes : List ℕ) (zone : ZoneId) : Type 0 where
+  pub asked : request_at s.script w ≡ Some (asked asks at bytes)
+  pub is_open : IsOpen t w
+  pub address : HasAddress s.sizes at asks
+  pub home : zone ≡ id.Logical (zone_of s.sizes.zones at.0)
+
+abbrev pub VioOk : Session → Trace → Vio → Type 0
+VioOk s t v = IsUnderWay s t v.request v.asks v.at v.bytes v.home
 
 -- a block request that drew no place yet
-pub record IsUnplaced (s : Session) (t : Trace) (v : Vio) : Type 0 where
-  pub block_request : (v.asks ≡ Read) ⊎ (v.asks ≡ Write)
-  pub unplaced : IsNone (place_of (places t) v.request)
-  pub not_entered : IsNone (logged_of (entered t) v.request)
+pub record IsUndrawn (t : Trace) (w : Writer) (asks : Asks) : Type 0 where
+  pub block_request : (asks ≡ Read) ⊎ (asks ≡ Write)
+  pub unplaced : IsNone (place_of (places t) w)
+  pub not_entered : IsNone (logged_of (entered t) w)
 
 -- one that has its place, and whose entry wasn't handed in
-pub record IsPlaced (s : Session) (t : Trace) (v : Vio) : Type 0 where
-  pub block_request : (v.asks ≡ Read) ⊎ (v.asks ≡ Write)
-  pub placed : HasPlace s t v.request v.at.0 v.place
-  pub not_entered : IsNone (logged_of (entered t) v.request)
+pub record IsDrawn (s : Session) (t : Trace) (w : Writer) (asks : Asks) (a place : ℕ) : Type 0 where
+  pub block_request : (asks ≡ Read) ⊎ (asks ≡ Write)
+  pub placed : HasPlace s t w a place
+  pub not_entered : IsNone (logged_of (entered t) w)
 
--- one that holds the lock of its address
-pub record Holds (s : Session) (t : Trace) (v : Vio) : Type 0 where
-  pub is_placed : IsPlaced s t v
-  pub quiet : Quiet t v.at.0
-  pub below : AllBelow t v.at.0 v.place
-  pub old_held : HoldsMapping v.old
+abbrev pub IsPlaced : Session → Trace → Vio → Type 0
+IsPlaced s t v = IsDrawn s t v.request v.asks v.at.0 v.place
+
+-- one that holds the lock of its address, and knows what is mapped there
+pub record HasLock (s : Session) (t : Trace) (w : Writer) (asks : Asks) (a place : ℕ) (old : Mapping) : Type 0 where
+  pub is_placed : IsDrawn s t w asks a place
+  pub quiet : Quiet t a
+  pub below : AllBelow t a place
+  pub old_held : HoldsMapping old
   -- it knows what its address is mapped to, by the slots that are set
-  pub old_is : v.old ≡ mapping_of (entries_of s.window (done t)) v.at.0
+  pub old_is : old ≡ mapping_of (entries_of s.window (done t)) a
+
+abbrev pub Holds : Session → Trace → Vio → Type 0
+Holds s t v = HasLock s t v.request v.asks v.at.0 v.place v.old
 
 -- a read that holds it, and knows the last write of its address
-pub record Looks (s : Session) (t : Trace) (v : Vio) : Type 0 where
-  pub held : Holds s t v
-  pub is_read : v.asks ≡ Read
-  pub latest : v.latest ≡ newest (of_address v.at.0 (done t))
+pub record HasLooked (s : Session) (t : Trace) (w : Writer) (asks : Asks) (a place : ℕ) (old : Mapping) (last : Option Logged) : Type 0 where
+  pub held : HasLock s t w asks a place old
+  pub is_read : asks ≡ Read
+  pub latest : last ≡ newest (of_address a (done t))
+
+abbrev pub Looks : Session → Trace → Vio → Type 0
+Looks s t v = HasLooked s t v.request v.asks v.at.0 v.place v.old v.latest
 
 -- a write whose entry was handed in
-pub record IsEntered (s : Session) (t : Trace) (v : Vio) : Type 0 where
-  pub is_write : v.asks ≡ Write
-  pub placed : HasPlace s t v.request v.at.0 v.place
-  pub entry : logged_of (entered t) v.request ≡ Some (logged v)
-  pub unset : IsNone (logged_of (done t) v.request)
-  pub unaborted : IsNone (logged_of (aborted t) v.request)
+pub record HasEntered (s : Session) (t : Trace) (asks : Asks) (e : Logged) : Type 0 where
+  pub is_write : asks ≡ Write
+  pub placed : HasPlace s t e.request e.at.0 e.place
+  pub entry : logged_of (entered t) e.request ≡ Some e
+  pub unset : IsNone (logged_of (done t) e.request)
+  pub unaborted : IsNone (logged_of (aborted t) e.request)
 
--- its answer is one that it may have
-abbrev pub IsEarned : Session → Trace → Vio → Answer → Bool → Type 0
-IsEarned s t v a true = IsMark (moments t) (mark_of_vio v)
-IsEarned s t v a false = HasCause s t v.request (request_of v) a
+abbrev pub IsEntered : Session → Trace → Vio → Type 0
+IsEntered s t v = HasEntered s t v.asks (logged v)
+
+-- its answer is one that it may have: the mark of a flush that returned, or a cause
+abbrev pub IsEarned : Session → Trace → FlushMark → Request → Answer → Bool → Type 0
+IsEarned s t m r a true = IsMark (moments t) m
+IsEarned s t m r a false = HasCause s t m.request r a
+
+abbrev pub HasEarned : Session → Trace → FlushMark → Asks → Request → Option Answer → Type 0
+HasEarned s t m asks r None = ⊥
+HasEarned s t m asks r (Some a) = IsEarned s t m r a (is_marked asks a)
 
 abbrev pub MayReply : Session → Trace → Vio → Option Answer → Type 0
-MayReply s t v None = ⊥
-MayReply s t v (Some a) = IsEarned s t v a (is_marked v.asks a)
+MayReply s t v answer = HasEarned s t (mark_of_vio v) v.asks (request_of v) answer
 
 -- What a request carries in each phase.
 abbrev pub Carries : Session → Trace → Vio → Phase → Type 0
-Carries s t v phase.Arrive = IsUnplaced s t v
+Carries s t v phase.Arrive = IsUndrawn t v.request v.asks
 Carries s t v phase.Wait = IsPlaced s t v
 Carries s t v phase.Claim = Holds s t v × (v.asks ≡ Write)
 Carries s t v phase.Store = Holds s t v × (v.asks ≡ Write) × IsFresh s v.block
@@ -136,18 +163,21 @@ StandsAt s t v stage.Harden = OnItsWay s t (committed t) (logged v) × ReadsEntr
 StandsAt s t v stage.Commit = AtRest s t (logged v ∷ committed t)
 StandsAt s t v stage.Fail = (AtRest s t (committed t) ⊎ OnItsWay s t (committed t) (logged v)) × (has_stopped t ≡ true)
 
-pub record BlockOk (s : Session) (t : Trace) (b : SealedBlock) : Type 0 where
-  pub vio : VioOk s t b.vio
-  pub phase : b.vio.phase ≡ phase.Enter
-  pub is_entered : IsEntered s t b.vio
-  pub last : entered t ≡ logged b.vio ∷ committed t
-  pub others : of_address b.vio.at.0 (committed t) ≡ of_address b.vio.at.0 (done t)
-  pub below : AllBelow t b.vio.at.0 b.vio.place
-  pub fresh : IsFresh s b.vio.block
-  pub old_held : HoldsMapping b.vio.old
-  pub sequence : b.sequence ≡ s.sizes.start + (s.sizes.opened + length (committed t))
+-- A request that is sealed with its entry, at this sequence of the journal.
+pub record IsSealed (s : Session) (t : Trace) (v : Vio) (at : ℕ) : Type 0 where
+  pub vio : VioOk s t v
+  pub phase : v.phase ≡ phase.Enter
+  pub is_entered : IsEntered s t v
+  pub last : entered t ≡ logged v ∷ committed t
+  pub others : of_address v.at.0 (committed t) ≡ of_address v.at.0 (done t)
+  pub below : AllBelow t v.at.0 v.place
+  pub fresh : IsFresh s v.block
+  pub old_held : HoldsMapping v.old
+  pub sequence : at ≡ s.sizes.start + (s.sizes.opened + length (committed t))
   pub few : s.sizes.opened + length (committed t) < s.sizes.geometry.journal
-  pub stands : StandsAt s t b.vio b.stage
+
+abbrev pub BlockOk : Session → Trace → SealedBlock → Type 0
+BlockOk s t b = IsSealed s t b.vio b.sequence × StandsAt s t b.vio b.stage
 
 -- an item in a lane to the zone of this number
 abbrev pub ItemOk : Session → Trace → ℕ → Item → Type 0
@@ -164,54 +194,105 @@ abbrev pub Rises : List Vio → Type 0
 Rises [] = Unit {0}
 Rises (v ∷ behind) = AllByRecursion (λ w. v.place < w.place) behind × Rises behind
 
--- a lock of an address of the zone, whose place was drawn
-abbrev pub LockOk : Session → LogicalZone → Lock → Type 0
-LockOk s l lock = (zone_of s.sizes.zones lock.at.0 ≡ l.zone) × (lock.place < l.next)
+-- the requests that a zone keeps, and the phase that they are in
+abbrev pub kept_by : ZoneData → List Vio
+kept_by (at.Desk desk) = desk.parked
+kept_by (at.Logical l) = l.waiting
+kept_by (at.Journal j) = j.waiting
+kept_by other = []
 
-pub record DeskOk (s : Session) (t : Trace) (number : ℕ) (desk : Desk) : Type 0 where
-  pub number_is : number ≡ desk_zone
-  pub requests : desk.requests ≡ s.script
+abbrev pub kept_phase : ZoneData → Phase
+kept_phase (at.Logical l) = phase.Wait
+kept_phase (at.Journal j) = phase.Enter
+kept_phase other = phase.Reply
+
+-- the name of a zone
+abbrev pub name_of : ZoneData → ZoneId
+name_of (at.Desk desk) = id.Desk
+name_of (at.Logical l) = id.Logical l.zone
+name_of (at.Physical p) = id.Physical 0
+name_of (at.Journal j) = id.Journal
+name_of (at.Device d) = id.Device
+
+-- Its own lists are parts of the trace.
+pub record DeskLists (t : Trace) (desk : Desk) : Type 0 where
   pub log_is : desk.log ≡ lines t
   pub marks_is : desk.marks ≡ marks t
-  -- no request is answered as stopped before the stop notice of every zone has come
-  pub stops_notified : (w : Writer) → answer_of desk.log w ≡ Some reply.Stopped → notified_zones s.sizes ≤ desk.notices
-  pub parked : AllByRecursion (KeptOk s t phase.Reply) desk.parked
-  pub notified_so : 0 < desk.notices → has_stopped t ≡ true
 
--- a request that waits for a lock that is held
-pub record WaitsOk (s : Session) (t : Trace) (number : ℕ) (l : LogicalZone) (v : Vio) : Type 0 where
-  pub kept : KeptOk s t phase.Wait v
-  pub at_home : zone_number s.sizes v.home ≡ number
-  pub drawn_before : v.place < l.next
-  pub locked : is_held v.at.0 l.held ≡ true
+pub record LogicalLists (s : Session) (t : Trace) (zone next : ℕ) (placed : List Placed) (slots : List Logged) : Type 0 where
+  pub places_is : placed ≡ places_in zone (places t)
+  pub next_is : next ≡ drawn zone (places t)
+  pub slots_are : (a : ℕ) → zone_of s.sizes.zones a ≡ zone → of_address a slots ≡ of_address a (done t)
+  -- what was set or given at its addresses has a place that was drawn
+  pub below : (a : ℕ) → zone_of s.sizes.zones a ≡ zone → AllBelow t a next
 
-pub record LogicalOk (s : Session) (t : Trace) (number : ℕ) (l : LogicalZone) : Type 0 where
-  pub number_is : number ≡ logical_zone l.zone
-  pub among : l.zone < s.sizes.zones
-  pub places_is : l.places ≡ places_in l.zone (places t)
-  pub next_is : l.next ≡ drawn l.zone (places t)
-  pub window_is : l.window ≡ s.window
-  pub slots_are : (a : ℕ) → zone_of s.sizes.zones a ≡ l.zone → of_address a l.slots ≡ of_address a (done t)
-  -- each address is mapped to a block that an entry can hold
-  pub mapped : (a : ℕ) → HoldsMapping (mapping_at l a)
-  pub inside : (a : ℕ) (x : Pbn) → mapping_at l a ≡ At x → IsInside s.sizes x
-  -- a lock that is never released: a write of its address was aborted, once the session was stopped
-  pub retired_so : (a : ℕ) → is_among a l.retired ≡ true → (has_stopped t ≡ true) × HasBelow a l.next (aborted t)
-  pub below : (a : ℕ) → zone_of s.sizes.zones a ≡ l.zone → AllBelow t a l.next
-  pub locks : AllByRecursion (LockOk s l) l.held
-  pub once : (a : ℕ) → total (lock_weight a (λ p. true)) l.held ≤ 1
-  -- a lock that is free: all entries of its address are done
-  pub quiet : (a : ℕ) → zone_of s.sizes.zones a ≡ l.zone → is_held a l.held ≡ false → is_among a l.retired ≡ false → Quiet t a
-  -- who waits for a lock came behind its holder, and in the order of places
-  pub waiting : AllByRecursion (WaitsOk s t number l) l.waiting
-  pub in_line : AllByRecursion (λ (lock : Lock). AllByRecursion (λ v. v.at.0 ≡ lock.at.0 → lock.place < v.place) l.waiting) l.held
-  pub in_order : Rises l.waiting
-
-pub record PhysicalOk (s : Session) (t : Trace) (number : ℕ) (p : PhysicalZone) : Type 0 where
-  pub number_is : number ≡ physical_zone s.sizes
-  pub free : AllByRecursion (IsFresh s) p.free
+pub record PhysicalLists (s : Session) (t : Trace) (p : PhysicalZone) : Type 0 where
   -- those that weren't taken
   pub left : p.free ≡ drop (taken t) s.free
+
+pub record JournalLists (t : Trace) (j : JournalZone) : Type 0 where
+  pub entered_is : j.entered ≡ entered t
+  pub committed_is : j.committed ≡ committed t
+
+pub record DeviceLists (t : Trace) (d : DeviceZone) : Type 0 where
+  pub calls_is : d.calls ≡ successes (calls t)
+  pub stopped_is : d.stopped ≡ has_stopped t
+
+abbrev pub HasLists : Session → Trace → ZoneData → Type 0
+HasLists s t (at.Desk desk) = DeskLists t desk
+HasLists s t (at.Logical l) = LogicalLists s t l.zone l.next l.places l.slots
+HasLists s t (at.Physical p) = PhysicalLists s t p
+HasLists s t (at.Journal j) = JournalLists t j
+HasLists s t (at.Device d) = DeviceLists t d
+
+-- What holds of its data alone.
+pub record IsSoundDesk (s : Session) (desk : Desk) : Type 0 where
+  pub requests : desk.requests ≡ s.script
+  -- no request is answered as stopped before the stop notice of every zone has come
+  pub stops_notified : (w : Writer) → answer_of desk.log w ≡ Some reply.Stopped → notified_zones s.sizes ≤ desk.notices
+
+-- each address is mapped to a block that an entry can hold, inside the image
+abbrev pub mapping_in : List Entry → List Logged → ℕ → Mapping
+mapping_in window slots a = mapped_by (newest (of_address a slots)) (mapping_of window a)
+
+pub record MapOk (s : Session) (window : List Entry) (slots : List Logged) : Type 0 where
+  pub window_is : window ≡ s.window
+  pub mapped : (a : ℕ) → HoldsMapping (mapping_in window slots a)
+  pub inside : (a : ℕ) (x : Pbn) → mapping_in window slots a ≡ At x → IsInside s.sizes x
+
+-- a lock of an address of the zone, whose place was drawn
+abbrev pub LockOk : Session → (zone next : ℕ) → Lock → Type 0
+LockOk s zone next lock = (zone_of s.sizes.zones lock.at.0 ≡ zone) × (lock.place < next)
+
+-- a request that waits for a lock that is held
+pub record WaitsOk (zone next : ℕ) (held : List Lock) (v : Vio) : Type 0 where
+  pub at_home : v.home ≡ id.Logical zone
+  pub drawn_before : v.place < next
+  pub locked : is_held v.at.0 held ≡ true
+
+-- who waits for this lock came behind its holder
+abbrev pub InLine : List Vio → Lock → Type 0
+InLine waiting lock = AllByRecursion (λ v. v.at.0 ≡ lock.at.0 → lock.place < v.place) waiting
+
+pub record LocksOk (s : Session) (zone next : ℕ) (held : List Lock) (waiting : List Vio) : Type 0 where
+  pub locks_are : AllByRecursion (LockOk s zone next) held
+  -- one for each address at most
+  pub once : (a : ℕ) → total (lock_weight a (λ p. true)) held ≤ 1
+  -- who waits for a lock came behind its holder, and in the order of places
+  pub waits : AllByRecursion (WaitsOk zone next held) waiting
+  pub in_line : AllByRecursion (InLine waiting) held
+  pub in_order : Rises waiting
+
+pub record IsSoundLogical (s : Session) (l : LogicalZone) : Type 0 where
+  pub among : l.zone < s.sizes.zones
+  pub map : MapOk s l.window l.slots
+  pub locks : LocksOk s l.zone l.next l.held l.waiting
+
+abbrev pub IsSound : Session → ZoneData → Type 0
+IsSound s (at.Desk desk) = IsSoundDesk s desk
+IsSound s (at.Logical l) = IsSoundLogical s l
+IsSound s (at.Physical p) = AllByRecursion (IsFresh s) p.free
+IsSound s other = Unit {0}
 
 -- What stands on the device while no sealed block is under way.
 abbrev pub RestsAt : Session → Trace → (busy broken : Bool) → Type 0
@@ -219,25 +300,29 @@ RestsAt s t true broken = broken ≡ false
 RestsAt s t false false = (entered t ≡ committed t) × AtRest s t (committed t)
 RestsAt s t false true = HasPending s t
 
-pub record JournalOk (s : Session) (t : Trace) (number : ℕ) (j : JournalZone) : Type 0 where
-  pub number_is : number ≡ journal_zone s.sizes
-  pub entered_is : j.entered ≡ entered t
-  pub committed_is : j.committed ≡ committed t
-  pub waiting : AllByRecursion (KeptOk s t phase.Enter) j.waiting
-  pub rests : RestsAt s t j.busy j.broken
-  pub closed_so : is_closed j ≡ true → has_stopped t ≡ true
+-- What it answers for: a logical zone for its addresses that are free (all entries of them are settled), the journal for
+-- the device while it is idle.
+abbrev pub Answers : Session → Trace → ZoneData → Type 0
+Answers s t (at.Logical l) = (a : ℕ) → zone_of s.sizes.zones a ≡ l.zone → is_held a l.held ≡ false → is_among a l.retired ≡ false → Quiet t a
+Answers s t (at.Journal j) = RestsAt s t j.busy j.broken
+Answers s t other = Unit {0}
 
-pub record DeviceOk (s : Session) (t : Trace) (number : ℕ) (d : DeviceZone) : Type 0 where
-  pub number_is : number ≡ device_zone s.sizes
-  pub calls_is : d.calls ≡ successes (calls t)
-  pub stopped_is : d.stopped ≡ has_stopped t
+-- What it was told, and is so from then on: the session is stopped. A lock is never released since a write of its address
+-- was aborted.
+abbrev pub WasTold : Trace → ZoneData → Type 0
+WasTold t (at.Desk desk) = 0 < desk.notices → has_stopped t ≡ true
+WasTold t (at.Logical l) = (a : ℕ) → is_among a l.retired ≡ true → (has_stopped t ≡ true) × HasBelow a l.next (aborted t)
+WasTold t (at.Journal j) = is_closed j ≡ true → has_stopped t ≡ true
+WasTold t other = Unit {0}
 
-abbrev pub DataOk : Session → Trace → ℕ → ZoneData → Type 0
-DataOk s t number (at.Desk desk) = DeskOk s t number desk
-DataOk s t number (at.Logical l) = LogicalOk s t number l
-DataOk s t number (at.Physical p) = PhysicalOk s t number p
-DataOk s t number (at.Journal j) = JournalOk s t number j
-DataOk s t number (at.Device d) = DeviceOk s t number d
+-- what a zone has beside its lanes
+pub record DataOk (s : Session) (t : Trace) (number : ℕ) (d : ZoneData) : Type 0 where
+  pub number_is : number ≡ zone_number s.sizes (name_of d)
+  pub lists : HasLists s t d
+  pub sound : IsSound s d
+  pub kept : AllByRecursion (KeptOk s t (kept_phase d)) (kept_by d)
+  pub answers : Answers s t d
+  pub told : WasTold t d
 
 -- the requests among these items that have yet to draw a place
 abbrev pub arriving : Phase → Writer → List Writer

@@ -15,7 +15,7 @@ use Rattle.blk_base.specs.declared.request.Writer.{Writer}
 use Rattle.vdo_model.specs.DeskLog.{IsNextLine, begun, answer_of}
 use Rattle.vdo_model.specs.FlushMarks.{IsMark}
 use Rattle.vdo_model.specs.Places.{zone_of}
-use Rattle.vdo_model.specs.Scripts.{request_at, same_writer}
+use Rattle.vdo_model.specs.Scripts.{request_at}
 use Rattle.vdo_model.specs.declared.report.DeskLine.{DeskLine}
 use Rattle.vdo_model.specs.declared.report.FlushMark.{FlushMark}
 use Rattle.vdo_model.specs.declared.report.DeskLine.TheVariants as line
@@ -29,29 +29,18 @@ use Rattle.core_model.specs.declared.sizes.Sizes.{Sizes}
 use Rattle.core_model.specs.declared.zones.ZoneData.TheVariants as at
 use Rattle.core_model.specs.declared.zones.Desk.{Desk}
 use Rattle.core_model.specs.DeskRows.{DeskBegins, DeskServes, is_notified, at_once, vio_of, first_zone, is_marked, is_stopped, mark_of_vio, with_notice, woken}
-use Rattle.core_model.specs.Facts.{HasAddress, ItemOk, DeskOk, KeptOk, IsEarned, MayReply, Carries, zone_at}
+use Rattle.core_model.specs.Facts.{HasAddress, VioOk, KeptOk, IsEarned, MayReply, zone_at}
 use Rattle.core_model.specs.Zones.{desk_zone, notified_zones}
 use Rattle.core_model.specs.RightTraces.{RightTrace, IsOpen, HasCause, MayAnswer}
-use Rattle.core_model.specs.Sessions.{Session, IsSession, Shown}
-use Rattle.core_model.specs.Trace.{Says, Flushes, Trace, lines, moments, entered, done, has_stopped, logged_of}
+use Rattle.core_model.specs.Sessions.{Session, IsSession}
+use Rattle.core_model.specs.Trace.{Says, Flushes, Trace, lines, moments, done, has_stopped, logged_of}
 use Rattle.core_model.specs.Vios.{Post, request_of, asked, begun_vio}
-use Rattle.core_laws.proofs.kept.ActKept.{ActKept, PostOk, shown_kept, unborn_place, unborn_entry, unborn_slot}
-use Rattle.core_laws.proofs.kept.Carried.{kept_kept}
+use Rattle.core_laws.proofs.kept.ActKept.{Known, unborn, ActKept, PostOk, act_none, act_one, own_request, plain_clears, reaches, line_kept, shown_plain, carries_at, unborn_place, unborn_entry, unborn_slot}
 use Rattle.core_laws.proofs.trace.DeskOfTrace.{desk_log_right, answered_begun, shown_of}
-use Rattle.core_laws.proofs.kept.Elsewhere.{LacksRequest, spares_answer, spares_flush}
-use Rattle.plain_laws.proofs.ListLaws.{every-append, every-map, every_both}
+use Rattle.plain_laws.proofs.ListLaws.{every-append}
 use Rattle.plain_laws.proofs.OptionLaws.{none_is, option_cases}
 use Rattle.vdo_model.proofs.NameLaws.{same_tells}
 use Rattle.core_laws.proofs.physical.PhysicalFacts.{zone_below}
-use Rattle.core_laws.proofs.kept.StandsOn.{spares_all}
-
--- what stands on the device stands after a line
-pub shown_line : (s : Session) (l : DeskLine) (t : Trace) → Shown s t → Shown s (Says l ∷ t)
-shown_line s l t k = shown_kept s (Says l) t (record { entered_same = refl; committed_same = refl }) tt (spares_all (Says l) (λ x. tt) (entered t)) tt (λ a y is. tt) k
-
--- and after a flush that is answered with its mark
-pub shown_mark : (s : Session) (m : FlushMark) (t : Trace) → Shown s t → Shown s (Flushes m ∷ t)
-shown_mark s m t k = shown_kept s (Flushes m) t (record { entered_same = refl; committed_same = refl }) tt (spares_all (Flushes m) (λ x. tt) (entered t)) tt (λ a y is. tt) k
 
 -- a request is among the begun ones once its Begin stands
 pub begun_now : (w : Writer) (older : List DeskLine) → w.number ≡ begun w.stream older → w.number < begun w.stream (line.Begin w ∷ older)
@@ -117,21 +106,7 @@ module _ (s : Session) (t : Trace) (w : Writer) (is : IsSession s) (right : Righ
   begins_open = record { is_begun = begun_now w (lines t) next.0; unanswered = unanswered }
 
   begins_right : RightTrace s (Says (line.Begin w) ∷ t)
-  begins_right = (next, shown_line s (line.Begin w) t (shown_of s t right), right)
-
-  -- it is another one than those under way
-  is_other : (v : Writer) → v.number < begun v.stream (lines t) → same_writer w v ≡ false
-  is_other v early = elim (same_tells w v) [
-    | inl same ↦ let here : w.number < begun w.stream (lines t) = subst (λ (x : Writer). x.number < begun x.stream (lines t)) (sym same.1) early in let number = next.0 in absurd (omega (arith, here, number))
-    | inr other ↦ other.0
-  ]
-
-  begins_kept : (v : Vio) → KeptOk s t phase.Reply v → KeptOk s (Says (line.Begin w) ∷ t) phase.Reply v
-  begins_kept v k = kept_kept s (Says (line.Begin w)) t phase.Reply v (record { of_request = tt; of_address = λ held. tt; of_block = λ here. tt }) k
-
-  answers_kept : (a : Reply) (v : Vio) → KeptOk s t phase.Reply v → KeptOk s (Says (line.Answer w a) ∷ Says (line.Begin w) ∷ t) phase.Reply v
-  answers_kept a v k = kept_kept s (Says (line.Answer w a)) (Says (line.Begin w) ∷ t) phase.Reply v
-      (record { of_request = is_other v.request k.0.is_open.is_begun; of_address = λ held. tt; of_block = λ here. tt }) (begins_kept v k)
+  begins_right = (next, shown_plain s t (Says (line.Begin w)) tt (shown_of s t right), right)
 
   -- a block request goes to the logical zone of its address, a flush to the device
   begins_block : (q : Asks) (at : Lba) (bytes : List ℕ) → (q ≡ Read) ⊎ (q ≡ Write) → request_at s.script w ≡ Some (asked q at bytes) → at.0 < s.sizes.geometry.logical
@@ -146,7 +121,7 @@ module _ (s : Session) (t : Trace) (w : Writer) (is : IsSession s) (right : Righ
         ),
       )
     where
-      address : (p : Asks) → HasAddress s.sizes (begun_vio s.sizes w q at bytes) p
+      address : (p : Asks) → HasAddress s.sizes at p
       address Read = below
       address Write = below
       address Flush = tt
@@ -193,144 +168,138 @@ once_stopped sizes notified Write a is = low_stopped (nat_lt a sizes.geometry.lo
 once_stopped sizes notified Flush a is = notified_first notified is
 
 -- The desk begins a request.
-pub desk_begins : (s : Session) (t : Trace) (n : ℕ) (old new : Desk) (made : Trace) (posts : List Post) → IsSession s → RightTrace s t → DeskOk s t n old
-    → DeskBegins s.sizes old new made posts → ActKept s t n (at.Desk new) made posts
-desk_begins s t n old new made posts is right own (DeskBegins.answers w r v a next_line asks served once new_is made_is posts_is) =
-    let next : IsNextLine s.sizes.depth s.script (line.Begin w) (lines t) = rw (own.requests, own.log_is) at next_line in
-    let asked : request_at s.script w ≡ Some r = rw own.requests at asks in
-    let unset = unborn_slot s t w right (late s t w is right next) in
-    let begun_right = begins_right s t w is right next in
-    let open_now = begins_open s t w is right next in
-    let heard_so : is_notified s.sizes old ≡ true → has_stopped t ≡ true = λ notified. own.notified_so (let enough = notified_enough s.sizes old notified in omega (arith, enough)) in
-    let cause : MayAnswer s (Says (line.Begin w) ∷ t) w r a = once_cause s (Says (line.Begin w) ∷ t) w (is_notified s.sizes old) r v a t refl served unset heard_so once in
-    let all : (q : Request) → request_at s.script w ≡ Some q → MayAnswer s (Says (line.Begin w) ∷ t) w q a =
-    λ q had. subst (λ (x : Request). MayAnswer s (Says (line.Begin w) ∷ t) w x a) (same_Some _ _ (sym asked ∙ had)) cause in
-    rw (new_is, made_is, posts_is) (record {
-      right = (((open_now.is_begun, open_now.unanswered), all), shown_line s (line.Answer w a) (Says (line.Begin w) ∷ t) begun_right.1, begun_right);
+pub desk_begins : {s : Session} {t : Trace} {n : ℕ} {old : Desk} → Known s t n (at.Desk old) [] → (new : Desk) (made : Trace) (posts : List Post) → DeskBegins s.sizes old new made posts → ActKept s t n (at.Desk old) [] (at.Desk new) made posts
+desk_begins {s} {t} {n} {old} known new made posts (DeskBegins.answers w r v a next_line asks served once i m q) =
+    let own = known.own in
+    let next : IsNextLine s.sizes.depth s.script (line.Begin w) (lines t) = rw (own.sound.requests, own.lists.log_is) at next_line in
+    let asked : request_at s.script w ≡ Some r = rw own.sound.requests at asks in
+    let begun_right = begins_right s t w known.session known.right next in
+    let open_now = begins_open s t w known.session known.right next in
+    let heard_so : is_notified s.sizes old ≡ true → has_stopped t ≡ true = λ notified. own.told (let enough = notified_enough s.sizes old notified in omega (arith, enough)) in
+    let began = Says (line.Begin w) in
+    let answered = Says (line.Answer w a) in
+    let cause : MayAnswer s (began ∷ t) w r a = once_cause s (began ∷ t) w (is_notified s.sizes old) r v a t refl served (unborn_slot s t w known.right (late s t w known.session known.right next)) heard_so once in
+    let all : (q : Request) → request_at s.script w ≡ Some q → MayAnswer s (began ∷ t) w q a =
+    λ q had. subst (λ (x : Request). MayAnswer s (began ∷ t) w x a) (same_Some _ _ (sym asked ∙ had)) cause in
+    let first = plain_clears known began t tt own.number_is tt tt in
+    let second = plain_clears known answered (began ∷ t) tt own.number_is (unborn (late s t w known.session known.right next)) tt in
+    rw (i, m, q) (record {
+      right = (((open_now.is_begun, open_now.unanswered), all), shown_plain s (began ∷ t) answered tt begun_right.1, begun_right);
       gives = λ gives. gives;
+      owns = (reaches known second, (reaches known first, tt));
       own = record {
         number_is = own.number_is;
-        requests = own.requests;
-        log_is = ap (λ (ls : List DeskLine). line.Answer w a ∷ line.Begin w ∷ ls) own.log_is;
-        marks_is = own.marks_is;
-        stops_notified = stops_answer old.notices (notified_zones s.sizes) w a (line.Begin w ∷ old.log) own.stops_notified (λ same. notified_enough s.sizes old (once_stopped s.sizes (is_notified s.sizes old) v.asks v.at.0 (once ∙ ap (λ (b : Reply). Some b) same)));
-        parked = every-map {P = _} {Q = _} (answers_kept s t w is right next a) old.parked own.parked;
-        notified_so = own.notified_so;
+        lists = record { log_is = ap (λ (ls : List DeskLine). line.Answer w a ∷ line.Begin w ∷ ls) own.lists.log_is; marks_is = own.lists.marks_is };
+        sound = record {
+          requests = own.sound.requests;
+          stops_notified = stops_answer old.notices (notified_zones s.sizes) w a (line.Begin w ∷ old.log) own.sound.stops_notified
+              (λ same. notified_enough s.sizes old (once_stopped s.sizes (is_notified s.sizes old) v.asks v.at.0 (once ∙ ap (λ (b : Reply). Some b) same)));
+        };
+        kept = line_kept known answered (began ∷ t) second (line_kept known began t first own.kept);
+        answers = tt;
+        told = own.told;
       };
       posts_ok = tt;
     })
-desk_begins s t n old new made posts is right own (DeskBegins.sends w r v next_line asks served none new_is made_is posts_is) =
-    let next : IsNextLine s.sizes.depth s.script (line.Begin w) (lines t) = rw (own.requests, own.log_is) at next_line in
-    let asked : request_at s.script w ≡ Some r = rw own.requests at asks in
-    rw (new_is, made_is, posts_is) (record {
-      right = begins_right s t w is right next;
-      gives = λ gives. gives;
-      own = record {
-        number_is = own.number_is;
-        requests = own.requests;
-        log_is = ap (λ (ls : List DeskLine). line.Begin w ∷ ls) own.log_is;
-        marks_is = own.marks_is;
-        stops_notified = own.stops_notified;
-        parked = every-map {P = _} {Q = _} (begins_kept s t w is right next) old.parked own.parked;
-        notified_so = own.notified_so;
-      };
-      posts_ok = (begins_post s t w is right next (is_notified s.sizes old) r v served asked none, tt);
+desk_begins {s} {t} {n} {old} known new made posts (DeskBegins.sends w r v next_line asks served none i m q) =
+    let own = known.own in
+    let next : IsNextLine s.sizes.depth s.script (line.Begin w) (lines t) = rw (own.sound.requests, own.lists.log_is) at next_line in
+    let asked : request_at s.script w ≡ Some r = rw own.sound.requests at asks in
+    let began = Says (line.Begin w) in
+    let clears = plain_clears known began t tt own.number_is tt tt in
+    rw (i, m, q) (act_one known began clears (λ gives. gives) (begins_right s t w known.session known.right next)
+    (record {
+      number_is = own.number_is;
+      lists = record { log_is = ap (λ (ls : List DeskLine). line.Begin w ∷ ls) own.lists.log_is; marks_is = own.lists.marks_is };
+      sound = record { requests = own.sound.requests; stops_notified = own.sound.stops_notified };
+      kept = line_kept known began t clears own.kept;
+      answers = tt;
+      told = own.told;
     })
+    (begins_post s t w known.session known.right next (is_notified s.sizes old) r v served asked none, tt))
 
--- A request that comes back: its answer is one that it may have.
-module _ (s : Session) (t : Trace) (n : ℕ) (v : Vio) (it : ItemOk s t n (item.Request v)) (phase_is : v.phase ≡ phase.Reply) where
-  may_reply : MayReply s t v v.answer
-  may_reply = let k : Carries s t v phase.Reply = subst (λ (q : Phase). Carries s t v q) phase_is it.1 in k
+-- A request that comes back is answered, or waits.
+module _ {s : Session} {t : Trace} {n : ℕ} {old : Desk} {v : Vio} (known : Known s t n (at.Desk old) (item.Request v ∷ [])) where
+  ok : VioOk s t v
+  ok = known.front_ok.0.0
 
-  earned : (a : Reply) → v.answer ≡ Some a → IsEarned s t v a (is_marked v.asks a)
-  earned a answer = let k : MayReply s t v (Some a) = subst (λ (o : Option Reply). MayReply s t v o) answer may_reply in k
+  earned : v.phase ≡ phase.Reply → (a : Reply) → v.answer ≡ Some a → IsEarned s t (mark_of_vio v) (request_of v) a (is_marked v.asks a)
+  earned is a answer =
+      let may : MayReply s t v v.answer = carries_at s t v phase.Reply is known.front_ok.0.1 in
+      let k : MayReply s t v (Some a) = subst (λ (o : Option Reply). MayReply s t v o) answer may in k
 
-  answer_cause : (a : Reply) → v.answer ≡ Some a → is_marked v.asks a ≡ false → (r : Request) → request_at s.script v.request ≡ Some r → MayAnswer s t v.request r a
-  answer_cause a answer unmarked r asks =
-      let mine : HasCause s t v.request (request_of v) a = subst (λ (marked : Bool). IsEarned s t v a marked) unmarked (earned a answer) in
-      subst (λ (q : Request). MayAnswer s t v.request q a) (same_Some _ _ (sym it.0.asked ∙ asks)) (cause_may s t v.request (request_of v) a mine)
+  answer_cause : v.phase ≡ phase.Reply → (a : Reply) → v.answer ≡ Some a → is_marked v.asks a ≡ false → (r : Request) → request_at s.script v.request ≡ Some r → MayAnswer s t v.request r a
+  answer_cause is a answer unmarked r asks =
+      let mine : HasCause s t v.request (request_of v) a = subst (λ (marked : Bool). IsEarned s t (mark_of_vio v) (request_of v) a marked) unmarked (earned is a answer) in
+      subst (λ (q : Request). MayAnswer s t v.request q a) (same_Some _ _ (sym ok.asked ∙ asks)) (cause_may s t v.request (request_of v) a mine)
 
-  flush_mark : v.asks ≡ Flush → v.answer ≡ Some reply.Ok → IsMark (moments t) (mark_of_vio v)
-  flush_mark flush answer = let k : IsEarned s t v reply.Ok true = subst (λ (q : Asks). IsEarned s t v reply.Ok (is_marked q reply.Ok)) flush (earned reply.Ok answer) in k
+  flush_mark : v.phase ≡ phase.Reply → v.asks ≡ Flush → v.answer ≡ Some reply.Ok → IsMark (moments t) (mark_of_vio v)
+  flush_mark is flush answer = let k : IsEarned s t (mark_of_vio v) (request_of v) reply.Ok true = subst (λ (q : Asks). IsEarned s t (mark_of_vio v) (request_of v) reply.Ok (is_marked q reply.Ok)) flush (earned is reply.Ok answer) in k
 
   flush_asked : v.asks ≡ Flush → request_at s.script v.request ≡ Some request.Flush
-  flush_asked flush = it.0.asked ∙ ap (λ (q : Asks). Some (asked q v.at v.bytes)) flush
+  flush_asked flush = ok.asked ∙ ap (λ (q : Asks). Some (asked q v.at v.bytes)) flush
 
--- what waits at the desk stays where another request is answered
-parked_answer : (s : Session) (t : Trace) (w : Writer) (a : Reply) (u : Vio) → LacksRequest w (item.Request u) → KeptOk s t phase.Reply u → KeptOk s (Says (line.Answer w a) ∷ t) phase.Reply u
-parked_answer s t w a u lacks k = kept_kept s (Says (line.Answer w a)) t phase.Reply u (spares_answer s t w a (item.Request u) lacks) k
-
-parked_flush : (s : Session) (t : Trace) (m : FlushMark) (u : Vio) → LacksRequest m.request (item.Request u) → KeptOk s t phase.Reply u → KeptOk s (Flushes m ∷ t) phase.Reply u
-parked_flush s t m u lacks k = kept_kept s (Flushes m) t phase.Reply u (spares_flush s t m (item.Request u) lacks) k
-
--- The desk answers a request, or lets it wait.
-pub desk_serves : (s : Session) (t : Trace) (n : ℕ) (old : Desk) (v : Vio) (new : Desk) (made : Trace) (posts : List Post) → IsSession s → RightTrace s t → DeskOk s t n old
-    → ItemOk s t n (item.Request v) → AllByRecursion (λ u. LacksRequest v.request (item.Request u)) old.parked → DeskServes s.sizes old v new made posts
-    → ActKept s t n (at.Desk new) made posts
-desk_serves s t n old v new made posts is right own it lacks (DeskServes.parks a phase_is answer stopped unnotified new_is made_is posts_is) =
-    rw (new_is, made_is, posts_is) (record {
-      right = right;
-      gives = λ gives. gives;
-      own = record {
+  pub desk_serves : (new : Desk) (made : Trace) (posts : List Post) → DeskServes s.sizes old v new made posts → ActKept s t n (at.Desk old) (item.Request v ∷ []) (at.Desk new) made posts
+  desk_serves new made posts (DeskServes.parks a is answer stopped unnotified i m q) =
+      let own = known.own in
+      rw (i, m, q) (act_none known (record {
         number_is = own.number_is;
-        requests = own.requests;
-        log_is = own.log_is;
-        marks_is = own.marks_is;
-        stops_notified = own.stops_notified;
-        parked = every-append (KeptOk s t phase.Reply) old.parked (v ∷ []) own.parked ((it.0, it.1, phase_is), tt);
-        notified_so = own.notified_so;
-      };
-      posts_ok = tt;
-    })
-desk_serves s t n old v new made posts is right own it lacks (DeskServes.answers a phase_is answer notified unmarked new_is made_is posts_is) =
-    rw (new_is, made_is, posts_is) (record {
-      right = (((it.0.is_open.is_begun, it.0.is_open.unanswered), answer_cause s t n v it phase_is a answer unmarked), shown_line s (line.Answer v.request a) t (shown_of s t right), right);
-      gives = λ gives. gives;
-      own = record {
+        lists = record { log_is = own.lists.log_is; marks_is = own.lists.marks_is };
+        sound = record { requests = own.sound.requests; stops_notified = own.sound.stops_notified };
+        kept = every-append (KeptOk s t phase.Reply) old.parked (v ∷ []) own.kept ((ok, known.front_ok.0.1, is), tt);
+        answers = tt;
+        told = own.told;
+      }) tt)
+  desk_serves new made posts (DeskServes.answers a is answer notified unmarked i m q) =
+      let own = known.own in
+      let h = Says (line.Answer v.request a) in
+      let clears = plain_clears known h t tt own.number_is (own_request known) tt in
+      rw (i, m, q) (act_one known h clears (λ gives. gives)
+      (((ok.is_open.is_begun, ok.is_open.unanswered), answer_cause is a answer unmarked), shown_plain s t h tt (shown_of s t known.right), known.right)
+      (record {
         number_is = own.number_is;
-        requests = own.requests;
-        log_is = ap (λ (ls : List DeskLine). line.Answer v.request a ∷ ls) own.log_is;
-        marks_is = own.marks_is;
-        stops_notified = stops_answer old.notices (notified_zones s.sizes) v.request a old.log own.stops_notified (λ same. notified_enough s.sizes old (notified (ap is_stopped same)));
-        parked = every_both (parked_answer s t v.request a) old.parked lacks own.parked;
-        notified_so = own.notified_so;
-      };
-      posts_ok = tt;
-    })
-desk_serves s t n old v new made posts is right own it lacks (DeskServes.marks phase_is flush answer new_is made_is posts_is) =
-    let m : FlushMark = mark_of_vio v in
-    rw (new_is, made_is, posts_is) (record {
-      right = (
-        ((it.0.is_open.is_begun, it.0.is_open.unanswered), flush_asked s t n v it phase_is flush, flush_mark s t n v it phase_is flush answer),
-        shown_mark s m t (shown_of s t right),
-        right,
-      );
-      gives = λ gives. gives;
-      own = record {
+        lists = record { log_is = ap (λ (ls : List DeskLine). line.Answer v.request a ∷ ls) own.lists.log_is; marks_is = own.lists.marks_is };
+        sound = record {
+          requests = own.sound.requests;
+          stops_notified = stops_answer old.notices (notified_zones s.sizes) v.request a old.log own.sound.stops_notified (λ same. notified_enough s.sizes old (notified (ap is_stopped same)));
+        };
+        kept = line_kept known h t clears own.kept;
+        answers = tt;
+        told = own.told;
+      }) tt)
+  desk_serves new made posts (DeskServes.marks is flush answer i m q) =
+      let own = known.own in
+      let mark : FlushMark = mark_of_vio v in
+      let h = Flushes mark in
+      let clears = plain_clears known h t tt own.number_is (own_request known) tt in
+      rw (i, m, q) (act_one known h clears (λ gives. gives)
+      (((ok.is_open.is_begun, ok.is_open.unanswered), flush_asked flush, flush_mark is flush answer), shown_plain s t h tt (shown_of s t known.right), known.right)
+      (record {
         number_is = own.number_is;
-        requests = own.requests;
-        log_is = ap (λ (ls : List DeskLine). line.Answer v.request reply.Ok ∷ ls) own.log_is;
-        marks_is = ap (λ (ms : List FlushMark). m ∷ ms) own.marks_is;
-        stops_notified = stops_answer old.notices (notified_zones s.sizes) v.request reply.Ok old.log own.stops_notified (λ same. absurd cc);
-        parked = every_both (parked_flush s t m) old.parked lacks own.parked;
-        notified_so = own.notified_so;
-      };
-      posts_ok = tt;
-    })
+        lists = record {
+          log_is = ap (λ (ls : List DeskLine). line.Answer v.request reply.Ok ∷ ls) own.lists.log_is;
+          marks_is = ap (λ (ms : List FlushMark). mark ∷ ms) own.lists.marks_is;
+        };
+        sound = record { requests = own.sound.requests; stops_notified = stops_answer old.notices (notified_zones s.sizes) v.request reply.Ok old.log own.sound.stops_notified (λ same. absurd cc) };
+        kept = line_kept known h t clears own.kept;
+        answers = tt;
+        told = own.told;
+      }) tt)
 
 -- those that wait go to the desk itself
 woken_ok : (s : Session) (t : Trace) (vs : List Vio) → AllByRecursion (KeptOk s t phase.Reply) vs → AllByRecursion (PostOk s t) (woken vs)
 woken_ok s t [] all = tt
-woken_ok s t (v ∷ vs) all = (
-  (omega arith, (all.0.0, all.0.1, subst (λ (q : Phase). desk_zone ≡ zone_at s.sizes v.home q) (sym all.0.2) refl)),
-  woken_ok s t vs all.1,
-)
+woken_ok s t (v ∷ vs) all = ((omega arith, (all.0.0, all.0.1, subst (λ (q : Phase). desk_zone ≡ zone_at s.sizes v.home q) (sym all.0.2) refl)), woken_ok s t vs all.1)
 
 -- The desk gets the stop notice of a zone.
-pub desk_hears : (s : Session) (t : Trace) (n : ℕ) (old : Desk) → RightTrace s t → has_stopped t ≡ true → DeskOk s t n old → ActKept s t n (at.Desk (with_notice old)) [] (woken old.parked)
-desk_hears s t n old right stopped own = record {
-  right = right;
-  gives = λ gives. gives;
-  own = record { number_is = own.number_is; requests = own.requests; log_is = own.log_is; marks_is = own.marks_is; stops_notified = λ w stopped. (let enough = own.stops_notified w stopped in omega (arith, enough)); parked = tt; notified_so = λ notified. stopped };
-  posts_ok = woken_ok s t old.parked own.parked;
-}
+pub desk_hears : {s : Session} {t : Trace} {n : ℕ} {old : Desk} → Known s t n (at.Desk old) (item.StopNotice ∷ []) → ActKept s t n (at.Desk old) (item.StopNotice ∷ []) (at.Desk (with_notice old)) [] (woken old.parked)
+desk_hears {s} {t} {n} {old} known =
+    let own = known.own in
+    act_none known (record {
+      number_is = own.number_is;
+      lists = record { log_is = own.lists.log_is; marks_is = own.lists.marks_is };
+      sound = record { requests = own.sound.requests; stops_notified = λ w stopped. (let enough = own.sound.stops_notified w stopped in omega (arith, enough)) };
+      kept = tt;
+      answers = tt;
+      told = λ heard. known.front_ok.0.1;
+    }) (woken_ok s t old.parked own.kept)

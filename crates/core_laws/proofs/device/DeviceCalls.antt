@@ -27,20 +27,28 @@ use Rattle.core_model.specs.Sessions.{Session, IsSession, log, Stands, ReadsAs, 
 use Rattle.core_model.specs.Trace.{Happening, Calls, Trace, entered, committed, entry_of, entries_of}
 use Rattle.core_laws.proofs.trace.DeskOfTrace.{shown_of}
 use Rattle.core_laws.proofs.kept.ActKept.{shown_kept}
+use Rattle.core_laws.proofs.kept.Keys.{Key, OfBlock, OfJournal, Spares, Clears}
+use Rattle.core_model.specs.Zones.{device_zone}
 use Rattle.blk_base.proofs.RegionLaws.{data_block_high}
 use Rattle.core_laws.proofs.device.DataBlocks.{blocks_fit, window_data, data_misses, data_not_first, slot_misses}
-use Rattle.core_laws.proofs.kept.StandsOn.{SparesBlocks, SparesEntries, IsCallOf, spares_all, write_spares, block_spared, journal_spared, call_entries, each_kept, opening_kept}
+use Rattle.core_laws.proofs.kept.StandsOn.{SparesBlocks, SparesEntries, IsCallOf, succeeded, failed, spares_all, write_spares, block_spared, journal_spared, call_entries, each_kept, opening_kept}
 
 -- Calls that write nothing, and writes of data.
 
+-- what a call is about: no request, no address
+pub call_clears : {s : Session} {t : Trace} {n : ℕ} {mine : Key → Type 0} {h : Happening} {c : Call} → IsCallOf h c → n ≡ device_zone s.sizes → ((x : ℕ) → mine (OfBlock x) ⊎ Spares s t h (OfBlock x)) → mine OfJournal ⊎ Spares s t h OfJournal
+    → Clears s n mine h t
+call_clears succeeded here block journal = record { zone = here; request = tt; address = tt; block = block; journal = journal }
+call_clears failed here block journal = record { zone = here; request = tt; address = tt; block = block; journal = journal }
+
 -- a call that writes nothing
+pub quiet_journal : (s : Session) (t : Trace) {h : Happening} (c : Call) → IsCallOf h c → ((x : ℕ) → Misses c x) → Spares s t h OfJournal
+quiet_journal s t {h} c is misses = (call_entries s t is, journal_spared s is (λ slot below. misses (block_of_slot slot)), spares_all h (λ x. block_spared is x (misses x)) (entered t))
+
 pub quiet_call : (s : Session) (t : Trace) {h : Happening} (c : Call) → IsCallOf h c → MayFollow s h t → ((x : ℕ) → Misses c x) → RightTrace s t → RightTrace s (h ∷ t)
-quiet_call s t {h} c is may misses right = (
-  may,
-  shown_kept s h t (call_entries s t is) (journal_spared s is (λ slot below. misses (block_of_slot slot))) (spares_all h (λ x. block_spared is x (misses x)) (entered t)) (block_spared is 0 (misses 0)) (λ a y named. block_spared is y.0 (misses y.0))
-      (shown_of s t right),
-  right,
-)
+quiet_call s t {h} c is may misses right =
+    let same = quiet_journal s t c is misses in
+    (may, shown_kept s h t same.0 same.1 same.2 (block_spared is 0 (misses 0)) (λ a y named. block_spared is y.0 (misses y.0)) (shown_of s t right), right)
 
 -- the data of a write
 pub store_call : (s : Session) (t : Trace) {h : Happening} (x : Pbn) (bytes : List ℕ) (ok : Bool) → IsCallOf h (Write x bytes ok) → MayFollow s h t → IsFresh s x → AllByRecursion (λ (e : Logged). x.0 ≢ e.block.0) (entered t)

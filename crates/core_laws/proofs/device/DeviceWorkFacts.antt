@@ -21,55 +21,28 @@ use Rattle.core_model.specs.declared.zones.DeviceZone.{DeviceZone}
 use Rattle.core_model.specs.declared.zones.Logged.{Logged}
 use Rattle.core_model.specs.DeviceRows.{DeviceWorks, counted, halted, stop_notices, journal_bytes, IsItsSlot, call_of, next_stage, next_zone}
 use Rattle.core_model.specs.DeviceRows as device
-use Rattle.core_model.specs.Facts.{HasAddress, StandsAt, BlockOk, DeviceOk}
+use Rattle.core_model.specs.Facts.{HasAddress, StandsAt, IsSealed, BlockOk}
 use Rattle.core_model.specs.Zones.{zone_number, zone_count}
 use Rattle.core_model.specs.RightTraces.{RightTrace}
 use Rattle.core_model.specs.Sessions.{Session, IsSession, log, Stands, AtRest, OnItsWay, bytes_of}
 use Rattle.core_model.specs.Trace.{Happening, Calls, Fails, Trace, calls, committed, has_stopped, entry_of, entries_of}
 use Rattle.core_model.specs.Vios.{Post, asked, logged, staged}
-use Rattle.core_laws.proofs.kept.ActKept.{ActKept}
-use Rattle.core_laws.proofs.kept.Carried.{vio_kept, entered_kept}
-use Rattle.core_laws.proofs.device.DeviceCalls.{IsSpelled, spelled_block, entries_length, quiet_call, hardens, slot_way, slot_reads, slot_call}
+use Rattle.core_laws.proofs.kept.ActKept.{Known, Mine, weighed, ActKept, act_none, act_one}
+use Rattle.core_laws.proofs.kept.Keys.{Clears}
+use Rattle.core_laws.proofs.device.DataBlocks.{slot_misses}
+use Rattle.blk_base.specs.Regions.{IsDataBlock}
+use Rattle.disk_model.specs.Log.{Misses}
+use Rattle.core_model.specs.declared.items.Item.TheVariants as item
+use Rattle.core_laws.proofs.kept.Carried.{sealed_kept}
+use Rattle.core_laws.proofs.device.DeviceCalls.{call_clears, IsSpelled, spelled_block, entries_length, quiet_call, hardens, slot_way, slot_reads, slot_call}
 use Rattle.core_laws.proofs.device.DeviceFacts.{notices_ok}
-use Rattle.core_laws.proofs.journal.JournalPosts.{act_is}
-use Rattle.core_laws.proofs.kept.Spared.{SparesRequest, SparesAddress, below_kept, committed_at, done_at, honest_before}
-use Rattle.core_laws.proofs.kept.StandsOn.{IsCallOf, succeeded, failed, SparesEntries, spares_all, block_spared, journal_spared, each_kept, rests_kept, way_kept}
+use Rattle.core_laws.proofs.kept.Spared.{honest_before}
+use Rattle.core_laws.proofs.kept.StandsOn.{IsCallOf, succeeded, failed, spares_all, block_spared, journal_spared, each_kept, rests_kept, way_kept}
 
--- a block that has come further, by a call or by none
-over : (s : Session) (t : Trace) (h : Happening) (b : SealedBlock) (next : Stage) → BlockOk s t b → SparesEntries s h t → SparesRequest h b.vio.request → SparesAddress h b.vio.at.0 → StandsAt s (h ∷ t) b.vio next
-    → BlockOk s (h ∷ t) (staged next b)
-over s t h b next ok same of_request of_address stands = record {
-  vio = vio_kept s h t b.vio of_request ok.vio;
-  phase = ok.phase;
-  is_entered = entered_kept s h t b.vio of_request ok.is_entered;
-  last = same.entered_same ∙ ok.last ∙ ap (λ es. logged b.vio ∷ es) (sym same.committed_same);
-  others = committed_at h t b.vio.at.0 of_address ∙ ok.others ∙ sym (done_at h t b.vio.at.0 of_address);
-  below = below_kept h t b.vio.at.0 b.vio.place of_address ok.below;
-  fresh = ok.fresh;
-  old_held = ok.old_held;
-  sequence = rw same.committed_same ok.sequence;
-  few = rw same.committed_same ok.few;
-  stands = stands;
-}
-
-block_over : (s : Session) (t : Trace) {h : Happening} {c : Call} → IsCallOf h c → (b : SealedBlock) (next : Stage) → BlockOk s t b → StandsAt s (h ∷ t) b.vio next → BlockOk s (h ∷ t) (staged next b)
-block_over s t succeeded b next ok stands = over s t _ b next ok (record { entered_same = refl; committed_same = refl }) tt tt stands
-block_over s t failed b next ok stands = over s t _ b next ok (record { entered_same = refl; committed_same = refl }) tt tt stands
-
-block_staged : (s : Session) (t : Trace) (b : SealedBlock) (next : Stage) → BlockOk s t b → StandsAt s t b.vio next → BlockOk s t (staged next b)
-block_staged s t b next ok stands = record {
-  vio = ok.vio;
-  phase = ok.phase;
-  is_entered = ok.is_entered;
-  last = ok.last;
-  others = ok.others;
-  below = ok.below;
-  fresh = ok.fresh;
-  old_held = ok.old_held;
-  sequence = ok.sequence;
-  few = ok.few;
-  stands = stands;
-}
+-- a block that has come further by a call
+block_over : (s : Session) (t : Trace) {h : Happening} {c : Call} → IsCallOf h c → (b : SealedBlock) (next : Stage) → IsSealed s t b.vio b.sequence → StandsAt s (h ∷ t) b.vio next → BlockOk s (h ∷ t) (staged next b)
+block_over s t {h} succeeded b next ok stands = (sealed_kept s h t b.vio b.sequence tt tt (record { entered_same = refl; committed_same = refl }) ok, stands)
+block_over s t {h} failed b next ok stands = (sealed_kept s h t b.vio b.sequence tt tt (record { entered_same = refl; committed_same = refl }) ok, stands)
 
 -- a flush keeps what stands, whether it fails or not
 flush_rest : (s : Session) (t : Trace) {h : Happening} {ok : Bool} (es : List Logged) → IsCallOf h (call.Flush ok) → AtRest s t es → AtRest s (h ∷ t) es
@@ -78,10 +51,10 @@ flush_rest s t {h} es is k = rests_kept s h t es (journal_spared s is (λ slot b
 flush_way : (s : Session) (t : Trace) {h : Happening} {ok : Bool} (es : List Logged) (e : Logged) → IsCallOf h (call.Flush ok) → OnItsWay s t es e → OnItsWay s (h ∷ t) es e
 flush_way s t {h} es e is k = way_kept s h t es e (journal_spared s is (λ slot below. tt)) (spares_all h (λ x. block_spared is x tt) (e ∷ es)) k
 
-below_logical : (s : Session) (v : Vio) (q : Asks) → q ≡ Write → HasAddress s.sizes v q → v.at.0 < s.sizes.geometry.logical
-below_logical s v q is k = let here : HasAddress s.sizes v Write = rw is at k in here
+below_logical : (s : Session) (v : Vio) (q : Asks) → q ≡ Write → HasAddress s.sizes v.at q → v.at.0 < s.sizes.geometry.logical
+below_logical s v q is k = let here : HasAddress s.sizes v.at Write = rw is at k in here
 
-module _ (s : Session) (t : Trace) (b : SealedBlock) (session : IsSession s) (ok : BlockOk s t b) where
+module _ (s : Session) (t : Trace) (b : SealedBlock) (session : IsSession s) (ok : IsSealed s t b.vio b.sequence) where
   abbrev count : ℕ
   count = length (entries_of s.window (committed t))
 
@@ -208,40 +181,46 @@ call_fails sizes t b stage.Harden c slot false is = rw (sym (same_Some _ _ is)) 
 call_fails sizes t b stage.Commit c slot kept is = absurd cc
 call_fails sizes t b stage.Fail c slot kept is = absurd cc
 
-module _ (s : Session) (t : Trace) (n : ℕ) (old : DeviceZone) (b : SealedBlock) (session : IsSession s)
-    (right : RightTrace s t) (k : DeviceOk s t n old) (ok : BlockOk s t b) where
-  works_kept : (new : DeviceZone) (made : Trace) (posts : List Post) → DeviceWorks s.sizes old b new made posts → ActKept s t n (at.Device new) made posts
-  works_kept new made posts (device.makes c slot place is runs e m p) =
-      let now = makes_by s t b session ok (sym k.stopped_is ∙ runs) b.stage c slot place is right ok.stands in
-      let zone = zone_is s b b.stage c slot is in
-      act_is s t n (at.Device new) (at.Device (counted old)) made (Calls c ∷ []) posts _ (ap at.Device e) m p
-      (record {
-        right = now.right;
-        gives = λ g honest. g (honest_before s (Calls c) t honest);
-        own = record { number_is = k.number_is; calls_is = ap (λ m. m + 1) k.calls_is ∙ sym (call_counts s.sizes b b.stage c slot (calls t) is); stopped_is = k.stopped_is };
-        posts_ok = ((zone, (block_over s t succeeded b (next_stage b.stage) ok now.stands, refl)), tt);
-      })
-  works_kept new made posts (device.fails c slot kept place is runs e m p) =
-      let h = Fails b.vio.request c kept in
-      let now = fails_by s t b session ok (sym k.stopped_is ∙ runs) b.stage c slot kept place is right ok.stands in
-      let stops = call_fails s.sizes t b b.stage c slot kept is in
-      act_is s t n (at.Device new) (at.Device (halted old)) made (h ∷ []) posts _ (ap at.Device e) m p
-      (record {
-        right = now.right;
-        gives = λ g honest. g honest;
-        own = record { number_is = k.number_is; calls_is = k.calls_is ∙ sym stops.0; stopped_is = sym stops.1 };
-        posts_ok = ((omega arith, (block_over s t failed b stage.Fail ok now.stands, refl)), notices_ok s (h ∷ t) stops.1);
-      })
-  works_kept new made posts (device.unmade c slot is halts e m p) =
-      act_is s t n (at.Device new) (at.Device old) made [] posts _ (ap at.Device e) m p
-      (record {
-        right = right;
-        gives = λ g honest. g honest;
-        own = k;
-        posts_ok = ((omega arith, (block_staged s t b stage.Fail ok (unmade_by s t b b.stage c slot (sym k.stopped_is ∙ halts) is ok.stands), refl)), tt);
-      })
+-- its call writes no data block
+misses_data : (s : Session) (b : SealedBlock) (q : Stage) (slot : Pbn) (success : Bool) (c : Call) → 0 < s.sizes.geometry.journal → IsItsSlot s.sizes b slot → call_of s.sizes b slot success q ≡ Some c → (x : ℕ) → IsDataBlock s.sizes.geometry x → Misses c x
+misses_data s b stage.Write slot success c some place is x inside = rw (sym (same_Some _ _ is)) (slot_misses s.sizes.geometry b.sequence slot.0 x some place inside)
+misses_data s b stage.Cover slot success c some place is x inside = rw (sym (same_Some _ _ is)) tt
+misses_data s b stage.Harden slot success c some place is x inside = rw (sym (same_Some _ _ is)) tt
+misses_data s b other slot success c some place is x inside = absurd cc
 
 -- The device zone makes the next call of a sealed block.
-pub device_works : (s : Session) (t : Trace) (n : ℕ) (old new : DeviceZone) (b : SealedBlock) (made : Trace) (posts : List Post) → IsSession s → RightTrace s t → DeviceOk s t n old → BlockOk s t b
-    → DeviceWorks s.sizes old b new made posts → ActKept s t n (at.Device new) made posts
-device_works s t n old new b made posts session right k ok act = works_kept s t n old b session right k ok new made posts act
+module _ {s : Session} {t : Trace} {n : ℕ} {old : DeviceZone} {b : SealedBlock} (known : Known s t n (at.Device old) (item.Block b ∷ [])) where
+  sealed : IsSealed s t b.vio b.sequence
+  sealed = known.front_ok.0.0.0
+
+  stands : StandsAt s t b.vio b.stage
+  stands = known.front_ok.0.0.1
+
+  clears : {h : Happening} (slot : Pbn) (success : Bool) (c : Call) → IsCallOf h c → IsItsSlot s.sizes b slot → call_of s.sizes b slot success b.stage ≡ Some c → Clears s n (Mine s t (at.Device old) (item.Block b ∷ [])) h t
+  clears slot success c is place of_stage = call_clears is known.own.number_is
+      (λ x. inr (λ inside. block_spared is x (misses_data s b b.stage slot success c (let few = sealed.few in omega (arith, few)) place of_stage x inside))) (inl (weighed (omega arith)))
+
+  pub device_works : (new : DeviceZone) (made : Trace) (posts : List Post) → DeviceWorks s.sizes old b new made posts → ActKept s t n (at.Device old) (item.Block b ∷ []) (at.Device new) made posts
+  device_works new made posts (device.makes c slot place is runs e m p) =
+      let k = known.own in
+      let now = makes_by s t b known.session sealed (sym k.lists.stopped_is ∙ runs) b.stage c slot place is known.right stands in
+      rw (e, m, p) (act_one known (Calls c) (clears slot true c succeeded place is) (λ g honest. g (honest_before s (Calls c) t honest)) now.right
+      (record {
+        number_is = k.number_is;
+        lists = record { calls_is = ap (λ m. m + 1) k.lists.calls_is ∙ sym (call_counts s.sizes b b.stage c slot (calls t) is); stopped_is = k.lists.stopped_is };
+        sound = tt;
+        kept = tt;
+        answers = tt;
+        told = tt;
+      })
+      ((zone_is s b b.stage c slot is, (block_over s t succeeded b (next_stage b.stage) sealed now.stands, refl)), tt))
+  device_works new made posts (device.fails c slot kept place is runs e m p) =
+      let k = known.own in
+      let h = Fails b.vio.request c kept in
+      let now = fails_by s t b known.session sealed (sym k.lists.stopped_is ∙ runs) b.stage c slot kept place is known.right stands in
+      let stops = call_fails s.sizes t b b.stage c slot kept is in
+      rw (e, m, p) (act_one known h (clears slot false c failed place is) (λ g honest. g honest) now.right
+      (record { number_is = k.number_is; lists = record { calls_is = k.lists.calls_is ∙ sym stops.0; stopped_is = sym stops.1 }; sound = tt; kept = tt; answers = tt; told = tt })
+      ((omega arith, (block_over s t {h = h} failed b stage.Fail sealed now.stands, refl)), notices_ok s (h ∷ t) stops.1))
+  device_works new made posts (device.unmade c slot is halts e m p) =
+      rw (e, m, p) (act_none known known.own ((omega arith, ((sealed, unmade_by s t b b.stage c slot (sym known.own.lists.stopped_is ∙ halts) is stands), refl)), tt))

@@ -1,58 +1,24 @@
 -- What the journal posts: aborted requests, each with an answer that it may have.
-use Rattle.std.proofs.Common.{◌≡◌, ℕ, ◌<◌, true, Some, IsNone, IsSome, List, [], ◌∷◌, refl, ap, subst, arith}
+use Rattle.std.proofs.Common.{◌≡◌, ℕ, ◌<◌, true, Some, IsNone, IsSome, List, [], ◌∷◌, refl, ap, arith}
 use Rattle.std.specs.List.{AllByRecursion}
 use Rattle.std.proofs.Math.Nat.{mod-lt}
-use Rattle.blk_base.specs.declared.request.Answer.{Answer}
 use Rattle.blk_base.specs.declared.request.Answer.TheVariants as reply
 use Rattle.blk_base.specs.declared.place.Lba.{Lba}
 use Rattle.blk_base.specs.declared.request.Writer.{Writer}
 use Rattle.vdo_model.specs.Places.{place_of, zone_of}
 use Rattle.core_model.specs.declared.items.Asks.{Asks}
 use Rattle.core_model.specs.declared.items.Asks.TheVariants.{Write}
-use Rattle.core_model.specs.declared.items.Phase.{Phase}
 use Rattle.core_model.specs.declared.items.Phase.TheVariants as phase
 use Rattle.core_model.specs.declared.items.Vio.{Vio}
-use Rattle.core_model.specs.declared.zones.ZoneData.{ZoneData}
-use Rattle.core_model.specs.Facts.{VioOk, Holds, IsPlaced, IsEntered, MayReply, Carries, KeptOk}
+use Rattle.core_model.specs.Facts.{VioOk, Holds, IsPlaced, MayReply, KeptOk}
 use Rattle.core_model.specs.JournalRows.{refused, all_refused}
 use Rattle.core_model.specs.Zones.{zone_number, zone_count}
 use Rattle.core_model.specs.RightTraces.{RightTrace, HasPlace, HasCause, IsFull}
 use Rattle.core_model.specs.Sessions.{Session, IsSession}
 use Rattle.core_model.specs.Trace.{Trace, places, entered, done, has_stopped, logged_of}
-use Rattle.core_model.specs.Vios.{Post, asked, turned, ended}
-use Rattle.core_laws.proofs.kept.ActKept.{PostOk, ActKept, unentered_slot}
+use Rattle.core_model.specs.Vios.{asked}
+use Rattle.core_laws.proofs.kept.ActKept.{PostOk, carries_at, unentered_slot}
 use Rattle.plain_laws.proofs.OptionLaws.{some_is}
-
--- An act is as its equations say.
-pub act_is : (s : Session) (t : Trace) (n : ℕ) (new new' : ZoneData) (made made' : Trace) (posts posts' : List Post) → new ≡ new' → made ≡ made' → posts ≡ posts'
-    → ActKept s t n new' made' posts' → ActKept s t n new made posts
-act_is s t n new new' made made' posts posts' p q r k = rw (p, q, r) k
-
--- a request that goes on, and one that is to be answered, is the same one
-pub turned_ok : (s : Session) (t : Trace) (v : Vio) (next : Phase) → VioOk s t v → VioOk s t (turned next v)
-turned_ok s t v next ok = record { asked = ok.asked; is_open = ok.is_open; address = ok.address; home = ok.home }
-
-pub ended_ok : (s : Session) (t : Trace) (v : Vio) (next : Phase) (a : Answer) → VioOk s t v → VioOk s t (ended next a v)
-ended_ok s t v next a ok = record { asked = ok.asked; is_open = ok.is_open; address = ok.address; home = ok.home }
-
-pub ended_holds : (s : Session) (t : Trace) (v : Vio) (next : Phase) (a : Answer) → Holds s t v → Holds s t (ended next a v)
-ended_holds s t v next a k = record {
-  is_placed = record { block_request = k.is_placed.block_request; placed = k.is_placed.placed; not_entered = k.is_placed.not_entered };
-  quiet = k.quiet;
-  below = k.below;
-  old_held = k.old_held;
-  old_is = k.old_is;
-}
-
-pub ended_entered : (s : Session) (t : Trace) (v : Vio) (next : Phase) (a : Answer) → IsEntered s t v → IsEntered s t (ended next a v)
-ended_entered s t v next a k = record { is_write = k.is_write; placed = k.placed; entry = k.entry; unset = k.unset; unaborted = k.unaborted }
-
-pub turned_entered : (s : Session) (t : Trace) (v : Vio) (next : Phase) → IsEntered s t v → IsEntered s t (turned next v)
-turned_entered s t v next k = record { is_write = k.is_write; placed = k.placed; entry = k.entry; unset = k.unset; unaborted = k.unaborted }
-
--- what its phase says that it carries
-pub carries_at : (s : Session) (t : Trace) (v : Vio) (q : Phase) → v.phase ≡ q → Carries s t v v.phase → Carries s t v q
-carries_at s t v q is k = subst (λ (p : Phase). Carries s t v p) is k
 
 -- once the session is stopped, a write whose slot isn't set may be answered so; where no block is left for it, one that has
 -- its place and isn't handed in is answered `Full`
@@ -64,12 +30,11 @@ cause_full : (s : Session) (t : Trace) (w : Writer) (q : Asks) (at : Lba) (bytes
     → HasCause s t w (asked q at bytes) reply.Full
 cause_full s t w q at bytes is none some full = rw is (some, none, full)
 
-pub may_stop : (s : Session) (t : Trace) (v : Vio) (next : Phase) → v.asks ≡ Write → has_stopped t ≡ true → HasPlace s t v.request v.at.0 v.place → IsNone (logged_of (done t) v.request)
-    → MayReply s t (ended next reply.Stopped v) (Some reply.Stopped)
-may_stop s t v next is stopped placed none = cause_stopped s t v.request v.asks v.at v.bytes is stopped (some_is _ _ placed) none
+pub may_stop : (s : Session) (t : Trace) (v : Vio) → v.asks ≡ Write → has_stopped t ≡ true → HasPlace s t v.request v.at.0 v.place → IsNone (logged_of (done t) v.request) → MayReply s t v (Some reply.Stopped)
+may_stop s t v is stopped placed none = cause_stopped s t v.request v.asks v.at v.bytes is stopped (some_is _ _ placed) none
 
-pub may_fill : (s : Session) (t : Trace) (v : Vio) (next : Phase) → v.asks ≡ Write → IsPlaced s t v → IsFull s t → MayReply s t (ended next reply.Full v) (Some reply.Full)
-may_fill s t v next is k full = cause_full s t v.request v.asks v.at v.bytes is k.not_entered (some_is _ _ k.placed) full
+pub may_fill : (s : Session) (t : Trace) (v : Vio) → v.asks ≡ Write → IsPlaced s t v → IsFull s t → MayReply s t v (Some reply.Full)
+may_fill s t v is k full = cause_full s t v.request v.asks v.at v.bytes is k.not_entered (some_is _ _ k.placed) full
 
 -- the home of a request is a zone
 pub home_within : (s : Session) (t : Trace) (v : Vio) → IsSession s → VioOk s t v → zone_number s.sizes v.home < zone_count s.sizes
@@ -81,24 +46,10 @@ home_within s t v session ok =
 module _ (s : Session) (t : Trace) where
   -- a write that holds its lock is aborted
   pub stopped_post : (v : Vio) → RightTrace s t → has_stopped t ≡ true → VioOk s t v → Holds s t v → v.asks ≡ Write → PostOk s t (refused s.sizes reply.Stopped v)
-  stopped_post v right stopped ok k is = (
-    omega arith,
-    (
-      ended_ok s t v phase.AbortClaim reply.Stopped ok,
-      (ended_holds s t v phase.AbortClaim reply.Stopped k, may_stop s t v phase.AbortClaim is stopped k.is_placed.placed (unentered_slot s t v.request right k.is_placed.not_entered)),
-      refl,
-    ),
-  )
+  stopped_post v right stopped ok k is = (omega arith, (ok, (k, may_stop s t v is stopped k.is_placed.placed (unentered_slot s t v.request right k.is_placed.not_entered)), refl))
 
   pub full_post : (v : Vio) → IsFull s t → VioOk s t v → Holds s t v → v.asks ≡ Write → PostOk s t (refused s.sizes reply.Full v)
-  full_post v full ok k is = (
-    omega arith,
-    (
-      ended_ok s t v phase.AbortClaim reply.Full ok,
-      (ended_holds s t v phase.AbortClaim reply.Full k, may_fill s t v phase.AbortClaim is k.is_placed full),
-      refl,
-    ),
-  )
+  full_post v full ok k is = (omega arith, (ok, (k, may_fill s t v is k.is_placed full), refl))
 
   -- all that wait do
   pub stopped_posts : (vs : List Vio) → RightTrace s t → has_stopped t ≡ true → AllByRecursion (KeptOk s t phase.Enter) vs → AllByRecursion (PostOk s t) (all_refused s.sizes reply.Stopped vs)

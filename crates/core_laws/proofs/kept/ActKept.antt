@@ -1,5 +1,5 @@
--- What each act owes: the trace stays right, the zone keeps what it must, and each post carries what it must.
-use Rattle.std.proofs.Common.{◌≡◌, ◌⊎◌, ℕ, ◌<◌, ◌≤◌, Some, IsNone, List, [], ◌∷◌, ◌++◌, sym, ◌∙◌, subst, inl, inr, arith}
+-- What each act may use and what it owes.
+use Rattle.std.proofs.Common.{◌≡◌, ◌≢◌, ◌⊎◌, ℕ, ◌+◌, ◌<◌, ◌≤◌, true, Some, IsNone, List, [], ◌∷◌, ◌++◌, refl, sym, ◌∙◌, subst, inl, inr, arith}
 use Rattle.std.proofs.lemmas.Option.{same_Some}
 use Rattle.std.specs.List.{AllByRecursion}
 use Rattle.blk_base.specs.declared.place.Mapping.TheVariants.{At}
@@ -9,28 +9,101 @@ use Rattle.image_layout.specs.Window.{mapping_of}
 use Rattle.vdo_model.specs.DeskLog.{begun}
 use Rattle.vdo_model.specs.Places.{place_of}
 use Rattle.vdo_model.specs.declared.report.Placed.{Placed}
+use Rattle.core_model.specs.declared.items.Item.{Item}
+use Rattle.core_model.specs.declared.items.Item.TheVariants as item
+use Rattle.core_model.specs.declared.items.Phase.{Phase}
+use Rattle.core_model.specs.declared.items.Phase.TheVariants as phase
+use Rattle.core_model.specs.declared.items.Vio.{Vio}
+use Rattle.core_model.specs.declared.zones.DeviceZone.{DeviceZone}
+use Rattle.core_model.specs.declared.zones.LogicalZone.{LogicalZone}
+use Rattle.core_model.specs.declared.zones.Logged.{Logged}
 use Rattle.core_model.specs.declared.zones.ZoneData.{ZoneData}
-use Rattle.core_model.specs.Facts.{ItemOk, DataOk}
+use Rattle.core_model.specs.declared.zones.ZoneData.TheVariants as at
+use Rattle.core_model.specs.Facts.{VioOk, ItemOk, KeptOk, DataOk, Carries, kept_by, kept_phase}
+use Rattle.core_model.specs.Legal.{ComesAfter}
 use Rattle.core_model.specs.Zones.{zone_number, zone_count}
-use Rattle.core_model.specs.RightTraces.{MayFollow, RightTrace, GivesRight, IsWrite}
-use Rattle.core_model.specs.Sessions.{Session, HasHonestReads, Shown, HasPending, AtRest}
-use Rattle.core_model.specs.Trace.{Happening, Trace, lines, places, entered, committed, done, logged_of}
+use Rattle.core_model.specs.RightTraces.{RightTrace, GivesRight, IsWrite}
+use Rattle.core_model.specs.Sessions.{Session, IsSession, HasHonestReads, Shown, HasPending, AtRest}
+use Rattle.core_model.specs.Tokens.{holds, claims}
+use Rattle.core_model.specs.Trace.{Happening, Enters, Commits, Calls, Fails, Trace, lines, places, entered, committed, done, logged_of}
 use Rattle.core_model.specs.Vios.{Post}
 use Rattle.core_laws.proofs.trace.DeskOfTrace.{logged_has, entered_writes, done_is_entered}
 use Rattle.plain_laws.proofs.OptionLaws.{none_is, option_cases, not_both}
 use Rattle.vdo_model.proofs.NameLaws.{same_tells}
 use Rattle.core_laws.proofs.trace.PlacesOfTrace.{IsBegun, places_begun}
-use Rattle.core_laws.proofs.kept.StandsOn.{SparesBlock, SparesBlocks, SparesJournal, SparesEntries, rests_kept, opening_kept, pending_kept}
+use Rattle.core_laws.proofs.kept.Frame.{kept_on}
+use Rattle.core_laws.proofs.kept.Keys.{Key, OfRequest, OfAddress, OfJournal, token_of, Spares, happens_in, IfAny, Clears, clears_with, mine_or_spared, own_name, holder_one}
+use Rattle.core_laws.proofs.kept.Spared.{about}
+use Rattle.core_laws.proofs.tokens.Known.{LeasedIn}
+use Rattle.plain_laws.specs.Sums.{total}
+use Rattle.core_laws.proofs.kept.StandsOn.{spares_all, SparesBlock, SparesBlocks, SparesJournal, SparesEntries, rests_kept, opening_kept, pending_kept}
+
+-- In the hands of an act is what the front of the inbox weighs for, and what the zone's own data does. A request that isn't
+-- begun is in nobody's.
+pub data Mine (s : Session) (t : Trace) (d : ZoneData) (front : List Item) : Key → Type 0 where
+  weighed : {k : Key} → 1 ≤ total (token_of s.sizes k).item front + (token_of s.sizes k).own d → Mine s t d front k
+  unborn : {w : Writer} → begun w.stream (lines t) ≤ w.number → Mine s t d front (OfRequest w)
+
+-- what the requests that a zone keeps weigh
+abbrev pub line_of : Session → Key → List Vio → ℕ
+line_of s k vs = total (λ v. (token_of s.sizes k).item (item.Request v)) vs
+
+-- Besides, what those that the zone keeps weigh for.
+pub data Reached (s : Session) (t : Trace) (d : ZoneData) (front : List Item) : Key → Type 0 where
+  in_hand : {k : Key} → Mine s t d front k → Reached s t d front k
+  in_line : {k : Key} → 1 ≤ line_of s k (kept_by d) → Reached s t d front k
+
+-- What an act may use: the zone is as it must be, and so is the item in front; of each key one is held at most.
+pub record Known (s : Session) (t : Trace) (n : ℕ) (d : ZoneData) (front : List Item) : Type 0 where
+  pub session : IsSession s
+  pub right : RightTrace s t
+  pub own : DataOk s t n d
+  pub front_ok : AllByRecursion (ItemOk s t n) front
+  pub most : (k : Key) → total (token_of s.sizes k).item front + (line_of s k (kept_by d) + (token_of s.sizes k).own d) ≤ 1
+  pub none_unborn : (w : Writer) → begun w.stream (lines t) ≤ w.number → line_of s (OfRequest w) (kept_by d) ≡ 0
+  -- the holder of a lock in front of its home has the lock's place; an arrival comes in turn
+  pub leased : LeasedIn d front
+  pub in_turn : (l : LogicalZone) (v : Vio) → d ≡ at.Logical l → front ≡ item.Request v ∷ [] → v.phase ≡ phase.Arrive → AllByRecursion (ComesAfter l.zone v.request) (places t)
+  -- no entry names a block that a write at the device has taken
+  pub unnamed : (z : DeviceZone) (v : Vio) → d ≡ at.Device z → front ≡ item.Request v ∷ [] → claims v.phase ≡ true → AllByRecursion (λ (e : Logged). v.block.0 ≢ e.block.0) (entered t)
+
+-- what happens is about what it has in its hands
+abbrev pub Owns : Session → Trace → ℕ → ZoneData → List Item → Trace → Type 0
+Owns s t n d front [] = Unit {0}
+Owns s t n d front (h ∷ made) = Clears s n (Reached s t d front) h (made ++ t) × Owns s t n d front made
 
 -- a post to one of the zones, with what it must carry
 abbrev pub PostOk : Session → Trace → Post → Type 0
 PostOk s t post = (zone_number s.sizes post.0 < zone_count s.sizes) × ItemOk s t (zone_number s.sizes post.0) post.1
 
-pub record ActKept (s : Session) (t : Trace) (n : ℕ) (new : ZoneData) (made : Trace) (posts : List Post) : Type 0 where
+-- What an act owes: the trace stays right, what happens is its own, the zone is as it must be, and each post carries what
+-- it must.
+pub record ActKept (s : Session) (t : Trace) (n : ℕ) (d : ZoneData) (front : List Item) (new : ZoneData) (made : Trace) (posts : List Post) : Type 0 where
   pub right : RightTrace s (made ++ t)
   pub gives : (HasHonestReads s t → GivesRight s t) → HasHonestReads s (made ++ t) → GivesRight s (made ++ t)
+  pub owns : Owns s t n d front made
   pub own : DataOk s (made ++ t) n new
   pub posts_ok : AllByRecursion (PostOk s (made ++ t)) posts
+
+-- an act is as its equations say
+pub act_is : {s : Session} {t : Trace} {n : ℕ} {d new new' : ZoneData} {front : List Item} {made made' : Trace} {posts posts' : List Post} → new ≡ new' → made ≡ made' → posts ≡ posts'
+    → ActKept s t n d front new' made' posts' → ActKept s t n d front new made posts
+act_is p q r k = rw (p, q, r) k
+
+-- a happening that is neither a call nor about the journal spares the journal
+abbrev pub IsPlain : Happening → Type 0
+IsPlain (Enters e) = ⊥
+IsPlain (Commits e) = ⊥
+IsPlain (Calls c) = ⊥
+IsPlain (Fails w c kept) = ⊥
+IsPlain other = Unit {0}
+
+pub plain_journal : (s : Session) (t : Trace) (h : Happening) → IsPlain h → Spares s t h OfJournal
+plain_journal s t (Enters e) is = absurd is
+plain_journal s t (Commits e) is = absurd is
+plain_journal s t (Calls c) is = absurd is
+plain_journal s t (Fails w c kept) is = absurd is
+plain_journal s t other is = (record { entered_same = refl; committed_same = refl }, tt, spares_all other (λ x. tt) (entered t))
 
 -- It stands after a happening that neither writes a block of it nor adds to the journal's entries.
 pub shown_kept : (s : Session) (h : Happening) (t : Trace) → SparesEntries s h t → SparesJournal s h → SparesBlocks h (entered t)
@@ -43,9 +116,60 @@ shown_kept s h t same journal blocks first mapped k = record { kept = opening_ke
         inl (same.entered_same ∙ rest.0 ∙ sym same.committed_same, rw same.committed_same (rests_kept s h t (committed t) journal there rest.1))
     entries (inr pending) = inr (pending_kept s h t same journal blocks pending)
 
--- one more happening
-pub right_more : (s : Session) (h : Happening) (t : Trace) → MayFollow s h t → Shown s (h ∷ t) → RightTrace s t → RightTrace s (h ∷ t)
-right_more s h t may shown right = (may, shown, right)
+pub shown_plain : (s : Session) (t : Trace) (h : Happening) → IsPlain h → Shown s t → Shown s (h ∷ t)
+shown_plain s t (Enters e) is k = absurd is
+shown_plain s t (Commits e) is k = absurd is
+shown_plain s t (Calls c) is k = absurd is
+shown_plain s t (Fails w c kept) is k = absurd is
+shown_plain s t other is k = let same = plain_journal s t other tt in shown_kept s other t same.0 same.1 same.2 tt (λ a y there. tt) k
+
+-- a request whose line of the desk log is none of these is the same one
+pub vio_over : (s : Session) (h : Happening) (t : Trace) (v : Vio) → lines (h ∷ t) ≡ lines t → VioOk s t v → VioOk s (h ∷ t) v
+vio_over s h t v same ok = record { asked = ok.asked; is_open = record { is_begun = rw same ok.is_open.is_begun; unanswered = rw same ok.is_open.unanswered }; address = ok.address; home = ok.home }
+
+-- What its phase says that it carries.
+pub carries_at : (s : Session) (t : Trace) (v : Vio) (q : Phase) → v.phase ≡ q → Carries s t v v.phase → Carries s t v q
+carries_at s t v q is k = subst (λ (p : Phase). Carries s t v p) is k
+
+module _ {s : Session} {t : Trace} {n : ℕ} {d : ZoneData} {front : List Item} (known : Known s t n d front) where
+  -- what is in its hands, nothing that it keeps weighs for
+  pub alone : (k : Key) → Mine s t d front k → line_of s k (kept_by d) ≡ 0
+  alone k (weighed some) = let most = known.most k in omega (arith, some, most)
+  alone k (unborn {w = w} late) = known.none_unborn w late
+
+  -- over a happening that is its own, those that it keeps have what they had
+  pub line_kept : (h : Happening) (u : Trace) → Clears s n (Mine s t d front) h u → AllByRecursion (KeptOk s u (kept_phase d)) (kept_by d) → AllByRecursion (KeptOk s (h ∷ u) (kept_phase d)) (kept_by d)
+  line_kept h u clears has = kept_on s h u (kept_phase d) (kept_by d) (λ k. elim (mine_or_spared clears k) [ inl own ↦ inl (alone k own) | inr spared ↦ inr spared ]) has
+
+  pub reaches : {h : Happening} {u : Trace} → Clears s n (Mine s t d front) h u → Clears s n (Reached s t d front) h u
+  reaches clears = clears_with (λ k. in_hand) clears
+
+  -- an act over which nothing happens
+  pub act_none : {new : ZoneData} {posts : List Post} → DataOk s t n new → AllByRecursion (PostOk s t) posts → ActKept s t n d front new [] posts
+  act_none own posts = record { right = known.right; gives = λ gives honest. gives honest; owns = tt; own = own; posts_ok = posts }
+
+  -- and one over which one thing happens, that is its own
+  pub act_one : (h : Happening) {new : ZoneData} {posts : List Post} → Clears s n (Mine s t d front) h t → ((HasHonestReads s t → GivesRight s t) → HasHonestReads s (h ∷ t) → GivesRight s (h ∷ t)) → RightTrace s (h ∷ t)
+      → DataOk s (h ∷ t) n new → AllByRecursion (PostOk s (h ∷ t)) posts → ActKept s t n d front new (h ∷ []) posts
+  act_one h clears gives right own posts = record { right = right; gives = gives; owns = (reaches clears, tt); own = own; posts_ok = posts }
+
+  -- a plain happening is its own where the request and the address that it is about are
+  pub plain_clears : (h : Happening) (u : Trace) → IsPlain h → n ≡ happens_in s.sizes h → IfAny (λ w. Mine s t d front (OfRequest w)) (about h).request → IfAny (λ a. Mine s t d front (OfAddress a)) (about h).address
+      → Clears s n (Mine s t d front) h u
+  plain_clears h u plain here request address = record { zone = here; request = request; address = address; block = λ x. inr (λ inside. no_block h plain x); journal = inr (plain_journal s u h plain) }
+    where
+      no_block : (g : Happening) → IsPlain g → (x : ℕ) → SparesBlock g x
+      no_block (Calls c) is x = absurd is
+      no_block (Fails w c logged) is x = absurd is
+      no_block other is x = tt
+
+-- the request in front is its own
+module _ {s : Session} {t : Trace} {n : ℕ} {d : ZoneData} {v : Vio} (known : Known s t n d (item.Request v ∷ [])) where
+  pub own_request : Mine s t d (item.Request v ∷ []) (OfRequest v.request)
+  own_request = weighed (omega (arith, own_name v))
+
+  pub own_address : (q : Phase) → v.phase ≡ q → holds q ≡ true → Mine s t d (item.Request v ∷ []) (OfAddress v.at.0)
+  own_address q is holds_it = weighed (omega (arith, holder_one v (rw is holds_it)))
 
 -- what holds of all places holds of a request's
 pub place_has : (P : Placed → Type 0) (ps : List Placed) (w : Writer) (p : Placed) → place_of ps w ≡ Some p → AllByRecursion P ps → P p × (p.request ≡ w)
@@ -81,7 +205,7 @@ module _ (s : Session) (t : Trace) (w : Writer) (right : RightTrace s t) (late :
     | inr some ↦ let has = done_is_entered s t w some.0 right some.1 in absurd (not_both (logged_of (entered t) w) some.0 unborn_entry has)
   ]
 
--- one whose entry wasn't handed in isn't done
+-- one whose entry wasn't handed in isn't settled
 pub unentered_slot : (s : Session) (t : Trace) (w : Writer) → RightTrace s t → IsNone (logged_of (entered t) w) → IsNone (logged_of (done t) w)
 unentered_slot s t w right none_entered = elim (option_cases (logged_of (done t) w)) [
   | inl none ↦ none_is (logged_of (done t) w) none

@@ -35,7 +35,7 @@ use Rattle.core_model.specs.declared.zones.LogicalZone.{LogicalZone}
 use Rattle.core_model.specs.declared.zones.PhysicalZone.{PhysicalZone}
 use Rattle.core_model.specs.Arrivals.{arrivals_at, drew_in, only_of, sent_to_zone, zone_asked}
 use Rattle.core_model.specs.DeskRows as desk
-use Rattle.core_model.specs.DeskRows.{DeskBegins, DeskServes, first_zone, is_marked, vio_of, woken}
+use Rattle.core_model.specs.DeskRows.{DeskBegins, DeskServes, first_zone, is_marked, vio_of, woken, mark_of_vio}
 use Rattle.core_model.specs.DeviceRows as device
 use Rattle.core_model.specs.DeviceRows.{DeviceServes, DeviceWorks, stop_notices}
 use Rattle.core_model.specs.Facts.{Carries, DataOk, HasAddress, IsEarned, ItemOk, MayReply, VioOk, arriving, arrival}
@@ -179,7 +179,6 @@ module _ (s : Session) (t : Trace) where
   work_course old b new made posts (device.fails call slot kept i c up n m q) = still refl (rw q (refl, notices_still (notified s.sizes))) (rw m refl) (λ zone. rw m refl)
   work_course old b new made posts (device.unmade call slot c s n m q) = still refl (rw q (refl, tt)) (rw m refl) (λ zone. rw m refl)
 
-
 -- a request that goes to its home is posted to one logical zone
 at_home : (sizes : Sizes) (zone z : ℕ) (w : Writer) (x : Item) → arrival x ≡ w ∷ [] → only_of zone (Some z) w ≡ counted arrival (items_to sizes (logical_zone zone) ((id.Logical z, x) ∷ []))
 at_home sizes zone z w x is = elim (eqb_tells z zone) [
@@ -211,7 +210,7 @@ answer_placed : (s : Session) (t : Trace) (v : Vio) (a : Answer) → RightTrace 
     → IsSome (place_of (places t) v.request) ⊎ (zone_asked s.sizes.zones (request_at s.script v.request) ≡ None)
 answer_placed s t v a right ok cause = by v.asks ok.asked ok.address cause
   where
-    by : (asks : Asks) → request_at s.script v.request ≡ Some (asked asks v.at v.bytes) → HasAddress s.sizes v asks → HasCause s t v.request (asked asks v.at v.bytes) a
+    by : (asks : Asks) → request_at s.script v.request ≡ Some (asked asks v.at v.bytes) → HasAddress s.sizes v.at asks → HasCause s t v.request (asked asks v.at v.bytes) a
         → IsSome (place_of (places t) v.request) ⊎ (zone_asked s.sizes.zones (request_at s.script v.request) ≡ None)
     by Read is below cause = inl (cause_placed s t v.request (request.Read v.at) v.at.0 a right refl below cause)
     by Write is below cause = inl (cause_placed s t v.request (request.Write v.at v.bytes false) v.at.0 a right refl below cause)
@@ -223,8 +222,8 @@ module _ (s : Session) (t : Trace) (right : RightTrace s t) where
       still refl (rw q tt) (rw m refl) (λ zone. elim (same_tells w w) [ inl same ↦ rw (m, same.0) refl | inr other ↦ absurd (other.1 refl) ])
   begin_course old new made posts script (desk.sends w r v i h served o n m q) =
       sends old refl (rw m refl) (λ zone.
-        let here : request_at s.script w ≡ Some r = subst (λ (script : _). request_at script w ≡ Some r) script h in
-        rw (m, q) (ap (λ (us : List Writer). sent_to_zone s zone t ++ us) (ap (λ (o : Option Request). only_of zone (zone_asked s.sizes.zones o) w) here ∙ posted_begun s.sizes zone w r v served)))
+      let here : request_at s.script w ≡ Some r = subst (λ (script : _). request_at script w ≡ Some r) script h in
+      rw (m, q) (ap (λ (us : List Writer). sent_to_zone s zone t ++ us) (ap (λ (o : Option Request). only_of zone (zone_asked s.sizes.zones o) w) here ∙ posted_begun s.sizes zone w r v served)))
 
   desk_course : (old : Desk) (v : Vio) (new : Desk) (made : Trace) (posts : List Post) → ItemOk s t desk_zone (item.Request v) → DeskServes s.sizes old v new made posts
       → Course s t (at.Desk old) (item.Request v ∷ []) made posts
@@ -235,14 +234,14 @@ module _ (s : Session) (t : Trace) (right : RightTrace s t) where
       earned : (a : Answer) → v.phase ≡ phase.Reply → v.answer ≡ Some a → is_marked v.asks a ≡ false → HasCause s t v.request (request_of v) a
       earned a p h k =
           let reply : MayReply s t v v.answer = subst (λ (q : Phase). Carries s t v q) p ok.1 in
-          let has : IsEarned s t v a (is_marked v.asks a) = subst (λ (o : Option Answer). MayReply s t v o) h reply in
-          subst (λ (b : Bool). IsEarned s t v a b) k has
+          let has : IsEarned s t (mark_of_vio v) (request_of v) a (is_marked v.asks a) = subst (λ (o : Option Answer). MayReply s t v o) h reply in
+          subst (λ (b : Bool). IsEarned s t (mark_of_vio v) (request_of v) a b) k has
   desk_course old v new made posts ok (desk.marks p k h n m q) = still (past v p) (rw q tt) (rw m refl) (λ zone. rw m refl)
 
   -- each act is one of the three
   pub course : (n : ℕ) (old : ZoneData) (front : List Item) (new : ZoneData) (made : Trace) (posts : List Post) → Act s.sizes old front new made posts → DataOk s t n old → AllByRecursion (ItemOk s t n) front
       → KeptIn old → Course s t old front made posts
-  course n old front new made posts (steps.begins act) ok fronts kept = begin_course _ _ _ _ ok.requests act
+  course n old front new made posts (steps.begins act) ok fronts kept = begin_course _ _ _ _ ok.sound.requests act
   course n old front new made posts (steps.answers {v = v} act) ok fronts kept = desk_course _ v _ _ _ (subst (λ (m : ℕ). ItemOk s t m (item.Request v)) ok.number_is fronts.0) act
   course n old front new made posts (steps.hears {old = d}) ok fronts kept = still refl (woken_still d.parked kept) refl (λ zone. refl)
   course n old front new made posts (steps.serves act) ok fronts kept = logical_course s t _ _ _ _ _ act

@@ -1,5 +1,5 @@
 -- What requests and sealed blocks carry stays where the next happening is about something else.
-use Rattle.std.proofs.Common.{◌≡◌, ◌⊎◌, ℕ, Bool, true, false, Option, None, Some, List, ◌∷◌, refl, ap, sym, ◌∙◌, subst, inl, inr}
+use Rattle.std.proofs.Common.{◌≡◌, ◌⊎◌, ℕ, ◌≤◌, Bool, true, false, Option, None, Some, List, ◌∷◌, refl, ap, sym, ◌∙◌, subst, inl, inr, arith}
 use Rattle.blk_base.specs.declared.request.Answer.{Answer}
 use Rattle.blk_base.specs.declared.request.Answer.TheVariants as reply
 use Rattle.blk_base.specs.declared.request.Request.{Request}
@@ -16,32 +16,15 @@ use Rattle.core_model.specs.declared.items.Stage.TheVariants as stage
 use Rattle.core_model.specs.declared.items.Vio.{Vio}
 use Rattle.core_model.specs.declared.zones.Logged.{Logged}
 use Rattle.core_model.specs.DeskRows.{is_marked, mark_of_vio}
-use Rattle.core_model.specs.Facts.{VioOk, IsUnplaced, IsPlaced, Holds, Looks, IsEntered, IsEarned, MayReply, Carries, StandsAt, BlockOk, ItemOk, KeptOk}
+use Rattle.core_model.specs.Facts.{VioOk, IsUndrawn, IsPlaced, Holds, Looks, IsEntered, IsEarned, MayReply, Carries, StandsAt, IsSealed, BlockOk, ItemOk, KeptOk}
 use Rattle.core_model.specs.RightTraces.{HasCause}
 use Rattle.core_model.specs.Sessions.{Session, AtRest, OnItsWay}
 use Rattle.core_model.specs.Tokens.{holds}
 use Rattle.core_model.specs.Trace.{Happening, Trace, places, entered, committed, done, gifts, newest, logged_of, gift_of}
 use Rattle.core_model.specs.Vios.{logged, request_of}
+use Rattle.core_laws.proofs.kept.Keys.{Key, OfRequest, OfAddress, OfBlock, OfJournal, token_of, Spares, own_name, holder_one, claim_one}
 use Rattle.core_laws.proofs.kept.Spared.{SparesRequest, SparesAddress, open_kept, place_same, entry_same, slot_same, abort_same, gift_same, stop_kept, fault_kept, abort_kept, full_kept, mapping_same, quiet_kept, committed_kept, below_kept, mark_kept, honest_before, value_same, done_at, committed_at}
-use Rattle.core_laws.proofs.kept.StandsOn.{SparesBlock, SparesBlocks, SparesJournal, SparesEntries, stands_kept, reads_kept, rests_kept, way_kept, entry_reads_kept}
-
--- the happening is about no such request, nor its address where it holds the lock, nor its block before it is handed in
-pub record SparesVio (h : Happening) (v : Vio) : Type 0 where
-  pub of_request : SparesRequest h v.request
-  pub of_address : holds v.phase ≡ true → SparesAddress h v.at.0
-  pub of_block : v.phase ≡ phase.Enter → SparesBlock h v.block.0
-
-pub record SparesSealed (s : Session) (t : Trace) (h : Happening) (b : SealedBlock) : Type 0 where
-  pub of_request : SparesRequest h b.vio.request
-  pub of_address : SparesAddress h b.vio.at.0
-  pub of_entries : SparesEntries s h t
-  pub of_journal : SparesJournal s h
-  pub of_blocks : SparesBlocks h (entered t)
-
-abbrev pub SparesItem : Session → Trace → Happening → Item → Type 0
-SparesItem s t h (item.Request v) = SparesVio h v
-SparesItem s t h (item.Block b) = SparesSealed s t h b
-SparesItem s t h item.StopNotice = Unit {0}
+use Rattle.core_laws.proofs.kept.StandsOn.{SparesBlocks, SparesJournal, SparesEntries, stands_kept, reads_kept, rests_kept, way_kept, entry_reads_kept}
 
 -- the parts of the trace say the same of a request
 pub record SaysSame (h : Happening) (t : Trace) (w : Writer) : Type 0 where
@@ -70,7 +53,7 @@ module _ (s : Session) (h : Happening) (t : Trace) where
   cause_kept w request.Flush reply.Stopped same k = stop_kept h t k
   cause_kept w request.Flush other same k = absurd k
 
-  earned_said : (v : Vio) (a : Answer) (marked : Bool) → SaysSame h t v.request → IsEarned s t v a marked → IsEarned s (h ∷ t) v a marked
+  earned_said : (v : Vio) (a : Answer) (marked : Bool) → SaysSame h t v.request → IsEarned s t (mark_of_vio v) (request_of v) a marked → IsEarned s (h ∷ t) (mark_of_vio v) (request_of v) a marked
   earned_said v a true same k = mark_kept h t (mark_of_vio v) k
   earned_said v a false same k = cause_kept v.request (request_of v) a same k
 
@@ -84,14 +67,14 @@ module _ (s : Session) (h : Happening) (t : Trace) where
   pub vio_kept : (v : Vio) → SparesRequest h v.request → VioOk s t v → VioOk s (h ∷ t) v
   vio_kept v apart ok = record { asked = ok.asked; is_open = open_kept h t v.request apart ok.is_open; address = ok.address; home = ok.home }
 
-  pub unplaced_kept : (v : Vio) → SparesRequest h v.request → IsUnplaced s t v → IsUnplaced s (h ∷ t) v
+  unplaced_kept : (v : Vio) → SparesRequest h v.request → IsUndrawn t v.request v.asks → IsUndrawn (h ∷ t) v.request v.asks
   unplaced_kept v apart k = record {
     block_request = k.block_request;
     unplaced = rw (place_same h t v.request apart) k.unplaced;
     not_entered = rw (entry_same h t v.request apart) k.not_entered;
   }
 
-  pub placed_kept : (v : Vio) → SparesRequest h v.request → IsPlaced s t v → IsPlaced s (h ∷ t) v
+  placed_kept : (v : Vio) → SparesRequest h v.request → IsPlaced s t v → IsPlaced s (h ∷ t) v
   placed_kept v apart k = record {
     block_request = k.block_request;
     placed = place_same h t v.request apart ∙ k.placed;
@@ -124,13 +107,13 @@ module _ (s : Session) (h : Happening) (t : Trace) where
   }
 
   -- by the phase
-  by_phase : (v : Vio) (q : Phase) → SparesRequest h v.request → (holds q ≡ true → SparesAddress h v.at.0) → (q ≡ phase.Enter → SparesBlock h v.block.0)
+  by_phase : (v : Vio) (q : Phase) → SparesRequest h v.request → (holds q ≡ true → SparesAddress h v.at.0) → (q ≡ phase.Enter → Spares s t h (OfBlock v.block.0))
       → Carries s t v q → Carries s (h ∷ t) v q
   by_phase v phase.Arrive r a b k = unplaced_kept v r k
   by_phase v phase.Wait r a b k = placed_kept v r k
   by_phase v phase.Claim r a b k = (holds_kept v r (a refl) k.0, k.1)
   by_phase v phase.Store r a b k = (holds_kept v r (a refl) k.0, k.1, k.2)
-  by_phase v phase.Enter r a b k = (holds_kept v r (a refl) k.0, k.1, k.2, reads_kept s h t v.block.0 v.bytes (b refl) k.3)
+  by_phase v phase.Enter r a b k = (holds_kept v r (a refl) k.0, k.1, k.2, reads_kept s h t v.block.0 v.bytes (b refl k.2.is_data) k.3)
   by_phase v phase.Settle r a b k = (entered_kept v r k.0, committed_kept h t (logged v) (a refl) k.1, below_kept h t v.at.0 v.place (a refl) k.2, k.3)
   by_phase v phase.Load r a b k = (looks_kept v r (a refl) k.0, k.1, k.2)
   by_phase v phase.Loaded r a b k = (looks_kept v r (a refl) k.0, λ honest. k.1 (honest_before s h t honest) ∙ sym (value_same s h t v.at.0 (a refl)))
@@ -141,11 +124,20 @@ module _ (s : Session) (h : Happening) (t : Trace) where
   by_phase v phase.Flush r a b k = k
   by_phase v phase.Reply r a b k = reply_kept v v.answer r k
 
-  pub carries_kept : (v : Vio) → SparesVio h v → Carries s t v v.phase → Carries s (h ∷ t) v v.phase
-  carries_kept v spares k = by_phase v v.phase spares.of_request spares.of_address spares.of_block k
+  -- A happening that spares what a request, a block, an item weighs for.
+  abbrev pub SparesItem : Item → Type 0
+  SparesItem it = (k : Key) → 1 ≤ (token_of s.sizes k).item it → Spares s t h k
 
-  pub kept_kept : (q : Phase) (v : Vio) → SparesVio h v → KeptOk s t q v → KeptOk s (h ∷ t) q v
-  kept_kept q v spares k = (vio_kept v spares.of_request k.0, carries_kept v spares k.1, k.2)
+  own_spared : (v : Vio) → SparesItem (item.Request v) → SparesRequest h v.request
+  own_spared v spares = spares (OfRequest v.request) (omega (arith, own_name v))
+
+  carries_kept : (v : Vio) → SparesItem (item.Request v) → Carries s t v v.phase → Carries s (h ∷ t) v v.phase
+  carries_kept v spares k =
+      by_phase v v.phase (own_spared v spares) (λ held. spares (OfAddress v.at.0) (omega (arith, holder_one v held)))
+      (λ is. spares (OfBlock v.block.0) (omega (arith, claim_one v (rw is refl)))) k
+
+  pub kept_kept : (q : Phase) (v : Vio) → SparesItem (item.Request v) → KeptOk s t q v → KeptOk s (h ∷ t) q v
+  kept_kept q v spares k = (vio_kept v (own_spared v spares) k.0, carries_kept v spares k.1, k.2)
 
   -- a sealed block
   by_stage : (v : Vio) (q : Stage) → SparesEntries s h t → SparesJournal s h → SparesBlocks h (logged v ∷ committed t) → StandsAt s t v q → StandsAt s (h ∷ t) v q
@@ -159,25 +151,30 @@ module _ (s : Session) (h : Happening) (t : Trace) where
       failed (inl rests) = inl (rests_kept s h t (committed t) journal blocks.1 rests)
       failed (inr way) = inr (way_kept s h t (committed t) (logged v) journal blocks way)
 
-  pub block_kept : (b : SealedBlock) → SparesSealed s t h b → BlockOk s t b → BlockOk s (h ∷ t) b
+  pub sealed_kept : (v : Vio) (n : ℕ) → SparesRequest h v.request → SparesAddress h v.at.0 → SparesEntries s h t → IsSealed s t v n → IsSealed s (h ∷ t) v n
+  sealed_kept v n own address same k = record {
+    vio = vio_kept v own k.vio;
+    phase = k.phase;
+    is_entered = entered_kept v own k.is_entered;
+    last = same.entered_same ∙ k.last ∙ ap (λ es. logged v ∷ es) (sym same.committed_same);
+    others = committed_at h t v.at.0 address ∙ k.others ∙ sym (done_at h t v.at.0 address);
+    below = below_kept h t v.at.0 v.place address k.below;
+    fresh = k.fresh;
+    old_held = k.old_held;
+    sequence = rw same.committed_same k.sequence;
+    few = rw same.committed_same k.few;
+  }
+
+  block_kept : (b : SealedBlock) → SparesItem (item.Block b) → BlockOk s t b → BlockOk s (h ∷ t) b
   block_kept b spares k =
       let v = b.vio in
-      let blocks : SparesBlocks h (logged v ∷ committed t) = subst (λ (es : List Logged). SparesBlocks h es) k.last spares.of_blocks in
-      record {
-        vio = vio_kept v spares.of_request k.vio;
-        phase = k.phase;
-        is_entered = entered_kept v spares.of_request k.is_entered;
-        last = spares.of_entries.entered_same ∙ k.last ∙ ap (λ es. logged v ∷ es) (sym spares.of_entries.committed_same);
-        others = committed_at h t v.at.0 spares.of_address ∙ k.others ∙ sym (done_at h t v.at.0 spares.of_address);
-        below = below_kept h t v.at.0 v.place spares.of_address k.below;
-        fresh = k.fresh;
-        old_held = k.old_held;
-        sequence = rw spares.of_entries.committed_same k.sequence;
-        few = rw spares.of_entries.committed_same k.few;
-        stands = by_stage v b.stage spares.of_entries spares.of_journal blocks k.stands;
-      }
+      let own = spares (OfRequest v.request) (omega (arith, own_name v)) in
+      let address = spares (OfAddress v.at.0) (omega (arith, holder_one v (rw k.0.phase refl))) in
+      let journal = spares OfJournal (omega arith) in
+      let blocks : SparesBlocks h (logged v ∷ committed t) = subst (λ (es : List Logged). SparesBlocks h es) k.0.last journal.2 in
+      (sealed_kept v b.sequence own address journal.0 k.0, by_stage v b.stage journal.0 journal.1 blocks k.1)
 
-  pub item_kept : (to : ℕ) (it : Item) → SparesItem s t h it → ItemOk s t to it → ItemOk s (h ∷ t) to it
-  item_kept to (item.Request v) spares k = (vio_kept v spares.of_request k.0, carries_kept v spares k.1, k.2)
+  pub item_kept : (to : ℕ) (it : Item) → SparesItem it → ItemOk s t to it → ItemOk s (h ∷ t) to it
+  item_kept to (item.Request v) spares k = (vio_kept v (own_spared v spares) k.0, carries_kept v spares k.1, k.2)
   item_kept to (item.Block b) spares k = (block_kept b spares k.0, k.1)
   item_kept to item.StopNotice spares k = (k.0, stop_kept h t k.1)

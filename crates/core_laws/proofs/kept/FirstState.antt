@@ -1,5 +1,5 @@
 -- A core at its start is legal, with an empty trace.
-use Rattle.std.proofs.Common.{◌≡◌, ℕ, suc, ◌<◌, ◌≤◌, Bool, true, false, not, List, [], ◌∷◌, ◌++◌, length, refl, sym, ◌∙◌, ap, subst, inl, arith}
+use Rattle.std.proofs.Common.{◌≡◌, ℕ, suc, ◌≤◌, Bool, false, not, List, [], ◌∷◌, ◌++◌, length, refl, sym, ◌∙◌, ap, subst, inl, arith}
 use Rattle.std.specs.List.{AllByRecursion}
 use Rattle.blk_base.specs.declared.place.Mapping.{Mapping}
 use Rattle.blk_base.specs.declared.place.Mapping.TheVariants.{Unmapped, Zero, At}
@@ -8,13 +8,12 @@ use Rattle.image_layout.specs.Window.{mapping_of}
 use Rattle.stop_laws.proofs.JournalLaws.{opened_at_rest}
 use Rattle.vdo_model.specs.declared.report.DeskLine.{DeskLine}
 use Rattle.core_model.specs.declared.items.Item.{Item}
-use Rattle.core_model.specs.declared.items.Phase.TheVariants as phase
 use Rattle.core_model.specs.declared.items.Vio.{Vio}
 use Rattle.core_model.specs.declared.zones.ZoneData.{ZoneData}
 use Rattle.core_model.specs.declared.zones.ZoneData.TheVariants as at
 use Rattle.core_model.specs.declared.zones.Lock.{Lock}
 use Rattle.core_model.specs.declared.zones.Zone.{Zone}
-use Rattle.core_model.specs.Facts.{ItemOk, KeptOk, WaitsOk, LockOk, DataOk, ZoneOk, RestsAt, Rises, arrival}
+use Rattle.core_model.specs.Facts.{ItemOk, KeptOk, MapOk, LocksOk, DataOk, ZoneOk, RestsAt, arrival, kept_by, kept_phase}
 use Rattle.core_model.specs.Arrivals.{arrivals_at}
 use Rattle.core_model.specs.Legal.{Legal}
 use Rattle.core_model.specs.Streams.{Flows, counted}
@@ -138,44 +137,49 @@ module _ (s : Session) (session : IsSession s) where
       data_block_inside s.sizes.geometry x.0 (window_data s a x session (sym here ∙ at))
 
   -- what each zone keeps
+  map_at_start : (l : LogicalZone) → l.slots ≡ [] → l.window ≡ s.window → MapOk s l.window l.slots
+  map_at_start l none is = record { window_is = is; mapped = λ a. mapped_at_start l a none is; inside = λ a x at. inside_at_start l a x none is at }
+
+  locks_at_start : (zone next : ℕ) (held : List Lock) (waiting : List Vio) → held ≡ [] → waiting ≡ [] → LocksOk s zone next held waiting
+  locks_at_start zone next held waiting none nobody = rw (none, nobody) (record { locks_are = tt; once = λ a. omega arith; waits = tt; in_line = tt; in_order = tt })
+
+  kept_at_start : (n : ℕ) (d : ZoneData) → IsFirstData s n d → kept_by d ≡ []
+  kept_at_start n (at.Desk d) h = h.parked
+  kept_at_start n (at.Logical l) h = h.waiting
+  kept_at_start n (at.Journal j) h = h.waiting
+  kept_at_start n other h = refl
+
+  nobody_at_start : (n : ℕ) (d : ZoneData) → IsFirstData s n d → AllByRecursion (KeptOk s [] (kept_phase d)) (kept_by d)
+  nobody_at_start n d h = subst (λ (vs : List Vio). AllByRecursion (KeptOk s [] (kept_phase d)) vs) (sym (kept_at_start n d h)) tt
+
   data_at_start : (n : ℕ) (d : ZoneData) → IsFirstData s n d → DataOk s [] n d
   data_at_start n (at.Desk d) h = record {
     number_is = h.number_is;
-    requests = h.requests;
-    log_is = h.log;
-    marks_is = h.marks;
-    stops_notified = λ w is. absurd (let none = rw h.log at is in cc);
-    parked = subst (λ (vs : List Vio). AllByRecursion (KeptOk s [] phase.Reply) vs) (sym h.parked) tt;
-    notified_so = λ notified. let none = h.notices in absurd (omega (arith, notified, none));
+    lists = record { log_is = h.log; marks_is = h.marks };
+    sound = record { requests = h.requests; stops_notified = λ w is. absurd (let none = rw h.log at is in cc) };
+    kept = nobody_at_start n (at.Desk d) h;
+    answers = tt;
+    told = λ heard. let none = h.notices in absurd (omega (arith, heard, none));
   }
   data_at_start n (at.Logical l) h = record {
     number_is = h.number_is;
-    among = h.among;
-    places_is = h.places;
-    next_is = h.next;
-    window_is = h.window;
-    slots_are = λ a e. ap (of_address a) h.slots;
-    mapped = λ a. mapped_at_start l a h.slots h.window;
-    inside = λ a x is. inside_at_start l a x h.slots h.window is;
-    retired_so = λ a retired. absurd (let none = ap (is_among a) h.retired in cc);
-    below = λ a e. record { writes = tt; reads = tt };
-    locks = subst (λ (locks : List Lock). AllByRecursion (LockOk s l) locks) (sym h.held) tt;
-    once = λ a. omega (arith, ap (total (lock_weight a (λ p. true))) h.held);
-    quiet = λ a e free living. record { all_committed = refl; all_done = refl };
-    waiting = subst (λ (vs : List Vio). AllByRecursion (WaitsOk s [] n l) vs) (sym h.waiting) tt;
-    in_line = subst (λ (locks : List Lock). AllByRecursion (λ (lock : Lock). AllByRecursion (λ v. v.at.0 ≡ lock.at.0 → lock.place < v.place) l.waiting) locks) (sym h.held) tt;
-    in_order = subst Rises (sym h.waiting) tt;
+    lists = record { places_is = h.places; next_is = h.next; slots_are = λ a e. ap (of_address a) h.slots; below = λ a e. record { writes = tt; reads = tt } };
+    sound = record { among = h.among; map = map_at_start l h.slots h.window; locks = locks_at_start l.zone l.next l.held l.waiting h.held h.waiting };
+    kept = nobody_at_start n (at.Logical l) h;
+    answers = λ a e free living. record { all_committed = refl; all_done = refl };
+    told = λ a retired. absurd (let none = ap (is_among a) h.retired in cc);
   }
-  data_at_start n (at.Physical p) h = record { number_is = h.number_is; free = subst (λ (xs : List Pbn). AllByRecursion (IsFresh s) xs) (sym h.free) session.free; left = h.free }
+  data_at_start n (at.Physical p) h =
+      record { number_is = h.number_is; lists = record { left = h.free }; sound = subst (λ (xs : List Pbn). AllByRecursion (IsFresh s) xs) (sym h.free) session.free; kept = tt; answers = tt; told = tt }
   data_at_start n (at.Journal j) h = record {
     number_is = h.number_is;
-    entered_is = h.entered;
-    committed_is = h.committed;
-    waiting = subst (λ (vs : List Vio). AllByRecursion (KeptOk s [] phase.Enter) vs) (sym h.waiting) tt;
-    rests = subst (λ (b : Bool). RestsAt s [] b j.broken) (sym h.busy) (subst (λ (b : Bool). RestsAt s [] false b) (sym h.broken) (refl, at_rest));
-    closed_so = λ closed. absurd (let notified = h.notified in let broken = h.broken in let opened : is_closed j ≡ false = rw (notified, broken) refl in cc);
+    lists = record { entered_is = h.entered; committed_is = h.committed };
+    sound = tt;
+    kept = nobody_at_start n (at.Journal j) h;
+    answers = subst (λ (b : Bool). RestsAt s [] b j.broken) (sym h.busy) (subst (λ (b : Bool). RestsAt s [] false b) (sym h.broken) (refl, at_rest));
+    told = λ closed. absurd (let notified = h.notified in let broken = h.broken in let opened : is_closed j ≡ false = rw (notified, broken) refl in cc);
   }
-  data_at_start n (at.Device d) h = record { number_is = h.number_is; calls_is = h.calls; stopped_is = h.stopped }
+  data_at_start n (at.Device d) h = record { number_is = h.number_is; lists = record { calls_is = h.calls; stopped_is = h.stopped }; sound = tt; kept = tt; answers = tt; told = tt }
 
   zone_at_start : (n : ℕ) (z : Zone) → IsFirstZone s n z → ZoneOk s [] n z
   zone_at_start n z f = record {
@@ -189,9 +193,9 @@ module _ (s : Session) (session : IsSession s) where
   flows_at_start : (zones : List Zone) (zone : ℕ) → Each (IsFirstZone s) zones → Flows (arrivals_at s zone) [] zones
   flows_at_start zones zone first = record {
     in_order = λ receiver sender lane hr hs hl.
-      let inbox = (first (logical_zone zone) receiver hr).inbox in
-      let empty = every-get (λ lane. lane ≡ []) sender.outboxes (logical_zone zone) lane (first desk_zone sender hs).outboxes hl in
-      sym (ap (λ (items : List Item). counted arrival items ++ counted arrival lane) inbox ∙ ap (counted arrival) empty);
+        let inbox = (first (logical_zone zone) receiver hr).inbox in
+        let empty = every-get (λ lane. lane ≡ []) sender.outboxes (logical_zone zone) lane (first desk_zone sender hs).outboxes hl in
+        sym (ap (λ (items : List Item). counted arrival items ++ counted arrival lane) inbox ∙ ap (counted arrival) empty);
     alone = λ n z had ne lane hl. ap (counted arrival) (every-get (λ lane. lane ≡ []) z.outboxes (logical_zone zone) lane (first n z had).outboxes hl);
   }
 

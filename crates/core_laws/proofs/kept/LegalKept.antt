@@ -5,36 +5,32 @@ use Rattle.std.proofs.lemmas.Bool.{eqb-true}
 use Rattle.std.proofs.lemmas.Option.{same_Some}
 use Rattle.blk_base.specs.declared.request.Writer.{Writer}
 use Rattle.core_model.specs.declared.items.Item.{Item}
-use Rattle.core_model.specs.declared.items.Item.TheVariants as item
 use Rattle.core_model.specs.declared.zones.ZoneData.{ZoneData}
 use Rattle.core_model.specs.declared.zones.Zone.{Zone}
 use Rattle.core_model.specs.Arrivals.{arrivals_at}
-use Rattle.core_model.specs.Facts.{ItemOk, ZoneOk}
+use Rattle.core_model.specs.Facts.{ItemOk, KeptOk, ZoneOk, kept_by, kept_phase}
 use Rattle.core_model.specs.Legal.{Legal}
 use Rattle.core_model.specs.Zones.{zone_number, zone_count}
 use Rattle.core_model.specs.RightTraces.{RightTrace, GivesRight}
 use Rattle.core_model.specs.Sessions.{Session, IsSession, HasHonestReads}
-use Rattle.core_model.specs.Steps as steps
-use Rattle.core_model.specs.Steps.{Act, ZoneStep, Core, StepOf, MoveOf, Leads, sent_to, sent, delivered, posted}
-use Rattle.plain_laws.specs.Sums.{Each}
-use Rattle.core_model.specs.Tokens.{Token, Balanced, request_token, lease_token, block_token, journal_token, room_token, notice_token}
+use Rattle.core_model.specs.Steps.{Act, Core, StepOf, sent_to, sent, delivered, posted}
+use Rattle.plain_laws.specs.Sums.{total, Each}
+use Rattle.core_model.specs.Tokens.{Token, Balanced, is_sealed, idle_at, request_token, lease_token, block_token, journal_token, room_token, notice_token}
 use Rattle.core_model.specs.Trace.{Trace}
 use Rattle.core_model.specs.Vios.{Post}
-use Rattle.core_laws.proofs.kept.ActKept.{PostOk}
-use Rattle.core_laws.proofs.tokens.BlockOwners.{sealed_busy}
+use Rattle.core_laws.proofs.kept.ActKept.{Known, ActKept, PostOk}
+use Rattle.core_laws.proofs.kept.Frame.{Sides}
+use Rattle.core_laws.proofs.kept.Keys.{OfJournal, idle_none}
+use Rattle.core_laws.proofs.kept.StepActs.{by_act, known, sides}
 use Rattle.core_laws.proofs.kept.Arrivals.{arrivals_kept, course}
-use Rattle.core_laws.proofs.kept.KeptPhases.{kept_in}
 use Rattle.core_laws.proofs.kept.Streams.{flows_step}
-use Rattle.core_laws.proofs.tokens.LeaseOwners.{leased_front}
 use Rattle.core_laws.proofs.tokens.ActSums.{IsRow, act_row}
-use Rattle.core_laws.proofs.tokens.Known.{Known}
+use Rattle.core_laws.proofs.tokens.Known.{IsIn, KeptIn}
+use Rattle.core_laws.proofs.tokens.Known as tokens
 use Rattle.core_laws.proofs.tokens.Lift.{Within, Conserves, balance_step, at_most_step}
 use Rattle.core_laws.proofs.tokens.TokenLaws.{requests_law, room_law, notices_law, journal_law, blocks_law, leases_law}
-use Rattle.plain_laws.proofs.ListLaws.{Each-put_other, every-append, every-front, every-map, length-put, get-put_same}
+use Rattle.plain_laws.proofs.ListLaws.{Each-put_other, every-append, every-map, length-put, get-put_same}
 use Rattle.core_laws.proofs.lists.Lists.{length-posted}
-use Rattle.core_laws.proofs.kept.StepActs.{ActOk, begins_ok, answers_ok, serves_ok, takes_ok, enters_ok, calls_ok}
-use Rattle.core_laws.proofs.kept.StepBlocks.{works_ok, ends_ok, hears_ok, serves_notice_ok, takes_notice_ok, enters_notice_ok}
-use Rattle.core_laws.proofs.kept.StepSides.{first_ok}
 
 -- What a zone's lanes carry, while posts are delivered.
 record LanesOk (s : Session) (t : Trace) (n : ℕ) (z : Zone) : Type 0 where
@@ -72,42 +68,28 @@ delivered_ok s t n (p ∷ ps) z k ok =
     let to = zone_number s.sizes p.0 in
     delivered_ok s t n ps (sent s.sizes p z) k.1 (sent_ok s t n (nat_eq to z.number) to p.1 z refl k.0.1 ok)
 
-module _ (s : Session) (session : IsSession s) (old : Core) (legal : Legal s old) (n : ℕ) (z : Zone) (had : slice_get old.zones n ≡ Some z) where
-  by_act : (keeps : ZoneData) (front : List Item) (keeps' : ZoneData) (made : Trace) (posts : List Post) → Act s.sizes keeps front keeps' made posts → (rest : List Item) → z.keeps ≡ keeps → z.inbox ≡ front ++ rest → (front ≡ [] → rest ≡ [])
-      → ActOk s session old legal n z had keeps' made posts rest
-  by_act keeps front keeps' made posts (steps.begins {old = d} {new = d'} act) rest is taken turn = rw (turn refl) (begins_ok s session old legal n z had d d' made posts is (taken ∙ turn refl) act)
-  by_act keeps front keeps' made posts (steps.answers {old = d} {new = d'} {v = v} act) rest is taken turn = answers_ok s session old legal n z had v rest taken d d' made posts is act
-  by_act keeps front keeps' made posts (steps.hears {old = d}) rest is taken turn = hears_ok s session old legal n z had rest taken d is
-  by_act keeps front keeps' made posts (steps.serves {old = d} {new = d'} {v = v} act) rest is taken turn = serves_ok s session old legal n z had v rest taken d d' made posts is act
-  by_act keeps front keeps' made posts (steps.serves_notice {old = d}) rest is taken turn = serves_notice_ok s session old legal n z had rest taken d is
-  by_act keeps front keeps' made posts (steps.takes {old = d} {new = d'} {v = v} act) rest is taken turn = takes_ok s session old legal n z had v rest taken d d' made posts is act
-  by_act keeps front keeps' made posts (steps.takes_notice {old = d}) rest is taken turn = takes_notice_ok s session old legal n z had rest taken d is
-  by_act keeps front keeps' made posts (steps.enters {old = d} {new = d'} {v = v} act) rest is taken turn = enters_ok s session old legal n z had v rest taken d d' made posts is act
-  by_act keeps front keeps' made posts (steps.ends {old = d} {new = d'} {b = b} act) rest is taken turn = ends_ok s session old legal n z had b rest taken d is d' made posts act
-  by_act keeps front keeps' made posts (steps.enters_notice {old = d}) rest is taken turn = enters_notice_ok s session old legal n z had rest taken d is
-  by_act keeps front keeps' made posts (steps.calls {old = d} {new = d'} {v = v} act) rest is taken turn = calls_ok s session old legal n z had v rest taken d d' made posts is act
-  by_act keeps front keeps' made posts (steps.works {old = d} {new = d'} {b = b} act) rest is taken turn = works_ok s session old legal n z had b rest taken d d' made posts is act
-
-  pub act_ok : (front rest : List Item) (new : ZoneData) (made : Trace) (posts : List Post) → z.inbox ≡ front ++ rest → (front ≡ [] → rest ≡ []) → Act s.sizes z.keeps front new made posts
-      → ActOk s session old legal n z had new made posts rest
-  act_ok front rest new made posts taken turn act = by_act z.keeps front new made posts act rest refl taken turn
-
-  -- each post has a lane
-  pub goes : (front rest : List Item) (new : ZoneData) (made : Trace) (posts : List Post) → z.inbox ≡ front ++ rest → (front ≡ [] → rest ≡ []) → Act s.sizes z.keeps front new made posts
-      → Within s.sizes (length z.outboxes) posts
-  goes front rest new made posts taken turn act =
-      every-map {P = PostOk s (made ++ old.trace)} {Q = λ (p : Post). zone_number s.sizes p.0 < length z.outboxes} (λ p k. subst (λ (m : ℕ). zone_number s.sizes p.0 < m) (sym (legal.each n z had).lanes) k.0)
-      posts (act_ok front rest new made posts taken turn act).0.posts_ok
+-- each post of an act has a lane
+pub goes : (s : Session) → IsSession s → (old : Core) (legal : Legal s old) (n : ℕ) (z : Zone) → slice_get old.zones n ≡ Some z → (front rest : List Item) (new : ZoneData) (made : Trace) (posts : List Post)
+    → z.inbox ≡ front ++ rest → Act s.sizes z.keeps front new made posts → Within s.sizes (length z.outboxes) posts
+goes s session old legal n z had front rest new made posts taken act =
+    every-map {P = PostOk s (made ++ old.trace)} {Q = λ (p : Post). zone_number s.sizes p.0 < length z.outboxes} (λ p k. subst (λ (m : ℕ). zone_number s.sizes p.0 < m) (sym (legal.each n z had).lanes) k.0)
+    posts (by_act act (known s session old legal n z had front rest taken)).posts_ok
 
 module _ (s : Session) (session : IsSession s) (old new : Core) (legal : Legal s old) (st : StepOf s.sizes old new) where
   abbrev t' : Trace
   t' = st.made ++ old.trace
 
-  stepped : ActOk s session old legal st.number st.zone st.had st.zone'.keeps st.made st.step.posts st.step.rest
-  stepped = act_ok s session old legal st.number st.zone st.had st.step.front st.step.rest st.zone'.keeps st.made st.step.posts st.step.taken st.step.in_turn st.step.act
+  here : Known s old.trace st.number st.zone.keeps st.step.front
+  here = known s session old legal st.number st.zone st.had st.step.front st.step.rest st.step.taken
+
+  stepped : ActKept s old.trace st.number st.zone.keeps st.step.front st.zone'.keeps st.made st.step.posts
+  stepped = by_act st.step.act here
+
+  beside : Sides s t' old.zones st.number (record st.zone { inbox = st.step.rest })
+  beside = sides s session old legal st.number st.zone st.had st.step.front st.step.rest st.step.taken st.made stepped.owns
 
   lanes_there : Within s.sizes (length st.zone.outboxes) st.step.posts
-  lanes_there = goes s session old legal st.number st.zone st.had st.step.front st.step.rest st.zone'.keeps st.made st.step.posts st.step.taken st.step.in_turn st.step.act
+  lanes_there = goes s session old legal st.number st.zone st.had st.step.front st.step.rest st.zone'.keeps st.made st.step.posts st.step.taken st.step.act
 
   zone_ok : ZoneOk s old.trace st.number st.zone
   zone_ok = legal.each st.number st.zone st.had
@@ -115,8 +97,8 @@ module _ (s : Session) (session : IsSession s) (old new : Core) (legal : Legal s
   lanes_ok : LanesOk s t' st.number st.zone'
   lanes_ok =
       let served : Zone = record st.zone { keeps = st.zone'.keeps; inbox = st.step.rest; steps = st.zone.steps + 1 } in
-      let first : LanesOk s t' st.number served = record { number_is = zone_ok.number_is; lanes = zone_ok.lanes; inbox = stepped.1.inbox; outboxes = stepped.1.outboxes } in
-      subst (λ (z : Zone). LanesOk s t' st.number z) (sym st.step.lanes) (delivered_ok s t' st.number st.step.posts served stepped.0.posts_ok first)
+      let first : LanesOk s t' st.number served = record { number_is = zone_ok.number_is; lanes = zone_ok.lanes; inbox = beside.inbox; outboxes = beside.outboxes } in
+      subst (λ (z : Zone). LanesOk s t' st.number z) (sym st.step.lanes) (delivered_ok s t' st.number st.step.posts served stepped.posts_ok first)
 
   zones_is : new.zones ≡ slice_set old.zones st.number st.zone'
   zones_is = ap (λ (core : Core). core.zones) st.has
@@ -133,33 +115,33 @@ module _ (s : Session) (session : IsSession s) (old new : Core) (legal : Legal s
     lanes = lanes_ok.lanes;
     inbox = lanes_ok.inbox;
     outboxes = lanes_ok.outboxes;
-    own = stepped.0.own;
+    own = stepped.own;
   }
 
   each_ok : Each (ZoneOk s t') (slice_set old.zones st.number st.zone')
-  each_ok = each_other old.zones st.number st.zone st.zone' st.had stepped.1.others zone_ok'
+  each_ok = each_other old.zones st.number st.zone st.zone' st.had beside.others zone_ok'
     where
       each_other : (zones : List Zone) (i : ℕ) (z z' : Zone) → slice_get zones i ≡ Some z → Each (λ j y. (j ≡ i → ⊥) → ZoneOk s t' j y) zones → ZoneOk s t' i z' → Each (ZoneOk s t') (slice_set zones i z')
       each_other zones i z z' had others ok' = Each-put_other {P = λ j y. (j ≡ i → ⊥) → ZoneOk s t' j y} {Q = ZoneOk s t'} zones i z z' had others (λ j y ne f. f ne) ok'
 
-  -- what the zone took from its inbox
-  fronts : AllByRecursion (ItemOk s old.trace st.number) st.step.front
-  fronts = (every-front (ItemOk s old.trace st.number) st.step.front st.step.rest (subst (λ (items : List Item). AllByRecursion (ItemOk s old.trace st.number) items) st.step.taken zone_ok.inbox)).0
+  -- what the laws of the tokens ask, and the row that the act is
+  kept_in : KeptIn st.zone.keeps
+  kept_in = every-map {P = KeptOk s old.trace (kept_phase st.zone.keeps)} {Q = IsIn (kept_phase st.zone.keeps)} (λ v k. k.2) (kept_by st.zone.keeps) zone_ok.own.kept
 
-  -- what a legal core knows of the act, and the row that it is
-  known : Known st.zone.keeps st.step.front
-  known = record {
-    kept = kept_in s old.trace st.number st.zone.keeps zone_ok.own;
-    sealed = λ b is. (first_ok s session old legal st.number st.zone st.had (item.Block b) st.step.rest (at_front (item.Block b) is)).0.phase;
-    busy = λ b j is keeps. sealed_busy s old.trace old.zones legal.each st.number st.zone st.step.rest st.had b legal.journal (at_front (item.Block b) is) st.number st.zone j st.had keeps;
-    leased = λ l v keeps is held. leased_front s old.trace old.zones st.number st.zone l v st.step.rest legal.each (legal.leases v.at.0) st.had (at_front (item.Request v) is) keeps held;
+  for_tokens : tokens.Known st.zone.keeps st.step.front
+  for_tokens = record {
+    kept = kept_in;
+    sealed = λ b is. (subst (λ (items : List Item). AllByRecursion (ItemOk s old.trace st.number) items) is here.front_ok).0.0.0.phase;
+    busy = λ b j is keeps. (
+        let most = here.most OfJournal in
+        let sealed = ap (total is_sealed) is in
+        let idle = ap idle_at keeps in
+        idle_none j.busy (omega (arith, most, sealed, idle)));
+    leased = here.leased;
   }
-    where
-      at_front : (it : Item) → st.step.front ≡ it ∷ [] → st.zone.inbox ≡ it ∷ st.step.rest
-      at_front it is = st.step.taken ∙ ap (λ items. items ++ st.step.rest) is
 
   the_row : IsRow s.sizes st.zone.keeps st.step.front st.zone'.keeps st.step.posts
-  the_row = act_row s.sizes st.zone.keeps st.step.front st.zone'.keeps st.made st.step.posts st.step.act known
+  the_row = act_row s.sizes st.zone.keeps st.step.front st.zone'.keeps st.made st.step.posts st.step.act for_tokens
 
   balanced : (t : Token) → Conserves t st.zone.keeps st.zone'.keeps the_row.before the_row.after → Balanced t old.zones → Balanced t new.zones
   balanced t = balance_step t s.sizes old new st lanes_there the_row
@@ -176,8 +158,8 @@ module _ (s : Session) (session : IsSession s) (old new : Core) (legal : Legal s
     stop_notices = balanced (notice_token s.sizes) (notices_law s.sizes the_row.row) legal.stop_notices;
     in_order = λ zone below. flows_step Writer (arrivals_at s zone) s.sizes (λ e. absurd (omega (arith, e))) old new st zone_ok.number_is
         (arrivals_kept s old.trace zone st.number st.zone.keeps st.step.front st.made st.step.posts zone_ok.own
-        (course s old.trace legal.right st.number st.zone.keeps st.step.front st.zone'.keeps st.made st.step.posts st.step.act zone_ok.own fronts (kept_in s old.trace st.number st.zone.keeps zone_ok.own)))
+        (course s old.trace legal.right st.number st.zone.keeps st.step.front st.zone'.keeps st.made st.step.posts st.step.act zone_ok.own here.front_ok kept_in))
         (legal.in_order zone below);
-    right = subst (RightTrace s) (sym trace_is) stepped.0.right;
-    gives_right = subst (λ (t : Trace). HasHonestReads s t → GivesRight s t) (sym trace_is) (stepped.0.gives legal.gives_right);
+    right = subst (RightTrace s) (sym trace_is) stepped.right;
+    gives_right = subst (λ (t : Trace). HasHonestReads s t → GivesRight s t) (sym trace_is) (stepped.gives legal.gives_right);
   }

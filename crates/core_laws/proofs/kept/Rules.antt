@@ -35,7 +35,7 @@ use Rattle.core_model.specs.declared.zones.ZoneData.{ZoneData}
 use Rattle.core_model.specs.declared.zones.ZoneData.TheVariants as at
 use Rattle.core_model.specs.DeskRows.{DeskBegins, DeskServes, at_once, vio_of, is_marked, is_stopped, is_notified}
 use Rattle.core_model.specs.DeviceRows.{DeviceServes, DeviceWorks, IsInside, call_of, journal_bytes}
-use Rattle.core_model.specs.Facts.{VioOk, MayReply, Carries, ItemOk, DataOk, DeskOk, LogicalOk, WaitsOk, zone_at, zone_of_stage}
+use Rattle.core_model.specs.Facts.{VioOk, MayReply, Carries, ItemOk, KeptOk, DataOk, zone_at, zone_of_stage}
 use Rattle.core_model.specs.JournalRows.{PhysicalServes, JournalServes, JournalEnds, is_closed, has_block}
 use Rattle.core_model.specs.Legal.{Legal}
 use Rattle.core_model.specs.LogicalRows.{LogicalServes, is_among, is_held, first_for, placed, next_for, goes_on, passes_on, with_slot}
@@ -50,7 +50,7 @@ use Rattle.core_laws.proofs.kept.LegalKept.{goes}
 use Rattle.plain_laws.proofs.ListLaws.{every-map}
 use Rattle.plain_laws.proofs.OptionLaws.{option_cases, some_of}
 use Rattle.core_laws.proofs.physical.PhysicalFacts.{zone_below}
-use Rattle.core_laws.proofs.kept.StepSides.{first_ok}
+use Rattle.core_laws.proofs.kept.ActKept.{carries_at}
 
 -- a marked answer is that of a flush that returned
 pub marked_is : (asks : Asks) (a : Answer) → is_marked asks a ≡ true → (asks ≡ Flush) × (a ≡ reply.Ok)
@@ -103,10 +103,10 @@ module _ (s : Session) (session : IsSession s) (t : Trace) where
   served_some w (request.Discard at) served = absurd served
   served_some w request.Flush served = (_, refl)
 
-  desk_starts : (n : ℕ) (desk : Desk) → DeskOk s t n desk → MayBegin s.sizes (at.Desk desk) → HasAct s.sizes (at.Desk desk) []
+  desk_starts : (n : ℕ) (desk : Desk) → DataOk s t n (at.Desk desk) → MayBegin s.sizes (at.Desk desk) → HasAct s.sizes (at.Desk desk) []
   desk_starts n desk own (w, next) =
       let asked = some_of (request_at desk.requests w) next.1 in
-      let served = served_some w asked.0 (request_served s w asked.0 session (ap (λ (script : Script). request_at script w) (sym own.requests) ∙ asked.1)) in
+      let served = served_some w asked.0 (request_served s w asked.0 session (ap (λ (script : Script). request_at script w) (sym own.sound.requests) ∙ asked.1)) in
       elim (option_cases (at_once s.sizes (is_notified s.sizes desk) served.0.asks served.0.at.0)) [
         | inl none ↦ (_, _, _, steps.begins (DeskBegins.sends w asked.0 served.0 next asked.1 served.1 none refl refl refl))
         | inr once ↦ (_, _, _, steps.begins (DeskBegins.answers w asked.0 served.0 once.0 next asked.1 served.1 once.1 refl refl refl))
@@ -136,9 +136,9 @@ module _ (s : Session) (session : IsSession s) (t : Trace) where
     ]
   ]
 
-  module _ (n : ℕ) (l : LogicalZone) (own : LogicalOk s t n l) where
+  module _ (n : ℕ) (l : LogicalZone) (own : DataOk s t n (at.Logical l)) where
     waiters : AllByRecursion IsBlockRequest l.waiting
-    waiters = every-map {P = WaitsOk s t n l} {Q = IsBlockRequest} (λ v w. (subst (λ (q : Phase). Carries s t v q) w.kept.2 w.kept.1).block_request) l.waiting own.waiting
+    waiters = every-map {P = KeptOk s t phase.Wait} {Q = IsBlockRequest} (λ v k. (carries_at s t v phase.Wait k.2 k.1).block_request) l.waiting own.kept
 
     logical_at : (v : Vio) (q : Phase) → v.phase ≡ q → logical_zone l.zone ≡ zone_at s.sizes v.home q → Carries s t v q → HasAct s.sizes (at.Logical l) (item.Request v ∷ [])
     logical_at v phase.Arrive is to carries = arrives l v is carries.block_request
@@ -146,11 +146,11 @@ module _ (s : Session) (session : IsSession s) (t : Trace) where
     logical_at v phase.Loaded is to carries = let grants = grants_some l v.at.0 l.waiting waiters in (_, _, _, steps.serves (LogicalServes.gives grants.0 is grants.1 refl refl refl))
     logical_at v phase.Abort is to carries = let grants = grants_some l v.at.0 l.waiting waiters in (_, _, _, steps.serves (LogicalServes.aborts grants.0 is grants.1 refl refl refl))
     logical_at v phase.AbortEntered is to carries = (_, _, _, steps.serves (LogicalServes.aborts_entered is refl refl refl))
-    logical_at v other is to carries = absurd (let among = own.among in omega (arith, to, among))
+    logical_at v other is to carries = absurd (let among = own.sound.among in omega (arith, to, among))
 
     logical_rule : (it : Item) → ItemOk s t (logical_zone l.zone) it → HasAct s.sizes (at.Logical l) (it ∷ [])
     logical_rule (item.Request v) ok = logical_at v v.phase refl ok.2 ok.1
-    logical_rule (item.Block b) ok = let behind = stage_behind b.stage in let to = ok.1 in let among = own.among in absurd (omega (arith, to, behind, among))
+    logical_rule (item.Block b) ok = let behind = stage_behind b.stage in let to = ok.1 in let among = own.sound.among in absurd (omega (arith, to, behind, among))
     logical_rule item.StopNotice ok = (_, _, _, steps.serves_notice)
 
   -- the physical zone
@@ -197,11 +197,9 @@ module _ (s : Session) (session : IsSession s) (t : Trace) where
       next (w ∷ ws) some block = (_, _, _, steps.ends (JournalEnds.commits_next w ws is some block refl refl refl))
 
   ends_at : (j : JournalZone) (b : SealedBlock) (q : Stage) → b.stage ≡ q → journal_zone s.sizes ≡ zone_of_stage s.sizes q → HasAct s.sizes (at.Journal j) (item.Block b ∷ [])
-  ends_at j b stage.Cover is to = absurd (omega (arith, to))
-  ends_at j b stage.Write is to = absurd (omega (arith, to))
-  ends_at j b stage.Harden is to = absurd (omega (arith, to))
   ends_at j b stage.Commit is to = commits j b j.waiting refl is
   ends_at j b stage.Fail is to = (_, _, _, steps.ends (JournalEnds.fails is refl refl refl))
+  ends_at j b other is to = absurd (omega (arith, to))
 
   journal_rule : (j : JournalZone) (it : Item) → ItemOk s t (journal_zone s.sizes) it → HasAct s.sizes (at.Journal j) (it ∷ [])
   journal_rule j (item.Request v) ok = journal_at j v v.phase refl ok.2 (at_home v ok.0)
@@ -243,8 +241,7 @@ module _ (s : Session) (session : IsSession s) (t : Trace) where
         let bytes = journal_bytes s.sizes b in
         works (call.Write slot bytes true) (call.Write slot bytes false) (ap (call_of s.sizes b slot true) is) (ap (call_of s.sizes b slot false) is)
     works_at stage.Harden is to = works (call.Flush true) (call.Flush false) (ap (call_of s.sizes b slot true) is) (ap (call_of s.sizes b slot false) is)
-    works_at stage.Commit is to = absurd (omega (arith, to))
-    works_at stage.Fail is to = absurd (omega (arith, to))
+    works_at other is to = absurd (omega (arith, to))
 
   device_rule : (d : DeviceZone) (it : Item) → ItemOk s t (device_zone s.sizes) it → HasAct s.sizes (at.Device d) (it ∷ [])
   device_rule d (item.Request v) ok = device_at d v v.phase refl ok.2 (at_home v ok.0) ok.1
@@ -256,7 +253,7 @@ module _ (s : Session) (session : IsSession s) (core : Core) (legal : Legal s co
   has_rule front rest taken = by_kind z.keeps (legal.each n z had).own
     where
       at_number : (m : ℕ) → n ≡ m → ItemOk s core.trace m front
-      at_number m is = subst (λ (k : ℕ). ItemOk s core.trace k front) is (first_ok s session core legal n z had front rest taken)
+      at_number m is = subst (λ (k : ℕ). ItemOk s core.trace k front) is (subst (λ (items : List Item). AllByRecursion (ItemOk s core.trace n) items) taken (legal.each n z had).inbox).0
 
       by_kind : (d : ZoneData) → DataOk s core.trace n d → HasAct s.sizes d (front ∷ [])
       by_kind (at.Desk desk) own = desk_rule s session core.trace desk front (at_number desk_zone own.number_is)
@@ -275,4 +272,4 @@ module _ (s : Session) (session : IsSession s) (core : Core) (legal : Legal s co
   -- the posts of an act are those of a step, and each of these has a lane
   pub has_lanes : (front rest : List Item) (new : ZoneData) (made : Trace) (posts : List Post) → z.inbox ≡ front ++ rest → (front ≡ [] → rest ≡ []) → Act s.sizes z.keeps front new made posts
       → AllByRecursion (λ (post : Post). zone_number s.sizes post.0 < length z.outboxes) posts
-  has_lanes = goes s session core legal n z had
+  has_lanes front rest new made posts taken turn = goes s session core legal n z had front rest new made posts taken

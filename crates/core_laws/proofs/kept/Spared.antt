@@ -1,5 +1,5 @@
 -- Facts on the trace stay where the next happening is about something else.
-use Rattle.std.proofs.Common.{◌≡◌, ◌≢◌, ℕ, ◌+◌, ◌<◌, ◌==◌, Bool, true, false, not, ◌&&◌, ◌||◌, if◌then◌else◌, List, [], ◌∷◌, refl, ap, sym, ◌∙◌, inl, inr, arith}
+use Rattle.std.proofs.Common.{◌≡◌, ◌≢◌, ℕ, ◌+◌, ◌<◌, ◌==◌, Bool, true, false, not, ◌&&◌, ◌||◌, if◌then◌else◌, Option, None, Some, List, [], ◌∷◌, refl, ap, sym, ◌∙◌, inl, inr, arith}
 use Rattle.std.proofs.lemmas.Bool.Decides.{eqb_tells}
 use Rattle.blk_base.specs.declared.journal_entry.Entry.{Entry}
 use Rattle.blk_base.specs.declared.request.Answer.TheVariants as reply
@@ -10,6 +10,7 @@ use Rattle.vdo_model.specs.DeskLog.{begun}
 use Rattle.vdo_model.specs.FlushMarks.{Moment, Desk, Device, IsMark}
 use Rattle.vdo_model.specs.Places.{place_of}
 use Rattle.vdo_model.specs.Scripts.{same_writer}
+use Rattle.vdo_model.specs.declared.report.DeskLine.{DeskLine}
 use Rattle.vdo_model.specs.declared.report.DeskLine.TheVariants.{Begin, Answer}
 use Rattle.vdo_model.specs.declared.report.FlushMark.{FlushMark}
 use Rattle.core_model.specs.declared.zones.Logged.{Logged}
@@ -18,25 +19,40 @@ use Rattle.core_model.specs.RightTraces.{IsOpen, Quiet, IsCommitted, AllBelow, H
 use Rattle.core_model.specs.Sessions.{Session, HasHonestReads, value_at}
 use Rattle.core_model.specs.Trace.{Happening, Says, Flushes, Draws, Enters, Commits, Sets, Gives, Takes, Aborts, Calls, Fails, Trace, moments, lines, places, entered, committed, done, aborted, gifts, is_read, has_stopped, has_read_fault, of_address, newest, logged_of, gift_of, entries_of}
 
--- the happening is about no such request
-abbrev pub SparesRequest : Happening → Writer → Type 0
-SparesRequest (Says (Answer v a)) w = same_writer v w ≡ false
-SparesRequest (Flushes m) w = same_writer m.request w ≡ false
-SparesRequest (Draws p) w = same_writer p.request w ≡ false
-SparesRequest (Enters e) w = same_writer e.request w ≡ false
-SparesRequest (Commits e) w = same_writer e.request w ≡ false
-SparesRequest (Sets e) w = same_writer e.request w ≡ false
-SparesRequest (Gives g) w = same_writer g.request w ≡ false
-SparesRequest (Aborts e) w = same_writer e.request w ≡ false
-SparesRequest other w = Unit {0}
+-- What a happening is about: a request, an address.
+pub record About : Type 0 where
+  pub request : Option Writer
+  pub address : Option ℕ
 
--- it is about no such address
+abbrev pub answered_by : DeskLine → Option Writer
+answered_by (Answer w a) = Some w
+answered_by (Begin w) = None
+
+abbrev pub about : Happening → About
+about (Says line) = record { request = answered_by line; address = None }
+about (Flushes m) = record { request = Some m.request; address = None }
+about (Draws p) = record { request = Some p.request; address = None }
+about (Enters e) = record { request = Some e.request; address = Some e.at.0 }
+about (Commits e) = record { request = Some e.request; address = Some e.at.0 }
+about (Sets e) = record { request = Some e.request; address = Some e.at.0 }
+about (Gives g) = record { request = Some g.request; address = Some g.at.0 }
+about (Aborts e) = record { request = Some e.request; address = None }
+about other = record { request = None; address = None }
+
+abbrev pub OffRequest : Option Writer → Writer → Type 0
+OffRequest None w = Unit {0}
+OffRequest (Some v) w = same_writer v w ≡ false
+
+abbrev pub OffNumber : Option ℕ → ℕ → Type 0
+OffNumber None a = Unit {0}
+OffNumber (Some b) a = b ≢ a
+
+-- it is about another request, or address, or none
+abbrev pub SparesRequest : Happening → Writer → Type 0
+SparesRequest h w = OffRequest (about h).request w
+
 abbrev pub SparesAddress : Happening → ℕ → Type 0
-SparesAddress (Enters e) a = e.at.0 ≢ a
-SparesAddress (Commits e) a = e.at.0 ≢ a
-SparesAddress (Sets e) a = e.at.0 ≢ a
-SparesAddress (Gives g) a = g.at.0 ≢ a
-SparesAddress other a = Unit {0}
+SparesAddress h a = OffNumber (about h).address a
 
 begun_later : (b : Bool) (n m : ℕ) → n < m → n < (if b then m + 1 else m)
 begun_later true n m h = omega (arith, h)

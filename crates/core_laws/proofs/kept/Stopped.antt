@@ -7,7 +7,7 @@ use Rattle.core_model.specs.declared.zones.ZoneData.{ZoneData}
 use Rattle.core_model.specs.declared.zones.ZoneData.TheVariants as at
 use Rattle.core_model.specs.declared.zones.DeviceZone.{DeviceZone}
 use Rattle.core_model.specs.declared.zones.Zone.{Zone}
-use Rattle.core_model.specs.Facts.{DataOk, DeskOk}
+use Rattle.core_model.specs.Facts.{DataOk}
 use Rattle.core_model.specs.Legal.{Legal}
 use Rattle.core_model.specs.Zones.{desk_zone, device_zone, notified_zones}
 use Rattle.core_model.specs.Sessions.{Session}
@@ -25,8 +25,8 @@ pub stopped_at_device : (s : Session) (core : Core) (w : Writer) (n : ℕ) (z : 
     → slice_get core.zones n ≡ Some z → z.keeps ≡ at.Device d → d.stopped ≡ true
 stopped_at_device s core w n z d legal is had keeps =
     let desk = desk_sits s core.trace core.zones legal.each legal.count in
-    let k : DeskOk s core.trace desk_zone desk.it = subst (λ (e : ZoneData). DataOk s core.trace desk_zone e) desk.keeps (legal.each desk_zone desk.zone desk.had).own in
-    let enough = k.stops_notified w (ap (λ log. answer_of log w) k.log_is ∙ is) in
+    let k : DataOk s core.trace desk_zone (at.Desk desk.it) = subst (λ (e : ZoneData). DataOk s core.trace desk_zone e) desk.keeps (legal.each desk_zone desk.zone desk.had).own in
+    let enough = k.sound.stops_notified w (ap (λ log. answer_of log w) k.lists.log_is ∙ is) in
     let here = total-get (weight (notice_token s.sizes)) core.zones desk_zone desk.zone desk.had in
     let heard = ap heard_at desk.keeps in
     let own = subst (λ (e : ZoneData). DataOk s core.trace n e) keeps (legal.each n z had).own in

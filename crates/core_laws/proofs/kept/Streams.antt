@@ -167,7 +167,7 @@ module _ (X : Type 0) (stream : Stream X) (sizes : Sizes) (apart : stream.from �
           owes.sends is ∙ ap (λ (us : List X). us ++ c (items_to sizes stream.to posts)) before
           ∙ append_assoc (stream.taken t) (c receiver.inbox ++ c r.old) (c (items_to sizes stream.to posts))
           ∙ ap (λ (us : List X). stream.taken t ++ us) (append_assoc (c receiver.inbox) (c r.old) (c (items_to sizes stream.to posts))
-            ∙ ap (λ (us : List X). c receiver.inbox ++ us) (sym (counted-append stream.counts r.old (items_to sizes stream.to posts)) ∙ ap c (sym r.is)))
+          ∙ ap (λ (us : List X). c receiver.inbox ++ us) (sym (counted-append stream.counts r.old (items_to sizes stream.to posts)) ∙ ap c (sym r.is)))
           ∙ ap (λ (us : List X). us ++ (c receiver.inbox ++ c lane)) (sym (owes.taken_same here))
 
       -- the receiver stepped

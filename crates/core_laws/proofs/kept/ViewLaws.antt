@@ -152,7 +152,7 @@ takes_batch from to views views' lanes lanes' t k = record {
 
     zones_moved : zones_of (zones_seen views') lanes'
         ≡ slice_set (slice_set (zones_of (zones_seen views) lanes) from (record (with_batches (batches_of from lanes) k.sender.zone) { outboxes = slice_set (behind (batches_of from lanes) k.sender.zone.outboxes) to k.left }))
-            to (record (with_batches (batches_of to lanes) k.receiver.zone) { inbox = k.receiver.zone.inbox ++ k.batch })
+        to (record (with_batches (batches_of to lanes) k.receiver.zone) { inbox = k.receiver.zone.inbox ++ k.batch })
     zones_moved =
         ap (λ (vs : List View). zones_of (zones_seen vs) lanes') k.views_is
         ∙ ap (λ (ls : List (List (List Item))). zones_of (zones_seen (slice_set views to (record k.receiver { zone = receiver'; received = slice_set k.receiver.received from [] }))) ls) k.lanes_is

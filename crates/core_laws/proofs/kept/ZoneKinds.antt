@@ -1,10 +1,10 @@
 -- Each number has its kind of zone, and what is given out once is given out by one zone.
-use Rattle.std.proofs.Common.{◌≡◌, ℕ, zero, suc, ◌<◌, ◌≤◌, List, [], ◌∷◌, length, Some, slice_get, refl, subst, arith}
+use Rattle.std.proofs.Common.{◌≡◌, ℕ, zero, suc, ◌<◌, ◌≤◌, List, [], ◌∷◌, length, Some, slice_get, refl, arith}
 use Rattle.core_model.specs.declared.zones.ZoneData.{ZoneData}
 use Rattle.core_model.specs.declared.zones.ZoneData.TheVariants as at
 use Rattle.core_model.specs.declared.zones.Zone.{Zone}
 use Rattle.core_model.specs.Facts.{DataOk, ZoneOk}
-use Rattle.core_model.specs.Zones.{desk_zone, logical_zone, physical_zone, journal_zone, device_zone, zone_count}
+use Rattle.core_model.specs.Zones.{desk_zone, physical_zone, journal_zone, device_zone, zone_count}
 use Rattle.core_model.specs.Sessions.{Session}
 use Rattle.plain_laws.specs.Sums.{total, Each}
 use Rattle.core_model.specs.Tokens.{given, journal_token, block_token, one_journal, one_physical}
@@ -41,53 +41,26 @@ pub record Keeps {X : Type 0} (make : X → ZoneData) (d : ZoneData) : Type 0 wh
 module _ (s : Session) (t : Trace) where
   pub desk_keeps : (d : ZoneData) → DataOk s t desk_zone d → Keeps at.Desk d
   desk_keeps (at.Desk desk) ok = record { it = desk; is = refl }
-  desk_keeps (at.Logical l) ok = absurd (omega (arith, ok.number_is))
-  desk_keeps (at.Physical p) ok = absurd (omega (arith, ok.number_is))
-  desk_keeps (at.Journal j) ok = absurd (omega (arith, ok.number_is))
-  desk_keeps (at.Device d) ok = absurd (omega (arith, ok.number_is))
-
-  pub logical_keeps : (k : ℕ) → k < s.sizes.zones → (d : ZoneData) → DataOk s t (logical_zone k) d → Keeps at.Logical d
-  logical_keeps k below (at.Desk desk) ok = absurd (omega (arith, ok.number_is))
-  logical_keeps k below (at.Logical l) ok = record { it = l; is = refl }
-  logical_keeps k below (at.Physical p) ok = absurd (omega (arith, below, ok.number_is))
-  logical_keeps k below (at.Journal j) ok = absurd (omega (arith, below, ok.number_is))
-  logical_keeps k below (at.Device d) ok = absurd (omega (arith, below, ok.number_is))
-
-  pub physical_keeps : (d : ZoneData) → DataOk s t (physical_zone s.sizes) d → Keeps at.Physical d
-  physical_keeps (at.Desk desk) ok = absurd (omega (arith, ok.number_is))
-  physical_keeps (at.Logical l) ok = absurd (omega (arith, ok.number_is, ok.among))
-  physical_keeps (at.Physical p) ok = record { it = p; is = refl }
-  physical_keeps (at.Journal j) ok = absurd (omega (arith, ok.number_is))
-  physical_keeps (at.Device d) ok = absurd (omega (arith, ok.number_is))
+  desk_keeps other ok = absurd (omega (arith, ok.number_is))
 
   pub journal_keeps : (d : ZoneData) → DataOk s t (journal_zone s.sizes) d → Keeps at.Journal d
-  journal_keeps (at.Desk desk) ok = absurd (omega (arith, ok.number_is))
-  journal_keeps (at.Logical l) ok = absurd (omega (arith, ok.number_is, ok.among))
-  journal_keeps (at.Physical p) ok = absurd (omega (arith, ok.number_is))
   journal_keeps (at.Journal j) ok = record { it = j; is = refl }
-  journal_keeps (at.Device d) ok = absurd (omega (arith, ok.number_is))
+  journal_keeps (at.Logical l) ok = absurd (omega (arith, ok.number_is, ok.sound.among))
+  journal_keeps other ok = absurd (omega (arith, ok.number_is))
 
   pub device_keeps : (d : ZoneData) → DataOk s t (device_zone s.sizes) d → Keeps at.Device d
-  device_keeps (at.Desk desk) ok = absurd (omega (arith, ok.number_is))
-  device_keeps (at.Logical l) ok = absurd (omega (arith, ok.number_is, ok.among))
-  device_keeps (at.Physical p) ok = absurd (omega (arith, ok.number_is))
-  device_keeps (at.Journal j) ok = absurd (omega (arith, ok.number_is))
   device_keeps (at.Device d) ok = record { it = d; is = refl }
+  device_keeps (at.Logical l) ok = absurd (omega (arith, ok.number_is, ok.sound.among))
+  device_keeps other ok = absurd (omega (arith, ok.number_is))
 
   -- the one zone that gives out each of these
   one_journal_at : (n : ℕ) (d : ZoneData) → DataOk s t n d → (one_journal d ≤ 1) × ((n ≡ journal_zone s.sizes → ⊥) → one_journal d ≡ 0)
-  one_journal_at n (at.Desk desk) ok = (omega arith, λ ne. refl)
-  one_journal_at n (at.Logical l) ok = (omega arith, λ ne. refl)
-  one_journal_at n (at.Physical p) ok = (omega arith, λ ne. refl)
   one_journal_at n (at.Journal j) ok = (omega arith, λ ne. absurd (ne ok.number_is))
-  one_journal_at n (at.Device d) ok = (omega arith, λ ne. refl)
+  one_journal_at n other ok = (omega arith, λ ne. refl)
 
   one_physical_at : (n : ℕ) (d : ZoneData) → DataOk s t n d → (one_physical d ≤ 1) × ((n ≡ physical_zone s.sizes → ⊥) → one_physical d ≡ 0)
-  one_physical_at n (at.Desk desk) ok = (omega arith, λ ne. refl)
-  one_physical_at n (at.Logical l) ok = (omega arith, λ ne. refl)
   one_physical_at n (at.Physical p) ok = (omega arith, λ ne. absurd (ne ok.number_is))
-  one_physical_at n (at.Journal j) ok = (omega arith, λ ne. refl)
-  one_physical_at n (at.Device d) ok = (omega arith, λ ne. refl)
+  one_physical_at n other ok = (omega arith, λ ne. refl)
 
   module _ (zones : List Zone) (each : Each (ZoneOk s t) zones) where
     -- of the journal and of each block at most one is given out
@@ -114,21 +87,8 @@ module _ (s : Session) (t : Trace) where
       pub desk_sits : Sits at.Desk desk_zone
       desk_sits = sits at.Desk desk_zone (omega arith) desk_keeps
 
-      pub logical_sits : (k : ℕ) → k < s.sizes.zones → Sits at.Logical (logical_zone k)
-      logical_sits k below = sits at.Logical (logical_zone k) (omega (arith, below)) (logical_keeps k below)
-
-      pub physical_sits : Sits at.Physical (physical_zone s.sizes)
-      physical_sits = sits at.Physical (physical_zone s.sizes) (omega arith) physical_keeps
-
       pub journal_sits : Sits at.Journal (journal_zone s.sizes)
       journal_sits = sits at.Journal (journal_zone s.sizes) (omega arith) journal_keeps
 
       pub device_sits : Sits at.Device (device_zone s.sizes)
       device_sits = sits at.Device (device_zone s.sizes) (omega arith) device_keeps
-
-      -- it is the zone of its number
-      pub logical_number : (k : ℕ) (below : k < s.sizes.zones) → (logical_sits k below).it.zone ≡ k
-      logical_number k below =
-          let z = logical_sits k below in
-          let own : DataOk s t (logical_zone k) (at.Logical z.it) = subst (λ d. DataOk s t (logical_zone k) d) z.keeps (each (logical_zone k) z.zone z.had).own in
-          omega (arith, own.number_is)

@@ -12,6 +12,7 @@ use Rattle.core_model.specs.declared.zones.ZoneData.{ZoneData}
 use Rattle.core_model.specs.declared.zones.ZoneData.TheVariants as at
 use Rattle.core_model.specs.declared.zones.JournalZone.{JournalZone}
 use Rattle.core_model.specs.declared.zones.LogicalZone.{LogicalZone}
+use Rattle.core_model.specs.Facts.{kept_by, kept_phase}
 use Rattle.core_model.specs.Tokens.{holds, lock_weight}
 use Rattle.plain_laws.specs.Sums.{total, bit}
 
@@ -21,10 +22,7 @@ IsIn one v = v.phase ≡ one
 
 -- the requests that a zone keeps are each in its one phase
 abbrev pub KeptIn : ZoneData → Type 0
-KeptIn (at.Desk desk) = AllByRecursion (IsIn phase.Reply) desk.parked
-KeptIn (at.Logical l) = AllByRecursion (IsIn phase.Wait) l.waiting
-KeptIn (at.Journal j) = AllByRecursion (IsIn phase.Enter) j.waiting
-KeptIn other = Unit {0}
+KeptIn d = AllByRecursion (IsIn (kept_phase d)) (kept_by d)
 
 -- the request of a sealed block is in phase Enter
 abbrev pub SealedIn : List Item → Type 0

@@ -13,23 +13,20 @@ use Rattle.core_model.specs.declared.zones.Lock.{Lock}
 use Rattle.core_model.specs.declared.zones.LogicalZone.{LogicalZone}
 use Rattle.core_model.specs.declared.zones.Zone.{Zone}
 use Rattle.core_model.specs.Facts.{ItemOk, LockOk, DataOk, ZoneOk}
-use Rattle.core_model.specs.LogicalRows.{is_held}
 use Rattle.core_model.specs.Phases.{Where, AtDesk, AtHome, AtPhysical, AtJournal, AtDevice, InNoLane, row, number_at}
 use Rattle.core_model.specs.Zones.{zone_number, logical_zone}
 use Rattle.core_model.specs.Sessions.{Session}
 use Rattle.plain_laws.specs.Sums.{total, bit, Each}
-use Rattle.core_model.specs.Tokens.{Balanced, weight, given, queued, of_vio, holds, holder_weight, lock_weight, locks_at, lease_token}
+use Rattle.core_model.specs.Tokens.{Balanced, weight, given, of_vio, holds, holder_weight, lock_weight, locks_at, lease_token}
 use Rattle.core_model.specs.Trace.{Trace}
-use Rattle.plain_laws.proofs.ListLaws.{every-map, total-get, total_alone, nobody_else, summand}
+use Rattle.plain_laws.proofs.ListLaws.{every-map, total-get, total_alone}
+use Rattle.core_laws.proofs.kept.Keys.{any}
 use Rattle.core_laws.proofs.tokens.Known.{Leased}
 use Rattle.vdo_model.specs.Places.{zone_of}
 
 -- the number of the logical zone of an address
 abbrev pub home_of : Session → ℕ → ℕ
 home_of s a = logical_zone (zone_of s.sizes.zones a)
-
-abbrev pub any : ℕ → Bool
-any place = true
 
 -- locks of other addresses weigh nothing
 no_locks : (a : ℕ) (test : ℕ → Bool) (locks : List Lock) → AllByRecursion (λ (lock : Lock). lock.at.0 ≡ a → ⊥) locks → total (lock_weight a test) locks ≡ 0
@@ -49,59 +46,19 @@ split_locks a test (lock ∷ locks) = let x = one (lock.at.0 == a) (test lock.pl
     one true false = refl
     one false c = refl
 
--- a lock with weight is held
-held_there : (a : ℕ) (locks : List Lock) → 1 ≤ total (lock_weight a any) locks → is_held a locks ≡ true
-held_there a [] h = absurd (omega arith)
-held_there a (lock ∷ locks) h = elim (eqb_tells lock.at.0 a) [
-  | inl same ↦ rw same.0 refl
-  | inr other ↦ let k = rw other.0 at h in rw other.0 (held_there a locks (omega (arith, k)))
-]
-
 module _ (s : Session) (t : Trace) (a : ℕ) where
-  data_gives : (test : ℕ → Bool) (j : ℕ) (d : ZoneData) → DataOk s t j d → (j ≡ home_of s a → ⊥) → locks_at a test d ≡ 0
-  data_gives test j (at.Desk d) own ne = refl
-  data_gives test j (at.Logical l) own ne =
-      no_locks a test l.held (every-map {P = LockOk s l} (λ (lock : Lock) ok here. ne (own.number_is ∙ ap logical_zone (sym ok.0 ∙ ap (zone_of s.sizes.zones) here))) l.held own.locks)
-  data_gives test j (at.Physical p) own ne = refl
-  data_gives test j (at.Journal k) own ne = refl
-  data_gives test j (at.Device d) own ne = refl
-
-  data_once : (j : ℕ) (d : ZoneData) → DataOk s t j d → locks_at a any d ≤ 1
-  data_once j (at.Desk d) own = omega arith
-  data_once j (at.Logical l) own = own.once a
-  data_once j (at.Physical p) own = omega arith
-  data_once j (at.Journal k) own = omega arith
-  data_once j (at.Device d) own = omega arith
+  pub locks_elsewhere : (test : ℕ → Bool) (j : ℕ) (d : ZoneData) → DataOk s t j d → (j ≡ home_of s a → ⊥) → locks_at a test d ≡ 0
+  locks_elsewhere test j (at.Logical l) own ne =
+      no_locks a test l.held (every-map {P = LockOk s l.zone l.next} (λ (lock : Lock) ok here. ne (own.number_is ∙ ap logical_zone (sym ok.0 ∙ ap (zone_of s.sizes.zones) here))) l.held own.sound.locks.locks_are)
+  locks_elsewhere test j other own ne = refl
 
   module _ (zones : List Zone) (each : Each (ZoneOk s t) zones) where
     -- only the home of an address gives its lock
     pub given_at_home : (test : ℕ → Bool) (n : ℕ) (z : Zone) → slice_get zones n ≡ Some z → n ≡ home_of s a → total (given (lease_token a test)) zones ≡ locks_at a test z.keeps
-    given_at_home test n z had home = total_alone (given (lease_token a test)) zones n z had (λ j y k ne. data_gives test j y.keeps (each j y k).own (λ q. ne (q ∙ sym home)))
-
-    gives_home : (j : ℕ) (y : Zone) → slice_get zones j ≡ Some y → 1 ≤ locks_at a any y.keeps → j ≡ home_of s a
-    gives_home j y k h = elim (eqb_tells j (home_of s a)) [
-      | inl same ↦ same.1
-      | inr other ↦ let x = data_gives any j y.keeps (each j y k).own other.1 in absurd (omega (arith, x, h))
-    ]
-
-    -- and gives one lock at most
-    pub given_once : total (given (lease_token a any)) zones ≤ 1
-    given_once = by_sum (total (given (lease_token a any)) zones) refl
-      where
-        by_sum : (n : ℕ) → total (given (lease_token a any)) zones ≡ n → total (given (lease_token a any)) zones ≤ 1
-        by_sum n e = elim (eqb_tells n 0) [
-          | inl same ↦ let k = same.1 in omega (arith, e, k)
-          | inr other ↦
-              let apart = other.1 in
-              let u = summand (given (lease_token a any)) zones (omega (arith, e, apart)) in
-              let home = gives_home u.at u.item u.is u.some in
-              let x = given_at_home any u.at u.item u.is home in
-              let y = data_once u.at u.item.keeps (each u.at u.item u.is).own in
-              omega (arith, x, y)
-        ]
+    given_at_home test n z had home = total_alone (given (lease_token a test)) zones n z had (λ j y k ne. locks_elsewhere test j y.keeps (each j y k).own (λ q. ne (q ∙ sym home)))
 
 -- A request served at a logical zone is served at its home.
-at_home : (sizes : Sizes) (n zone : ℕ) (home : ZoneId) (q : Where) → n ≡ logical_zone zone → zone < sizes.zones → n ≡ number_at sizes home q → n ≡ zone_number sizes home
+pub at_home : (sizes : Sizes) (n zone : ℕ) (home : ZoneId) (q : Where) → n ≡ logical_zone zone → zone < sizes.zones → n ≡ number_at sizes home q → n ≡ zone_number sizes home
 at_home sizes n zone home AtHome is below to = to
 at_home sizes n zone home AtDesk is below to = absurd (omega (arith, is, below, to))
 at_home sizes n zone home AtPhysical is below to = absurd (omega (arith, is, below, to))
@@ -131,7 +88,7 @@ leased_front s t zones n z l v rest each balance had front keeps h test =
     let ok = each n z had in
     let own = subst (λ (d : ZoneData). DataOk s t n d) keeps ok.own in
     let first = (subst (λ (items : List Item). AllByRecursion (ItemOk s t n) items) front ok.inbox).0 in
-    let home : n ≡ home_of s v.at.0 = at_home s.sizes n l.zone v.home (row v.phase).zone own.number_is own.among first.2 ∙ ap (zone_number s.sizes) first.0.home in
+    let home : n ≡ home_of s v.at.0 = at_home s.sizes n l.zone v.home (row v.phase).zone own.number_is own.sound.among first.2 ∙ ap (zone_number s.sizes) first.0.home in
     let a = v.at.0 in
     let gave : (test : ℕ → Bool) → total (given (lease_token a test)) zones ≡ total (lock_weight a test) l.held = λ test. given_at_home s t a zones each test n z had home ∙ ap (locks_at a test) keeps in
     let bound : (test : ℕ → Bool) → bit (test v.place) ≤ total (lock_weight a test) l.held = λ test.
@@ -143,31 +100,4 @@ leased_front s t zones n z l v rest each balance had front keeps h test =
     omega (arith, one, w, inbox, g, e)
     in
     one_of_two test v.place (total (lock_weight a test) l.held) (total (lock_weight a (λ p. not (test p))) l.held) (total (lock_weight a any) l.held)
-    (split_locks a test l.held) (own.once a) (bound test) (bound (λ p. not (test p)))
-
--- The item with the lock of an address is alone: no other item has it, and it is held at home.
-pub record LeaseAlone (s : Session) (zones : List Zone) (n : ℕ) (z : Zone) (rest : List Item) (a : ℕ) : Type 0 where
-  pub others : Each (λ j y. (j ≡ n → ⊥) → weight (lease_token a any) y ≡ 0) zones
-  pub behind : total (of_vio (holder_weight a any)) rest ≡ 0
-  pub lanes : total (total (of_vio (holder_weight a any))) z.outboxes ≡ 0
-  pub kept : queued (of_vio (holder_weight a any)) z.keeps ≡ 0
-  pub held : (m : ℕ) (y : Zone) (l : LogicalZone) → slice_get zones m ≡ Some y → y.keeps ≡ at.Logical l → l.zone ≡ zone_of s.sizes.zones a → is_held a l.held ≡ true
-
-pub lease_alone : (s : Session) (t : Trace) (zones : List Zone) (n : ℕ) (z : Zone) (it : Item) (rest : List Item) (a : ℕ)
-    → Each (ZoneOk s t) zones → Balanced (lease_token a any) zones → slice_get zones n ≡ Some z → z.inbox ≡ it ∷ rest → of_vio (holder_weight a any) it ≡ 1
-    → LeaseAlone s zones n z rest a
-lease_alone s t zones n z it rest a each balance had front one =
-    let w = total-get (weight (lease_token a any)) zones n z had in
-    let inbox = ap (total (of_vio (holder_weight a any))) front in
-    let once = given_once s t a zones each in
-    record {
-      others = nobody_else (weight (lease_token a any)) zones n z had (omega (arith, w, inbox, once, one, balance));
-      behind = omega (arith, w, inbox, once, one, balance);
-      lanes = omega (arith, w, inbox, once, one, balance);
-      kept = omega (arith, w, inbox, once, one, balance);
-      held = λ m y l k keeps is.
-          let own = subst (λ (d : ZoneData). DataOk s t m d) keeps (each m y k).own in
-          let g = given_at_home s t a zones each any m y k (own.number_is ∙ ap logical_zone is) in
-          let e = ap (locks_at a any) keeps in
-          held_there a l.held (omega (arith, w, inbox, one, balance, g, e));
-    }
+    (split_locks a test l.held) (own.sound.locks.once a) (bound test) (bound (λ p. not (test p)))

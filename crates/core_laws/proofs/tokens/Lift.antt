@@ -10,6 +10,7 @@ use Rattle.core_model.specs.declared.zones.ZoneData.TheVariants as at
 use Rattle.core_model.specs.declared.zones.Zone.{Zone}
 use Rattle.plain_laws.specs.Sums.{total}
 use Rattle.core_model.specs.Steps.{sent_to, sent, delivered, Core, StepOf, MoveOf}
+use Rattle.core_model.specs.Facts.{kept_by}
 use Rattle.core_model.specs.Tokens.{Token, as_items, queued, weight, given, Balanced, AtMost}
 use Rattle.core_model.specs.Vios.{Post}
 use Rattle.core_model.specs.Zones.{zone_number}
@@ -22,13 +23,6 @@ use Rattle.core_laws.proofs.tokens.ActSums.{IsRow, posts_sum}
 abbrev pub Within : Sizes → ℕ → List Post → Type 0
 Within sizes zones posts = AllByRecursion (λ (p : Post). zone_number sizes p.0 < zones) posts
 
--- the requests that a zone keeps beside its lanes
-abbrev pub kept_by : ZoneData → List Vio
-kept_by (at.Desk desk) = desk.parked
-kept_by (at.Logical l) = l.waiting
-kept_by (at.Journal j) = j.waiting
-kept_by other = []
-
 items_total : (weigh : Item → ℕ) (vs : List Vio) → total weigh (as_items vs) ≡ total (λ v. weigh (Request v)) vs
 items_total weigh [] = refl
 items_total weigh (v ∷ vs) = ap (λ n. weigh (Request v) + n) (items_total weigh vs)
@@ -39,10 +33,6 @@ queued_is weigh (at.Logical l) = items_total weigh l.waiting
 queued_is weigh (at.Journal j) = items_total weigh j.waiting
 queued_is weigh (at.Physical p) = refl
 queued_is weigh (at.Device d) = refl
-
--- what they weigh
-abbrev pub kept_weight : Token → ZoneData → ℕ
-kept_weight t d = total (λ v. t.item (Request v)) (kept_by d)
 
 -- posts change neither the number, nor the data, nor how many lanes there are
 pub record SameData (z z' : Zone) : Type 0 where

@@ -1,13 +1,11 @@
 -- A request is begun once, and under way in one place.
-use Rattle.std.proofs.Common.{◌≡◌, ℕ, ◌+◌, ◌≤◌, List, [], ◌∷◌, Some, slice_get, refl, ap, ◌∙◌, inl, inr, arith}
+use Rattle.std.proofs.Common.{◌≡◌, ℕ, ◌+◌, ◌≤◌, List, [], ◌∷◌, refl, ap, inl, inr, arith}
 use Rattle.std.proofs.lemmas.Bool.Decides.{eqb_tells}
 use Rattle.blk_base.specs.declared.request.Writer.{Writer}
 use Rattle.vdo_model.specs.DeskLog.{IsDeskLog, begun}
-use Rattle.vdo_model.specs.Scripts.{Script, same_writer}
+use Rattle.vdo_model.specs.Scripts.{Script}
 use Rattle.vdo_model.specs.declared.report.DeskLine.{DeskLine}
 use Rattle.vdo_model.specs.declared.report.DeskLine.TheVariants.{Begin, Answer}
-use Rattle.core_model.specs.declared.items.Item.{Item}
-use Rattle.core_model.specs.declared.items.Item.TheVariants.{Request, Block, StopNotice}
 use Rattle.core_model.specs.declared.zones.ZoneData.{ZoneData}
 use Rattle.core_model.specs.declared.zones.ZoneData.TheVariants as at
 use Rattle.core_model.specs.declared.zones.Zone.{Zone}
@@ -15,13 +13,12 @@ use Rattle.core_model.specs.Facts.{DataOk, ZoneOk}
 use Rattle.core_model.specs.Zones.{desk_zone}
 use Rattle.core_model.specs.RightTraces.{RightTrace}
 use Rattle.core_model.specs.Sessions.{Session}
-use Rattle.plain_laws.specs.Sums.{total, bit, Each}
-use Rattle.core_model.specs.Tokens.{weight, given, Balanced, begins_of, in_log, request_token}
+use Rattle.plain_laws.specs.Sums.{total, Each}
+use Rattle.core_model.specs.Tokens.{given, begins_of, in_log, request_token}
 use Rattle.core_model.specs.Trace.{Trace, lines}
 use Rattle.core_laws.proofs.trace.DeskOfTrace.{desk_log_right}
 use Rattle.core_laws.proofs.trace.Growth.{begun_more}
-use Rattle.vdo_model.proofs.NameLaws.{same_self, same_tells}
-use Rattle.core_laws.proofs.tokens.Owners.{alone, balanced_most}
+use Rattle.vdo_model.proofs.NameLaws.{same_tells}
 use Rattle.core_laws.proofs.kept.ZoneKinds.{total_once}
 
 -- one more of its stream is begun
@@ -55,38 +52,11 @@ begun_once depth script (Begin v ∷ older) w log = elim (same_tells v w) [
   | inr other ↦ rw other.0 (omega (arith, begun_once depth script older w log.1))
 ]
 
--- an item has this request
-abbrev pub Names : Writer → Item → Type 0
-Names w (Request v) = v.request ≡ w
-Names w (Block b) = b.vio.request ≡ w
-Names w StopNotice = ⊥
-
-own_weight : (v w : Writer) → v ≡ w → bit (same_writer v w) ≡ 1
-own_weight v w is = ap (λ (u : Writer). bit (same_writer u w)) is ∙ ap bit (same_self w)
-
-pub named_weighs : (w : Writer) (it : Item) → Names w it → (request_token w).item it ≡ 1
-named_weighs w (Request v) is = own_weight v.request w is
-named_weighs w (Block b) is = own_weight b.vio.request w is
-named_weighs w StopNotice is = absurd is
-
--- one that weighs nothing hasn't
-pub unnamed : (w : Writer) (it : Item) → (request_token w).item it ≡ 0 → Names w it → ⊥
-unnamed w it none is = let one = named_weighs w it is in absurd (omega (arith, none, one))
-
 module _ (s : Session) (t : Trace) (right : RightTrace s t) (zones : List Zone) (each : Each (ZoneOk s t) zones) (w : Writer) where
   one_begin_at : (n : ℕ) (d : ZoneData) → DataOk s t n d → (in_log (begins_of w) d ≤ 1) × ((n ≡ desk_zone → ⊥) → in_log (begins_of w) d ≡ 0)
-  one_begin_at n (at.Desk desk) ok = (rw ok.log_is (begun_once s.sizes.depth s.script (lines t) w (desk_log_right s t right)), λ ne. absurd (ne ok.number_is))
-  one_begin_at n (at.Logical l) ok = (omega arith, λ ne. refl)
-  one_begin_at n (at.Physical p) ok = (omega arith, λ ne. refl)
-  one_begin_at n (at.Journal j) ok = (omega arith, λ ne. refl)
-  one_begin_at n (at.Device d) ok = (omega arith, λ ne. refl)
+  one_begin_at n (at.Desk desk) ok = (rw ok.lists.log_is (begun_once s.sizes.depth s.script (lines t) w (desk_log_right s t right)), λ ne. absurd (ne ok.number_is))
+  one_begin_at n other ok = (omega arith, λ ne. refl)
 
   -- it is given out once
   pub request_once : total (given (request_token w)) zones ≤ 1
   request_once = total_once (given (request_token w)) zones desk_zone (λ n z had. one_begin_at n z.keeps (each n z had).own)
-
-  -- where its item is at the front of a zone's inbox, nobody else has it
-  pub request_alone : (n : ℕ) (z : Zone) (it : Item) (rest : List Item) → Balanced (request_token w) zones → slice_get zones n ≡ Some z → z.inbox ≡ it ∷ rest → Names w it
-      → Each (λ j y. (j ≡ n → ⊥) → weight (request_token w) y ≡ 0) zones × (weight (request_token w) (record z { inbox = rest }) ≡ 0)
-  request_alone n z it rest balance had front names =
-      alone (request_token w) zones n z it rest request_once (balanced_most (request_token w) zones balance) had front (omega (arith, named_weighs w it names))

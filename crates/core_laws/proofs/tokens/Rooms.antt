@@ -139,7 +139,7 @@ module _ (s : Session) (core : Core) (legal : Legal s core) where
       let desk = desk_sits s core.trace core.zones legal.each legal.count in
       let k = subst (λ (d : ZoneData). DataOk s core.trace desk_zone d) desk.keeps (legal.each desk_zone desk.zone desk.had).own in
       total_alone (λ (z : Zone). in_log f z.keeps) core.zones desk_zone desk.zone desk.had (λ j y there ne. no_log j y.keeps ne (legal.each j y there).own)
-      ∙ ap (in_log f) desk.keeps ∙ ap (total f) k.log_is
+      ∙ ap (in_log f) desk.keeps ∙ ap (total f) k.lists.log_is
     where
       no_log : (j : ℕ) (d : ZoneData) → (j ≡ desk_zone → ⊥) → DataOk s core.trace j d → in_log f d ≡ 0
       no_log j (at.Desk d) ne k = absurd (ne k.number_is)

@@ -92,7 +92,7 @@ posts-not_kept_too : PostsBatch 0 1 (views two [] []) (views two [] []) (lanes [
 posts-not_kept_too p =
     let is = the_sender two [] [] p.sender p.had in
     let now : views two [] [] ≡ views [] [] [] =
-        subst (λ (v : View). views two [] [] ≡ slice_set (views two [] []) 0 (record v { zone = record v.zone { outboxes = slice_set v.zone.outboxes 1 [] } })) (sym is) p.views_is in
+    subst (λ (v : View). views two [] [] ≡ slice_set (views two [] []) 0 (record v { zone = record v.zone { outboxes = slice_set v.zone.outboxes 1 [] } })) (sym is) p.views_is in
     let sizes = ap outbox_of now in
     absurd cc
 
@@ -113,7 +113,7 @@ receives-not_another_batch r =
     let whole = held two r.batch r.lane in
     let is = the_receiver [] [] [] r.receiver r.had in
     let now : views [] [] one ≡ views [] [] r.batch =
-        subst (λ (v : View). views [] [] one ≡ slice_set (views [] [] []) 1 (record v { received = slice_set v.received 0 r.batch })) (sym is) r.views_is in
+    subst (λ (v : View). views [] [] one ≡ slice_set (views [] [] []) 1 (record v { received = slice_set v.received 0 r.batch })) (sym is) r.views_is in
     let there : views [] [] one ≡ views [] [] two = subst (λ (batch : List Item). views [] [] one ≡ views [] [] batch) (sym whole) now in
     let sizes = ap received_of there in
     absurd cc

@@ -1,0 +1,186 @@
+-- A zone that weighs nothing for what a happening is about keeps all its facts. Paid once for all kinds of zone and item.
+use Rattle.std.proofs.Common.{◌≡◌, ◌≢◌, ◌⊎◌, ℕ, ◌≤◌, ◌==◌, Bool, true, false, Some, List, [], ◌∷◌, ◌++◌, slice_get, refl, ap, sym, ◌∙◌, subst, inl, inr, arith}
+use Rattle.std.proofs.lemmas.Bool.{eq-eqb}
+use Rattle.std.proofs.lemmas.Bool.Decides.{eqb_tells}
+use Rattle.std.specs.List.{AllByRecursion}
+use Rattle.vdo_model.specs.FlushMarks.{successes}
+use Rattle.vdo_model.specs.Places.{drawn, zone_of}
+use Rattle.vdo_model.specs.ZoneOrder.{places_in}
+use Rattle.core_model.specs.declared.items.Item.{Item}
+use Rattle.core_model.specs.declared.items.Item.TheVariants.{Request}
+use Rattle.core_model.specs.declared.items.Phase.{Phase}
+use Rattle.core_model.specs.declared.items.Vio.{Vio}
+use Rattle.core_model.specs.declared.sizes.Sizes.{Sizes}
+use Rattle.core_model.specs.declared.zones.ZoneData.{ZoneData}
+use Rattle.core_model.specs.declared.zones.ZoneData.TheVariants as at
+use Rattle.core_model.specs.declared.zones.Zone.{Zone}
+use Rattle.core_model.specs.Facts.{ItemOk, KeptOk, HasLists, Answers, WasTold, RestsAt, ZoneOk, name_of, kept_by, kept_phase}
+use Rattle.core_model.specs.Zones.{zone_number, desk_zone, logical_zone, physical_zone, journal_zone, device_zone}
+use Rattle.core_model.specs.RightTraces.{AllBelow}
+use Rattle.core_model.specs.Sessions.{Session}
+use Rattle.core_model.specs.Tokens.{Token, weight}
+use Rattle.core_model.specs.Trace.{Happening, Says, Flushes, Draws, Enters, Commits, Sets, Gives, Takes, Calls, Fails, Trace, lines, calls, marks, places, entered, committed, done, taken, has_stopped, of_address}
+use Rattle.core_laws.proofs.kept.Carried.{kept_kept, item_kept}
+use Rattle.core_laws.proofs.kept.Keys.{Key, OfAddress, OfJournal, token_of, Spares, happens_in, Clears, mine_or_spared, free_one}
+use Rattle.core_laws.proofs.kept.Spared.{of_other, quiet_kept, stop_kept, abort_kept}
+use Rattle.core_laws.proofs.kept.StandsOn.{SparesBlocks, rests_kept, pending_kept}
+use Rattle.core_laws.proofs.tokens.Lift.{queued_is}
+use Rattle.plain_laws.proofs.ListLaws.{every-front, total-get}
+use Rattle.plain_laws.specs.Sums.{total, Each}
+
+-- What its own lists are parts of stays over what happens in another zone.
+module _ (sizes : Sizes) where
+  lines_same : (h : Happening) (t : Trace) → desk_zone ≢ happens_in sizes h → lines (h ∷ t) ≡ lines t
+  lines_same (Says line) t off = absurd (off refl)
+  lines_same (Flushes m) t off = absurd (off refl)
+  lines_same (Fails w c true) t off = refl
+  lines_same other t off = refl
+
+  marks_same : (h : Happening) (t : Trace) → desk_zone ≢ happens_in sizes h → marks (h ∷ t) ≡ marks t
+  marks_same (Flushes m) t off = absurd (off refl)
+  marks_same other t off = refl
+
+  zone_apart : (a b : ℕ) → logical_zone b ≢ logical_zone a → (a == b) ≡ false
+  zone_apart a b off = elim (eqb_tells a b) [ inl same ↦ absurd (off (ap logical_zone (sym same.1))) | inr other ↦ other.0 ]
+
+  places_same : (h : Happening) (t : Trace) (zone : ℕ) → logical_zone zone ≢ happens_in sizes h → (places_in zone (places (h ∷ t)) ≡ places_in zone (places t)) × (drawn zone (places (h ∷ t)) ≡ drawn zone (places t))
+  places_same (Draws p) t zone off = rw (zone_apart p.zone zone off) (refl, refl)
+  places_same other t zone off = (refl, refl)
+
+  slot_apart : (b a : ℕ) → logical_zone (zone_of sizes.zones a) ≢ logical_zone (zone_of sizes.zones b) → b ≢ a
+  slot_apart b a off same = off (ap (λ c. logical_zone (zone_of sizes.zones c)) (sym same))
+
+  slots_same : (h : Happening) (t : Trace) (a : ℕ) → logical_zone (zone_of sizes.zones a) ≢ happens_in sizes h → of_address a (done (h ∷ t)) ≡ of_address a (done t)
+  slots_same (Sets e) t a off = of_other e (done t) a (slot_apart e.at.0 a off)
+  slots_same other t a off = refl
+
+  still_below : (h : Happening) (t : Trace) (a place : ℕ) → logical_zone (zone_of sizes.zones a) ≢ happens_in sizes h → AllBelow t a place → AllBelow (h ∷ t) a place
+  still_below (Sets e) t a place off b = record { writes = ((λ same. absurd (slot_apart e.at.0 a off same)), b.writes); reads = b.reads }
+  still_below (Gives g) t a place off b = record { writes = b.writes; reads = ((λ same. absurd (slot_apart g.at.0 a off same)), b.reads) }
+  still_below other t a place off b = record { writes = b.writes; reads = b.reads }
+
+  taken_same : (h : Happening) (t : Trace) → physical_zone sizes ≢ happens_in sizes h → taken (h ∷ t) ≡ taken t
+  taken_same (Takes w x) t off = absurd (off refl)
+  taken_same other t off = refl
+
+  entries_same : (h : Happening) (t : Trace) → journal_zone sizes ≢ happens_in sizes h → (entered (h ∷ t) ≡ entered t) × (committed (h ∷ t) ≡ committed t)
+  entries_same (Enters e) t off = absurd (off refl)
+  entries_same (Commits e) t off = absurd (off refl)
+  entries_same other t off = (refl, refl)
+
+  device_same : (h : Happening) (t : Trace) → device_zone sizes ≢ happens_in sizes h → (calls (h ∷ t) ≡ calls t) × (has_stopped (h ∷ t) ≡ has_stopped t)
+  device_same (Calls c) t off = absurd (off refl)
+  device_same (Fails w c kept) t off = absurd (off refl)
+  device_same other t off = (refl, refl)
+
+module _ (s : Session) (h : Happening) (t : Trace) where
+  lists_kept : (d : ZoneData) → zone_number s.sizes (name_of d) ≢ happens_in s.sizes h → HasLists s t d → HasLists s (h ∷ t) d
+  lists_kept (at.Desk desk) off k = record { log_is = k.log_is ∙ sym (lines_same s.sizes h t off); marks_is = k.marks_is ∙ sym (marks_same s.sizes h t off) }
+  lists_kept (at.Logical l) off k = record {
+    places_is = k.places_is ∙ sym (places_same s.sizes h t l.zone off).0;
+    next_is = k.next_is ∙ sym (places_same s.sizes h t l.zone off).1;
+    slots_are = λ a zone. k.slots_are a zone ∙ sym (slots_same s.sizes h t a (at_home a zone));
+    below = λ a zone. still_below s.sizes h t a l.next (at_home a zone) (k.below a zone);
+  }
+    where
+      at_home : (a : ℕ) → zone_of s.sizes.zones a ≡ l.zone → logical_zone (zone_of s.sizes.zones a) ≢ happens_in s.sizes h
+      at_home a zone is = off (ap logical_zone (sym zone) ∙ is)
+  lists_kept (at.Physical p) off k = record { left = rw (taken_same s.sizes h t off) k.left }
+  lists_kept (at.Journal j) off k = let same = entries_same s.sizes h t off in record { entered_is = k.entered_is ∙ sym same.0; committed_is = k.committed_is ∙ sym same.1 }
+  lists_kept (at.Device d) off k = let same = device_same s.sizes h t off in record { calls_is = k.calls_is ∙ ap successes (sym same.0); stopped_is = k.stopped_is ∙ sym same.1 }
+
+  -- What it was told stays over everything.
+  pub told_kept : (d : ZoneData) → WasTold t d → WasTold (h ∷ t) d
+  told_kept (at.Desk desk) k = λ heard. stop_kept h t (k heard)
+  told_kept (at.Logical l) k = λ a retired. (stop_kept h t (k a retired).0, abort_kept h t a l.next (k a retired).1)
+  told_kept (at.Journal j) k = λ closed. stop_kept h t (k closed)
+  told_kept other k = tt
+
+  -- What it answers for stays where the happening spares what it weighs for.
+  rests_on : (busy broken : Bool) → (busy ≡ false → Spares s t h OfJournal) → RestsAt s t busy broken → RestsAt s (h ∷ t) busy broken
+  rests_on true broken spares k = k
+  rests_on false false spares k =
+      let same = spares refl in
+      let blocks : SparesBlocks h (committed t) = subst (SparesBlocks h) k.0 same.2 in
+      (same.0.entered_same ∙ k.0 ∙ sym same.0.committed_same, rw same.0.committed_same (rests_kept s h t (committed t) same.1 blocks k.1))
+  rests_on false true spares k = let same = spares refl in pending_kept s h t same.0 same.1 same.2 k
+
+  pub answers_kept : (d : ZoneData) → ((k : Key) → 1 ≤ (token_of s.sizes k).own d → Spares s t h k) → Answers s t d → Answers s (h ∷ t) d
+  answers_kept (at.Logical l) spares k = λ a zone free alive. quiet_kept h t a (spares (OfAddress a) (free_one _ _ _ (eq-eqb _ _ zone) free alive)) (k a zone free alive)
+  answers_kept (at.Journal j) spares k = rests_on j.busy j.broken (λ idle. spares OfJournal (rw idle (omega arith))) k
+  answers_kept other spares k = tt
+
+  -- Of things with a weight each: where they weigh nothing for a key, or it is spared, each has its fact as before.
+  abbrev pub Weighs : (Key → ℕ) → Type 0
+  Weighs weigh = (k : Key) → (weigh k ≡ 0) ⊎ Spares s t h k
+
+  pub each_on : {X : Type 0} (P Q : X → Type 0) (weigh : Key → X → ℕ) → ((x : X) → ((k : Key) → 1 ≤ weigh k x → Spares s t h k) → P x → Q x) → (xs : List X) → Weighs (λ k. total (weigh k) xs)
+      → AllByRecursion P xs → AllByRecursion Q xs
+  each_on P Q weigh on [] spares has = tt
+  each_on P Q weigh on (x ∷ xs) spares has = (
+    on x (λ k some. elim (spares k) [ inl none ↦ absurd (omega (arith, none, some)) | inr spared ↦ spared ]) has.0,
+    each_on P Q weigh on xs (λ k. elim (spares k) [ inl none ↦ inl (omega (arith, none)) | inr spared ↦ inr spared ]) has.1,
+  )
+
+  pub items_on : (to : ℕ) (items : List Item) → Weighs (λ k. total (token_of s.sizes k).item items) → AllByRecursion (ItemOk s t to) items → AllByRecursion (ItemOk s (h ∷ t) to) items
+  items_on to items spares has = each_on (ItemOk s t to) (ItemOk s (h ∷ t) to) (λ k. (token_of s.sizes k).item) (item_kept s h t to) items spares has
+
+  pub kept_on : (q : Phase) (vs : List Vio) → Weighs (λ k. total (λ v. (token_of s.sizes k).item (Request v)) vs) → AllByRecursion (KeptOk s t q) vs → AllByRecursion (KeptOk s (h ∷ t) q) vs
+  kept_on q vs spares has = each_on (KeptOk s t q) (KeptOk s (h ∷ t) q) (λ k v. (token_of s.sizes k).item (Request v)) (kept_kept s h t q) vs spares has
+
+  pub lanes_on : (lanes : List (List Item)) → Weighs (λ k. total (total (token_of s.sizes k).item) lanes) → Each (λ to. AllByRecursion (ItemOk s t to)) lanes → Each (λ to. AllByRecursion (ItemOk s (h ∷ t) to)) lanes
+  lanes_on lanes spares has to lane there = items_on to lane (λ k. elim (spares k) [
+    | inl none ↦ let part = total-get (total (token_of s.sizes k).item) lanes to lane there in inl (omega (arith, none, part))
+    | inr spared ↦ inr spared
+  ]) (has to lane there)
+
+  -- A zone where it doesn't happen, and that weighs nothing for what it is about, keeps all its facts.
+  pub zone_on : (n : ℕ) (z : Zone) → n ≢ happens_in s.sizes h → Weighs (λ k. weight (token_of s.sizes k) z) → ZoneOk s t n z → ZoneOk s (h ∷ t) n z
+  zone_on n z off spares ok = record {
+    number_is = ok.number_is;
+    lanes = ok.lanes;
+    inbox = items_on n z.inbox (part (λ k. total (token_of s.sizes k).item z.inbox) (λ k. omega arith)) ok.inbox;
+    outboxes = lanes_on z.outboxes (part (λ k. total (total (token_of s.sizes k).item) z.outboxes) (λ k. omega arith)) ok.outboxes;
+    own = record {
+      number_is = ok.own.number_is;
+      lists = lists_kept z.keeps (λ is. off (ok.own.number_is ∙ is)) ok.own.lists;
+      sound = ok.own.sound;
+      kept = kept_on (kept_phase z.keeps) (kept_by z.keeps) (part (λ k. total (λ v. (token_of s.sizes k).item (Request v)) (kept_by z.keeps)) (λ k. omega (arith, queued_is (token_of s.sizes k).item z.keeps))) ok.own.kept;
+      answers = answers_kept z.keeps (λ k some. elim (spares k) [ inl none ↦ absurd (omega (arith, none, some)) | inr spared ↦ spared ]) ok.own.answers;
+      told = told_kept z.keeps ok.own.told;
+    };
+  }
+    where
+      part : (weigh : Key → ℕ) → ((k : Key) → weigh k ≤ weight (token_of s.sizes k) z) → Weighs weigh
+      part weigh less k = elim (spares k) [ inl none ↦ let most = less k in inl (omega (arith, none, most)) | inr spared ↦ inr spared ]
+
+-- Beside what a zone serves: the other zones, and the rest of its own lanes.
+pub record Sides (s : Session) (t : Trace) (zones : List Zone) (n : ℕ) (z : Zone) : Type 0 where
+  pub others : Each (λ j y. (j ≡ n → ⊥) → ZoneOk s t j y) zones
+  pub inbox : AllByRecursion (ItemOk s t n) z.inbox
+  pub outboxes : Each (λ to. AllByRecursion (ItemOk s t to)) z.outboxes
+
+-- before anything happens
+pub sides_before : (s : Session) (t : Trace) (zones : List Zone) (n : ℕ) (z : Zone) (front rest : List Item) → Each (ZoneOk s t) zones → slice_get zones n ≡ Some z → z.inbox ≡ front ++ rest
+    → Sides s t zones n (record z { inbox = rest })
+sides_before s t zones n z front rest each had taken =
+    let ok = each n z had in
+    record {
+      others = λ j y there ne. each j y there;
+      inbox = (every-front (ItemOk s t n) front rest (subst (λ (items : List Item). AllByRecursion (ItemOk s t n) items) taken ok.inbox)).1;
+      outboxes = ok.outboxes;
+    }
+
+-- nobody beside has any of a token
+pub record HasNoneBeside (zones : List Zone) (n : ℕ) (z : Zone) (token : Token) : Type 0 where
+  pub others : Each (λ j y. (j ≡ n → ⊥) → weight token y ≡ 0) zones
+  pub inbox : total token.item z.inbox ≡ 0
+  pub outboxes : total (total token.item) z.outboxes ≡ 0
+
+-- One more happening, of which nobody beside has what it is about.
+pub sides_after : (s : Session) (t : Trace) (zones : List Zone) (n : ℕ) (z : Zone) (h : Happening) → Clears s n (λ k. HasNoneBeside zones n z (token_of s.sizes k)) h t → Sides s t zones n z → Sides s (h ∷ t) zones n z
+sides_after s t zones n z h clears sides = record {
+  others = λ j y there ne. zone_on s h t j y (λ is. ne (is ∙ sym clears.zone)) (λ k. elim (mine_or_spared clears k) [ inl none ↦ inl (none.others j y there ne) | inr spared ↦ inr spared ]) (sides.others j y there ne);
+  inbox = items_on s h t n z.inbox (λ k. elim (mine_or_spared clears k) [ inl none ↦ inl none.inbox | inr spared ↦ inr spared ]) sides.inbox;
+  outboxes = lanes_on s h t z.outboxes (λ k. elim (mine_or_spared clears k) [ inl none ↦ inl none.outboxes | inr spared ↦ inr spared ]) sides.outboxes;
+}

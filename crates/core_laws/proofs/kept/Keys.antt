@@ -1,0 +1,130 @@
+-- The keys that facts are on: a request, an address, a data block, the journal. Whoever weighs for a key has facts on it,
+-- and of each key at most one is held in the whole core. Each happening is about some keys, and spares the others.
+use Rattle.std.proofs.Common.{◌≡◌, ◌⊎◌, ℕ, ◌≤◌, ◌==◌, ◌&&◌, Bool, true, false, not, Option, None, Some, refl, ap, subst, inl, inr, arith}
+use Rattle.std.proofs.lemmas.Bool.Decides.{eqb_tells}
+use Rattle.blk_base.specs.Regions.{IsDataBlock}
+use Rattle.blk_base.specs.declared.request.Writer.{Writer}
+use Rattle.vdo_model.specs.Places.{zone_of}
+use Rattle.vdo_model.proofs.NameLaws.{same_self, same_tells}
+use Rattle.core_model.specs.declared.items.Item.TheVariants.{Request}
+use Rattle.core_model.specs.declared.items.Vio.{Vio}
+use Rattle.core_model.specs.declared.sizes.Sizes.{Sizes}
+use Rattle.core_model.specs.declared.zones.ZoneData.{ZoneData}
+use Rattle.core_model.specs.declared.zones.ZoneData.TheVariants as at
+use Rattle.core_model.specs.LogicalRows.{is_among, is_held}
+use Rattle.core_model.specs.Zones.{desk_zone, logical_zone, physical_zone, journal_zone, device_zone}
+use Rattle.core_model.specs.Sessions.{Session}
+use Rattle.core_model.specs.Tokens.{Token, of_vio, holds, holder_weight, claims, request_token, block_token, journal_token}
+use Rattle.core_model.specs.Trace.{Happening, Says, Flushes, Draws, Enters, Commits, Sets, Gives, Takes, Aborts, Calls, Fails, Trace, entered}
+use Rattle.core_laws.proofs.kept.Spared.{OffRequest, OffNumber, about, SparesRequest, SparesAddress}
+use Rattle.core_laws.proofs.kept.StandsOn.{SparesBlock, SparesBlocks, SparesJournal, SparesEntries}
+use Rattle.plain_laws.specs.Sums.{bit}
+
+pub data Key : Type 0 where
+  OfRequest : Writer → Key
+  OfAddress : ℕ → Key
+  OfBlock : ℕ → Key
+  OfJournal : Key
+
+-- An address whose lock is out weighs with its holder. One that is free, and will be given out, weighs at its home.
+abbrev pub any : ℕ → Bool
+any place = true
+
+abbrev pub free_at : Sizes → ℕ → ZoneData → ℕ
+free_at sizes a (at.Logical l) = bit (zone_of sizes.zones a == l.zone && (not (is_held a l.held) && not (is_among a l.retired)))
+free_at sizes a other = 0
+
+abbrev pub home_at : Sizes → ℕ → ZoneData → ℕ
+home_at sizes a (at.Logical l) = bit (zone_of sizes.zones a == l.zone)
+home_at sizes a other = 0
+
+abbrev pub slot_token : Sizes → ℕ → Token
+slot_token sizes a = record { item = of_vio (holder_weight a any); own = free_at sizes a; gave = home_at sizes a }
+
+abbrev pub token_of : Sizes → Key → Token
+token_of sizes (OfRequest w) = request_token w
+token_of sizes (OfAddress a) = slot_token sizes a
+token_of sizes (OfBlock x) = block_token x
+token_of sizes OfJournal = journal_token
+
+-- who weighs: a request for itself, the holder of a lock for its address, a write that has taken a block for that block
+pub own_name : (v : Vio) → (request_token v.request).item (Request v) ≡ 1
+own_name v = ap bit (same_self v.request)
+
+pub holder_one : (v : Vio) → holds v.phase ≡ true → holder_weight v.at.0 any v ≡ 1
+holder_one v held = elim (eqb_tells v.at.0 v.at.0) [ inl same ↦ rw (held, same.0) refl | inr other ↦ absurd (other.1 refl) ]
+
+pub claim_one : (v : Vio) → claims v.phase ≡ true → (block_token v.block.0).item (Request v) ≡ 1
+claim_one v takes = elim (eqb_tells v.block.0 v.block.0) [ inl same ↦ rw (takes, same.0) refl | inr other ↦ absurd (other.1 refl) ]
+
+-- a journal that isn't idle is busy
+pub idle_none : (b : Bool) → bit (not b) ≡ 0 → b ≡ true
+idle_none true h = refl
+idle_none false h = absurd (omega (arith, h))
+
+-- a free address weighs at its home
+pub free_one : (b c d : Bool) → b ≡ true → c ≡ false → d ≡ false → 1 ≤ bit (b && (not c && not d))
+free_one b c d p q r = rw (p, q, r) (omega arith)
+
+-- A happening spares a key that it isn't about. About a data block are the calls that write it; about the journal the
+-- entries that it is handed or commits, and the calls that write a block of it or of its entries.
+abbrev pub Spares : Session → Trace → Happening → Key → Type 0
+Spares s t h (OfRequest w) = SparesRequest h w
+Spares s t h (OfAddress a) = SparesAddress h a
+Spares s t h (OfBlock x) = IsDataBlock s.sizes.geometry x → SparesBlock h x
+Spares s t h OfJournal = SparesEntries s h t × SparesJournal s h × SparesBlocks h (entered t)
+
+-- the zone where it happens
+abbrev pub happens_in : Sizes → Happening → ℕ
+happens_in sizes (Says line) = desk_zone
+happens_in sizes (Flushes m) = desk_zone
+happens_in sizes (Draws p) = logical_zone p.zone
+happens_in sizes (Enters e) = journal_zone sizes
+happens_in sizes (Commits e) = journal_zone sizes
+happens_in sizes (Sets e) = logical_zone (zone_of sizes.zones e.at.0)
+happens_in sizes (Gives g) = logical_zone (zone_of sizes.zones g.at.0)
+happens_in sizes (Takes w x) = physical_zone sizes
+happens_in sizes (Aborts e) = logical_zone (zone_of sizes.zones e.at.0)
+happens_in sizes (Calls c) = device_zone sizes
+happens_in sizes (Fails w c kept) = device_zone sizes
+
+-- What it is about is in the hands of the zone where it happens.
+abbrev pub IfAny : {X : Type 0} → (X → Type 0) → Option X → Type 0
+IfAny P None = Unit {0}
+IfAny P (Some x) = P x
+
+pub record Clears (s : Session) (n : ℕ) (mine : Key → Type 0) (h : Happening) (t : Trace) : Type 0 where
+  pub zone : n ≡ happens_in s.sizes h
+  pub request : IfAny (λ w. mine (OfRequest w)) (about h).request
+  pub address : IfAny (λ a. mine (OfAddress a)) (about h).address
+  pub block : (x : ℕ) → mine (OfBlock x) ⊎ Spares s t h (OfBlock x)
+  pub journal : mine OfJournal ⊎ Spares s t h OfJournal
+
+if_any : {X : Type 0} {P Q : X → Type 0} → ((x : X) → P x → Q x) → (o : Option X) → IfAny P o → IfAny Q o
+if_any f None is = tt
+if_any f (Some x) is = f x is
+
+-- in weaker hands
+pub clears_with : {s : Session} {n : ℕ} {mine hers : Key → Type 0} {h : Happening} {t : Trace} → ((k : Key) → mine k → hers k) → Clears s n mine h t → Clears s n hers h t
+clears_with {mine = mine} {hers = hers} {h = h} f c = record {
+  zone = c.zone;
+  request = if_any {P = λ w. mine (OfRequest w)} {Q = λ w. hers (OfRequest w)} (λ w. f (OfRequest w)) (about h).request c.request;
+  address = if_any {P = λ a. mine (OfAddress a)} {Q = λ a. hers (OfAddress a)} (λ a. f (OfAddress a)) (about h).address c.address;
+  block = λ x. elim (c.block x) [ inl own ↦ inl (f (OfBlock x) own) | inr spared ↦ inr spared ];
+  journal = elim c.journal [ inl own ↦ inl (f OfJournal own) | inr spared ↦ inr spared ];
+}
+
+request_or : (P : Writer → Type 0) (o : Option Writer) (w : Writer) → IfAny P o → P w ⊎ OffRequest o w
+request_or P None w mine = inr tt
+request_or P (Some v) w mine = elim (same_tells v w) [ inl same ↦ inl (subst P same.1 mine) | inr other ↦ inr other.0 ]
+
+number_or : (P : ℕ → Type 0) (o : Option ℕ) (a : ℕ) → IfAny P o → P a ⊎ OffNumber o a
+number_or P None a mine = inr tt
+number_or P (Some b) a mine = elim (eqb_tells b a) [ inl same ↦ inl (subst P same.1 mine) | inr other ↦ inr other.1 ]
+
+-- so of each key: it is in those hands, or spared
+pub mine_or_spared : {s : Session} {n : ℕ} {mine : Key → Type 0} {h : Happening} {t : Trace} → Clears s n mine h t → (k : Key) → mine k ⊎ Spares s t h k
+mine_or_spared {mine = mine} {h = h} c (OfRequest w) = request_or (λ v. mine (OfRequest v)) (about h).request w c.request
+mine_or_spared {mine = mine} {h = h} c (OfAddress a) = number_or (λ b. mine (OfAddress b)) (about h).address a c.address
+mine_or_spared c (OfBlock x) = c.block x
+mine_or_spared c OfJournal = c.journal

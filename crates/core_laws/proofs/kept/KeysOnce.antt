@@ -1,0 +1,127 @@
+-- Of each key at most one is held in a legal core; so whoever has it in hand has it alone.
+use Rattle.std.proofs.Common.{◌≡◌, ◌≢◌, ℕ, zero, suc, ◌+◌, ◌≤◌, ◌==◌, ◌&&◌, ◌++◌, Bool, true, false, not, List, [], ◌∷◌, Some, slice_get, refl, sym, ◌∙◌, ap, subst, inl, inr, arith}
+use Rattle.std.proofs.lemmas.Bool.{cases_Bool}
+use Rattle.std.proofs.lemmas.Bool.Decides.{eqb_tells}
+use Rattle.std.specs.List.{AllByRecursion}
+use Rattle.blk_base.specs.declared.request.Writer.{Writer}
+use Rattle.vdo_model.specs.DeskLog.{begun}
+use Rattle.vdo_model.specs.Places.{zone_of}
+use Rattle.core_model.specs.declared.items.Item.{Item}
+use Rattle.core_model.specs.declared.zones.Logged.{Logged}
+use Rattle.core_model.specs.declared.zones.ZoneData.{ZoneData}
+use Rattle.core_model.specs.declared.zones.ZoneData.TheVariants as at
+use Rattle.core_model.specs.declared.zones.Zone.{Zone}
+use Rattle.core_model.specs.Facts.{DataOk, kept_by}
+use Rattle.core_model.specs.Legal.{Legal}
+use Rattle.core_model.specs.LogicalRows.{is_among, is_held}
+use Rattle.core_model.specs.Sessions.{Session}
+use Rattle.core_model.specs.Zones.{journal_zone}
+use Rattle.core_model.specs.Steps.{Core}
+use Rattle.core_model.specs.Tokens.{weight, given, in_log, begins_of, request_token, lease_token, block_token, lock_weight, locks_at, is_entry, blocks_at}
+use Rattle.core_model.specs.Trace.{Trace, lines, entered}
+use Rattle.core_laws.proofs.kept.ActKept.{weighed, unborn, Reached, in_hand, in_line, line_of}
+use Rattle.core_laws.proofs.kept.Frame.{HasNoneBeside}
+use Rattle.core_laws.proofs.kept.Keys.{Key, OfRequest, OfAddress, OfBlock, OfJournal, any, token_of, slot_token, free_at}
+use Rattle.core_laws.proofs.kept.ZoneKinds.{block_once, journal_once, journal_sits, total_once}
+use Rattle.core_laws.proofs.lists.LockLists.{counts_held}
+use Rattle.core_laws.proofs.tokens.LeaseOwners.{home_of, locks_elsewhere}
+use Rattle.core_laws.proofs.tokens.Lift.{queued_is}
+use Rattle.core_laws.proofs.tokens.RequestOwners.{not_begun, request_once}
+use Rattle.core_laws.proofs.trace.DeskOfTrace.{desk_log_right}
+use Rattle.plain_laws.proofs.ListLaws.{total-append, total-get, total_zero, nobody_else}
+use Rattle.plain_laws.specs.Sums.{total, bit}
+
+-- An address weighs where its lock is, or at its home.
+slots_split : (s : Session) (a : ℕ) (zones : List Zone) → total (weight (slot_token s.sizes a)) zones ≡ total (weight (lease_token a any)) zones + total (λ z. free_at s.sizes a z.keeps) zones
+slots_split s a [] = refl
+slots_split s a (z ∷ zones) = omega (arith, slots_split s a zones)
+
+slots_given : (s : Session) (a : ℕ) (zones : List Zone) → total (λ z. locks_at a any z.keeps + free_at s.sizes a z.keeps) zones ≡ total (given (lease_token a any)) zones + total (λ z. free_at s.sizes a z.keeps) zones
+slots_given s a [] = refl
+slots_given s a (z ∷ zones) = omega (arith, slots_given s a zones)
+
+one_slot : (zone held : Bool) (more : Bool) (locks : ℕ) → locks ≤ 1 → (1 ≤ locks → held ≡ true) → locks + bit (zone && (not held && more)) ≤ 1
+one_slot zone true more locks once counts = elim (cases_Bool zone) [ inl at_home ↦ rw at_home (omega (arith, once)) | inr elsewhere ↦ rw elsewhere (omega (arith, once)) ]
+one_slot zone false more locks once counts = none locks counts
+  where
+    at_most : (b : Bool) → bit b ≤ 1
+    at_most true = omega arith
+    at_most false = omega arith
+
+    none : (locks : ℕ) → (1 ≤ locks → false ≡ true) → locks + bit (zone && (true && more)) ≤ 1
+    none zero counts = omega (arith, at_most (zone && (true && more)))
+    none (suc n) counts = absurd (let bad = counts (omega arith) in cc)
+
+module _ (s : Session) (t : Trace) (a : ℕ) where
+  one_slot_at : (n : ℕ) (d : ZoneData) → DataOk s t n d → (locks_at a any d + free_at s.sizes a d ≤ 1) × ((n ≡ home_of s a → ⊥) → locks_at a any d + free_at s.sizes a d ≡ 0)
+  one_slot_at n (at.Logical l) ok = (
+    one_slot (zone_of s.sizes.zones a == l.zone) (is_held a l.held) (not (is_among a l.retired)) (total (lock_weight a any) l.held) (ok.sound.locks.once a) (counts_held a l.held),
+    λ ne. elim (eqb_tells (zone_of s.sizes.zones a) l.zone) [
+      | inl same ↦ absurd (ne (let number = ok.number_is in let zone = same.1 in omega (arith, number, zone)))
+      | inr other ↦ rw other.0 (omega (arith, locks_elsewhere s t a any n (at.Logical l) ok ne))
+    ],
+  )
+  one_slot_at n other ok = (omega arith, λ ne. refl)
+
+module _ (s : Session) (core : Core) (legal : Legal s core) where
+  pub key_once : (k : Key) → total (weight (token_of s.sizes k)) core.zones ≤ 1
+  key_once (OfRequest w) = let once = request_once s core.trace legal.right core.zones legal.each w in let balance = legal.requests w in omega (arith, once, balance)
+  key_once (OfAddress a) =
+      let once = total_once (λ z. locks_at a any z.keeps + free_at s.sizes a z.keeps) core.zones (home_of s a) (λ n z had. one_slot_at s core.trace a n z.keeps (legal.each n z had).own) in
+      let balance = legal.leases a any in
+      omega (arith, once, slots_given s a core.zones, slots_split s a core.zones, balance)
+  key_once (OfBlock x) = let once = block_once s core.trace core.zones legal.each x in let most = legal.blocks x in omega (arith, once, most)
+  key_once OfJournal = let once = journal_once s core.trace core.zones legal.each in let balance = legal.journal in omega (arith, once, balance)
+
+  -- nobody has a request that isn't begun
+  nobody : (w : Writer) → begun w.stream (lines core.trace) ≤ w.number → total (weight (request_token w)) core.zones ≡ 0
+  nobody w late =
+      let nothing = total_zero (given (request_token w)) core.zones (λ j y there. none_given j y.keeps (legal.each j y there).own) in
+      let balance = legal.requests w in
+      omega (arith, nothing, balance)
+    where
+      none_given : (j : ℕ) (d : ZoneData) → DataOk s core.trace j d → in_log (begins_of w) d ≡ 0
+      none_given j (at.Desk desk) k = rw k.lists.log_is (not_begun s.sizes.depth s.script (lines core.trace) w (desk_log_right s core.trace legal.right) late)
+      none_given j other k = refl
+
+  -- at a zone, with what its act takes from its inbox
+  module _ (n : ℕ) (z : Zone) (had : slice_get core.zones n ≡ Some z) (front rest : List Item) (taken : z.inbox ≡ front ++ rest) where
+    parts : (k : Key) → weight (token_of s.sizes k) z
+        ≡ total (token_of s.sizes k).item front + (line_of s k (kept_by z.keeps) + (token_of s.sizes k).own z.keeps) + (total (token_of s.sizes k).item rest + total (total (token_of s.sizes k).item) z.outboxes)
+    parts k =
+        let inbox = ap (total (token_of s.sizes k).item) taken in
+        omega (arith, inbox, total-append (token_of s.sizes k).item front rest, queued_is (token_of s.sizes k).item z.keeps)
+
+    pub most_here : (k : Key) → total (token_of s.sizes k).item front + (line_of s k (kept_by z.keeps) + (token_of s.sizes k).own z.keeps) ≤ 1
+    most_here k = let here = total-get (weight (token_of s.sizes k)) core.zones n z had in omega (arith, key_once k, here, parts k)
+
+    pub unborn_here : (w : Writer) → begun w.stream (lines core.trace) ≤ w.number → line_of s (OfRequest w) (kept_by z.keeps) ≡ 0
+    unborn_here w late = let here = total-get (weight (request_token w)) core.zones n z had in omega (arith, nobody w late, here, parts (OfRequest w))
+
+    -- who has all of a key that there is at the front or beside its lanes
+    beside : (k : Key) → total (weight (token_of s.sizes k)) core.zones ≤ total (token_of s.sizes k).item front + (line_of s k (kept_by z.keeps) + (token_of s.sizes k).own z.keeps) → HasNoneBeside core.zones n (record z { inbox = rest }) (token_of s.sizes k)
+    beside k all =
+        let here = total-get (weight (token_of s.sizes k)) core.zones n z had in
+        record { others = nobody_else (weight (token_of s.sizes k)) core.zones n z had (omega (arith, all, parts k)); inbox = omega (arith, all, here, parts k); outboxes = omega (arith, all, here, parts k) }
+
+    pub none_beside : (k : Key) → Reached s core.trace z.keeps front k → HasNoneBeside core.zones n (record z { inbox = rest }) (token_of s.sizes k)
+    none_beside k (in_hand (weighed some)) = beside k (omega (arith, some, key_once k))
+    none_beside k (in_line some) = beside k (omega (arith, some, key_once k))
+    none_beside k (in_hand (unborn {w = w} late)) = beside (OfRequest w) (omega (arith, nobody w late))
+
+  -- entries that don't name a block
+  entries_apart : (x : ℕ) (es : List Logged) → total (is_entry x) es ≡ 0 → AllByRecursion (λ (e : Logged). x ≢ e.block.0) es
+  entries_apart x [] none = tt
+  entries_apart x (e ∷ es) none = elim (eqb_tells e.block.0 x) [
+    | inl same ↦ let one : is_entry x e ≡ 1 = rw same.0 refl in absurd (omega (arith, none, one))
+    | inr other ↦ (λ is. other.1 (sym is), entries_apart x es (omega (arith, none)))
+  ]
+
+  -- no entry names a block of which nobody beside another zone than the journal has anything
+  pub block_unnamed : (n : ℕ) (z : Zone) (x : ℕ) → HasNoneBeside core.zones n z (block_token x) → (journal_zone s.sizes ≡ n → ⊥) → AllByRecursion (λ (e : Logged). x ≢ e.block.0) (entered core.trace)
+  block_unnamed n z x none apart =
+      let journal = journal_sits s core.trace core.zones legal.each legal.count in
+      let nothing = none.others (journal_zone s.sizes) journal.zone journal.had apart in
+      let own : blocks_at x journal.zone.keeps ≡ 0 = omega (arith, nothing) in
+      let ok : DataOk s core.trace (journal_zone s.sizes) (at.Journal journal.it) = subst (λ d. DataOk s core.trace (journal_zone s.sizes) d) journal.keeps (legal.each (journal_zone s.sizes) journal.zone journal.had).own in
+      entries_apart x (entered core.trace) (ap (total (is_entry x)) (sym ok.lists.entered_is) ∙ sym (ap (blocks_at x) journal.keeps) ∙ own)
