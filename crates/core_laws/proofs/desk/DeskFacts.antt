@@ -29,13 +29,13 @@ use Rattle.core_model.specs.declared.sizes.Sizes.{Sizes}
 use Rattle.core_model.specs.declared.zones.ZoneData.TheVariants as at
 use Rattle.core_model.specs.declared.zones.Desk.{Desk}
 use Rattle.core_model.specs.DeskRows.{DeskBegins, DeskServes, is_notified, at_once, vio_of, first_zone, is_marked, is_stopped, mark_of_vio, with_notice, woken}
-use Rattle.core_model.specs.Facts.{HasAddress, VioOk, KeptOk, IsEarned, MayReply, zone_at}
+use Rattle.core_model.specs.Facts.{HasAddress, KeptOk, IsEarned, MayReply, zone_at}
 use Rattle.core_model.specs.Zones.{desk_zone, notified_zones}
 use Rattle.core_model.specs.RightTraces.{RightTrace, IsOpen, HasCause, MayAnswer}
 use Rattle.core_model.specs.Sessions.{Session, IsSession}
 use Rattle.core_model.specs.Trace.{Says, Flushes, Trace, lines, moments, done, has_stopped, logged_of}
 use Rattle.core_model.specs.Vios.{Post, request_of, asked, begun_vio}
-use Rattle.core_laws.proofs.kept.ActKept.{Known, unborn, ActKept, PostOk, act_none, act_one, own_request, plain_clears, reaches, line_kept, shown_plain, carries_at, unborn_place, unborn_entry, unborn_slot}
+use Rattle.core_laws.proofs.kept.ActKept.{Known, unborn, ActKept, PostOk, act_none, act_one, own_request, plain_clears, reaches, line_kept, shown_plain, carries_at, unborn_place, unborn_entry, unborn_slot, vio_ok}
 use Rattle.core_laws.proofs.trace.DeskOfTrace.{desk_log_right, answered_begun, shown_of}
 use Rattle.plain_laws.proofs.ListLaws.{every-append}
 use Rattle.plain_laws.proofs.OptionLaws.{none_is, option_cases}
@@ -220,9 +220,6 @@ desk_begins {s} {t} {n} {old} known new made posts (DeskBegins.sends w r v next_
 
 -- A request that comes back is answered, or waits.
 module _ {s : Session} {t : Trace} {n : ℕ} {old : Desk} {v : Vio} (known : Known s t n (at.Desk old) (item.Request v ∷ [])) where
-  ok : VioOk s t v
-  ok = known.front_ok.0.0
-
   earned : v.phase ≡ phase.Reply → (a : Reply) → v.answer ≡ Some a → IsEarned s t (mark_of_vio v) (request_of v) a (is_marked v.asks a)
   earned is a answer =
       let may : MayReply s t v v.answer = carries_at s t v phase.Reply is known.front_ok.0.1 in
@@ -231,13 +228,13 @@ module _ {s : Session} {t : Trace} {n : ℕ} {old : Desk} {v : Vio} (known : Kno
   answer_cause : v.phase ≡ phase.Reply → (a : Reply) → v.answer ≡ Some a → is_marked v.asks a ≡ false → (r : Request) → request_at s.script v.request ≡ Some r → MayAnswer s t v.request r a
   answer_cause is a answer unmarked r asks =
       let mine : HasCause s t v.request (request_of v) a = subst (λ (marked : Bool). IsEarned s t (mark_of_vio v) (request_of v) a marked) unmarked (earned is a answer) in
-      subst (λ (q : Request). MayAnswer s t v.request q a) (same_Some _ _ (sym ok.asked ∙ asks)) (cause_may s t v.request (request_of v) a mine)
+      subst (λ (q : Request). MayAnswer s t v.request q a) (same_Some _ _ (sym (vio_ok known).asked ∙ asks)) (cause_may s t v.request (request_of v) a mine)
 
   flush_mark : v.phase ≡ phase.Reply → v.asks ≡ Flush → v.answer ≡ Some reply.Ok → IsMark (moments t) (mark_of_vio v)
   flush_mark is flush answer = let k : IsEarned s t (mark_of_vio v) (request_of v) reply.Ok true = subst (λ (q : Asks). IsEarned s t (mark_of_vio v) (request_of v) reply.Ok (is_marked q reply.Ok)) flush (earned is reply.Ok answer) in k
 
   flush_asked : v.asks ≡ Flush → request_at s.script v.request ≡ Some request.Flush
-  flush_asked flush = ok.asked ∙ ap (λ (q : Asks). Some (asked q v.at v.bytes)) flush
+  flush_asked flush = (vio_ok known).asked ∙ ap (λ (q : Asks). Some (asked q v.at v.bytes)) flush
 
   pub desk_serves : (new : Desk) (made : Trace) (posts : List Post) → DeskServes s.sizes old v new made posts → ActKept s t n (at.Desk old) (item.Request v ∷ []) (at.Desk new) made posts
   desk_serves new made posts (DeskServes.parks a is answer stopped unnotified i m q) =
@@ -246,7 +243,7 @@ module _ {s : Session} {t : Trace} {n : ℕ} {old : Desk} {v : Vio} (known : Kno
         number_is = own.number_is;
         lists = record { log_is = own.lists.log_is; marks_is = own.lists.marks_is };
         sound = record { requests = own.sound.requests; stops_notified = own.sound.stops_notified };
-        kept = every-append (KeptOk s t phase.Reply) old.parked (v ∷ []) own.kept ((ok, known.front_ok.0.1, is), tt);
+        kept = every-append (KeptOk s t phase.Reply) old.parked (v ∷ []) own.kept (((vio_ok known), known.front_ok.0.1, is), tt);
         answers = tt;
         told = own.told;
       }) tt)
@@ -255,7 +252,7 @@ module _ {s : Session} {t : Trace} {n : ℕ} {old : Desk} {v : Vio} (known : Kno
       let h = Says (line.Answer v.request a) in
       let clears = plain_clears known h t tt own.number_is (own_request known) tt in
       rw (i, m, q) (act_one known h clears (λ gives. gives)
-      (((ok.is_open.is_begun, ok.is_open.unanswered), answer_cause is a answer unmarked), shown_plain s t h tt (shown_of s t known.right), known.right)
+      ((((vio_ok known).is_open.is_begun, (vio_ok known).is_open.unanswered), answer_cause is a answer unmarked), shown_plain s t h tt (shown_of s t known.right), known.right)
       (record {
         number_is = own.number_is;
         lists = record { log_is = ap (λ (ls : List DeskLine). line.Answer v.request a ∷ ls) own.lists.log_is; marks_is = own.lists.marks_is };
@@ -273,7 +270,7 @@ module _ {s : Session} {t : Trace} {n : ℕ} {old : Desk} {v : Vio} (known : Kno
       let h = Flushes mark in
       let clears = plain_clears known h t tt own.number_is (own_request known) tt in
       rw (i, m, q) (act_one known h clears (λ gives. gives)
-      (((ok.is_open.is_begun, ok.is_open.unanswered), flush_asked flush, flush_mark is flush answer), shown_plain s t h tt (shown_of s t known.right), known.right)
+      ((((vio_ok known).is_open.is_begun, (vio_ok known).is_open.unanswered), flush_asked flush, flush_mark is flush answer), shown_plain s t h tt (shown_of s t known.right), known.right)
       (record {
         number_is = own.number_is;
         lists = record {

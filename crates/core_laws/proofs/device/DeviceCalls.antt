@@ -137,12 +137,13 @@ module _ (s : Session) (t : Trace) (e : Logged) (slot : Pbn) (bytes : List ℕ) 
     (place : slot.0 ≡ block_of_slot (journal_slot_of s.sizes.geometry (s.sizes.start + length (entries_of s.window (committed t)))))
     (says : HasEntry s.sizes.geometry s.sizes.start (s.sizes.start + length (entries_of s.window (committed t))) (entry_of e) bytes)
     (rest : AtRest s t (committed t)) (keeps : Stands s t e.block.0 (bytes_of s e)) where
+  -- it is no data block
+  misses : (x : ℕ) → IsDataBlock s.sizes.geometry x → slot.0 ≢ x
+  misses x held = slot_misses s.sizes.geometry (s.sizes.start + length (entries_of s.window (committed t))) slot.0 x (omega (arith, few)) place held
+
   misses_each : (ok : Bool) (es : List Logged) → EachStands s t es → SparesBlocks (Calls (Write slot bytes ok)) es
   misses_each ok [] stand = tt
   misses_each ok (f ∷ es) stand = (misses f.block.0 stand.0.0.is_data, misses_each ok es stand.1)
-    where
-      misses : (x : ℕ) → IsDataBlock s.sizes.geometry x → slot.0 ≢ x
-      misses x held = slot_misses s.sizes.geometry (s.sizes.start + length (entries_of s.window (committed t))) slot.0 x (omega (arith, few)) place held
 
   pub slot_way : (ok : Bool) → OnItsWay s (Calls (Write slot bytes ok) ∷ t) (committed t) e
   slot_way ok = (
@@ -161,7 +162,7 @@ module _ (s : Session) (t : Trace) (e : Logged) (slot : Pbn) (bytes : List ℕ) 
   slot_call h ok is may stands last right = (
     may,
     record {
-      kept = opening_kept s h t (block_spared is 0 (λ same. omega (arith, same, place))) (λ a y named. block_spared is y.0 (far y.0 (window_data s a y session named))) (shown_of s t right).kept;
+      kept = opening_kept s h t (block_spared is 0 (λ same. omega (arith, same, place))) (λ a y named. block_spared is y.0 (misses y.0 (window_data s a y session named))) (shown_of s t right).kept;
       journal = inr (record {
         entry = e;
         is_last = same.entered_same ∙ last ∙ ap (λ es. e ∷ es) (sym same.committed_same);
@@ -171,9 +172,6 @@ module _ (s : Session) (t : Trace) (e : Logged) (slot : Pbn) (bytes : List ℕ) 
     right,
   )
     where
-      far : (x : ℕ) → IsDataBlock s.sizes.geometry x → slot.0 ≢ x
-      far x held = slot_misses s.sizes.geometry (s.sizes.start + length (entries_of s.window (committed t))) slot.0 x (omega (arith, few)) place held
-
       same : SparesEntries s h t
       same = call_entries s t is
 

@@ -7,7 +7,6 @@ use Rattle.disk_model.specs.declared.call.Call.{Call}
 use Rattle.disk_model.specs.declared.call.Call.TheVariants as call
 use Rattle.journal_codec.specs.Spelling.{block_bytes}
 use Rattle.stop_laws.specs.Journals.{HasEntry, block_of_slot}
-use Rattle.vdo_model.specs.FlushMarks.{successes}
 use Rattle.vdo_model.specs.Scripts.{value_written}
 use Rattle.core_model.specs.declared.items.Asks.{Asks}
 use Rattle.core_model.specs.declared.items.Asks.TheVariants.{Write}
@@ -25,7 +24,7 @@ use Rattle.core_model.specs.Facts.{HasAddress, StandsAt, IsSealed, BlockOk}
 use Rattle.core_model.specs.Zones.{zone_number, zone_count}
 use Rattle.core_model.specs.RightTraces.{RightTrace}
 use Rattle.core_model.specs.Sessions.{Session, IsSession, log, Stands, AtRest, OnItsWay, bytes_of}
-use Rattle.core_model.specs.Trace.{Happening, Calls, Fails, Trace, calls, committed, has_stopped, entry_of, entries_of}
+use Rattle.core_model.specs.Trace.{Happening, Calls, Fails, Trace, committed, is_ok, is_read, has_stopped, entry_of, entries_of}
 use Rattle.core_model.specs.Vios.{Post, asked, logged, staged}
 use Rattle.core_laws.proofs.kept.ActKept.{Known, Mine, weighed, ActKept, act_none, act_one}
 use Rattle.core_laws.proofs.kept.Keys.{Clears}
@@ -35,7 +34,7 @@ use Rattle.disk_model.specs.Log.{Misses}
 use Rattle.core_model.specs.declared.items.Item.TheVariants as item
 use Rattle.core_laws.proofs.kept.Carried.{sealed_kept}
 use Rattle.core_laws.proofs.device.DeviceCalls.{call_clears, IsSpelled, spelled_block, entries_length, quiet_call, hardens, slot_way, slot_reads, slot_call}
-use Rattle.core_laws.proofs.device.DeviceFacts.{notices_ok}
+use Rattle.core_laws.proofs.device.DeviceFacts.{notices_ok, after_call, after_failure}
 use Rattle.core_laws.proofs.kept.Spared.{honest_before}
 use Rattle.core_laws.proofs.kept.StandsOn.{IsCallOf, succeeded, failed, spares_all, block_spared, journal_spared, each_kept, rests_kept, way_kept}
 
@@ -118,8 +117,7 @@ module _ (s : Session) (t : Trace) (b : SealedBlock) (session : IsSession s) (ok
             each_kept s (Calls (call.Flush true)) t (logged b.vio ∷ committed t) (spares_all (Calls (call.Flush true)) (λ x. tt) (logged b.vio ∷ committed t)) stands.0.1,
           );
         })
-    makes_by stage.Commit c slot place is right stands = absurd cc
-    makes_by stage.Fail c slot place is right stands = absurd cc
+    makes_by other c slot place is right stands = absurd cc
 
     -- and one that fails, kept in the log or not
     fails_by : (q : Stage) (c : Call) (slot : Pbn) (kept : Bool) → IsItsSlot s.sizes b slot → call_of s.sizes b slot false q ≡ Some c → RightTrace s t → StandsAt s t b.vio q → Made (Fails b.vio.request c kept) stage.Fail
@@ -145,41 +143,26 @@ module _ (s : Session) (t : Trace) (b : SealedBlock) (session : IsSession s) (ok
           right = quiet_call s t {h = Fails b.vio.request (call.Flush false) kept} (call.Flush false) failed (record { is_open = ok.vio.is_open; fails = refl; goes_on = λ writes. goes; made_for = tt }) (λ x. tt) right;
           stands = (inr (flush_way s t {h = Fails b.vio.request (call.Flush false) kept} (committed t) (logged b.vio) failed stands.0), refl);
         })
-    fails_by stage.Commit c slot kept place is right stands = absurd cc
-    fails_by stage.Fail c slot kept place is right stands = absurd cc
+    fails_by other c slot kept place is right stands = absurd cc
 
 -- where it is not made
 unmade_by : (s : Session) (t : Trace) (b : SealedBlock) (q : Stage) (c : Call) (slot : Pbn) → has_stopped t ≡ true → call_of s.sizes b slot false q ≡ Some c → StandsAt s t b.vio q → StandsAt s t b.vio stage.Fail
 unmade_by s t b stage.Cover c slot stopped is stands = (inl stands.0, stopped)
 unmade_by s t b stage.Write c slot stopped is stands = (inl stands.0, stopped)
 unmade_by s t b stage.Harden c slot stopped is stands = (inr stands.0, stopped)
-unmade_by s t b stage.Commit c slot stopped is stands = absurd cc
-unmade_by s t b stage.Fail c slot stopped is stands = absurd cc
+unmade_by s t b other c slot stopped is stands = absurd cc
 
 zone_is : (s : Session) (b : SealedBlock) (q : Stage) (c : Call) (slot : Pbn) → call_of s.sizes b slot true q ≡ Some c → zone_number s.sizes (next_zone q) < zone_count s.sizes
 zone_is s b stage.Commit c slot is = absurd cc
 zone_is s b stage.Fail c slot is = absurd cc
 zone_is s b other c slot is = omega arith
 
--- a call that succeeds counts
-call_counts : (sizes : Sizes) (b : SealedBlock) (q : Stage) (c : Call) (slot : Pbn) (older : List Call) → call_of sizes b slot true q ≡ Some c → successes (c ∷ older) ≡ successes older + 1
-call_counts sizes b stage.Cover c slot older is = rw (sym (same_Some _ _ is)) refl
-call_counts sizes b stage.Write c slot older is = rw (sym (same_Some _ _ is)) refl
-call_counts sizes b stage.Harden c slot older is = rw (sym (same_Some _ _ is)) refl
-call_counts sizes b stage.Commit c slot older is = absurd cc
-call_counts sizes b stage.Fail c slot older is = absurd cc
-
--- one that fails doesn't, and stops the session
-call_fails : (sizes : Sizes) (t : Trace) (b : SealedBlock) (q : Stage) (c : Call) (slot : Pbn) (kept : Bool) → call_of sizes b slot false q ≡ Some c
-    → (successes (calls (Fails b.vio.request c kept ∷ t)) ≡ successes (calls t)) × (has_stopped (Fails b.vio.request c kept ∷ t) ≡ true)
-call_fails sizes t b stage.Cover c slot true is = rw (sym (same_Some _ _ is)) (refl, refl)
-call_fails sizes t b stage.Cover c slot false is = rw (sym (same_Some _ _ is)) (refl, refl)
-call_fails sizes t b stage.Write c slot true is = rw (sym (same_Some _ _ is)) (refl, refl)
-call_fails sizes t b stage.Write c slot false is = rw (sym (same_Some _ _ is)) (refl, refl)
-call_fails sizes t b stage.Harden c slot true is = rw (sym (same_Some _ _ is)) (refl, refl)
-call_fails sizes t b stage.Harden c slot false is = rw (sym (same_Some _ _ is)) (refl, refl)
-call_fails sizes t b stage.Commit c slot kept is = absurd cc
-call_fails sizes t b stage.Fail c slot kept is = absurd cc
+-- its call succeeds or fails as it says, and reads nothing
+call_is : (sizes : Sizes) (b : SealedBlock) (q : Stage) (c : Call) (slot : Pbn) (success : Bool) → call_of sizes b slot success q ≡ Some c → (is_ok c ≡ success) × (is_read c ≡ false)
+call_is sizes b stage.Cover c slot success is = rw (sym (same_Some _ _ is)) (refl, refl)
+call_is sizes b stage.Write c slot success is = rw (sym (same_Some _ _ is)) (refl, refl)
+call_is sizes b stage.Harden c slot success is = rw (sym (same_Some _ _ is)) (refl, refl)
+call_is sizes b other c slot success is = absurd cc
 
 -- its call writes no data block
 misses_data : (s : Session) (b : SealedBlock) (q : Stage) (slot : Pbn) (success : Bool) (c : Call) → 0 < s.sizes.geometry.journal → IsItsSlot s.sizes b slot → call_of s.sizes b slot success q ≡ Some c → (x : ℕ) → IsDataBlock s.sizes.geometry x → Misses c x
@@ -205,22 +188,16 @@ module _ {s : Session} {t : Trace} {n : ℕ} {old : DeviceZone} {b : SealedBlock
       let k = known.own in
       let now = makes_by s t b known.session sealed (sym k.lists.stopped_is ∙ runs) b.stage c slot place is known.right stands in
       rw (e, m, p) (act_one known (Calls c) (clears slot true c succeeded place is) (λ g honest. g (honest_before s (Calls c) t honest)) now.right
-      (record {
-        number_is = k.number_is;
-        lists = record { calls_is = ap (λ m. m + 1) k.lists.calls_is ∙ sym (call_counts s.sizes b b.stage c slot (calls t) is); stopped_is = k.lists.stopped_is };
-        sound = tt;
-        kept = tt;
-        answers = tt;
-        told = tt;
-      })
+      (after_call k c (call_is s.sizes b b.stage c slot true is).0)
       ((zone_is s b b.stage c slot is, (block_over s t succeeded b (next_stage b.stage) sealed now.stands, refl)), tt))
   device_works new made posts (device.fails c slot kept place is runs e m p) =
       let k = known.own in
       let h = Fails b.vio.request c kept in
       let now = fails_by s t b known.session sealed (sym k.lists.stopped_is ∙ runs) b.stage c slot kept place is known.right stands in
-      let stops = call_fails s.sizes t b b.stage c slot kept is in
+      let says_so = call_is s.sizes b b.stage c slot false is in
+      let stops : has_stopped (h ∷ t) ≡ true = rw says_so.1 refl in
       rw (e, m, p) (act_one known h (clears slot false c failed place is) (λ g honest. g honest) now.right
-      (record { number_is = k.number_is; lists = record { calls_is = k.lists.calls_is ∙ sym stops.0; stopped_is = sym stops.1 }; sound = tt; kept = tt; answers = tt; told = tt })
-      ((omega arith, (block_over s t {h = h} failed b stage.Fail sealed now.stands, refl)), notices_ok s (h ∷ t) stops.1))
+      (after_failure k b.vio.request c kept true says_so.0 (sym stops))
+      ((omega arith, (block_over s t {h = h} failed b stage.Fail sealed now.stands, refl)), notices_ok s (h ∷ t) stops))
   device_works new made posts (device.unmade c slot is halts e m p) =
       rw (e, m, p) (act_none known known.own ((omega arith, ((sealed, unmade_by s t b b.stage c slot (sym known.own.lists.stopped_is ∙ halts) is stands), refl)), tt))

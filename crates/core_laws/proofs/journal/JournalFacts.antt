@@ -19,7 +19,7 @@ use Rattle.core_model.specs.Trace.{Enters, Trace, entered, committed, done}
 use Rattle.core_model.specs.Vios.{Post, asked, logged}
 use Rattle.core_laws.proofs.trace.DeskOfTrace.{shown_of}
 use Rattle.core_laws.proofs.trace.AbortsOfTrace.{unentered_abort}
-use Rattle.core_laws.proofs.kept.ActKept.{Known, Mine, weighed, ActKept, act_none, act_one, own_request, own_address, line_kept, vio_over, carries_at, unentered_slot}
+use Rattle.core_laws.proofs.kept.ActKept.{Known, Mine, weighed, ActKept, act_none, act_one, own_request, own_address, line_kept, vio_over, unentered_slot, vio_ok, in_phase}
 use Rattle.core_laws.proofs.kept.Keys.{Clears}
 use Rattle.core_laws.proofs.journal.JournalPosts.{stopped_post, full_post, stopped_posts}
 use Rattle.plain_laws.proofs.ListLaws.{every-append}
@@ -94,24 +94,18 @@ room_for n m is = ltb-true n m is
 
 -- The journal serves a request.
 module _ {s : Session} {t : Trace} {n : ℕ} {old : JournalZone} {v : Vio} (known : Known s t n (at.Journal old) (item.Request v ∷ [])) where
-  ok : VioOk s t v
-  ok = known.front_ok.0.0
-
-  in_phase : v.phase ≡ phase.Enter → Carries s t v phase.Enter
-  in_phase is = carries_at s t v phase.Enter is known.front_ok.0.1
-
   pub journal_serves : (new : JournalZone) (made : Trace) (posts : List Post) → JournalServes s.sizes old v new made posts → ActKept s t n (at.Journal old) (item.Request v ∷ []) (at.Journal new) made posts
   journal_serves new made posts (journal.is_stopped is closed e m p) =
-      rw (e, m, p) (act_none known known.own (stopped_post s t v known.right (known.own.told closed) ok (in_phase is).0 (in_phase is).1, tt))
+      rw (e, m, p) (act_none known known.own (stopped_post s t v known.right (known.own.told closed) (vio_ok known) (in_phase known phase.Enter is).0 (in_phase known phase.Enter is).1, tt))
   journal_serves new made posts (journal.is_full is closed busy full e m p) =
-      rw (e, m, p) (act_none known known.own (full_post s t v (full_now s t old known.own.lists full) ok (in_phase is).0 (in_phase is).1, tt))
+      rw (e, m, p) (act_none known known.own (full_post s t v (full_now s t old known.own.lists full) (vio_ok known) (in_phase known phase.Enter is).0 (in_phase known phase.Enter is).1, tt))
   journal_serves new made posts (journal.waits is closed busy e m p) =
       let k = known.own in
       rw (e, m, p) (act_none known (record {
         number_is = k.number_is;
         lists = record { entered_is = k.lists.entered_is; committed_is = k.lists.committed_is };
         sound = tt;
-        kept = every-append (KeptOk s t phase.Enter) old.waiting (v ∷ []) k.kept ((ok, known.front_ok.0.1, is), tt);
+        kept = every-append (KeptOk s t phase.Enter) old.waiting (v ∷ []) k.kept (((vio_ok known), known.front_ok.0.1, is), tt);
         answers = k.answers;
         told = k.told;
       }) tt)
@@ -124,7 +118,7 @@ module _ {s : Session} {t : Trace} {n : ℕ} {old : JournalZone} {v : Vio} (know
       let room = room_for _ _ has in
       let clears : Clears s n (Mine s t (at.Journal old) (item.Request v ∷ [])) h t
       = record { zone = k.number_is; request = own_request known; address = own_address known phase.Enter is refl; block = λ x. inr (λ inside. tt); journal = inl (weighed (rw busy (omega arith))) } in
-      rw (e, m, p) (act_one known h clears (λ g honest. g honest) (enter_right s t v known.right ok is (in_phase is) idle.0 idle.1)
+      rw (e, m, p) (act_one known h clears (λ g honest. g honest) (enter_right s t v known.right (vio_ok known) is (in_phase known phase.Enter is) idle.0 idle.1)
       (record {
         number_is = k.number_is;
         lists = record { entered_is = ap (λ es. logged v ∷ es) k.lists.entered_is; committed_is = k.lists.committed_is };
@@ -136,7 +130,7 @@ module _ {s : Session} {t : Trace} {n : ℕ} {old : JournalZone} {v : Vio} (know
         (
           omega arith,
           (
-            enter_block s t v known.right ok is (in_phase is) idle.0 idle.1 (s.sizes.start + (s.sizes.opened + length old.entered)) (ap (λ m. s.sizes.start + (s.sizes.opened + m)) same) (omega (arith, room, same)),
+            enter_block s t v known.right (vio_ok known) is (in_phase known phase.Enter is) idle.0 idle.1 (s.sizes.start + (s.sizes.opened + length old.entered)) (ap (λ m. s.sizes.start + (s.sizes.opened + m)) same) (omega (arith, room, same)),
             refl,
           ),
         ),

@@ -85,11 +85,6 @@ pub record ActKept (s : Session) (t : Trace) (n : ℕ) (d : ZoneData) (front : L
   pub own : DataOk s (made ++ t) n new
   pub posts_ok : AllByRecursion (PostOk s (made ++ t)) posts
 
--- an act is as its equations say
-pub act_is : {s : Session} {t : Trace} {n : ℕ} {d new new' : ZoneData} {front : List Item} {made made' : Trace} {posts posts' : List Post} → new ≡ new' → made ≡ made' → posts ≡ posts'
-    → ActKept s t n d front new' made' posts' → ActKept s t n d front new made posts
-act_is p q r k = rw (p, q, r) k
-
 -- a happening that is neither a call nor about the journal spares the journal
 abbrev pub IsPlain : Happening → Type 0
 IsPlain (Enters e) = ⊥
@@ -163,8 +158,14 @@ module _ {s : Session} {t : Trace} {n : ℕ} {d : ZoneData} {front : List Item} 
       no_block (Fails w c logged) is x = absurd is
       no_block other is x = tt
 
--- the request in front is its own
+-- the request in front: what it carries, and it is its own
 module _ {s : Session} {t : Trace} {n : ℕ} {d : ZoneData} {v : Vio} (known : Known s t n d (item.Request v ∷ [])) where
+  pub vio_ok : VioOk s t v
+  vio_ok = known.front_ok.0.0
+
+  pub in_phase : (q : Phase) → v.phase ≡ q → Carries s t v q
+  in_phase q is = carries_at s t v q is known.front_ok.0.1
+
   pub own_request : Mine s t d (item.Request v ∷ []) (OfRequest v.request)
   own_request = weighed (omega (arith, own_name v))
 

@@ -67,38 +67,25 @@ module _ (s : Session) (zones : List Zone) (first : Each (IsFirstZone s) zones) 
 
 no_lines : (f g : DeskLine → ℕ) (s : Session) (n : ℕ) (d : ZoneData) → IsFirstData s n d → in_log f d ≡ in_log g d
 no_lines f g s n (at.Desk d) h = ap (total f) h.log ∙ sym (ap (total g) h.log)
-no_lines f g s n (at.Logical l) h = refl
-no_lines f g s n (at.Physical p) h = refl
-no_lines f g s n (at.Journal j) h = refl
-no_lines f g s n (at.Device d) h = refl
+no_lines f g s n other h = refl
 
 no_locks : (a : ℕ) (test : ℕ → Bool) (s : Session) (n : ℕ) (d : ZoneData) → IsFirstData s n d → (lease_token a test).own d ≡ (lease_token a test).gave d
-no_locks a test s n (at.Desk d) h = refl
 no_locks a test s n (at.Logical l) h = sym (ap (total (lock_weight a test)) h.held)
-no_locks a test s n (at.Physical p) h = refl
-no_locks a test s n (at.Journal j) h = refl
-no_locks a test s n (at.Device d) h = refl
+no_locks a test s n other h = refl
 
 free_once : (x : ℕ) (s : Session) → IsSession s → (n : ℕ) (d : ZoneData) → IsFirstData s n d → blocks_at x d ≤ one_physical d
-free_once x s session n (at.Desk d) h = omega arith
-free_once x s session n (at.Logical l) h = omega arith
 free_once x s session n (at.Physical p) h = let once = session.distinct x in omega (arith, once, ap (total (is_block x)) h.free)
 free_once x s session n (at.Journal j) h = omega (arith, ap (total (is_entry x)) h.entered)
-free_once x s session n (at.Device d) h = omega arith
+free_once x s session n other h = omega arith
 
 journal_idle : (s : Session) (n : ℕ) (d : ZoneData) → IsFirstData s n d → journal_token.own d ≡ journal_token.gave d
-journal_idle s n (at.Desk d) h = refl
-journal_idle s n (at.Logical l) h = refl
-journal_idle s n (at.Physical p) h = refl
 journal_idle s n (at.Journal j) h = ap (λ (b : Bool). bit (not b)) h.busy
-journal_idle s n (at.Device d) h = refl
+journal_idle s n other h = refl
 
 no_words : (s : Session) (n : ℕ) (d : ZoneData) → IsFirstData s n d → (notice_token s.sizes).own d ≡ (notice_token s.sizes).gave d
 no_words s n (at.Desk d) h = h.notices
-no_words s n (at.Logical l) h = refl
-no_words s n (at.Physical p) h = refl
-no_words s n (at.Journal j) h = refl
 no_words s n (at.Device d) h = sym (ap (λ (b : Bool). notified_by s.sizes (at.Device (record d { stopped = b }))) h.stopped)
+no_words s n other h = refl
 
 -- what the device has
 

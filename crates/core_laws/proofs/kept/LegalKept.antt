@@ -10,7 +10,7 @@ use Rattle.core_model.specs.declared.zones.Zone.{Zone}
 use Rattle.core_model.specs.Arrivals.{arrivals_at}
 use Rattle.core_model.specs.Facts.{ItemOk, KeptOk, ZoneOk, kept_by, kept_phase}
 use Rattle.core_model.specs.Legal.{Legal}
-use Rattle.core_model.specs.Zones.{zone_number, zone_count}
+use Rattle.core_model.specs.Zones.{zone_number}
 use Rattle.core_model.specs.RightTraces.{RightTrace, GivesRight}
 use Rattle.core_model.specs.Sessions.{Session, IsSession, HasHonestReads}
 use Rattle.core_model.specs.Steps.{Act, Core, StepOf, sent_to, sent, delivered, posted}
@@ -29,16 +29,10 @@ use Rattle.core_laws.proofs.tokens.Known.{IsIn, KeptIn}
 use Rattle.core_laws.proofs.tokens.Known as tokens
 use Rattle.core_laws.proofs.tokens.Lift.{Within, Conserves, balance_step, at_most_step}
 use Rattle.core_laws.proofs.tokens.TokenLaws.{requests_law, room_law, notices_law, journal_law, blocks_law, leases_law}
-use Rattle.plain_laws.proofs.ListLaws.{Each-put_other, every-append, every-map, length-put, get-put_same}
+use Rattle.plain_laws.proofs.ListLaws.{Each-put_other, every-append, every-map, length-put}
 use Rattle.core_laws.proofs.lists.Lists.{length-posted}
 
--- What a zone's lanes carry, while posts are delivered.
-record LanesOk (s : Session) (t : Trace) (n : ℕ) (z : Zone) : Type 0 where
-  pub number_is : z.number ≡ n
-  pub lanes : length z.outboxes ≡ zone_count s.sizes
-  pub inbox : AllByRecursion (ItemOk s t n) z.inbox
-  pub outboxes : Each (λ to. AllByRecursion (ItemOk s t to)) z.outboxes
-
+-- What a zone has stays while posts are delivered that carry what they must.
 each-posted : (P : ℕ → Item → Type 0) (to : ℕ) (x : Item) (lanes : List (List Item)) → Each (λ n. AllByRecursion (P n)) lanes → P to x → Each (λ n. AllByRecursion (P n)) (posted to x lanes)
 each-posted P to x [] each k n l e = absurd cc
 each-posted P zero x (y ∷ ys) each k zero l e = rw (← same_Some _ _ e) (every-append (P 0) y (x ∷ []) (each 0 y refl) (k, tt))
@@ -46,7 +40,7 @@ each-posted P zero x (y ∷ ys) each k (suc n) l e = each (suc n) l e
 each-posted P (suc to) x (y ∷ ys) each k zero l e = each 0 l e
 each-posted P (suc to) x (y ∷ ys) each k (suc n) l e = each-posted (λ m. P (suc m)) to x ys (λ m. each (suc m)) k n l e
 
-sent_ok : (s : Session) (t : Trace) (n : ℕ) (b : Bool) (to : ℕ) (it : Item) (z : Zone) → nat_eq to z.number ≡ b → ItemOk s t to it → LanesOk s t n z → LanesOk s t n (sent_to b to it z)
+sent_ok : (s : Session) (t : Trace) (n : ℕ) (b : Bool) (to : ℕ) (it : Item) (z : Zone) → nat_eq to z.number ≡ b → ItemOk s t to it → ZoneOk s t n z → ZoneOk s t n (sent_to b to it z)
 sent_ok s t n true to it z e k ok =
     let home : to ≡ n = eqb-true to z.number e ∙ ok.number_is in
     record {
@@ -54,15 +48,17 @@ sent_ok s t n true to it z e k ok =
       lanes = ok.lanes;
       inbox = every-append (ItemOk s t n) z.inbox (it ∷ []) ok.inbox (subst (λ (m : ℕ). ItemOk s t m it) home k, tt);
       outboxes = ok.outboxes;
+      own = ok.own;
     }
 sent_ok s t n false to it z e k ok = record {
   number_is = ok.number_is;
   lanes = length-posted to it z.outboxes ∙ ok.lanes;
   inbox = ok.inbox;
   outboxes = each-posted (ItemOk s t) to it z.outboxes ok.outboxes k;
+  own = ok.own;
 }
 
-delivered_ok : (s : Session) (t : Trace) (n : ℕ) (ps : List Post) (z : Zone) → AllByRecursion (PostOk s t) ps → LanesOk s t n z → LanesOk s t n (delivered s.sizes ps z)
+delivered_ok : (s : Session) (t : Trace) (n : ℕ) (ps : List Post) (z : Zone) → AllByRecursion (PostOk s t) ps → ZoneOk s t n z → ZoneOk s t n (delivered s.sizes ps z)
 delivered_ok s t n [] z k ok = ok
 delivered_ok s t n (p ∷ ps) z k ok =
     let to = zone_number s.sizes p.0 in
@@ -94,29 +90,17 @@ module _ (s : Session) (session : IsSession s) (old new : Core) (legal : Legal s
   zone_ok : ZoneOk s old.trace st.number st.zone
   zone_ok = legal.each st.number st.zone st.had
 
-  lanes_ok : LanesOk s t' st.number st.zone'
-  lanes_ok =
+  zone_ok' : ZoneOk s t' st.number st.zone'
+  zone_ok' =
       let served : Zone = record st.zone { keeps = st.zone'.keeps; inbox = st.step.rest; steps = st.zone.steps + 1 } in
-      let first : LanesOk s t' st.number served = record { number_is = zone_ok.number_is; lanes = zone_ok.lanes; inbox = beside.inbox; outboxes = beside.outboxes } in
-      subst (λ (z : Zone). LanesOk s t' st.number z) (sym st.step.lanes) (delivered_ok s t' st.number st.step.posts served stepped.posts_ok first)
+      let first : ZoneOk s t' st.number served = record { number_is = zone_ok.number_is; lanes = zone_ok.lanes; inbox = beside.inbox; outboxes = beside.outboxes; own = stepped.own } in
+      subst (λ (z : Zone). ZoneOk s t' st.number z) (sym st.step.lanes) (delivered_ok s t' st.number st.step.posts served stepped.posts_ok first)
 
   zones_is : new.zones ≡ slice_set old.zones st.number st.zone'
   zones_is = ap (λ (core : Core). core.zones) st.has
 
   trace_is : new.trace ≡ t'
   trace_is = ap (λ (core : Core). core.trace) st.has
-
-  has_now : slice_get new.zones st.number ≡ Some st.zone'
-  has_now = ap (λ zs. slice_get zs st.number) zones_is ∙ get-put_same old.zones st.number st.zone st.zone' st.had
-
-  zone_ok' : ZoneOk s t' st.number st.zone'
-  zone_ok' = record {
-    number_is = lanes_ok.number_is;
-    lanes = lanes_ok.lanes;
-    inbox = lanes_ok.inbox;
-    outboxes = lanes_ok.outboxes;
-    own = stepped.own;
-  }
 
   each_ok : Each (ZoneOk s t') (slice_set old.zones st.number st.zone')
   each_ok = each_other old.zones st.number st.zone st.zone' st.had beside.others zone_ok'

@@ -141,20 +141,16 @@ mark_kept (Fails w c true) t m k = mark_later (Device c) (moments t) m k
 mark_kept other t m k = k
 
 -- What was there once is there from then on: a stop, a read that failed, an abort, blocks that are taken.
+either : (b : Bool) → (b || true) ≡ true
+either true = refl
+either false = refl
+
 pub stop_kept : (h : Happening) (t : Trace) → has_stopped t ≡ true → has_stopped (h ∷ t) ≡ true
 stop_kept (Fails w c kept) t is = rw is (either (not (is_read c)))
-  where
-    either : (b : Bool) → (b || true) ≡ true
-    either true = refl
-    either false = refl
 stop_kept other t is = is
 
 pub fault_kept : (h : Happening) (t : Trace) (w : Writer) → has_read_fault t w ≡ true → has_read_fault (h ∷ t) w ≡ true
 fault_kept (Fails v c kept) t w is = rw is (either (is_read c && same_writer v w))
-  where
-    either : (b : Bool) → (b || true) ≡ true
-    either true = refl
-    either false = refl
 fault_kept other t w is = is
 
 pub abort_kept : (h : Happening) (t : Trace) (a place : ℕ) → HasBelow a place (aborted t) → HasBelow a place (aborted (h ∷ t))

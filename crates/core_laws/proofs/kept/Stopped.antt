@@ -9,13 +9,13 @@ use Rattle.core_model.specs.declared.zones.DeviceZone.{DeviceZone}
 use Rattle.core_model.specs.declared.zones.Zone.{Zone}
 use Rattle.core_model.specs.Facts.{DataOk}
 use Rattle.core_model.specs.Legal.{Legal}
-use Rattle.core_model.specs.Zones.{desk_zone, device_zone, notified_zones}
+use Rattle.core_model.specs.Zones.{desk_zone, notified_zones}
 use Rattle.core_model.specs.Sessions.{Session}
 use Rattle.core_model.specs.Steps.{Core}
 use Rattle.core_model.specs.Tokens.{weight, given, notice_token, heard_at, notified_by}
 use Rattle.core_model.specs.Trace.{lines}
 use Rattle.plain_laws.proofs.ListLaws.{total-get, total_alone}
-use Rattle.core_laws.proofs.kept.ZoneKinds.{desk_sits}
+use Rattle.core_laws.proofs.kept.ZoneKinds.{desk_sits, no_words}
 
 some_words : (b : Bool) (n : ℕ) → 1 ≤ cond b n 0 → b ≡ true
 some_words true n some = refl
@@ -30,14 +30,7 @@ stopped_at_device s core w n z d legal is had keeps =
     let here = total-get (weight (notice_token s.sizes)) core.zones desk_zone desk.zone desk.had in
     let heard = ap heard_at desk.keeps in
     let own = subst (λ (e : ZoneData). DataOk s core.trace n e) keeps (legal.each n z had).own in
-    let alone = total_alone (given (notice_token s.sizes)) core.zones n z had (λ j y there ne. no_words j y.keeps (λ at_device. ne (at_device ∙ sym own.number_is)) (legal.each j y there).own) in
+    let alone = total_alone (given (notice_token s.sizes)) core.zones n z had (λ j y there ne. no_words s core.trace j y.keeps (λ at_device. ne (at_device ∙ sym own.number_is)) (legal.each j y there).own) in
     let notified = ap (notified_by s.sizes) keeps in
     let balance = legal.stop_notices in
     some_words d.stopped (notified_zones s.sizes) (omega (arith, enough, here, heard, alone, notified, balance))
-  where
-    no_words : (j : ℕ) (e : ZoneData) → (j ≡ device_zone s.sizes → ⊥) → DataOk s core.trace j e → notified_by s.sizes e ≡ 0
-    no_words j (at.Desk x) ne k = refl
-    no_words j (at.Logical l) ne k = refl
-    no_words j (at.Physical p) ne k = refl
-    no_words j (at.Journal jn) ne k = refl
-    no_words j (at.Device x) ne k = absurd (ne k.number_is)

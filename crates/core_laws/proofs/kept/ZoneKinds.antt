@@ -7,7 +7,7 @@ use Rattle.core_model.specs.Facts.{DataOk, ZoneOk}
 use Rattle.core_model.specs.Zones.{desk_zone, physical_zone, journal_zone, device_zone, zone_count}
 use Rattle.core_model.specs.Sessions.{Session}
 use Rattle.plain_laws.specs.Sums.{total, Each}
-use Rattle.core_model.specs.Tokens.{given, journal_token, block_token, one_journal, one_physical}
+use Rattle.core_model.specs.Tokens.{given, notified_by, journal_token, block_token, one_journal, one_physical}
 use Rattle.core_model.specs.Trace.{Trace}
 use Rattle.plain_laws.proofs.ListLaws.{total_zero}
 
@@ -61,6 +61,11 @@ module _ (s : Session) (t : Trace) where
   one_physical_at : (n : ℕ) (d : ZoneData) → DataOk s t n d → (one_physical d ≤ 1) × ((n ≡ physical_zone s.sizes → ⊥) → one_physical d ≡ 0)
   one_physical_at n (at.Physical p) ok = (omega arith, λ ne. absurd (ne ok.number_is))
   one_physical_at n other ok = (omega arith, λ ne. refl)
+
+  -- the words of a stop are given out at the device alone
+  pub no_words : (n : ℕ) (d : ZoneData) → (n ≡ device_zone s.sizes → ⊥) → DataOk s t n d → notified_by s.sizes d ≡ 0
+  no_words n (at.Device d) ne ok = absurd (ne ok.number_is)
+  no_words n other ne ok = refl
 
   module _ (zones : List Zone) (each : Each (ZoneOk s t) zones) where
     -- of the journal and of each block at most one is given out

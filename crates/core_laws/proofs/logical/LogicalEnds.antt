@@ -21,7 +21,7 @@ use Rattle.core_model.specs.declared.zones.LogicalZone.{LogicalZone}
 use Rattle.core_model.specs.declared.zones.Logged.{Logged}
 use Rattle.core_model.specs.DeskRows.{mark_of_vio}
 use Rattle.core_model.specs.DeviceRows.{IsInside}
-use Rattle.core_model.specs.Facts.{VioOk, Looks, IsEntered, HasEarned, MayReply, Carries, DataOk, mapping_in}
+use Rattle.core_model.specs.Facts.{Looks, IsEntered, HasEarned, MayReply, DataOk, mapping_in}
 use Rattle.core_model.specs.LogicalRows.{LogicalServes, arrives_retired, arrives_free, arrives_held, settles, gives, aborts, aborts_entered, released, granted, retire, all_stopped, all_for, with_slot}
 use Rattle.core_model.specs.RightTraces.{RightTrace, Quiet, IsCommitted, AllBelow}
 use Rattle.core_model.specs.Sessions.{Session, IsFresh, HasHonestReads, value_at}
@@ -29,14 +29,14 @@ use Rattle.core_model.specs.Tokens.{holds}
 use Rattle.core_model.specs.Trace.{Happening, Sets, Gives, Aborts, Trace, gifts, done, has_stopped, logged_of, gift_of}
 use Rattle.core_model.specs.Vios.{Post, turned, ended, logged, gift, asked}
 use Rattle.core_laws.proofs.trace.DeskOfTrace.{shown_of}
-use Rattle.core_laws.proofs.kept.ActKept.{Known, Mine, ActKept, IsPlain, act_none, act_one, own_request, own_address, plain_clears, line_kept, shown_plain, vio_over, carries_at}
+use Rattle.core_laws.proofs.kept.ActKept.{Known, Mine, ActKept, IsPlain, act_none, act_one, own_request, own_address, plain_clears, line_kept, shown_plain, vio_over, vio_ok, in_phase}
 use Rattle.core_laws.proofs.kept.Frame.{told_kept}
 use Rattle.core_laws.proofs.kept.Keys.{OfRequest, OfAddress, IfAny, Clears, happens_in}
 use Rattle.core_laws.proofs.kept.Carried.{reply_said}
 use Rattle.blk_base.proofs.RegionLaws.{data_block_high}
 use Rattle.core_laws.proofs.device.DataBlocks.{blocks_fit}
 use Rattle.core_laws.proofs.tokens.Known.{Leased}
-use Rattle.core_laws.proofs.logical.LogicalFacts.{front_ok, zone_is, retired_kept, held_kept, free_kept}
+use Rattle.core_laws.proofs.logical.LogicalFacts.{zone_is, retired_kept, held_kept, free_kept}
 use Rattle.plain_laws.proofs.OptionLaws.{some_is}
 use Rattle.vdo_model.proofs.NameLaws.{same_self}
 use Rattle.core_laws.proofs.logical.Releases.{below_more, release_ok, retire_ok, drawn_before}
@@ -54,14 +54,8 @@ module _ {s : Session} {t : Trace} {n : ℕ} {l : LogicalZone} {v : Vio} (known 
   abbrev After : LogicalZone → Trace → List Post → Type 0
   After new made posts = ActKept s t n (at.Logical l) (item.Request v ∷ []) (at.Logical new) made posts
 
-  ok : VioOk s t v
-  ok = front_ok known
-
   home : zone_of s.sizes.zones v.at.0 ≡ l.zone
   home = zone_is known
-
-  carried : (q : Phase) → v.phase ≡ q → Carries s t v q
-  carried q is = carries_at s t v q is known.front_ok.0.1
 
   leased : (q : Phase) → v.phase ≡ q → holds q ≡ true → Leased l v
   leased q is held = known.leased l v refl refl (rw is held)
@@ -84,13 +78,13 @@ module _ {s : Session} {t : Trace} {n : ℕ} {l : LogicalZone} {v : Vio} (known 
     t' = Sets (logged v) ∷ t
 
     facts : IsEntered s t v × IsCommitted t (logged v) × AllBelow t v.at.0 v.place × IsFresh s v.block
-    facts = carried phase.Settle is
+    facts = in_phase known phase.Settle is
 
     clears : Clears s n (Mine s t (at.Logical l) (item.Request v ∷ [])) (Sets e) t
     clears = own_clears (Sets e) tt refl (own_request known) (own_address known phase.Settle is refl)
 
     right_set : RightTrace s t'
-    right_set = (record { is_open = ok.is_open; is_committed = facts.1; below = facts.2; unaborted = facts.0.unaborted }, shown_plain s t (Sets e) tt (shown_of s t known.right), known.right)
+    right_set = (record { is_open = (vio_ok known).is_open; is_committed = facts.1; below = facts.2; unaborted = facts.0.unaborted }, shown_plain s t (Sets e) tt (shown_of s t known.right), known.right)
 
     quiet_set : Quiet t' v.at.0
     quiet_set = record { all_committed = facts.1.all_committed; all_done = facts.1.last ∙ sym (of_same e (done t)) }
@@ -146,7 +140,7 @@ module _ {s : Session} {t : Trace} {n : ℕ} {l : LogicalZone} {v : Vio} (known 
     settles_kept more grants =
         let both = release_ok s t' n (with_slot l v) slot_ok v (leased phase.Settle is refl) home quiet_set below_set more grants in
         act_one known (Sets e) clears (λ f honest. f honest) right_set both.0
-        ((omega arith, (vio_over s (Sets e) t v refl ok, done_earned s t' (mark_of_vio v) v.asks v.at v.bytes facts.0.is_write (rw (same_self v.request) (some_is (Some e) e refl)), refl)), both.1)
+        ((omega arith, (vio_over s (Sets e) t v refl (vio_ok known), done_earned s t' (mark_of_vio v) v.asks v.at v.bytes facts.0.is_write (rw (same_self v.request) (some_is (Some e) e refl)), refl)), both.1)
 
   -- It is given its bytes.
   module _ (is : v.phase ≡ phase.Loaded) where
@@ -154,7 +148,7 @@ module _ {s : Session} {t : Trace} {n : ℕ} {l : LogicalZone} {v : Vio} (known 
     u = Gives (gift v) ∷ t
 
     looked : Looks s t v × (HasHonestReads s t → v.bytes ≡ value_at s t v.at.0)
-    looked = carried phase.Loaded is
+    looked = in_phase known phase.Loaded is
 
     clears_give : Clears s n (Mine s t (at.Logical l) (item.Request v ∷ [])) (Gives (gift v)) t
     clears_give = own_clears (Gives (gift v)) tt refl (own_request known) (own_address known phase.Loaded is refl)
@@ -162,7 +156,7 @@ module _ {s : Session} {t : Trace} {n : ℕ} {l : LogicalZone} {v : Vio} (known 
     right_give : RightTrace s u
     right_give =
         let held = looked.0.held in (
-          record { is_open = ok.is_open; asked = ok.asked ∙ ap (λ (asks : Asks). Some (asked asks v.at v.bytes)) looked.0.is_read; placed = held.is_placed.placed; quiet = held.quiet; below = held.below },
+          record { is_open = (vio_ok known).is_open; asked = (vio_ok known).asked ∙ ap (λ (asks : Asks). Some (asked asks v.at v.bytes)) looked.0.is_read; placed = held.is_placed.placed; quiet = held.quiet; below = held.below },
           shown_plain s t (Gives (gift v)) tt (shown_of s t known.right),
           known.right,
         )
@@ -196,14 +190,14 @@ module _ {s : Session} {t : Trace} {n : ℕ} {l : LogicalZone} {v : Vio} (known 
     gives_kept more grants =
         let both = release_ok s u n l given_ok v (leased phase.Loaded is refl) home (quiet_same v.at.0 looked.0.held.quiet) below_give more grants in
         act_one known (Gives (gift v)) clears_give (λ f honest. (looked.1 honest, f honest)) right_give both.0
-        ((omega arith, (vio_over s (Gives (gift v)) t v refl ok, given_earned s u (mark_of_vio v) v.asks v.at v.bytes v.place looked.0.is_read (rw (same_self v.request) refl), refl)), both.1)
+        ((omega arith, (vio_over s (Gives (gift v)) t v refl (vio_ok known), given_earned s u (mark_of_vio v) v.asks v.at v.bytes v.place looked.0.is_read (rw (same_self v.request) refl), refl)), both.1)
 
   -- It is aborted, before its entry was handed in ..
   aborts_kept : (more : List Post) → v.phase ≡ phase.Abort → granted s.sizes v.at.0 l ≡ Some more → After (released v.at.0 l) [] ((id.Desk, item.Request (turned phase.Reply v)) ∷ more)
   aborts_kept more is grants =
-      let facts = carried phase.Abort is in
+      let facts = in_phase known phase.Abort is in
       let both = release_ok s t n l known.own v (leased phase.Abort is refl) home facts.0.quiet (below_more t v.at.0 v.place (v.place + 1) (omega arith) facts.0.below) more grants in
-      act_none known both.0 ((omega arith, (ok, facts.1, refl)), both.1)
+      act_none known both.0 ((omega arith, ((vio_ok known), facts.1, refl)), both.1)
 
   -- .. or after.
   module _ (is : v.phase ≡ phase.AbortEntered) where
@@ -211,11 +205,11 @@ module _ {s : Session} {t : Trace} {n : ℕ} {l : LogicalZone} {v : Vio} (known 
     gone = Aborts (logged v)
 
     carries_it : IsEntered s t v × MayReply s t v v.answer × (has_stopped t ≡ true)
-    carries_it = carried phase.AbortEntered is
+    carries_it = in_phase known phase.AbortEntered is
 
     right_abort : RightTrace s (Aborts (logged v) ∷ t)
     right_abort = (
-      record { is_open = ok.is_open; handed_in = carries_it.0.entry; unset = carries_it.0.unset; stopped = carries_it.2 },
+      record { is_open = (vio_ok known).is_open; handed_in = carries_it.0.entry; unset = carries_it.0.unset; stopped = carries_it.2 },
       shown_plain s t (Aborts (logged v)) tt (shown_of s t known.right),
       known.right,
     )
@@ -239,7 +233,7 @@ module _ {s : Session} {t : Trace} {n : ℕ} {l : LogicalZone} {v : Vio} (known 
     aborts_entered_kept =
         let both = retire_ok s (gone ∷ t) n l gone_ok v (leased phase.AbortEntered is refl) home right_abort carries_it.2 (λ place less. inl (refl, less)) in
         act_one known gone clears_abort (λ f honest. f honest) right_abort both.0
-        ((omega arith, (vio_over s gone t v refl ok, reply_said s gone t v v.answer (record { of_place = refl; of_entry = refl; of_slot = refl; of_gift = refl }) carries_it.1, refl)), both.1)
+        ((omega arith, (vio_over s gone t v refl (vio_ok known), reply_said s gone t v v.answer (record { of_place = refl; of_entry = refl; of_slot = refl; of_gift = refl }) carries_it.1, refl)), both.1)
 
   -- each act of a logical zone
   pub logical_serves : (new : LogicalZone) (made : Trace) (posts : List Post) → LogicalServes s.sizes l v new made posts → After new made posts

@@ -6,19 +6,17 @@ use Rattle.blk_base.specs.declared.place.Pbn.{Pbn}
 use Rattle.blk_base.specs.declared.place.ZoneId.TheVariants as id
 use Rattle.vdo_model.specs.Places.{zone_of}
 use Rattle.core_model.specs.declared.items.Item.TheVariants as item
-use Rattle.core_model.specs.declared.items.Phase.{Phase}
 use Rattle.core_model.specs.declared.items.Phase.TheVariants as phase
 use Rattle.core_model.specs.declared.items.Vio.{Vio}
 use Rattle.core_model.specs.declared.zones.ZoneData.TheVariants as at
 use Rattle.core_model.specs.declared.zones.PhysicalZone.{PhysicalZone}
-use Rattle.core_model.specs.Facts.{VioOk, Carries}
 use Rattle.core_model.specs.JournalRows.{PhysicalServes}
 use Rattle.core_model.specs.Zones.{zone_number, zone_count}
 use Rattle.core_model.specs.RightTraces.{TakeMayFollow, IsFull}
 use Rattle.core_model.specs.Sessions.{Session, IsFresh}
 use Rattle.core_model.specs.Trace.{Happening, Takes, Trace, taken}
 use Rattle.core_model.specs.Vios.{Post, asked}
-use Rattle.core_laws.proofs.kept.ActKept.{Known, ActKept, act_none, act_one, plain_clears, shown_plain, vio_over, carries_at}
+use Rattle.core_laws.proofs.kept.ActKept.{Known, ActKept, act_none, act_one, plain_clears, shown_plain, vio_over, vio_ok, in_phase}
 use Rattle.core_laws.proofs.kept.Carried.{holds_kept}
 use Rattle.core_laws.proofs.trace.DeskOfTrace.{shown_of}
 use Rattle.core_laws.proofs.journal.JournalPosts.{home_within, may_fill}
@@ -41,33 +39,27 @@ none_left (y ∷ ys) (suc n) is = omega (arith, none_left ys n is)
 
 -- What the physical zone does with a request.
 module _ {s : Session} {t : Trace} {n : ℕ} {old : PhysicalZone} {v : Vio} (known : Known s t n (at.Physical old) (item.Request v ∷ [])) where
-  ok : VioOk s t v
-  ok = known.front_ok.0.0
-
-  in_phase : (q : Phase) → v.phase ≡ q → Carries s t v q
-  in_phase q is = carries_at s t v q is known.front_ok.0.1
-
   home : zone_number s.sizes v.home < zone_count s.sizes
-  home = home_within s t v known.session ok
+  home = home_within s t v known.session (vio_ok known)
 
   pub physical_serves : (new : PhysicalZone) (made : Trace) (posts : List Post) → PhysicalServes s.sizes old v new made posts → ActKept s t n (at.Physical old) (item.Request v ∷ []) (at.Physical new) made posts
   physical_serves new made posts (PhysicalServes.claims x others is free_is i m q) =
-      let k = in_phase phase.Claim is in
+      let k = in_phase known phase.Claim is in
       let own = known.own in
       let free : AllByRecursion (IsFresh s) (x ∷ others) = subst (λ (xs : List Pbn). AllByRecursion (IsFresh s) xs) free_is own.sound in
       let left = next_left s.free (taken t) x others (sym free_is ∙ own.lists.left) in
       let h : Happening = Takes v.request x in
-      let may : TakeMayFollow s v.request x t = record { is_open = ok.is_open; asked = (v.at, v.bytes, ok.asked ∙ ap (λ q. Some (asked q v.at v.bytes)) k.1); next = left.0 } in
+      let may : TakeMayFollow s v.request x t = record { is_open = (vio_ok known).is_open; asked = (v.at, v.bytes, (vio_ok known).asked ∙ ap (λ q. Some (asked q v.at v.bytes)) k.1); next = left.0 } in
       rw (i, m, q) (act_one known h (plain_clears known h t tt own.number_is tt tt) (λ gives honest. gives honest)
       (may, shown_plain s t h tt (shown_of s t known.right), known.right)
       (record { number_is = own.number_is; lists = record { left = left.1 }; sound = free.1; kept = tt; answers = tt; told = tt })
-      ((omega arith, (vio_over s h t v refl ok, (holds_kept s h t v tt tt k.0, k.1, free.0), refl)), tt))
+      ((omega arith, (vio_over s h t v refl (vio_ok known), (holds_kept s h t v tt tt k.0, k.1, free.0), refl)), tt))
   physical_serves new made posts (PhysicalServes.is_full is free_is i m q) =
-      let k = in_phase phase.Claim is in
+      let k = in_phase known phase.Claim is in
       let full : IsFull s t = inr (none_left s.free (taken t) (sym free_is ∙ known.own.lists.left)) in
-      rw (i, m, q) (act_none known known.own ((home, (ok, (k.0, may_fill s t v k.1 k.0.is_placed full), refl)), tt))
-  physical_serves new made posts (PhysicalServes.aborts_claim is i m q) = rw (i, m, q) (act_none known known.own ((home, (ok, in_phase phase.AbortClaim is, refl)), tt))
-  physical_serves new made posts (PhysicalServes.aborts_entered_claim is i m q) = rw (i, m, q) (act_none known known.own ((home, (ok, in_phase phase.AbortEnteredClaim is, refl)), tt))
+      rw (i, m, q) (act_none known known.own ((home, ((vio_ok known), (k.0, may_fill s t v k.1 k.0.is_placed full), refl)), tt))
+  physical_serves new made posts (PhysicalServes.aborts_claim is i m q) = rw (i, m, q) (act_none known known.own ((home, ((vio_ok known), in_phase known phase.AbortClaim is, refl)), tt))
+  physical_serves new made posts (PhysicalServes.aborts_entered_claim is i m q) = rw (i, m, q) (act_none known known.own ((home, ((vio_ok known), in_phase known phase.AbortEnteredClaim is, refl)), tt))
 
 -- What it does with a stop notice.
 pub physical_notified : {s : Session} {t : Trace} {n : ℕ} {old : PhysicalZone} → Known s t n (at.Physical old) (item.StopNotice ∷ [])

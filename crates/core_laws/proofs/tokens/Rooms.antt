@@ -21,7 +21,7 @@ use Rattle.core_model.specs.Trace.{lines}
 use Rattle.core_laws.proofs.tokens.Lift.{queued_is}
 use Rattle.core_laws.proofs.trace.DeskOfTrace.{desk_log_right}
 use Rattle.plain_laws.proofs.ListLaws.{total-get, total_alone}
-use Rattle.core_laws.proofs.kept.ZoneKinds.{desk_sits, device_sits}
+use Rattle.core_laws.proofs.kept.ZoneKinds.{desk_sits, device_sits, no_words}
 
 -- Each stream has at most so many requests under way.
 stream_bound : (depth : ℕ) (script : Script) (desk : List DeskLine) (stream : ℕ) → IsDeskLog depth script desk → begun stream desk ≤ answered stream desk + depth
@@ -143,28 +143,18 @@ module _ (s : Session) (core : Core) (legal : Legal s core) where
     where
       no_log : (j : ℕ) (d : ZoneData) → (j ≡ desk_zone → ⊥) → DataOk s core.trace j d → in_log f d ≡ 0
       no_log j (at.Desk d) ne k = absurd (ne k.number_is)
-      no_log j (at.Logical l) ne k = refl
-      no_log j (at.Physical p) ne k = refl
-      no_log j (at.Journal jn) ne k = refl
-      no_log j (at.Device d) ne k = refl
+      no_log j other ne k = refl
 
   few_words : total (given (notice_token s.sizes)) core.zones ≤ notified_zones s.sizes
   few_words =
       let device = device_sits s core.trace core.zones legal.each legal.count in
-      let alone = total_alone (given (notice_token s.sizes)) core.zones (device_zone s.sizes) device.zone device.had (λ j y there ne. no_words j y.keeps ne (legal.each j y there).own) in
+      let alone = total_alone (given (notice_token s.sizes)) core.zones (device_zone s.sizes) device.zone device.had (λ j y there ne. no_words s core.trace j y.keeps ne (legal.each j y there).own) in
       let notified = ap (notified_by s.sizes) device.keeps in
       omega (arith, alone, notified, by device.it.stopped)
     where
       by : (b : Bool) → cond b (notified_zones s.sizes) 0 ≤ notified_zones s.sizes
       by true = omega arith
       by false = omega arith
-
-      no_words : (j : ℕ) (d : ZoneData) → (j ≡ device_zone s.sizes → ⊥) → DataOk s core.trace j d → notified_by s.sizes d ≡ 0
-      no_words j (at.Desk d) ne k = refl
-      no_words j (at.Logical l) ne k = refl
-      no_words j (at.Physical p) ne k = refl
-      no_words j (at.Journal jn) ne k = refl
-      no_words j (at.Device d) ne k = absurd (ne k.number_is)
 
   few_requests : (n : ℕ) (z : Zone) → slice_get core.zones n ≡ Some z → carried room_token z ≤ length s.script * s.sizes.depth
   few_requests n z had =
