@@ -51,7 +51,7 @@ use Rattle.core_model.specs.Zones.{zone_number, zone_count, notified_zones}
 use Rattle.core_model.specs.RightTraces.{IsOpen, Quiet, IsCommitted, AllBelow, HasPlace, HasBelow, HasCause}
 use Rattle.core_model.specs.Sessions.{Session, HasHonestReads, IsFresh, Stands, ReadsAs, AtRest, OnItsWay, ReadsEntry, HasPending, value_at}
 use Rattle.plain_laws.specs.Sums.{total, Each}
-use Rattle.core_model.specs.Tokens.{lock_weight}
+use Rattle.core_model.specs.Tokens.{lock_weight, kept_by}
 use Rattle.core_model.specs.Trace.{Trace, moments, lines, calls, marks, places, entered, committed, done, aborted, taken, has_stopped, of_address, newest, logged_of, entries_of}
 use Rattle.core_model.specs.Vios.{asked, request_of, logged}
 
@@ -183,7 +183,7 @@ BlockOk s t b = IsSealed s t b.vio b.sequence × StandsAt s t b.vio b.stage
 abbrev pub ItemOk : Session → Trace → ℕ → Item → Type 0
 ItemOk s t to (item.Request v) = VioOk s t v × Carries s t v v.phase × (to ≡ zone_at s.sizes v.home v.phase)
 ItemOk s t to (item.Block b) = BlockOk s t b × (to ≡ zone_of_stage s.sizes b.stage)
-ItemOk s t to item.StopNotice = (to ≤ notified_zones s.sizes) × (has_stopped t ≡ true)
+ItemOk s t to item.StopNotice = (has_stopped t ≡ true) × (to ≤ notified_zones s.sizes)
 
 -- a request that a zone keeps is in one phase
 abbrev pub KeptOk : Session → Trace → Phase → Vio → Type 0
@@ -194,13 +194,7 @@ abbrev pub Rises : List Vio → Type 0
 Rises [] = Unit {0}
 Rises (v ∷ behind) = AllByRecursion (λ w. v.place < w.place) behind × Rises behind
 
--- the requests that a zone keeps, and the phase that they are in
-abbrev pub kept_by : ZoneData → List Vio
-kept_by (at.Desk desk) = desk.parked
-kept_by (at.Logical l) = l.waiting
-kept_by (at.Journal j) = j.waiting
-kept_by other = []
-
+-- the phase that the requests are in that a zone keeps
 abbrev pub kept_phase : ZoneData → Phase
 kept_phase (at.Logical l) = phase.Wait
 kept_phase (at.Journal j) = phase.Enter

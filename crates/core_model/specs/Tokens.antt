@@ -25,16 +25,19 @@ pub record Token : Type 0 where
   pub own : ZoneData → ℕ
   pub gave : ZoneData → ℕ
 
--- what a zone keeps beside its lanes, and what that weighs
+-- the requests that a zone keeps beside its lanes, all that it keeps, and what that weighs
+abbrev pub kept_by : ZoneData → List Vio
+kept_by (at.Desk desk) = desk.parked
+kept_by (at.Logical l) = l.waiting
+kept_by (at.Journal j) = j.waiting
+kept_by other = []
+
 abbrev pub as_items : List Vio → List Item
 as_items [] = []
 as_items (v ∷ vs) = Request v ∷ as_items vs
 
 abbrev pub kept_items : ZoneData → List Item
-kept_items (at.Desk desk) = as_items desk.parked
-kept_items (at.Logical l) = as_items l.waiting
-kept_items (at.Journal j) = as_items j.waiting
-kept_items other = []
+kept_items d = as_items (kept_by d)
 
 abbrev pub queued : (Item → ℕ) → ZoneData → ℕ
 queued weigh d = total weigh (kept_items d)

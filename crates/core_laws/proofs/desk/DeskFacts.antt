@@ -298,5 +298,5 @@ desk_hears {s} {t} {n} {old} known =
       sound = record { requests = own.sound.requests; stops_notified = λ w stopped. (let enough = own.sound.stops_notified w stopped in omega (arith, enough)) };
       kept = tt;
       answers = tt;
-      told = λ heard. known.front_ok.0.1;
+      told = λ heard. known.front_ok.0.0;
     }) (woken_ok s t old.parked own.kept)

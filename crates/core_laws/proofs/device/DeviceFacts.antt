@@ -45,10 +45,10 @@ use Rattle.core_laws.proofs.kept.StandsOn.{IsCallOf, succeeded, failed, block_sp
 -- the stop notices
 logical_ok : (s : Session) (t : Trace) (n : ℕ) → n ≤ s.sizes.zones → has_stopped t ≡ true → AllByRecursion (PostOk s t) (stop_notices (logical_zones n))
 logical_ok s t zero within stopped = tt
-logical_ok s t (suc n) within stopped = ((omega (arith, within), (omega (arith, within), stopped)), logical_ok s t n (omega (arith, within)) stopped)
+logical_ok s t (suc n) within stopped = ((omega (arith, within), (stopped, omega (arith, within))), logical_ok s t n (omega (arith, within)) stopped)
 
 pub notices_ok : (s : Session) (t : Trace) → has_stopped t ≡ true → AllByRecursion (PostOk s t) (stop_notices (notified s.sizes))
-notices_ok s t stopped = ((omega arith, (omega arith, stopped)), ((omega arith, (omega arith, stopped)), logical_ok s t s.sizes.zones (omega arith) stopped))
+notices_ok s t stopped = ((omega arith, (stopped, omega arith)), ((omega arith, (stopped, omega arith)), logical_ok s t s.sizes.zones (omega arith) stopped))
 
 -- a read is the same with other bytes
 asks_same : (q : Asks) (at : Lba) (b c : List ℕ) → q ≡ Read → asked q at b ≡ asked q at c

@@ -142,6 +142,6 @@ pub journal_notified : {s : Session} {t : Trace} {n : ℕ} {old : JournalZone} �
     → ActKept s t n (at.Journal old) (item.StopNotice ∷ []) (at.Journal (record old { notified = true; waiting = [] })) [] ((id.Desk, item.StopNotice) ∷ all_refused s.sizes reply.Stopped old.waiting)
 journal_notified {s} {t} {n} {old} known =
     let k = known.own in
-    let stopped = known.front_ok.0.1 in
+    let stopped = known.front_ok.0.0 in
     act_none known (record { number_is = k.number_is; lists = record { entered_is = k.lists.entered_is; committed_is = k.lists.committed_is }; sound = tt; kept = tt; answers = k.answers; told = λ closed. stopped })
-    ((omega arith, (omega arith, stopped)), stopped_posts s t old.waiting known.right stopped k.kept)
+    ((omega arith, (stopped, omega arith)), stopped_posts s t old.waiting known.right stopped k.kept)

@@ -19,12 +19,12 @@ use Rattle.core_model.specs.declared.zones.LogicalZone.{LogicalZone}
 use Rattle.core_model.specs.declared.zones.Logged.{Logged}
 use Rattle.core_model.specs.declared.zones.ZoneData.{ZoneData}
 use Rattle.core_model.specs.declared.zones.ZoneData.TheVariants as at
-use Rattle.core_model.specs.Facts.{VioOk, ItemOk, KeptOk, DataOk, Carries, kept_by, kept_phase}
+use Rattle.core_model.specs.Facts.{VioOk, ItemOk, KeptOk, DataOk, Carries, kept_phase}
 use Rattle.core_model.specs.Legal.{ComesAfter}
 use Rattle.core_model.specs.Zones.{zone_number, zone_count}
 use Rattle.core_model.specs.RightTraces.{RightTrace, GivesRight, IsWrite}
 use Rattle.core_model.specs.Sessions.{Session, IsSession, HasHonestReads, Shown, HasPending, AtRest}
-use Rattle.core_model.specs.Tokens.{holds, claims}
+use Rattle.core_model.specs.Tokens.{kept_by, holds, claims}
 use Rattle.core_model.specs.Trace.{Happening, Enters, Commits, Calls, Fails, Trace, lines, places, entered, committed, done, logged_of}
 use Rattle.core_model.specs.Vios.{Post}
 use Rattle.core_laws.proofs.trace.DeskOfTrace.{logged_has, entered_writes, done_is_entered}

@@ -177,4 +177,4 @@ module _ (s : Session) (h : Happening) (t : Trace) where
   pub item_kept : (to : ℕ) (it : Item) → SparesItem it → ItemOk s t to it → ItemOk s (h ∷ t) to it
   item_kept to (item.Request v) spares k = (vio_kept v (own_spared v spares) k.0, carries_kept v spares k.1, k.2)
   item_kept to (item.Block b) spares k = (block_kept b spares k.0, k.1)
-  item_kept to item.StopNotice spares k = (k.0, stop_kept h t k.1)
+  item_kept to item.StopNotice spares k = (stop_kept h t k.0, k.1)

@@ -13,7 +13,7 @@ use Rattle.core_model.specs.declared.zones.ZoneData.{ZoneData}
 use Rattle.core_model.specs.declared.zones.ZoneData.TheVariants as at
 use Rattle.core_model.specs.declared.zones.Lock.{Lock}
 use Rattle.core_model.specs.declared.zones.Zone.{Zone}
-use Rattle.core_model.specs.Facts.{ItemOk, KeptOk, MapOk, LocksOk, DataOk, ZoneOk, RestsAt, arrival, kept_by, kept_phase}
+use Rattle.core_model.specs.Facts.{ItemOk, KeptOk, MapOk, LocksOk, DataOk, ZoneOk, RestsAt, arrival, kept_phase}
 use Rattle.core_model.specs.Arrivals.{arrivals_at}
 use Rattle.core_model.specs.Legal.{Legal}
 use Rattle.core_model.specs.Streams.{Flows, counted}
@@ -22,7 +22,7 @@ use Rattle.core_model.specs.Sessions.{IsFresh, Session, IsSession, Shown, AtRest
 use Rattle.core_model.specs.Start.{IsFirstData, IsFirstZone, IsFirst}
 use Rattle.core_model.specs.Steps.{Core}
 use Rattle.plain_laws.specs.Sums.{total, bit, Each}
-use Rattle.core_model.specs.Tokens.{is_block, Token, as_items, queued, weight, given, Balanced, AtMost, in_log, begins_of, answers_of, request_token, lock_weight, lease_token, is_entry, blocks_at, one_physical, block_token, journal_token, is_begin, is_answer, room_token, notified_by, notice_token}
+use Rattle.core_model.specs.Tokens.{is_block, Token, kept_by, as_items, queued, weight, given, Balanced, AtMost, in_log, begins_of, answers_of, request_token, lock_weight, lease_token, is_entry, blocks_at, one_physical, block_token, journal_token, is_begin, is_answer, room_token, notified_by, notice_token}
 use Rattle.core_model.specs.Trace.{Trace, of_address, newest}
 use Rattle.core_model.specs.DeviceRows.{IsInside}
 use Rattle.core_model.specs.JournalRows.{is_closed}

@@ -14,17 +14,17 @@ use Rattle.core_model.specs.declared.sizes.Sizes.{Sizes}
 use Rattle.core_model.specs.declared.zones.ZoneData.{ZoneData}
 use Rattle.core_model.specs.declared.zones.ZoneData.TheVariants as at
 use Rattle.core_model.specs.declared.zones.Zone.{Zone}
-use Rattle.core_model.specs.Facts.{ItemOk, KeptOk, HasLists, Answers, WasTold, RestsAt, ZoneOk, name_of, kept_by, kept_phase}
+use Rattle.core_model.specs.Facts.{ItemOk, KeptOk, HasLists, Answers, WasTold, RestsAt, ZoneOk, name_of, kept_phase}
 use Rattle.core_model.specs.Zones.{zone_number, desk_zone, logical_zone, physical_zone, journal_zone, device_zone}
 use Rattle.core_model.specs.RightTraces.{AllBelow}
 use Rattle.core_model.specs.Sessions.{Session}
-use Rattle.core_model.specs.Tokens.{Token, weight}
+use Rattle.core_model.specs.Tokens.{kept_by, Token, weight}
 use Rattle.core_model.specs.Trace.{Happening, Says, Flushes, Draws, Enters, Commits, Sets, Gives, Takes, Calls, Fails, Trace, lines, calls, marks, places, entered, committed, done, taken, has_stopped, of_address}
 use Rattle.core_laws.proofs.kept.Carried.{kept_kept, item_kept}
 use Rattle.core_laws.proofs.kept.Keys.{Key, OfAddress, OfJournal, token_of, Spares, happens_in, Clears, mine_or_spared, free_one}
 use Rattle.core_laws.proofs.kept.Spared.{of_other, quiet_kept, stop_kept, abort_kept}
 use Rattle.core_laws.proofs.kept.StandsOn.{SparesBlocks, rests_kept, pending_kept}
-use Rattle.core_laws.proofs.tokens.Lift.{queued_is}
+use Rattle.core_laws.proofs.tokens.Lift.{items_total}
 use Rattle.plain_laws.proofs.ListLaws.{every-front, total-get}
 use Rattle.plain_laws.specs.Sums.{total, Each}
 
@@ -145,7 +145,7 @@ module _ (s : Session) (h : Happening) (t : Trace) where
       number_is = ok.own.number_is;
       lists = lists_kept z.keeps (λ is. off (ok.own.number_is ∙ is)) ok.own.lists;
       sound = ok.own.sound;
-      kept = kept_on (kept_phase z.keeps) (kept_by z.keeps) (part (λ k. total (λ v. (token_of s.sizes k).item (Request v)) (kept_by z.keeps)) (λ k. omega (arith, queued_is (token_of s.sizes k).item z.keeps))) ok.own.kept;
+      kept = kept_on (kept_phase z.keeps) (kept_by z.keeps) (part (λ k. total (λ v. (token_of s.sizes k).item (Request v)) (kept_by z.keeps)) (λ k. omega (arith, items_total (token_of s.sizes k).item (kept_by z.keeps)))) ok.own.kept;
       answers = answers_kept z.keeps (λ k some. elim (spares k) [ inl none ↦ absurd (omega (arith, none, some)) | inr spared ↦ spared ]) ok.own.answers;
       told = told_kept z.keeps ok.own.told;
     };

@@ -11,13 +11,13 @@ use Rattle.core_model.specs.declared.zones.Logged.{Logged}
 use Rattle.core_model.specs.declared.zones.ZoneData.{ZoneData}
 use Rattle.core_model.specs.declared.zones.ZoneData.TheVariants as at
 use Rattle.core_model.specs.declared.zones.Zone.{Zone}
-use Rattle.core_model.specs.Facts.{DataOk, kept_by}
+use Rattle.core_model.specs.Facts.{DataOk}
 use Rattle.core_model.specs.Legal.{Legal}
 use Rattle.core_model.specs.LogicalRows.{is_among, is_held}
 use Rattle.core_model.specs.Sessions.{Session}
 use Rattle.core_model.specs.Zones.{journal_zone}
 use Rattle.core_model.specs.Steps.{Core}
-use Rattle.core_model.specs.Tokens.{weight, given, in_log, begins_of, request_token, lease_token, block_token, lock_weight, locks_at, is_entry, blocks_at}
+use Rattle.core_model.specs.Tokens.{kept_by, weight, given, in_log, begins_of, request_token, lease_token, block_token, lock_weight, locks_at, is_entry, blocks_at}
 use Rattle.core_model.specs.Trace.{Trace, lines, entered}
 use Rattle.core_laws.proofs.kept.ActKept.{weighed, unborn, Reached, in_hand, in_line, line_of}
 use Rattle.core_laws.proofs.kept.Frame.{HasNoneBeside}
@@ -25,7 +25,7 @@ use Rattle.core_laws.proofs.kept.Keys.{Key, OfRequest, OfAddress, OfBlock, OfJou
 use Rattle.core_laws.proofs.kept.ZoneKinds.{block_once, journal_once, journal_sits, total_once}
 use Rattle.core_laws.proofs.lists.LockLists.{counts_held}
 use Rattle.core_laws.proofs.tokens.LeaseOwners.{home_of, locks_elsewhere}
-use Rattle.core_laws.proofs.tokens.Lift.{queued_is}
+use Rattle.core_laws.proofs.tokens.Lift.{items_total}
 use Rattle.core_laws.proofs.tokens.RequestOwners.{not_begun, request_once}
 use Rattle.core_laws.proofs.trace.DeskOfTrace.{desk_log_right}
 use Rattle.plain_laws.proofs.ListLaws.{total-append, total-get, total_zero, nobody_else}
@@ -90,7 +90,7 @@ module _ (s : Session) (core : Core) (legal : Legal s core) where
         ≡ total (token_of s.sizes k).item front + (line_of s k (kept_by z.keeps) + (token_of s.sizes k).own z.keeps) + (total (token_of s.sizes k).item rest + total (total (token_of s.sizes k).item) z.outboxes)
     parts k =
         let inbox = ap (total (token_of s.sizes k).item) taken in
-        omega (arith, inbox, total-append (token_of s.sizes k).item front rest, queued_is (token_of s.sizes k).item z.keeps)
+        omega (arith, inbox, total-append (token_of s.sizes k).item front rest, items_total (token_of s.sizes k).item (kept_by z.keeps))
 
     pub most_here : (k : Key) → total (token_of s.sizes k).item front + (line_of s k (kept_by z.keeps) + (token_of s.sizes k).own z.keeps) ≤ 1
     most_here k = let here = total-get (weight (token_of s.sizes k)) core.zones n z had in omega (arith, key_once k, here, parts k)

@@ -8,14 +8,14 @@ use Rattle.core_model.specs.declared.items.Item.{Item}
 use Rattle.core_model.specs.declared.zones.ZoneData.{ZoneData}
 use Rattle.core_model.specs.declared.zones.Zone.{Zone}
 use Rattle.core_model.specs.Arrivals.{arrivals_at}
-use Rattle.core_model.specs.Facts.{ItemOk, KeptOk, ZoneOk, kept_by, kept_phase}
+use Rattle.core_model.specs.Facts.{ItemOk, KeptOk, ZoneOk, kept_phase}
 use Rattle.core_model.specs.Legal.{Legal}
 use Rattle.core_model.specs.Zones.{zone_number}
 use Rattle.core_model.specs.RightTraces.{RightTrace, GivesRight}
 use Rattle.core_model.specs.Sessions.{Session, IsSession, HasHonestReads}
 use Rattle.core_model.specs.Steps.{Act, Core, StepOf, sent_to, sent, delivered, posted}
 use Rattle.plain_laws.specs.Sums.{total, Each}
-use Rattle.core_model.specs.Tokens.{Token, Balanced, is_sealed, idle_at, request_token, lease_token, block_token, journal_token, room_token, notice_token}
+use Rattle.core_model.specs.Tokens.{kept_by, Token, Balanced, is_sealed, idle_at, request_token, lease_token, block_token, journal_token, room_token, notice_token}
 use Rattle.core_model.specs.Trace.{Trace}
 use Rattle.core_model.specs.Vios.{Post}
 use Rattle.core_laws.proofs.kept.ActKept.{Known, ActKept, PostOk}

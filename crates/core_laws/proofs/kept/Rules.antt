@@ -92,8 +92,8 @@ module _ (s : Session) (session : IsSession s) (t : Trace) where
 
   desk_rule : (desk : Desk) (it : Item) → ItemOk s t desk_zone it → HasAct s.sizes (at.Desk desk) (it ∷ [])
   desk_rule desk (item.Request v) ok = desk_at desk v v.phase refl ok.2 (at_home v ok.0) ok.1
-  desk_rule desk (item.Block b) ok = let behind = stage_behind b.stage in let to = ok.1 in absurd (omega (arith, to, behind))
   desk_rule desk item.StopNotice ok = (_, _, _, steps.hears)
+  desk_rule desk other ok = absurd (let to = ok.1 in omega (arith, to, stage_behind))
 
   -- with none, it begins the next request of a stream, where one may begin
   pub served_some : (w : Writer) (r : Request) → IsServed r → (v : Vio) × (vio_of s.sizes w r ≡ Some v)
@@ -150,8 +150,8 @@ module _ (s : Session) (session : IsSession s) (t : Trace) where
 
     logical_rule : (it : Item) → ItemOk s t (logical_zone l.zone) it → HasAct s.sizes (at.Logical l) (it ∷ [])
     logical_rule (item.Request v) ok = logical_at v v.phase refl ok.2 ok.1
-    logical_rule (item.Block b) ok = let behind = stage_behind b.stage in let to = ok.1 in let among = own.sound.among in absurd (omega (arith, to, behind, among))
     logical_rule item.StopNotice ok = (_, _, _, steps.serves_notice)
+    logical_rule other ok = absurd (let to = ok.1 in let among = own.sound.among in omega (arith, to, among, stage_behind))
 
   -- the physical zone
   claims : (p : PhysicalZone) (v : Vio) (free : List Pbn) → p.free ≡ free → v.phase ≡ phase.Claim → HasAct s.sizes (at.Physical p) (item.Request v ∷ [])
@@ -166,8 +166,8 @@ module _ (s : Session) (session : IsSession s) (t : Trace) where
 
   physical_rule : (p : PhysicalZone) (it : Item) → ItemOk s t (physical_zone s.sizes) it → HasAct s.sizes (at.Physical p) (it ∷ [])
   physical_rule p (item.Request v) ok = physical_at p v v.phase refl ok.2 (at_home v ok.0)
-  physical_rule p (item.Block b) ok = let behind = stage_behind b.stage in let to = ok.1 in absurd (omega (arith, to, behind))
   physical_rule p item.StopNotice ok = (_, _, _, steps.takes_notice)
+  physical_rule p other ok = absurd (let to = ok.1 in omega (arith, to, stage_behind))
 
   -- the journal
   enters : (j : JournalZone) (v : Vio) → v.phase ≡ phase.Enter → HasAct s.sizes (at.Journal j) (item.Request v ∷ [])
@@ -246,7 +246,7 @@ module _ (s : Session) (session : IsSession s) (t : Trace) where
   device_rule : (d : DeviceZone) (it : Item) → ItemOk s t (device_zone s.sizes) it → HasAct s.sizes (at.Device d) (it ∷ [])
   device_rule d (item.Request v) ok = device_at d v v.phase refl ok.2 (at_home v ok.0) ok.1
   device_rule d (item.Block b) ok = works_at d b b.stage refl ok.1
-  device_rule d item.StopNotice ok = let to = ok.0 in absurd (omega (arith, to))
+  device_rule d other ok = absurd (let to = ok.1 in omega (arith, to))
 
 module _ (s : Session) (session : IsSession s) (core : Core) (legal : Legal s core) (n : ℕ) (z : Zone) (had : slice_get core.zones n ≡ Some z) where
   pub has_rule : (front : Item) (rest : List Item) → z.inbox ≡ front ∷ rest → HasAct s.sizes z.keeps (front ∷ [])

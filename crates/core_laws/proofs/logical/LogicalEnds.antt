@@ -251,4 +251,4 @@ pub logical_notified : {s : Session} {t : Trace} {n : ℕ} {l : LogicalZone} →
 logical_notified known =
     let k = known.own in
     act_none known (record { number_is = k.number_is; lists = k.lists; sound = record { among = k.sound.among; map = k.sound.map; locks = k.sound.locks }; kept = k.kept; answers = k.answers; told = k.told })
-    ((omega arith, (omega arith, known.front_ok.0.1)), tt)
+    ((omega arith, (known.front_ok.0.0, omega arith)), tt)

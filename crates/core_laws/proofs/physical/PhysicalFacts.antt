@@ -66,4 +66,4 @@ pub physical_notified : {s : Session} {t : Trace} {n : ℕ} {old : PhysicalZone}
     → ActKept s t n (at.Physical old) (item.StopNotice ∷ []) (at.Physical (record old { notified = true })) [] ((id.Desk, item.StopNotice) ∷ [])
 physical_notified known =
     let own = known.own in
-    act_none known (record { number_is = own.number_is; lists = record { left = own.lists.left }; sound = own.sound; kept = tt; answers = tt; told = tt }) ((omega arith, (omega arith, known.front_ok.0.1)), tt)
+    act_none known (record { number_is = own.number_is; lists = record { left = own.lists.left }; sound = own.sound; kept = tt; answers = tt; told = tt }) ((omega arith, (known.front_ok.0.0, omega arith)), tt)

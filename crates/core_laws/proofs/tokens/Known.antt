@@ -12,8 +12,8 @@ use Rattle.core_model.specs.declared.zones.ZoneData.{ZoneData}
 use Rattle.core_model.specs.declared.zones.ZoneData.TheVariants as at
 use Rattle.core_model.specs.declared.zones.JournalZone.{JournalZone}
 use Rattle.core_model.specs.declared.zones.LogicalZone.{LogicalZone}
-use Rattle.core_model.specs.Facts.{kept_by, kept_phase}
-use Rattle.core_model.specs.Tokens.{holds, lock_weight}
+use Rattle.core_model.specs.Facts.{kept_phase}
+use Rattle.core_model.specs.Tokens.{kept_by, holds, lock_weight}
 use Rattle.plain_laws.specs.Sums.{total, bit}
 
 -- a request in this phase

@@ -6,12 +6,10 @@ use Rattle.core_model.specs.declared.items.Item.TheVariants.{Request}
 use Rattle.core_model.specs.declared.items.Vio.{Vio}
 use Rattle.core_model.specs.declared.sizes.Sizes.{Sizes}
 use Rattle.core_model.specs.declared.zones.ZoneData.{ZoneData}
-use Rattle.core_model.specs.declared.zones.ZoneData.TheVariants as at
 use Rattle.core_model.specs.declared.zones.Zone.{Zone}
 use Rattle.plain_laws.specs.Sums.{total}
 use Rattle.core_model.specs.Steps.{sent_to, sent, delivered, Core, StepOf, MoveOf}
-use Rattle.core_model.specs.Facts.{kept_by}
-use Rattle.core_model.specs.Tokens.{Token, as_items, queued, weight, given, Balanced, AtMost}
+use Rattle.core_model.specs.Tokens.{Token, as_items, weight, given, Balanced, AtMost}
 use Rattle.core_model.specs.Vios.{Post}
 use Rattle.core_model.specs.Zones.{zone_number}
 use Rattle.plain_laws.proofs.ListLaws.{total-append, total-set, get-put_other}
@@ -23,16 +21,9 @@ use Rattle.core_laws.proofs.tokens.ActSums.{IsRow, posts_sum}
 abbrev pub Within : Sizes → ℕ → List Post → Type 0
 Within sizes zones posts = AllByRecursion (λ (p : Post). zone_number sizes p.0 < zones) posts
 
-items_total : (weigh : Item → ℕ) (vs : List Vio) → total weigh (as_items vs) ≡ total (λ v. weigh (Request v)) vs
+pub items_total : (weigh : Item → ℕ) (vs : List Vio) → total weigh (as_items vs) ≡ total (λ v. weigh (Request v)) vs
 items_total weigh [] = refl
 items_total weigh (v ∷ vs) = ap (λ n. weigh (Request v) + n) (items_total weigh vs)
-
-pub queued_is : (weigh : Item → ℕ) (d : ZoneData) → queued weigh d ≡ total (λ v. weigh (Request v)) (kept_by d)
-queued_is weigh (at.Desk desk) = items_total weigh desk.parked
-queued_is weigh (at.Logical l) = items_total weigh l.waiting
-queued_is weigh (at.Journal j) = items_total weigh j.waiting
-queued_is weigh (at.Physical p) = refl
-queued_is weigh (at.Device d) = refl
 
 -- posts change neither the number, nor the data, nor how many lanes there are
 pub record SameData (z z' : Zone) : Type 0 where

@@ -16,9 +16,9 @@ use Rattle.core_model.specs.Zones.{desk_zone, device_zone, notified_zones}
 use Rattle.core_model.specs.Sessions.{Session}
 use Rattle.core_model.specs.Steps.{Core}
 use Rattle.plain_laws.specs.Sums.{total}
-use Rattle.core_model.specs.Tokens.{Token, queued, weight, given, room_token, notice_token, is_begin, is_answer, in_log, is_word, notified_by}
+use Rattle.core_model.specs.Tokens.{Token, kept_by, queued, weight, given, room_token, notice_token, is_begin, is_answer, in_log, is_word, notified_by}
 use Rattle.core_model.specs.Trace.{lines}
-use Rattle.core_laws.proofs.tokens.Lift.{queued_is}
+use Rattle.core_laws.proofs.tokens.Lift.{items_total}
 use Rattle.core_laws.proofs.trace.DeskOfTrace.{desk_log_right}
 use Rattle.plain_laws.proofs.ListLaws.{total-get, total_alone}
 use Rattle.core_laws.proofs.kept.ZoneKinds.{desk_sits, device_sits, no_words}
@@ -191,6 +191,6 @@ module _ (s : Session) (core : Core) (legal : Legal s core) where
   pub queue_room : (n : ℕ) (z : Zone) → slice_get core.zones n ≡ Some z → queued (λ it. 1) z.keeps ≤ share s
   queue_room n z had =
       let a = few_requests n z had in
-      let b = queued_is (λ it. 1) z.keeps in
-      let c = queued_is room_token.item z.keeps in
+      let b = items_total (λ it. 1) (kept_by z.keeps) in
+      let c = items_total room_token.item (kept_by z.keeps) in
       omega (arith, a, b, c)
