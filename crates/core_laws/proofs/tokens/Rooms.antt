@@ -1,5 +1,5 @@
 -- In a legal core no lane and no list of a zone has more than its share.
-use Rattle.std.proofs.Common.{◌≡◌, ℕ, zero, suc, ◌+◌, ◌*◌, ◌<◌, ◌≤◌, ◌==◌, Bool, true, false, if◌then◌else◌, cond, IsSome, Some, List, [], ◌∷◌, length, slice_get, get_or, refl, ap, ◌∙◌, subst, inl, inr, arith}
+use Rattle.std.proofs.Common.{◌≡◌, ℕ, zero, suc, ◌+◌, ◌*◌, ◌<◌, ◌≤◌, ◌==◌, ◌⊎◌, Bool, true, false, if◌then◌else◌, cond, IsSome, Some, List, [], ◌∷◌, length, slice_get, get_or, refl, ap, ◌∙◌, subst, inl, inr, arith}
 use Rattle.std.proofs.lemmas.Bool.Decides.{eqb_tells}
 use Rattle.vdo_model.specs.DeskLog.{IsDeskLog, begun, answered}
 use Rattle.vdo_model.specs.Scripts.{Script}
@@ -40,33 +40,16 @@ abbrev over : ℕ → (ℕ → ℕ) → ℕ
 over zero f = 0
 over (suc k) f = f k + over k f
 
-one_at : (k m : ℕ) (f : ℕ → ℕ) → over k (λ i. if m == i then f i + 1 else f i) ≤ over k f + 1
-one_at zero m f = omega arith
-one_at (suc k) m f = elim (eqb_tells m k) [
-  | inl same ↦ let rest = below k m f (omega (arith, same.1)) in rw same.0 (omega (arith, rest))
-  | inr other ↦ let rest = one_at k m f in rw other.0 (omega (arith, rest))
-]
-  where
-    below : (k m : ℕ) (f : ℕ → ℕ) → k ≤ m → over k (λ i. if m == i then f i + 1 else f i) ≡ over k f
-    below zero m f low = refl
-    below (suc k) m f low = elim (eqb_tells m k) [
-      | inl same ↦ absurd (let e = same.1 in omega (arith, e, low))
-      | inr other ↦ let rest = below k m f (omega (arith, low)) in rw other.0 (omega (arith, rest))
-    ]
+-- one more of one stream
+abbrev more_of : ℕ → (ℕ → ℕ) → ℕ → ℕ
+more_of m f i = if m == i then f i + 1 else f i
 
-one_there : (k m : ℕ) (f : ℕ → ℕ) → m < k → over k f + 1 ≤ over k (λ i. if m == i then f i + 1 else f i)
-one_there zero m f low = absurd (omega (arith, low))
-one_there (suc k) m f low = elim (eqb_tells m k) [
-  | inl same ↦ let rest = more k m f in rw same.0 (omega (arith, rest))
-  | inr other ↦ let ne = other.1 in let rest = one_there k m f (omega (arith, low, ne)) in rw other.0 (omega (arith, rest))
+over_more : (k m : ℕ) (f : ℕ → ℕ) → ((m < k) × (over k (more_of m f) ≡ over k f + 1)) ⊎ ((k ≤ m) × (over k (more_of m f) ≡ over k f))
+over_more zero m f = inr (omega arith, refl)
+over_more (suc k) m f = elim (over_more k m f) [
+  | inl before ↦ elim (eqb_tells m k) [ inl same ↦ absurd (omega (arith, before.0, same.1)) | inr other ↦ inl (omega (arith, before.0), rw other.0 (omega (arith, before.1))) ]
+  | inr none ↦ elim (eqb_tells m k) [ inl same ↦ inl (omega (arith, same.1), rw same.0 (omega (arith, none.1))) | inr other ↦ inr (omega (arith, none.0, other.1), rw other.0 (omega (arith, none.1))) ]
 ]
-  where
-    more : (k m : ℕ) (f : ℕ → ℕ) → over k f ≤ over k (λ i. if m == i then f i + 1 else f i)
-    more zero m f = omega arith
-    more (suc k) m f = elim (eqb_tells m k) [
-      | inl same ↦ let rest = more k m f in rw same.0 (omega (arith, rest))
-      | inr other ↦ let rest = more k m f in rw other.0 (omega (arith, rest))
-    ]
 
 some_stream : (script : Script) (stream number : ℕ) → IsSome (slice_get (get_or script stream []) number) → stream < length script
 some_stream [] stream number some = absurd cc
@@ -77,8 +60,10 @@ all_begun : (depth : ℕ) (script : Script) (desk : List DeskLine) → IsDeskLog
 all_begun depth script [] right = omega arith
 all_begun depth script (Begin w ∷ older) right =
     let rest = all_begun depth script older right.1 in
-    let more = one_there (length script) w.stream (λ i. begun i older) (some_stream script w.stream w.number right.0.1) in
-    omega (arith, rest, more)
+    elim (over_more (length script) w.stream (λ i. begun i older)) [
+      | inl one ↦ omega (arith, rest, one.1)
+      | inr none ↦ absurd (omega (arith, none.0, some_stream script w.stream w.number right.0.1))
+    ]
 all_begun depth script (Answer w a ∷ older) right = let rest = all_begun depth script older right.1 in omega (arith, rest)
 
 all_answered : (k : ℕ) (desk : List DeskLine) → over k (λ i. answered i desk) ≤ total is_answer desk
@@ -90,8 +75,7 @@ all_answered k [] = zeros k
 all_answered k (Begin w ∷ older) = let rest = all_answered k older in omega (arith, rest)
 all_answered k (Answer w a ∷ older) =
     let rest = all_answered k older in
-    let more = one_at k w.stream (λ i. answered i older) in
-    omega (arith, rest, more)
+    elim (over_more k w.stream (λ i. answered i older)) [ inl one ↦ omega (arith, rest, one.1) | inr none ↦ omega (arith, rest, none.1) ]
 
 bounded : (depth : ℕ) (script : Script) (desk : List DeskLine) (k : ℕ) → IsDeskLog depth script desk → over k (λ i. begun i desk) ≤ over k (λ i. answered i desk) + k * depth
 bounded depth script desk zero right = omega arith
