@@ -2,4 +2,3 @@ pub mod DataBlocks
 pub mod DeviceCalls
 pub mod DeviceFacts
 pub mod DeviceReads
-pub mod DeviceWorkFacts

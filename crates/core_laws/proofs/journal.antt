@@ -1,3 +1,1 @@
-pub mod JournalEndFacts
 pub mod JournalFacts
-pub mod JournalPosts

@@ -1,4 +1,3 @@
 pub mod LockLaws
-pub mod LogicalEnds
 pub mod LogicalFacts
 pub mod Releases

@@ -1,31 +1,85 @@
--- What the acts of the journal owe: entries are handed in, wait, or are refused.
-use Rattle.std.proofs.Common.{◌≡◌, ℕ, ◌+◌, ◌<◌, Bool, true, false, Some, List, [], ◌∷◌, length, nat_lt, refl, ap, sym, ◌∙◌, inl, inr, arith}
-use Rattle.std.proofs.lemmas.Bool.{or_parts}
-use Rattle.std.proofs.lemmas.Bool.{ltb-true, ltb-false}
-use Rattle.blk_base.specs.declared.place.ZoneId.TheVariants as id
-use Rattle.blk_base.specs.declared.request.Answer.TheVariants as reply
-use Rattle.core_model.specs.declared.items.Item.TheVariants as item
-use Rattle.core_model.specs.declared.items.Phase.TheVariants as phase
-use Rattle.core_model.specs.declared.items.Stage.TheVariants as stage
+-- What the acts of the journal owe: entries are handed in, wait, or are refused, and a sealed block is committed, or failed.
+use Rattle.std.proofs.Common.{◌≡◌, ℕ, ◌<◌, true, Some, IsNone, IsSome, List, [], ◌∷◌, refl, ap, arith, ◌+◌, Bool, false, length, nat_lt, sym, ◌∙◌, inl, inr, ◌⊎◌, subst}
+use Rattle.std.specs.List.{AllByRecursion}
+use Rattle.std.proofs.Math.Nat.{mod-lt}
+use Rattle.blk_base.specs.declared.place.Lba.{Lba}
+use Rattle.blk_base.specs.declared.request.Writer.{Writer}
+use Rattle.vdo_model.specs.Places.{place_of, zone_of}
+use Rattle.core_model.specs.declared.items.Asks.{Asks}
+use Rattle.core_model.specs.declared.items.Asks.TheVariants.{Write}
 use Rattle.core_model.specs.declared.items.Vio.{Vio}
-use Rattle.core_model.specs.declared.zones.ZoneData.TheVariants as at
+use Rattle.core_model.specs.Facts.{VioOk, Holds, IsPlaced, MayReply, KeptOk, Carries, BlockOk, RestsAt, JournalLists, StandsAt, IsSealed, DataOk}
+use Rattle.core_model.specs.JournalRows.{refused, all_refused, JournalServes, is_closed, has_block, sealed, entered_by, JournalEnds, committed_by, hands_out}
+use Rattle.core_model.specs.Zones.{zone_number, zone_count}
+use Rattle.core_model.specs.RightTraces.{RightTrace, HasPlace, HasCause, IsFull, EntryMayFollow}
+use Rattle.core_model.specs.Sessions.{Session, IsSession, AtRest, OnItsWay}
+use Rattle.core_model.specs.Trace.{Trace, places, entered, done, has_stopped, logged_of, Enters, committed, Commits, of_address}
+use Rattle.core_model.specs.Vios.{asked, Post, logged, turned}
+use Rattle.core_laws.proofs.kept.ActKept.{PostOk, carries_at, unentered_slot, Known, Mine, weighed, ActKept, act_none, act_one, own_request, own_address, line_kept, vio_over, vio_ok, in_phase, Reached, in_hand, in_line, line_of, reaches}
+use Rattle.plain_laws.proofs.OptionLaws.{some_is}
+use Rattle.std.proofs.lemmas.Bool.{or_parts, ltb-true, ltb-false}
 use Rattle.core_model.specs.declared.zones.JournalZone.{JournalZone}
-use Rattle.core_model.specs.Facts.{VioOk, Carries, BlockOk, KeptOk, RestsAt, JournalLists}
-use Rattle.core_model.specs.JournalRows.{JournalServes, is_closed, has_block, sealed, refused, all_refused, entered_by}
-use Rattle.core_model.specs.JournalRows as journal
-use Rattle.core_model.specs.RightTraces.{RightTrace, EntryMayFollow, IsFull}
-use Rattle.core_model.specs.Sessions.{Session, AtRest}
-use Rattle.core_model.specs.Trace.{Enters, Trace, entered, committed, done}
-use Rattle.core_model.specs.Vios.{Post, asked, logged}
 use Rattle.core_laws.proofs.trace.DeskOfTrace.{shown_of}
 use Rattle.core_laws.proofs.trace.AbortsOfTrace.{unentered_abort}
-use Rattle.core_laws.proofs.kept.ActKept.{Known, Mine, weighed, ActKept, act_none, act_one, own_request, own_address, line_kept, vio_over, unentered_slot, vio_ok, in_phase}
-use Rattle.core_laws.proofs.kept.Keys.{Clears}
-use Rattle.core_laws.proofs.journal.JournalPosts.{stopped_post, full_post, stopped_posts}
-use Rattle.plain_laws.proofs.ListLaws.{every-append}
+use Rattle.core_laws.proofs.kept.Keys.{Clears, Key, OfRequest, OfAddress, OfJournal, any, token_of, Spares, mine_or_spared, own_name, holder_one, idle_none}
+use Rattle.plain_laws.proofs.ListLaws.{every-append, each_at}
 use Rattle.vdo_model.proofs.NameLaws.{same_self}
-use Rattle.core_laws.proofs.kept.Spared.{mapping_same}
-use Rattle.core_laws.proofs.kept.StandsOn.{spares_all, reads_kept, rests_kept, opening_kept}
+use Rattle.core_laws.proofs.kept.Spared.{mapping_same, of_same}
+use Rattle.core_laws.proofs.kept.StandsOn.{spares_all, reads_kept, rests_kept, opening_kept, SparesBlocks}
+use Rattle.core_model.specs.declared.items.SealedBlock.{SealedBlock}
+use Rattle.core_model.specs.declared.items.Stage.{Stage}
+use Rattle.core_model.specs.declared.zones.Logged.{Logged}
+use Rattle.core_model.specs.Tokens.{holds, holder_weight}
+use Rattle.core_laws.proofs.kept.Frame.{kept_on}
+use Rattle.core_laws.proofs.kept.Carried.{item_kept}
+use Rattle.blk_base.specs.declared.request.Answer.TheVariants as reply
+use Rattle.core_model.specs.declared.items.Phase.TheVariants as phase
+use Rattle.blk_base.specs.declared.place.ZoneId.TheVariants as id
+use Rattle.core_model.specs.declared.items.Item.TheVariants as item
+use Rattle.core_model.specs.declared.items.Stage.TheVariants as stage
+use Rattle.core_model.specs.declared.zones.ZoneData.TheVariants as at
+use Rattle.core_model.specs.JournalRows as journal
+
+-- once the session is stopped, a write whose slot isn't set may be answered so; where no block is left for it, one that has
+-- its place and isn't handed in is answered `Full`
+cause_stopped : (s : Session) (t : Trace) (w : Writer) (q : Asks) (at : Lba) (bytes : List ℕ) → q ≡ Write → has_stopped t ≡ true → IsSome (place_of (places t) w) → IsNone (logged_of (done t) w)
+    → HasCause s t w (asked q at bytes) reply.Stopped
+cause_stopped s t w q at bytes is stopped placed none = rw is (stopped, placed, none)
+
+cause_full : (s : Session) (t : Trace) (w : Writer) (q : Asks) (at : Lba) (bytes : List ℕ) → q ≡ Write → IsNone (logged_of (entered t) w) → IsSome (place_of (places t) w) → IsFull s t
+    → HasCause s t w (asked q at bytes) reply.Full
+cause_full s t w q at bytes is none some full = rw is (some, none, full)
+
+pub may_stop : (s : Session) (t : Trace) (v : Vio) → v.asks ≡ Write → has_stopped t ≡ true → HasPlace s t v.request v.at.0 v.place → IsNone (logged_of (done t) v.request) → MayReply s t v (Some reply.Stopped)
+may_stop s t v is stopped placed none = cause_stopped s t v.request v.asks v.at v.bytes is stopped (some_is _ _ placed) none
+
+pub may_fill : (s : Session) (t : Trace) (v : Vio) → v.asks ≡ Write → IsPlaced s t v → IsFull s t → MayReply s t v (Some reply.Full)
+may_fill s t v is k full = cause_full s t v.request v.asks v.at v.bytes is k.not_entered (some_is _ _ k.placed) full
+
+-- the home of a request is a zone
+pub home_within : (s : Session) (t : Trace) (v : Vio) → IsSession s → VioOk s t v → zone_number s.sizes v.home < zone_count s.sizes
+home_within s t v session ok =
+    let below : zone_of s.sizes.zones v.at.0 < s.sizes.zones = mod-lt _ (let some = session.zones in omega (arith, some)) in
+    let home = ap (zone_number s.sizes) ok.home in
+    omega (arith, below, home)
+
+module _ (s : Session) (t : Trace) where
+  -- a write that holds its lock is aborted
+  pub stopped_post : (v : Vio) → RightTrace s t → has_stopped t ≡ true → VioOk s t v → Holds s t v → v.asks ≡ Write → PostOk s t (refused s.sizes reply.Stopped v)
+  stopped_post v right stopped ok k is = (omega arith, (ok, (k, may_stop s t v is stopped k.is_placed.placed (unentered_slot s t v.request right k.is_placed.not_entered)), refl))
+
+  pub full_post : (v : Vio) → IsFull s t → VioOk s t v → Holds s t v → v.asks ≡ Write → PostOk s t (refused s.sizes reply.Full v)
+  full_post v full ok k is = (omega arith, (ok, (k, may_fill s t v is k.is_placed full), refl))
+
+  -- all that wait do
+  pub stopped_posts : (vs : List Vio) → RightTrace s t → has_stopped t ≡ true → AllByRecursion (KeptOk s t phase.Enter) vs → AllByRecursion (PostOk s t) (all_refused s.sizes reply.Stopped vs)
+  stopped_posts [] right stopped all = tt
+  stopped_posts (v ∷ vs) right stopped all =
+      let k = carries_at s t v phase.Enter all.0.2 all.0.1 in (stopped_post v right stopped all.0.0 k.0 k.1, stopped_posts vs right stopped all.1)
+
+  pub full_posts : (vs : List Vio) → IsFull s t → AllByRecursion (KeptOk s t phase.Enter) vs → AllByRecursion (PostOk s t) (all_refused s.sizes reply.Full vs)
+  full_posts [] full all = tt
+  full_posts (v ∷ vs) full all = let k = carries_at s t v phase.Enter all.0.2 all.0.1 in (full_post v full all.0.0 k.0 k.1, full_posts vs full all.1)
 
 -- The entry of a write is handed in while no block is under way.
 module _ (s : Session) (t : Trace) (v : Vio) (right : RightTrace s t) (ok : VioOk s t v) (is : v.phase ≡ phase.Enter) (carries : Carries s t v phase.Enter)
@@ -145,3 +199,196 @@ journal_notified {s} {t} {n} {old} known =
     let stopped = known.front_ok.0.0 in
     act_none known (record { number_is = k.number_is; lists = record { entered_is = k.lists.entered_is; committed_is = k.lists.committed_is }; sound = tt; kept = tt; answers = k.answers; told = λ closed. stopped })
     ((omega arith, (stopped, omega arith)), stopped_posts s t old.waiting known.right stopped k.kept)
+
+-- a commit writes no block
+commit_spares : (e : Logged) (es : List Logged) → SparesBlocks (Commits e) es
+commit_spares e [] = tt
+commit_spares e (f ∷ es) = (tt, commit_spares e es)
+
+-- The block of an entry is committed.
+module _ (s : Session) (t : Trace) (b : SealedBlock) (session : IsSession s) (right : RightTrace s t) (ok : IsSealed s t b.vio b.sequence) (rest : AtRest s t (logged b.vio ∷ committed t)) where
+  abbrev v : Vio
+  v = b.vio
+
+  abbrev after : Trace
+  after = Commits (logged b.vio) ∷ t
+
+  rest_after : AtRest s after (committed after)
+  rest_after = rests_kept s (Commits (logged b.vio)) t (logged b.vio ∷ committed t) tt (commit_spares (logged b.vio) (logged b.vio ∷ committed t)) rest
+
+  commit_right : RightTrace s after
+  commit_right = (
+    record { is_open = ok.vio.is_open; last = ok.last },
+    record {
+      kept = opening_kept s (Commits (logged b.vio)) t tt (λ a y named. tt) (shown_of s t right).kept;
+      journal = inl (ok.last, rest_after);
+    },
+    right,
+  )
+
+  -- its request goes to its slot
+  settle_post : PostOk s after (hands_out b.vio)
+  settle_post = (
+    home_within s t b.vio session ok.vio,
+    (
+      vio_over s (Commits (logged b.vio)) t b.vio refl ok.vio,
+      (
+        record { is_write = ok.is_entered.is_write; placed = ok.is_entered.placed; entry = ok.is_entered.entry; unset = ok.is_entered.unset; unaborted = ok.is_entered.unaborted },
+        record {
+          all_committed = ap (of_address b.vio.at.0) ok.last;
+          last = of_same (logged b.vio) (committed t) ∙ ap (λ es. logged b.vio ∷ es) ok.others;
+        },
+        record { writes = ok.below.writes; reads = ok.below.reads },
+        ok.fresh,
+      ),
+      refl,
+    ),
+  )
+
+-- A sealed block comes back to the journal.
+module _ {s : Session} {t : Trace} {n : ℕ} {old : JournalZone} {b : SealedBlock} (known : Known s t n (at.Journal old) (item.Block b ∷ [])) where
+  abbrev After : JournalZone → Trace → List Post → Type 0
+  After new made posts = ActKept s t n (at.Journal old) (item.Block b ∷ []) (at.Journal new) made posts
+
+  ok : IsSealed s t b.vio b.sequence
+  ok = known.front_ok.0.0.0
+
+  stands_as : (q : Stage) → b.stage ≡ q → StandsAt s t b.vio q
+  stands_as q is = subst (StandsAt s t b.vio) is known.front_ok.0.0.1
+
+  -- the journal is busy, and didn't fail
+  sound : old.broken ≡ false
+  sound =
+      let most = known.most OfJournal in
+      let busy = idle_none old.busy (omega (arith, most)) in
+      subst (λ (b : Bool). RestsAt s t b old.broken) busy known.own.answers
+
+  clears : Clears s n (Mine s t (at.Journal old) (item.Block b ∷ [])) (Commits (logged b.vio)) t
+  clears = record {
+    zone = known.own.number_is;
+    request = weighed (omega (arith, own_name b.vio));
+    address = weighed (omega (arith, holder_one b.vio (rw ok.phase refl)));
+    block = λ x. inr (λ inside. tt);
+    journal = inl (weighed (omega arith));
+  }
+
+  waiting_on : AllByRecursion (KeptOk s (Commits (logged b.vio) ∷ t) phase.Enter) old.waiting
+  waiting_on = line_kept known (Commits (logged b.vio)) t clears known.own.kept
+
+  -- the journal once the block is committed, with these that wait
+  idle_journal : (vs : List Vio) → b.stage ≡ stage.Commit → AllByRecursion (KeptOk s (Commits (logged b.vio) ∷ t) phase.Enter) vs → DataOk s (Commits (logged b.vio) ∷ t) n (at.Journal (record (committed_by b.vio old) { waiting = vs }))
+  idle_journal vs is all =
+      let k = known.own in
+      record {
+        number_is = k.number_is;
+        lists = record { entered_is = k.lists.entered_is; committed_is = ap (λ es. logged b.vio ∷ es) k.lists.committed_is };
+        sound = tt;
+        kept = all;
+        answers = subst (RestsAt s (Commits (logged b.vio) ∷ t) false) (sym sound) (ok.last, rest_after s t b known.session known.right ok (stands_as stage.Commit is));
+        told = k.told;
+      }
+
+  -- the first that waits is handed in next: neither those behind it nor the one that is committed have anything of it
+  module _ (w : Vio) (ws : List Vio) (waits : old.waiting ≡ w ∷ ws) where
+    first_waits : KeptOk s (Commits (logged b.vio) ∷ t) phase.Enter w × AllByRecursion (KeptOk s (Commits (logged b.vio) ∷ t) phase.Enter) ws
+    first_waits = each_at (KeptOk s (Commits (logged b.vio) ∷ t) phase.Enter) w ws old.waiting waits waiting_on
+
+    enters_phase : holds w.phase ≡ true
+    enters_phase = rw first_waits.0.2 refl
+
+    line_is : (k : Key) → line_of s k old.waiting ≡ (token_of s.sizes k).item (item.Request w) + line_of s k ws
+    line_is k = ap (line_of s k) waits
+
+    next_reached : Clears s n (Reached s t (at.Journal old) (item.Block b ∷ [])) (Enters (logged w)) (Commits (logged b.vio) ∷ t)
+    next_reached = record {
+      zone = known.own.number_is;
+      request = in_line (omega (arith, own_name w, line_is (OfRequest w.request)));
+      address = in_line (omega (arith, holder_one w enters_phase, line_is (OfAddress w.at.0)));
+      block = λ x. inr (λ inside. tt);
+      journal = inl (in_hand (weighed (omega arith)));
+    }
+
+    abbrev Nothing : Key → Type 0
+    Nothing k = (token_of s.sizes k).item (item.Request (turned phase.Settle b.vio)) + line_of s k ws ≡ 0
+
+    settles_weight : holder_weight w.at.0 any (turned phase.Settle b.vio) ≡ holder_weight w.at.0 any b.vio
+    settles_weight = rw ok.phase refl
+
+    next_apart : Clears s n Nothing (Enters (logged w)) (Commits (logged b.vio) ∷ t)
+    next_apart = record {
+      zone = known.own.number_is;
+      request = let most = known.most (OfRequest w.request) in omega (arith, own_name w, line_is (OfRequest w.request), most);
+      address = let most = known.most (OfAddress w.at.0) in omega (arith, holder_one w enters_phase, line_is (OfAddress w.at.0), most, settles_weight);
+      block = λ x. inr (λ inside. tt);
+      journal = inl (let most = known.most OfJournal in omega (arith, line_is OfJournal, most));
+    }
+
+    spared : (k : Key) → Nothing k ⊎ Spares s (Commits (logged b.vio) ∷ t) (Enters (logged w)) k
+    spared k = mine_or_spared next_apart k
+
+  pub journal_ends : (new : JournalZone) (made : Trace) (posts : List Post) → JournalEnds s.sizes old b new made posts → After new made posts
+  journal_ends new made posts (journal.commits_next w ws is waits has e m p) =
+      let k = known.own in
+      let rest = stands_as stage.Commit is in
+      let first = Commits (logged b.vio) in
+      let next = Enters (logged w) in
+      let mine = first_waits w ws waits in
+      let carries = carries_at s (first ∷ t) w phase.Enter mine.0.2 mine.0.1 in
+      let now = commit_right s t b known.session known.right ok rest in
+      let rest_now = rest_after s t b known.session known.right ok rest in
+      let settles = settle_post s t b known.session known.right ok rest in
+      let same : length old.entered ≡ length (committed (first ∷ t)) = ap length (k.lists.entered_is ∙ ok.last) in
+      let room = room_for _ _ has in
+      rw (e, m, p) (record {
+        right = enter_right s (first ∷ t) w now mine.0.0 mine.0.2 carries ok.last rest_now;
+        gives = λ g honest. g honest;
+        owns = (next_reached w ws waits, (reaches known clears, tt));
+        own = record {
+          number_is = k.number_is;
+          lists = record { entered_is = ap (λ es. logged w ∷ es) k.lists.entered_is; committed_is = ap (λ es. logged b.vio ∷ es) k.lists.committed_is };
+          sound = tt;
+          kept = kept_on s next (first ∷ t) phase.Enter ws (λ key. elim (spared w ws waits key) [ inl none ↦ inl (omega (arith, none)) | inr off ↦ inr off ]) mine.1;
+          answers = sound;
+          told = k.told;
+        };
+        posts_ok = (
+          (
+            settles.0,
+            item_kept s next (first ∷ t) (zone_number s.sizes b.vio.home) (item.Request (turned phase.Settle b.vio)) (λ key some. elim (spared w ws waits key) [ inl none ↦ absurd (omega (arith, none, some)) | inr off ↦ off ]) settles.1,
+          ),
+          (
+            (
+              omega arith,
+              (
+                enter_block s (first ∷ t) w now mine.0.0 mine.0.2 carries ok.last rest_now (s.sizes.start + (s.sizes.opened + length old.entered))
+                    (ap (λ m. s.sizes.start + (s.sizes.opened + m)) same) (omega (arith, room, same)),
+                refl,
+              ),
+            ),
+            tt,
+          ),
+        );
+      })
+  journal_ends new made posts (journal.commits_alone is waits has e m p) =
+      let rest = stands_as stage.Commit is in
+      rw (e, m, p) (act_one known (Commits (logged b.vio)) clears (λ g honest. g honest) (commit_right s t b known.session known.right ok rest) (idle_journal old.waiting is waiting_on) (settle_post s t b known.session known.right ok rest, tt))
+  journal_ends new made posts (journal.commits_last is has e m p) =
+      let rest = stands_as stage.Commit is in
+      rw (e, m, p) (act_one known (Commits (logged b.vio)) clears (λ g honest. g honest) (commit_right s t b known.session known.right ok rest) (idle_journal [] is tt)
+      (settle_post s t b known.session known.right ok rest, full_posts s (Commits (logged b.vio) ∷ t) old.waiting (full_now s t old known.own.lists has) waiting_on))
+  journal_ends new made posts (journal.fails is e m p) =
+      let k = known.own in
+      let fails = stands_as stage.Fail is in
+      rw (e, m, p) (act_none known (record {
+        number_is = k.number_is;
+        lists = record { entered_is = k.lists.entered_is; committed_is = k.lists.committed_is };
+        sound = tt;
+        kept = tt;
+        answers = record { entry = logged b.vio; is_last = ok.last; stands = failed fails.0 };
+        told = λ closed. fails.1;
+      })
+      ((omega arith, (ok.vio, (ok.is_entered, may_stop s t b.vio ok.is_entered.is_write fails.1 ok.is_entered.placed ok.is_entered.unset, fails.1), refl)), stopped_posts s t old.waiting known.right fails.1 k.kept))
+    where
+      failed : AtRest s t (committed t) ⊎ OnItsWay s t (committed t) (logged b.vio) → AtRest s t (committed t) ⊎ OnItsWay s t (committed t) (logged b.vio) ⊎ AtRest s t (logged b.vio ∷ committed t)
+      failed (inl k) = inl k
+      failed (inr k) = inr (inl k)

@@ -27,8 +27,8 @@ use Rattle.core_model.specs.Vios.{Post}
 use Rattle.core_model.specs.Zones.{desk_zone}
 use Rattle.core_laws.proofs.desk.DeskFacts.{desk_begins, desk_serves, desk_hears}
 use Rattle.core_laws.proofs.device.DeviceFacts.{device_serves}
-use Rattle.core_laws.proofs.device.DeviceWorkFacts.{device_works}
-use Rattle.core_laws.proofs.journal.JournalEndFacts.{journal_ends}
+use Rattle.core_laws.proofs.device.DeviceFacts.{device_works}
+use Rattle.core_laws.proofs.journal.JournalFacts.{journal_ends}
 use Rattle.core_laws.proofs.journal.JournalFacts.{journal_serves, journal_notified}
 use Rattle.core_laws.proofs.kept.ActKept.{Known, weighed, in_hand, Owns, ActKept}
 use Rattle.core_laws.proofs.kept.Arrivals.{arrives_in_turn}
@@ -36,7 +36,7 @@ use Rattle.core_laws.proofs.kept.Frame.{Sides, sides_before, sides_after}
 use Rattle.core_laws.proofs.kept.Keys.{OfBlock, claim_one, clears_with}
 use Rattle.core_laws.proofs.kept.KeysOnce.{most_here, unborn_here, none_beside, block_unnamed}
 use Rattle.core_laws.proofs.kept.ZoneKinds.{stood, desk_sits}
-use Rattle.core_laws.proofs.logical.LogicalEnds.{logical_serves, logical_notified}
+use Rattle.core_laws.proofs.logical.LogicalFacts.{logical_serves, logical_notified}
 use Rattle.core_laws.proofs.physical.PhysicalFacts.{physical_serves, physical_notified}
 use Rattle.core_laws.proofs.tokens.LeaseOwners.{leased_front}
 use Rattle.plain_laws.proofs.ListLaws.{every-front}

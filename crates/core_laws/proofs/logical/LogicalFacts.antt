@@ -1,36 +1,29 @@
--- What the acts of a logical zone owe.
-use Rattle.std.proofs.Common.{◌≡◌, ◌⊎◌, ℕ, ◌+◌, ◌==◌, Bool, true, false, if◌then◌else◌, Some, IsNone, List, [], ◌∷◌, ◌++◌, refl, ap, sym, ◌∙◌, inl, inr, arith}
+-- What the acts of a logical zone owe: a request draws its place, and is done with its lock.
+use Rattle.std.proofs.Common.{◌≡◌, ◌⊎◌, ℕ, ◌+◌, ◌==◌, Bool, true, false, if◌then◌else◌, Some, IsNone, List, [], ◌∷◌, ◌++◌, refl, ap, sym, ◌∙◌, inl, inr, arith, ◌<◌, IsSome, subst}
 use Rattle.std.specs.List.{AllByRecursion}
-use Rattle.blk_base.specs.declared.place.ZoneId.TheVariants as id
-use Rattle.blk_base.specs.declared.request.Answer.TheVariants as reply
-use Rattle.blk_base.specs.declared.request.Request.TheVariants as request
 use Rattle.blk_base.specs.declared.request.Writer.{Writer}
-use Rattle.core_model.specs.Zones.{zone_number}
+use Rattle.core_model.specs.Zones.{zone_number, logical_zone}
 use Rattle.vdo_model.specs.DeskLog.{answer_of, before_begin}
 use Rattle.vdo_model.specs.Places.{zone_of, Follows, IsOfZone}
 use Rattle.vdo_model.specs.Scripts.{request_at, same_writer}
 use Rattle.vdo_model.specs.declared.report.DeskLine.{DeskLine}
-use Rattle.vdo_model.specs.declared.report.DeskLine.TheVariants as line
 use Rattle.vdo_model.specs.declared.report.Placed.{Placed}
 use Rattle.core_model.specs.declared.items.Asks.{Asks}
 use Rattle.core_model.specs.declared.items.Asks.TheVariants.{Read, Write, Flush}
-use Rattle.core_model.specs.declared.items.Item.TheVariants as item
-use Rattle.core_model.specs.declared.items.Phase.TheVariants as phase
 use Rattle.core_model.specs.declared.items.Vio.{Vio}
-use Rattle.core_model.specs.declared.zones.ZoneData.TheVariants as at
 use Rattle.core_model.specs.declared.zones.Lock.{Lock}
 use Rattle.core_model.specs.declared.zones.LogicalZone.{LogicalZone}
-use Rattle.core_model.specs.Facts.{VioOk, HasAddress, IsUndrawn, IsPlaced, KeptOk, LocksOk, DataOk}
+use Rattle.core_model.specs.Facts.{VioOk, HasAddress, IsUndrawn, IsPlaced, KeptOk, LocksOk, DataOk, Looks, IsEntered, HasEarned, MayReply, mapping_in}
 use Rattle.core_model.specs.Legal.{ComesAfter}
-use Rattle.core_model.specs.LogicalRows.{is_among, is_held, lock_of, placed, place_of_vio, drawn_by, goes_on}
-use Rattle.core_model.specs.RightTraces.{RightTrace, GivesRight, PlaceMayFollow, Quiet}
-use Rattle.core_model.specs.Sessions.{Session, HasHonestReads}
-use Rattle.core_model.specs.Trace.{Draws, Trace, lines, places, aborted}
-use Rattle.core_model.specs.Vios.{Post, turned, ended, asked}
+use Rattle.core_model.specs.LogicalRows.{is_among, is_held, lock_of, placed, place_of_vio, drawn_by, goes_on, LogicalServes, arrives_retired, arrives_free, arrives_held, settles, gives, aborts, aborts_entered, released, granted, retire, all_stopped, all_for, with_slot}
+use Rattle.core_model.specs.RightTraces.{RightTrace, GivesRight, PlaceMayFollow, Quiet, IsCommitted, AllBelow}
+use Rattle.core_model.specs.Sessions.{Session, HasHonestReads, IsFresh, value_at}
+use Rattle.core_model.specs.Trace.{Draws, Trace, lines, places, aborted, Happening, Sets, Gives, Aborts, gifts, done, has_stopped, logged_of, gift_of}
+use Rattle.core_model.specs.Vios.{Post, turned, ended, asked, logged, gift}
 use Rattle.core_laws.proofs.trace.DeskOfTrace.{shown_of}
-use Rattle.core_laws.proofs.kept.ActKept.{Known, Mine, ActKept, act_one, own_request, plain_clears, line_kept, shown_plain, vio_over, carries_at}
-use Rattle.core_laws.proofs.kept.Keys.{Clears}
-use Rattle.core_laws.proofs.kept.Spared.{quiet_kept, below_kept}
+use Rattle.core_laws.proofs.kept.ActKept.{Known, Mine, ActKept, act_one, own_request, plain_clears, line_kept, shown_plain, vio_over, carries_at, IsPlain, act_none, own_address, vio_ok, in_phase}
+use Rattle.core_laws.proofs.kept.Keys.{Clears, OfRequest, OfAddress, IfAny, happens_in}
+use Rattle.core_laws.proofs.kept.Spared.{quiet_kept, below_kept, about, of_same}
 use Rattle.core_laws.proofs.logical.LockLaws.{more_drawn, one_waits, one_takes}
 use Rattle.core_laws.proofs.tokens.LeaseOwners.{at_home}
 use Rattle.core_model.specs.Phases.{row}
@@ -38,7 +31,31 @@ use Rattle.plain_laws.proofs.ListLaws.{every-map, every-append}
 use Rattle.core_laws.proofs.lists.LockLists.{or_none}
 use Rattle.vdo_model.proofs.NameLaws.{same_self}
 use Rattle.std.proofs.lemmas.Bool.{eq-eqb}
-use Rattle.core_laws.proofs.logical.Releases.{below_more, has_below_more, goes_ok, stopped_ok}
+use Rattle.core_laws.proofs.logical.Releases.{below_more, has_below_more, goes_ok, stopped_ok, release_ok, retire_ok, drawn_before}
+use Rattle.std.proofs.lemmas.Bool.Decides.{eqb_tells}
+use Rattle.blk_base.specs.declared.place.Mapping.TheVariants.{At}
+use Rattle.blk_base.specs.declared.place.Pbn.{Pbn}
+use Rattle.byte_fields.specs.Mappings.{HoldsMapping}
+use Rattle.blk_base.specs.declared.place.Lba.{Lba}
+use Rattle.vdo_model.specs.declared.report.FlushMark.{FlushMark}
+use Rattle.core_model.specs.declared.items.Phase.{Phase}
+use Rattle.core_model.specs.declared.zones.Logged.{Logged}
+use Rattle.core_model.specs.DeskRows.{mark_of_vio}
+use Rattle.core_model.specs.DeviceRows.{IsInside}
+use Rattle.core_model.specs.Tokens.{holds}
+use Rattle.core_laws.proofs.kept.Frame.{told_kept}
+use Rattle.core_laws.proofs.kept.Carried.{reply_said}
+use Rattle.blk_base.proofs.RegionLaws.{data_block_high}
+use Rattle.core_laws.proofs.device.DataBlocks.{blocks_fit}
+use Rattle.core_laws.proofs.tokens.Known.{Leased}
+use Rattle.plain_laws.proofs.OptionLaws.{some_is}
+use Rattle.blk_base.specs.declared.place.ZoneId.TheVariants as id
+use Rattle.blk_base.specs.declared.request.Answer.TheVariants as reply
+use Rattle.blk_base.specs.declared.request.Request.TheVariants as request
+use Rattle.vdo_model.specs.declared.report.DeskLine.TheVariants as line
+use Rattle.core_model.specs.declared.items.Item.TheVariants as item
+use Rattle.core_model.specs.declared.items.Phase.TheVariants as phase
+use Rattle.core_model.specs.declared.zones.ZoneData.TheVariants as at
 
 -- an answer that isn't there stands in no older part either
 unanswered_before : (desk : List DeskLine) (q w : Writer) → IsNone (answer_of desk w) → IsNone (answer_of (before_begin desk q) w)
@@ -160,3 +177,214 @@ module _ {s : Session} {t : Trace} {n : ℕ} {l : LogicalZone} {v : Vio} (known 
         act_one known (Draws p) clears gives_same right'
         (drawn_ok (lock_of v' ∷ l.held) l.waiting (one_takes s l.zone l.next l.held l.waiting known.own.sound.locks v' zone_is refl free) others_wait (λ a none. (or_none (v.at.0 == a) (is_held a l.held) none).1))
         (goes_ok s t' n (drawn_by l v) same v' placed_ok is_placed (quiet' v.at.0 zone_is free alive) (below_kept (Draws p) t v.at.0 l.next tt (known.own.lists.below v.at.0 zone_is)) home_is post goes, tt)
+
+-- a write that is done, and a read that was given its bytes, may be answered so
+done_earned : (s : Session) (t : Trace) (m : FlushMark) (asks : Asks) (at : Lba) (bytes : List ℕ) → asks ≡ Write → IsSome (logged_of (done t) m.request) → HasEarned s t m asks (asked asks at bytes) (Some reply.Ok)
+done_earned s t m asks at bytes is some = rw is some
+
+given_earned : (s : Session) (t : Trace) (m : FlushMark) (asks : Asks) (at : Lba) (bytes : List ℕ) (place : ℕ) → asks ≡ Read → gift_of (gifts t) m.request ≡ Some (record { request = m.request; at = at; place = place; bytes = bytes })
+    → HasEarned s t m asks (asked asks at bytes) (Some (reply.Bytes bytes))
+given_earned s t m asks at bytes place is given = rw is (place, given)
+
+module _ {s : Session} {t : Trace} {n : ℕ} {l : LogicalZone} {v : Vio} (known : Known s t n (at.Logical l) (item.Request v ∷ [])) where
+  abbrev After : LogicalZone → Trace → List Post → Type 0
+  After new made posts = ActKept s t n (at.Logical l) (item.Request v ∷ []) (at.Logical new) made posts
+
+  home : zone_of s.sizes.zones v.at.0 ≡ l.zone
+  home = zone_is known
+
+  leased : (q : Phase) → v.phase ≡ q → holds q ≡ true → Leased l v
+  leased q is held = known.leased l v refl refl (rw is held)
+
+  -- what happens is its own, at its address
+  own_clears : (h : Happening) → IsPlain h → happens_in s.sizes h ≡ logical_zone (zone_of s.sizes.zones v.at.0) → IfAny (λ w. Mine s t (at.Logical l) (item.Request v ∷ []) (OfRequest w)) (about h).request
+      → IfAny (λ a. Mine s t (at.Logical l) (item.Request v ∷ []) (OfAddress a)) (about h).address → Clears s n (Mine s t (at.Logical l) (item.Request v ∷ [])) h t
+  own_clears h plain here request address = plain_clears known h t plain (known.own.number_is ∙ ap logical_zone (sym home) ∙ sym here) request address
+
+  -- whoever did what is done or given at its address had a place that was drawn
+  drawn_here : (q : Phase) → v.phase ≡ q → holds q ≡ true → v.place < l.next
+  drawn_here q is held = drawn_before s t n l known.own v (leased q is held) home
+
+  -- Its slot is set.
+  module _ (is : v.phase ≡ phase.Settle) where
+    abbrev e : Logged
+    e = logged v
+
+    abbrev set_t : Trace
+    set_t = Sets (logged v) ∷ t
+
+    facts : IsEntered s t v × IsCommitted t (logged v) × AllBelow t v.at.0 v.place × IsFresh s v.block
+    facts = in_phase known phase.Settle is
+
+    clears_set : Clears s n (Mine s t (at.Logical l) (item.Request v ∷ [])) (Sets e) t
+    clears_set = own_clears (Sets e) tt refl (own_request known) (own_address known phase.Settle is refl)
+
+    right_set : RightTrace s set_t
+    right_set = (record { is_open = (vio_ok known).is_open; is_committed = facts.1; below = facts.2; unaborted = facts.0.unaborted }, shown_plain s t (Sets e) tt (shown_of s t known.right), known.right)
+
+    quiet_set : Quiet set_t v.at.0
+    quiet_set = record { all_committed = facts.1.all_committed; all_done = facts.1.last ∙ sym (of_same e (done t)) }
+
+    below_set : AllBelow set_t v.at.0 (v.place + 1)
+    below_set =
+        let more = below_more t v.at.0 v.place (v.place + 1) (omega arith) facts.2 in
+        record { writes = ((λ same. omega arith), more.writes); reads = more.reads }
+
+    mapped_set : (a : ℕ) → HoldsMapping (mapping_in l.window (e ∷ l.slots) a)
+    mapped_set a = elim (eqb_tells v.at.0 a) [
+      | inl same ↦ rw same.0 (
+          let block = facts.3 in
+          let high = data_block_high s.sizes.geometry v.block.0 block.is_data in
+          let low = block.inside in
+          let few = blocks_fit s.sizes.geometry known.session.sizes in
+          (omega (arith, high), omega (arith, low, few))
+          )
+      | inr other ↦ rw other.0 (known.own.sound.map.mapped a)
+    ]
+
+    inside_set : (a : ℕ) (x : Pbn) → mapping_in l.window (e ∷ l.slots) a ≡ At x → IsInside s.sizes x
+    inside_set a x at = elim (eqb_tells v.at.0 a) [
+      | inl same ↦ let here : At v.block ≡ At x = rw same.0 at at in subst (IsInside s.sizes) (same_block v.block x here) facts.3.inside
+      | inr other ↦ known.own.sound.map.inside a x (rw other.0 at at)
+    ]
+      where
+        same_block : (y z : Pbn) → At y ≡ At z → y ≡ z
+        same_block y z same = cc
+
+    -- the zone with the slot set, and its lock still held
+    slot_ok : DataOk s set_t n (at.Logical (with_slot l v))
+    slot_ok =
+        let k = known.own in
+        record {
+          number_is = k.number_is;
+          lists = record {
+            places_is = k.lists.places_is;
+            next_is = k.lists.next_is;
+            slots_are = λ a zone. rw (k.lists.slots_are a zone) refl;
+            below = λ a zone. let old = k.lists.below a zone in record { writes = ((λ same. drawn_here phase.Settle is refl), old.writes); reads = old.reads };
+          };
+          sound = record { among = k.sound.among; map = record { window_is = k.sound.map.window_is; mapped = mapped_set; inside = inside_set }; locks = k.sound.locks };
+          kept = line_kept known (Sets e) t clears_set k.kept;
+          answers = λ a zone free alive. elim (eqb_tells v.at.0 a) [
+            | inl same ↦ subst (λ (b : ℕ). Quiet set_t b) same.1 quiet_set
+            | inr other ↦ quiet_kept (Sets e) t a other.1 (k.answers a zone free alive)
+          ];
+          told = k.told;
+        }
+
+    settles_kept : (more : List Post) → granted s.sizes v.at.0 (with_slot l v) ≡ Some more → After (released v.at.0 (with_slot l v)) (Sets (logged v) ∷ []) ((id.Desk, item.Request (ended phase.Reply reply.Ok v)) ∷ more)
+    settles_kept more grants =
+        let both = release_ok s set_t n (with_slot l v) slot_ok v (leased phase.Settle is refl) home quiet_set below_set more grants in
+        act_one known (Sets e) clears_set (λ f honest. f honest) right_set both.0
+        ((omega arith, (vio_over s (Sets e) t v refl (vio_ok known), done_earned s set_t (mark_of_vio v) v.asks v.at v.bytes facts.0.is_write (rw (same_self v.request) (some_is (Some e) e refl)), refl)), both.1)
+
+  -- It is given its bytes.
+  module _ (is : v.phase ≡ phase.Loaded) where
+    abbrev u : Trace
+    u = Gives (gift v) ∷ t
+
+    looked : Looks s t v × (HasHonestReads s t → v.bytes ≡ value_at s t v.at.0)
+    looked = in_phase known phase.Loaded is
+
+    clears_give : Clears s n (Mine s t (at.Logical l) (item.Request v ∷ [])) (Gives (gift v)) t
+    clears_give = own_clears (Gives (gift v)) tt refl (own_request known) (own_address known phase.Loaded is refl)
+
+    right_give : RightTrace s u
+    right_give =
+        let held = looked.0.held in (
+          record { is_open = (vio_ok known).is_open; asked = (vio_ok known).asked ∙ ap (λ (asks : Asks). Some (asked asks v.at v.bytes)) looked.0.is_read; placed = held.is_placed.placed; quiet = held.quiet; below = held.below },
+          shown_plain s t (Gives (gift v)) tt (shown_of s t known.right),
+          known.right,
+        )
+
+    quiet_same : (a : ℕ) → Quiet t a → Quiet u a
+    quiet_same a q = record { all_committed = q.all_committed; all_done = q.all_done }
+
+    below_give : AllBelow u v.at.0 (v.place + 1)
+    below_give =
+        let more = below_more t v.at.0 v.place (v.place + 1) (omega arith) looked.0.held.below in
+        record { writes = more.writes; reads = ((λ same. omega arith), more.reads) }
+
+    given_ok : DataOk s u n (at.Logical l)
+    given_ok =
+        let k = known.own in
+        record {
+          number_is = k.number_is;
+          lists = record {
+            places_is = k.lists.places_is;
+            next_is = k.lists.next_is;
+            slots_are = k.lists.slots_are;
+            below = λ a zone. let old = k.lists.below a zone in record { writes = old.writes; reads = ((λ same. drawn_here phase.Loaded is refl), old.reads) };
+          };
+          sound = k.sound;
+          kept = line_kept known (Gives (gift v)) t clears_give k.kept;
+          answers = λ a zone free alive. quiet_same a (k.answers a zone free alive);
+          told = k.told;
+        }
+
+    gives_kept : (more : List Post) → granted s.sizes v.at.0 l ≡ Some more → After (released v.at.0 l) (Gives (gift v) ∷ []) ((id.Desk, item.Request (ended phase.Reply (reply.Bytes v.bytes) v)) ∷ more)
+    gives_kept more grants =
+        let both = release_ok s u n l given_ok v (leased phase.Loaded is refl) home (quiet_same v.at.0 looked.0.held.quiet) below_give more grants in
+        act_one known (Gives (gift v)) clears_give (λ f honest. (looked.1 honest, f honest)) right_give both.0
+        ((omega arith, (vio_over s (Gives (gift v)) t v refl (vio_ok known), given_earned s u (mark_of_vio v) v.asks v.at v.bytes v.place looked.0.is_read (rw (same_self v.request) refl), refl)), both.1)
+
+  -- It is aborted, before its entry was handed in ..
+  aborts_kept : (more : List Post) → v.phase ≡ phase.Abort → granted s.sizes v.at.0 l ≡ Some more → After (released v.at.0 l) [] ((id.Desk, item.Request (turned phase.Reply v)) ∷ more)
+  aborts_kept more is grants =
+      let facts = in_phase known phase.Abort is in
+      let both = release_ok s t n l known.own v (leased phase.Abort is refl) home facts.0.quiet (below_more t v.at.0 v.place (v.place + 1) (omega arith) facts.0.below) more grants in
+      act_none known both.0 ((omega arith, ((vio_ok known), facts.1, refl)), both.1)
+
+  -- .. or after.
+  module _ (is : v.phase ≡ phase.AbortEntered) where
+    abbrev gone : Happening
+    gone = Aborts (logged v)
+
+    carries_it : IsEntered s t v × MayReply s t v v.answer × (has_stopped t ≡ true)
+    carries_it = in_phase known phase.AbortEntered is
+
+    right_abort : RightTrace s (Aborts (logged v) ∷ t)
+    right_abort = (
+      record { is_open = (vio_ok known).is_open; handed_in = carries_it.0.entry; unset = carries_it.0.unset; stopped = carries_it.2 },
+      shown_plain s t (Aborts (logged v)) tt (shown_of s t known.right),
+      known.right,
+    )
+
+    clears_abort : Clears s n (Mine s t (at.Logical l) (item.Request v ∷ [])) (Aborts (logged v)) t
+    clears_abort = own_clears (Aborts (logged v)) tt refl (own_request known) tt
+
+    gone_ok : DataOk s (Aborts (logged v) ∷ t) n (at.Logical l)
+    gone_ok =
+        let k = known.own in
+        record {
+          number_is = k.number_is;
+          lists = record { places_is = k.lists.places_is; next_is = k.lists.next_is; slots_are = k.lists.slots_are; below = λ a zone. below_kept (Aborts (logged v)) t a l.next tt (k.lists.below a zone) };
+          sound = k.sound;
+          kept = line_kept known (Aborts (logged v)) t clears_abort k.kept;
+          answers = λ a zone free alive. quiet_kept (Aborts (logged v)) t a tt (k.answers a zone free alive);
+          told = told_kept s (Aborts (logged v)) t (at.Logical l) k.told;
+        }
+
+    aborts_entered_kept : After (retire v.at.0 l) (Aborts (logged v) ∷ []) ((id.Desk, item.Request (turned phase.Reply v)) ∷ all_stopped (all_for v.at.0 l.waiting))
+    aborts_entered_kept =
+        let both = retire_ok s (gone ∷ t) n l gone_ok v (leased phase.AbortEntered is refl) home right_abort carries_it.2 (λ place less. inl (refl, less)) in
+        act_one known gone clears_abort (λ f honest. f honest) right_abort both.0
+        ((omega arith, (vio_over s gone t v refl (vio_ok known), reply_said s gone t v v.answer (record { of_place = refl; of_entry = refl; of_slot = refl; of_gift = refl }) carries_it.1, refl)), both.1)
+
+  -- each act of a logical zone
+  pub logical_serves : (new : LogicalZone) (made : Trace) (posts : List Post) → LogicalServes s.sizes l v new made posts → After new made posts
+  logical_serves new made posts (arrives_retired p d i m q) = rw (i, m, q) (retired_kept known p d)
+  logical_serves new made posts (arrives_free post p d f goes i m q) = rw (i, m, q) (free_kept known p post d f goes)
+  logical_serves new made posts (arrives_held p d f i m q) = rw (i, m, q) (held_kept known p f)
+  logical_serves new made posts (settles more p grants i m q) = rw (i, m, q) (settles_kept p more grants)
+  logical_serves new made posts (gives more p grants i m q) = rw (i, m, q) (gives_kept p more grants)
+  logical_serves new made posts (aborts more p grants i m q) = rw (i, m, q) (aborts_kept more p grants)
+  logical_serves new made posts (aborts_entered p i m q) = rw (i, m, q) (aborts_entered_kept p)
+
+-- a stop notice
+pub logical_notified : {s : Session} {t : Trace} {n : ℕ} {l : LogicalZone} → Known s t n (at.Logical l) (item.StopNotice ∷ [])
+    → ActKept s t n (at.Logical l) (item.StopNotice ∷ []) (at.Logical (record l { notified = true })) [] ((id.Desk, item.StopNotice) ∷ [])
+logical_notified known =
+    let k = known.own in
+    act_none known (record { number_is = k.number_is; lists = k.lists; sound = record { among = k.sound.among; map = k.sound.map; locks = k.sound.locks }; kept = k.kept; answers = k.answers; told = k.told })
+    ((omega arith, (known.front_ok.0.0, omega arith)), tt)

@@ -19,7 +19,7 @@ use Rattle.core_model.specs.Vios.{Post, asked}
 use Rattle.core_laws.proofs.kept.ActKept.{Known, ActKept, act_none, act_one, plain_clears, shown_plain, vio_over, vio_ok, in_phase}
 use Rattle.core_laws.proofs.kept.Carried.{holds_kept}
 use Rattle.core_laws.proofs.trace.DeskOfTrace.{shown_of}
-use Rattle.core_laws.proofs.journal.JournalPosts.{home_within, may_fill}
+use Rattle.core_laws.proofs.journal.JournalFacts.{home_within, may_fill}
 
 -- the zone of an address is one of the logical zones
 pub zone_below : (zones a : ℕ) → 1 ≤ zones → zone_of zones a < zones
