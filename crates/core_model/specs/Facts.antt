@@ -68,7 +68,6 @@ HasAddress sizes at Flush = Unit {0}
 HasAddress sizes at other = at.0 < sizes.geometry.logical
 
 -- What a request carries is said of those of its fields that matter: so it stays where its other fields change.
-
 -- A request under way is one of the script, it is open, and its home is the logical zone of its address.
 pub record IsUnderWay (s : Session) (t : Trace) (w : Writer) (asks : Asks) (at : Lba) (bytes : List ℕ) (zone : ZoneId) : Type 0 where
   pub asked : request_at s.script w ≡ Some (asked asks at bytes)
@@ -245,10 +244,11 @@ pub record IsSoundDesk (s : Session) (desk : Desk) : Type 0 where
   -- no request is answered as stopped before the stop notice of every zone has come
   pub stops_notified : (w : Writer) → answer_of desk.log w ≡ Some reply.Stopped → notified_zones s.sizes ≤ desk.notices
 
--- each address is mapped to a block that an entry can hold, inside the image
+-- where an address is mapped, by the last write of it or the window
 abbrev pub mapping_in : List Entry → List Logged → ℕ → Mapping
 mapping_in window slots a = mapped_by (newest (of_address a slots)) (mapping_of window a)
 
+-- it has the session's window; each address is mapped to a block that an entry can hold, inside the image
 pub record MapOk (s : Session) (window : List Entry) (slots : List Logged) : Type 0 where
   pub window_is : window ≡ s.window
   pub mapped : (a : ℕ) → HoldsMapping (mapping_in window slots a)
@@ -268,12 +268,12 @@ pub record WaitsOk (zone next : ℕ) (held : List Lock) (v : Vio) : Type 0 where
 abbrev pub InLine : List Vio → Lock → Type 0
 InLine waiting lock = AllByRecursion (λ v. v.at.0 ≡ lock.at.0 → lock.place < v.place) waiting
 
+-- The locks that are held, one for each address at most, and who waits for one.
 pub record LocksOk (s : Session) (zone next : ℕ) (held : List Lock) (waiting : List Vio) : Type 0 where
   pub locks_are : AllByRecursion (LockOk s zone next) held
-  -- one for each address at most
   pub once : (a : ℕ) → total (lock_weight a (λ p. true)) held ≤ 1
-  -- who waits for a lock came behind its holder, and in the order of places
   pub waits : AllByRecursion (WaitsOk zone next held) waiting
+  -- who waits for a lock came behind its holder, and in the order of places
   pub in_line : AllByRecursion (InLine waiting) held
   pub in_order : Rises waiting
 
@@ -294,7 +294,7 @@ RestsAt s t true broken = broken ≡ false
 RestsAt s t false false = (entered t ≡ committed t) × AtRest s t (committed t)
 RestsAt s t false true = HasPending s t
 
--- What it answers for: a logical zone for its addresses that are free (all entries of them are settled), the journal for
+-- What it answers for: a logical zone for its addresses that are free (all entries of them are done), the journal for
 -- the device while it is idle.
 abbrev pub Answers : Session → Trace → ZoneData → Type 0
 Answers s t (at.Logical l) = (a : ℕ) → zone_of s.sizes.zones a ≡ l.zone → is_held a l.held ≡ false → is_among a l.retired ≡ false → Quiet t a
@@ -309,7 +309,8 @@ WasTold t (at.Logical l) = (a : ℕ) → is_among a l.retired ≡ true → (has_
 WasTold t (at.Journal j) = is_closed j ≡ true → has_stopped t ≡ true
 WasTold t other = Unit {0}
 
--- what a zone has beside its lanes
+-- What a zone has beside its lanes: its own lists, what holds of its data alone, the requests that it keeps, what it answers
+-- for, and what it was told.
 pub record DataOk (s : Session) (t : Trace) (number : ℕ) (d : ZoneData) : Type 0 where
   pub number_is : number ≡ zone_number s.sizes (name_of d)
   pub lists : HasLists s t d
