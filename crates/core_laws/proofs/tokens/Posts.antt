@@ -6,7 +6,7 @@ use Rattle.blk_base.specs.declared.request.Request.{Request}
 use Rattle.blk_base.specs.declared.request.Request.TheVariants as request
 use Rattle.blk_base.specs.declared.request.Writer.{Writer}
 use Rattle.core_model.specs.declared.items.Asks.{Asks}
-use Rattle.core_model.specs.declared.items.Asks.TheVariants.{Read, Write, Flush}
+use Rattle.core_model.specs.declared.items.Asks.TheVariants.{Read, Write}
 use Rattle.core_model.specs.declared.items.Item.TheVariants as item
 use Rattle.core_model.specs.declared.items.Phase.TheVariants as phase
 use Rattle.core_model.specs.declared.items.Vio.{Vio}
@@ -37,7 +37,7 @@ goes_by P sizes l v post is reads writes = by v.asks refl is
     by : (asks : Asks) → v.asks ≡ asks → next_for sizes l v asks ≡ Some post → P post
     by Read asks next = subst P (same_Some _ _ next) (reads asks)
     by Write asks next = subst P (same_Some _ _ next) (writes asks)
-    by Flush asks next = absurd cc
+    by other asks next = absurd cc
 
 -- and for the one that gets a lock, where somebody does
 pub data IsGranted (sizes : Sizes) (l : LogicalZone) : Option Vio → List Post → Type 0 where
