@@ -1,4 +1,4 @@
-ghost use Rattle.std.specs.Prelude.{◌≡◌, ◌<◌, ◌↔◌, [], ◌∷◌, ◌++◌, OnOk, IfSome, IfNone, IsTrue, Some, length, slice_get, remove};
+ghost use Rattle.std.specs.Prelude.{◌≡◌, ◌<◌, ◌↔◌, [], ◌∷◌, ◌++◌, OnOk, OnErr, IfSome, IfNone, IsTrue, Some, length, slice_get, remove};
 
 use std::alloc::{AllocError, Global};
 use std::marker::Model;
@@ -34,17 +34,19 @@ impl<T: Drop> Fifo<T> {
         Fifo { items }
     }
 
-    /// An item behind all others.
+    /// An item behind all others. Where no memory is found for it, nothing changes.
     pub fn push(&mut self, item: T) -> Result<(), AllocError>
-        ensures { OnOk result (self.new ≡ self.old ++ item ∷ []) }
+        ensures ok { OnOk result (self.new ≡ self.old ++ item ∷ []) }
+        ensures err { OnErr result (self.new ≡ self.old) }
     {
         self.items.push(item)?;
         Ok(())
     }
 
-    /// An item in front of all others.
+    /// An item in front of all others. Where no memory is found for it, nothing changes.
     pub fn push_front(&mut self, item: T) -> Result<(), AllocError>
-        ensures { OnOk result (self.new ≡ item ∷ self.old) }
+        ensures ok { OnOk result (self.new ≡ item ∷ self.old) }
+        ensures err { OnErr result (self.new ≡ self.old) }
     {
         self.items.insert(0, item)?;
         Ok(())

@@ -1,13 +1,13 @@
 ghost use Rattle.std.specs.Prelude.{◌≡◌, ◌++◌, [], ◌∷◌, IfOk, OnOk};
 ghost use Rattle.std.specs.List.{AllByRecursion};
 ghost use Rattle.core_model.specs.Sessions.{IsServed};
-ghost use Rattle.core_steps.specs.Starts.{Fits};
+ghost use Rattle.steps_device.specs.DeviceCalls.{Fits};
 
 use blk_base::{Answer, Block, Geometry, Layout, Lba, Pbn, Request, Writer};
 use core_model::{Sizes, Zone, ZoneData};
-use core_steps::{Event, StepFault, Stepped, Zones, begin, play};
 use disk_model::Disk;
 use std::alloc::{AllocError, Global};
+use vdo_core::{Event, StepFault, Stepped, Zones, begin, play};
 use vdo_model::{DeskLine, Placed, Requests};
 
 // A request, with blocks of one byte each.

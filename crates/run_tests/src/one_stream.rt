@@ -1,10 +1,10 @@
 use crate::cores::{Ask, Given, are_answers, in_order, places, played, sizes};
 use crate::runs::fresh;
 use blk_base::{Pbn, Writer};
-use core_steps::{Event, StepFault};
 use disk_model::{CallKind, FaultAt, MemDisk};
 use std::alloc::{AllocError, Global};
 use std::test::Fail;
+use vdo_core::{Event, StepFault};
 use vdo_model::Placed;
 
 // What one stream asks, the block whose first write fails, and what it is given.

@@ -1,8 +1,8 @@
 use crate::cores::{Ask, Given, are_answers, in_order, played, sizes};
 use crate::runs::fresh;
-use core_steps::{Event, StepFault};
 use std::alloc::{AllocError, Global};
 use std::test::Fail;
+use vdo_core::{Event, StepFault};
 
 // Addresses below 812 are of logical zone 0 of two, and those from there on of zone 1.
 const ASKS: [&[Ask]; 2] = [

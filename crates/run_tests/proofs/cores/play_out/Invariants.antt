@@ -1,4 +1,4 @@
-use Rattle.core_steps.specs.Starts.{Fits}
+use Rattle.steps_device.specs.DeviceCalls.{Fits}
 use Rattle.run_tests.proofs.cores.play_out.Given as goal
 
 abbrev pub invariant-loop-round : goal.invariant-loop-round

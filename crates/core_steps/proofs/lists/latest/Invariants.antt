@@ -1,6 +1,0 @@
-use Rattle.std.proofs.Common.{◌≡◌, take, reverse}
-use Rattle.core_model.specs.Trace.{newest, of_address}
-use Rattle.core_steps.proofs.lists.latest.Given as goal
-
-abbrev pub invariant-loop-slot : goal.invariant-loop-slot
-invariant-loop-slot l = l.latest ≡ newest (of_address l.at.0 (reverse (take l.slot-index l.slots)))

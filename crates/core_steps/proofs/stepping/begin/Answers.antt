@@ -1,7 +1,0 @@
-use Rattle.std.proofs.lemmas.Result.{IfOk-weaker}
-use Rattle.core_steps.proofs.ActLaws.{begun_acts}
-use Rattle.core_steps.proofs.stepping.begin.Goals as goal
-
-pub returns-in-Desk-clause-begun : goal.returns-in-Desk-clause-begun
-returns-in-Desk-clause-begun c =
-    IfOk-weaker c.begin_next.result _ _ (λ begun is. rw c.in-Desk.is (begun_acts _ _ _ _ is)) c.begin_next.ensures.begun

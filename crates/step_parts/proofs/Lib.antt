@@ -1,0 +1,3 @@
+pub mod DevicePins
+pub mod FaultLaws
+pub mod SilentLaws

@@ -1,0 +1,18 @@
+-- What a zone did, with the trace that it made.
+use Rattle.std.specs.Prelude.{Bool, List}
+use Rattle.disk_model.specs.Seen.{Seen}
+use Rattle.core_model.specs.declared.items.Item.{Item}
+use Rattle.core_model.specs.declared.sizes.Sizes.{Sizes}
+use Rattle.core_model.specs.declared.zones.ZoneData.{ZoneData}
+use Rattle.core_model.specs.Steps.{Act}
+use Rattle.core_model.specs.Trace.{Trace}
+use Rattle.core_model.specs.Vios.{Post}
+use Rattle.step_parts.specs.DeviceLog.{HasCalled}
+
+-- the zone acts, and doesn't call the device
+abbrev pub ActsAlone : Sizes → ZoneData → List Item → ZoneData → List Post → Type 0
+ActsAlone sizes old front new posts = (made : Trace) × Act sizes old front new made posts × ((tells : Bool) (seen : Seen) → HasCalled tells seen seen made)
+
+-- the zone acts, and the device has had its calls
+abbrev pub Acts : Bool → Sizes → ZoneData → List Item → ZoneData → List Post → Seen → Seen → Type 0
+Acts tells sizes old front new posts before after = (made : Trace) × Act sizes old front new made posts × HasCalled tells before after made

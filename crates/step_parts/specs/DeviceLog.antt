@@ -1,0 +1,35 @@
+-- What a step leaves of the device.
+use Rattle.std.specs.Prelude.{ℕ, suc, ◌≡◌, ◌+◌, ◌-◌, ◌^◌, ◌≤◌, Bool, true, false, IsTrue, [], ◌∷◌, ◌++◌, min}
+use Rattle.disk_model.specs.Seen.{Seen}
+use Rattle.core_model.specs.Trace.{Trace, Calls, Fails, calls}
+
+-- how many calls failed, and how many of these found no memory for a place in the log
+abbrev pub failed_calls : Trace → ℕ
+failed_calls [] = 0
+failed_calls (Fails w call kept ∷ t) = suc (failed_calls t)
+failed_calls (other ∷ t) = failed_calls t
+
+abbrev pub lost_calls : Trace → ℕ
+lost_calls [] = 0
+lost_calls (Fails w call false ∷ t) = suc (lost_calls t)
+lost_calls (other ∷ t) = lost_calls t
+
+-- whether the device is called
+abbrev pub has_calls : Trace → Bool
+has_calls [] = false
+has_calls (Calls call ∷ t) = true
+has_calls (Fails w call kept ∷ t) = true
+has_calls (other ∷ t) = has_calls t
+
+-- a count rose by at least so many, or stands at the last value of its type
+abbrev pub RoseBy : ℕ → ℕ → ℕ → Type 0
+RoseBy n before now = min (before + n) (2 ^ 64 - 1) ≤ now
+
+-- What is seen of a device before what happened, and after it: one that tells has the calls in its log. Its count of faults
+-- rose with each call that failed, and its count of those without a place in the log with each that isn't kept there. A
+-- device that isn't called is as it was.
+pub record HasCalled (tells : Bool) (before after : Seen) (made : Trace) : Type 0 where
+  pub log : IsTrue tells → after.log ≡ calls made ++ before.log
+  pub faults : RoseBy (failed_calls made) before.faults after.faults
+  pub unkept : RoseBy (lost_calls made) before.unkept after.unkept
+  pub idle : has_calls made ≡ false → after ≡ before

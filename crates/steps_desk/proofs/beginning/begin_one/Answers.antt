@@ -1,0 +1,34 @@
+use Rattle.std.proofs.Common.{rules, refl, arith, subst, ◌≡◌, List, Some, None, slice_get, [], ◌∷◌}
+use Rattle.std.proofs.lemmas.Grind.{common_steps}
+use Rattle.std.proofs.lemmas.Option.{gets}
+use Rattle.blk_base.specs.declared.request.Request.{Request}
+use Rattle.vdo_model.specs.Scripts.{request_at}
+use Rattle.vdo_model.specs.declared.report.DeskLine.TheVariants as line
+use Rattle.core_model.specs.DeskRows.{at_once, is_notified, vio_of}
+use Rattle.core_model.specs.DeskRows.DeskBegins.{answers, sends}
+use Rattle.core_model.specs.Trace.{Says}
+use Rattle.steps_desk.proofs.beginning.begin_one.Goals as goal
+
+pub returns-in_ok-answer_at_once-in-Some-at_once-clause-ok : goal.returns-in_ok-answer_at_once-in-Some-at_once-clause-ok
+returns-in_ok-answer_at_once-in-Some-at_once-clause-ok c =
+    let found : slice_get c.stream-requests.result.now c.args.request.number ≡ Some c.index-requests-request.result = grind (arith, common_steps, gets) in
+    let asked : request_at c.args.desk.now.requests c.args.request ≡ Some c.index-requests-request.result =
+    subst (λ (rs : List Request). slice_get rs c.args.request.number ≡ Some c.index-requests-request.result) c.stream-requests.ensures found in
+    let served : vio_of c.args.sizes.now c.args.request c.index-requests-request.result ≡ Some c.in-Some.vio = search rules in
+    let once : at_once c.args.sizes.now (is_notified c.args.sizes.now c.args.desk.now) c.in-Some.vio.asks c.in-Some.vio.at.0 ≡ Some c.in-Some-at_once.given = search rules in
+    let done = c.in_ok-answer_at_once-in-Some-at_once.ensures in (
+      Says (line.Answer c.args.request c.in-Some-at_once.given) ∷ Says (line.Begin c.args.request) ∷ [],
+      answers c.args.request c.index-requests-request.result c.in-Some.vio c.in-Some-at_once.given c.requires.next asked served once done.0 refl done.1,
+    )
+
+pub returns-in_ok-send-in-None-clause-ok : goal.returns-in_ok-send-in-None-clause-ok
+returns-in_ok-send-in-None-clause-ok c =
+    let found : slice_get c.stream-requests.result.now c.args.request.number ≡ Some c.index-requests-request.result = grind (arith, common_steps, gets) in
+    let asked : request_at c.args.desk.now.requests c.args.request ≡ Some c.index-requests-request.result =
+    subst (λ (rs : List Request). slice_get rs c.args.request.number ≡ Some c.index-requests-request.result) c.stream-requests.ensures found in
+    let served : vio_of c.args.sizes.now c.args.request c.index-requests-request.result ≡ Some c.in-Some.vio = search rules in
+    let none : at_once c.args.sizes.now (is_notified c.args.sizes.now c.args.desk.now) c.in-Some.vio.asks c.in-Some.vio.at.0 ≡ None = search rules in
+    let done = c.in_ok-send-in-None.ensures in (
+      Says (line.Begin c.args.request) ∷ [],
+      sends c.args.request c.index-requests-request.result c.in-Some.vio c.requires.next asked served none done.0 refl done.1,
+    )

@@ -1,0 +1,14 @@
+//! The desk: what it does with the item in front of its inbox, and with none. Requests are begun and answered here.
+#![tactic(auto)]
+
+mod acting;
+mod answering;
+mod beginning;
+mod counting;
+mod lines;
+mod starting;
+
+pub use acting::act;
+pub use beginning::begin_next;
+pub use counting::can_count;
+pub use starting::first;

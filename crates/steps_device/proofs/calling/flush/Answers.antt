@@ -1,0 +1,8 @@
+use Rattle.steps_device.proofs.Calls.{done_call, failed_call}
+use Rattle.steps_device.proofs.calling.flush.Goals as goal
+
+pub returns-clause-ok : goal.returns-clause-ok
+returns-clause-ok g c = done_call _ _ _ _ _ c.flush.ensures.ok c.flush.ensures.cause.later c.flush.ensures.unkept
+
+pub returns-clause-err : goal.returns-clause-err
+returns-clause-err g c = failed_call _ _ _ _ _ c.flush.ensures.err c.flush.ensures.cause c.flush.ensures.unkept

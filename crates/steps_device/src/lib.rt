@@ -1,0 +1,12 @@
+//! The device's zone: what it does with the item in front of its inbox. Each call of the device is made here.
+#![tactic(auto)]
+
+mod acting;
+mod calling;
+mod serving;
+mod starting;
+mod stopping;
+mod working;
+
+pub use acting::act;
+pub use starting::first;

@@ -1,0 +1,140 @@
+ghost use Rattle.std.specs.Prelude.{◌≡◌, ◌<◌, ◌^◌, ◌-◌, [], ◌∷◌, true, false, Some, IfOk, IfErr, OnOk, OnErr};
+ghost use Rattle.disk_model.specs.declared.call.Call.{Call};
+ghost use Rattle.disk_model.specs.Seen.{Stays};
+ghost use Rattle.core_model.specs.DeviceRows as rows;
+ghost use Rattle.core_model.specs.DeviceRows.{DeviceWorks, call_of, journal_bytes};
+ghost use Rattle.core_model.specs.Trace.{Trace, Calls};
+ghost use Rattle.core_model.specs.Vios as vios;
+ghost use Rattle.step_parts.specs.Causes.{NoRule, MemoryOrStray};
+ghost use Rattle.step_parts.specs.DeviceLog.{HasCalled};
+ghost use Rattle.steps_device.specs.DeviceCalls as log;
+ghost use Rattle.steps_device.specs.DeviceCalls.{Fits, HasFailed};
+
+use crate::calling::{flush, write_block};
+use crate::stopping::halt;
+use blk_base::{Block, Entry, Layout, Mapping, Pbn, ZoneId};
+use core_model::{DeviceZone, Item, SealedBlock, Sizes, Stage};
+use disk_model::{Disk, Failed};
+use journal_codec::{Entries, JournalBlock, encode};
+use std::alloc::Global;
+use step_parts::{Posts, StepFault};
+
+// The bytes of a sealed block.
+fn sealed_bytes(sizes: &Sizes, block: &SealedBlock) -> Block
+    ensures { result ≡ journal_bytes sizes.now block.now }
+{
+    let mut entries = Entries::new();
+    entries.push(Entry::Remap {
+        at: block.vio.at,
+        old: block.vio.old,
+        new: Mapping::At(block.vio.block),
+    });
+    let mut bytes = Block::zero();
+    encode(
+        &JournalBlock {
+            nonce: sizes.geometry.nonce,
+            sequence: block.sequence,
+            head: sizes.start,
+            entries,
+        },
+        &mut bytes,
+    );
+    bytes
+}
+
+// Whether a sealed block at this stage needs a call of the device.
+fn needs_call(stage: Stage) -> bool
+    ensures { result ≡ log.needs_call stage }
+{
+    match stage {
+        Stage::Cover | Stage::Write | Stage::Harden => true,
+        Stage::Commit | Stage::Fail => false,
+    }
+}
+
+// The stage behind this one.
+fn next_stage(stage: Stage) -> Stage
+    ensures { result ≡ rows.next_stage stage }
+{
+    match stage {
+        Stage::Cover => Stage::Write,
+        Stage::Write => Stage::Harden,
+        Stage::Harden | Stage::Commit => Stage::Commit,
+        Stage::Fail => Stage::Fail,
+    }
+}
+
+// The zone that a sealed block goes to when it leaves this stage.
+fn next_zone(stage: Stage) -> ZoneId
+    ensures { result ≡ rows.next_zone stage }
+{
+    match stage {
+        Stage::Cover | Stage::Write => ZoneId::Device,
+        Stage::Harden | Stage::Commit | Stage::Fail => ZoneId::Journal,
+    }
+}
+
+// The call that a sealed block needs.
+fn make_call<D: Disk>(
+    sizes: &Sizes,
+    block: &SealedBlock,
+    slot: Pbn,
+    disk: &mut D,
+) -> Result<(), Failed>
+    requires needed { log.needs_call block.now.stage ≡ true }
+    requires inside { slot.0 < (D.seen disk.old).size }
+    ensures stays { Stays (D.seen disk.old) (D.seen disk.new) }
+    ensures ok { OnOk result ((made : Call) × (call_of sizes.now block.now slot true block.now.stage ≡ Some made)
+        × HasCalled D.tells (D.seen disk.old) (D.seen disk.new) (Calls made ∷ [])) }
+    ensures err { OnErr result ((failed : Call) × (call_of sizes.now block.now slot false block.now.stage ≡ Some failed)
+        × HasFailed D.tells (D.seen disk.old) (D.seen disk.new) failed) }
+{
+    match block.stage {
+        Stage::Write => {
+            let bytes = sealed_bytes(sizes, block);
+            write_block(disk, slot, &bytes)
+        }
+        _ => flush(disk),
+    }
+}
+
+// It has come to another stage.
+fn staged(mut block: SealedBlock, stage: Stage) -> SealedBlock
+    ensures { result ≡ vios.staged stage block }
+{
+    block.stage = stage;
+    block
+}
+
+/// What the device's zone does with a sealed block in front of its inbox. It makes one call of the device, or none.
+pub(crate) fn work_block<D: Disk>(
+    alloc: Global,
+    sizes: &Sizes,
+    zone: &mut DeviceZone,
+    block: SealedBlock,
+    disk: &mut D,
+) -> Result<Posts, StepFault>
+    requires counts { zone.old.calls < 2 ^ 64 - 1 }
+    requires fits { Fits sizes.now (D.seen disk.old) }
+    ensures stays { Stays (D.seen disk.old) (D.seen disk.new) }
+    ensures works { IfOk result (λ posts. (made : Trace) × DeviceWorks sizes.now zone.old block zone.new made posts
+        × HasCalled D.tells (D.seen disk.old) (D.seen disk.new) made) }
+    ensures err { IfErr result (MemoryOrStray (NoRule (DeviceWorks sizes.now zone.old block))) }
+{
+    if !needs_call(block.stage) {
+        return Err(StepFault::Stray);
+    }
+    let slot = Layout::of(&sizes.geometry).journal_slot(block.sequence);
+    if zone.stopped {
+        let unmade = staged(block, Stage::Fail);
+        return Ok(Posts::one(alloc, ZoneId::Journal, Item::Block(unmade))?);
+    }
+    let stage = next_stage(block.stage);
+    let to = next_zone(block.stage);
+    let Ok(()) = make_call(sizes, &block, slot, disk) else {
+        let failed = staged(block, Stage::Fail);
+        return Ok(halt(alloc, sizes, zone, ZoneId::Journal, Item::Block(failed))?);
+    };
+    zone.calls += 1;
+    Ok(Posts::one(alloc, to, Item::Block(staged(block, stage)))?)
+}

@@ -1,0 +1,13 @@
+//! The journal's zone: what it does with the item in front of its inbox. Entries are handed in and committed here.
+#![tactic(auto)]
+
+mod acting;
+mod counting;
+mod ending;
+mod entering;
+mod refusing;
+mod starting;
+
+pub use acting::act;
+pub use counting::can_count;
+pub use starting::first;

@@ -1,0 +1,39 @@
+-- What a logical zone did is an act, and it doesn't call the device.
+use Rattle.std.proofs.Common.{◌≡◌, List, [], ◌∷◌, true, refl}
+use Rattle.blk_base.specs.declared.place.ZoneId.TheVariants as id
+use Rattle.core_model.specs.declared.items.Item.TheVariants as item
+use Rattle.core_model.specs.declared.items.Vio.{Vio}
+use Rattle.core_model.specs.declared.sizes.Sizes.{Sizes}
+use Rattle.core_model.specs.declared.zones.ZoneData.TheVariants as at
+use Rattle.core_model.specs.declared.zones.LogicalZone.{LogicalZone}
+use Rattle.core_model.specs.LogicalRows.{LogicalServes}
+use Rattle.core_model.specs.LogicalRows.LogicalServes.{arrives_retired, arrives_free, arrives_held, settles, gives, aborts, aborts_entered}
+use Rattle.core_model.specs.Steps.{Act}
+use Rattle.core_model.specs.Steps.Act.{serves, serves_notice}
+use Rattle.core_model.specs.Trace.{Trace}
+use Rattle.core_model.specs.Vios.{Post}
+use Rattle.step_parts.specs.Acts.{ActsAlone}
+use Rattle.step_parts.specs.Causes.{NoRule}
+use Rattle.step_parts.proofs.SilentLaws.{Silent, none_called, silent}
+
+makes_no_call : (sizes : Sizes) (old new : LogicalZone) (v : Vio) (made : Trace) (posts : List Post) → LogicalServes sizes old v new made posts → Silent made
+makes_no_call sizes old new v made posts (arrives_retired h1 h2 h3 is h5) = silent _ _ is refl refl refl
+makes_no_call sizes old new v made posts (arrives_free post h1 h2 h3 h4 h5 is h7) = silent _ _ is refl refl refl
+makes_no_call sizes old new v made posts (arrives_held h1 h2 h3 h4 is h6) = silent _ _ is refl refl refl
+makes_no_call sizes old new v made posts (settles more h1 h2 h3 is h5) = silent _ _ is refl refl refl
+makes_no_call sizes old new v made posts (gives more h1 h2 h3 is h5) = silent _ _ is refl refl refl
+makes_no_call sizes old new v made posts (aborts more h1 h2 h3 is h5) = silent _ _ is refl refl refl
+makes_no_call sizes old new v made posts (aborts_entered h1 h2 is h4) = silent _ _ is refl refl refl
+
+pub acts : (sizes : Sizes) (old new : LogicalZone) (v : Vio) (posts : List Post)
+    → ((made : Trace) × LogicalServes sizes old v new made posts) → ActsAlone sizes (at.Logical old) (item.Request v ∷ []) (at.Logical new) posts
+acts sizes old new v posts (made, row) = (made, serves row, makes_no_call sizes old new v made posts row)
+
+-- it passes the stop notice on
+pub hears : (sizes : Sizes) (old new : LogicalZone) (posts : List Post)
+    → new ≡ record old { notified = true } → posts ≡ (id.Desk, item.StopNotice) ∷ [] → ActsAlone sizes (at.Logical old) (item.StopNotice ∷ []) (at.Logical new) posts
+hears sizes old new posts new_is posts_is = rw (new_is, posts_is) ([], serves_notice, none_called [] refl refl refl)
+
+-- where no rule serves a request, the zone has no act for it
+pub stays : (sizes : Sizes) (old : LogicalZone) (v : Vio) → NoRule (LogicalServes sizes old v) → NoRule (Act sizes (at.Logical old) (item.Request v ∷ []))
+stays sizes old v none new made posts (serves row) = none _ _ _ row

@@ -1,0 +1,2 @@
+mod ActLaws
+mod StrayLaws

@@ -1,0 +1,6 @@
+use Rattle.std.proofs.Common.{◌≡◌, take, reverse}
+use Rattle.core_model.specs.Trace.{newest, of_address}
+use Rattle.steps_logical.proofs.locks.latest.Given as goal
+
+abbrev pub invariant-loop-slot : goal.invariant-loop-slot
+invariant-loop-slot l = l.latest ≡ newest (of_address l.at.0 (reverse (take l.slot-index l.slots)))

@@ -1,0 +1,12 @@
+//! A logical zone: what it does with the item in front of its inbox. Requests draw their places here, take the locks of
+//! their addresses, and set slots.
+#![tactic(auto)]
+
+mod acting;
+mod locks;
+mod serving;
+mod starting;
+mod waiting;
+
+pub use acting::act;
+pub use starting::first;

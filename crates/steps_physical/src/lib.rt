@@ -1,0 +1,9 @@
+//! The physical zone: what it does with the item in front of its inbox. Writes take data blocks here.
+#![tactic(auto)]
+
+mod acting;
+mod serving;
+mod starting;
+
+pub use acting::act;
+pub use starting::first;

@@ -1,0 +1,5 @@
+mod NoStrays
+mod PlayLaws
+mod StartLaws
+mod StrayLaws
+mod ZoneLaws

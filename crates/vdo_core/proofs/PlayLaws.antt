@@ -1,0 +1,165 @@
+-- Events one after another.
+use Rattle.std.proofs.Math.Seq.{drop-cons}
+use Rattle.std.proofs.Common.{arith, subst, ◌<◌, ◌≤◌, ◌+◌, length, drop, get_or, ◌≡◌, ℕ, zero, suc, Bool, false, List, [], ◌∷◌, ◌++◌, Some, slice_get, slice_set, refl, sym, ap, ◌∙◌, append_assoc, inl, inr}
+use Rattle.std.proofs.lemmas.List.{append-nil, drop_all}
+use Rattle.std.proofs.lemmas.Option.{same_Some}
+use Rattle.std.specs.List.{AllByRecursion}
+use Rattle.std.proofs.lemmas.List.Elements.{All-from_recursion}
+use Rattle.disk_model.specs.Seen.{Seen}
+use Rattle.disk_model.specs.declared.call.Call.{Call}
+use Rattle.core_model.specs.declared.sizes.Sizes.{Sizes}
+use Rattle.core_model.specs.declared.zones.Zone.{Zone}
+use Rattle.core_model.specs.Steps.{Core, IsIdle, Leads}
+use Rattle.core_model.specs.Steps.Leads.{rests, steps, moves}
+use Rattle.core_model.specs.Trace.{Trace, Calls, Fails, calls}
+use Rattle.core_laws.proofs.trace.Parts.{calls_append}
+use Rattle.step_parts.specs.DeviceLog.{HasCalled, failed_calls, has_calls, lost_calls}
+use Rattle.step_parts.proofs.SilentLaws.{unchanged}
+use Rattle.vdo_core.specs.Moves.{MovesNothing}
+use Rattle.vdo_core.specs.Plays.{core_with, StepsAt, MovesAll, HasNoWork, PlaysOne, Plays, LeadsTo}
+use Rattle.vdo_core.specs.declared.events.Event.{Event}
+use Rattle.vdo_core.specs.declared.events.Event.TheVariants as event
+use Rattle.step_parts.specs.declared.fault.Stepped.{Stepped}
+use Rattle.step_parts.specs.declared.fault.Stepped.TheVariants.{Did, Idle}
+
+-- a zone that is put where it stood
+pub put_same : {X : Type 0} (xs : List X) (n : ℕ) (x : X) → slice_get xs n ≡ Some x → slice_set xs n x ≡ xs
+put_same [] n x h = refl
+put_same (y ∷ ys) zero x h = ap (λ z. z ∷ ys) (sym (same_Some _ _ h))
+put_same (y ∷ ys) (suc n) x h = ap (λ zs. y ∷ zs) (put_same ys n x h)
+
+leads_on : (sizes : Sizes) (first middle last : Core) → Leads sizes first middle → Leads sizes middle last → Leads sizes first last
+leads_on sizes first middle last early rests = early
+leads_on sizes first middle last early (steps {before = b} step late) = steps step (leads_on sizes first middle b early late)
+leads_on sizes first middle last early (moves {before = b} move late) = moves move (leads_on sizes first middle b early late)
+
+-- the calls of what happens later are called later
+failed_append : (more made : Trace) → failed_calls (more ++ made) ≡ failed_calls more + failed_calls made
+failed_append [] made = omega arith
+failed_append (Fails w c kept ∷ t) made = omega (arith, failed_append t made)
+failed_append (other ∷ t) made = failed_append t made
+
+lost_append : (more made : Trace) → lost_calls (more ++ made) ≡ lost_calls more + lost_calls made
+lost_append [] made = omega arith
+lost_append (Fails w c false ∷ t) made = omega (arith, lost_append t made)
+lost_append (other ∷ t) made = lost_append t made
+
+none_called : (more made : Trace) → has_calls (more ++ made) ≡ false → (has_calls more ≡ false) × (has_calls made ≡ false)
+none_called [] made none = (refl, none)
+none_called (Calls c ∷ t) made none = absurd cc
+none_called (Fails w c kept ∷ t) made none = absurd cc
+none_called (other ∷ t) made none = none_called t made none
+
+called_on : (tells : Bool) (a b c : Seen) (made more : Trace) → HasCalled tells a b made → HasCalled tells b c more → HasCalled tells a c (more ++ made)
+called_on tells a b c made more early late = record {
+  log = λ notified. late.log notified ∙ ap (λ (cs : List Call). calls more ++ cs) (early.log notified) ∙ sym (append_assoc (calls more) (calls made) a.log) ∙ ap (λ (cs : List Call). cs ++ a.log) (sym (calls_append more made));
+  faults = (let p = early.faults in let q = late.faults in omega (arith, p, q, failed_append more made));
+  unkept = (let p = early.unkept in let q = late.unkept in omega (arith, p, q, lost_append more made));
+  idle = λ none. (let each = none_called more made none in late.idle each.0 ∙ early.idle each.1);
+}
+
+-- nothing happens
+pub nothing : (tells : Bool) (sizes : Sizes) (zones : List Zone) (log : Seen) → LeadsTo tells sizes zones zones log log
+nothing tells sizes zones log = ([], (λ (t : Trace). rests), unchanged tells log)
+
+-- one event, and then others
+pub leads_further : (tells : Bool) (sizes : Sizes) (a b c : List Zone) (log log' log'' : Seen)
+    → LeadsTo tells sizes a b log log' → LeadsTo tells sizes b c log' log'' → LeadsTo tells sizes a c log log''
+leads_further tells sizes a b c log log' log'' (made, early, notified) (more, late, notified') = (
+  more ++ made,
+  (λ (t : Trace). rw append_assoc (leads_on sizes (core_with a t) (core_with b (made ++ t)) (core_with c (more ++ (made ++ t))) (early t) (late (made ++ t)))),
+  called_on tells log log' log'' made more notified notified',
+)
+
+-- a step of a zone is one of the core
+pub stepped_leads : (tells : Bool) (sizes : Sizes) (n : ℕ) (a b : List Zone) (log log' : Seen) → StepsAt tells sizes n a b log log' → LeadsTo tells sizes a b log log'
+stepped_leads tells sizes n a b log log' at = (
+  at.step.0,
+  (λ (t : Trace). steps (record {
+    number = n;
+    zone = at.zone;
+    zone' = at.zone';
+    made = at.step.0;
+    had = at.had;
+    step = at.step.1;
+    has = ap (λ (zs : List Zone). core_with zs (at.step.0 ++ t)) at.has;
+  }) rests),
+  at.step.2,
+)
+
+-- a move is one of the core
+moved_leads : (tells : Bool) (sizes : Sizes) (from to : ℕ) (a b : List Zone) (log : Seen) → MovesAll from to a b → LeadsTo tells sizes a b log log
+moved_leads tells sizes from to a b log all = (
+  [],
+  (λ (t : Trace). moves (record {
+    from = from;
+    to = to;
+    source = all.source;
+    target = all.target;
+    part = all.part;
+    left = [];
+    apart = all.apart;
+    had_source = all.had_source;
+    had_target = all.had_target;
+    outbox = rw append-nil all.outbox;
+    has = ap (λ (zs : List Zone). core_with zs t) all.has;
+  }) rests),
+  unchanged tells log,
+)
+
+-- after an event, whether there was work or not
+pub step_plays : (tells : Bool) (sizes : Sizes) (n : ℕ) (a b : List Zone) (log log' : Seen) (stepped : Stepped)
+    → (stepped ≡ Did → StepsAt tells sizes n a b log log') → (stepped ≡ Idle → (z : Zone) → slice_get a n ≡ Some z → IsIdle sizes z)
+    → (stepped ≡ Idle → b ≡ a) → (stepped ≡ Idle → log' ≡ log) → PlaysOne tells sizes (event.Step n) a b log log'
+step_plays tells sizes n a b log log' Did did idle same silent = inl (did refl)
+step_plays tells sizes n a b log log' Idle did idle same silent = inr (idle refl, same refl, silent refl)
+
+pub move_plays : (tells : Bool) (sizes : Sizes) (from to : ℕ) (a b : List Zone) (log : Seen) (stepped : Stepped)
+    → (stepped ≡ Did → MovesAll from to a b) → (stepped ≡ Idle → MovesNothing a from to) → (stepped ≡ Idle → b ≡ a) → PlaysOne tells sizes (event.Move from to) a b log log
+move_plays tells sizes from to a b log Did did idle same = inl (did refl, refl)
+move_plays tells sizes from to a b log Idle did idle same = inr (idle refl, same refl, refl)
+
+-- what an event does leads on
+pub played_leads : (tells : Bool) (sizes : Sizes) (e : Event) (a b : List Zone) (log log' : Seen) → PlaysOne tells sizes e a b log log' → LeadsTo tells sizes a b log log'
+played_leads tells sizes (event.Step n) a b log log' (inl at) = stepped_leads tells sizes n a b log log' at
+played_leads tells sizes (event.Step n) a b log log' (inr (idle, same, silent)) = rw (same, silent) (nothing tells sizes a log)
+played_leads tells sizes (event.Move from to) a b log log' (inl (all, silent)) = rw silent (moved_leads tells sizes from to a b log all)
+played_leads tells sizes (event.Move from to) a b log log' (inr (idle, same, silent)) = rw (same, silent) (nothing tells sizes a log)
+
+-- an event before those that are left
+pub next_plays : (tells : Bool) (sizes : Sizes) (events : List Event) (n : ℕ) (d : Event) (a b later : List Zone) (log log' log'' : Seen)
+    → n < length events → PlaysOne tells sizes (get_or events n d) a b log log' → Plays tells sizes (drop (n + 1) events) b later log' log''
+    → Plays tells sizes (drop n events) a later log log''
+next_plays tells sizes events n d a b later log log' log'' within one rest =
+    let next : n + 1 ≡ suc n = omega (arith) in
+    let left = subst (λ (m : ℕ). Plays tells sizes (drop m events) b later log' log'') next rest in
+    subst (λ (es : List Event). Plays tells sizes es a later log log'') (sym (drop-cons events n d within)) (b, log', one, left)
+
+-- no event is left
+pub none_left : (tells : Bool) (sizes : Sizes) (events : List Event) (n : ℕ) (a : List Zone) (log : Seen)
+    → length events ≤ n → Plays tells sizes (drop n events) a a log log
+none_left tells sizes events n a log past = subst (λ (es : List Event). Plays tells sizes es a a log log) (sym (drop_all n events past)) (refl, refl)
+
+-- a zone that steps isn't idle, so there was work for its event
+pub step_busy : (tells : Bool) (sizes : Sizes) (n : ℕ) (a b : List Zone) (log log' : Seen) → StepsAt tells sizes n a b log log'
+    → ((z : Zone) → slice_get a n ≡ Some z → IsIdle sizes z → ⊥) → HasNoWork sizes a (event.Step n) → ⊥
+step_busy tells sizes n a b log log' at busy none = busy at.zone at.had (none at.zone at.had)
+
+-- where no zone changed, there is still none
+pub none_still : (sizes : Sizes) (a b : List Zone) (e : Event) → a ≡ b → HasNoWork sizes a e → HasNoWork sizes b e
+none_still sizes a b e same none = subst (λ (zones : List Zone). HasNoWork sizes zones e) same none
+
+-- there is no work for an event of these, and for one before them
+pub next_none : (P : Event → Type 0) (events : List Event) (n : ℕ) (d : Event) → n < length events
+    → P (get_or events n d) → AllByRecursion P (drop (n + 1) events) → AllByRecursion P (drop n events)
+next_none P events n d within one rest =
+    let next : n + 1 ≡ suc n = omega (arith) in
+    subst (AllByRecursion P) (sym (drop-cons events n d within)) (one, subst (λ (m : ℕ). AllByRecursion P (drop m events)) next rest)
+
+-- there is none for those that are left where none is left
+pub none_for_none : (P : Event → Type 0) (events : List Event) (n : ℕ) → length events ≤ n → AllByRecursion P (drop n events)
+none_for_none P events n past = subst (AllByRecursion P) (sym (drop_all n events past)) tt
+
+-- there is none for one of these, where there is none for any
+pub none_for_one : (P : Event → Type 0) (events : List Event) (n : ℕ) (d : Event) → n < length events → AllByRecursion P events → P (get_or events n d)
+none_for_one P events n d within none = All-from_recursion P events none n d within

@@ -1,0 +1,59 @@
+-- Why a step comes to no end, carried from the part that meets it to the step, and from the step to a list of events.
+use Rattle.std.proofs.Common.{◌≡◌, ℕ, Bool, true, false, List, [], ◌∷◌, length, take, refl, sym, subst, ◌∙◌, inl, inr}
+use Rattle.std.specs.List.{AllByRecursion}
+use Rattle.core_model.specs.declared.items.Item.{Item}
+use Rattle.core_model.specs.declared.sizes.Sizes.{Sizes}
+use Rattle.core_model.specs.declared.zones.Zone.{Zone}
+use Rattle.core_model.specs.declared.zones.ZoneData.{ZoneData}
+use Rattle.core_model.specs.Steps.{Act, sent_to}
+use Rattle.core_model.specs.Trace.{Trace}
+use Rattle.core_model.specs.Vios.{Post}
+use Rattle.core_laws.proofs.lists.Lists.{length-posted}
+use Rattle.step_parts.specs.Causes.{NoRule, MemoryOrStray}
+use Rattle.step_parts.specs.declared.fault.StepFault.{StepFault}
+use Rattle.step_parts.specs.declared.fault.StepFault.TheVariants as fault
+use Rattle.vdo_core.specs.Causes.{BeginsUnserved, HasLane, MayFault, MayFaultAt, OneMayFault}
+
+-- a zone has the same lanes after a post
+sent_number : (own : Bool) (to : ℕ) (it : Item) (z : Zone) → (sent_to own to it z).number ≡ z.number
+sent_number true to it z = refl
+sent_number false to it z = refl
+
+sent_lanes : (own : Bool) (to : ℕ) (it : Item) (z : Zone) → length (sent_to own to it z).outboxes ≡ length z.outboxes
+sent_lanes true to it z = refl
+sent_lanes false to it z = length-posted to it z.outboxes
+
+lane_stays : (sizes : Sizes) (own : Bool) (to : ℕ) (it : Item) (z : Zone) (p : Post) → HasLane sizes z p → HasLane sizes (sent_to own to it z) p
+lane_stays sizes own to it z p (inl same) = inl (same ∙ sym (sent_number own to it z))
+lane_stays sizes own to it z p (inr less) = inr (rw (sent_lanes own to it z) less)
+
+pub lanes_stay : (sizes : Sizes) (own : Bool) (to : ℕ) (it : Item) (z : Zone) (posts : List Post) → AllByRecursion (HasLane sizes z) posts → AllByRecursion (HasLane sizes (sent_to own to it z)) posts
+lanes_stay sizes own to it z [] all = tt
+lanes_stay sizes own to it z (p ∷ posts) all = (lane_stays sizes own to it z p all.0, lanes_stay sizes own to it z posts all.1)
+
+-- no rule applies to the item in front
+pub act_may_fault : (sizes : Sizes) (z : Zone) (front : Item) (rest : List Item) (f : StepFault)
+    → z.inbox ≡ front ∷ rest → MemoryOrStray (NoRule (Act sizes z.keeps (front ∷ []))) f → MayFault sizes z f
+act_may_fault sizes z front rest fault.Memory taken why = tt
+act_may_fault sizes z front rest fault.Exhausted taken why = absurd why
+act_may_fault sizes z front rest fault.Stray taken why = inl (front, rest, taken, why)
+
+-- a request that may begin isn't served
+pub begin_may_fault : (sizes : Sizes) (z : Zone) (f : StepFault) → z.inbox ≡ [] → MemoryOrStray (BeginsUnserved sizes z.keeps) f → MayFault sizes z f
+begin_may_fault sizes z fault.Memory none why = tt
+begin_may_fault sizes z fault.Exhausted none why = absurd why
+begin_may_fault sizes z fault.Stray none why = inr (inl (none, why))
+
+-- a rule posts to no zone
+pub posts_may_fault : (sizes : Sizes) (z : Zone) (front : List Item) (new : ZoneData) (made : Trace) (posts : List Post) (f : StepFault)
+    → take 1 z.inbox ≡ front → Act sizes z.keeps front new made posts → MemoryOrStray (AllByRecursion (HasLane sizes z) posts → ⊥) f → MayFault sizes z f
+posts_may_fault sizes z front new made posts fault.Memory taken act why = tt
+posts_may_fault sizes z front new made posts fault.Exhausted taken act why = absurd why
+posts_may_fault sizes z front new made posts fault.Stray taken act why =
+    inr (inr (new, made, posts, subst (λ (items : List Item). Act sizes z.keeps items new made posts) (sym taken) act, why))
+
+-- a zone that falters is one of the core
+pub one_may_fault : (sizes : Sizes) (zones : List Zone) (number : ℕ) (f : StepFault) → MayFaultAt sizes zones number f → OneMayFault sizes zones f
+one_may_fault sizes zones number fault.Memory why = tt
+one_may_fault sizes zones number fault.Exhausted why = (number, why)
+one_may_fault sizes zones number fault.Stray why = (number, why)

@@ -1,0 +1,52 @@
+use Rattle.std.proofs.Common.{rules, refl, sym, ◌∙◌, inl, inr}
+use Rattle.disk_model.proofs.SeenLaws.{stays_on}
+use Rattle.vdo_core.specs.Causes.{MayFaultAfter}
+use Rattle.vdo_core.specs.Plays.{HasNoWork}
+use Rattle.step_parts.proofs.FaultLaws.{passed_on}
+use Rattle.vdo_core.proofs.PlayLaws.{nothing, leads_further, next_plays, none_left, next_none, none_still, none_for_none, none_for_one}
+use Rattle.vdo_core.proofs.events.play.Goals as goal
+
+pub loop-event-init : goal.loop-event-init
+loop-event-init g c = record {
+  stays = record { opening = refl; size = refl };
+  plays = λ later log rest. rest;
+  leads = nothing g.D.Disk.tells c.args.sizes.now c.args.zones.now _;
+  busy = search rules;
+  idle = λ idle rest. rest;
+  same = λ idle. refl;
+}
+
+pub loop-event-preserved : goal.loop-event-preserved
+loop-event-preserved g c =
+    let before = c.loop-event.invariant in
+    let after = c.in_ok-stepped.ensures in
+    let none_first = HasNoWork c.args.sizes.now c.args.zones.now in
+    let event = c.loop-event.event-index in
+    record {
+      stays = stays_on _ _ _ before.stays after.stays;
+      plays = λ later log rest.
+          before.plays later log (next_plays _ _ c.args.events.now c.loop-event.event-index _ c.loop-event.zones c.play_one.new.zones later _ _ log c.loop-event-test.true after.plays rest);
+      leads = leads_further g.D.Disk.tells c.args.sizes.now c.args.zones.now c.loop-event.zones c.play_one.new.zones _ _ _ before.leads after.leads;
+      busy = λ did none. elim (c.either-any.ensures.did did) [
+        | inl early ↦ before.busy early none
+        | inr (idle, now) ↦ after.busy now (none_still c.args.sizes.now c.args.zones.now c.loop-event.zones _ (sym (before.same idle)) (none_for_one none_first c.args.events.now event _ c.loop-event-test.true none))
+      ];
+      idle = λ idle rest.
+          let first = c.either-any.ensures.first idle in
+          before.idle first (next_none none_first c.args.events.now event _ c.loop-event-test.true
+          (none_still c.args.sizes.now c.loop-event.zones c.args.zones.now _ (before.same first) (after.idle (c.either-any.ensures.second idle))) rest);
+      same = λ idle. after.same (c.either-any.ensures.second idle) ∙ before.same (c.either-any.ensures.first idle);
+    }
+
+pub returns-in_err-stepped-clause-err : goal.returns-in_err-stepped-clause-err
+returns-in_err-stepped-clause-err g c =
+    passed_on c.from_residual.result (MayFaultAfter g.D.Disk.tells c.args.sizes.now c.args.zones.now (g.D.Disk.seen c.args.disk.now)) c.in_err-stepped.field-0.0 c.from_residual.ensures.1
+    (c.loop-event.zones, g.D.Disk.seen c.loop-event.disk, c.loop-event.invariant.leads, c.in_err-stepped.ensures.err)
+
+pub returns-clause-plays : goal.returns-clause-plays
+returns-clause-plays g c =
+    c.loop-event.invariant.plays c.loop-event.zones _ (none_left g.D.Disk.tells c.args.sizes.now c.args.events.now c.loop-event.event-index c.loop-event.zones _ c.loop-event-test.false)
+
+pub returns-clause-idle : goal.returns-clause-idle
+returns-clause-idle g c idle =
+    c.loop-event.invariant.idle idle (none_for_none (HasNoWork c.args.sizes.now c.args.zones.now) c.args.events.now c.loop-event.event-index c.loop-event-test.false)

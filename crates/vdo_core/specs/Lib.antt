@@ -1,0 +1,4 @@
+pub mod Causes
+pub mod Moves
+pub mod Plays
+pub mod Starts

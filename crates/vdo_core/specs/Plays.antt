@@ -1,0 +1,60 @@
+-- What becomes of a core by an event, by a list of them, and with the trace that they make, whatever happened before.
+use Rattle.std.specs.Prelude.{ℕ, ◌≡◌, ◌≢◌, ◌⊎◌, Bool, Some, List, [], ◌∷◌, ◌++◌, slice_get, slice_set}
+use Rattle.disk_model.specs.Seen.{Seen}
+use Rattle.core_model.specs.declared.items.Item.{Item}
+use Rattle.core_model.specs.declared.sizes.Sizes.{Sizes}
+use Rattle.core_model.specs.declared.zones.Zone.{Zone}
+use Rattle.core_model.specs.Steps.{Core, IsIdle, ZoneStep, Leads}
+use Rattle.core_model.specs.Trace.{Trace}
+use Rattle.step_parts.specs.DeviceLog.{HasCalled}
+use Rattle.vdo_core.specs.Moves.{MovesNothing}
+use Rattle.vdo_core.specs.declared.events.Event.{Event}
+use Rattle.vdo_core.specs.declared.events.Event.TheVariants as event
+
+abbrev pub core_with : List Zone → Trace → Core
+core_with zones t = record { zones = zones; trace = t }
+
+-- one zone steps
+abbrev pub ZoneSteps : Bool → Sizes → Zone → Zone → Seen → Seen → Type 0
+ZoneSteps tells sizes old new before after = (made : Trace) × ZoneStep sizes old new made × HasCalled tells before after made
+
+-- the zone of this number steps, and all others stay
+pub record StepsAt (tells : Bool) (sizes : Sizes) (number : ℕ) (old new : List Zone) (before after : Seen) : Type 0 where
+  pub zone : Zone
+  pub zone' : Zone
+  pub had : slice_get old number ≡ Some zone
+  pub step : ZoneSteps tells sizes zone zone' before after
+  pub has : new ≡ slice_set old number zone'
+
+-- what one zone posted to another moves, all of it, to the tail of its inbox
+pub record MovesAll (from to : ℕ) (old new : List Zone) : Type 0 where
+  pub source : Zone
+  pub target : Zone
+  pub part : List Item
+  pub apart : from ≢ to
+  pub had_source : slice_get old from ≡ Some source
+  pub had_target : slice_get old to ≡ Some target
+  pub outbox : slice_get source.outboxes to ≡ Some part
+  pub has : new ≡ slice_set (slice_set old from (record source { outboxes = slice_set source.outboxes to [] })) to (record target { inbox = target.inbox ++ part })
+
+-- there is no work for an event: no zone of its number can step, or there is nothing to move
+abbrev pub HasNoWork : Sizes → List Zone → Event → Type 0
+HasNoWork sizes zones (event.Step number) = (z : Zone) → slice_get zones number ≡ Some z → IsIdle sizes z
+HasNoWork sizes zones (event.Move from to) = MovesNothing zones from to
+
+-- an event: the zone steps, or all moves; or nothing happens, where there is no work for it
+abbrev pub PlaysOne : Bool → Sizes → Event → List Zone → List Zone → Seen → Seen → Type 0
+PlaysOne tells sizes (event.Step number) old new before after =
+    StepsAt tells sizes number old new before after ⊎ (HasNoWork sizes old (event.Step number) × (new ≡ old) × (after ≡ before))
+PlaysOne tells sizes (event.Move from to) old new before after =
+    (MovesAll from to old new × (after ≡ before)) ⊎ (HasNoWork sizes old (event.Move from to) × (new ≡ old) × (after ≡ before))
+
+-- all of these, one after another
+abbrev pub Plays : Bool → Sizes → List Event → List Zone → List Zone → Seen → Seen → Type 0
+Plays tells sizes [] old new before after = (new ≡ old) × (after ≡ before)
+Plays tells sizes (e ∷ events) old new before after =
+    (between : List Zone) × (seen : Seen) × PlaysOne tells sizes e old between before seen × Plays tells sizes events between new seen after
+
+-- events lead from one core to another
+abbrev pub LeadsTo : Bool → Sizes → List Zone → List Zone → Seen → Seen → Type 0
+LeadsTo tells sizes old new before after = (made : Trace) × ((t : Trace) → Leads sizes (core_with old t) (core_with new (made ++ t))) × HasCalled tells before after made

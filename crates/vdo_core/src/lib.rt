@@ -1,0 +1,22 @@
+//! The core: its zones, each event of it, and whole lists of events. A zone steps, or what it posted moves to another.
+//! Each function does what the relation of `core_model` says; what a zone does itself stands in the crates `steps_..`.
+#![tactic(auto)]
+
+mod acting;
+mod counting;
+mod events;
+mod lanes;
+mod laws;
+mod moving;
+mod numbers;
+mod starting;
+mod stepping;
+mod zones;
+
+pub use events::{Event, play, step};
+pub use laws::a_legal_core_has_no_strays;
+pub use moving::move_items;
+pub use starting::begin;
+pub use step_parts::{StepFault, Stepped};
+pub use stepping::step_zone;
+pub use zones::Zones;

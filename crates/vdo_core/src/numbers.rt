@@ -1,0 +1,58 @@
+ghost use Rattle.std.specs.Prelude.{◌≡◌};
+ghost use Rattle.core_model.specs.Zones as zones;
+
+use blk_base::ZoneId;
+use core_model::Sizes;
+
+/// The number of the desk.
+pub(crate) const DESK: u32 = 0;
+
+/// The number of a logical zone among all zones.
+pub(crate) fn logical_zone(zone: u8) -> u32
+    ensures { result ≡ zones.logical_zone zone }
+{
+    1 + u32::from(zone)
+}
+
+/// The number of the physical zone.
+pub(crate) fn physical_zone(sizes: &Sizes) -> u32
+    ensures { result ≡ zones.physical_zone sizes.now }
+{
+    1 + u32::from(sizes.zones)
+}
+
+/// The number of the journal's zone.
+pub(crate) fn journal_zone(sizes: &Sizes) -> u32
+    ensures { result ≡ zones.journal_zone sizes.now }
+{
+    2 + u32::from(sizes.zones)
+}
+
+/// The number of the device's zone.
+pub(crate) fn device_zone(sizes: &Sizes) -> u32
+    ensures { result ≡ zones.device_zone sizes.now }
+{
+    3 + u32::from(sizes.zones)
+}
+
+/// How many zones there are.
+pub(crate) fn zone_count(sizes: &Sizes) -> u32
+    ensures { result ≡ zones.zone_count sizes.now }
+{
+    4 + u32::from(sizes.zones)
+}
+
+/// The number of a zone among all; one that a core doesn't have has none below the count.
+pub(crate) fn zone_number(sizes: &Sizes, zone: ZoneId) -> u64
+    ensures { result ≡ zones.zone_number sizes.now zone }
+{
+    let logical = u64::from(sizes.zones);
+    match zone {
+        ZoneId::Desk => 0,
+        ZoneId::Logical(index) => 1 + u64::from(index),
+        ZoneId::Physical(index) => 1 + logical + u64::from(index),
+        ZoneId::Journal => 2 + logical,
+        ZoneId::Device => 3 + logical,
+        ZoneId::Hash(_) | ZoneId::Index => 4 + logical,
+    }
+}
