@@ -1,5 +1,5 @@
 -- What the device's zone did is an act, with its calls.
-use Rattle.std.proofs.Common.{◌≡◌, Bool, List, [], ◌∷◌}
+use Rattle.std.proofs.Common.{Bool, List, [], ◌∷◌}
 use Rattle.disk_model.specs.Seen.{Seen}
 use Rattle.core_model.specs.declared.items.Item.TheVariants as item
 use Rattle.core_model.specs.declared.items.SealedBlock.{SealedBlock}

@@ -1,5 +1,5 @@
 -- What one call leaves of the device, and what a sealed block needs of it.
-use Rattle.std.specs.Prelude.{◌≡◌, ◌≤◌, Bool, true, false, [], ◌∷◌}
+use Rattle.std.specs.Prelude.{◌≤◌, Bool, true, false, [], ◌∷◌}
 use Rattle.blk_base.specs.Limits.{IsGeometry}
 use Rattle.blk_base.specs.Regions.{needed_blocks}
 use Rattle.blk_base.specs.declared.request.Writer.{Writer}
