@@ -1,3 +1,4 @@
+pub mod Common
 pub mod desk
 pub mod device
 pub mod journal

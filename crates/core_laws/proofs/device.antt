@@ -1,4 +1,2 @@
-pub mod DataBlocks
 pub mod DeviceCalls
 pub mod DeviceFacts
-pub mod DeviceReads

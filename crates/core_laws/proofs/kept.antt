@@ -8,14 +8,12 @@ pub mod Keys
 pub mod KeysOnce
 pub mod LegalKept
 pub mod LegalMoves
-pub mod Moved
 pub mod OneResult
 pub mod Rules
-pub mod Seats
 pub mod Spared
 pub mod StandsOn
 pub mod StepActs
 pub mod Stopped
 pub mod Streams
-pub mod ViewLaws
+pub mod Views
 pub mod ZoneKinds

@@ -1,5 +1,2 @@
-pub mod EntryLists
-pub mod LineLaws
-pub mod Lists
-pub mod LockLists
+pub mod CoreLists
 pub mod ZoneNames

@@ -1,10 +1,9 @@
 pub mod ActRows
 pub mod ActSums
 pub mod Known
-pub mod LeaseOwners
 pub mod LeaseTokens
 pub mod Lift
+pub mod Owners
 pub mod Posts
-pub mod RequestOwners
 pub mod Rooms
 pub mod TokenLaws

@@ -16,7 +16,7 @@ use Rattle.core_model.specs.Trace.{Trace}
 use Rattle.core_model.specs.Vios.{Post}
 use Rattle.core_model.specs.Zones.{zone_number}
 use Rattle.core_laws.proofs.kept.LegalMoves.{legal_leads}
-use Rattle.core_laws.proofs.device.DataBlocks.{request_served}
+use Rattle.core_laws.proofs.device.DeviceCalls.{request_served}
 use Rattle.core_laws.proofs.kept.Rules.{has_rule, has_lanes, served_some}
 use Rattle.vdo_core.specs.Causes.{BeginsUnserved, HasLane, IsStray, MayFaultAfter}
 use Rattle.vdo_core.specs.Plays.{core_with}

@@ -12,7 +12,7 @@ use Rattle.core_model.specs.declared.zones.Zone.{Zone}
 use Rattle.core_model.specs.Steps.{Core, IsIdle, Leads}
 use Rattle.core_model.specs.Steps.Leads.{rests, steps, moves}
 use Rattle.core_model.specs.Trace.{Trace, Calls, Fails, calls}
-use Rattle.core_laws.proofs.trace.Parts.{calls_append}
+use Rattle.core_laws.proofs.trace.Cuts.{calls_append}
 use Rattle.step_parts.specs.DeviceLog.{HasCalled, failed_calls, has_calls, lost_calls}
 use Rattle.step_parts.proofs.SilentLaws.{unchanged}
 use Rattle.vdo_core.specs.Moves.{MovesNothing}

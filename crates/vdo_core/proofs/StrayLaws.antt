@@ -8,7 +8,7 @@ use Rattle.core_model.specs.declared.zones.ZoneData.{ZoneData}
 use Rattle.core_model.specs.Steps.{Act, sent_to}
 use Rattle.core_model.specs.Trace.{Trace}
 use Rattle.core_model.specs.Vios.{Post}
-use Rattle.core_laws.proofs.lists.Lists.{length-posted}
+use Rattle.core_laws.proofs.lists.CoreLists.{length-posted}
 use Rattle.step_parts.specs.Causes.{NoRule, MemoryOrStray}
 use Rattle.step_parts.specs.declared.fault.StepFault.{StepFault}
 use Rattle.step_parts.specs.declared.fault.StepFault.TheVariants as fault

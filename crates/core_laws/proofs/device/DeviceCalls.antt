@@ -1,37 +1,145 @@
--- What one call of the device does to what stands on it.
-use Rattle.std.proofs.Common.{◌≡◌, ◌≢◌, ◌⊎◌, ℕ, suc, ◌+◌, ◌<◌, ◌≤◌, ◌^◌, Bool, true, List, [], ◌∷◌, length, refl, sym, ◌∙◌, ap, subst, inl, inr, arith}
-use Rattle.std.specs.List.{AllByRecursion}
-use Rattle.std.proofs.lemmas.Bool.Decides.{eqb_tells}
+-- The device's calls: what they write, what reads give, and which data blocks they are of.
+use Rattle.std.proofs.Common.{◌≡◌, ◌≢◌, ℕ, zero, suc, ◌*◌, ◌<◌, ◌≤◌, ◌^◌, Bool, Some, List, [], ◌∷◌, length, get_or, subst, inl, inr, arith, ◌⊎◌, false, Option, None, ap, sym, ◌∙◌, ◌+◌, true, refl}
+use Rattle.core_laws.proofs.lists.CoreLists.{same_block}
+use Rattle.core_laws.proofs.Common.{AllByRecursion, AtRest, Call, Calls, EachStands, Entry, Geometry, Happening, HasPending, IsFresh, IsServed, IsSession, IsWrite, Lba, Logged, Mapping, MayFollow, OnItsWay, Pbn, ReadsAs, ReadsEntry, Request, RightTrace, Session, Stands, Trace, Writer, bytes_of, committed, device_zone, done, entered, entries_of, entry_of, eqb_tells, every-get, log, newest, of_address, request_at, value_from, value_written}
+use Rattle.std.proofs.Math.Nat.{mod-lt, mul-le-mul_left}
 use Rattle.std.proofs.lemmas.List.Elements.{All-nil, All-cons}
 use Rattle.blk_base.specs.Limits.{IsGeometry, logical_limit}
-use Rattle.blk_base.specs.Sectors.{sector}
-use Rattle.blk_base.specs.declared.geometry.Geometry.{Geometry}
-use Rattle.blk_base.specs.declared.journal_entry.Entry.{Entry}
-use Rattle.blk_base.specs.declared.place.Pbn.{Pbn}
-use Rattle.disk_model.specs.Log.{Blocks, Misses, contents, settled}
-use Rattle.disk_model.specs.declared.call.Call.{Call}
+use Rattle.blk_base.specs.Regions.{IsDataBlock, journal_slot_of, needed_blocks, slab_stride_of}
+use Rattle.blk_base.proofs.RegionLaws.{data_block_high, data_block_inside}
+use Rattle.blk_base.specs.declared.journal_entry.Entry.TheVariants.{Remap, NewPage}
+use Rattle.blk_base.specs.declared.place.Mapping.TheVariants.{At}
+use Rattle.disk_model.specs.Log.{block_at, Blocks, Misses, contents, settled}
 use Rattle.disk_model.specs.declared.call.Call.TheVariants.{Write, Flush}
-use Rattle.disk_model.proofs.ImageLaws.{all_weaker, settled-write}
-use Rattle.blk_base.specs.Regions.{IsDataBlock, journal_slot_of}
-use Rattle.image_layout.specs.Window.{IsMapped}
+use Rattle.image_layout.specs.Window.{IsMapped, AreWritten, journal_of, mapping_of, value_in, value_of}
+use Rattle.stop_laws.specs.Journals.{MissesJournal, block_of_slot, HasEntry, HasNone, IsAtRest, IsUnderWay}
+use Rattle.disk_model.specs.Images.{IsMixOf}
+use Rattle.disk_model.proofs.ImageLaws.{settled_are_contents, block_of_mix, all_weaker, settled-write}
+use Rattle.core_model.specs.LogicalRows.{mapped_by}
+use Rattle.core_laws.proofs.trace.DeskOfTrace.{all_done, each_of_address, done_writes, shown_of}
+use Rattle.blk_base.specs.Sectors.{sector}
 use Rattle.byte_fields.specs.Mappings.{HoldsMapping}
 use Rattle.journal_codec.specs.Grammar.{HoldsEntry, HoldsBlock}
 use Rattle.journal_codec.specs.Spelling.{block_bytes}
 use Rattle.journal_codec.proofs.PrefixLaws.{written}
 use Rattle.journal_codec.proofs.ReadLaws.{one_reading}
-use Rattle.stop_laws.specs.Journals.{HasEntry, HasNone, IsAtRest, IsUnderWay, block_of_slot}
 use Rattle.stop_laws.proofs.JournalLaws.{begins, under_way_kept}
-use Rattle.core_model.specs.declared.zones.Logged.{Logged}
-use Rattle.core_model.specs.RightTraces.{RightTrace, MayFollow}
-use Rattle.core_model.specs.Sessions.{Session, IsSession, log, Stands, ReadsAs, IsFresh, EachStands, AtRest, OnItsWay, ReadsEntry, bytes_of}
-use Rattle.core_model.specs.Trace.{Happening, Calls, Trace, entered, committed, entry_of, entries_of}
-use Rattle.core_laws.proofs.trace.DeskOfTrace.{shown_of}
 use Rattle.core_laws.proofs.kept.ActKept.{shown_kept}
 use Rattle.core_laws.proofs.kept.Keys.{Key, OfBlock, OfJournal, Spares, Clears}
-use Rattle.core_model.specs.Zones.{device_zone}
-use Rattle.blk_base.proofs.RegionLaws.{data_block_high}
-use Rattle.core_laws.proofs.device.DataBlocks.{blocks_fit, window_data, data_misses, data_not_first, slot_misses}
 use Rattle.core_laws.proofs.kept.StandsOn.{SparesBlocks, SparesEntries, IsCallOf, succeeded, failed, spares_all, write_spares, block_spared, journal_spared, call_entries, each_kept, opening_kept}
+use Rattle.blk_base.specs.declared.request.Request.TheVariants as request
+use Rattle.disk_model.specs.Log as device
+
+-- Data blocks lie behind the journal and inside the image; the blocks that the window names are data blocks.
+
+-- The number of a block fits 32 bits.
+pub blocks_fit : (g : Geometry) → IsGeometry g → needed_blocks g < 2 ^ 32
+blocks_fit g sizes =
+    let stride : slab_stride_of g ≤ 40000 = omega (arith, sizes.slab_blocks, sizes.slab_journal) in
+    let slabs : g.slabs * slab_stride_of g ≤ g.slabs * 40000 = mul-le-mul_left g.slabs stride in
+    omega (arith, slabs, sizes.slabs, sizes.journal, sizes.index)
+
+pub mapped_data : (g : Geometry) (start : ℕ) (journal : List (List ℕ)) (entries : List Entry) (a : ℕ) (x : Pbn) → AreWritten g start journal entries → mapping_of entries a ≡ At x → IsDataBlock g x.0
+mapped_data g start journal [] a x written is = absurd cc
+mapped_data g start journal (Remap at old new ∷ older) a x written is = elim (eqb_tells at.0 a) [
+  | inl same ↦ let new_is : new ≡ At x = rw same.0 at is in (subst (λ (m : Mapping). IsMapped g (Remap at old m)) new_is written.0.1).1
+  | inr other ↦ let rest : mapping_of older a ≡ At x = rw other.0 at is in mapped_data g start journal older a x written.1 rest
+]
+mapped_data g start journal (NewPage page at ∷ older) a x written is = absurd written.0.1
+
+-- Where the window maps an address is a data block.
+pub window_data : (s : Session) (a : ℕ) (x : Pbn) → IsSession s → mapping_of s.window a ≡ At x → IsDataBlock s.sizes.geometry x.0
+window_data s a x session is = mapped_data s.sizes.geometry s.sizes.start (journal_of s.sizes.geometry s.image) s.window a x session.is_window.written is
+
+-- A write of a data block is none of the journal, nor of the superblock; a write of the journal none of a data block.
+pub data_misses : (g : Geometry) (x : Pbn) (bytes : List ℕ) (ok : Bool) → IsDataBlock g x.0 → MissesJournal g (Write x bytes ok)
+data_misses g x bytes ok is slot below same = omega (arith, same, below, data_block_high g x.0 is)
+
+pub data_not_first : (g : Geometry) (x : ℕ) → IsDataBlock g x → x ≢ 0
+data_not_first g x is same = omega (arith, same, data_block_high g x is)
+
+pub slot_misses : (g : Geometry) (sequence slot x : ℕ) → 0 < g.journal → slot ≡ block_of_slot (journal_slot_of g sequence) → IsDataBlock g x → slot ≢ x
+slot_misses g sequence slot x some place is same =
+    let below : journal_slot_of g sequence < g.journal = mod-lt sequence some in
+    omega (arith, same, place, below, data_block_high g x is)
+
+-- what holds of each element holds of the one at a place, or of the other value
+get_has : {X : Type 0} (P : X → Type 0) (xs : List X) (n : ℕ) (d : X) → AllByRecursion P xs → P d → P (get_or xs n d)
+get_has P [] n d all other = other
+get_has P (x ∷ xs) zero d all other = all.0
+get_has P (x ∷ xs) (suc n) d all other = get_has P xs n d all.1 other
+
+-- each request of a session's script is served
+pub request_served : (s : Session) (w : Writer) (r : Request) → IsSession s → request_at s.script w ≡ Some r → IsServed r
+request_served s w r is asks =
+    every-get IsServed _ w.number r (get_has (λ (rs : List Request). AllByRecursion IsServed rs) s.script w.stream [] is.served tt) asks
+
+-- a write has a whole block
+pub write_whole : (s : Session) (w : Writer) (at : Lba) (bytes : List ℕ) (fua : Bool) → IsSession s → request_at s.script w ≡ Some (request.Write at bytes fua) → length bytes ≡ 4096
+write_whole s w at bytes fua session asked = (request_served s w (request.Write at bytes fua) session asked).0
+
+-- A block that the window names had 4096 bytes.
+pub window_whole : (s : Session) (a : ℕ) (x : Pbn) → IsSession s → mapping_of s.window a ≡ At x → length (block_at s.image x.0) ≡ 4096
+window_whole s a x session is = session.one_image.whole x.0 (omega (arith, data_block_inside s.sizes.geometry x.0 (window_data s a x session is), session.room))
+
+-- A read of the device gives the value of its address, where the device is honest.
+
+-- what stands is what a read gives
+pub stands_reads : (s : Session) (t : Trace) (x : ℕ) (bytes : List ℕ) → Stands s t x bytes → ReadsAs s t x bytes
+stands_reads s t x bytes k = settled_are_contents (λ content. content ≡ bytes) s.blocks (log s t) x k
+
+-- the blocks of all committed writes stand
+pending_each : (s : Session) (t : Trace) (es : List Logged) (e : Logged) → AtRest s t es ⊎ OnItsWay s t es e ⊎ AtRest s t (e ∷ es) → EachStands s t es
+pending_each s t es e (inl k) = k.1
+pending_each s t es e (inr (inl k)) = k.1.1
+pending_each s t es e (inr (inr k)) = k.1.1
+
+journal_each : (s : Session) (t : Trace) → ((entered t ≡ committed t) × AtRest s t (committed t)) ⊎ HasPending s t → EachStands s t (committed t)
+journal_each s t (inl k) = k.1.1
+journal_each s t (inr k) = pending_each s t (committed t) k.entry k.stands
+
+pub committed_stand : (s : Session) (t : Trace) → RightTrace s t → EachStands s t (committed t)
+committed_stand s t right = journal_each s t (shown_of s t right).journal
+
+abbrev pub HasBlockOf : Session → Trace → Logged → Type 0
+HasBlockOf s t e = IsFresh s e.block × Stands s t e.block.0 (bytes_of s e)
+
+each_all : (s : Session) (t : Trace) (es : List Logged) → EachStands s t es → AllByRecursion (HasBlockOf s t) es
+each_all s t [] k = tt
+each_all s t (e ∷ es) k = (k.0, each_all s t es k.1)
+
+-- what holds of all holds of the newest
+newest_has : (P : Logged → Type 0) (es : List Logged) (e : Logged) → newest es ≡ Some e → AllByRecursion P es → P e
+newest_has P [] e is all = absurd cc
+newest_has P (f ∷ es) e is all = let same : f ≡ e = cc in subst P same all.0
+
+-- the block of the last write of an address stands, and is whole
+module _ (s : Session) (t : Trace) (session : IsSession s) (right : RightTrace s t) where
+  newest_of : (P : Logged → Type 0) (a : ℕ) (e : Logged) → newest (of_address a (done t)) ≡ Some e → AllByRecursion P (done t) → P e
+  newest_of P a e is all = newest_has P (of_address a (done t)) e is (each_of_address P a (done t) all)
+
+  pub latest_stands : (a : ℕ) (e : Logged) → newest (of_address a (done t)) ≡ Some e → HasBlockOf s t e
+  latest_stands a e is = newest_of (HasBlockOf s t) a e is (all_done (HasBlockOf s t) s t right (each_all s t (committed t) (committed_stand s t right)))
+
+  latest_whole : (a : ℕ) (e : Logged) → newest (of_address a (done t)) ≡ Some e → length (bytes_of s e) ≡ 4096
+  latest_whole a e is =
+      let write = newest_of (IsWrite s t) a e is (done_writes s t right) in
+      let value : bytes_of s e ≡ write.bytes = ap value_written write.asked in
+      ap length value ∙ write_whole s e.request e.at write.bytes false session write.asked
+
+  -- the value of an address, by its last write or the window
+  pub read_value : (a : ℕ) (latest : Option Logged) (x : Pbn) (bytes : List ℕ) → latest ≡ newest (of_address a (done t)) → mapped_by latest (mapping_of s.window a) ≡ At x
+      → length bytes ≡ 4096 → IsMixOf (device.settled s.blocks (log s t) x.0) bytes → bytes ≡ value_from s a latest
+  read_value a None x bytes is maps size mix =
+      let value : value_of s.image s.window a ≡ device.block_at s.image x.0 = ap (value_in s.image) maps in
+      let stands = (shown_of s t right).kept.mapped a x maps in
+      block_of_mix (device.settled s.blocks (log s t) x.0) (device.block_at s.image x.0) bytes (window_whole s a x session maps) size mix (stands_reads s t x.0 _ stands) ∙ sym value
+  read_value a (Some e) x bytes is maps size mix =
+      let same : e.block ≡ x = same_block e.block x maps in
+      let stands : Stands s t x.0 (bytes_of s e) = subst (λ (y : Pbn). Stands s t y.0 (bytes_of s e)) same (latest_stands a e (sym is)).1 in
+      block_of_mix (device.settled s.blocks (log s t) x.0) (bytes_of s e) bytes (latest_whole a e (sym is)) size mix (stands_reads s t x.0 _ stands)
+
+-- What one call of the device does to what stands on it.
 
 -- Calls that write nothing, and writes of data.
 

@@ -1,48 +1,23 @@
 -- What the acts of the device zone owe: it stores, loads and flushes for requests, and flushes and writes for sealed blocks.
 use Rattle.std.proofs.Common.{◌≡◌, ◌≢◌, ℕ, zero, suc, ◌+◌, ◌<◌, ◌≤◌, Bool, true, false, Some, IsSome, List, [], ◌∷◌, refl, ap, sym, ◌∙◌, subst, inl, inr, arith, ◌⊎◌, length}
-use Rattle.std.specs.List.{AllByRecursion}
-use Rattle.blk_base.specs.declared.place.Lba.{Lba}
-use Rattle.blk_base.specs.declared.request.Writer.{Writer}
-use Rattle.disk_model.specs.declared.call.Call.{Call}
+use Rattle.core_laws.proofs.Common.{AllByRecursion, Asks, AtRest, BlockOk, Call, Calls, DataOk, DeviceZone, Fails, FailureMayFollow, Happening, HasAddress, HasCause, HasHonestReads, IsEarned, IsFresh, IsMadeFor, IsSealed, IsSession, Lba, Logged, OnItsWay, Pbn, Post, RightTrace, SealedBlock, Session, Sizes, Stage, Stands, StandsAt, Trace, Vio, VioOk, Writer, asked, bytes_of, calls, committed, done, ended, entered, entries_of, entry_of, eqb_tells, has_read_fault, has_stopped, is_ok, is_read, log, logged, logical_zones, moments, notified, place_of, places, request_of, same_self, same_Some, some_is, staged, value_at, value_from, value_written, zone_count, zone_number}
 use Rattle.image_layout.specs.Window.{mapping_of}
 use Rattle.vdo_model.specs.FlushMarks.{IsMark, successes}
-use Rattle.vdo_model.specs.Places.{place_of}
-use Rattle.core_model.specs.declared.items.Asks.{Asks}
 use Rattle.core_model.specs.declared.items.Asks.TheVariants.{Read, Flush, Write}
-use Rattle.core_model.specs.declared.items.Vio.{Vio}
-use Rattle.core_model.specs.declared.zones.DeviceZone.{DeviceZone}
-use Rattle.core_model.specs.declared.zones.Logged.{Logged}
 use Rattle.core_model.specs.DeskRows.{is_marked, mark_of_vio}
 use Rattle.core_model.specs.DeviceRows.{DeviceServes, counted, halted, stop_notices, DeviceWorks, journal_bytes, IsItsSlot, call_of, next_stage, next_zone}
-use Rattle.core_model.specs.Facts.{VioOk, IsEarned, DataOk, HasAddress, StandsAt, IsSealed, BlockOk}
 use Rattle.core_model.specs.LogicalRows.{mapped_by}
-use Rattle.core_model.specs.Zones.{zone_number, zone_count, logical_zones, notified}
-use Rattle.core_model.specs.RightTraces.{HasCause, FailureMayFollow, IsMadeFor, RightTrace}
-use Rattle.core_model.specs.Sessions.{Session, IsFresh, HasHonestReads, value_at, value_from, IsSession, log, Stands, AtRest, OnItsWay, bytes_of}
-use Rattle.core_model.specs.Trace.{Happening, Calls, Fails, Trace, calls, moments, places, entered, done, is_ok, has_stopped, has_read_fault, committed, is_read, entry_of, entries_of}
-use Rattle.core_model.specs.Vios.{Post, asked, request_of, ended, logged, staged}
 use Rattle.core_laws.proofs.kept.ActKept.{Known, Mine, weighed, PostOk, ActKept, act_none, act_one, vio_ok, in_phase}
 use Rattle.core_laws.proofs.kept.Keys.{OfBlock, Clears, claim_one}
-use Rattle.core_laws.proofs.device.DataBlocks.{data_misses, slot_misses}
+use Rattle.core_laws.proofs.device.DeviceCalls.{data_misses, slot_misses, call_clears, quiet_journal, quiet_call, store_call, store_reads, IsSpelled, spelled_block, entries_length, hardens, slot_way, slot_reads, slot_call, read_value}
 use Rattle.disk_model.specs.Log.{Misses}
-use Rattle.std.proofs.lemmas.Bool.Decides.{eqb_tells}
 use Rattle.core_laws.proofs.kept.Carried.{vio_kept, holds_kept, looks_kept, sealed_kept}
-use Rattle.core_laws.proofs.device.DeviceCalls.{call_clears, quiet_journal, quiet_call, store_call, store_reads, IsSpelled, spelled_block, entries_length, hardens, slot_way, slot_reads, slot_call}
-use Rattle.core_laws.proofs.device.DeviceReads.{read_value}
 use Rattle.core_laws.proofs.journal.JournalFacts.{home_within, stopped_post}
-use Rattle.plain_laws.proofs.OptionLaws.{some_is}
-use Rattle.vdo_model.proofs.NameLaws.{same_self}
 use Rattle.core_laws.proofs.kept.Spared.{mapping_by, honest_before}
 use Rattle.core_laws.proofs.kept.StandsOn.{IsCallOf, succeeded, failed, block_spared, journal_spared, write_spares, call_entries, spares_all, each_kept, rests_kept, way_kept}
-use Rattle.std.proofs.lemmas.Option.{same_Some}
 use Rattle.blk_base.specs.Regions.{journal_slot_of, IsDataBlock}
-use Rattle.blk_base.specs.declared.place.Pbn.{Pbn}
 use Rattle.journal_codec.specs.Spelling.{block_bytes}
 use Rattle.stop_laws.specs.Journals.{HasEntry, block_of_slot}
-use Rattle.vdo_model.specs.Scripts.{value_written}
-use Rattle.core_model.specs.declared.items.SealedBlock.{SealedBlock}
-use Rattle.core_model.specs.declared.items.Stage.{Stage}
-use Rattle.core_model.specs.declared.sizes.Sizes.{Sizes}
 use Rattle.blk_base.specs.declared.place.ZoneId.TheVariants as id
 use Rattle.blk_base.specs.declared.request.Answer.TheVariants as reply
 use Rattle.disk_model.specs.declared.call.Call.TheVariants as call

@@ -1,35 +1,15 @@
 -- What the acts of the journal owe: entries are handed in, wait, or are refused, and a sealed block is committed, or failed.
 use Rattle.std.proofs.Common.{◌≡◌, ℕ, ◌<◌, true, Some, IsNone, IsSome, List, [], ◌∷◌, refl, ap, arith, ◌+◌, Bool, false, length, nat_lt, sym, ◌∙◌, inl, inr, ◌⊎◌, subst}
-use Rattle.std.specs.List.{AllByRecursion}
+use Rattle.core_laws.proofs.Common.{AllByRecursion, Asks, AtRest, BlockOk, Carries, Commits, DataOk, Enters, EntryMayFollow, HasCause, HasPlace, Holds, IsFull, IsPlaced, IsSealed, IsSession, JournalLists, JournalZone, KeptOk, Lba, Logged, MayReply, OnItsWay, Post, RestsAt, RightTrace, SealedBlock, Session, Stage, StandsAt, Trace, Vio, VioOk, Writer, asked, committed, done, each_at, entered, every-append, has_stopped, holder_weight, holds, logged, logged_of, ltb-false, ltb-true, of_address, or_parts, place_of, places, same_self, some_is, turned, zone_count, zone_number, zone_of}
 use Rattle.std.proofs.Math.Nat.{mod-lt}
-use Rattle.blk_base.specs.declared.place.Lba.{Lba}
-use Rattle.blk_base.specs.declared.request.Writer.{Writer}
-use Rattle.vdo_model.specs.Places.{place_of, zone_of}
-use Rattle.core_model.specs.declared.items.Asks.{Asks}
 use Rattle.core_model.specs.declared.items.Asks.TheVariants.{Write}
-use Rattle.core_model.specs.declared.items.Vio.{Vio}
-use Rattle.core_model.specs.Facts.{VioOk, Holds, IsPlaced, MayReply, KeptOk, Carries, BlockOk, RestsAt, JournalLists, StandsAt, IsSealed, DataOk}
 use Rattle.core_model.specs.JournalRows.{refused, all_refused, JournalServes, is_closed, has_block, sealed, entered_by, JournalEnds, committed_by, hands_out}
-use Rattle.core_model.specs.Zones.{zone_number, zone_count}
-use Rattle.core_model.specs.RightTraces.{RightTrace, HasPlace, HasCause, IsFull, EntryMayFollow}
-use Rattle.core_model.specs.Sessions.{Session, IsSession, AtRest, OnItsWay}
-use Rattle.core_model.specs.Trace.{Trace, places, entered, done, has_stopped, logged_of, Enters, committed, Commits, of_address}
-use Rattle.core_model.specs.Vios.{asked, Post, logged, turned}
 use Rattle.core_laws.proofs.kept.ActKept.{PostOk, carries_at, unentered_slot, Known, Mine, weighed, ActKept, act_none, act_one, own_request, own_address, line_kept, vio_over, vio_ok, in_phase, Reached, in_hand, in_line, line_of, reaches}
-use Rattle.plain_laws.proofs.OptionLaws.{some_is}
-use Rattle.std.proofs.lemmas.Bool.{or_parts, ltb-true, ltb-false}
-use Rattle.core_model.specs.declared.zones.JournalZone.{JournalZone}
 use Rattle.core_laws.proofs.trace.DeskOfTrace.{shown_of}
 use Rattle.core_laws.proofs.trace.AbortsOfTrace.{unentered_abort}
 use Rattle.core_laws.proofs.kept.Keys.{Clears, Key, OfRequest, OfAddress, OfJournal, any, token_of, Spares, mine_or_spared, own_name, holder_one, idle_none}
-use Rattle.plain_laws.proofs.ListLaws.{every-append, each_at}
-use Rattle.vdo_model.proofs.NameLaws.{same_self}
 use Rattle.core_laws.proofs.kept.Spared.{mapping_same, of_same}
 use Rattle.core_laws.proofs.kept.StandsOn.{spares_all, reads_kept, rests_kept, opening_kept, SparesBlocks}
-use Rattle.core_model.specs.declared.items.SealedBlock.{SealedBlock}
-use Rattle.core_model.specs.declared.items.Stage.{Stage}
-use Rattle.core_model.specs.declared.zones.Logged.{Logged}
-use Rattle.core_model.specs.Tokens.{holds, holder_weight}
 use Rattle.core_laws.proofs.kept.Frame.{kept_on}
 use Rattle.core_laws.proofs.kept.Carried.{item_kept}
 use Rattle.blk_base.specs.declared.request.Answer.TheVariants as reply

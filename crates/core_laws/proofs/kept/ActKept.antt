@@ -1,41 +1,18 @@
 -- What each act may use and what it owes.
 use Rattle.std.proofs.Common.{◌≡◌, ◌≢◌, ◌⊎◌, ℕ, ◌+◌, ◌<◌, ◌≤◌, true, Some, IsNone, List, [], ◌∷◌, ◌++◌, refl, sym, ◌∙◌, subst, inl, inr, arith}
-use Rattle.std.proofs.lemmas.Option.{same_Some}
-use Rattle.std.specs.List.{AllByRecursion}
+use Rattle.core_laws.proofs.Common.{AllByRecursion, AtRest, Calls, Carries, Commits, DataOk, DeviceZone, Enters, Fails, GivesRight, Happening, HasHonestReads, HasPending, IsSession, IsWrite, Item, ItemOk, KeptOk, Logged, LogicalZone, Pbn, Phase, Placed, Post, RightTrace, Session, Shown, Trace, Vio, VioOk, Writer, ZoneData, begun, claims, committed, done, entered, holds, kept_by, kept_phase, lines, logged_of, none_is, not_both, option_cases, place_of, places, same_Some, same_tells, total, zone_count, zone_number}
 use Rattle.blk_base.specs.declared.place.Mapping.TheVariants.{At}
-use Rattle.blk_base.specs.declared.place.Pbn.{Pbn}
-use Rattle.blk_base.specs.declared.request.Writer.{Writer}
 use Rattle.image_layout.specs.Window.{mapping_of}
-use Rattle.vdo_model.specs.DeskLog.{begun}
-use Rattle.vdo_model.specs.Places.{place_of}
-use Rattle.vdo_model.specs.declared.report.Placed.{Placed}
-use Rattle.core_model.specs.declared.items.Item.{Item}
 use Rattle.core_model.specs.declared.items.Item.TheVariants as item
-use Rattle.core_model.specs.declared.items.Phase.{Phase}
 use Rattle.core_model.specs.declared.items.Phase.TheVariants as phase
-use Rattle.core_model.specs.declared.items.Vio.{Vio}
-use Rattle.core_model.specs.declared.zones.DeviceZone.{DeviceZone}
-use Rattle.core_model.specs.declared.zones.LogicalZone.{LogicalZone}
-use Rattle.core_model.specs.declared.zones.Logged.{Logged}
-use Rattle.core_model.specs.declared.zones.ZoneData.{ZoneData}
 use Rattle.core_model.specs.declared.zones.ZoneData.TheVariants as at
-use Rattle.core_model.specs.Facts.{VioOk, ItemOk, KeptOk, DataOk, Carries, kept_phase}
 use Rattle.core_model.specs.Legal.{ComesAfter}
-use Rattle.core_model.specs.Zones.{zone_number, zone_count}
-use Rattle.core_model.specs.RightTraces.{RightTrace, GivesRight, IsWrite}
-use Rattle.core_model.specs.Sessions.{Session, IsSession, HasHonestReads, Shown, HasPending, AtRest}
-use Rattle.core_model.specs.Tokens.{kept_by, holds, claims}
-use Rattle.core_model.specs.Trace.{Happening, Enters, Commits, Calls, Fails, Trace, lines, places, entered, committed, done, logged_of}
-use Rattle.core_model.specs.Vios.{Post}
 use Rattle.core_laws.proofs.trace.DeskOfTrace.{logged_has, entered_writes, done_is_entered}
-use Rattle.plain_laws.proofs.OptionLaws.{none_is, option_cases, not_both}
-use Rattle.vdo_model.proofs.NameLaws.{same_tells}
 use Rattle.core_laws.proofs.trace.PlacesOfTrace.{IsBegun, places_begun}
 use Rattle.core_laws.proofs.kept.Frame.{kept_on}
 use Rattle.core_laws.proofs.kept.Keys.{Key, OfRequest, OfAddress, OfJournal, token_of, Spares, happens_in, IfAny, Clears, clears_with, mine_or_spared, own_name, holder_one}
 use Rattle.core_laws.proofs.kept.Spared.{about}
 use Rattle.core_laws.proofs.tokens.Known.{LeasedIn}
-use Rattle.plain_laws.specs.Sums.{total}
 use Rattle.core_laws.proofs.kept.StandsOn.{spares_all, SparesBlock, SparesBlocks, SparesJournal, SparesEntries, rests_kept, opening_kept, pending_kept}
 
 -- In the hands of an act is what the front of the inbox weighs for, and what the zone's own data does. A request that isn't

@@ -1,60 +1,27 @@
 -- What each act owes of the arrivals: the desk alone sends requests that have yet to draw a place, and their logical zone takes them.
 use Rattle.std.proofs.Common.{◌∙◌, ◌≡◌, ◌<◌, ◌≤◌, ℕ, ◌⊎◌, Bool, true, false, cond, Option, None, Some, IsSome, List, [], ◌∷◌, ◌++◌, nat_eq, refl, sym, subst, ap, inl, inr, arith}
-use Rattle.std.specs.List.{AllByRecursion}
-use Rattle.std.proofs.lemmas.Bool.Decides.{eqb_tells}
-use Rattle.std.proofs.lemmas.List.{append-nil}
-use Rattle.std.proofs.lemmas.Option.{same_Some}
-use Rattle.blk_base.specs.declared.place.Mapping.{Mapping}
+use Rattle.core_laws.proofs.Common.{AllByRecursion, Answer, Asks, Carries, DataOk, Desk, DeviceZone, Happening, HasAddress, HasCause, IsEarned, Item, ItemOk, JournalZone, LogicalZone, Mapping, MayFollow, MayReply, Phase, PhysicalZone, Placed, Post, Request, RightTrace, Says, SealedBlock, Session, Sizes, Trace, Vio, VioOk, Writer, ZoneData, ZoneId, append-nil, arrival, arriving, asked, begun, desk_zone, device_zone, eqb_tells, every-append, every-front, every-map, lines, logical_zone, none_of, notified, place_of, places, request_at, request_of, same_Some, same_tells, some_of, zone_number, zone_of}
 use Rattle.blk_base.specs.declared.place.Mapping.TheVariants.{Unmapped, Zero, At}
-use Rattle.blk_base.specs.declared.place.ZoneId.{ZoneId}
 use Rattle.blk_base.specs.declared.place.ZoneId.TheVariants as id
-use Rattle.blk_base.specs.declared.request.Answer.{Answer}
-use Rattle.blk_base.specs.declared.request.Request.{Request}
 use Rattle.blk_base.specs.declared.request.Request.TheVariants as request
-use Rattle.blk_base.specs.declared.request.Writer.{Writer}
-use Rattle.vdo_model.specs.DeskLog.{begun}
-use Rattle.vdo_model.specs.Places.{place_of, zone_of}
-use Rattle.vdo_model.specs.Scripts.{request_at}
 use Rattle.vdo_model.specs.declared.report.DeskLine.TheVariants as line
-use Rattle.vdo_model.specs.declared.report.Placed.{Placed}
-use Rattle.core_model.specs.declared.items.Asks.{Asks}
 use Rattle.core_model.specs.declared.items.Asks.TheVariants.{Read, Write, Flush}
-use Rattle.core_model.specs.declared.items.Item.{Item}
 use Rattle.core_model.specs.declared.items.Item.TheVariants as item
-use Rattle.core_model.specs.declared.items.Phase.{Phase}
 use Rattle.core_model.specs.declared.items.Phase.TheVariants as phase
-use Rattle.core_model.specs.declared.items.SealedBlock.{SealedBlock}
-use Rattle.core_model.specs.declared.items.Vio.{Vio}
-use Rattle.core_model.specs.declared.sizes.Sizes.{Sizes}
-use Rattle.core_model.specs.declared.zones.ZoneData.{ZoneData}
 use Rattle.core_model.specs.declared.zones.ZoneData.TheVariants as at
-use Rattle.core_model.specs.declared.zones.Desk.{Desk}
-use Rattle.core_model.specs.declared.zones.DeviceZone.{DeviceZone}
-use Rattle.core_model.specs.declared.zones.JournalZone.{JournalZone}
-use Rattle.core_model.specs.declared.zones.LogicalZone.{LogicalZone}
-use Rattle.core_model.specs.declared.zones.PhysicalZone.{PhysicalZone}
 use Rattle.core_model.specs.Arrivals.{arrivals_at, drew_in, only_of, sent_to_zone, zone_asked}
 use Rattle.core_model.specs.DeskRows as desk
 use Rattle.core_model.specs.DeskRows.{DeskBegins, DeskServes, first_zone, is_marked, vio_of, woken, mark_of_vio}
 use Rattle.core_model.specs.DeviceRows as device
 use Rattle.core_model.specs.DeviceRows.{DeviceServes, DeviceWorks, stop_notices}
-use Rattle.core_model.specs.Facts.{Carries, DataOk, HasAddress, IsEarned, ItemOk, MayReply, VioOk, arriving, arrival}
 use Rattle.core_model.specs.JournalRows as journal
 use Rattle.core_model.specs.JournalRows.{PhysicalServes, JournalServes, JournalEnds, all_refused}
 use Rattle.core_model.specs.LogicalRows as logical
 use Rattle.core_model.specs.LogicalRows.{LogicalServes, goes_on, read_next, looked, mapping_at, first_for, all_for, all_stopped, with_slot, placed, place_of_vio}
 use Rattle.core_model.specs.Legal.{ComesAfter}
-use Rattle.core_model.specs.Zones.{desk_zone, device_zone, logical_zone, notified, zone_number}
-use Rattle.core_model.specs.RightTraces.{RightTrace, HasCause, MayFollow}
-use Rattle.core_model.specs.Sessions.{Session}
 use Rattle.core_model.specs.Steps.{Act}
 use Rattle.core_model.specs.Steps as steps
 use Rattle.core_model.specs.Streams.{counted}
-use Rattle.core_model.specs.Trace.{Happening, Trace, Says, lines, places}
-use Rattle.core_model.specs.Vios.{Post, asked, request_of}
-use Rattle.plain_laws.proofs.OptionLaws.{none_of, some_of}
-use Rattle.vdo_model.proofs.NameLaws.{same_tells}
-use Rattle.plain_laws.proofs.ListLaws.{every-append, every-front, every-map}
 use Rattle.core_laws.proofs.desk.DeskFacts.{begun_now}
 use Rattle.core_laws.proofs.kept.ActKept.{unborn_place}
 use Rattle.core_laws.proofs.kept.Streams.{Keeps, items_to}

@@ -1,27 +1,12 @@
 -- What requests and sealed blocks carry stays where the next happening is about something else.
 use Rattle.std.proofs.Common.{◌≡◌, ◌⊎◌, ℕ, ◌≤◌, Bool, true, false, Option, None, Some, List, ◌∷◌, refl, ap, sym, ◌∙◌, subst, inl, inr, arith}
-use Rattle.blk_base.specs.declared.request.Answer.{Answer}
+use Rattle.core_laws.proofs.Common.{Answer, AtRest, BlockOk, Carries, Happening, HasCause, Holds, IsEarned, IsEntered, IsPlaced, IsSealed, IsUndrawn, Item, ItemOk, KeptOk, Logged, Looks, MayReply, OnItsWay, Phase, Request, SealedBlock, Session, Stage, StandsAt, Trace, Vio, VioOk, Writer, committed, done, entered, gift_of, gifts, holds, logged, logged_of, newest, place_of, places, request_of}
 use Rattle.blk_base.specs.declared.request.Answer.TheVariants as reply
-use Rattle.blk_base.specs.declared.request.Request.{Request}
 use Rattle.blk_base.specs.declared.request.Request.TheVariants as request
-use Rattle.blk_base.specs.declared.request.Writer.{Writer}
-use Rattle.vdo_model.specs.Places.{place_of}
-use Rattle.core_model.specs.declared.items.Item.{Item}
 use Rattle.core_model.specs.declared.items.Item.TheVariants as item
-use Rattle.core_model.specs.declared.items.Phase.{Phase}
 use Rattle.core_model.specs.declared.items.Phase.TheVariants as phase
-use Rattle.core_model.specs.declared.items.SealedBlock.{SealedBlock}
-use Rattle.core_model.specs.declared.items.Stage.{Stage}
 use Rattle.core_model.specs.declared.items.Stage.TheVariants as stage
-use Rattle.core_model.specs.declared.items.Vio.{Vio}
-use Rattle.core_model.specs.declared.zones.Logged.{Logged}
 use Rattle.core_model.specs.DeskRows.{is_marked, mark_of_vio}
-use Rattle.core_model.specs.Facts.{VioOk, IsUndrawn, IsPlaced, Holds, Looks, IsEntered, IsEarned, MayReply, Carries, StandsAt, IsSealed, BlockOk, ItemOk, KeptOk}
-use Rattle.core_model.specs.RightTraces.{HasCause}
-use Rattle.core_model.specs.Sessions.{Session, AtRest, OnItsWay}
-use Rattle.core_model.specs.Tokens.{holds}
-use Rattle.core_model.specs.Trace.{Happening, Trace, places, entered, committed, done, gifts, newest, logged_of, gift_of}
-use Rattle.core_model.specs.Vios.{logged, request_of}
 use Rattle.core_laws.proofs.kept.Keys.{Key, OfRequest, OfAddress, OfBlock, OfJournal, token_of, Spares, own_name, holder_one, claim_one}
 use Rattle.core_laws.proofs.kept.Spared.{SparesRequest, SparesAddress, open_kept, place_same, entry_same, slot_same, abort_same, gift_same, stop_kept, fault_kept, abort_kept, full_kept, mapping_same, quiet_kept, committed_kept, below_kept, mark_kept, honest_before, value_same, done_at, committed_at}
 use Rattle.core_laws.proofs.kept.StandsOn.{SparesBlocks, SparesJournal, SparesEntries, stands_kept, reads_kept, rests_kept, way_kept, entry_reads_kept}

@@ -1,40 +1,20 @@
 -- One session that can be served, over a device of zeros, and the core at its start: so that there is a legal core.
 use Rattle.std.proofs.Common.{◌≡◌, ℕ, zero, suc, ◌+◌, ◌<◌, ◌≤◌, ◌%◌, false, List, [], ◌∷◌, length, get_or, replicate, take, drop, reverse, refl, sym, ◌∙◌, ap, subst, inl, inr, arith}
-use Rattle.std.specs.List.{AllByRecursion}
+use Rattle.core_laws.proofs.Common.{AllByRecursion, AreDistinct, Desk, DeviceZone, Each, Entry, Geometry, IsFresh, IsSession, Item, JournalZone, LogicalZone, Pbn, PhysicalZone, Request, Session, Sizes, Zone, ZoneData, cases_lt, eqb_tells, get_or-replicate, get_or-take, get_or_past, is_block, length-replicate, reverse-append, same_Some, total}
 use Rattle.std.proofs.Math.Nat.{mod-lt}
-use Rattle.std.proofs.lemmas.Bool.{cases_lt}
-use Rattle.std.proofs.lemmas.Bool.Decides.{eqb_tells}
 use Rattle.std.proofs.lemmas.Grind.{get_or_after_one}
-use Rattle.std.proofs.lemmas.List.{get_or-replicate, get_or-take, get_or_past, length-replicate, reverse-append}
-use Rattle.std.proofs.lemmas.Option.{same_Some}
 use Rattle.blk_base.specs.Limits.{IsGeometry}
 use Rattle.blk_base.specs.Sectors.{sector, zero_block}
-use Rattle.blk_base.specs.declared.geometry.Geometry.{Geometry}
-use Rattle.blk_base.specs.declared.journal_entry.Entry.{Entry}
-use Rattle.blk_base.specs.declared.place.Pbn.{Pbn}
-use Rattle.blk_base.specs.declared.request.Request.{Request}
 use Rattle.blk_base.specs.declared.request.Request.TheVariants as request
 use Rattle.disk_model.specs.Images.{HasOneImage}
 use Rattle.image_layout.specs.Window.{IsWindow, journal_of}
 use Rattle.journal_codec.specs.Grammar.{IsSector}
 use Rattle.journal_codec.specs.Spelling.{head_bytes}
 use Rattle.journal_codec.proofs.ReadLaws.{head_of_sector}
-use Rattle.core_model.specs.declared.items.Item.{Item}
-use Rattle.core_model.specs.declared.sizes.Sizes.{Sizes}
-use Rattle.core_model.specs.declared.zones.ZoneData.{ZoneData}
 use Rattle.core_model.specs.declared.zones.ZoneData.TheVariants as at
-use Rattle.core_model.specs.declared.zones.Desk.{Desk}
-use Rattle.core_model.specs.declared.zones.DeviceZone.{DeviceZone}
-use Rattle.core_model.specs.declared.zones.JournalZone.{JournalZone}
-use Rattle.core_model.specs.declared.zones.LogicalZone.{LogicalZone}
-use Rattle.core_model.specs.declared.zones.PhysicalZone.{PhysicalZone}
-use Rattle.core_model.specs.declared.zones.Zone.{Zone}
 use Rattle.core_model.specs.Legal.{Legal}
-use Rattle.core_model.specs.Sessions.{Session, IsSession, IsFresh, AreDistinct}
 use Rattle.core_model.specs.Start.{IsFirstLogical, IsFirstData, IsFirstZone, IsFirst}
 use Rattle.core_model.specs.Steps.{Core}
-use Rattle.plain_laws.specs.Sums.{total, Each}
-use Rattle.core_model.specs.Tokens.{is_block}
 use Rattle.core_laws.proofs.kept.FirstState.{legal_first}
 
 -- a device of zeros

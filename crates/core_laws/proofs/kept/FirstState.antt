@@ -1,37 +1,21 @@
 -- A core at its start is legal, with an empty trace.
 use Rattle.std.proofs.Common.{◌≡◌, ℕ, suc, ◌≤◌, Bool, false, not, List, [], ◌∷◌, ◌++◌, length, refl, sym, ◌∙◌, ap, subst, inl, arith}
-use Rattle.std.specs.List.{AllByRecursion}
-use Rattle.blk_base.specs.declared.place.Mapping.{Mapping}
+use Rattle.core_laws.proofs.Common.{AllByRecursion, AtMost, AtRest, Balanced, DataOk, DeskLine, Each, IsFresh, IsSession, Item, ItemOk, KeptOk, Lock, LocksOk, LogicalZone, MapOk, Mapping, Pbn, RestsAt, Session, Shown, Token, Trace, Vio, Zone, ZoneData, ZoneOk, answers_of, arrival, as_items, begins_of, bit, block_token, blocks_at, desk_zone, every-get, given, in_log, is_answer, is_begin, is_block, is_entry, journal_token, kept_by, kept_phase, lease_token, lock_weight, logical_zone, newest, notice_token, notified_by, of_address, one_physical, queued, request_token, room_token, total, weight, zone_count}
 use Rattle.blk_base.specs.declared.place.Mapping.TheVariants.{Unmapped, Zero, At}
-use Rattle.blk_base.specs.declared.place.Pbn.{Pbn}
 use Rattle.image_layout.specs.Window.{mapping_of}
 use Rattle.stop_laws.proofs.JournalLaws.{opened_at_rest}
-use Rattle.vdo_model.specs.declared.report.DeskLine.{DeskLine}
-use Rattle.core_model.specs.declared.items.Item.{Item}
-use Rattle.core_model.specs.declared.items.Vio.{Vio}
-use Rattle.core_model.specs.declared.zones.ZoneData.{ZoneData}
 use Rattle.core_model.specs.declared.zones.ZoneData.TheVariants as at
-use Rattle.core_model.specs.declared.zones.Lock.{Lock}
-use Rattle.core_model.specs.declared.zones.Zone.{Zone}
-use Rattle.core_model.specs.Facts.{ItemOk, KeptOk, MapOk, LocksOk, DataOk, ZoneOk, RestsAt, arrival, kept_phase}
 use Rattle.core_model.specs.Arrivals.{arrivals_at}
 use Rattle.core_model.specs.Legal.{Legal}
 use Rattle.core_model.specs.Streams.{Flows, counted}
-use Rattle.core_model.specs.Zones.{desk_zone, logical_zone, zone_count}
-use Rattle.core_model.specs.Sessions.{IsFresh, Session, IsSession, Shown, AtRest}
 use Rattle.core_model.specs.Start.{IsFirstData, IsFirstZone, IsFirst}
 use Rattle.core_model.specs.Steps.{Core}
-use Rattle.plain_laws.specs.Sums.{total, bit, Each}
-use Rattle.core_model.specs.Tokens.{is_block, Token, kept_by, as_items, queued, weight, given, Balanced, AtMost, in_log, begins_of, answers_of, request_token, lock_weight, lease_token, is_entry, blocks_at, one_physical, block_token, journal_token, is_begin, is_answer, room_token, notified_by, notice_token}
-use Rattle.core_model.specs.Trace.{Trace, of_address, newest}
 use Rattle.core_model.specs.DeviceRows.{IsInside}
 use Rattle.core_model.specs.JournalRows.{is_closed}
 use Rattle.core_model.specs.LogicalRows.{is_among, mapped_by, mapping_at}
-use Rattle.core_model.specs.declared.zones.LogicalZone.{LogicalZone}
 use Rattle.byte_fields.specs.Mappings.{HoldsMapping}
 use Rattle.blk_base.proofs.RegionLaws.{data_block_high, data_block_inside}
-use Rattle.core_laws.proofs.device.DataBlocks.{blocks_fit, window_data}
-use Rattle.plain_laws.proofs.ListLaws.{every-get}
+use Rattle.core_laws.proofs.device.DeviceCalls.{blocks_fit, window_data}
 
 -- sums of what each thing has, as the one is at most the other
 total_at_most : {X : Type 0} (f g : X → ℕ) (xs : List X) → Each (λ i x. f x ≤ g x) xs → total f xs ≤ total g xs

@@ -1,32 +1,15 @@
 -- A zone that weighs nothing for what a happening is about keeps all its facts. Paid once for all kinds of zone and item.
 use Rattle.std.proofs.Common.{◌≡◌, ◌≢◌, ◌⊎◌, ℕ, ◌≤◌, ◌==◌, Bool, true, false, Some, List, [], ◌∷◌, ◌++◌, slice_get, refl, ap, sym, ◌∙◌, subst, inl, inr, arith}
-use Rattle.std.proofs.lemmas.Bool.{eq-eqb}
-use Rattle.std.proofs.lemmas.Bool.Decides.{eqb_tells}
-use Rattle.std.specs.List.{AllByRecursion}
+use Rattle.core_laws.proofs.Common.{AllBelow, AllByRecursion, Answers, Calls, Commits, Draws, Each, Enters, Fails, Flushes, Gives, Happening, HasLists, Item, ItemOk, KeptOk, Phase, RestsAt, Says, Session, Sets, Sizes, Takes, Token, Trace, Vio, WasTold, Zone, ZoneData, ZoneOk, calls, committed, desk_zone, device_zone, done, drawn, entered, eq-eqb, eqb_tells, every-front, has_stopped, journal_zone, kept_by, kept_phase, lines, logical_zone, marks, name_of, of_address, physical_zone, places, taken, total, total-get, weight, zone_number, zone_of}
 use Rattle.vdo_model.specs.FlushMarks.{successes}
-use Rattle.vdo_model.specs.Places.{drawn, zone_of}
 use Rattle.vdo_model.specs.ZoneOrder.{places_in}
-use Rattle.core_model.specs.declared.items.Item.{Item}
 use Rattle.core_model.specs.declared.items.Item.TheVariants.{Request}
-use Rattle.core_model.specs.declared.items.Phase.{Phase}
-use Rattle.core_model.specs.declared.items.Vio.{Vio}
-use Rattle.core_model.specs.declared.sizes.Sizes.{Sizes}
-use Rattle.core_model.specs.declared.zones.ZoneData.{ZoneData}
 use Rattle.core_model.specs.declared.zones.ZoneData.TheVariants as at
-use Rattle.core_model.specs.declared.zones.Zone.{Zone}
-use Rattle.core_model.specs.Facts.{ItemOk, KeptOk, HasLists, Answers, WasTold, RestsAt, ZoneOk, name_of, kept_phase}
-use Rattle.core_model.specs.Zones.{zone_number, desk_zone, logical_zone, physical_zone, journal_zone, device_zone}
-use Rattle.core_model.specs.RightTraces.{AllBelow}
-use Rattle.core_model.specs.Sessions.{Session}
-use Rattle.core_model.specs.Tokens.{kept_by, Token, weight}
-use Rattle.core_model.specs.Trace.{Happening, Says, Flushes, Draws, Enters, Commits, Sets, Gives, Takes, Calls, Fails, Trace, lines, calls, marks, places, entered, committed, done, taken, has_stopped, of_address}
 use Rattle.core_laws.proofs.kept.Carried.{kept_kept, item_kept}
 use Rattle.core_laws.proofs.kept.Keys.{Key, OfAddress, OfJournal, token_of, Spares, happens_in, Clears, mine_or_spared, free_one}
 use Rattle.core_laws.proofs.kept.Spared.{of_other, quiet_kept, stop_kept, abort_kept}
 use Rattle.core_laws.proofs.kept.StandsOn.{SparesBlocks, rests_kept, pending_kept}
 use Rattle.core_laws.proofs.tokens.Lift.{items_total}
-use Rattle.plain_laws.proofs.ListLaws.{every-front, total-get}
-use Rattle.plain_laws.specs.Sums.{total, Each}
 
 -- What its own lists are parts of stays over what happens in another zone.
 module _ (sizes : Sizes) where

@@ -1,24 +1,13 @@
 -- The keys that facts are on: a request, an address, a data block, the journal. Whoever weighs for a key has facts on it,
 -- and of each key at most one is held in the whole core. Each happening is about some keys, and spares the others.
 use Rattle.std.proofs.Common.{◌≡◌, ◌⊎◌, ℕ, ◌≤◌, ◌==◌, ◌&&◌, Bool, true, false, not, Option, None, Some, refl, ap, subst, inl, inr, arith}
-use Rattle.std.proofs.lemmas.Bool.Decides.{eqb_tells}
+use Rattle.core_laws.proofs.Common.{Aborts, Calls, Commits, Draws, Enters, Fails, Flushes, Gives, Happening, Says, Session, Sets, Sizes, Takes, Token, Trace, Vio, Writer, ZoneData, bit, block_token, claims, desk_zone, device_zone, entered, eqb_tells, holder_weight, holds, journal_token, journal_zone, logical_zone, of_vio, physical_zone, request_token, same_self, same_tells, zone_of}
 use Rattle.blk_base.specs.Regions.{IsDataBlock}
-use Rattle.blk_base.specs.declared.request.Writer.{Writer}
-use Rattle.vdo_model.specs.Places.{zone_of}
-use Rattle.vdo_model.proofs.NameLaws.{same_self, same_tells}
 use Rattle.core_model.specs.declared.items.Item.TheVariants.{Request}
-use Rattle.core_model.specs.declared.items.Vio.{Vio}
-use Rattle.core_model.specs.declared.sizes.Sizes.{Sizes}
-use Rattle.core_model.specs.declared.zones.ZoneData.{ZoneData}
 use Rattle.core_model.specs.declared.zones.ZoneData.TheVariants as at
 use Rattle.core_model.specs.LogicalRows.{is_among, is_held}
-use Rattle.core_model.specs.Zones.{desk_zone, logical_zone, physical_zone, journal_zone, device_zone}
-use Rattle.core_model.specs.Sessions.{Session}
-use Rattle.core_model.specs.Tokens.{Token, of_vio, holds, holder_weight, claims, request_token, block_token, journal_token}
-use Rattle.core_model.specs.Trace.{Happening, Says, Flushes, Draws, Enters, Commits, Sets, Gives, Takes, Aborts, Calls, Fails, Trace, entered}
 use Rattle.core_laws.proofs.kept.Spared.{OffRequest, OffNumber, about, SparesRequest, SparesAddress}
 use Rattle.core_laws.proofs.kept.StandsOn.{SparesBlock, SparesBlocks, SparesJournal, SparesEntries}
-use Rattle.plain_laws.specs.Sums.{bit}
 
 pub data Key : Type 0 where
   OfRequest : Writer → Key

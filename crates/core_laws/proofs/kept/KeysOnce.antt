@@ -1,35 +1,18 @@
 -- Of each key at most one is held in a legal core; so whoever has it in hand has it alone.
 use Rattle.std.proofs.Common.{◌≡◌, ◌≢◌, ℕ, zero, suc, ◌+◌, ◌≤◌, ◌==◌, ◌&&◌, ◌++◌, Bool, true, false, not, List, [], ◌∷◌, Some, slice_get, refl, sym, ◌∙◌, ap, subst, inl, inr, arith}
-use Rattle.std.proofs.lemmas.Bool.{cases_Bool}
-use Rattle.std.proofs.lemmas.Bool.Decides.{eqb_tells}
-use Rattle.std.specs.List.{AllByRecursion}
-use Rattle.blk_base.specs.declared.request.Writer.{Writer}
-use Rattle.vdo_model.specs.DeskLog.{begun}
-use Rattle.vdo_model.specs.Places.{zone_of}
-use Rattle.core_model.specs.declared.items.Item.{Item}
-use Rattle.core_model.specs.declared.zones.Logged.{Logged}
-use Rattle.core_model.specs.declared.zones.ZoneData.{ZoneData}
+use Rattle.core_laws.proofs.Common.{AllByRecursion, DataOk, Item, Logged, Session, Trace, Writer, Zone, ZoneData, begins_of, begun, bit, block_token, blocks_at, cases_Bool, entered, eqb_tells, given, in_log, is_entry, journal_zone, kept_by, lease_token, lines, lock_weight, locks_at, nobody_else, request_token, total, total-append, total-get, total_zero, weight, zone_of}
 use Rattle.core_model.specs.declared.zones.ZoneData.TheVariants as at
-use Rattle.core_model.specs.declared.zones.Zone.{Zone}
-use Rattle.core_model.specs.Facts.{DataOk}
 use Rattle.core_model.specs.Legal.{Legal}
 use Rattle.core_model.specs.LogicalRows.{is_among, is_held}
-use Rattle.core_model.specs.Sessions.{Session}
-use Rattle.core_model.specs.Zones.{journal_zone}
 use Rattle.core_model.specs.Steps.{Core}
-use Rattle.core_model.specs.Tokens.{kept_by, weight, given, in_log, begins_of, request_token, lease_token, block_token, lock_weight, locks_at, is_entry, blocks_at}
-use Rattle.core_model.specs.Trace.{Trace, lines, entered}
 use Rattle.core_laws.proofs.kept.ActKept.{weighed, unborn, Reached, in_hand, in_line, line_of}
 use Rattle.core_laws.proofs.kept.Frame.{HasNoneBeside}
 use Rattle.core_laws.proofs.kept.Keys.{Key, OfRequest, OfAddress, OfBlock, OfJournal, any, token_of, slot_token, free_at}
 use Rattle.core_laws.proofs.kept.ZoneKinds.{block_once, journal_once, journal_sits, total_once}
-use Rattle.core_laws.proofs.lists.LockLists.{counts_held}
-use Rattle.core_laws.proofs.tokens.LeaseOwners.{home_of, locks_elsewhere}
+use Rattle.core_laws.proofs.lists.CoreLists.{counts_held}
+use Rattle.core_laws.proofs.tokens.Owners.{home_of, locks_elsewhere, not_begun, request_once}
 use Rattle.core_laws.proofs.tokens.Lift.{items_total}
-use Rattle.core_laws.proofs.tokens.RequestOwners.{not_begun, request_once}
 use Rattle.core_laws.proofs.trace.DeskOfTrace.{desk_log_right}
-use Rattle.plain_laws.proofs.ListLaws.{total-append, total-get, total_zero, nobody_else}
-use Rattle.plain_laws.specs.Sums.{total, bit}
 
 -- An address weighs where its lock is, or at its home.
 slots_split : (s : Session) (a : ℕ) (zones : List Zone) → total (weight (slot_token s.sizes a)) zones ≡ total (weight (lease_token a any)) zones + total (λ z. free_at s.sizes a z.keeps) zones

@@ -1,23 +1,9 @@
 -- Each step and each move keeps a core legal, and so does each list of events.
 use Rattle.std.proofs.Common.{◌≡◌, ℕ, zero, suc, ◌+◌, ◌<◌, Bool, true, false, Some, List, [], ◌∷◌, ◌++◌, length, nat_eq, slice_get, slice_set, refl, ap, sym, ◌∙◌, subst, arith}
-use Rattle.std.specs.List.{AllByRecursion}
-use Rattle.std.proofs.lemmas.Bool.{eqb-true}
-use Rattle.std.proofs.lemmas.Option.{same_Some}
-use Rattle.blk_base.specs.declared.request.Writer.{Writer}
-use Rattle.core_model.specs.declared.items.Item.{Item}
-use Rattle.core_model.specs.declared.zones.ZoneData.{ZoneData}
-use Rattle.core_model.specs.declared.zones.Zone.{Zone}
+use Rattle.core_laws.proofs.Common.{AllByRecursion, Balanced, Each, Each-put_other, GivesRight, HasHonestReads, IsSession, Item, ItemOk, KeptOk, Post, RightTrace, Session, Token, Trace, Writer, Zone, ZoneData, ZoneOk, block_token, eqb-true, every-append, every-map, idle_at, is_sealed, journal_token, kept_by, kept_phase, lease_token, length-put, notice_token, request_token, room_token, same_Some, total, zone_number}
 use Rattle.core_model.specs.Arrivals.{arrivals_at}
-use Rattle.core_model.specs.Facts.{ItemOk, KeptOk, ZoneOk, kept_phase}
 use Rattle.core_model.specs.Legal.{Legal}
-use Rattle.core_model.specs.Zones.{zone_number}
-use Rattle.core_model.specs.RightTraces.{RightTrace, GivesRight}
-use Rattle.core_model.specs.Sessions.{Session, IsSession, HasHonestReads}
 use Rattle.core_model.specs.Steps.{Act, Core, StepOf, sent_to, sent, delivered, posted}
-use Rattle.plain_laws.specs.Sums.{total, Each}
-use Rattle.core_model.specs.Tokens.{kept_by, Token, Balanced, is_sealed, idle_at, request_token, lease_token, block_token, journal_token, room_token, notice_token}
-use Rattle.core_model.specs.Trace.{Trace}
-use Rattle.core_model.specs.Vios.{Post}
 use Rattle.core_laws.proofs.kept.ActKept.{Known, ActKept, PostOk}
 use Rattle.core_laws.proofs.kept.Frame.{Sides}
 use Rattle.core_laws.proofs.kept.Keys.{OfJournal, idle_none}
@@ -29,8 +15,7 @@ use Rattle.core_laws.proofs.tokens.Known.{IsIn, KeptIn}
 use Rattle.core_laws.proofs.tokens.Known as tokens
 use Rattle.core_laws.proofs.tokens.Lift.{Within, Conserves, balance_step, at_most_step}
 use Rattle.core_laws.proofs.tokens.TokenLaws.{requests_law, room_law, notices_law, journal_law, blocks_law, leases_law}
-use Rattle.plain_laws.proofs.ListLaws.{Each-put_other, every-append, every-map, length-put}
-use Rattle.core_laws.proofs.lists.Lists.{length-posted}
+use Rattle.core_laws.proofs.lists.CoreLists.{length-posted}
 
 -- What a zone has stays while posts are delivered that carry what they must.
 each-posted : (P : ℕ → Item → Type 0) (to : ℕ) (x : Item) (lanes : List (List Item)) → Each (λ n. AllByRecursion (P n)) lanes → P to x → Each (λ n. AllByRecursion (P n)) (posted to x lanes)

@@ -1,22 +1,13 @@
 -- A move keeps a core legal, and so does each list of events.
 use Rattle.std.proofs.Common.{◌≡◌, ◌++◌, length, slice_set, ap, sym, ◌∙◌, subst, arith}
-use Rattle.std.specs.List.{AllByRecursion}
-use Rattle.blk_base.specs.declared.request.Writer.{Writer}
-use Rattle.core_model.specs.declared.zones.Zone.{Zone}
+use Rattle.core_laws.proofs.Common.{AllByRecursion, Each, Each-put, GivesRight, HasHonestReads, IsSession, ItemOk, RightTrace, Session, Trace, Writer, Zone, ZoneOk, block_token, every-append, every-front, get-put_other, journal_token, lease_token, length-put, notice_token, request_token, room_token}
 use Rattle.core_model.specs.Arrivals.{arrivals_at}
-use Rattle.core_model.specs.Facts.{ItemOk, ZoneOk}
 use Rattle.core_model.specs.Legal.{Legal}
-use Rattle.core_model.specs.RightTraces.{RightTrace, GivesRight}
-use Rattle.core_model.specs.Sessions.{Session, IsSession, HasHonestReads}
 use Rattle.core_model.specs.Steps as steps
 use Rattle.core_model.specs.Steps.{Core, StepOf, MoveOf, Leads}
-use Rattle.plain_laws.specs.Sums.{Each}
-use Rattle.core_model.specs.Tokens.{request_token, lease_token, block_token, journal_token, room_token, notice_token}
-use Rattle.core_model.specs.Trace.{Trace}
 use Rattle.core_laws.proofs.kept.Streams.{flows_move}
 use Rattle.core_laws.proofs.kept.LegalKept.{legal_step}
 use Rattle.core_laws.proofs.tokens.Lift.{balance_move, at_most_move}
-use Rattle.plain_laws.proofs.ListLaws.{Each-put, every-append, every-front, length-put, get-put_other}
 
 module _ (s : Session) (old new : Core) (m : MoveOf old new) (legal : Legal s old) where
   abbrev source' : Zone

@@ -1,37 +1,21 @@
 -- What a zone does with an item is fixed, and at the device by how it answered: two acts on the same item keep, make and post
 -- the same.
 use Rattle.std.proofs.Common.{ℕ, ◌+◌, ◌≡◌, Bool, true, false, not, ◌&&◌, Option, None, Some, List, [], ◌∷◌, ◌++◌, refl, sym, ap, ◌∙◌}
-use Rattle.blk_base.specs.declared.place.Pbn.{Pbn}
+use Rattle.core_laws.proofs.Common.{Aborts, Answer, Calls, Commits, Desk, DeviceZone, Draws, Enters, Flushes, Gives, Item, JournalZone, LogicalZone, Pbn, Phase, PhysicalZone, Post, Says, SealedBlock, Sets, Sizes, Stage, Takes, Trace, Vio, ZoneData, ended, gift, logged, notified, staged, turned}
 use Rattle.blk_base.specs.declared.place.ZoneId.TheVariants as id
-use Rattle.blk_base.specs.declared.request.Answer.{Answer}
 use Rattle.blk_base.specs.declared.request.Answer.TheVariants as reply
 use Rattle.disk_model.specs.declared.call.Call.TheVariants.{Read}
 use Rattle.vdo_model.specs.declared.report.DeskLine.TheVariants as line
-use Rattle.core_model.specs.declared.items.Item.{Item}
 use Rattle.core_model.specs.declared.items.Item.TheVariants as item
-use Rattle.core_model.specs.declared.items.Phase.{Phase}
 use Rattle.core_model.specs.declared.items.Phase.TheVariants as phase
-use Rattle.core_model.specs.declared.items.SealedBlock.{SealedBlock}
-use Rattle.core_model.specs.declared.items.Stage.{Stage}
 use Rattle.core_model.specs.declared.items.Stage.TheVariants as stage
-use Rattle.core_model.specs.declared.items.Vio.{Vio}
-use Rattle.core_model.specs.declared.sizes.Sizes.{Sizes}
-use Rattle.core_model.specs.declared.zones.Desk.{Desk}
-use Rattle.core_model.specs.declared.zones.DeviceZone.{DeviceZone}
-use Rattle.core_model.specs.declared.zones.JournalZone.{JournalZone}
-use Rattle.core_model.specs.declared.zones.LogicalZone.{LogicalZone}
-use Rattle.core_model.specs.declared.zones.PhysicalZone.{PhysicalZone}
-use Rattle.core_model.specs.declared.zones.ZoneData.{ZoneData}
 use Rattle.core_model.specs.declared.zones.ZoneData.TheVariants as at
 use Rattle.core_model.specs.DeskRows.{DeskServes, parks, answers, marks, is_notified, is_stopped, is_marked, mark_of_vio}
 use Rattle.core_model.specs.DeviceRows.{DeviceServes, DeviceWorks, counted, halted, stop_notices, next_stage, next_zone}
 use Rattle.core_model.specs.JournalRows.{PhysicalServes, JournalServes, JournalEnds, is_closed, has_block, sealed, refused, all_refused, entered_by, committed_by, hands_out}
 use Rattle.core_model.specs.LogicalRows.{LogicalServes, is_among, is_held, lock_of, all_for, placed, place_of_vio, drawn_by, goes_on, granted, released, retire, all_stopped, with_slot}
-use Rattle.core_model.specs.Zones.{notified}
 use Rattle.core_model.specs.Steps.{Act, CallsDevice}
 use Rattle.core_model.specs.Steps as steps
-use Rattle.core_model.specs.Trace.{Trace, Flushes, Says, Draws, Enters, Commits, Sets, Gives, Takes, Aborts, Calls}
-use Rattle.core_model.specs.Vios.{Post, turned, ended, logged, gift, staged}
 
 -- what a zone keeps, what happens, and what is posted
 abbrev Result : Type 0 → Type 0

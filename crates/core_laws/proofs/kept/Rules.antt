@@ -1,54 +1,25 @@
 -- In a legal core a rule applies to the item in front of each inbox, and each post of a rule has a lane.
 use Rattle.std.proofs.Common.{◌⊎◌, ◌≡◌, ℕ, ◌<◌, ◌≤◌, true, false, None, Some, Option, List, [], ◌∷◌, ◌++◌, length, slice_get, refl, ap, sym, ◌∙◌, subst, inl, inr, arith}
-use Rattle.std.proofs.lemmas.Bool.{cases_Bool}
-use Rattle.std.proofs.lemmas.Bool.Decides.{eqb_tells}
-use Rattle.std.specs.List.{AllByRecursion}
+use Rattle.core_laws.proofs.Common.{AllByRecursion, Answer, Asks, Call, Carries, DataOk, Desk, DeviceZone, IsServed, IsSession, Item, ItemOk, JournalZone, KeptOk, LogicalZone, MayReply, Pbn, Phase, PhysicalZone, Post, Request, Script, SealedBlock, Session, Stage, Trace, Vio, VioOk, Writer, Zone, ZoneData, ZoneId, cases_Bool, desk_zone, device_zone, eqb_tells, every-map, journal_zone, logical_zone, option_cases, physical_zone, request_at, some_of, zone_at, zone_number, zone_of_stage}
 use Rattle.blk_base.specs.Regions.{journal_slot_of}
-use Rattle.blk_base.specs.declared.place.Pbn.{Pbn}
-use Rattle.blk_base.specs.declared.place.ZoneId.{ZoneId}
-use Rattle.blk_base.specs.declared.request.Answer.{Answer}
 use Rattle.blk_base.specs.declared.request.Answer.TheVariants as reply
-use Rattle.blk_base.specs.declared.request.Request.{Request}
 use Rattle.blk_base.specs.declared.request.Request.TheVariants as request
-use Rattle.blk_base.specs.declared.request.Writer.{Writer}
-use Rattle.disk_model.specs.declared.call.Call.{Call}
 use Rattle.disk_model.specs.declared.call.Call.TheVariants as call
 use Rattle.stop_laws.specs.Journals.{block_of_slot}
-use Rattle.vdo_model.specs.Scripts.{Script, request_at}
-use Rattle.core_model.specs.declared.items.Asks.{Asks}
 use Rattle.core_model.specs.declared.items.Asks.TheVariants.{Read, Write, Flush}
-use Rattle.core_model.specs.declared.items.Item.{Item}
 use Rattle.core_model.specs.declared.items.Item.TheVariants as item
-use Rattle.core_model.specs.declared.items.Phase.{Phase}
 use Rattle.core_model.specs.declared.items.Phase.TheVariants as phase
-use Rattle.core_model.specs.declared.items.SealedBlock.{SealedBlock}
-use Rattle.core_model.specs.declared.items.Stage.{Stage}
 use Rattle.core_model.specs.declared.items.Stage.TheVariants as stage
-use Rattle.core_model.specs.declared.items.Vio.{Vio}
-use Rattle.core_model.specs.declared.zones.Desk.{Desk}
-use Rattle.core_model.specs.declared.zones.DeviceZone.{DeviceZone}
-use Rattle.core_model.specs.declared.zones.JournalZone.{JournalZone}
-use Rattle.core_model.specs.declared.zones.LogicalZone.{LogicalZone}
-use Rattle.core_model.specs.declared.zones.PhysicalZone.{PhysicalZone}
-use Rattle.core_model.specs.declared.zones.Zone.{Zone}
-use Rattle.core_model.specs.declared.zones.ZoneData.{ZoneData}
 use Rattle.core_model.specs.declared.zones.ZoneData.TheVariants as at
 use Rattle.core_model.specs.DeskRows.{DeskBegins, DeskServes, at_once, vio_of, is_marked, is_stopped, is_notified}
 use Rattle.core_model.specs.DeviceRows.{DeviceServes, DeviceWorks, IsInside, call_of, journal_bytes}
-use Rattle.core_model.specs.Facts.{VioOk, MayReply, Carries, ItemOk, KeptOk, DataOk, zone_at, zone_of_stage}
 use Rattle.core_model.specs.JournalRows.{PhysicalServes, JournalServes, JournalEnds, is_closed, has_block}
 use Rattle.core_model.specs.Legal.{Legal}
 use Rattle.core_model.specs.LogicalRows.{LogicalServes, is_among, is_held, first_for, placed, next_for, goes_on, passes_on, with_slot}
-use Rattle.core_model.specs.Zones.{zone_number, desk_zone, logical_zone, physical_zone, journal_zone, device_zone}
-use Rattle.core_model.specs.Sessions.{Session, IsSession, IsServed}
 use Rattle.core_model.specs.Steps as steps
 use Rattle.core_model.specs.Steps.{Act, HasAct, MayBegin, Core, delivered}
-use Rattle.core_model.specs.Trace.{Trace}
-use Rattle.core_model.specs.Vios.{Post}
-use Rattle.core_laws.proofs.device.DataBlocks.{request_served}
+use Rattle.core_laws.proofs.device.DeviceCalls.{request_served}
 use Rattle.core_laws.proofs.kept.LegalKept.{goes}
-use Rattle.plain_laws.proofs.ListLaws.{every-map}
-use Rattle.plain_laws.proofs.OptionLaws.{option_cases, some_of}
 use Rattle.core_laws.proofs.physical.PhysicalFacts.{zone_below}
 use Rattle.core_laws.proofs.kept.ActKept.{carries_at}
 

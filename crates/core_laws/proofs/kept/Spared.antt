@@ -1,23 +1,12 @@
 -- Facts on the trace stay where the next happening is about something else.
 use Rattle.std.proofs.Common.{◌≡◌, ◌≢◌, ℕ, ◌+◌, ◌<◌, ◌==◌, Bool, true, false, not, ◌&&◌, ◌||◌, if◌then◌else◌, Option, None, Some, List, [], ◌∷◌, refl, ap, sym, ◌∙◌, inl, inr, arith}
-use Rattle.std.proofs.lemmas.Bool.Decides.{eqb_tells}
-use Rattle.blk_base.specs.declared.journal_entry.Entry.{Entry}
+use Rattle.core_laws.proofs.Common.{Aborts, AllBelow, Calls, Commits, DeskLine, Draws, Enters, Entry, Fails, Flushes, FlushMark, Gives, Happening, HasBelow, HasHonestReads, IsCommitted, IsFull, IsOpen, Logged, Quiet, Says, Session, Sets, Takes, Trace, Writer, aborted, begun, committed, done, entered, entries_of, eqb_tells, gift_of, gifts, has_read_fault, has_stopped, is_read, lines, logged_of, moments, newest, of_address, place_of, places, same_writer, value_at}
 use Rattle.blk_base.specs.declared.request.Answer.TheVariants as reply
-use Rattle.blk_base.specs.declared.request.Writer.{Writer}
 use Rattle.disk_model.specs.declared.call.Call.TheVariants.{Read}
 use Rattle.image_layout.specs.Window.{mapping_of}
-use Rattle.vdo_model.specs.DeskLog.{begun}
 use Rattle.vdo_model.specs.FlushMarks.{Moment, Desk, Device, IsMark}
-use Rattle.vdo_model.specs.Places.{place_of}
-use Rattle.vdo_model.specs.Scripts.{same_writer}
-use Rattle.vdo_model.specs.declared.report.DeskLine.{DeskLine}
 use Rattle.vdo_model.specs.declared.report.DeskLine.TheVariants.{Begin, Answer}
-use Rattle.vdo_model.specs.declared.report.FlushMark.{FlushMark}
-use Rattle.core_model.specs.declared.zones.Logged.{Logged}
 use Rattle.core_model.specs.LogicalRows.{mapped_by}
-use Rattle.core_model.specs.RightTraces.{IsOpen, Quiet, IsCommitted, AllBelow, HasBelow, IsFull}
-use Rattle.core_model.specs.Sessions.{Session, HasHonestReads, value_at}
-use Rattle.core_model.specs.Trace.{Happening, Says, Flushes, Draws, Enters, Commits, Sets, Gives, Takes, Aborts, Calls, Fails, Trace, moments, lines, places, entered, committed, done, aborted, gifts, is_read, has_stopped, has_read_fault, of_address, newest, logged_of, gift_of, entries_of}
 
 -- What a happening is about: a request, an address.
 pub record About : Type 0 where

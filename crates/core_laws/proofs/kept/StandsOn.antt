@@ -1,21 +1,15 @@
 -- What stands on the device goes on over each call that misses it.
 use Rattle.std.proofs.Common.{◌≡◌, ◌≢◌, ◌⊎◌, ℕ, ◌+◌, ◌<◌, Bool, true, List, [], ◌∷◌, refl, inl, inr, subst, sym, ap, ◌∙◌, arith, length}
 use Rattle.std.proofs.Math.Nat.{mod-lt}
-use Rattle.std.specs.List.{AllByRecursion}
+use Rattle.core_laws.proofs.Common.{AllByRecursion, AtRest, Call, Calls, EachStands, Fails, Happening, HasPending, Kept, Logged, OnItsWay, Pbn, ReadsAs, ReadsEntry, Session, Stands, Trace, Writer, committed, entered, entries_of, entry_of, log}
 use Rattle.blk_base.specs.Regions.{journal_slot_of}
 use Rattle.blk_base.specs.declared.place.Mapping.TheVariants.{At}
-use Rattle.blk_base.specs.declared.place.Pbn.{Pbn}
-use Rattle.blk_base.specs.declared.request.Writer.{Writer}
 use Rattle.disk_model.specs.Log.{Misses}
-use Rattle.disk_model.specs.declared.call.Call.{Call}
 use Rattle.disk_model.specs.declared.call.Call.TheVariants.{Write}
 use Rattle.disk_model.proofs.ImageLaws.{kept, settled-misses}
 use Rattle.image_layout.specs.Window.{mapping_of}
 use Rattle.stop_laws.specs.Journals.{HasEntry, MissesJournal, block_of_slot}
 use Rattle.stop_laws.proofs.JournalLaws.{rest_kept, under_way_kept}
-use Rattle.core_model.specs.declared.zones.Logged.{Logged}
-use Rattle.core_model.specs.Sessions.{Session, log, Stands, ReadsAs, EachStands, AtRest, OnItsWay, ReadsEntry, Kept, HasPending}
-use Rattle.core_model.specs.Trace.{Happening, Calls, Fails, Trace, entered, committed, entry_of, entries_of}
 
 -- the happening is no write of the block
 abbrev pub SparesBlock : Happening → ℕ → Type 0

@@ -1,30 +1,14 @@
 -- Over an act of a legal core: what its zone owes, and everything beside what is served stays as it was.
 use Rattle.std.proofs.Common.{◌≡◌, ◌≢◌, ℕ, true, Some, List, [], ◌∷◌, ◌++◌, slice_get, refl, ap, ◌∙◌, subst, arith}
-use Rattle.std.specs.List.{AllByRecursion}
-use Rattle.blk_base.specs.declared.request.Writer.{Writer}
-use Rattle.core_model.specs.declared.items.Item.{Item}
+use Rattle.core_laws.proofs.Common.{AllByRecursion, DataOk, DeviceZone, IsSession, Item, ItemOk, Logged, LogicalZone, Phase, Post, Session, Trace, Vio, Writer, Zone, ZoneData, arrival, arriving, block_token, claims, desk_zone, entered, every-front, places, total}
 use Rattle.core_model.specs.declared.items.Item.TheVariants as item
-use Rattle.core_model.specs.declared.items.Phase.{Phase}
 use Rattle.core_model.specs.declared.items.Phase.TheVariants as phase
-use Rattle.core_model.specs.declared.items.Vio.{Vio}
-use Rattle.core_model.specs.declared.zones.DeviceZone.{DeviceZone}
-use Rattle.core_model.specs.declared.zones.Logged.{Logged}
-use Rattle.core_model.specs.declared.zones.LogicalZone.{LogicalZone}
-use Rattle.core_model.specs.declared.zones.Zone.{Zone}
-use Rattle.core_model.specs.declared.zones.ZoneData.{ZoneData}
 use Rattle.core_model.specs.declared.zones.ZoneData.TheVariants as at
 use Rattle.core_model.specs.Arrivals.{drew_in}
-use Rattle.core_model.specs.Facts.{ItemOk, DataOk, arrival, arriving}
 use Rattle.core_model.specs.Legal.{Legal, ComesAfter}
-use Rattle.core_model.specs.Sessions.{Session, IsSession}
 use Rattle.core_model.specs.Steps as steps
 use Rattle.core_model.specs.Steps.{Act, Core}
 use Rattle.core_model.specs.Streams.{counted}
-use Rattle.core_model.specs.Tokens.{claims, block_token}
-use Rattle.plain_laws.specs.Sums.{total}
-use Rattle.core_model.specs.Trace.{Trace, places, entered}
-use Rattle.core_model.specs.Vios.{Post}
-use Rattle.core_model.specs.Zones.{desk_zone}
 use Rattle.core_laws.proofs.desk.DeskFacts.{desk_begins, desk_serves, desk_hears}
 use Rattle.core_laws.proofs.device.DeviceFacts.{device_serves}
 use Rattle.core_laws.proofs.device.DeviceFacts.{device_works}
@@ -38,8 +22,7 @@ use Rattle.core_laws.proofs.kept.KeysOnce.{most_here, unborn_here, none_beside, 
 use Rattle.core_laws.proofs.kept.ZoneKinds.{stood, desk_sits}
 use Rattle.core_laws.proofs.logical.LogicalFacts.{logical_serves, logical_notified}
 use Rattle.core_laws.proofs.physical.PhysicalFacts.{physical_serves, physical_notified}
-use Rattle.core_laws.proofs.tokens.LeaseOwners.{leased_front}
-use Rattle.plain_laws.proofs.ListLaws.{every-front}
+use Rattle.core_laws.proofs.tokens.Owners.{leased_front}
 
 -- each act, by its zone
 pub by_act : {s : Session} {t : Trace} {n : ℕ} {old new : ZoneData} {front : List Item} {made : Trace} {posts : List Post} → Act s.sizes old front new made posts → Known s t n old front → ActKept s t n old front new made posts

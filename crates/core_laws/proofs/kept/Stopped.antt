@@ -1,20 +1,10 @@
 -- A request is answered as stopped only where the device's zone has stopped the session.
 use Rattle.std.proofs.Common.{◌≡◌, ℕ, ◌≤◌, Bool, true, false, cond, Some, slice_get, refl, ap, sym, ◌∙◌, subst, arith}
 use Rattle.blk_base.specs.declared.request.Answer.TheVariants as reply
-use Rattle.blk_base.specs.declared.request.Writer.{Writer}
-use Rattle.vdo_model.specs.DeskLog.{answer_of}
-use Rattle.core_model.specs.declared.zones.ZoneData.{ZoneData}
+use Rattle.core_laws.proofs.Common.{DataOk, DeviceZone, Session, Writer, Zone, ZoneData, answer_of, desk_zone, given, heard_at, lines, notice_token, notified_by, notified_zones, total-get, total_alone, weight}
 use Rattle.core_model.specs.declared.zones.ZoneData.TheVariants as at
-use Rattle.core_model.specs.declared.zones.DeviceZone.{DeviceZone}
-use Rattle.core_model.specs.declared.zones.Zone.{Zone}
-use Rattle.core_model.specs.Facts.{DataOk}
 use Rattle.core_model.specs.Legal.{Legal}
-use Rattle.core_model.specs.Zones.{desk_zone, notified_zones}
-use Rattle.core_model.specs.Sessions.{Session}
 use Rattle.core_model.specs.Steps.{Core}
-use Rattle.core_model.specs.Tokens.{weight, given, notice_token, heard_at, notified_by}
-use Rattle.core_model.specs.Trace.{lines}
-use Rattle.plain_laws.proofs.ListLaws.{total-get, total_alone}
 use Rattle.core_laws.proofs.kept.ZoneKinds.{desk_sits, no_words}
 
 some_words : (b : Bool) (n : ℕ) → 1 ≤ cond b n 0 → b ≡ true

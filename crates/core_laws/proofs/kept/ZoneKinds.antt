@@ -1,15 +1,7 @@
 -- Each number has its kind of zone, and what is given out once is given out by one zone.
 use Rattle.std.proofs.Common.{◌≡◌, ℕ, zero, suc, ◌<◌, ◌≤◌, List, [], ◌∷◌, length, Some, slice_get, refl, arith}
-use Rattle.core_model.specs.declared.zones.ZoneData.{ZoneData}
+use Rattle.core_laws.proofs.Common.{DataOk, Each, Session, Trace, Zone, ZoneData, ZoneOk, block_token, desk_zone, device_zone, given, journal_token, journal_zone, notified_by, one_journal, one_physical, physical_zone, total, total_zero, zone_count}
 use Rattle.core_model.specs.declared.zones.ZoneData.TheVariants as at
-use Rattle.core_model.specs.declared.zones.Zone.{Zone}
-use Rattle.core_model.specs.Facts.{DataOk, ZoneOk}
-use Rattle.core_model.specs.Zones.{desk_zone, physical_zone, journal_zone, device_zone, zone_count}
-use Rattle.core_model.specs.Sessions.{Session}
-use Rattle.plain_laws.specs.Sums.{total, Each}
-use Rattle.core_model.specs.Tokens.{given, notified_by, journal_token, block_token, one_journal, one_physical}
-use Rattle.core_model.specs.Trace.{Trace}
-use Rattle.plain_laws.proofs.ListLaws.{total_zero}
 
 -- what stands at a number below the length
 pub record Stood {X : Type 0} (xs : List X) (i : ℕ) : Type 0 where

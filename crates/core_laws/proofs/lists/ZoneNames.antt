@@ -1,10 +1,7 @@
 -- Zones that are there have one number each, below the count.
 use Rattle.std.proofs.Common.{◌≡◌, ℕ, zero, suc, ◌+◌, ◌-◌, ◌<◌, nat_lt, if◌then◌else◌, length, refl, ap, sym, ◌∙◌, arith}
-use Rattle.std.proofs.lemmas.Bool.{lt-ltb, le-ltb}
-use Rattle.blk_base.specs.declared.place.ZoneId.{ZoneId}
+use Rattle.core_laws.proofs.Common.{IsZone, Sizes, ZoneId, le-ltb, logical_zones, lt-ltb, notified, notified_zones, zone_count, zone_number}
 use Rattle.blk_base.specs.declared.place.ZoneId.TheVariants as id
-use Rattle.core_model.specs.declared.sizes.Sizes.{Sizes}
-use Rattle.core_model.specs.Zones.{IsZone, zone_number, zone_count, logical_zones, notified, notified_zones}
 
 pub number_below : (sizes : Sizes) (name : ZoneId) → IsZone sizes name → zone_number sizes name < zone_count sizes
 number_below sizes id.Desk is = omega arith

@@ -1,20 +1,10 @@
 -- The locks of a logical zone and who waits for them, as locks are taken, passed on, released and retired.
 use Rattle.std.proofs.Common.{◌≡◌, ◌≢◌, ℕ, zero, suc, ◌+◌, ◌<◌, ◌≤◌, ◌==◌, ◌||◌, Bool, true, false, None, Some, List, [], ◌∷◌, ◌++◌, refl, ap, sym, ◌∙◌, subst, inl, inr, arith}
-use Rattle.std.proofs.lemmas.Bool.{eq-eqb}
-use Rattle.std.proofs.lemmas.Bool.Decides.{eqb_tells}
-use Rattle.std.specs.List.{AllByRecursion}
-use Rattle.vdo_model.specs.Places.{zone_of}
-use Rattle.core_model.specs.declared.items.Vio.{Vio}
-use Rattle.core_model.specs.declared.zones.Lock.{Lock}
-use Rattle.core_model.specs.Facts.{LockOk, WaitsOk, InLine, LocksOk}
+use Rattle.core_laws.proofs.Common.{AllByRecursion, InLine, Lock, LockOk, LocksOk, Session, Vio, WaitsOk, bit, eq-eqb, eqb_tells, every-append, every-map, every_both, lock_weight, total, zone_of}
 use Rattle.core_model.specs.LogicalRows.{is_held, without, lock_of, first_for, but_first_for, none_for}
 use Rattle.blk_base.specs.declared.place.ZoneId.TheVariants as id
-use Rattle.core_model.specs.Sessions.{Session}
-use Rattle.core_model.specs.Tokens.{lock_weight}
-use Rattle.core_laws.proofs.lists.LockLists.{held_without, every_without, has_lock, counts_held, every_but_first, every_none_for, first_has, none_first, rises_but_first, rises_none_for, rises_more, first_below}
+use Rattle.core_laws.proofs.lists.CoreLists.{held_without, every_without, has_lock, counts_held, every_but_first, every_none_for, first_has, none_first, rises_but_first, rises_none_for, rises_more, first_below}
 use Rattle.core_laws.proofs.tokens.LeaseTokens.{without_same, without_other}
-use Rattle.plain_laws.proofs.ListLaws.{every-map, every-append, every_both}
-use Rattle.plain_laws.specs.Sums.{total, bit}
 
 or_some : (a b : Bool) → b ≡ true → (a || b) ≡ true
 or_some true b is = refl

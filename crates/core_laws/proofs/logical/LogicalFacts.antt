@@ -1,54 +1,27 @@
 -- What the acts of a logical zone owe: a request draws its place, and is done with its lock.
 use Rattle.std.proofs.Common.{◌≡◌, ◌⊎◌, ℕ, ◌+◌, ◌==◌, Bool, true, false, if◌then◌else◌, Some, IsNone, List, [], ◌∷◌, ◌++◌, refl, ap, sym, ◌∙◌, inl, inr, arith, ◌<◌, IsSome, subst}
-use Rattle.std.specs.List.{AllByRecursion}
-use Rattle.blk_base.specs.declared.request.Writer.{Writer}
-use Rattle.core_model.specs.Zones.{zone_number, logical_zone}
-use Rattle.vdo_model.specs.DeskLog.{answer_of, before_begin}
-use Rattle.vdo_model.specs.Places.{zone_of, Follows, IsOfZone}
-use Rattle.vdo_model.specs.Scripts.{request_at, same_writer}
-use Rattle.vdo_model.specs.declared.report.DeskLine.{DeskLine}
-use Rattle.vdo_model.specs.declared.report.Placed.{Placed}
-use Rattle.core_model.specs.declared.items.Asks.{Asks}
+use Rattle.core_laws.proofs.Common.{Aborts, AllBelow, AllByRecursion, Asks, DataOk, DeskLine, Draws, FlushMark, Follows, Gives, GivesRight, Happening, HasAddress, HasEarned, HasHonestReads, IsCommitted, IsEntered, IsFresh, IsOfZone, IsPlaced, IsUndrawn, KeptOk, Lba, Lock, LocksOk, Logged, LogicalZone, Looks, MayReply, Pbn, Phase, Placed, PlaceMayFollow, Post, Quiet, RightTrace, Session, Sets, Trace, Vio, VioOk, Writer, aborted, answer_of, asked, before_begin, done, ended, eq-eqb, eqb_tells, every-append, every-map, gift, gift_of, gifts, has_stopped, holds, lines, logged, logged_of, logical_zone, mapping_in, places, request_at, same_self, same_writer, some_is, turned, value_at, zone_number, zone_of}
 use Rattle.core_model.specs.declared.items.Asks.TheVariants.{Read, Write, Flush}
-use Rattle.core_model.specs.declared.items.Vio.{Vio}
-use Rattle.core_model.specs.declared.zones.Lock.{Lock}
-use Rattle.core_model.specs.declared.zones.LogicalZone.{LogicalZone}
-use Rattle.core_model.specs.Facts.{VioOk, HasAddress, IsUndrawn, IsPlaced, KeptOk, LocksOk, DataOk, Looks, IsEntered, HasEarned, MayReply, mapping_in}
 use Rattle.core_model.specs.Legal.{ComesAfter}
 use Rattle.core_model.specs.LogicalRows.{is_among, is_held, lock_of, placed, place_of_vio, drawn_by, goes_on, LogicalServes, arrives_retired, arrives_free, arrives_held, settles, gives, aborts, aborts_entered, released, granted, retire, all_stopped, all_for, with_slot}
-use Rattle.core_model.specs.RightTraces.{RightTrace, GivesRight, PlaceMayFollow, Quiet, IsCommitted, AllBelow}
-use Rattle.core_model.specs.Sessions.{Session, HasHonestReads, IsFresh, value_at}
-use Rattle.core_model.specs.Trace.{Draws, Trace, lines, places, aborted, Happening, Sets, Gives, Aborts, gifts, done, has_stopped, logged_of, gift_of}
-use Rattle.core_model.specs.Vios.{Post, turned, ended, asked, logged, gift}
 use Rattle.core_laws.proofs.trace.DeskOfTrace.{shown_of}
 use Rattle.core_laws.proofs.kept.ActKept.{Known, Mine, ActKept, act_one, own_request, plain_clears, line_kept, shown_plain, vio_over, carries_at, IsPlain, act_none, own_address, vio_ok, in_phase}
 use Rattle.core_laws.proofs.kept.Keys.{Clears, OfRequest, OfAddress, IfAny, happens_in}
 use Rattle.core_laws.proofs.kept.Spared.{quiet_kept, below_kept, about, of_same}
 use Rattle.core_laws.proofs.logical.LockLaws.{more_drawn, one_waits, one_takes}
-use Rattle.core_laws.proofs.tokens.LeaseOwners.{at_home}
+use Rattle.core_laws.proofs.tokens.Owners.{at_home}
 use Rattle.core_model.specs.Phases.{row}
-use Rattle.plain_laws.proofs.ListLaws.{every-map, every-append}
-use Rattle.core_laws.proofs.lists.LockLists.{or_none}
-use Rattle.vdo_model.proofs.NameLaws.{same_self}
-use Rattle.std.proofs.lemmas.Bool.{eq-eqb}
+use Rattle.core_laws.proofs.lists.CoreLists.{same_block, or_none}
 use Rattle.core_laws.proofs.logical.Releases.{below_more, has_below_more, goes_ok, stopped_ok, release_ok, retire_ok, drawn_before}
-use Rattle.std.proofs.lemmas.Bool.Decides.{eqb_tells}
 use Rattle.blk_base.specs.declared.place.Mapping.TheVariants.{At}
-use Rattle.blk_base.specs.declared.place.Pbn.{Pbn}
 use Rattle.byte_fields.specs.Mappings.{HoldsMapping}
-use Rattle.blk_base.specs.declared.place.Lba.{Lba}
-use Rattle.vdo_model.specs.declared.report.FlushMark.{FlushMark}
-use Rattle.core_model.specs.declared.items.Phase.{Phase}
-use Rattle.core_model.specs.declared.zones.Logged.{Logged}
 use Rattle.core_model.specs.DeskRows.{mark_of_vio}
 use Rattle.core_model.specs.DeviceRows.{IsInside}
-use Rattle.core_model.specs.Tokens.{holds}
 use Rattle.core_laws.proofs.kept.Frame.{told_kept}
 use Rattle.core_laws.proofs.kept.Carried.{reply_said}
 use Rattle.blk_base.proofs.RegionLaws.{data_block_high}
-use Rattle.core_laws.proofs.device.DataBlocks.{blocks_fit}
+use Rattle.core_laws.proofs.device.DeviceCalls.{blocks_fit}
 use Rattle.core_laws.proofs.tokens.Known.{Leased}
-use Rattle.plain_laws.proofs.OptionLaws.{some_is}
 use Rattle.blk_base.specs.declared.place.ZoneId.TheVariants as id
 use Rattle.blk_base.specs.declared.request.Answer.TheVariants as reply
 use Rattle.blk_base.specs.declared.request.Request.TheVariants as request
@@ -247,9 +220,6 @@ module _ {s : Session} {t : Trace} {n : ℕ} {l : LogicalZone} {v : Vio} (known 
       | inl same ↦ let here : At v.block ≡ At x = rw same.0 at at in subst (IsInside s.sizes) (same_block v.block x here) facts.3.inside
       | inr other ↦ known.own.sound.map.inside a x (rw other.0 at at)
     ]
-      where
-        same_block : (y z : Pbn) → At y ≡ At z → y ≡ z
-        same_block y z same = cc
 
     -- the zone with the slot set, and its lock still held
     slot_ok : DataOk s set_t n (at.Logical (with_slot l v))

@@ -1,38 +1,20 @@
 -- A lock is passed on to the first that waits for it, or released, or never released.
 use Rattle.std.proofs.Common.{◌≡◌, ◌≢◌, ◌⊎◌, ℕ, ◌+◌, ◌<◌, ◌≤◌, ◌==◌, true, false, Option, None, Some, List, [], ◌∷◌, refl, ap, sym, ◌∙◌, subst, inl, inr, arith}
-use Rattle.std.specs.List.{AllByRecursion}
-use Rattle.std.proofs.lemmas.Bool.Decides.{eqb_tells}
+use Rattle.core_laws.proofs.Common.{AllBelow, AllByRecursion, Asks, DataOk, Gift, HasBelow, HasCause, Holds, IsPlaced, KeptOk, Logged, LogicalZone, Looks, Mapping, Pbn, Post, Quiet, Request, RightTrace, Session, Trace, Vio, VioOk, WaitsOk, aborted, asked, done, each_both, ended, eqb_tells, every-map, gifts, has_stopped, newest, of_address, some_is, value_at, value_from, zone_count, zone_number, zone_of}
 use Rattle.blk_base.specs.Sectors.{zero_block}
-use Rattle.blk_base.specs.declared.place.Mapping.{Mapping}
 use Rattle.blk_base.specs.declared.place.Mapping.TheVariants.{Unmapped, Zero, At}
-use Rattle.blk_base.specs.declared.place.Pbn.{Pbn}
 use Rattle.blk_base.specs.declared.place.ZoneId.TheVariants as id
 use Rattle.blk_base.specs.declared.request.Answer.TheVariants as reply
-use Rattle.blk_base.specs.declared.request.Request.{Request}
 use Rattle.image_layout.specs.Window.{mapping_of, value_in}
-use Rattle.vdo_model.specs.Places.{zone_of}
-use Rattle.core_model.specs.declared.items.Asks.{Asks}
 use Rattle.core_model.specs.declared.items.Asks.TheVariants.{Read, Write, Flush}
 use Rattle.core_model.specs.declared.items.Item.TheVariants as item
 use Rattle.core_model.specs.declared.items.Phase.TheVariants as phase
-use Rattle.core_model.specs.declared.items.Vio.{Vio}
 use Rattle.core_model.specs.declared.zones.ZoneData.TheVariants as at
-use Rattle.core_model.specs.declared.zones.LogicalZone.{LogicalZone}
-use Rattle.core_model.specs.declared.zones.Logged.{Logged}
-use Rattle.core_model.specs.Facts.{VioOk, IsPlaced, Holds, Looks, KeptOk, WaitsOk, DataOk}
 use Rattle.core_model.specs.LogicalRows.{is_among, is_held, without, first_for, all_for, none_for, latest_at, mapped_by, mapping_at, looked, read_next, goes_on, passed_to, released, granted, retire, all_stopped}
-use Rattle.core_model.specs.Zones.{zone_number, zone_count}
-use Rattle.core_model.specs.RightTraces.{RightTrace, Quiet, AllBelow, HasBelow, HasCause}
-use Rattle.core_model.specs.Sessions.{Session, value_from, value_at}
-use Rattle.core_model.specs.Trace.{Trace, Gift, done, aborted, gifts, has_stopped, of_address, newest}
-use Rattle.core_model.specs.Vios.{Post, asked, ended}
 use Rattle.core_laws.proofs.kept.ActKept.{PostOk, carries_at, unentered_slot}
 use Rattle.core_laws.proofs.logical.LockLaws.{place_drawn, waits_behind, one_back, one_passed, one_retired}
 use Rattle.core_laws.proofs.tokens.Known.{Leased}
-use Rattle.core_laws.proofs.lists.LockLists.{or_none, held_without, every_but_first, every_none_for, every_all_for, first_has}
-use Rattle.plain_laws.proofs.ListLaws.{every-map}
-use Rattle.plain_laws.proofs.OptionLaws.{some_is}
-use Rattle.plain_laws.proofs.ListLaws.{each_both}
+use Rattle.core_laws.proofs.lists.CoreLists.{or_none, held_without, every_but_first, every_none_for, every_all_for, first_has}
 use Rattle.core_laws.proofs.tokens.Posts.{goes_by, IsGranted, nobody, somebody, is_granted}
 use Rattle.core_laws.proofs.kept.Spared.{mapping_by}
 

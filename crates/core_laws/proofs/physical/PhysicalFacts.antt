@@ -1,21 +1,12 @@
 -- What the acts of the physical zone owe.
 use Rattle.std.proofs.Common.{◌≡◌, ℕ, zero, suc, ◌<◌, ◌≤◌, ◌%◌, ◌/◌, true, Some, List, [], ◌∷◌, length, drop, slice_get, refl, ap, sym, ◌∙◌, subst, inr, arith}
 use Rattle.std.proofs.Math.Nat.{mod-lt}
-use Rattle.std.specs.List.{AllByRecursion}
-use Rattle.blk_base.specs.declared.place.Pbn.{Pbn}
+use Rattle.core_laws.proofs.Common.{AllByRecursion, Happening, IsFresh, IsFull, Pbn, PhysicalZone, Post, Session, TakeMayFollow, Takes, Trace, Vio, asked, taken, zone_count, zone_number, zone_of}
 use Rattle.blk_base.specs.declared.place.ZoneId.TheVariants as id
-use Rattle.vdo_model.specs.Places.{zone_of}
 use Rattle.core_model.specs.declared.items.Item.TheVariants as item
 use Rattle.core_model.specs.declared.items.Phase.TheVariants as phase
-use Rattle.core_model.specs.declared.items.Vio.{Vio}
 use Rattle.core_model.specs.declared.zones.ZoneData.TheVariants as at
-use Rattle.core_model.specs.declared.zones.PhysicalZone.{PhysicalZone}
 use Rattle.core_model.specs.JournalRows.{PhysicalServes}
-use Rattle.core_model.specs.Zones.{zone_number, zone_count}
-use Rattle.core_model.specs.RightTraces.{TakeMayFollow, IsFull}
-use Rattle.core_model.specs.Sessions.{Session, IsFresh}
-use Rattle.core_model.specs.Trace.{Happening, Takes, Trace, taken}
-use Rattle.core_model.specs.Vios.{Post, asked}
 use Rattle.core_laws.proofs.kept.ActKept.{Known, ActKept, act_none, act_one, plain_clears, shown_plain, vio_over, vio_ok, in_phase}
 use Rattle.core_laws.proofs.kept.Carried.{holds_kept}
 use Rattle.core_laws.proofs.trace.DeskOfTrace.{shown_of}

@@ -1,32 +1,14 @@
 -- Each act is one of the rows that the tokens see.
 use Rattle.std.proofs.Common.{◌≡◌, ℕ, suc, ◌+◌, ◌*◌, true, false, Option, None, Some, List, [], ◌∷◌, ◌++◌, length, refl, ap, ◌∙◌, subst, inl, inr, arith}
-use Rattle.std.proofs.lemmas.Bool.Decides.{eqb_tells}
-use Rattle.std.proofs.lemmas.Option.{same_Some}
-use Rattle.std.specs.List.{AllByRecursion}
+use Rattle.core_laws.proofs.Common.{AllByRecursion, Answer, Desk, DeviceZone, Item, JournalZone, Logged, LogicalZone, Mapping, Pbn, Phase, PhysicalZone, Post, SealedBlock, Sizes, Trace, Vio, ZoneData, ZoneId, as_items, claims, eqb_tells, every-map, holds, notified, notified_zones, queued, same_Some, total, turned}
 use Rattle.blk_base.specs.Sectors.{zero_block}
-use Rattle.blk_base.specs.declared.place.Mapping.{Mapping}
 use Rattle.blk_base.specs.declared.place.Mapping.TheVariants.{Unmapped, Zero, At}
-use Rattle.blk_base.specs.declared.place.Pbn.{Pbn}
-use Rattle.blk_base.specs.declared.place.ZoneId.{ZoneId}
 use Rattle.blk_base.specs.declared.place.ZoneId.TheVariants as id
-use Rattle.blk_base.specs.declared.request.Answer.{Answer}
 use Rattle.blk_base.specs.declared.request.Answer.TheVariants as reply
-use Rattle.core_model.specs.declared.items.Item.{Item}
 use Rattle.core_model.specs.declared.items.Item.TheVariants.{Request, Block, StopNotice}
-use Rattle.core_model.specs.declared.items.Phase.{Phase}
 use Rattle.core_model.specs.declared.items.Phase.TheVariants as phase
-use Rattle.core_model.specs.declared.items.SealedBlock.{SealedBlock}
 use Rattle.core_model.specs.declared.items.Stage.TheVariants as stage
-use Rattle.core_model.specs.declared.items.Vio.{Vio}
-use Rattle.core_model.specs.declared.sizes.Sizes.{Sizes}
-use Rattle.core_model.specs.declared.zones.ZoneData.{ZoneData}
 use Rattle.core_model.specs.declared.zones.ZoneData.TheVariants as at
-use Rattle.core_model.specs.declared.zones.Desk.{Desk}
-use Rattle.core_model.specs.declared.zones.DeviceZone.{DeviceZone}
-use Rattle.core_model.specs.declared.zones.JournalZone.{JournalZone}
-use Rattle.core_model.specs.declared.zones.Logged.{Logged}
-use Rattle.core_model.specs.declared.zones.LogicalZone.{LogicalZone}
-use Rattle.core_model.specs.declared.zones.PhysicalZone.{PhysicalZone}
 use Rattle.core_model.specs.DeskRows as desk
 use Rattle.core_model.specs.DeskRows.{DeskBegins, DeskServes, woken}
 use Rattle.core_model.specs.DeviceRows as device
@@ -37,13 +19,7 @@ use Rattle.core_model.specs.LogicalRows as logical
 use Rattle.core_model.specs.LogicalRows.{LogicalServes, placed, with_slot, first_for, but_first_for, all_for, none_for, looked, read_next, latest_at, mapping_at, goes_on, passed_to, passes_on, all_stopped}
 use Rattle.core_model.specs.Steps as steps
 use Rattle.core_model.specs.Steps.{Act}
-use Rattle.core_model.specs.Tokens.{holds, claims, as_items, queued}
-use Rattle.core_model.specs.Trace.{Trace}
-use Rattle.core_model.specs.Vios.{Post, turned}
-use Rattle.core_model.specs.Zones.{notified, notified_zones}
-use Rattle.plain_laws.specs.Sums.{total}
-use Rattle.plain_laws.proofs.ListLaws.{every-map}
-use Rattle.core_laws.proofs.lists.LockLists.{every_but_first, every_none_for}
+use Rattle.core_laws.proofs.lists.CoreLists.{every_but_first, every_none_for}
 use Rattle.core_laws.proofs.lists.ZoneNames.{notified_count}
 use Rattle.core_laws.proofs.tokens.ActRows as row
 use Rattle.core_laws.proofs.tokens.ActRows.{Row, Sum, all_in, all_ended, Onward, onward, replied}

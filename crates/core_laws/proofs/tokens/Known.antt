@@ -1,20 +1,10 @@
 -- What a legal core knows of a zone that acts, beside its tokens: the phases of the requests that it keeps, and, of the item at
 -- the front, that its lock is held and its block is under way.
 use Rattle.std.proofs.Common.{◌≡◌, ℕ, Bool, true, List, [], ◌∷◌}
-use Rattle.std.specs.List.{AllByRecursion}
-use Rattle.core_model.specs.declared.items.Item.{Item}
+use Rattle.core_laws.proofs.Common.{AllByRecursion, Item, JournalZone, LogicalZone, Phase, SealedBlock, Vio, ZoneData, bit, holds, kept_by, kept_phase, lock_weight, total}
 use Rattle.core_model.specs.declared.items.Item.TheVariants as item
-use Rattle.core_model.specs.declared.items.Phase.{Phase}
 use Rattle.core_model.specs.declared.items.Phase.TheVariants as phase
-use Rattle.core_model.specs.declared.items.SealedBlock.{SealedBlock}
-use Rattle.core_model.specs.declared.items.Vio.{Vio}
-use Rattle.core_model.specs.declared.zones.ZoneData.{ZoneData}
 use Rattle.core_model.specs.declared.zones.ZoneData.TheVariants as at
-use Rattle.core_model.specs.declared.zones.JournalZone.{JournalZone}
-use Rattle.core_model.specs.declared.zones.LogicalZone.{LogicalZone}
-use Rattle.core_model.specs.Facts.{kept_phase}
-use Rattle.core_model.specs.Tokens.{kept_by, holds, lock_weight}
-use Rattle.plain_laws.specs.Sums.{total, bit}
 
 -- a request in this phase
 abbrev pub IsIn : Phase → Vio → Type 0

@@ -1,12 +1,7 @@
 -- The locks of a zone, without those of an address.
 use Rattle.std.proofs.Common.{◌≡◌, ℕ, ◌+◌, Bool, false, ◌&&◌, ◌==◌, List, [], ◌∷◌, refl, sym, ◌∙◌, ap, subst, inl, inr, arith}
-use Rattle.std.proofs.lemmas.Bool.Decides.{eqb_tells}
-use Rattle.core_model.specs.declared.items.Vio.{Vio}
-use Rattle.core_model.specs.declared.zones.Lock.{Lock}
-use Rattle.core_model.specs.declared.zones.LogicalZone.{LogicalZone}
+use Rattle.core_laws.proofs.Common.{Lock, LogicalZone, Vio, bit, eqb_tells, lock_weight, total}
 use Rattle.core_model.specs.LogicalRows.{without}
-use Rattle.core_model.specs.Tokens.{lock_weight}
-use Rattle.plain_laws.specs.Sums.{total, bit}
 use Rattle.core_laws.proofs.tokens.Known.{Leased}
 
 -- without the locks of an address, it has none, and all others have theirs

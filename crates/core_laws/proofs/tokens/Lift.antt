@@ -1,19 +1,9 @@
 -- A step and a move change the sums of one zone or two: what each kind of token owes is a law on the data of that zone.
 use Rattle.std.proofs.Common.{◌≡◌, ℕ, ◌+◌, ◌<◌, ◌≤◌, Bool, true, false, List, [], ◌∷◌, ◌++◌, length, Some, slice_get, slice_set, nat_eq, refl, ap, sym, ◌∙◌, arith}
-use Rattle.std.specs.List.{AllByRecursion}
-use Rattle.core_model.specs.declared.items.Item.{Item}
+use Rattle.core_laws.proofs.Common.{AllByRecursion, AtMost, Balanced, Item, Post, Sizes, Token, Vio, Zone, ZoneData, as_items, get-put_other, given, total, total-append, total-set, weight, zone_number}
 use Rattle.core_model.specs.declared.items.Item.TheVariants.{Request}
-use Rattle.core_model.specs.declared.items.Vio.{Vio}
-use Rattle.core_model.specs.declared.sizes.Sizes.{Sizes}
-use Rattle.core_model.specs.declared.zones.ZoneData.{ZoneData}
-use Rattle.core_model.specs.declared.zones.Zone.{Zone}
-use Rattle.plain_laws.specs.Sums.{total}
 use Rattle.core_model.specs.Steps.{sent_to, sent, delivered, Core, StepOf, MoveOf}
-use Rattle.core_model.specs.Tokens.{Token, as_items, weight, given, Balanced, AtMost}
-use Rattle.core_model.specs.Vios.{Post}
-use Rattle.core_model.specs.Zones.{zone_number}
-use Rattle.plain_laws.proofs.ListLaws.{total-append, total-set, get-put_other}
-use Rattle.core_laws.proofs.lists.Lists.{total-posted, length-posted}
+use Rattle.core_laws.proofs.lists.CoreLists.{total-posted, length-posted}
 use Rattle.core_laws.proofs.tokens.ActRows.{Sum}
 use Rattle.core_laws.proofs.tokens.ActSums.{IsRow, posts_sum}
 

@@ -1,20 +1,13 @@
 -- What is posted for a request that is begun, and for one that gets the lock of its address.
 use Rattle.std.proofs.Common.{◌≡◌, ◌⊎◌, false, List, [], ◌∷◌, Option, None, Some, inl, inr, refl, ap, sym, subst}
-use Rattle.std.proofs.lemmas.Option.{same_Some}
+use Rattle.core_laws.proofs.Common.{Asks, LogicalZone, Post, Request, Sizes, Vio, Writer, same_Some, turned}
 use Rattle.blk_base.specs.declared.place.ZoneId.TheVariants as id
-use Rattle.blk_base.specs.declared.request.Request.{Request}
 use Rattle.blk_base.specs.declared.request.Request.TheVariants as request
-use Rattle.blk_base.specs.declared.request.Writer.{Writer}
-use Rattle.core_model.specs.declared.items.Asks.{Asks}
 use Rattle.core_model.specs.declared.items.Asks.TheVariants.{Read, Write}
 use Rattle.core_model.specs.declared.items.Item.TheVariants as item
 use Rattle.core_model.specs.declared.items.Phase.TheVariants as phase
-use Rattle.core_model.specs.declared.items.Vio.{Vio}
-use Rattle.core_model.specs.declared.sizes.Sizes.{Sizes}
-use Rattle.core_model.specs.declared.zones.LogicalZone.{LogicalZone}
 use Rattle.core_model.specs.DeskRows.{vio_of}
 use Rattle.core_model.specs.LogicalRows.{looked, read_next, next_for, mapping_at, goes_on, only_post, passes_on}
-use Rattle.core_model.specs.Vios.{Post, turned}
 
 -- a request that is begun has its name, and arrives or flushes
 pub begun_request : (sizes : Sizes) (w : Writer) (r : Request) (v : Vio) → vio_of sizes w r ≡ Some v → v.request ≡ w

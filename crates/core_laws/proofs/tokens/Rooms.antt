@@ -1,26 +1,13 @@
 -- In a legal core no lane and no list of a zone has more than its share.
 use Rattle.std.proofs.Common.{◌≡◌, ℕ, zero, suc, ◌+◌, ◌*◌, ◌<◌, ◌≤◌, ◌==◌, ◌⊎◌, Bool, true, false, if◌then◌else◌, cond, IsSome, Some, List, [], ◌∷◌, length, slice_get, get_or, refl, ap, ◌∙◌, subst, inl, inr, arith}
-use Rattle.std.proofs.lemmas.Bool.Decides.{eqb_tells}
-use Rattle.vdo_model.specs.DeskLog.{IsDeskLog, begun, answered}
-use Rattle.vdo_model.specs.Scripts.{Script}
-use Rattle.vdo_model.specs.declared.report.DeskLine.{DeskLine}
+use Rattle.core_laws.proofs.Common.{DataOk, DeskLine, IsDeskLog, Item, Script, Session, Token, Zone, ZoneData, answered, begun, desk_zone, device_zone, eqb_tells, given, in_log, is_answer, is_begin, is_word, kept_by, lines, notice_token, notified_by, notified_zones, queued, room_token, total, total-get, total_alone, weight}
 use Rattle.vdo_model.specs.declared.report.DeskLine.TheVariants.{Begin, Answer}
-use Rattle.core_model.specs.declared.items.Item.{Item}
 use Rattle.core_model.specs.declared.items.Item.TheVariants as item
-use Rattle.core_model.specs.declared.zones.ZoneData.{ZoneData}
 use Rattle.core_model.specs.declared.zones.ZoneData.TheVariants as at
-use Rattle.core_model.specs.declared.zones.Zone.{Zone}
-use Rattle.core_model.specs.Facts.{DataOk}
 use Rattle.core_model.specs.Legal.{Legal, share}
-use Rattle.core_model.specs.Zones.{desk_zone, device_zone, notified_zones}
-use Rattle.core_model.specs.Sessions.{Session}
 use Rattle.core_model.specs.Steps.{Core}
-use Rattle.plain_laws.specs.Sums.{total}
-use Rattle.core_model.specs.Tokens.{Token, kept_by, queued, weight, given, room_token, notice_token, is_begin, is_answer, in_log, is_word, notified_by}
-use Rattle.core_model.specs.Trace.{lines}
 use Rattle.core_laws.proofs.tokens.Lift.{items_total}
 use Rattle.core_laws.proofs.trace.DeskOfTrace.{desk_log_right}
-use Rattle.plain_laws.proofs.ListLaws.{total-get, total_alone}
 use Rattle.core_laws.proofs.kept.ZoneKinds.{desk_sits, device_sits, no_words}
 
 -- Each stream has at most so many requests under way.

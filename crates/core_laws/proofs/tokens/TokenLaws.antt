@@ -1,12 +1,7 @@
 -- What each row does to each kind of token. A row that doesn't touch a token stands in its last clause.
 use Rattle.std.proofs.Common.{◌≡◌, ℕ, ◌==◌, Bool, ◌&&◌, List, [], ◌∷◌, refl, ap, arith}
-use Rattle.blk_base.specs.declared.request.Writer.{Writer}
+use Rattle.core_laws.proofs.Common.{Sizes, Vio, Writer, ZoneData, bit, block_token, journal_token, lease_token, notice_token, request_token, room_token, total}
 use Rattle.core_model.specs.declared.items.Item.TheVariants.{Request}
-use Rattle.core_model.specs.declared.items.Vio.{Vio}
-use Rattle.core_model.specs.declared.sizes.Sizes.{Sizes}
-use Rattle.core_model.specs.declared.zones.ZoneData.{ZoneData}
-use Rattle.core_model.specs.Tokens.{request_token, room_token, notice_token, journal_token, block_token, lease_token}
-use Rattle.plain_laws.specs.Sums.{total, bit}
 use Rattle.core_laws.proofs.tokens.ActRows as row
 use Rattle.core_laws.proofs.tokens.ActRows.{Row, Sum, Onward}
 use Rattle.core_laws.proofs.tokens.LeaseTokens.{freed}

@@ -1,21 +1,10 @@
 -- The writes that a right trace aborted were handed in, and their slots are never set; and no write or flush of the device
 -- follows one that failed.
 use Rattle.std.proofs.Common.{◌≡◌, Bool, true, false, not, ◌||◌, List, [], ◌∷◌, ◌++◌, Some, IsNone, refl, ap, sym, ◌∙◌, subst, inl, inr}
-use Rattle.std.proofs.lemmas.Bool.{or_parts}
-use Rattle.std.specs.List.{AllByRecursion}
-use Rattle.blk_base.specs.declared.request.Writer.{Writer}
-use Rattle.disk_model.specs.declared.call.Call.{Call}
+use Rattle.core_laws.proofs.Common.{Aborts, AllByRecursion, Call, Calls, Fails, Flushes, Happening, IsHeldBack, Logged, MayFollow, RightTrace, Says, Session, Sets, StopsAtFailure, Trace, Writer, aborted, calls, entered, every-map, every_both, has_stopped, is_ok, is_read, logged_of, none_is, not_both, option_cases, or_parts, same_tells, same_writer}
 use Rattle.disk_model.specs.declared.call.Call.TheVariants as call
-use Rattle.vdo_model.specs.Scripts.{same_writer}
-use Rattle.core_model.specs.declared.zones.Logged.{Logged}
-use Rattle.core_model.specs.RightTraces.{IsHeldBack, MayFollow, RightTrace, StopsAtFailure}
-use Rattle.core_model.specs.Sessions.{Session}
-use Rattle.core_model.specs.Trace.{Happening, Says, Flushes, Aborts, Calls, Fails, Sets, Trace, aborted, calls, entered, has_stopped, is_ok, is_read, logged_of}
 use Rattle.core_laws.proofs.trace.DeskOfTrace.{logged_has}
 use Rattle.core_laws.proofs.trace.Growth.{entered_stays}
-use Rattle.plain_laws.proofs.ListLaws.{every-map, every_both}
-use Rattle.plain_laws.proofs.OptionLaws.{none_is, not_both, option_cases}
-use Rattle.vdo_model.proofs.NameLaws.{same_tells}
 
 -- no entry of a list is of a request that the list doesn't name
 others_named : (es : List Logged) (w : Writer) → IsNone (logged_of es w) → AllByRecursion (λ (e : Logged). same_writer w e.request ≡ false) es

@@ -1,31 +1,14 @@
 -- The marks of a right trace: an answer says of a write no more than whether its entry was handed in and its slot set.
 use Rattle.std.proofs.Common.{ℕ, ◌≡◌, ◌<◌, ◌++◌, Bool, true, false, List, [], ◌∷◌, Option, Some, None, IsSome, IsNone, refl, sym, ◌∙◌, ap, subst, inl, inr, arith}
-use Rattle.std.proofs.lemmas.Option.{same_Some}
-use Rattle.blk_base.specs.declared.place.Lba.{Lba}
-use Rattle.blk_base.specs.declared.request.Answer.{Answer as Reply}
+use Rattle.core_laws.proofs.Common.{Answer as Reply, AreDrawn, DeskLine, Enters, Fails, Flushes, HistoryEntry, Lba, Logged, Mark, MayAnswer, Placed, Request, RightTrace, Says, Session, Sets, Trace, Writer, address_of, answer_of, done, entered, lines, logged_of, none_of, places, request_at, same_Some, same_tells}
 use Rattle.blk_base.specs.declared.request.Answer.TheVariants as reply
-use Rattle.blk_base.specs.declared.request.Request.{Request}
 use Rattle.blk_base.specs.declared.request.Request.TheVariants as request
-use Rattle.blk_base.specs.declared.request.Writer.{Writer}
-use Rattle.vdo_model.specs.DeskLog.{answer_of}
 use Rattle.vdo_model.specs.Histories.{mark_of, histories_of}
 use Rattle.vdo_model.specs.Histories as model
-use Rattle.vdo_model.specs.Places.{AreDrawn}
-use Rattle.vdo_model.specs.Scripts.{request_at, address_of}
-use Rattle.vdo_model.specs.declared.report.DeskLine.{DeskLine}
 use Rattle.vdo_model.specs.declared.report.DeskLine.TheVariants.{Begin, Answer}
-use Rattle.vdo_model.specs.declared.report.HistoryEntry.{HistoryEntry}
-use Rattle.vdo_model.specs.declared.report.Mark.{Mark}
-use Rattle.vdo_model.specs.declared.report.Placed.{Placed}
-use Rattle.core_model.specs.declared.zones.Logged.{Logged}
 use Rattle.core_model.specs.Reports.{is_there, set_in, handed_in, drawn_histories}
-use Rattle.core_model.specs.Sessions.{Session}
-use Rattle.core_model.specs.Trace.{Says, Flushes, Enters, Sets, Fails, Trace, lines, places, entered, done, logged_of}
-use Rattle.core_model.specs.RightTraces.{RightTrace, MayAnswer}
-use Rattle.plain_laws.proofs.OptionLaws.{none_of}
-use Rattle.vdo_model.proofs.NameLaws.{same_tells}
 use Rattle.core_laws.proofs.trace.DeskOfTrace.{done_is_entered}
-use Rattle.core_laws.proofs.trace.PlaceWalks.{progress}
+use Rattle.core_laws.proofs.trace.Walks.{progress}
 use Rattle.core_laws.proofs.trace.PlacesOfTrace.{places_drawn}
 
 -- what an answer says of a write

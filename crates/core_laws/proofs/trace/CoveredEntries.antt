@@ -1,33 +1,35 @@
 -- What a flush covers was committed when the device's flush of it was called.
-use Rattle.std.proofs.Common.{ℕ, ◌≡◌, ◌⊎◌, ◌<◌, ◌≤◌, ◌++◌, Bool, true, false, Some, List, ◌∷◌, length, refl, sym, ◌∙◌, ap, subst, inl, inr, arith}
-use Rattle.std.proofs.lemmas.Bool.{and_parts}
-use Rattle.blk_base.specs.declared.request.Answer.{Answer as Reply}
-use Rattle.blk_base.specs.declared.request.Answer.TheVariants as reply
-use Rattle.blk_base.specs.declared.request.Writer.{Writer}
-use Rattle.disk_model.specs.declared.call.Call.{Call}
+use Rattle.std.proofs.Common.{◌<◌, List, [], ◌∷◌, ℕ, ◌≡◌, ◌⊎◌, ◌≤◌, ◌++◌, Bool, true, false, Some, length, refl, sym, ◌∙◌, ap, subst, inl, inr, arith}
+use Rattle.core_laws.proofs.Common.{AllByRecursion, Answer as Reply, Call, Calls, DeskLine, FlushMark, HistoryEntry, IsDeskLog, IsWrite, Logged, Mark, RightTrace, Session, Trace, Writer, and_parts, answer_of, before_begin, begun, calls, committed, done, each_both, entered, every-map, lines, logged_of, of_address}
+use Rattle.core_laws.proofs.trace.Growth.{entered_grows, begun_stays}
 use Rattle.disk_model.specs.declared.call.Call.TheVariants.{Flush}
 use Rattle.stop_laws.specs.Histories.{is_lasting}
-use Rattle.vdo_model.specs.DeskLog.{answer_of, before_begin, IsDeskLog}
 use Rattle.vdo_model.specs.Histories.{is_settled}
 use Rattle.vdo_model.specs.Stops.{length_at, is_answered, is_covered}
-use Rattle.vdo_model.specs.declared.report.DeskLine.{DeskLine}
-use Rattle.vdo_model.specs.declared.report.FlushMark.{FlushMark}
-use Rattle.vdo_model.specs.declared.report.HistoryEntry.{HistoryEntry}
-use Rattle.vdo_model.specs.declared.report.Mark.{Mark}
 use Rattle.vdo_model.specs.declared.report.Mark.TheVariants.{Settled, Unsettled, Refused}
-use Rattle.core_model.specs.declared.zones.Logged.{Logged}
 use Rattle.core_model.specs.Reports.{set_in, handed_in}
-use Rattle.core_model.specs.RightTraces.{RightTrace, IsWrite}
-use Rattle.core_model.specs.Sessions.{Session}
-use Rattle.core_model.specs.Trace.{Trace, Calls, lines, calls, entered, committed, done, of_address, logged_of}
 use Rattle.core_laws.proofs.trace.AnswersOfTrace.{AnswerSays, there_some, answer_says, set_is_handed}
-use Rattle.core_laws.proofs.trace.Cuts.{Cut, call_in_cut}
+use Rattle.core_laws.proofs.trace.Cuts.{Cut, call_in_cut, lines_append, committed_append, right_part}
 use Rattle.core_laws.proofs.trace.DeskOfTrace.{AreApart, each_of_address, are_of_address, logged_has, desk_log_right, entered_apart, done_writes, done_is_committed}
-use Rattle.core_laws.proofs.lists.EntryLists.{Has, has_it, has_at, has_older, not_in_both}
-use Rattle.core_laws.proofs.lists.LineLaws.{answer_later, answered_before, before_later}
-use Rattle.core_laws.proofs.trace.MarkCalls.{HasMark}
-use Rattle.plain_laws.proofs.ListLaws.{each_both}
-use Rattle.core_laws.proofs.trace.Parts.{lines_append, committed_append, right_part}
+use Rattle.core_laws.proofs.lists.CoreLists.{Has, has_it, has_at, has_older, not_in_both, answer_later, answered_before, before_later}
+use Rattle.core_laws.proofs.trace.MarksOfTrace.{HasMark}
+use Rattle.blk_base.specs.declared.request.Answer.TheVariants as reply
+
+-- Each entry that was handed in is of a request that is begun.
+
+-- the request of an entry is begun
+abbrev pub IsBegunBy : List DeskLine → Logged → Type 0
+IsBegunBy desk e = e.request.number < begun e.request.stream desk
+
+-- Each entry that was handed in is of a request that is begun.
+pub entered_begun : (s : Session) (t : Trace) → RightTrace s t → AllByRecursion (IsBegunBy (lines t)) (entered t)
+entered_begun s [] right = tt
+entered_begun s (h ∷ t) right =
+    let stays : (e : Logged) → IsBegunBy (lines t) e → IsBegunBy (lines (h ∷ t)) e = λ e is. begun_stays s h t e.request right.0 is in
+    let rest = every-map {P = IsBegunBy (lines t)} {Q = IsBegunBy (lines (h ∷ t))} stays (entered t) (entered_begun s t right.2) in
+    entered_grows (AllByRecursion (IsBegunBy (lines (h ∷ t)))) s h t right.0 rest (λ e came next. (stays e next.is_open.is_begun, rest))
+
+-- What a flush covers was committed when the device's flush of it was called.
 
 -- a write whose slot is set was answered Ok, if it was answered
 set_ok : (handed : Bool) (b : Reply) → handed ≡ true → AnswerSays true handed (Some b) → b ≡ reply.Ok

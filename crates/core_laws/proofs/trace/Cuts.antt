@@ -1,15 +1,55 @@
 -- Where a stop cuts a trace, and what stood at a mark's call then.
-use Rattle.std.proofs.Common.{suc, ◌≡◌, ◌⊎◌, ◌+◌, ◌≤◌, true, List, [], ◌∷◌, ◌++◌, length, refl, sym, ◌∙◌, ap, inl, inr, arith, length-append}
-use Rattle.std.proofs.lemmas.List.{append-nil}
-use Rattle.disk_model.specs.declared.call.Call.{Call}
+use Rattle.std.proofs.Common.{◌≡◌, ◌⊎◌, true, List, [], ◌∷◌, ◌++◌, refl, sym, ap, inl, inr, suc, ◌+◌, ◌≤◌, length, ◌∙◌, arith, length-append}
+use Rattle.core_laws.proofs.Common.{Call, Calls, Commits, DeskLine, Enters, Fails, Flushes, FlushMark, Happening, Logged, RightTrace, Says, Session, Trace, append-nil, calls, committed, entered, lines}
+use Rattle.blk_base.specs.declared.request.Answer.TheVariants.{Ok}
+use Rattle.vdo_model.specs.declared.report.DeskLine.TheVariants.{Answer}
 use Rattle.disk_model.specs.declared.call.Call.TheVariants.{Flush}
 use Rattle.stop_laws.proofs.HistoryLaws.{length_at_later, length_at_next}
 use Rattle.vdo_model.specs.FlushMarks.{successes}
 use Rattle.vdo_model.specs.Stops.{length_at}
-use Rattle.vdo_model.specs.declared.report.FlushMark.{FlushMark}
-use Rattle.core_model.specs.Trace.{Happening, Calls, Fails, Trace, calls}
-use Rattle.core_laws.proofs.trace.MarkCalls.{HasMark}
-use Rattle.core_laws.proofs.trace.Parts.{calls_append, one_is_part}
+use Rattle.core_laws.proofs.trace.MarksOfTrace.{HasMark}
+
+-- The lists of a trace that has an older part: each is what the newer part adds to that of the older one.
+
+-- The lines of the desk log.
+pub lines_append : (newer older : Trace) → lines (newer ++ older) ≡ lines newer ++ lines older
+lines_append [] older = refl
+lines_append (Says line ∷ t) older = ap (λ (xs : List DeskLine). line ∷ xs) (lines_append t older)
+lines_append (Flushes mark ∷ t) older = ap (λ (xs : List DeskLine). Answer mark.request Ok ∷ xs) (lines_append t older)
+lines_append (Fails w c true ∷ t) older = lines_append t older
+lines_append (other ∷ t) older = lines_append t older
+
+-- The calls of the device.
+pub calls_append : (newer older : Trace) → calls (newer ++ older) ≡ calls newer ++ calls older
+calls_append [] older = refl
+calls_append (Calls call ∷ t) older = ap (λ (xs : List Call). call ∷ xs) (calls_append t older)
+calls_append (Fails w call true ∷ t) older = ap (λ (xs : List Call). call ∷ xs) (calls_append t older)
+calls_append (other ∷ t) older = calls_append t older
+
+-- The entries that were handed in.
+pub entered_append : (newer older : Trace) → entered (newer ++ older) ≡ entered newer ++ entered older
+entered_append [] older = refl
+entered_append (Enters e ∷ t) older = ap (λ (xs : List Logged). e ∷ xs) (entered_append t older)
+entered_append (other ∷ t) older = entered_append t older
+
+-- The committed entries.
+pub committed_append : (newer older : Trace) → committed (newer ++ older) ≡ committed newer ++ committed older
+committed_append [] older = refl
+committed_append (Commits e ∷ t) older = ap (λ (xs : List Logged). e ∷ xs) (committed_append t older)
+committed_append (other ∷ t) older = committed_append t older
+
+-- The older part of a right trace is right.
+pub right_part : (s : Session) (newer older : Trace) → RightTrace s (newer ++ older) → RightTrace s older
+right_part s [] older right = right
+right_part s (h ∷ t) older right = right_part s t older right.2
+
+-- Of two older parts of one list one is a part of the other.
+pub one_is_part : {X : Type 0} (p q x y : List X) → p ++ x ≡ q ++ y → ((m : List X) × (x ≡ m ++ y)) ⊎ ((h : X) × (m : List X) × (y ≡ h ∷ (m ++ x)))
+one_is_part [] q x y same = inl (q, same)
+one_is_part (h ∷ p) [] x y same = inr (h, p, sym same)
+one_is_part (h ∷ p) (i ∷ q) x y same = one_is_part p q x y cc
+
+-- Where a stop cuts a trace, and what stood at a mark's call then.
 
 -- the part of a trace whose calls are these, which is empty or whose newest happening is a call
 pub record Cut (t : Trace) (prefix : List Call) : Type 0 where

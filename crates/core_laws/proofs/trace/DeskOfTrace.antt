@@ -1,24 +1,8 @@
 -- The desk log of a right trace is well formed, and each done entry is a committed one, each committed one an entered
 -- one.
 use Rattle.std.proofs.Common.{ℕ, ◌≡◌, ◌<◌, ◌==◌, List, [], ◌∷◌, Some, IsNone, refl, sym, ◌∙◌, subst, inl, inr, arith}
-use Rattle.std.proofs.lemmas.Option.{same_Some}
-use Rattle.std.proofs.lemmas.Bool.{cases_Bool}
-use Rattle.std.proofs.lemmas.Bool.Decides.{eqb_tells}
-use Rattle.std.specs.List.{AllByRecursion}
-use Rattle.blk_base.specs.declared.request.Answer.{Answer as Reply}
-use Rattle.blk_base.specs.declared.request.Writer.{Writer}
-use Rattle.vdo_model.specs.DeskLog.{IsDeskLog, begun, answer_of}
-use Rattle.vdo_model.specs.Scripts.{Script}
-use Rattle.vdo_model.specs.declared.report.DeskLine.{DeskLine}
+use Rattle.core_laws.proofs.Common.{AllByRecursion, Answer as Reply, DeskLine, Happening, IsDeskLog, IsWrite, Logged, MayFollow, RightTrace, Script, Session, Sets, Shown, Trace, Writer, answer_of, begun, cases_Bool, committed, done, each_at, entered, eqb_tells, every-map, lines, logged_of, none_is, not_both, of_address, option_cases, same_self, same_Some, same_tells}
 use Rattle.vdo_model.specs.declared.report.DeskLine.TheVariants.{Begin, Answer}
-use Rattle.core_model.specs.declared.zones.Logged.{Logged}
-use Rattle.core_model.specs.Sessions.{Session, Shown}
-use Rattle.core_model.specs.Trace.{Happening, Sets, Trace, lines, entered, committed, done, of_address, logged_of}
-use Rattle.core_model.specs.RightTraces.{RightTrace, IsWrite, MayFollow}
-use Rattle.plain_laws.proofs.ListLaws.{every-map}
-use Rattle.plain_laws.proofs.OptionLaws.{not_both, none_is, option_cases}
-use Rattle.plain_laws.proofs.ListLaws.{each_at}
-use Rattle.vdo_model.proofs.NameLaws.{same_tells, same_self}
 use Rattle.core_laws.proofs.trace.Growth.{desk_grows, entered_grows, committed_grows, done_grows, begun_more, write_stays}
 
 -- the desk log is well formed

@@ -1,20 +1,7 @@
 -- A trace that grows by a happening: what its lists become, and what of them stays.
 use Rattle.std.proofs.Common.{ℕ, ◌≡◌, ◌<◌, ◌≤◌, true, List, ◌∷◌, Some, IsNone, refl, subst, inl, inr, arith}
-use Rattle.std.proofs.lemmas.Bool.Decides.{eqb_tells}
-use Rattle.blk_base.specs.declared.request.Answer.{Answer as Reply}
-use Rattle.blk_base.specs.declared.request.Writer.{Writer}
-use Rattle.vdo_model.specs.DeskLog.{IsNextLine, begun, answer_of, before_begin}
-use Rattle.vdo_model.specs.Places.{place_of}
-use Rattle.vdo_model.specs.Scripts.{Script}
-use Rattle.vdo_model.specs.declared.report.DeskLine.{DeskLine}
+use Rattle.core_laws.proofs.Common.{Answer as Reply, CommitMayFollow, Commits, DeskLine, Draws, Enters, EntryMayFollow, Fails, Flushes, Gift, GiftMayFollow, Gives, Happening, IsNextLine, IsWrite, Logged, MayFollow, Placed, PlaceMayFollow, Says, Script, Session, Sets, SlotMayFollow, Trace, Writer, answer_of, before_begin, begun, committed, done, entered, eqb_tells, gifts, lines, logged_of, not_both, place_of, places, same_tells}
 use Rattle.vdo_model.specs.declared.report.DeskLine.TheVariants.{Begin, Answer}
-use Rattle.vdo_model.specs.declared.report.Placed.{Placed}
-use Rattle.core_model.specs.declared.zones.Logged.{Logged}
-use Rattle.core_model.specs.Sessions.{Session}
-use Rattle.core_model.specs.Trace.{Happening, Says, Flushes, Draws, Enters, Commits, Sets, Gives, Fails, Trace, Gift, lines, places, entered, committed, done, gifts, logged_of}
-use Rattle.core_model.specs.RightTraces.{IsWrite, MayFollow, PlaceMayFollow, EntryMayFollow, CommitMayFollow, SlotMayFollow, GiftMayFollow}
-use Rattle.plain_laws.proofs.OptionLaws.{not_both}
-use Rattle.vdo_model.proofs.NameLaws.{same_tells}
 
 -- Lists of a trace that grew: the old one, or with one item more.
 

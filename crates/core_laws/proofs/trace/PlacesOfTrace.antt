@@ -1,25 +1,10 @@
 -- The places of a right trace are right, and so is a run in which each request is answered.
 use Rattle.std.proofs.Common.{ℕ, ◌≡◌, ◌⊎◌, ◌<◌, ◌≤◌, ◌↔◌, true, List, [], ◌∷◌, Some, None, IsSome, IsNone, refl, sym, ◌∙◌, ap, subst, inl, inr, arith}
-use Rattle.std.proofs.lemmas.Option.{same_Some}
-use Rattle.std.specs.List.{AllByRecursion}
-use Rattle.blk_base.specs.declared.request.Answer.{Answer as Reply}
+use Rattle.core_laws.proofs.Common.{AllByRecursion, Answer as Reply, AreDrawn, DeskLine, Draws, Fails, Flushes, Follows, Gift, Happening, HasCause, HasPlace, IsAnsweredAtOnce, IsNextPlace, IsOfZone, IsStoppedAtOnce, IsWrite, MayAnswer, MayFollow, Placed, Request, RightTrace, Says, Script, Session, Trace, Writer, address_of, answer_of, before_begin, begun, done, every-map, gift_of, gifts, lines, logged_of, place_of, places, request_at, same_Some, same_tells, some_is, some_of}
 use Rattle.blk_base.specs.declared.request.Answer.TheVariants as reply
 use Rattle.blk_base.specs.declared.request.Answer.TheVariants.{Stopped}
-use Rattle.blk_base.specs.declared.request.Request.{Request}
 use Rattle.blk_base.specs.declared.request.Request.TheVariants as request
-use Rattle.blk_base.specs.declared.request.Writer.{Writer}
-use Rattle.vdo_model.specs.DeskLog.{begun, answer_of, before_begin}
-use Rattle.vdo_model.specs.Places.{place_of, AreDrawn, IsAnsweredAtOnce, IsNextPlace, IsOfZone, Follows}
-use Rattle.vdo_model.specs.Scripts.{Script, request_at, address_of}
-use Rattle.vdo_model.specs.declared.report.DeskLine.{DeskLine}
 use Rattle.vdo_model.specs.declared.report.DeskLine.TheVariants.{Begin, Answer}
-use Rattle.vdo_model.specs.declared.report.Placed.{Placed}
-use Rattle.core_model.specs.Sessions.{Session}
-use Rattle.core_model.specs.Trace.{Happening, Says, Flushes, Draws, Fails, Trace, Gift, lines, places, done, gifts, logged_of, gift_of}
-use Rattle.core_model.specs.RightTraces.{RightTrace, IsWrite, HasPlace, IsStoppedAtOnce, HasCause, MayAnswer, MayFollow}
-use Rattle.plain_laws.proofs.ListLaws.{every-map}
-use Rattle.plain_laws.proofs.OptionLaws.{some_is, some_of}
-use Rattle.vdo_model.proofs.NameLaws.{same_tells}
 use Rattle.core_laws.proofs.trace.Growth.{places_grow, gifts_grow, begun_stays, before_stays, place_stays}
 use Rattle.core_laws.proofs.trace.DeskOfTrace.{logged_has, done_writes}
 

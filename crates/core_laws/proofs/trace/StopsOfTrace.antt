@@ -1,37 +1,226 @@
 -- A stop before or after any call of a right trace is right.
-use Rattle.std.proofs.Common.{ℕ, ◌≡◌, ◌<◌, ◌≤◌, Bool, true, false, IsSome, List, ◌∷◌, ◌++◌, length, refl, sym, ◌∙◌, ap, subst, inl, inr, arith, append_assoc}
-use Rattle.std.specs.List.{AllByRecursion}
+use Rattle.std.proofs.Common.{ℕ, ◌≡◌, ◌⊎◌, ◌<◌, false, Option, List, [], ◌∷◌, ◌++◌, length, refl, ◌∙◌, ap, inl, inr, arith, ◌≤◌, Bool, true, sym, subst, append_assoc, IsSome}
+use Rattle.core_laws.proofs.Common.{AllByRecursion, AtRest, Call, Calls, DeskLine, EachStands, FlushMark, HasPending, HistoryEntry, IsSession, IsWrite, Kept, Logged, Mapping, Mark, OnItsWay, Request, RightTrace, RunReport, Session, Shown, Trace, Writer, answer_of, append-nil, begun, bytes_of, calls, committed, done, each_both, entered, entries_of, entry_of, eqb_tells, every-append, every-map, lines, log, marks, newest, of_address, places, request_at, same_self, value_from, value_written}
+use Rattle.blk_base.specs.declared.place.Mapping.TheVariants.{Unmapped, Zero, At}
 use Rattle.disk_model.specs.Images.{IsImage}
-use Rattle.disk_model.specs.declared.call.Call.{Call}
-use Rattle.disk_model.specs.declared.call.Call.TheVariants.{Flush}
-use Rattle.image_layout.specs.Window.{value_of}
+use Rattle.disk_model.specs.Log.{Blocks, block_at}
+use Rattle.disk_model.proofs.ImageLaws.{block_of_image}
+use Rattle.image_layout.specs.Window.{IsWindow, journal_of, mapping_of, value_in, value_of}
+use Rattle.stop_laws.proofs.JournalLaws.{window_at_rest, window_under_way}
+use Rattle.blk_base.proofs.RegionLaws.{data_block_inside}
+use Rattle.core_laws.proofs.device.DeviceCalls.{mapped_data, write_whole}
 use Rattle.stop_laws.specs.Histories.{is_lasting}
-use Rattle.vdo_model.specs.DeskLog.{begun, answer_of}
+use Rattle.vdo_model.specs.Stops.{is_covered, covered, MayLast, last_value, IsBegunBefore, before_answer, length_at, MayShow, RightAfterStops}
+use Rattle.vdo_model.specs.declared.report.Mark.TheVariants.{Settled, Unsettled, Refused}
+use Rattle.stop_laws.proofs.HistoryLaws.{covered_within}
+use Rattle.core_model.specs.Reports.{opening_values, ShowsValues, report_of, drawn_histories}
+use Rattle.core_laws.proofs.trace.CoveredEntries.{IsBegunBy, entered_begun, not_covered}
+use Rattle.core_laws.proofs.lists.CoreLists.{Has, has_older, each_older, each_newer, of_address_append, begun_later, before_answer_part}
+use Rattle.core_laws.proofs.trace.Walks.{Walks, walks_front, walks_split}
+use Rattle.disk_model.specs.declared.call.Call.TheVariants.{Flush}
 use Rattle.vdo_model.specs.Histories.{history_of, is_settled}
-use Rattle.vdo_model.specs.Stops.{length_at, is_covered, covered, before_answer, MayShow, RightAfterStops}
-use Rattle.vdo_model.specs.declared.report.DeskLine.{DeskLine}
-use Rattle.vdo_model.specs.declared.report.FlushMark.{FlushMark}
-use Rattle.vdo_model.specs.declared.report.HistoryEntry.{HistoryEntry}
-use Rattle.vdo_model.specs.declared.report.RunReport.{RunReport}
-use Rattle.core_model.specs.declared.zones.Logged.{Logged}
-use Rattle.core_model.specs.Reports.{ShowsValues, opening_values, report_of, drawn_histories}
-use Rattle.core_model.specs.RightTraces.{RightTrace, IsWrite}
-use Rattle.core_model.specs.Sessions.{Session, IsSession, bytes_of, value_from, log}
-use Rattle.core_model.specs.Trace.{Trace, Calls, lines, calls, marks, places, entered, committed, done, of_address, newest, entries_of}
-use Rattle.plain_laws.proofs.ListLaws.{every-map}
-use Rattle.core_laws.proofs.trace.BegunEntries.{IsBegunBy, entered_begun}
-use Rattle.core_laws.proofs.trace.CoveredEntries.{not_covered}
-use Rattle.core_laws.proofs.trace.Cuts.{Cut, cut, cut_before_call}
+use Rattle.core_laws.proofs.trace.Cuts.{Cut, cut, cut_before_call, lines_append, entered_append, right_part}
 use Rattle.core_laws.proofs.trace.DeskOfTrace.{shown_of, each_of_address, entered_writes}
-use Rattle.core_laws.proofs.lists.EntryLists.{Has, each_older, each_newer, of_address_append}
 use Rattle.core_laws.proofs.trace.HistoriesOfTrace.{entered_walks, settled_walks}
-use Rattle.core_laws.proofs.lists.LineLaws.{begun_later, before_answer_part}
-use Rattle.core_laws.proofs.trace.MarkCalls.{HasMark, all_marks}
-use Rattle.plain_laws.proofs.ListLaws.{each_both}
-use Rattle.core_laws.proofs.trace.Parts.{lines_append, entered_append, right_part}
-use Rattle.core_laws.proofs.trace.ShownHistories.{shown_part, each_there, stands_last, stands_value, stands_begun, none_covered}
-use Rattle.core_laws.proofs.trace.ShownImages.{image_entries, same_superblock, shown_value, whole_entry}
-use Rattle.core_laws.proofs.trace.WalkLaws.{Walks}
+use Rattle.core_laws.proofs.trace.MarksOfTrace.{HasMark, all_marks}
+
+-- What an image shows of a trace: the entries of its window, and the value of each address.
+
+-- the entries of a window that a stop may leave: the committed ones, or those that were handed in
+pub record ImageEntries (s : Session) (u : Trace) (image : Blocks) : Type 0 where
+  pub es : List Logged
+  pub more : List Logged
+  pub fewer : List Logged
+  pub of_entered : entered u ≡ more ++ es
+  pub has_committed : es ≡ fewer ++ committed u
+  pub is_window : IsWindow s.sizes.geometry s.sizes.start (journal_of s.sizes.geometry image) (entries_of s.window es)
+  pub stand : EachStands s u es
+
+module _ (s : Session) (u : Trace) (image : Blocks) (session : IsSession s) (is : IsImage s.blocks (log s u) image) where
+  rest_window : (es : List Logged) → AtRest s u es → IsWindow s.sizes.geometry s.sizes.start (journal_of s.sizes.geometry image) (entries_of s.window es)
+  rest_window es rest =
+      window_at_rest s.blocks (log s u) s.sizes.geometry s.sizes.start (entries_of s.window es) image (omega (arith, session.sizes.journal.0)) session.sizes.journal.1 (omega (arith, session.room)) rest.0 is
+
+  pending_entries : (pending : HasPending s u) → AtRest s u (committed u) ⊎ OnItsWay s u (committed u) pending.entry ⊎ AtRest s u (pending.entry ∷ committed u) → ImageEntries s u image
+  pending_entries pending (inl rest) = record {
+    es = committed u;
+    more = pending.entry ∷ [];
+    fewer = [];
+    of_entered = pending.is_last;
+    has_committed = refl;
+    is_window = rest_window (committed u) rest;
+    stand = rest.1;
+  }
+  pending_entries pending (inr (inr rest)) = record {
+    es = pending.entry ∷ committed u;
+    more = [];
+    fewer = pending.entry ∷ [];
+    of_entered = pending.is_last;
+    has_committed = refl;
+    is_window = rest_window (pending.entry ∷ committed u) rest;
+    stand = rest.1;
+  }
+  pending_entries pending (inr (inl way)) =
+      elim (window_under_way s.blocks (log s u) s.sizes.geometry s.sizes.start (entries_of s.window (committed u)) (entry_of pending.entry) image session.sizes.journal.1 (omega (arith, session.room)) way.0 is) [
+        | inl new ↦ record {
+          es = pending.entry ∷ committed u;
+          more = [];
+          fewer = pending.entry ∷ [];
+          of_entered = pending.is_last;
+          has_committed = refl;
+          is_window = new;
+          stand = way.1;
+        }
+        | inr old ↦ record {
+          es = committed u;
+          more = pending.entry ∷ [];
+          fewer = [];
+          of_entered = pending.is_last;
+          has_committed = refl;
+          is_window = old;
+          stand = way.1.1;
+        }
+      ]
+
+  journal_entries : ((entered u ≡ committed u) × AtRest s u (committed u)) ⊎ HasPending s u → ImageEntries s u image
+  journal_entries (inl (all, rest)) = record {
+    es = committed u;
+    more = [];
+    fewer = [];
+    of_entered = all;
+    has_committed = refl;
+    is_window = rest_window (committed u) rest;
+    stand = rest.1;
+  }
+  journal_entries (inr pending) = pending_entries pending pending.stands
+
+  -- The window of an image has the entries that are committed, or those that were handed in.
+  pub image_entries : Shown s u → ImageEntries s u image
+  image_entries shown = journal_entries shown.journal
+
+  -- The superblock stays.
+  pub same_superblock : Shown s u → block_at image 0 ≡ block_at s.image 0
+  same_superblock shown =
+      let some : 0 < length s.blocks = omega (arith, session.room) in
+      block_of_image s.blocks (log s u) image 0 (block_at s.image 0) some (session.one_image.whole 0 some) shown.kept.superblock is
+
+  -- An address that no entry names has the value that it had.
+  old_value : (a : ℕ) (m : Mapping) → mapping_of s.window a ≡ m → Kept s u → value_in image m ≡ value_in s.image m
+  old_value a Unmapped maps kept = refl
+  old_value a Zero maps kept = refl
+  old_value a (At x) maps kept =
+      let below = data_block_inside s.sizes.geometry x.0 (mapped_data s.sizes.geometry s.sizes.start (journal_of s.sizes.geometry s.image) s.window a x session.is_window.written maps) in
+      let inside : x.0 < length s.blocks = omega (arith, below, session.room) in
+      block_of_image s.blocks (log s u) image x.0 (block_at s.image x.0) inside (session.one_image.whole x.0 inside) (kept.mapped a x maps) is
+
+  -- And an address has the value of its newest entry.
+  pub shown_value : (es : List Logged) (a : ℕ) → Kept s u → EachStands s u es → AllByRecursion (λ (e : Logged). length (bytes_of s e) ≡ 4096) es
+      → value_of image (entries_of s.window es) a ≡ value_from s a (newest (of_address a es))
+  shown_value [] a kept stand whole = old_value a (mapping_of s.window a) refl kept
+  shown_value (e ∷ older) a kept stand whole = elim (eqb_tells e.at.0 a) [
+    | inl same ↦ rw same.0 (block_of_image s.blocks (log s u) image e.block.0 (bytes_of s e) (omega (arith, stand.0.0.inside, session.room)) whole.0 stand.0.1 is)
+    | inr other ↦ rw other.0 (shown_value older a kept stand.1 whole.1)
+  ]
+
+-- what an entry writes is whole
+pub whole_entry : (s : Session) (t : Trace) (e : Logged) → IsSession s → IsWrite s t e → length (bytes_of s e) ≡ 4096
+whole_entry s t e session is =
+    ap (λ (o : Option Request). length (value_written o)) is.asked ∙ write_whole s e.request e.at is.bytes false session is.asked
+
+-- The part of a history that a stop shows: from the entry that stands for the newest of the shown ones back.
+
+-- The first entry of a history stands for the first of these; where there is none, nothing is shown.
+abbrev pub StandsFor : List HistoryEntry → List Logged → Type 0
+StandsFor [] [] = Unit {0}
+StandsFor [] (e ∷ es) = ⊥
+StandsFor (h ∷ hs) [] = ⊥
+StandsFor (h ∷ hs) (e ∷ es) = (is_lasting true h.mark ≡ true) × (h.request ≡ e.request)
+
+-- a history in two parts: what is newer doesn't last, or is of newer entries
+pub record ShownPart (history : List HistoryEntry) (newer_es es : List Logged) : Type 0 where
+  pub newer : List HistoryEntry
+  pub shown : List HistoryEntry
+  pub part : history ≡ newer ++ shown
+  pub of_newer : AllByRecursion (λ (h : HistoryEntry). (is_lasting true h.mark ≡ false) ⊎ Has newer_es h.request) newer
+  pub stands : StandsFor shown es
+
+none_passes : (test : Mark → Bool) (hs : List HistoryEntry) → Walks test hs [] → AllByRecursion (λ (h : HistoryEntry). test h.mark ≡ false) hs
+none_passes test [] walks = tt
+none_passes test (h ∷ hs) (inl (passed, rest)) = (passed, none_passes test hs rest)
+none_passes test (h ∷ hs) (inr (e, older, is, request_is, passes, rest)) = absurd cc
+
+oldest_part : (hs : List HistoryEntry) (newer_es es : List Logged) → Walks (is_lasting true) hs es → ShownPart hs newer_es es
+oldest_part hs newer_es [] walks = record {
+  newer = hs;
+  shown = [];
+  part = sym (append-nil hs);
+  of_newer = every-map {P = _} {Q = _} (λ h none. inl none) hs (none_passes (is_lasting true) hs walks);
+  stands = tt;
+}
+oldest_part hs newer_es (e ∷ es) walks =
+    let found = walks_front (is_lasting true) hs e es walks in record {
+      newer = found.newer;
+      shown = found.entry ∷ found.older;
+      part = found.part;
+      of_newer = every-map {P = _} {Q = _} (λ h none. inl none) found.newer found.of_none;
+      stands = (found.passes, found.request_is);
+    }
+
+-- A history that walks newer entries and these has such parts.
+pub shown_part : (hs : List HistoryEntry) (newer_es es : List Logged) → Walks (is_lasting true) hs (newer_es ++ es) → ShownPart hs newer_es es
+shown_part hs newer_es es walks =
+    let split = walks_split (is_lasting true) hs newer_es es walks in
+    let oldest = oldest_part split.older newer_es es split.walks in record {
+      newer = split.newer ++ oldest.newer;
+      shown = oldest.shown;
+      part = split.part ∙ ap (λ (older : List HistoryEntry). split.newer ++ older) oldest.part ∙ sym (append_assoc split.newer oldest.newer oldest.shown);
+      of_newer = every-append _ split.newer oldest.newer split.of_newer oldest.of_newer;
+      stands = oldest.stands;
+    }
+
+-- Each entry that passes the test has one of the entries that are walked.
+pub each_there : (test : Mark → Bool) (hs : List HistoryEntry) (es : List Logged) → Walks test hs es → AllByRecursion (λ (h : HistoryEntry). test h.mark ≡ true → Has es h.request) hs
+each_there test [] es walks = tt
+each_there test (h ∷ hs) es (inl (passed, rest)) = (λ passes. absurd cc, each_there test hs es rest)
+each_there test (h ∷ hs) es (inr (e, older, is, request_is, passes, rest)) =
+    let back : (w : Writer) → Has (e ∷ older) w → Has es w = λ w has. subst (λ (xs : List Logged). Has xs w) (sym is) has in
+    let here : Has (e ∷ older) e.request = rw (same_self e.request) refl in (
+      λ passes_too. back h.request (subst (Has (e ∷ older)) (sym request_is) here),
+      every-map {P = λ (g : HistoryEntry). test g.mark ≡ true → Has older g.request} {Q = λ (g : HistoryEntry). test g.mark ≡ true → Has es g.request} (λ g has passes_too. back g.request (has_older (e ∷ []) older g.request (has passes_too))) hs (each_there test hs older rest),
+    )
+
+mark_lasts : (h : HistoryEntry) (hs : List HistoryEntry) (mark : Mark) → h.mark ≡ mark → is_lasting true mark ≡ true → MayLast (h ∷ hs)
+mark_lasts h hs Settled is lasts = rw is tt
+mark_lasts h hs Unsettled is lasts = rw is tt
+mark_lasts h hs Refused is lasts = absurd cc
+
+-- The last entry of what is shown lasts.
+pub stands_last : (shown : List HistoryEntry) (es : List Logged) → StandsFor shown es → MayLast shown
+stands_last [] es stands = tt
+stands_last (h ∷ hs) [] stands = absurd stands
+stands_last (h ∷ hs) (e ∷ es) stands = mark_lasts h hs h.mark refl stands.0
+
+-- It has the value of the newest entry that is shown.
+pub stands_value : (s : Session) (a : ℕ) (shown : List HistoryEntry) (es : List Logged) → StandsFor shown es → value_from s a (newest es) ≡ last_value s.script (opening_values s a) shown
+stands_value s a [] [] stands = refl
+stands_value s a [] (e ∷ es) stands = absurd stands
+stands_value s a (h ∷ hs) [] stands = absurd stands
+stands_value s a (h ∷ hs) (e ∷ es) stands = ap (λ (w : Writer). value_written (request_at s.script w)) (sym stands.1)
+
+-- It was begun where that was.
+pub stands_begun : (desk : List DeskLine) (f : FlushMark) (shown : List HistoryEntry) (es : List Logged) → StandsFor shown es
+    → AllByRecursion (IsBegunBy (before_answer desk f.request)) es → IsBegunBefore desk f shown
+stands_begun desk f [] es stands all = tt
+stands_begun desk f (h ∷ hs) [] stands all = absurd stands
+stands_begun desk f (h ∷ hs) (e ∷ es) stands all = subst (λ (w : Writer). w.number < begun w.stream (before_answer desk f.request)) (sym stands.1) all.0
+
+-- Where no newer entry is covered, what is covered is no later than what is shown.
+pub none_covered : (desk : List DeskLine) (f : FlushMark) (newer shown : List HistoryEntry) → AllByRecursion (λ (x : HistoryEntry). is_covered desk f x ≡ false) newer
+    → length (covered desk f (newer ++ shown)) ≤ length shown
+none_covered desk f [] shown all = covered_within desk f shown
+none_covered desk f (entry ∷ newer) shown all = rw all.0 (none_covered desk f newer shown all.1)
+
+-- A stop before or after any call of a right trace is right.
 
 -- whatever isn't true is false
 not_true : (b : Bool) → (b ≡ true → ⊥) → b ≡ false

@@ -1,13 +1,6 @@
 -- The entries of an address take turns: one is handed in, committed and done before the next, at a higher place.
 use Rattle.std.proofs.Common.{ℕ, ◌≡◌, ◌⊎◌, ◌<◌, ◌==◌, false, List, [], ◌∷◌, length, refl, sym, ◌∙◌, ap, subst, inl, inr, arith}
-use Rattle.std.proofs.lemmas.Bool.Decides.{eqb_tells}
-use Rattle.std.specs.List.{AllByRecursion}
-use Rattle.core_model.specs.declared.zones.Logged.{Logged}
-use Rattle.core_model.specs.Sessions.{Session}
-use Rattle.core_model.specs.Trace.{Enters, Commits, Sets, Trace, entered, committed, done, of_address}
-use Rattle.core_model.specs.RightTraces.{RightTrace, Quiet, AllBelow}
-use Rattle.plain_laws.proofs.ListLaws.{every-map}
-use Rattle.plain_laws.proofs.ListLaws.{each_both}
+use Rattle.core_laws.proofs.Common.{AllBelow, AllByRecursion, Commits, Enters, Logged, Quiet, RightTrace, Session, Sets, Trace, committed, done, each_both, entered, eqb_tells, every-map, of_address}
 use Rattle.core_laws.proofs.trace.Growth.{entered_grows}
 use Rattle.core_laws.proofs.trace.DeskOfTrace.{each_of_address, are_of_address}
 

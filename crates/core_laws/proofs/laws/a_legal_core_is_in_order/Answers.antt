@@ -1,6 +1,5 @@
 use Rattle.std.proofs.Common.{subst}
-use Rattle.core_model.specs.declared.zones.ZoneData.{ZoneData}
-use Rattle.core_model.specs.Facts.{DataOk}
+use Rattle.core_laws.proofs.Common.{DataOk, ZoneData}
 use Rattle.core_laws.proofs.trace.DeskOfTrace.{desk_log_right}
 use Rattle.core_laws.proofs.kept.Stopped.{stopped_at_device}
 use Rattle.core_laws.proofs.trace.PlacesOfTrace.{places_drawn, places_all, range_told}

@@ -1,4 +1,4 @@
-use Rattle.core_laws.proofs.kept.Seats.{seat_step}
+use Rattle.core_laws.proofs.kept.Views.{seat_step}
 use Rattle.core_laws.proofs.laws.a_view_steps_as_its_zone.Goals as goal
 
 pub returns : goal.returns

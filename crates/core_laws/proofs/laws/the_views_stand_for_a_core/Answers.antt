@@ -1,4 +1,4 @@
-use Rattle.core_laws.proofs.kept.ViewLaws.{first_views, posts_batch, receives_batch, takes_batch}
+use Rattle.core_laws.proofs.kept.Views.{first_views, posts_batch, receives_batch, takes_batch}
 use Rattle.core_laws.proofs.laws.the_views_stand_for_a_core.Goals as goal
 
 pub returns-clause-posts : goal.returns-clause-posts

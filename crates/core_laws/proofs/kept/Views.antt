@@ -1,17 +1,80 @@
--- What threads do with batches, as moves of the core that their views and the lanes stand for.
-use Rattle.std.proofs.Common.{◌≡◌, ◌≢◌, ℕ, zero, suc, List, [], ◌∷◌, ◌++◌, Some, slice_get, slice_set, refl, ap, sym, ◌∙◌, subst}
-use Rattle.std.proofs.lemmas.List.{append-nil}
-use Rattle.std.proofs.lemmas.Option.{same_Some}
-use Rattle.std.specs.List.{AllByRecursion}
-use Rattle.core_model.specs.declared.items.Item.{Item}
-use Rattle.core_model.specs.declared.zones.Zone.{Zone}
-use Rattle.core_model.specs.Sessions.{Session}
+-- What a thread does with its own zone is a step of the core, and what threads do with batches are moves of it.
+use Rattle.std.proofs.Common.{◌≡◌, ℕ, zero, suc, ◌+◌, Bool, true, false, List, [], ◌∷◌, ◌++◌, Some, slice_get, slice_set, nat_eq, refl, ap, sym, ◌∙◌, append_assoc, ◌≢◌, subst}
+use Rattle.core_laws.proofs.Common.{AllByRecursion, Item, Post, Session, Sizes, Trace, Zone, append-nil, get-put_same, same_Some, zone_number}
+use Rattle.core_model.specs.Steps.{posted, sent_to, sent, delivered, ZoneStep, Core, StepOf, MoveOf}
+use Rattle.core_model.specs.Views.{behind, with_batches, zones_of, core_of, View, PostsBatch, ReceivesBatch, TakesBatch, AreEmptyLanes, with_batch, zones_seen}
 use Rattle.core_model.specs.Start.{IsFirst}
-use Rattle.core_model.specs.Steps.{Core, MoveOf}
-use Rattle.core_model.specs.Trace.{Trace}
-use Rattle.core_model.specs.Views.{View, PostsBatch, ReceivesBatch, TakesBatch, AreEmptyLanes, behind, with_batches, with_batch, zones_of, zones_seen, core_of}
-use Rattle.core_laws.proofs.kept.Seats.{batches_of, view_get, view_put}
-use Rattle.plain_laws.proofs.ListLaws.{get-put_same}
+
+-- What a thread does with its own zone is a step of the core, though other zones went on meanwhile.
+
+behind_posted : (batches : List (List Item)) (to : ℕ) (x : Item) (lanes : List (List Item)) → behind batches (posted to x lanes) ≡ posted to x (behind batches lanes)
+behind_posted [] to x lanes = refl
+behind_posted (b ∷ bs) to x [] = refl
+behind_posted (b ∷ bs) zero x (l ∷ ls) = ap (λ (lane : List Item). lane ∷ behind bs ls) (sym (append_assoc b l (x ∷ [])))
+behind_posted (b ∷ bs) (suc to) x (l ∷ ls) = ap (λ (lanes : List (List Item)). (b ++ l) ∷ lanes) (behind_posted bs to x ls)
+
+sent_behind : (batches : List (List Item)) (b : Bool) (to : ℕ) (it : Item) (z : Zone) → with_batches batches (sent_to b to it z) ≡ sent_to b to it (with_batches batches z)
+sent_behind batches true to it z = refl
+sent_behind batches false to it z = ap (λ (lanes : List (List Item)). record z { outboxes = lanes }) (behind_posted batches to it z.outboxes)
+
+delivered_behind : (sizes : Sizes) (batches : List (List Item)) (ps : List Post) (z : Zone) → with_batches batches (delivered sizes ps z) ≡ delivered sizes ps (with_batches batches z)
+delivered_behind sizes batches [] z = refl
+delivered_behind sizes batches (p ∷ ps) z =
+    let to = zone_number sizes p.0 in
+    delivered_behind sizes batches ps (sent sizes p z) ∙ ap (delivered sizes ps) (sent_behind batches (nat_eq to z.number) to p.1 z)
+
+-- A step of a zone by itself is one of the zone with what lies in its lanes.
+pub step_behind : (sizes : Sizes) (batches : List (List Item)) (old new : Zone) (made : Trace) → ZoneStep sizes old new made → ZoneStep sizes (with_batches batches old) (with_batches batches new) made
+step_behind sizes batches old new made s =
+    record {
+      front = s.front;
+      rest = s.rest;
+      posts = s.posts;
+      counts = s.counts;
+      taken = s.taken;
+      in_turn = s.in_turn;
+      act = s.act;
+      lanes = ap (with_batches batches) s.lanes ∙ delivered_behind sizes batches s.posts (record old { keeps = new.keeps; inbox = s.rest; steps = old.steps + 1 });
+    }
+
+-- what lies in the lanes from the zone of a number
+abbrev pub batches_of : ℕ → List (List (List Item)) → List (List Item)
+batches_of n [] = []
+batches_of zero (b ∷ bs) = b
+batches_of (suc n) (b ∷ bs) = batches_of n bs
+
+pub view_get : (views : List Zone) (lanes : List (List (List Item))) (n : ℕ) (z : Zone) → slice_get views n ≡ Some z → slice_get (zones_of views lanes) n ≡ Some (with_batches (batches_of n lanes) z)
+view_get [] lanes n z h = cc
+view_get (y ∷ ys) [] n z h = h
+view_get (y ∷ ys) (b ∷ bs) zero z h = ap (λ (k : Zone). Some (with_batches b k)) (same_Some _ _ h)
+view_get (y ∷ ys) (b ∷ bs) (suc n) z h = view_get ys bs n z h
+
+pub view_put : (views : List Zone) (lanes : List (List (List Item))) (n : ℕ) (z : Zone) → zones_of (slice_set views n z) lanes ≡ slice_set (zones_of views lanes) n (with_batches (batches_of n lanes) z)
+view_put [] lanes n z = refl
+view_put (y ∷ ys) [] zero z = refl
+view_put (y ∷ ys) [] (suc n) z = refl
+view_put (y ∷ ys) (b ∷ bs) zero z = refl
+view_put (y ∷ ys) (b ∷ bs) (suc n) z = ap (λ (zones : List Zone). with_batches b y ∷ zones) (view_put ys bs n z)
+
+at_moment : List Zone → Trace → Core
+at_moment zones t = record { zones = zones; trace = t }
+
+-- The step that a thread computed from its own zone is a step of the core, whatever the other views and the lanes are when it is taken.
+pub seat_step : (sizes : Sizes) (views : List Zone) (lanes : List (List (List Item))) (n : ℕ) (old new : Zone) (made t : Trace) → slice_get views n ≡ Some old → ZoneStep sizes old new made
+    → StepOf sizes (core_of views lanes t) (core_of (slice_set views n new) lanes (made ++ t))
+unfolding at_moment
+seat_step sizes views lanes n old new made t h s =
+    record {
+      number = n;
+      zone = with_batches (batches_of n lanes) old;
+      zone' = with_batches (batches_of n lanes) new;
+      made = made;
+      had = view_get views lanes n old h;
+      step = step_behind sizes (batches_of n lanes) old new made s;
+      has = ap (λ (zones : List Zone). at_moment zones (made ++ t)) (view_put views lanes n new);
+    }
+
+-- What threads do with batches, as moves of the core that their views and the lanes stand for.
 
 -- a view in its place
 pub seen_get : (views : List View) (n : ℕ) (view : View) → slice_get views n ≡ Some view → slice_get (zones_seen views) n ≡ Some view.zone
@@ -45,13 +108,13 @@ row_put (y ∷ ys) (b ∷ bs) zero z row row' h k = ap (λ (v : Zone). with_batc
 row_put (y ∷ ys) (b ∷ bs) (suc n) z row row' h k = ap (λ (zones : List Zone). with_batches b y ∷ zones) (row_put ys bs n z row row' h k)
 
 -- a batch that was in the outbox is in the lane
-behind_posted : (row lanes : List (List Item)) (to : ℕ) (batch : List Item) → slice_get row to ≡ Some [] → slice_get lanes to ≡ Some batch → behind (slice_set row to batch) (slice_set lanes to []) ≡ behind row lanes
-behind_posted [] lanes to batch h k = absurd cc
-behind_posted (b ∷ bs) [] to batch h k = absurd cc
-behind_posted (b ∷ bs) (l ∷ ls) zero batch h k =
+batch_posted : (row lanes : List (List Item)) (to : ℕ) (batch : List Item) → slice_get row to ≡ Some [] → slice_get lanes to ≡ Some batch → behind (slice_set row to batch) (slice_set lanes to []) ≡ behind row lanes
+batch_posted [] lanes to batch h k = absurd cc
+batch_posted (b ∷ bs) [] to batch h k = absurd cc
+batch_posted (b ∷ bs) (l ∷ ls) zero batch h k =
     let was : b ≡ [] = same_Some _ _ h in
     ap (λ (lane : List Item). lane ∷ behind bs ls) (append-nil batch ∙ sym (same_Some _ _ k) ∙ ap (λ (front : List Item). front ++ l) (sym was))
-behind_posted (b ∷ bs) (l ∷ ls) (suc to) batch h k = ap (λ (lanes : List (List Item)). (b ++ l) ∷ lanes) (behind_posted bs ls to batch h k)
+batch_posted (b ∷ bs) (l ∷ ls) (suc to) batch h k = ap (λ (lanes : List (List Item)). (b ++ l) ∷ lanes) (batch_posted bs ls to batch h k)
 
 -- what lies in a lane, and what is behind it
 behind_get : (row lanes : List (List Item)) (to : ℕ) (batch left : List Item) → slice_get row to ≡ Some batch → slice_get lanes to ≡ Some left → slice_get (behind row lanes) to ≡ Some (batch ++ left)
@@ -66,13 +129,13 @@ behind_taken (b ∷ bs) [] to batch left h k = absurd cc
 behind_taken (b ∷ bs) (l ∷ ls) zero batch left h k = ap (λ (lane : List Item). lane ∷ behind bs ls) (same_Some _ _ k)
 behind_taken (b ∷ bs) (l ∷ ls) (suc to) batch left h k = ap (λ (lanes : List (List Item)). (b ++ l) ∷ lanes) (behind_taken bs ls to batch left h k)
 
-abbrev at_moment : List Zone → Trace → Core
-at_moment zones t = record { zones = zones; trace = t }
+abbrev core_at : List Zone → Trace → Core
+core_at zones t = record { zones = zones; trace = t }
 
 -- A batch that is posted counts to the lane, as it counted to the outbox.
 pub posts_batch : (from to : ℕ) (views views' : List View) (lanes lanes' : List (List (List Item))) (t : Trace) → PostsBatch from to views views' lanes lanes'
     → core_of (zones_seen views') lanes' t ≡ core_of (zones_seen views) lanes t
-posts_batch from to views views' lanes lanes' t p = ap (λ (zones : List Zone). at_moment zones t) zones_same
+posts_batch from to views views' lanes lanes' t p = ap (λ (zones : List Zone). core_at zones t) zones_same
   where
     sender' : Zone
     sender' = record p.sender.zone { outboxes = slice_set p.sender.zone.outboxes to [] }
@@ -84,7 +147,7 @@ posts_batch from to views views' lanes lanes' t p = ap (λ (zones : List Zone). 
     there = seen_get views from p.sender p.had
 
     same : with_batches row' sender' ≡ with_batches (batches_of from lanes) p.sender.zone
-    same = ap (λ (lanes : List (List Item)). record p.sender.zone { outboxes = lanes }) (behind_posted p.empty.row p.sender.zone.outboxes to p.batch p.empty.holds p.outbox)
+    same = ap (λ (lanes : List (List Item)). record p.sender.zone { outboxes = lanes }) (batch_posted p.empty.row p.sender.zone.outboxes to p.batch p.empty.holds p.outbox)
         ∙ ap (λ (row : List (List Item)). with_batches row p.sender.zone) (sym (row_of lanes from p.empty.row p.empty.had))
 
     put_twice : {X : Type 0} (xs : List X) (n : ℕ) (x y : X) → slice_set (slice_set xs n x) n y ≡ slice_set xs n y
@@ -123,7 +186,7 @@ takes_batch from to views views' lanes lanes' t k = record {
   had_source = view_get (zones_seen views) lanes from k.sender.zone there;
   had_target = view_get (zones_seen views) lanes to k.receiver.zone (seen_get views to k.receiver k.had_receiver);
   outbox = subst (λ (row : List (List Item)). slice_get (behind row k.sender.zone.outboxes) to ≡ Some (k.batch ++ k.left)) (sym row_is) (behind_get k.lane.row k.sender.zone.outboxes to k.batch k.left k.lane.holds k.outbox);
-  has = ap (λ (zones : List Zone). at_moment zones t) zones_moved;
+  has = ap (λ (zones : List Zone). core_at zones t) zones_moved;
 }
   where
     there : slice_get (zones_seen views) from ≡ Some k.sender.zone
@@ -177,4 +240,4 @@ zones_alone (z ∷ zs) (b ∷ bs) h =
 -- At the start they stand for the first core.
 pub first_views : (s : Session) (core : Core) (views : List View) (lanes : List (List (List Item))) → IsFirst s core → zones_seen views ≡ core.zones → AreEmptyLanes lanes → core_of (zones_seen views) lanes [] ≡ core
 first_views s core views lanes first seen empty =
-    ap (λ (zones : List Zone). core_of zones lanes []) seen ∙ ap (λ (zones : List Zone). at_moment zones []) (zones_alone core.zones lanes empty) ∙ ap (λ (t : Trace). at_moment core.zones t) (sym first.trace_is)
+    ap (λ (zones : List Zone). core_of zones lanes []) seen ∙ ap (λ (zones : List Zone). core_at zones []) (zones_alone core.zones lanes empty) ∙ ap (λ (t : Trace). core_at core.zones t) (sym first.trace_is)

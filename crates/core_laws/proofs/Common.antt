@@ -1,0 +1,52 @@
+-- What nearly every proof of the core uses: the words of its model, and laws on lists, options and names.
+pub use Rattle.std.proofs.lemmas.Bool.{and_parts, cases_Bool, cases_lt, eq-eqb, eqb-true, le-ltb, lt-ltb, ltb-false, ltb-true, or_parts}
+pub use Rattle.std.proofs.lemmas.Bool.Decides.{eqb_tells}
+pub use Rattle.std.proofs.lemmas.List.{append-nil, get_or-replicate, get_or-take, get_or_past, length-replicate, reverse-append}
+pub use Rattle.std.proofs.lemmas.Option.{same_Some}
+pub use Rattle.std.specs.List.{AllByRecursion}
+pub use Rattle.plain_laws.proofs.ListLaws.{Each-put, Each-put_other, each_at, each_both, every-append, every-front, every-get, every-map, every_both, get-put_other, get-put_same, length-put, nobody_else, total-append, total-get, total-set, total_alone, total_zero}
+pub use Rattle.plain_laws.proofs.OptionLaws.{none_is, none_of, not_both, option_cases, some_is, some_of}
+pub use Rattle.plain_laws.specs.Sums.{Each, bit, total}
+pub use Rattle.blk_base.specs.declared.geometry.Geometry.{Geometry}
+pub use Rattle.blk_base.specs.declared.journal_entry.Entry.{Entry}
+pub use Rattle.blk_base.specs.declared.place.Lba.{Lba}
+pub use Rattle.blk_base.specs.declared.place.Mapping.{Mapping}
+pub use Rattle.blk_base.specs.declared.place.Pbn.{Pbn}
+pub use Rattle.blk_base.specs.declared.place.ZoneId.{ZoneId}
+pub use Rattle.blk_base.specs.declared.request.Answer.{Answer}
+pub use Rattle.blk_base.specs.declared.request.Request.{Request}
+pub use Rattle.blk_base.specs.declared.request.Writer.{Writer}
+pub use Rattle.core_model.specs.Facts.{Answers, BlockOk, Carries, DataOk, HasAddress, HasEarned, HasLists, Holds, InLine, IsEarned, IsEntered, IsPlaced, IsSealed, IsUndrawn, ItemOk, JournalLists, KeptOk, LockOk, LocksOk, Looks, MapOk, MayReply, RestsAt, Rises, StandsAt, VioOk, WaitsOk, WasTold, ZoneOk, arrival, arriving, kept_phase, mapping_in, name_of, zone_at, zone_of_stage}
+pub use Rattle.core_model.specs.RightTraces.{AllBelow, CommitMayFollow, EntryMayFollow, FailureMayFollow, GiftMayFollow, GivesRight, HasBelow, HasCause, HasPlace, IsCommitted, IsFull, IsHeldBack, IsMadeFor, IsOpen, IsStoppedAtOnce, IsWrite, MayAnswer, MayFollow, PlaceMayFollow, Quiet, RightTrace, SlotMayFollow, StopsAtFailure, TakeMayFollow}
+pub use Rattle.core_model.specs.Sessions.{AreDistinct, AtRest, EachStands, HasHonestReads, HasPending, IsFresh, IsServed, IsSession, Kept, OnItsWay, ReadsAs, ReadsEntry, Session, Shown, Stands, bytes_of, log, value_at, value_from}
+pub use Rattle.core_model.specs.Tokens.{AtMost, Balanced, Token, answers_of, as_items, begins_of, block_token, blocks_at, claims, given, heard_at, holder_weight, holds, idle_at, in_log, is_answer, is_begin, is_block, is_entry, is_sealed, is_word, journal_token, kept_by, lease_token, lock_weight, locks_at, notice_token, notified_by, of_vio, one_journal, one_physical, queued, request_token, room_token, weight}
+pub use Rattle.core_model.specs.Trace.{Aborts, Calls, Commits, Draws, Enters, Fails, Flushes, Gift, Gives, Happening, Says, Sets, Takes, Trace, aborted, calls, committed, done, entered, entries_of, entry_of, gift_of, gifts, has_read_fault, has_stopped, is_ok, is_read, lines, logged_of, marks, moments, newest, of_address, places, taken}
+pub use Rattle.core_model.specs.Vios.{Post, asked, begun_vio, ended, gift, logged, request_of, staged, turned}
+pub use Rattle.core_model.specs.Zones.{IsZone, desk_zone, device_zone, journal_zone, logical_zone, logical_zones, notified, notified_zones, physical_zone, zone_count, zone_number}
+pub use Rattle.core_model.specs.declared.items.Asks.{Asks}
+pub use Rattle.core_model.specs.declared.items.Item.{Item}
+pub use Rattle.core_model.specs.declared.items.Phase.{Phase}
+pub use Rattle.core_model.specs.declared.items.SealedBlock.{SealedBlock}
+pub use Rattle.core_model.specs.declared.items.Stage.{Stage}
+pub use Rattle.core_model.specs.declared.items.Vio.{Vio}
+pub use Rattle.core_model.specs.declared.sizes.Sizes.{Sizes}
+pub use Rattle.core_model.specs.declared.zones.Desk.{Desk}
+pub use Rattle.core_model.specs.declared.zones.DeviceZone.{DeviceZone}
+pub use Rattle.core_model.specs.declared.zones.JournalZone.{JournalZone}
+pub use Rattle.core_model.specs.declared.zones.Lock.{Lock}
+pub use Rattle.core_model.specs.declared.zones.Logged.{Logged}
+pub use Rattle.core_model.specs.declared.zones.LogicalZone.{LogicalZone}
+pub use Rattle.core_model.specs.declared.zones.PhysicalZone.{PhysicalZone}
+pub use Rattle.core_model.specs.declared.zones.Zone.{Zone}
+pub use Rattle.core_model.specs.declared.zones.ZoneData.{ZoneData}
+pub use Rattle.disk_model.specs.declared.call.Call.{Call}
+pub use Rattle.vdo_model.proofs.NameLaws.{same_self, same_tells}
+pub use Rattle.vdo_model.specs.DeskLog.{AllAnswered, IsDeskLog, IsNextLine, answer_of, answered, before_begin, begun}
+pub use Rattle.vdo_model.specs.Places.{AreDrawn, Follows, IsAnsweredAtOnce, IsNextPlace, IsOfZone, drawn, place_of, zone_of}
+pub use Rattle.vdo_model.specs.Scripts.{Script, address_of, request_at, same_writer, value_written}
+pub use Rattle.vdo_model.specs.declared.report.DeskLine.{DeskLine}
+pub use Rattle.vdo_model.specs.declared.report.FlushMark.{FlushMark}
+pub use Rattle.vdo_model.specs.declared.report.HistoryEntry.{HistoryEntry}
+pub use Rattle.vdo_model.specs.declared.report.Mark.{Mark}
+pub use Rattle.vdo_model.specs.declared.report.Placed.{Placed}
+pub use Rattle.vdo_model.specs.declared.report.RunReport.{RunReport}
