@@ -95,8 +95,9 @@ fn is_answered(alloc: Global, events: &[Event], row: &Row) -> Result<bool, StepF
 #[test]
 fn one_request_after_the_other(rt: HostRuntime) -> Result<(), Fail> {
     let events = in_order(rt.alloc(), 5)?;
-    for row in &ROWS {
-        assert!(rt; is_answered(rt.alloc(), &events, row)?);
+    for (number, row) in ROWS.iter().enumerate() {
+        let answered = is_answered(rt.alloc(), &events, row)?;
+        assert_eq!(rt; (number, answered), (number, true));
     }
     Ok(())
 }
@@ -120,18 +121,23 @@ const PLACES: [Placed; 2] = [
     },
 ];
 
-// Whether two requests draw these places.
-fn are_drawn(alloc: Global, events: &[Event]) -> Result<bool, StepFault> {
+// How many places two requests draw, and which.
+fn drawn(
+    alloc: Global,
+    events: &[Event],
+) -> Result<(usize, Option<Placed>, Option<Placed>), StepFault> {
     let asks: &[Ask] = &[Ask::Write(5, 0x61), Ask::Read(5)];
     let mut disk = fresh(alloc)?;
     let zones = played(alloc, &sizes(1, 1), &[asks], events, &mut disk)?;
-    Ok(places(zones.as_slice()) == PLACES.as_slice())
+    let places = places(zones.as_slice());
+    Ok((places.len(), places.first().copied(), places.get(1).copied()))
 }
 
 // The requests of a stream draw the places of a zone in their order.
 #[test]
 fn places_in_order(rt: HostRuntime) -> Result<(), Fail> {
     let events = in_order(rt.alloc(), 5)?;
-    assert!(rt; are_drawn(rt.alloc(), &events)?);
+    let drawn = drawn(rt.alloc(), &events)?;
+    assert_eq!(rt; drawn, (2, Some(PLACES[0]), Some(PLACES[1])));
     Ok(())
 }

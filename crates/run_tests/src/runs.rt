@@ -573,9 +573,10 @@ const FAULT_LINES: [(Fault, &str); 9] = [
 // What is put of a fault is what it displays, and a newline.
 #[test]
 fn faults_display_their_lines(rt: HostRuntime) -> Result<(), Fail> {
-    for (fault, line) in &FAULT_LINES {
-        assert!(rt; displays(rt.alloc(), fault, line)?);
-        assert!(rt; is_put(rt.alloc(), fault, line)?);
+    for (number, (fault, line)) in FAULT_LINES.iter().enumerate() {
+        let displayed = displays(rt.alloc(), fault, line)?;
+        let put = is_put(rt.alloc(), fault, line)?;
+        assert_eq!(rt; (number, displayed, put), (number, true, true));
     }
     Ok(())
 }

@@ -159,10 +159,12 @@ fn stops_after<R: Threads + Wait + Sync + Abort>(
     calls: &[Call],
     count: usize,
 ) -> Result<(), Fail> {
-    assert!(rt; is_open(rt, alloc, calls, Reached::Whole, count)?);
+    let open = is_open(rt, alloc, calls, Reached::Whole, count)?;
+    assert_eq!(rt; (count, open), (count, true));
     if ends_with_write(calls) {
-        for &reached in &TORN {
-            assert!(rt; is_open(rt, alloc, calls, reached, count)?);
+        for (torn, &reached) in TORN.iter().enumerate() {
+            let open = is_open(rt, alloc, calls, reached, count)?;
+            assert_eq!(rt; (count, torn, open), (count, torn, true));
         }
     }
     Ok(())

@@ -71,10 +71,11 @@ fn are_answered(alloc: Global, events: &[Event]) -> Result<bool, StepFault> {
 #[test]
 fn answers_in_three_orders(rt: HostRuntime) -> Result<(), Fail> {
     let mut events = in_order(rt.alloc(), 6)?;
-    assert!(rt; are_answered(rt.alloc(), &events)?);
+    let first = are_answered(rt.alloc(), &events)?;
     let mixed = mixed(rt.alloc(), &events)?;
-    assert!(rt; are_answered(rt.alloc(), &mixed)?);
+    let second = are_answered(rt.alloc(), &mixed)?;
     events.reverse();
-    assert!(rt; are_answered(rt.alloc(), &events)?);
+    let third = are_answered(rt.alloc(), &events)?;
+    assert_eq!(rt; [first, second, third], [true, true, true]);
     Ok(())
 }
