@@ -130,7 +130,11 @@ fn drawn(
     let mut disk = fresh(alloc)?;
     let zones = played(alloc, &sizes(1, 1), &[asks], events, &mut disk)?;
     let places = places(zones.as_slice());
-    Ok((places.len(), places.first().copied(), places.get(1).copied()))
+    Ok((
+        places.len(),
+        places.first().copied(),
+        places.get(1).copied(),
+    ))
 }
 
 // The requests of a stream draw the places of a zone in their order.
