@@ -103,7 +103,7 @@ pub fn a_legal_core_is_right_after_a_stop()
 {}
 
 /// In a legal core each lane and each list of requests that a zone keeps is within its share: as many as there may be
-/// requests under way, and words of a stop.
+/// requests under way, and stop notices.
 pub fn a_legal_core_has_room()
     ensures inbox { (s : Session) (core : Core) (n : ℕ) (z : Zone) → Legal s core → slice_get core.zones n ≡ Some z → length z.inbox ≤ share s }
     ensures lanes { (s : Session) (core : Core) (n : ℕ) (z : Zone) (to : ℕ) (lane : List Item) → Legal s core → slice_get core.zones n ≡ Some z

@@ -14,6 +14,7 @@ pub mod Reports
 pub mod Facts
 pub mod Streams
 pub mod Arrivals
+pub mod Limits
 pub mod Legal
 pub mod Views
 pub mod Start

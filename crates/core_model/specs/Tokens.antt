@@ -141,7 +141,7 @@ one_journal other = 0
 abbrev pub journal_token : Token
 journal_token = record { item = is_sealed; own = idle_at; gave = one_journal }
 
--- How many requests are under way, and how many words of a stop.
+-- How many requests are under way, and how many stop notices.
 abbrev pub is_begin : DeskLine → ℕ
 is_begin (Begin v) = 1
 is_begin (Answer v a) = 0

@@ -54,7 +54,7 @@ module _ (s : Session) (t : Trace) where
   one_physical_at n (at.Physical p) ok = (omega arith, λ ne. absurd (ne ok.number_is))
   one_physical_at n other ok = (omega arith, λ ne. refl)
 
-  -- the words of a stop are given out at the device alone
+  -- the stop notices are given out at the device alone
   pub no_words : (n : ℕ) (d : ZoneData) → (n ≡ device_zone s.sizes → ⊥) → DataOk s t n d → notified_by s.sizes d ≡ 0
   no_words n (at.Device d) ne ok = absurd (ne ok.number_is)
   no_words n other ne ok = refl

@@ -17,7 +17,7 @@ module _ (sizes : Sizes) where
   room_law (row.says d v a) = omega arith
   room_law other = omega arith
 
-  -- the words of a stop are given out at the device, and heard at the desk
+  -- the stop notices are given out at the device, and heard at the desk
   pub notices_law : {old new : ZoneData} {before after : Sum} → Row sizes old new before after → Conserves (notice_token sizes) old new before after
   notices_law (row.hears d) = omega arith
   notices_law other = omega arith
