@@ -15,15 +15,17 @@ ghost use Rattle.vdo_model.specs.RightRuns.{RunRight};
 ghost use Rattle.vdo_model.specs.Scripts.{address_of, request_at};
 ghost use Rattle.vdo_model.specs.Stops.{RightAfterStops};
 ghost use Rattle.vdo_model.specs.ZoneOrder.{places_in};
-ghost use Rattle.core_model.specs.declared.zones.ZoneData.TheVariants.{Desk, Device, Logical};
+ghost use Rattle.core_model.specs.declared.zones.ZoneData.TheVariants.{Desk, Device, Journal, Logical};
 ghost use Rattle.core_model.specs.declared.zones.Desk.{Desk as DeskData};
 ghost use Rattle.core_model.specs.declared.zones.DeviceZone.{DeviceZone};
+ghost use Rattle.core_model.specs.declared.zones.JournalZone.{JournalZone};
 ghost use Rattle.core_model.specs.declared.zones.LogicalZone.{LogicalZone};
 ghost use Rattle.core_model.specs.declared.zones.Zone.{Zone};
 ghost use Rattle.core_model.specs.declared.zones.ZoneData.{ZoneData};
 ghost use Rattle.core_model.specs.declared.items.Item.{Item};
 ghost use Rattle.core_model.specs.declared.sizes.Sizes.{Sizes};
 ghost use Rattle.core_model.specs.Legal.{Legal, share};
+ghost use Rattle.core_model.specs.Limits.{most_blocks};
 ghost use Rattle.core_model.specs.Tokens.{queued};
 ghost use Rattle.core_model.specs.Reports.{ShowsValues, opening_values, progress_of, report_of};
 ghost use Rattle.core_model.specs.RightTraces.{IsHeldBack, StopsAtFailure};
@@ -109,6 +111,23 @@ pub fn a_legal_core_has_room()
     ensures lanes { (s : Session) (core : Core) (n : ℕ) (z : Zone) (to : ℕ) (lane : List Item) → Legal s core → slice_get core.zones n ≡ Some z
         → slice_get z.outboxes to ≡ Some lane → length lane ≤ share s }
     ensures kept { (s : Session) (core : Core) (n : ℕ) (z : Zone) → Legal s core → slice_get core.zones n ≡ Some z → queued (λ it. 1) z.keeps ≤ share s }
+{}
+
+/// In a legal core a logical zone drew no more places than it made steps, and the device's zone made no more calls. A logical
+/// zone has a lock for each request under way at most. The journal has no more entries than an image's journal has blocks, and
+/// so no zone has more slots that were set, or more addresses that are never released.
+pub fn a_legal_core_counts_within_limits()
+    ensures next { (s : Session) (core : Core) (n : ℕ) (z : Zone) (l : LogicalZone) → Legal s core → slice_get core.zones n ≡ Some z → z.keeps ≡ Logical l → l.next ≤ z.steps }
+    ensures calls { (s : Session) (core : Core) (n : ℕ) (z : Zone) (d : DeviceZone) → Legal s core → slice_get core.zones n ≡ Some z → z.keeps ≡ Device d → d.calls ≤ z.steps }
+    ensures held { (s : Session) (core : Core) (n : ℕ) (z : Zone) (l : LogicalZone) → Legal s core → slice_get core.zones n ≡ Some z → z.keeps ≡ Logical l → length l.held ≤ share s }
+    ensures entered { (s : Session) (core : Core) (n : ℕ) (z : Zone) (j : JournalZone) → IsSession s → Legal s core → slice_get core.zones n ≡ Some z → z.keeps ≡ Journal j
+        → length j.entered ≤ most_blocks }
+    ensures committed { (s : Session) (core : Core) (n : ℕ) (z : Zone) (j : JournalZone) → IsSession s → Legal s core → slice_get core.zones n ≡ Some z → z.keeps ≡ Journal j
+        → length j.committed ≤ most_blocks }
+    ensures slots { (s : Session) (core : Core) (n : ℕ) (z : Zone) (l : LogicalZone) → IsSession s → Legal s core → slice_get core.zones n ≡ Some z → z.keeps ≡ Logical l
+        → length l.slots ≤ most_blocks }
+    ensures retired { (s : Session) (core : Core) (n : ℕ) (z : Zone) (l : LogicalZone) → IsSession s → Legal s core → slice_get core.zones n ≡ Some z → z.keeps ≡ Logical l
+        → length l.retired ≤ most_blocks }
 {}
 
 /// What a zone does with an item is fixed, and in the device's zone by how the device answered: two acts on the same item

@@ -327,6 +327,12 @@ abbrev pub arrival : Item → List Writer
 arrival (item.Request v) = arriving v.phase v.request
 arrival other = []
 
+-- how many places a zone drew, or calls it made: a step makes one more at most
+abbrev pub made_by : ZoneData → ℕ
+made_by (at.Logical l) = l.next
+made_by (at.Device d) = d.calls
+made_by other = 0
+
 -- a zone with its lanes
 pub record ZoneOk (s : Session) (t : Trace) (number : ℕ) (z : Zone) : Type 0 where
   pub number_is : z.number ≡ number
@@ -334,3 +340,4 @@ pub record ZoneOk (s : Session) (t : Trace) (number : ℕ) (z : Zone) : Type 0 w
   pub inbox : AllByRecursion (ItemOk s t number) z.inbox
   pub outboxes : Each (λ to. AllByRecursion (ItemOk s t to)) z.outboxes
   pub own : DataOk s t number z.keeps
+  pub counted : made_by z.keeps ≤ z.steps

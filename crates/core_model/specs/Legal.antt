@@ -10,7 +10,7 @@ use Rattle.core_model.specs.Sessions.{Session, HasHonestReads}
 use Rattle.core_model.specs.Steps.{Core}
 use Rattle.core_model.specs.Streams.{Flows}
 use Rattle.plain_laws.specs.Sums.{Each}
-use Rattle.core_model.specs.Tokens.{Balanced, AtMost, request_token, lease_token, block_token, journal_token, room_token, notice_token}
+use Rattle.core_model.specs.Tokens.{Balanced, AtMost, request_token, lease_token, block_token, journal_token, room_token, notice_token, holder_token, entry_token}
 
 -- in a zone, each stream's places are drawn in the order of its requests: a request has a greater number than those of its
 -- stream that have a place there
@@ -29,6 +29,10 @@ pub record Legal (s : Session) (core : Core) : Type 0 where
   pub requests : (w : Writer) → Balanced (request_token w) core.zones
   -- each lock has one holder, with its place
   pub leases : (a : ℕ) (test : ℕ → Bool) → Balanced (lease_token a test) core.zones
+  -- each lock that is held has a holder that is under way
+  pub holders : Balanced holder_token core.zones
+  -- each entry that was handed in is under way, or its slot is set, or its address retired
+  pub entries : Balanced entry_token core.zones
   -- no data block is taken twice
   pub blocks : (x : ℕ) → AtMost (block_token x) core.zones
   -- one sealed block is under way, or the journal is idle

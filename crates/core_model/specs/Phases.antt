@@ -18,29 +18,30 @@ pub data Where : Type 0 where
   AtDevice : Where
   InNoLane : Where
 
--- Where a phase is done; whether the request holds the lock of its address, has a data block that no entry names, and has
--- yet to draw its place.
+-- Where a phase is done; whether the request holds the lock of its address, has a data block that no entry names, has yet to
+-- draw its place, and has an entry that was handed in and of which neither the slot is set nor the address retired.
 pub record PhaseRow : Type 0 where
   pub zone : Where
   pub locks : Bool
   pub claims : Bool
   pub arrives : Bool
+  pub entered : Bool
 
 abbrev pub row : Phase → PhaseRow
-row phase.Arrive = record { zone = AtHome; locks = false; claims = false; arrives = true }
-row phase.Wait = record { zone = InNoLane; locks = false; claims = false; arrives = false }
-row phase.Claim = record { zone = AtPhysical; locks = true; claims = false; arrives = false }
-row phase.Store = record { zone = AtDevice; locks = true; claims = true; arrives = false }
-row phase.Enter = record { zone = AtJournal; locks = true; claims = true; arrives = false }
-row phase.Settle = record { zone = AtHome; locks = true; claims = false; arrives = false }
-row phase.Load = record { zone = AtDevice; locks = true; claims = false; arrives = false }
-row phase.Loaded = record { zone = AtHome; locks = true; claims = false; arrives = false }
-row phase.AbortClaim = record { zone = AtPhysical; locks = true; claims = false; arrives = false }
-row phase.Abort = record { zone = AtHome; locks = true; claims = false; arrives = false }
-row phase.AbortEnteredClaim = record { zone = AtPhysical; locks = true; claims = false; arrives = false }
-row phase.AbortEntered = record { zone = AtHome; locks = true; claims = false; arrives = false }
-row phase.Flush = record { zone = AtDevice; locks = false; claims = false; arrives = false }
-row phase.Reply = record { zone = AtDesk; locks = false; claims = false; arrives = false }
+row phase.Arrive = record { zone = AtHome; locks = false; claims = false; arrives = true; entered = false }
+row phase.Wait = record { zone = InNoLane; locks = false; claims = false; arrives = false; entered = false }
+row phase.Claim = record { zone = AtPhysical; locks = true; claims = false; arrives = false; entered = false }
+row phase.Store = record { zone = AtDevice; locks = true; claims = true; arrives = false; entered = false }
+row phase.Enter = record { zone = AtJournal; locks = true; claims = true; arrives = false; entered = false }
+row phase.Settle = record { zone = AtHome; locks = true; claims = false; arrives = false; entered = true }
+row phase.Load = record { zone = AtDevice; locks = true; claims = false; arrives = false; entered = false }
+row phase.Loaded = record { zone = AtHome; locks = true; claims = false; arrives = false; entered = false }
+row phase.AbortClaim = record { zone = AtPhysical; locks = true; claims = false; arrives = false; entered = false }
+row phase.Abort = record { zone = AtHome; locks = true; claims = false; arrives = false; entered = false }
+row phase.AbortEnteredClaim = record { zone = AtPhysical; locks = true; claims = false; arrives = false; entered = true }
+row phase.AbortEntered = record { zone = AtHome; locks = true; claims = false; arrives = false; entered = true }
+row phase.Flush = record { zone = AtDevice; locks = false; claims = false; arrives = false; entered = false }
+row phase.Reply = record { zone = AtDesk; locks = false; claims = false; arrives = false; entered = false }
 
 -- the number of the zone there, for a request of this home; where it is in no lane, none to a zone's number
 abbrev pub number_at : Sizes → ZoneId → Where → ℕ

@@ -126,6 +126,8 @@ pub record EntryMayFollow (s : Session) (e : Logged) (t : Trace) : Type 0 where
   pub idle : entered t ≡ committed t
   pub quiet : Quiet t e.at.0
   pub below : AllBelow t e.at.0 e.place
+  -- a block of the journal is left for it
+  pub left : s.sizes.opened + length (entered t) < s.sizes.geometry.journal
   -- it has what its address is mapped to by the committed entries
   pub old_is : e.old ≡ mapping_of (entries_of s.window (committed t)) e.at.0
 

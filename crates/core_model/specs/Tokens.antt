@@ -1,5 +1,5 @@
 -- Tokens: what is given out once and held once. Of each token as many are held as were given.
-use Rattle.std.specs.Prelude.{ℕ, ◌+◌, ◌≡◌, ◌≤◌, ◌==◌, Bool, ◌&&◌, not, List, [], ◌∷◌, cond}
+use Rattle.std.specs.Prelude.{ℕ, ◌+◌, ◌≡◌, ◌≤◌, ◌==◌, Bool, ◌&&◌, not, List, [], ◌∷◌, length, cond}
 use Rattle.blk_base.specs.declared.place.Pbn.{Pbn}
 use Rattle.blk_base.specs.declared.request.Writer.{Writer}
 use Rattle.vdo_model.specs.Scripts.{same_writer}
@@ -98,6 +98,35 @@ locks_at a test other = 0
 
 abbrev pub lease_token : ℕ → (ℕ → Bool) → Token
 lease_token a test = record { item = of_vio (holder_weight a test); own = none; gave = locks_at a test }
+
+-- Holders: as many requests hold a lock as locks are held.
+abbrev pub held_at : ZoneData → ℕ
+held_at (at.Logical l) = length l.held
+held_at other = 0
+
+abbrev pub holder_token : Token
+holder_token = record { item = of_vio (λ v. bit (holds v.phase)); own = none; gave = held_at }
+
+-- Entries: one that was handed in is in its sealed block, or on its way to its slot, until the slot is set or the address
+-- retired.
+abbrev pub has_entry : Phase → Bool
+has_entry p = (row p).entered
+
+abbrev pub entry_weight : Item → ℕ
+entry_weight (Request v) = bit (has_entry v.phase)
+entry_weight (Block b) = 1
+entry_weight other = 0
+
+abbrev pub ended_at : ZoneData → ℕ
+ended_at (at.Logical l) = length l.slots + length l.retired
+ended_at other = 0
+
+abbrev pub entered_at : ZoneData → ℕ
+entered_at (at.Journal j) = length j.entered
+entered_at other = 0
+
+abbrev pub entry_token : Token
+entry_token = record { item = entry_weight; own = ended_at; gave = entered_at }
 
 -- Data blocks: one that is free, or taken by a write whose entry wasn't handed in, or named by an entry, is so once.
 abbrev pub claims : Phase → Bool

@@ -63,7 +63,7 @@ module _ (s : Session) (t : Trace) where
 
 -- The entry of a write is handed in while no block is under way.
 module _ (s : Session) (t : Trace) (v : Vio) (right : RightTrace s t) (ok : VioOk s t v) (is : v.phase ≡ phase.Enter) (carries : Carries s t v phase.Enter)
-    (idle : entered t ≡ committed t) (rest : AtRest s t (committed t)) where
+    (idle : entered t ≡ committed t) (rest : AtRest s t (committed t)) (few : s.sizes.opened + length (committed t) < s.sizes.geometry.journal) where
   pub may_enter : EntryMayFollow s (logged v) t
   may_enter = record {
     is_open = ok.is_open;
@@ -76,6 +76,7 @@ module _ (s : Session) (t : Trace) (v : Vio) (right : RightTrace s t) (ok : VioO
     idle = idle;
     quiet = carries.0.quiet;
     below = carries.0.below;
+    left = omega (arith, few, ap length idle);
     old_is = carries.0.old_is ∙ mapping_same s.window (done t) (committed t) v.at.0 (sym carries.0.quiet.all_done);
   }
 
@@ -92,9 +93,9 @@ module _ (s : Session) (t : Trace) (v : Vio) (right : RightTrace s t) (ok : VioO
     right,
   )
 
-  pub enter_block : (sequence : ℕ) → sequence ≡ s.sizes.start + (s.sizes.opened + length (committed t)) → s.sizes.opened + length (committed t) < s.sizes.geometry.journal
+  pub enter_block : (sequence : ℕ) → sequence ≡ s.sizes.start + (s.sizes.opened + length (committed t))
       → BlockOk s (Enters (logged v) ∷ t) (record { stage = stage.Cover; sequence = sequence; vio = v })
-  enter_block sequence next few = (
+  enter_block sequence next = (
     record {
       vio = vio_over s (Enters (logged v)) t v refl ok;
       phase = is;
@@ -152,7 +153,7 @@ module _ {s : Session} {t : Trace} {n : ℕ} {old : JournalZone} {v : Vio} (know
       let room = room_for _ _ has in
       let clears : Clears s n (Mine s t (at.Journal old) (item.Request v ∷ [])) h t
       = record { zone = k.number_is; request = own_request known; address = own_address known phase.Enter is refl; block = λ x. inr (λ inside. tt); journal = inl (weighed (rw busy (omega arith))) } in
-      rw (e, m, p) (act_one known h clears (λ g honest. g honest) (enter_right s t v known.right (vio_ok known) is (in_phase known phase.Enter is) idle.0 idle.1)
+      rw (e, m, p) (act_one known h clears (λ g honest. g honest) (enter_right s t v known.right (vio_ok known) is (in_phase known phase.Enter is) idle.0 idle.1 (omega (arith, room, same)))
       (record {
         number_is = k.number_is;
         lists = record { entered_is = ap (λ es. logged v ∷ es) k.lists.entered_is; committed_is = k.lists.committed_is };
@@ -164,7 +165,7 @@ module _ {s : Session} {t : Trace} {n : ℕ} {old : JournalZone} {v : Vio} (know
         (
           omega arith,
           (
-            enter_block s t v known.right (vio_ok known) is (in_phase known phase.Enter is) idle.0 idle.1 (s.sizes.start + (s.sizes.opened + length old.entered)) (ap (λ m. s.sizes.start + (s.sizes.opened + m)) same) (omega (arith, room, same)),
+            enter_block s t v known.right (vio_ok known) is (in_phase known phase.Enter is) idle.0 idle.1 (omega (arith, room, same)) (s.sizes.start + (s.sizes.opened + length old.entered)) (ap (λ m. s.sizes.start + (s.sizes.opened + m)) same),
             refl,
           ),
         ),
@@ -320,7 +321,7 @@ module _ {s : Session} {t : Trace} {n : ℕ} {old : JournalZone} {b : SealedBloc
       let same : length old.entered ≡ length (committed (first ∷ t)) = ap length (k.lists.entered_is ∙ ok.last) in
       let room = room_for _ _ has in
       rw (e, m, p) (record {
-        right = enter_right s (first ∷ t) w now mine.0.0 mine.0.2 carries ok.last rest_now;
+        right = enter_right s (first ∷ t) w now mine.0.0 mine.0.2 carries ok.last rest_now (omega (arith, room, same));
         gives = λ g honest. g honest;
         owns = (next_reached w ws waits, (reaches known clears, tt));
         own = record {
@@ -340,8 +341,8 @@ module _ {s : Session} {t : Trace} {n : ℕ} {old : JournalZone} {b : SealedBloc
             (
               omega arith,
               (
-                enter_block s (first ∷ t) w now mine.0.0 mine.0.2 carries ok.last rest_now (s.sizes.start + (s.sizes.opened + length old.entered))
-                    (ap (λ m. s.sizes.start + (s.sizes.opened + m)) same) (omega (arith, room, same)),
+                enter_block s (first ∷ t) w now mine.0.0 mine.0.2 carries ok.last rest_now (omega (arith, room, same)) (s.sizes.start + (s.sizes.opened + length old.entered))
+                    (ap (λ m. s.sizes.start + (s.sizes.opened + m)) same),
                 refl,
               ),
             ),

@@ -1,6 +1,6 @@
 -- A core at its start is legal, with an empty trace.
 use Rattle.std.proofs.Common.{◌≡◌, ℕ, suc, ◌≤◌, Bool, false, not, List, [], ◌∷◌, ◌++◌, length, refl, sym, ◌∙◌, ap, subst, inl, arith}
-use Rattle.core_laws.proofs.Common.{AllByRecursion, AtMost, AtRest, Balanced, DataOk, DeskLine, Each, IsFresh, IsSession, Item, ItemOk, KeptOk, Lock, LocksOk, LogicalZone, MapOk, Mapping, Pbn, RestsAt, Session, Shown, Token, Trace, Vio, Zone, ZoneData, ZoneOk, answers_of, arrival, as_items, begins_of, bit, block_token, blocks_at, desk_zone, every-get, given, in_log, is_answer, is_begin, is_block, is_entry, journal_token, kept_by, kept_phase, lease_token, lock_weight, logical_zone, newest, notice_token, notified_by, of_address, one_physical, queued, request_token, room_token, total, weight, zone_count}
+use Rattle.core_laws.proofs.Common.{AllByRecursion, AtMost, AtRest, Balanced, DataOk, DeskLine, Each, IsFresh, IsSession, Item, ItemOk, KeptOk, Lba, Lock, LocksOk, Logged, LogicalZone, MapOk, Mapping, Pbn, RestsAt, Session, Shown, Token, Trace, Vio, Zone, ZoneData, ZoneOk, answers_of, arrival, as_items, begins_of, bit, block_token, blocks_at, desk_zone, entry_token, every-get, given, holder_token, in_log, is_answer, is_begin, is_block, is_entry, journal_token, kept_by, kept_phase, lease_token, lock_weight, logical_zone, made_by, newest, notice_token, notified_by, of_address, one_physical, queued, request_token, room_token, total, weight, zone_count}
 use Rattle.blk_base.specs.declared.place.Mapping.TheVariants.{Unmapped, Zero, At}
 use Rattle.image_layout.specs.Window.{mapping_of}
 use Rattle.stop_laws.proofs.JournalLaws.{opened_at_rest}
@@ -18,7 +18,7 @@ use Rattle.blk_base.proofs.RegionLaws.{data_block_high, data_block_inside}
 use Rattle.core_laws.proofs.device.DeviceCalls.{blocks_fit, window_data}
 
 -- sums of what each thing has, as the one is at most the other
-total_at_most : {X : Type 0} (f g : X → ℕ) (xs : List X) → Each (λ i x. f x ≤ g x) xs → total f xs ≤ total g xs
+pub total_at_most : {X : Type 0} (f g : X → ℕ) (xs : List X) → Each (λ i x. f x ≤ g x) xs → total f xs ≤ total g xs
 total_at_most f g [] h = omega arith
 total_at_most f g (x ∷ xs) h = omega (arith, h 0 x refl, total_at_most f g xs (λ i. h (suc i)))
 
@@ -29,6 +29,11 @@ total_both f g (x ∷ xs) h = omega (arith, h 0 x refl, total_both f g xs (λ i.
 no_lanes : (w : Item → ℕ) (lanes : List (List Item)) → AllByRecursion (λ lane. lane ≡ []) lanes → total (total w) lanes ≡ 0
 no_lanes w [] h = refl
 no_lanes w (l ∷ ls) h = omega (arith, ap (total w) h.0, no_lanes w ls h.1)
+
+none_made : (s : Session) (n : ℕ) (d : ZoneData) → IsFirstData s n d → made_by d ≡ 0
+none_made s n (at.Logical l) h = h.next
+none_made s n (at.Device d) h = h.calls
+none_made s n other h = refl
 
 none_queued : (w : Item → ℕ) (s : Session) (n : ℕ) (d : ZoneData) → IsFirstData s n d → queued w d ≡ 0
 none_queued w s n (at.Desk d) h = ap (λ vs. total w (as_items vs)) h.parked
@@ -56,6 +61,15 @@ no_lines f g s n other h = refl
 no_locks : (a : ℕ) (test : ℕ → Bool) (s : Session) (n : ℕ) (d : ZoneData) → IsFirstData s n d → (lease_token a test).own d ≡ (lease_token a test).gave d
 no_locks a test s n (at.Logical l) h = sym (ap (total (lock_weight a test)) h.held)
 no_locks a test s n other h = refl
+
+no_holders : (s : Session) (n : ℕ) (d : ZoneData) → IsFirstData s n d → holder_token.own d ≡ holder_token.gave d
+no_holders s n (at.Logical l) h = sym (ap (λ (locks : List Lock). length locks) h.held)
+no_holders s n other h = refl
+
+no_entries : (s : Session) (n : ℕ) (d : ZoneData) → IsFirstData s n d → entry_token.own d ≡ entry_token.gave d
+no_entries s n (at.Logical l) h = omega (arith, ap (λ (slots : List Logged). length slots) h.slots, ap (λ (retired : List Lba). length retired) h.retired)
+no_entries s n (at.Journal j) h = sym (ap (λ (es : List Logged). length es) h.entered)
+no_entries s n other h = refl
 
 free_once : (x : ℕ) (s : Session) → IsSession s → (n : ℕ) (d : ZoneData) → IsFirstData s n d → blocks_at x d ≤ one_physical d
 free_once x s session n (at.Physical p) h = let once = session.distinct x in omega (arith, once, ap (total (is_block x)) h.free)
@@ -159,6 +173,7 @@ module _ (s : Session) (session : IsSession s) where
     inbox = subst (λ (items : List Item). AllByRecursion (ItemOk s [] n) items) (sym f.inbox) tt;
     outboxes = λ to lane e. subst (λ (items : List Item). AllByRecursion (ItemOk s [] to) items) (sym (every-get (λ lane. lane ≡ []) z.outboxes to lane f.outboxes e)) tt;
     own = data_at_start n z.keeps f.own;
+    counted = omega (arith, none_made s n z.keeps f.own);
   }
 
   flows_at_start : (zones : List Zone) (zone : ℕ) → Each (IsFirstZone s) zones → Flows (arrivals_at s zone) [] zones
@@ -176,6 +191,8 @@ module _ (s : Session) (session : IsSession s) where
     each = λ n z e. zone_at_start n z (first n z e);
     requests = λ w. balanced_at_start s zones first (request_token w) (no_lines (answers_of w) (begins_of w) s);
     leases = λ a test. balanced_at_start s zones first (lease_token a test) (no_locks a test s);
+    holders = balanced_at_start s zones first holder_token (no_holders s);
+    entries = balanced_at_start s zones first entry_token (no_entries s);
     blocks = λ x. at_most_at_start s zones first (block_token x) (free_once x s session);
     journal = balanced_at_start s zones first journal_token (journal_idle s);
     room = balanced_at_start s zones first room_token (no_lines is_answer is_begin s);

@@ -132,6 +132,7 @@ module _ (s : Session) (h : Happening) (t : Trace) where
       answers = answers_kept z.keeps (λ k some. elim (spares k) [ inl none ↦ absurd (omega (arith, none, some)) | inr spared ↦ spared ]) ok.own.answers;
       told = told_kept z.keeps ok.own.told;
     };
+    counted = ok.counted;
   }
     where
       part : (weigh : Key → ℕ) → ((k : Key) → weigh k ≤ weight (token_of s.sizes k) z) → Weighs weigh

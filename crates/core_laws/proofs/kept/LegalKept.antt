@@ -1,6 +1,6 @@
 -- Each step and each move keeps a core legal, and so does each list of events.
-use Rattle.std.proofs.Common.{◌≡◌, ℕ, zero, suc, ◌+◌, ◌<◌, Bool, true, false, Some, List, [], ◌∷◌, ◌++◌, length, nat_eq, slice_get, slice_set, refl, ap, sym, ◌∙◌, subst, arith}
-use Rattle.core_laws.proofs.Common.{AllByRecursion, Balanced, Each, Each-put_other, GivesRight, HasHonestReads, IsSession, Item, ItemOk, KeptOk, Post, RightTrace, Session, Token, Trace, Writer, Zone, ZoneData, ZoneOk, block_token, eqb-true, every-append, every-map, idle_at, is_sealed, journal_token, kept_by, kept_phase, lease_token, length-put, notice_token, request_token, room_token, same_Some, total, zone_number}
+use Rattle.std.proofs.Common.{◌≡◌, ℕ, zero, suc, ◌+◌, ◌<◌, ◌≤◌, Bool, true, false, Some, List, [], ◌∷◌, ◌++◌, length, nat_eq, slice_get, slice_set, refl, ap, sym, ◌∙◌, subst, arith}
+use Rattle.core_laws.proofs.Common.{AllByRecursion, Balanced, Each, Each-put_other, GivesRight, HasHonestReads, IsSession, Item, ItemOk, KeptOk, Post, RightTrace, Session, Token, Trace, Writer, Zone, ZoneData, ZoneOk, block_token, entry_token, eqb-true, every-append, every-map, holder_token, idle_at, is_sealed, journal_token, kept_by, kept_phase, lease_token, length-put, made_by, notice_token, request_token, room_token, same_Some, total, zone_number}
 use Rattle.core_model.specs.Arrivals.{arrivals_at}
 use Rattle.core_model.specs.Legal.{Legal}
 use Rattle.core_model.specs.Steps.{Act, Core, StepOf, sent_to, sent, delivered, posted}
@@ -10,11 +10,12 @@ use Rattle.core_laws.proofs.kept.Keys.{OfJournal, idle_none}
 use Rattle.core_laws.proofs.kept.StepActs.{by_act, known, sides}
 use Rattle.core_laws.proofs.kept.Arrivals.{arrivals_kept, course}
 use Rattle.core_laws.proofs.kept.Streams.{flows_step}
+use Rattle.core_laws.proofs.limits.Counted.{made_once}
 use Rattle.core_laws.proofs.tokens.ActSums.{IsRow, act_row}
 use Rattle.core_laws.proofs.tokens.Known.{IsIn, KeptIn}
 use Rattle.core_laws.proofs.tokens.Known as tokens
 use Rattle.core_laws.proofs.tokens.Lift.{Within, Conserves, balance_step, at_most_step}
-use Rattle.core_laws.proofs.tokens.TokenLaws.{requests_law, room_law, notices_law, journal_law, blocks_law, leases_law}
+use Rattle.core_laws.proofs.tokens.TokenLaws.{requests_law, room_law, notices_law, journal_law, blocks_law, leases_law, holders_law, entries_law}
 use Rattle.core_laws.proofs.lists.CoreLists.{length-posted}
 
 -- What a zone has stays while posts are delivered that carry what they must.
@@ -34,6 +35,7 @@ sent_ok s t n true to it z e k ok =
       inbox = every-append (ItemOk s t n) z.inbox (it ∷ []) ok.inbox (subst (λ (m : ℕ). ItemOk s t m it) home k, tt);
       outboxes = ok.outboxes;
       own = ok.own;
+      counted = ok.counted;
     }
 sent_ok s t n false to it z e k ok = record {
   number_is = ok.number_is;
@@ -41,6 +43,7 @@ sent_ok s t n false to it z e k ok = record {
   inbox = ok.inbox;
   outboxes = each-posted (ItemOk s t) to it z.outboxes ok.outboxes k;
   own = ok.own;
+  counted = ok.counted;
 }
 
 delivered_ok : (s : Session) (t : Trace) (n : ℕ) (ps : List Post) (z : Zone) → AllByRecursion (PostOk s t) ps → ZoneOk s t n z → ZoneOk s t n (delivered s.sizes ps z)
@@ -75,10 +78,13 @@ module _ (s : Session) (session : IsSession s) (old new : Core) (legal : Legal s
   zone_ok : ZoneOk s old.trace st.number st.zone
   zone_ok = legal.each st.number st.zone st.had
 
+  counted : made_by st.zone'.keeps ≤ st.zone.steps + 1
+  counted = let once = made_once s.sizes st.step.act in let before = zone_ok.counted in omega (arith, once, before)
+
   zone_ok' : ZoneOk s t' st.number st.zone'
   zone_ok' =
       let served : Zone = record st.zone { keeps = st.zone'.keeps; inbox = st.step.rest; steps = st.zone.steps + 1 } in
-      let first : ZoneOk s t' st.number served = record { number_is = zone_ok.number_is; lanes = zone_ok.lanes; inbox = beside.inbox; outboxes = beside.outboxes; own = stepped.own } in
+      let first : ZoneOk s t' st.number served = record { number_is = zone_ok.number_is; lanes = zone_ok.lanes; inbox = beside.inbox; outboxes = beside.outboxes; own = stepped.own; counted = counted } in
       subst (λ (z : Zone). ZoneOk s t' st.number z) (sym st.step.lanes) (delivered_ok s t' st.number st.step.posts served stepped.posts_ok first)
 
   zones_is : new.zones ≡ slice_set old.zones st.number st.zone'
@@ -121,6 +127,8 @@ module _ (s : Session) (session : IsSession s) (old new : Core) (legal : Legal s
     each = subst (λ (core : Core). Each (ZoneOk s core.trace) core.zones) (sym st.has) each_ok;
     requests = λ w. balanced (request_token w) (requests_law s.sizes w the_row.row) (legal.requests w);
     leases = λ a test. balanced (lease_token a test) (leases_law s.sizes a test the_row.row) (legal.leases a test);
+    holders = balanced holder_token (holders_law s.sizes the_row.row) legal.holders;
+    entries = balanced entry_token (entries_law s.sizes the_row.row) legal.entries;
     blocks = λ x. at_most_step (block_token x) s.sizes old new st lanes_there the_row (blocks_law s.sizes x the_row.row) (legal.blocks x);
     journal = balanced journal_token (journal_law s.sizes the_row.row) legal.journal;
     room = balanced room_token (room_law s.sizes the_row.row) legal.room;

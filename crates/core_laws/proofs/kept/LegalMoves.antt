@@ -1,6 +1,6 @@
 -- A move keeps a core legal, and so does each list of events.
 use Rattle.std.proofs.Common.{◌≡◌, ◌++◌, length, slice_set, ap, sym, ◌∙◌, subst, arith}
-use Rattle.core_laws.proofs.Common.{AllByRecursion, Each, Each-put, GivesRight, HasHonestReads, IsSession, ItemOk, RightTrace, Session, Trace, Writer, Zone, ZoneOk, block_token, every-append, every-front, get-put_other, journal_token, lease_token, length-put, notice_token, request_token, room_token}
+use Rattle.core_laws.proofs.Common.{AllByRecursion, Each, Each-put, GivesRight, HasHonestReads, IsSession, ItemOk, RightTrace, Session, Trace, Writer, Zone, ZoneOk, block_token, entry_token, every-append, every-front, get-put_other, holder_token, journal_token, lease_token, length-put, notice_token, request_token, room_token}
 use Rattle.core_model.specs.Arrivals.{arrivals_at}
 use Rattle.core_model.specs.Legal.{Legal}
 use Rattle.core_model.specs.Steps as steps
@@ -32,6 +32,7 @@ module _ (s : Session) (old new : Core) (m : MoveOf old new) (legal : Legal s ol
     inbox = source_ok.inbox;
     outboxes = Each-put {P = λ to. AllByRecursion (ItemOk s old.trace to)} {Q = λ to. AllByRecursion (ItemOk s old.trace to)} m.source.outboxes m.to (m.part ++ m.left) m.left m.outbox source_ok.outboxes (λ j x h. h) parts.1;
     own = source_ok.own;
+    counted = source_ok.counted;
   }
 
   target_ok' : ZoneOk s old.trace m.to target'
@@ -41,6 +42,7 @@ module _ (s : Session) (old new : Core) (m : MoveOf old new) (legal : Legal s ol
     inbox = every-append (ItemOk s old.trace m.to) m.target.inbox m.part target_ok.inbox parts.0;
     outboxes = target_ok.outboxes;
     own = target_ok.own;
+    counted = target_ok.counted;
   }
 
   zones_ok : Each (ZoneOk s old.trace) (slice_set (slice_set old.zones m.from source') m.to target')
@@ -61,6 +63,8 @@ module _ (s : Session) (old new : Core) (m : MoveOf old new) (legal : Legal s ol
     each = subst (λ (core : Core). Each (ZoneOk s core.trace) core.zones) (sym m.has) zones_ok;
     requests = λ w. balance_move (request_token w) old new m (legal.requests w);
     leases = λ a test. balance_move (lease_token a test) old new m (legal.leases a test);
+    holders = balance_move holder_token old new m legal.holders;
+    entries = balance_move entry_token old new m legal.entries;
     blocks = λ x. at_most_move (block_token x) old new m (legal.blocks x);
     journal = balance_move journal_token old new m legal.journal;
     room = balance_move room_token old new m legal.room;

@@ -1,7 +1,7 @@
 -- The rows of the table of phases as the tokens see them: what a zone's data was and is, and the items that were there
 -- (the front, and those that are kept) and are there (those that are posted, and those that are kept), by their sum.
-use Rattle.std.proofs.Common.{◌≡◌, ℕ, ◌+◌, ◌*◌, true, false, Option, Some, List, [], ◌∷◌}
-use Rattle.core_laws.proofs.Common.{Answer, Desk, DeviceZone, FlushMark, Item, JournalZone, Logged, LogicalZone, Mapping, Pbn, Phase, PhysicalZone, SealedBlock, Sizes, Stage, Vio, Writer, ZoneData, claims, ended, holds, notified_zones, staged, total, turned}
+use Rattle.std.proofs.Common.{◌≡◌, ℕ, ◌+◌, ◌*◌, true, false, Option, Some, List, [], ◌∷◌, length}
+use Rattle.core_laws.proofs.Common.{Answer, Desk, DeviceZone, FlushMark, Item, JournalZone, Logged, LogicalZone, Mapping, Pbn, Phase, PhysicalZone, SealedBlock, Sizes, Stage, Vio, Writer, ZoneData, bit, claims, ended, has_entry, holds, notified_zones, staged, total, turned}
 use Rattle.blk_base.specs.declared.request.Answer.TheVariants as reply
 use Rattle.vdo_model.specs.declared.report.DeskLine.TheVariants as line
 use Rattle.core_model.specs.declared.items.Item.TheVariants.{Request, Block, StopNotice}
@@ -33,6 +33,7 @@ pub record Onward : Type 0 where
   pub bytes : List ℕ
   pub locks : holds phase ≡ true
   pub unclaimed : claims phase ≡ false
+  pub unentered : has_entry phase ≡ false
 
 abbrev pub onward : Onward → Vio → Vio
 onward on v = record v { phase = on.phase; old = on.old; latest = on.latest; block = on.block; bytes = on.bytes }
@@ -40,6 +41,10 @@ onward on v = record v { phase = on.phase; old = on.old; latest = on.latest; blo
 -- a request with its answer
 abbrev pub replied : Option Answer → Vio → Vio
 replied answer v = record v { phase = phase.Reply; answer = answer }
+
+-- whoever leaves a lock with an entry sets a slot
+abbrev pub IsSetBy : LogicalZone → Phase → List Logged → Type 0
+IsSetBy l q slots = length slots ≡ bit (has_entry q) + length l.slots
 
 pub data Row (sizes : Sizes) : ZoneData → ZoneData → Sum → Sum → Type 0 where
   -- the desk
@@ -60,9 +65,9 @@ pub data Row (sizes : Sizes) : ZoneData → ZoneData → Sum → Sum → Type 0 
   arrives_held : (l : LogicalZone) (v : Vio) (waiting : List Vio)
       → Row sizes (at.Logical l) (at.Logical (record (drawn_by l v) { waiting = waiting })) (λ f. f (Request (turned phase.Arrive v)) + all_in phase.Wait l.waiting f) (λ f. f (Request (turned phase.Wait (placed l v))) + all_in phase.Wait l.waiting f)
   -- a request leaves its lock, and nobody waits for it, or one does
-  leaves : (l : LogicalZone) (slots : List Logged) (v : Vio) (q : Phase) (a : Option Answer) → holds q ≡ true → Leased l v
+  leaves : (l : LogicalZone) (slots : List Logged) (v : Vio) (q : Phase) (a : Option Answer) → holds q ≡ true → IsSetBy l q slots → Leased l v
       → Row sizes (at.Logical l) (at.Logical (record l { slots = slots; held = without v.at.0 l.held })) (λ f. f (Request (turned q v)) + all_in phase.Wait l.waiting f) (λ f. f (Request (replied a v)) + all_in phase.Wait l.waiting f)
-  hands_on : (l : LogicalZone) (slots : List Logged) (v : Vio) (q : Phase) (a : Option Answer) (w : Vio) (on : Onward) (others : List Vio) → holds q ≡ true → Leased l v
+  hands_on : (l : LogicalZone) (slots : List Logged) (v : Vio) (q : Phase) (a : Option Answer) (w : Vio) (on : Onward) (others : List Vio) → holds q ≡ true → IsSetBy l q slots → Leased l v
       → Row sizes (at.Logical l) (at.Logical (record l { slots = slots; held = lock_of w ∷ without v.at.0 l.held; waiting = others }))
       (λ f. f (Request (turned q v)) + (f (Request (turned phase.Wait w)) + all_in phase.Wait others f)) (λ f. f (Request (replied a v)) + (f (Request (onward on w)) + all_in phase.Wait others f))
   retires : (l : LogicalZone) (v : Vio) → Leased l v

@@ -1,6 +1,6 @@
 -- Each act is one of the rows that the tokens see.
 use Rattle.std.proofs.Common.{◌≡◌, ℕ, suc, ◌+◌, ◌*◌, true, false, Option, None, Some, List, [], ◌∷◌, ◌++◌, length, refl, ap, ◌∙◌, subst, inl, inr, arith}
-use Rattle.core_laws.proofs.Common.{AllByRecursion, Answer, Desk, DeviceZone, Item, JournalZone, Logged, LogicalZone, Mapping, Pbn, Phase, PhysicalZone, Post, SealedBlock, Sizes, Trace, Vio, ZoneData, ZoneId, as_items, claims, eqb_tells, every-map, holds, notified, notified_zones, queued, same_Some, total, turned}
+use Rattle.core_laws.proofs.Common.{AllByRecursion, Answer, Desk, DeviceZone, Item, JournalZone, Logged, LogicalZone, Mapping, Pbn, Phase, PhysicalZone, Post, SealedBlock, Sizes, Trace, Vio, ZoneData, ZoneId, as_items, claims, eqb_tells, every-map, has_entry, holds, notified, notified_zones, queued, same_Some, total, turned}
 use Rattle.blk_base.specs.Sectors.{zero_block}
 use Rattle.blk_base.specs.declared.place.Mapping.TheVariants.{Unmapped, Zero, At}
 use Rattle.blk_base.specs.declared.place.ZoneId.TheVariants as id
@@ -22,7 +22,7 @@ use Rattle.core_model.specs.Steps.{Act}
 use Rattle.core_laws.proofs.lists.CoreLists.{every_but_first, every_none_for}
 use Rattle.core_laws.proofs.lists.ZoneNames.{notified_count}
 use Rattle.core_laws.proofs.tokens.ActRows as row
-use Rattle.core_laws.proofs.tokens.ActRows.{Row, Sum, all_in, all_ended, Onward, onward, replied}
+use Rattle.core_laws.proofs.tokens.ActRows.{Row, Sum, all_in, all_ended, Onward, onward, replied, IsSetBy}
 use Rattle.core_laws.proofs.tokens.Known.{Known, IsIn, KeptIn, Leased}
 use Rattle.core_laws.proofs.tokens.Posts.{begun_request, begun_phase, goes_by, IsGranted, nobody, somebody, is_granted}
 
@@ -101,16 +101,16 @@ module _ (sizes : Sizes) where
       rw (n, q) (is_row (row.answers old v reply.Ok _) (λ f. omega (arith, in_phase f v phase.Reply p, all_are f phase.Reply old.parked kept)) (λ f. omega (arith, all_are f phase.Reply old.parked kept)))
 
   -- a logical zone: who goes on with a lock, and who gets it
-  abbrev looked_on : (l : LogicalZone) (v : Vio) (q : Phase) → Pbn → List ℕ → holds q ≡ true → claims q ≡ false → Onward
-  looked_on l v q x bytes locks unclaimed = record { phase = q; old = mapping_at l v.at.0; latest = latest_at l v.at.0; block = x; bytes = bytes; locks = locks; unclaimed = unclaimed }
+  abbrev looked_on : (l : LogicalZone) (v : Vio) (q : Phase) → Pbn → List ℕ → holds q ≡ true → claims q ≡ false → has_entry q ≡ false → Onward
+  looked_on l v q x bytes locks unclaimed unentered = record { phase = q; old = mapping_at l v.at.0; latest = latest_at l v.at.0; block = x; bytes = bytes; locks = locks; unclaimed = unclaimed; unentered = unentered }
 
   went_on : (l : LogicalZone) (v : Vio) (post : Post) → goes_on sizes l v ≡ Some post → (on : Onward) × (post.1 ≡ Request (onward on v))
-  went_on l v post goes = goes_by (λ p. (on : Onward) × (p.1 ≡ Request (onward on v))) sizes l v post goes (λ reads. read (mapping_at l v.at.0)) (λ writes. (looked_on l v phase.Claim v.block v.bytes refl refl, refl))
+  went_on l v post goes = goes_by (λ p. (on : Onward) × (p.1 ≡ Request (onward on v))) sizes l v post goes (λ reads. read (mapping_at l v.at.0)) (λ writes. (looked_on l v phase.Claim v.block v.bytes refl refl refl, refl))
     where
       read : (m : Mapping) → (on : Onward) × ((read_next sizes l (looked l v) m).1 ≡ Request (onward on v))
-      read (At x) = (looked_on l v phase.Load x v.bytes refl refl, refl)
-      read Unmapped = (looked_on l v phase.Loaded v.block zero_block refl refl, refl)
-      read Zero = (looked_on l v phase.Loaded v.block zero_block refl refl, refl)
+      read (At x) = (looked_on l v phase.Load x v.bytes refl refl refl, refl)
+      read Unmapped = (looked_on l v phase.Loaded v.block zero_block refl refl refl, refl)
+      read Zero = (looked_on l v phase.Loaded v.block zero_block refl refl refl, refl)
 
   first_taken : (a : ℕ) (f : Vio → ℕ) (vs : List Vio) (w : Vio) → first_for a vs ≡ Some w → total f vs ≡ f w + total f (but_first_for a vs)
   first_taken a f [] w is = absurd cc
@@ -126,19 +126,19 @@ module _ (sizes : Sizes) where
       elim (eqb_tells v.at.0 a) [ inl same ↦ rw same.0 (omega (arith, rest)) | inr other ↦ rw other.0 (omega (arith, rest)) ]
 
   -- a request leaves its lock
-  module _ (l : LogicalZone) (slots : List Logged) (v : Vio) (q : Phase) (in_it : v.phase ≡ q) (locks : holds q ≡ true) (leased : Leased l v) (kept : KeptIn (at.Logical l)) (a : Option Answer) where
+  module _ (l : LogicalZone) (slots : List Logged) (v : Vio) (q : Phase) (in_it : v.phase ≡ q) (locks : holds q ≡ true) (is_set : IsSetBy l q slots) (leased : Leased l v) (kept : KeptIn (at.Logical l)) (a : Option Answer) where
     abbrev set : LogicalZone
     set = record l { slots = slots }
 
     left_row : (o : Option Vio) (more : List Post) → first_for v.at.0 l.waiting ≡ o → IsGranted sizes set o more
         → IsRow sizes (at.Logical l) (Request v ∷ []) (at.Logical (passed_to v.at.0 set o)) ((id.Desk, Request (replied a v)) ∷ more)
     left_row None more first nobody =
-        is_row (row.leaves l slots v q a locks leased) (λ f. omega (arith, in_phase f v q in_it, all_are f phase.Wait l.waiting kept)) (λ f. omega (arith, all_are f phase.Wait l.waiting kept))
+        is_row (row.leaves l slots v q a locks is_set leased) (λ f. omega (arith, in_phase f v q in_it, all_are f phase.Wait l.waiting kept)) (λ f. omega (arith, all_are f phase.Wait l.waiting kept))
     left_row (Some w) more first (somebody u post goes) =
         let on = went_on set w post goes in
         let others = but_first_for v.at.0 l.waiting in
         let taken : (f : Item → ℕ) → all_in phase.Wait l.waiting f ≡ f (Request (turned phase.Wait w)) + all_in phase.Wait others f = λ f. first_taken v.at.0 (λ u. f (Request (turned phase.Wait u))) l.waiting w first in
-        is_row (row.hands_on l slots v q a w on.0 others locks leased) (λ f. omega (arith, in_phase f v q in_it, all_are f phase.Wait l.waiting kept, taken f))
+        is_row (row.hands_on l slots v q a w on.0 others locks is_set leased) (λ f. omega (arith, in_phase f v q in_it, all_are f phase.Wait l.waiting kept, taken f))
         (λ f. omega (arith, ap f on.1, all_are f phase.Wait others (every_but_first (IsIn phase.Wait) v.at.0 l.waiting kept)))
 
     leaves_row : (more : List Post) → passes_on sizes set (first_for v.at.0 l.waiting) ≡ Some more
@@ -156,11 +156,11 @@ module _ (sizes : Sizes) where
       rw (n, q) (is_row (row.arrives_held old v (old.waiting ++ turned phase.Wait (placed old v) ∷ [])) (λ f. omega (arith, in_phase f v phase.Arrive p, all_are f phase.Wait old.waiting kept))
       (λ f. omega (arith, items_more f old.waiting (turned phase.Wait (placed old v)), all_are f phase.Wait old.waiting kept)))
   logical_row old v new made posts kept leased (logical.settles more p grants n m q) =
-      rw (n, q) (leaves_row old (with_slot old v).slots v phase.Settle p refl (leased (ap holds p)) kept (Some reply.Ok) more grants)
+      rw (n, q) (leaves_row old (with_slot old v).slots v phase.Settle p refl (omega arith) (leased (ap holds p)) kept (Some reply.Ok) more grants)
   logical_row old v new made posts kept leased (logical.gives more p grants n m q) =
-      rw (n, q) (leaves_row old old.slots v phase.Loaded p refl (leased (ap holds p)) kept (Some (reply.Bytes v.bytes)) more grants)
+      rw (n, q) (leaves_row old old.slots v phase.Loaded p refl (omega arith) (leased (ap holds p)) kept (Some (reply.Bytes v.bytes)) more grants)
   logical_row old v new made posts kept leased (logical.aborts more p grants n m q) =
-      rw (n, q) (leaves_row old old.slots v phase.Abort p refl (leased (ap holds p)) kept v.answer more grants)
+      rw (n, q) (leaves_row old old.slots v phase.Abort p refl (omega arith) (leased (ap holds p)) kept v.answer more grants)
   logical_row old v new made posts kept leased (logical.aborts_entered p n m q) =
       let split : (f : Item → ℕ) → all_in phase.Wait (all_for v.at.0 old.waiting) f + all_in phase.Wait (none_for v.at.0 old.waiting) f ≡ all_in phase.Wait old.waiting f = λ f. split_for (λ u. f (Request (turned phase.Wait u))) v.at.0 old.waiting in
       let others = every-map {P = λ u. IsIn phase.Wait u × (u.at.0 ≡ v.at.0 → ⊥)} {Q = IsIn phase.Wait} (λ u both. both.0) (none_for v.at.0 old.waiting) (every_none_for (IsIn phase.Wait) v.at.0 old.waiting kept) in

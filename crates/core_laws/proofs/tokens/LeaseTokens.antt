@@ -1,5 +1,5 @@
 -- The locks of a zone, without those of an address.
-use Rattle.std.proofs.Common.{◌≡◌, ℕ, ◌+◌, Bool, false, ◌&&◌, ◌==◌, List, [], ◌∷◌, refl, sym, ◌∙◌, ap, subst, inl, inr, arith}
+use Rattle.std.proofs.Common.{◌≡◌, ℕ, ◌+◌, Bool, true, false, ◌&&◌, ◌==◌, List, [], ◌∷◌, length, refl, sym, ◌∙◌, ap, subst, inl, inr, arith}
 use Rattle.core_laws.proofs.Common.{Lock, LogicalZone, Vio, bit, eqb_tells, lock_weight, total}
 use Rattle.core_model.specs.LogicalRows.{without}
 use Rattle.core_laws.proofs.tokens.Known.{Leased}
@@ -30,3 +30,14 @@ freed a test l v leased = elim (eqb_tells v.at.0 a) [
       rw same.0 (omega (arith, x, y))
   | inr other ↦ let x = without_other a v.at.0 test l.held other.1 in rw other.0 (omega (arith, x))
 ]
+
+-- then the zone holds one lock less
+without_one : (b : ℕ) (locks : List Lock) → length (without b locks) + total (lock_weight b (λ p. true)) locks ≡ length locks
+without_one b [] = refl
+without_one b (lock ∷ locks) = elim (eqb_tells lock.at.0 b) [
+  | inl here ↦ rw here.0 (omega (arith, without_one b locks))
+  | inr there ↦ rw there.0 (omega (arith, without_one b locks))
+]
+
+pub one_freed : (l : LogicalZone) (v : Vio) → Leased l v → length (without v.at.0 l.held) + 1 ≡ length l.held
+one_freed l v leased = omega (arith, without_one v.at.0 l.held, leased (λ p. true))

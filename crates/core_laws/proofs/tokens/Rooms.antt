@@ -81,7 +81,7 @@ under_way depth script desk right =
     omega (arith, a, b, c)
 
 -- what a zone's lanes and lists weigh, apart from its own part
-abbrev carried : Token → Zone → ℕ
+abbrev pub carried : Token → Zone → ℕ
 carried t z = total t.item z.inbox + total (total t.item) z.outboxes + queued t.item z.keeps
 
 split_sum : (t : Token) (zones : List Zone) → total (weight t) zones ≡ total (carried t) zones + total (λ z. t.own z.keeps) zones
@@ -127,15 +127,20 @@ module _ (s : Session) (core : Core) (legal : Legal s core) where
       by true = omega arith
       by false = omega arith
 
-  few_requests : (n : ℕ) (z : Zone) → slice_get core.zones n ≡ Some z → carried room_token z ≤ length s.script * s.sizes.depth
-  few_requests n z had =
-      let here = total-get (carried room_token) core.zones n z had in
+  -- all requests under way
+  pub all_requests : total (carried room_token) core.zones ≤ length s.script * s.sizes.depth
+  all_requests =
       let split = split_sum room_token core.zones in
       let balance = legal.room in
       let begins = only_desk is_begin in
       let answers = only_desk is_answer in
       let few = under_way s.sizes.depth s.script (lines core.trace) (desk_log_right s core.trace legal.right) in
-      omega (arith, here, split, balance, begins, answers, few)
+      omega (arith, split, balance, begins, answers, few)
+
+  few_requests : (n : ℕ) (z : Zone) → slice_get core.zones n ≡ Some z → carried room_token z ≤ length s.script * s.sizes.depth
+  few_requests n z had =
+      let here = total-get (carried room_token) core.zones n z had in
+      omega (arith, here, all_requests)
 
   few_notices : (n : ℕ) (z : Zone) → slice_get core.zones n ≡ Some z → total is_word z.inbox + total (total is_word) z.outboxes ≤ notified_zones s.sizes
   few_notices n z had =

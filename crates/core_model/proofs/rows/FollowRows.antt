@@ -10,11 +10,16 @@ use Rattle.disk_model.specs.declared.call.Call.TheVariants.{Read, Write, Flush}
 use Rattle.vdo_model.specs.FlushMarks.{Moment, Desk, Device}
 use Rattle.vdo_model.specs.declared.report.DeskLine.TheVariants.{Begin, Answer}
 use Rattle.core_model.specs.RightTraces.{MayAnswer, MayFollow, StopsAtFailure}
+use Rattle.core_model.specs.Sessions.{Session}
 use Rattle.core_model.specs.Trace.{Says, Flushes, Draws, Enters, Commits, Sets, Gives, Takes, Aborts, Calls, Fails, Trace, Happening}
-use Rattle.core_model.proofs.rows.WorkedTraces.{address, block, writer, x, y, first, reader, second, other, late, flush, session, begun, took, handed_in, lasting, set, stopped, place, entry, of_first, of_second, of_other, given}
+use Rattle.core_model.proofs.rows.WorkedTraces.{address, block, writer, x, y, first, reader, second, other, late, flush, sizes, session, begun, took, handed_in, lasting, set, stopped, place, entry, of_first, of_second, of_other, given}
+
+-- the session, with two blocks in its journal
+abbrev roomy : Session
+roomy = record session { sizes = record sizes { geometry = record sizes.geometry { journal = 2 } } }
 
 abbrev May : Happening → Trace → Type 0
-May h t = MayFollow session h t
+May h t = MayFollow roomy h t
 
 abbrev address_in : Request → ℕ
 address_in (request.Read a) = a.0
@@ -37,7 +42,7 @@ begins_below_depth may = let below = may.2 in absurd (omega (arith, below))
 
 -- .. and answered once, for a cause.
 answers : May (Says (Answer first Ok)) set
-answers = ((omega arith, refl), λ r is. subst (λ (asked : Request). MayAnswer session set first asked Ok) (same_Some _ _ is) refl)
+answers = ((omega arith, refl), λ r is. subst (λ (asked : Request). MayAnswer roomy set first asked Ok) (same_Some _ _ is) refl)
 
 answers_what_is_begun : May (Says (Answer late Ok)) set → ⊥
 answers_what_is_begun may = let before = may.0.0 in absurd (omega (arith, before))
@@ -118,7 +123,7 @@ takes_no_block_beyond : May (Takes other (block 87)) (Takes second (block 86) �
 takes_no_block_beyond may = let next = may.next in absurd cc
 
 -- An entry is handed in once, of a write that has its place, while no other is; those of its address are done, nothing at its
--- address has a later place, and it says what its address was mapped to.
+-- address has a later place, a block of the journal is left for it, and it says what its address was mapped to.
 enters : May (Enters of_second) set
 enters = record {
   is_open = record { is_begun = omega arith; unanswered = refl };
@@ -127,6 +132,7 @@ enters = record {
   idle = refl;
   quiet = record { all_committed = refl; all_done = refl };
   below = record { writes = ((λ same. omega arith), tt); reads = tt };
+  left = omega arith;
   old_is = refl;
 }
 
@@ -153,6 +159,9 @@ enters_behind_a_write may = let below = may.below.writes.0 refl in absurd (omega
 
 enters_behind_a_read : May (Enters of_first) (Gives (given 2) ∷ took) → ⊥
 enters_behind_a_read may = let below = may.below.reads.0 refl in absurd (omega (arith, below))
+
+enters_while_a_block_is_left : May (Enters of_other) (Sets of_second ∷ Commits of_second ∷ Enters of_second ∷ set) → ⊥
+enters_while_a_block_is_left may = let left = may.left in absurd (omega (arith, left))
 
 enters_with_the_mapping : May (Enters (entry second 0 1 Unmapped 86)) set → ⊥
 enters_with_the_mapping may = let old = may.old_is in absurd cc
@@ -229,7 +238,7 @@ gives_behind_a_write may = let below = may.below.writes.0 refl in absurd (omega 
 gives_behind_a_read : May (Gives (given 2)) (Gives (given 3) ∷ set) → ⊥
 gives_behind_a_read may = let below = may.below.reads.0 refl in absurd (omega (arith, below))
 
--- A write is aborted that was handed in and isn't set, once the session is stopped.
+-- A write is aborted that was handed in and isn't set, once the roomy is stopped.
 aborts : May (Aborts of_first) (stopped handed_in)
 aborts = record { is_open = record { is_begun = omega arith; unanswered = refl }; handed_in = refl; unset = refl; stopped = refl }
 

@@ -15,7 +15,7 @@ use Rattle.core_model.specs.declared.zones.ZoneData.TheVariants as at
 use Rattle.core_model.specs.Facts.{zone_at, zone_of_stage, arriving}
 use Rattle.core_model.specs.Phases.{stage_row}
 use Rattle.core_model.specs.Steps.{ZoneStep, IsIdle, takes_notice}
-use Rattle.core_model.specs.Tokens.{holds, claims, kept_items}
+use Rattle.core_model.specs.Tokens.{holds, claims, has_entry, kept_items}
 use Rattle.core_model.specs.Zones.{IsZone, zone_number, zone_count, notified, notified_zones}
 use Rattle.core_model.proofs.rows.PhaseRows.{writes, reads, desk, logical, physical, journal, device}
 use Rattle.core_model.proofs.rows.WorkedTraces.{block, first, sizes}
@@ -47,51 +47,51 @@ are_notified : (notified sizes ≡ id.Journal ∷ id.Physical 0 ∷ id.Logical 1
 are_notified = (refl, refl)
 
 -- A line of the table of phases, of a request of logical zone 1: the number of the zone where it is done (6 is none), and
--- whether it has the lock, has a block, and has yet to arrive.
-abbrev IsRow : Phase → ℕ → Bool → Bool → List Writer → Type 0
-IsRow now number locks has_block arrives = (zone_at sizes (id.Logical 1) now ≡ number) × (holds now ≡ locks) × (claims now ≡ has_block) × (arriving now first ≡ arrives)
+-- whether it has the lock, has a block, has yet to arrive, and has an entry.
+abbrev IsRow : Phase → ℕ → Bool → Bool → List Writer → Bool → Type 0
+IsRow now number locks has_block arrives entered = (zone_at sizes (id.Logical 1) now ≡ number) × (holds now ≡ locks) × (claims now ≡ has_block) × (arriving now first ≡ arrives) × (has_entry now ≡ entered)
 
-row_arrive : IsRow phase.Arrive 2 false false (first ∷ [])
-row_arrive = (refl, refl, refl, refl)
+row_arrive : IsRow phase.Arrive 2 false false (first ∷ []) false
+row_arrive = (refl, refl, refl, refl, refl)
 
-row_wait : IsRow phase.Wait 6 false false []
-row_wait = (refl, refl, refl, refl)
+row_wait : IsRow phase.Wait 6 false false [] false
+row_wait = (refl, refl, refl, refl, refl)
 
-row_claim : IsRow phase.Claim 3 true false []
-row_claim = (refl, refl, refl, refl)
+row_claim : IsRow phase.Claim 3 true false [] false
+row_claim = (refl, refl, refl, refl, refl)
 
-row_store : IsRow phase.Store 5 true true []
-row_store = (refl, refl, refl, refl)
+row_store : IsRow phase.Store 5 true true [] false
+row_store = (refl, refl, refl, refl, refl)
 
-row_enter : IsRow phase.Enter 4 true true []
-row_enter = (refl, refl, refl, refl)
+row_enter : IsRow phase.Enter 4 true true [] false
+row_enter = (refl, refl, refl, refl, refl)
 
-row_settle : IsRow phase.Settle 2 true false []
-row_settle = (refl, refl, refl, refl)
+row_settle : IsRow phase.Settle 2 true false [] true
+row_settle = (refl, refl, refl, refl, refl)
 
-row_load : IsRow phase.Load 5 true false []
-row_load = (refl, refl, refl, refl)
+row_load : IsRow phase.Load 5 true false [] false
+row_load = (refl, refl, refl, refl, refl)
 
-row_loaded : IsRow phase.Loaded 2 true false []
-row_loaded = (refl, refl, refl, refl)
+row_loaded : IsRow phase.Loaded 2 true false [] false
+row_loaded = (refl, refl, refl, refl, refl)
 
-row_abort_claim : IsRow phase.AbortClaim 3 true false []
-row_abort_claim = (refl, refl, refl, refl)
+row_abort_claim : IsRow phase.AbortClaim 3 true false [] false
+row_abort_claim = (refl, refl, refl, refl, refl)
 
-row_abort : IsRow phase.Abort 2 true false []
-row_abort = (refl, refl, refl, refl)
+row_abort : IsRow phase.Abort 2 true false [] false
+row_abort = (refl, refl, refl, refl, refl)
 
-row_abort_entered_claim : IsRow phase.AbortEnteredClaim 3 true false []
-row_abort_entered_claim = (refl, refl, refl, refl)
+row_abort_entered_claim : IsRow phase.AbortEnteredClaim 3 true false [] true
+row_abort_entered_claim = (refl, refl, refl, refl, refl)
 
-row_abort_entered : IsRow phase.AbortEntered 2 true false []
-row_abort_entered = (refl, refl, refl, refl)
+row_abort_entered : IsRow phase.AbortEntered 2 true false [] true
+row_abort_entered = (refl, refl, refl, refl, refl)
 
-row_flush : IsRow phase.Flush 5 false false []
-row_flush = (refl, refl, refl, refl)
+row_flush : IsRow phase.Flush 5 false false [] false
+row_flush = (refl, refl, refl, refl, refl)
 
-row_reply : IsRow phase.Reply 0 false false []
-row_reply = (refl, refl, refl, refl)
+row_reply : IsRow phase.Reply 0 false false [] false
+row_reply = (refl, refl, refl, refl, refl)
 
 -- a line of the table of stages: the number of the zone where it is done, and the stage behind it
 abbrev IsStageRow : Stage → ℕ → Stage → Type 0

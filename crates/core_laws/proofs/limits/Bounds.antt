@@ -1,0 +1,108 @@
+-- How long the lists of a legal core get: its locks by the requests that are under way, its slots and retired addresses by the
+-- entries of the journal, and those by the journal's blocks.
+use Rattle.std.proofs.Common.{ℕ, ◌+◌, ◌≡◌, ◌≤◌, ◌⊎◌, Bool, true, false, Some, List, [], ◌∷◌, length, slice_get, refl, ap, ◌∙◌, subst, inl, inr, arith}
+use Rattle.core_laws.proofs.Common.{AtRest, DataOk, DeviceZone, HasPending, IsSession, Item, JournalZone, LogicalZone, RightTrace, Session, Trace, Zone, ZoneData, bit, committed, entered, entered_at, entry_token, given, held_at, holder_token, holds, journal_zone, made_by, room_token, total, total-get, total_alone, weight, ended_at}
+use Rattle.core_model.specs.declared.items.Item.TheVariants as item
+use Rattle.core_model.specs.declared.zones.ZoneData.TheVariants as at
+use Rattle.core_model.specs.Legal.{Legal, share}
+use Rattle.core_model.specs.Limits.{most_blocks}
+use Rattle.core_model.specs.Steps.{Core}
+use Rattle.core_model.specs.Tokens.{kept_items}
+use Rattle.core_laws.proofs.kept.FirstState.{total_at_most}
+use Rattle.core_laws.proofs.kept.ZoneKinds.{journal_sits}
+use Rattle.core_laws.proofs.tokens.Rooms.{all_requests, carried}
+use Rattle.core_laws.proofs.trace.Growth.{entered_grows}
+use Rattle.core_laws.proofs.trace.DeskOfTrace.{shown_of}
+
+-- each entry that was handed in has its block of the journal
+entries_few : (s : Session) (t : Trace) → RightTrace s t → s.sizes.opened ≤ s.sizes.geometry.journal → s.sizes.opened + length (entered t) ≤ s.sizes.geometry.journal
+entries_few s [] right few = omega (arith, few)
+entries_few s (h ∷ t) right few = entered_grows (λ es. s.sizes.opened + length es ≤ s.sizes.geometry.journal) s h t right.0 (entries_few s t right.2 few) (λ e is may. omega (arith, may.left))
+
+-- and no entry is committed that wasn't handed in
+committed_few : (s : Session) (t : Trace) → RightTrace s t → length (committed t) ≤ length (entered t)
+committed_few s t right = by (shown_of s t right).journal
+  where
+    by : ((entered t ≡ committed t) × AtRest s t (committed t)) ⊎ HasPending s t → length (committed t) ≤ length (entered t)
+    by (inl rest) = omega (arith, ap length rest.0)
+    by (inr pending) = omega (arith, ap length pending.is_last)
+
+-- an item that holds a lock is a request that is under way
+bit_most : (b : Bool) → bit b ≤ 1
+bit_most true = omega arith
+bit_most false = omega arith
+
+holder_most : (it : Item) → holder_token.item it ≤ room_token.item it
+holder_most (item.Request v) = bit_most (holds v.phase)
+holder_most (item.Block b) = bit_most (holds b.vio.phase)
+holder_most other = omega arith
+
+holders_most : (items : List Item) → total holder_token.item items ≤ total room_token.item items
+holders_most items = total_at_most holder_token.item room_token.item items (λ i it e. holder_most it)
+
+zone_most : (z : Zone) → weight holder_token z ≤ carried room_token z
+zone_most z =
+    let inbox = holders_most z.inbox in
+    let lanes = total_at_most (total holder_token.item) (total room_token.item) z.outboxes (λ i lane e. holders_most lane) in
+    let kept = holders_most (kept_items z.keeps) in
+    omega (arith, inbox, lanes, kept)
+
+module _ (s : Session) (core : Core) (legal : Legal s core) (n : ℕ) (z : Zone) (had : slice_get core.zones n ≡ Some z) where
+  own_ok : (d : ZoneData) → z.keeps ≡ d → DataOk s core.trace n d
+  own_ok d is = subst (λ (e : ZoneData). DataOk s core.trace n e) is (legal.each n z had).own
+
+  pub next_within : (l : LogicalZone) → z.keeps ≡ at.Logical l → l.next ≤ z.steps
+  next_within l keeps = let made = (legal.each n z had).counted in let same = ap made_by keeps in omega (arith, made, same)
+
+  pub calls_within : (d : DeviceZone) → z.keeps ≡ at.Device d → d.calls ≤ z.steps
+  calls_within d keeps = let made = (legal.each n z had).counted in let same = ap made_by keeps in omega (arith, made, same)
+
+  pub held_within : (l : LogicalZone) → z.keeps ≡ at.Logical l → length l.held ≤ share s
+  held_within l keeps =
+      let here = total-get (given holder_token) core.zones n z had in
+      let same = ap held_at keeps in
+      let most = total_at_most (weight holder_token) (carried room_token) core.zones (λ i y e. zone_most y) in
+      let balance = legal.holders in
+      omega (arith, here, same, most, balance, all_requests s core legal)
+
+  module _ (session : IsSession s) where
+    trace_few : length (entered core.trace) ≤ most_blocks
+    trace_few =
+        let opened = session.opened in
+        let few = session.few in
+        let blocks = session.sizes.journal.1 in
+        let entries = entries_few s core.trace legal.right (omega (arith, opened, few)) in
+        omega (arith, entries, blocks)
+
+    pub entered_within : (j : JournalZone) → z.keeps ≡ at.Journal j → length j.entered ≤ most_blocks
+    entered_within j keeps = let same = ap length (own_ok (at.Journal j) keeps).lists.entered_is in omega (arith, same, trace_few)
+
+    pub committed_within : (j : JournalZone) → z.keeps ≡ at.Journal j → length j.committed ≤ most_blocks
+    committed_within j keeps =
+        let same = ap length (own_ok (at.Journal j) keeps).lists.committed_is in
+        let less = committed_few s core.trace legal.right in
+        omega (arith, same, less, trace_few)
+
+    -- the journal alone gives out entries
+    all_entries : total (given entry_token) core.zones ≡ length (entered core.trace)
+    all_entries =
+        let journal = journal_sits s core.trace core.zones legal.each legal.count in
+        let k = subst (λ (d : ZoneData). DataOk s core.trace (journal_zone s.sizes) d) journal.keeps (legal.each (journal_zone s.sizes) journal.zone journal.had).own in
+        total_alone (given entry_token) core.zones (journal_zone s.sizes) journal.zone journal.had (λ j y there ne. none_given j y.keeps ne (legal.each j y there).own)
+        ∙ ap entered_at journal.keeps ∙ ap length k.lists.entered_is
+      where
+        none_given : (j : ℕ) (d : ZoneData) → (j ≡ journal_zone s.sizes → ⊥) → DataOk s core.trace j d → entered_at d ≡ 0
+        none_given j (at.Journal x) ne k = absurd (ne k.number_is)
+        none_given j other ne k = refl
+
+    ended_within : ended_at z.keeps ≤ most_blocks
+    ended_within =
+        let here = total-get (weight entry_token) core.zones n z had in
+        let balance = legal.entries in
+        omega (arith, here, balance, all_entries, trace_few)
+
+    pub slots_within : (l : LogicalZone) → z.keeps ≡ at.Logical l → length l.slots ≤ most_blocks
+    slots_within l keeps = let same = ap ended_at keeps in omega (arith, same, ended_within)
+
+    pub retired_within : (l : LogicalZone) → z.keeps ≡ at.Logical l → length l.retired ≤ most_blocks
+    retired_within l keeps = let same = ap ended_at keeps in omega (arith, same, ended_within)

@@ -1,0 +1,44 @@
+-- A logical zone draws one place a step at most, and the device's zone makes one call.
+use Rattle.std.proofs.Common.{ℕ, ◌+◌, ◌≡◌, ◌≤◌, Option, None, Some, List, refl, arith}
+use Rattle.core_laws.proofs.Common.{DeviceZone, Item, LogicalZone, Post, SealedBlock, Sizes, Trace, Vio, ZoneData, made_by}
+use Rattle.core_model.specs.DeviceRows as device
+use Rattle.core_model.specs.DeviceRows.{DeviceServes, DeviceWorks}
+use Rattle.core_model.specs.LogicalRows as logical
+use Rattle.core_model.specs.LogicalRows.{LogicalServes, first_for, passed_to}
+use Rattle.core_model.specs.Steps as steps
+use Rattle.core_model.specs.Steps.{Act}
+
+module _ (sizes : Sizes) where
+  passed_next : (a : ℕ) (l : LogicalZone) (o : Option Vio) → (passed_to a l o).next ≡ l.next
+  passed_next a l None = refl
+  passed_next a l (Some v) = refl
+
+  logical_once : (old : LogicalZone) (v : Vio) (new : LogicalZone) (made : Trace) (posts : List Post) → LogicalServes sizes old v new made posts → new.next ≤ old.next + 1
+  logical_once old v new made posts (logical.arrives_retired p among n m q) = rw n (omega arith)
+  logical_once old v new made posts (logical.arrives_free post p among held goes n m q) = rw n (omega arith)
+  logical_once old v new made posts (logical.arrives_held p among held n m q) = rw n (omega arith)
+  logical_once old v new made posts (logical.settles more p grants n m q) = rw n (omega (arith, passed_next v.at.0 (logical.with_slot old v) (first_for v.at.0 old.waiting)))
+  logical_once old v new made posts (logical.gives more p grants n m q) = rw n (omega (arith, passed_next v.at.0 old (first_for v.at.0 old.waiting)))
+  logical_once old v new made posts (logical.aborts more p grants n m q) = rw n (omega (arith, passed_next v.at.0 old (first_for v.at.0 old.waiting)))
+  logical_once old v new made posts (logical.aborts_entered p n m q) = rw n (omega arith)
+
+  device_once : (old : DeviceZone) (v : Vio) (new : DeviceZone) (made : Trace) (posts : List Post) → DeviceServes sizes old v new made posts → new.calls ≤ old.calls + 1
+  device_once old v new made posts (device.stores p going inside n m q) = rw n (omega arith)
+  device_once old v new made posts (device.store_fails kept p going inside n m q) = rw n (omega arith)
+  device_once old v new made posts (device.store_unmade p stopped n m q) = rw n (omega arith)
+  device_once old v new made posts (device.loads bytes p inside n m q) = rw n (omega arith)
+  device_once old v new made posts (device.load_fails bytes kept p inside n m q) = rw n (omega arith)
+  device_once old v new made posts (device.flushes p going n m q) = rw n (omega arith)
+  device_once old v new made posts (device.flush_fails kept p going n m q) = rw n (omega arith)
+  device_once old v new made posts (device.flush_unmade p stopped n m q) = rw n (omega arith)
+
+  work_once : (old : DeviceZone) (b : SealedBlock) (new : DeviceZone) (made : Trace) (posts : List Post) → DeviceWorks sizes old b new made posts → new.calls ≤ old.calls + 1
+  work_once old b new made posts (device.makes call slot place needs going n m q) = rw n (omega arith)
+  work_once old b new made posts (device.fails call slot kept place needs going n m q) = rw n (omega arith)
+  work_once old b new made posts (device.unmade call slot needs stopped n m q) = rw n (omega arith)
+
+  pub made_once : {old new : ZoneData} {front : List Item} {made : Trace} {posts : List Post} → Act sizes old front new made posts → made_by new ≤ made_by old + 1
+  made_once (steps.serves act) = logical_once _ _ _ _ _ act
+  made_once (steps.calls act) = device_once _ _ _ _ _ act
+  made_once (steps.works act) = work_once _ _ _ _ _ act
+  made_once other = omega arith
