@@ -5,3 +5,4 @@ pub mod ZoneRows
 pub mod WorkedTraces
 pub mod StreamRows
 pub mod ViewRows
+pub mod LimitRows

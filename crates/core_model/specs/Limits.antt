@@ -1,5 +1,5 @@
 -- How large a session may be, and so how long each list of a zone gets: each has room for that from the start.
-use Rattle.std.specs.Prelude.{ℕ, ◌+◌, ◌*◌, ◌≤◌, ◌^◌, List, length}
+use Rattle.std.specs.Prelude.{ℕ, ◌+◌, ◌*◌, ◌≤◌, List, length}
 use Rattle.std.specs.List.{AllByRecursion}
 use Rattle.vdo_model.specs.Scripts.{Script}
 use Rattle.core_model.specs.declared.sizes.Sizes.{Sizes}
