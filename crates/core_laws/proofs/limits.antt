@@ -1,0 +1,3 @@
+pub mod DeskLimits
+pub mod PlaceLimits
+pub mod ZoneLimits
