@@ -6,3 +6,4 @@ pub mod WorkedTraces
 pub mod StreamRows
 pub mod ViewRows
 pub mod LimitRows
+pub mod ZoneLimitRows
