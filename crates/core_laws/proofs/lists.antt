@@ -1,2 +1,3 @@
 pub mod CoreLists
 pub mod ZoneNames
+pub mod StreamSums

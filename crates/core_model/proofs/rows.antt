@@ -5,4 +5,5 @@ pub mod ZoneRows
 pub mod WorkedTraces
 pub mod StreamRows
 pub mod ViewRows
+pub mod LimitRows
 pub mod ZoneLimitRows

@@ -18,6 +18,7 @@ use Rattle.vdo_model.specs.Scripts.{Script, request_at, value_written}
 use Rattle.core_model.specs.declared.sizes.Sizes.{Sizes}
 use Rattle.core_model.specs.declared.zones.Logged.{Logged}
 use Rattle.plain_laws.specs.Sums.{total}
+use Rattle.core_model.specs.Limits.{IsLimited}
 use Rattle.core_model.specs.Tokens.{is_block}
 use Rattle.core_model.specs.Trace.{Calls, Trace, calls, entered, committed, done, of_address, newest, entry_of, entries_of}
 
@@ -54,6 +55,8 @@ pub record IsSession (s : Session) : Type 0 where
   pub sizes : IsGeometry s.sizes.geometry
   pub start : (1 ≤ s.sizes.start) × (s.sizes.start < 2 ^ 54)
   pub zones : 1 ≤ s.sizes.zones
+  -- it is no larger than it may be
+  pub limits : IsLimited s.sizes s.script
   pub room : needed_blocks s.sizes.geometry ≤ length s.blocks
   pub served : AllByRecursion (AllByRecursion IsServed) s.script
   pub one_image : HasOneImage s.blocks s.before s.image

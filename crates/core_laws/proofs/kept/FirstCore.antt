@@ -131,6 +131,7 @@ small_served n room = record {
   sizes = geometry_ok;
   start = (omega arith, omega arith);
   zones = omega arith;
+  limits = record { streams = omega arith; depth = omega arith; requests = omega arith; zones = omega arith };
   room = omega (arith, room, length-replicate n zero_block);
   served = (((zeros_length, refl), (tt, (tt, tt))), tt);
   one_image = zeros_image n;

@@ -1,11 +1,12 @@
 -- In a legal core no lane and no list of a zone has more than its share.
-use Rattle.std.proofs.Common.{◌≡◌, ℕ, zero, suc, ◌+◌, ◌*◌, ◌<◌, ◌≤◌, ◌==◌, ◌⊎◌, Bool, true, false, if◌then◌else◌, cond, IsSome, Some, List, [], ◌∷◌, length, slice_get, get_or, refl, ap, ◌∙◌, subst, inl, inr, arith}
+use Rattle.std.proofs.Common.{◌≡◌, ℕ, zero, suc, ◌+◌, ◌*◌, ◌<◌, ◌≤◌, Bool, true, false, cond, IsSome, Some, List, [], ◌∷◌, length, slice_get, get_or, refl, ap, ◌∙◌, subst, inl, inr, arith}
 use Rattle.core_laws.proofs.Common.{DataOk, DeskLine, IsDeskLog, Item, Script, Session, Token, Zone, ZoneData, answered, begun, desk_zone, device_zone, eqb_tells, given, in_log, is_answer, is_begin, is_word, kept_by, lines, notice_token, notified_by, notified_zones, queued, room_token, total, total-get, total_alone, weight}
 use Rattle.vdo_model.specs.declared.report.DeskLine.TheVariants.{Begin, Answer}
 use Rattle.core_model.specs.declared.items.Item.TheVariants as item
 use Rattle.core_model.specs.declared.zones.ZoneData.TheVariants as at
 use Rattle.core_model.specs.Legal.{Legal, share}
 use Rattle.core_model.specs.Steps.{Core}
+use Rattle.core_laws.proofs.lists.StreamSums.{over, over_more}
 use Rattle.core_laws.proofs.tokens.Lift.{items_total}
 use Rattle.core_laws.proofs.trace.DeskOfTrace.{desk_log_right}
 use Rattle.core_laws.proofs.kept.ZoneKinds.{desk_sits, device_sits, no_words}
@@ -22,28 +23,13 @@ stream_bound depth script (Answer w a ∷ older) stream right = elim (eqb_tells 
   | inr other ↦ rw other.0 (stream_bound depth script older stream right.1)
 ]
 
--- the sum over the streams below a number
-abbrev over : ℕ → (ℕ → ℕ) → ℕ
-over zero f = 0
-over (suc k) f = f k + over k f
-
--- one more of one stream
-abbrev more_of : ℕ → (ℕ → ℕ) → ℕ → ℕ
-more_of m f i = if m == i then f i + 1 else f i
-
-over_more : (k m : ℕ) (f : ℕ → ℕ) → ((m < k) × (over k (more_of m f) ≡ over k f + 1)) ⊎ ((k ≤ m) × (over k (more_of m f) ≡ over k f))
-over_more zero m f = inr (omega arith, refl)
-over_more (suc k) m f = elim (over_more k m f) [
-  | inl before ↦ elim (eqb_tells m k) [ inl same ↦ absurd (omega (arith, before.0, same.1)) | inr other ↦ inl (omega (arith, before.0), rw other.0 (omega (arith, before.1))) ]
-  | inr none ↦ elim (eqb_tells m k) [ inl same ↦ inl (omega (arith, same.1), rw same.0 (omega (arith, none.1))) | inr other ↦ inr (omega (arith, none.0, other.1), rw other.0 (omega (arith, none.1))) ]
-]
-
 some_stream : (script : Script) (stream number : ℕ) → IsSome (slice_get (get_or script stream []) number) → stream < length script
 some_stream [] stream number some = absurd cc
 some_stream (requests ∷ script) zero number some = omega arith
 some_stream (requests ∷ script) (suc stream) number some = let rest = some_stream script stream number some in omega (arith, rest)
 
-all_begun : (depth : ℕ) (script : Script) (desk : List DeskLine) → IsDeskLog depth script desk → total is_begin desk ≤ over (length script) (λ i. begun i desk)
+-- what is begun, and what is answered, over all streams
+pub all_begun : (depth : ℕ) (script : Script) (desk : List DeskLine) → IsDeskLog depth script desk → total is_begin desk ≤ over (length script) (λ i. begun i desk)
 all_begun depth script [] right = omega arith
 all_begun depth script (Begin w ∷ older) right =
     let rest = all_begun depth script older right.1 in
@@ -97,7 +83,7 @@ counted (item.StopNotice ∷ items) = omega (arith, counted items)
 lane_of : (f : Item → ℕ) (lanes : List (List Item)) (i : ℕ) (lane : List Item) → slice_get lanes i ≡ Some lane → total f lane ≤ total (total f) lanes
 lane_of f lanes i lane had = total-get (total f) lanes i lane had
 
-one_each : {X : Type 0} (xs : List X) → total (λ x. 1) xs ≡ length xs
+pub one_each : {X : Type 0} (xs : List X) → total (λ x. 1) xs ≡ length xs
 one_each [] = refl
 one_each (x ∷ xs) = omega (arith, one_each xs)
 
@@ -116,7 +102,8 @@ module _ (s : Session) (core : Core) (legal : Legal s core) where
       no_log j (at.Desk d) ne k = absurd (ne k.number_is)
       no_log j other ne k = refl
 
-  few_words : total (given (notice_token s.sizes)) core.zones ≤ notified_zones s.sizes
+  -- the device gives out no more notices than it notifies zones
+  pub few_words : total (given (notice_token s.sizes)) core.zones ≤ notified_zones s.sizes
   few_words =
       let device = device_sits s core.trace core.zones legal.each legal.count in
       let alone = total_alone (given (notice_token s.sizes)) core.zones (device_zone s.sizes) device.zone device.had (λ j y there ne. no_words s core.trace j y.keeps ne (legal.each j y there).own) in

@@ -1,97 +1,113 @@
--- How long the lists of a logical zone and of the journal get, and how many calls the device's zone makes: each at its limit,
--- and each beyond it alone.
-use Rattle.std.proofs.Common.{ℕ, ◌+◌, ◌≡◌, ◌≤◌, false, [], length, replicate, arith}
+-- How long the lists of the other zones get, and the lanes of a zone: each clause at its limit, and one past it.
+use Rattle.std.proofs.Common.{ℕ, false, List, [], ◌∷◌, replicate, arith}
 use Rattle.std.proofs.lemmas.List.{length-replicate}
+use Rattle.vdo_model.specs.declared.report.Placed.{Placed}
+use Rattle.core_model.specs.declared.items.Item.{Item}
+use Rattle.core_model.specs.declared.items.Item.TheVariants.{StopNotice}
 use Rattle.core_model.specs.declared.items.Phase.TheVariants as phase
+use Rattle.core_model.specs.declared.items.Vio.{Vio}
 use Rattle.core_model.specs.declared.zones.DeviceZone.{DeviceZone}
 use Rattle.core_model.specs.declared.zones.JournalZone.{JournalZone}
 use Rattle.core_model.specs.declared.zones.Lock.{Lock}
 use Rattle.core_model.specs.declared.zones.LogicalZone.{LogicalZone}
-use Rattle.core_model.specs.Limits.{IsDeviceWithin, IsJournalWithin, IsLogicalWithin, most_blocks, most_items, most_requests}
-use Rattle.core_model.proofs.rows.PhaseRows.{reads, writes}
+use Rattle.core_model.specs.declared.zones.Zone.{Zone}
+use Rattle.core_model.specs.declared.zones.ZoneData.TheVariants as at
+use Rattle.core_model.specs.Limits.{IsJournalWithin, IsLogicalWithin, IsWithin}
+use Rattle.core_model.proofs.rows.PhaseRows.{writes}
 use Rattle.core_model.proofs.rows.WorkedTraces.{address, first, of_first, place}
 
--- so many of one thing are no more than that, or are too many
-fits : {X : Type 0} (n most : ℕ) (x : X) → n ≤ most → length (replicate n x) ≤ most
-fits n most x few = omega (arith, few, length-replicate n x)
-
-too_many : {X : Type 0} (n most : ℕ) (x : X) → length (replicate n x) ≤ most → n ≡ most + 1 → ⊥
-too_many n most x few more = absurd (omega (arith, few, more, length-replicate n x))
+abbrev waits : Vio
+waits = writes phase.Wait
 
 abbrev lock : Lock
 lock = record { at = address 0; place = 0 }
 
--- A logical zone that made 5 steps: its next place, and how many places, locks, waiting requests, retired addresses and slots
--- it has.
-abbrev logical : ℕ → ℕ → ℕ → ℕ → ℕ → ℕ → LogicalZone
-logical next places held waiting retired slots =
-    record {
-      zone = 0;
-      notified = false;
-      next = next;
-      places = replicate places (place first 0 0);
-      held = replicate held lock;
-      waiting = replicate waiting (reads phase.Wait);
-      retired = replicate retired (address 0);
-      window = [];
-      slots = replicate slots of_first;
-    }
+abbrev drawn : Placed
+drawn = place first 0 0
 
-logical_at_its_limits : IsLogicalWithin 5 (logical 5 most_requests most_items most_items most_blocks most_blocks)
-logical_at_its_limits = record {
+-- a logical zone with so many of each
+abbrev logical : (next places held waiting retired slots : ℕ) → LogicalZone
+logical next places held waiting retired slots = record {
+  zone = 0;
+  notified = false;
+  next = next;
+  places = replicate places drawn;
+  held = replicate held lock;
+  waiting = replicate waiting waits;
+  retired = replicate retired (address 0);
+  window = [];
+  slots = replicate slots of_first;
+}
+
+-- one that made nine steps: nine places at most, 65,536 requests in all, 262 items under way, 1,024 blocks of the journal
+logical_full : IsLogicalWithin 9 (logical 9 65536 262 262 1024 1024)
+logical_full = record {
   next = omega arith;
-  places = fits most_requests most_requests (place first 0 0) (omega arith);
-  held = fits most_items most_items lock (omega arith);
-  waiting = fits most_items most_items (reads phase.Wait) (omega arith);
-  retired = fits most_blocks most_blocks (address 0) (omega arith);
-  slots = fits most_blocks most_blocks of_first (omega arith);
+  places = omega (arith, length-replicate 65536 drawn);
+  held = omega (arith, length-replicate 262 lock);
+  waiting = omega (arith, length-replicate 262 waits);
+  retired = omega (arith, length-replicate 1024 (address 0));
+  slots = omega (arith, length-replicate 1024 of_first);
 }
 
-next_beyond_the_steps : IsLogicalWithin 5 (logical 6 most_requests most_items most_items most_blocks most_blocks) → ⊥
-next_beyond_the_steps is = let next = is.next in absurd (omega (arith, next))
+-- one more of each
+logical_next : IsLogicalWithin 9 (logical 10 65536 262 262 1024 1024) → ⊥
+logical_next is = absurd (omega (arith, is.next))
 
-too_many_places : IsLogicalWithin 5 (logical 5 (most_requests + 1) most_items most_items most_blocks most_blocks) → ⊥
-too_many_places is = too_many (most_requests + 1) most_requests (place first 0 0) is.places (omega arith)
+logical_places : IsLogicalWithin 9 (logical 9 65537 262 262 1024 1024) → ⊥
+logical_places is = absurd (omega (arith, is.places, length-replicate 65537 drawn))
 
-too_many_locks : IsLogicalWithin 5 (logical 5 most_requests (most_items + 1) most_items most_blocks most_blocks) → ⊥
-too_many_locks is = too_many (most_items + 1) most_items lock is.held (omega arith)
+logical_held : IsLogicalWithin 9 (logical 9 65536 263 262 1024 1024) → ⊥
+logical_held is = absurd (omega (arith, is.held, length-replicate 263 lock))
 
-too_many_wait : IsLogicalWithin 5 (logical 5 most_requests most_items (most_items + 1) most_blocks most_blocks) → ⊥
-too_many_wait is = too_many (most_items + 1) most_items (reads phase.Wait) is.waiting (omega arith)
+logical_waiting : IsLogicalWithin 9 (logical 9 65536 262 263 1024 1024) → ⊥
+logical_waiting is = absurd (omega (arith, is.waiting, length-replicate 263 waits))
 
-too_many_retired : IsLogicalWithin 5 (logical 5 most_requests most_items most_items (most_blocks + 1) most_blocks) → ⊥
-too_many_retired is = too_many (most_blocks + 1) most_blocks (address 0) is.retired (omega arith)
+logical_retired : IsLogicalWithin 9 (logical 9 65536 262 262 1025 1024) → ⊥
+logical_retired is = absurd (omega (arith, is.retired, length-replicate 1025 (address 0)))
 
-too_many_slots : IsLogicalWithin 5 (logical 5 most_requests most_items most_items most_blocks (most_blocks + 1)) → ⊥
-too_many_slots is = too_many (most_blocks + 1) most_blocks of_first is.slots (omega arith)
+logical_slots : IsLogicalWithin 9 (logical 9 65536 262 262 1024 1025) → ⊥
+logical_slots is = absurd (omega (arith, is.slots, length-replicate 1025 of_first))
 
--- The journal: how many requests wait there, and how many entries were handed in and are committed.
-abbrev journal : ℕ → ℕ → ℕ → JournalZone
+-- a journal with so many of each
+abbrev journal : (waiting entered committed : ℕ) → JournalZone
 journal waiting entered committed =
-    record { notified = false; busy = false; broken = false; waiting = replicate waiting (writes phase.Enter); entered = replicate entered of_first; committed = replicate committed of_first }
+    record { notified = false; busy = false; broken = false; waiting = replicate waiting waits; entered = replicate entered of_first; committed = replicate committed of_first }
 
-journal_at_its_limits : IsJournalWithin (journal most_items most_blocks most_blocks)
-journal_at_its_limits = record {
-  waiting = fits most_items most_items (writes phase.Enter) (omega arith);
-  entered = fits most_blocks most_blocks of_first (omega arith);
-  committed = fits most_blocks most_blocks of_first (omega arith);
+journal_full : IsJournalWithin (journal 262 1024 1024)
+journal_full = record { waiting = omega (arith, length-replicate 262 waits); entered = omega (arith, length-replicate 1024 of_first); committed = omega (arith, length-replicate 1024 of_first) }
+
+journal_waiting : IsJournalWithin (journal 263 1024 1024) → ⊥
+journal_waiting is = absurd (omega (arith, is.waiting, length-replicate 263 waits))
+
+journal_entered : IsJournalWithin (journal 262 1025 1024) → ⊥
+journal_entered is = absurd (omega (arith, is.entered, length-replicate 1025 of_first))
+
+journal_committed : IsJournalWithin (journal 262 1024 1025) → ⊥
+journal_committed is = absurd (omega (arith, is.committed, length-replicate 1025 of_first))
+
+-- a device that made so many calls, as the zone that made nine steps, with so many items in its inbox and its two outboxes
+abbrev device : ℕ → DeviceZone
+device calls = record { stopped = false; calls = calls }
+
+abbrev lane : ℕ → List Item
+lane items = replicate items StopNotice
+
+abbrev zone : (inbox one other calls : ℕ) → Zone
+zone inbox one other calls = record { number = 5; steps = 9; keeps = at.Device (device calls); inbox = lane inbox; outboxes = lane one ∷ lane other ∷ [] }
+
+zone_full : IsWithin (zone 262 262 262 9)
+zone_full = record {
+  inbox = omega (arith, length-replicate 262 StopNotice);
+  outboxes = (omega (arith, length-replicate 262 StopNotice), (omega (arith, length-replicate 262 StopNotice), tt));
+  own = omega arith;
 }
 
-too_many_wait_there : IsJournalWithin (journal (most_items + 1) most_blocks most_blocks) → ⊥
-too_many_wait_there is = too_many (most_items + 1) most_items (writes phase.Enter) is.waiting (omega arith)
+zone_inbox : IsWithin (zone 263 262 262 9) → ⊥
+zone_inbox is = absurd (omega (arith, is.inbox, length-replicate 263 StopNotice))
 
-too_many_entered : IsJournalWithin (journal most_items (most_blocks + 1) most_blocks) → ⊥
-too_many_entered is = too_many (most_blocks + 1) most_blocks of_first is.entered (omega arith)
+zone_outbox : IsWithin (zone 262 262 263 9) → ⊥
+zone_outbox is = absurd (omega (arith, is.outboxes.1.0, length-replicate 263 StopNotice))
 
-too_many_committed : IsJournalWithin (journal most_items most_blocks (most_blocks + 1)) → ⊥
-too_many_committed is = too_many (most_blocks + 1) most_blocks of_first is.committed (omega arith)
-
--- The device's zone, by its calls.
-abbrev device : ℕ → DeviceZone
-device made = record { stopped = false; calls = made }
-
-device_at_its_limit : IsDeviceWithin 5 (device 5)
-device_at_its_limit = omega arith
-
-calls_beyond_the_steps : IsDeviceWithin 5 (device 6) → ⊥
-calls_beyond_the_steps is = absurd (omega (arith, is))
+zone_calls : IsWithin (zone 262 262 262 10) → ⊥
+zone_calls is = absurd (omega (arith, is.own))

@@ -1,0 +1,95 @@
+-- How large a session may be, and how long the lists of the desk get: each clause at its limit, and one past it.
+use Rattle.std.proofs.Common.{◌≡◌, ℕ, zero, suc, ◌+◌, List, [], ◌∷◌, length, replicate, refl, arith}
+use Rattle.std.proofs.lemmas.List.{length-replicate}
+use Rattle.blk_base.specs.declared.request.Request.{Request}
+use Rattle.blk_base.specs.declared.request.Request.TheVariants as request
+use Rattle.vdo_model.specs.Scripts.{Script}
+use Rattle.vdo_model.specs.declared.report.DeskLine.{DeskLine}
+use Rattle.vdo_model.specs.declared.report.DeskLine.TheVariants.{Begin}
+use Rattle.vdo_model.specs.declared.report.FlushMark.{FlushMark}
+use Rattle.core_model.specs.declared.items.Phase.TheVariants as phase
+use Rattle.core_model.specs.declared.items.Vio.{Vio}
+use Rattle.core_model.specs.declared.sizes.Sizes.{Sizes}
+use Rattle.core_model.specs.declared.zones.Desk.{Desk}
+use Rattle.core_model.specs.Limits.{IsDeskWithin, IsLimited, requests_in}
+use Rattle.core_model.proofs.rows.PhaseRows.{writes}
+use Rattle.core_model.proofs.rows.WorkedTraces.{first, flush, script, sizes}
+use Rattle.plain_laws.specs.Sums.{total}
+
+-- so many logical zones, and so many requests of a stream under way
+abbrev sized : (zones depth : ℕ) → Sizes
+sized zones depth = record sizes { zones = zones; depth = depth }
+
+-- one stream of so many flushes, and so many empty ones
+abbrev flushes : ℕ → List Request
+flushes n = replicate n request.Flush
+
+abbrev streams : (requests empty : ℕ) → Script
+streams requests empty = flushes requests ∷ replicate empty []
+
+none_of_them : (n : ℕ) → total length (replicate n (flushes 0)) ≡ 0
+none_of_them zero = refl
+none_of_them (suc n) = omega (arith, none_of_them n)
+
+all_of_them : (requests empty : ℕ) → requests_in (streams requests empty) ≡ requests
+all_of_them requests empty = omega (arith, length-replicate requests request.Flush, none_of_them empty)
+
+has_streams : (requests empty : ℕ) → length (streams requests empty) ≡ 1 + empty
+has_streams requests empty = omega (arith, length-replicate {A = List Request} empty [])
+
+-- sixteen streams, sixteen requests of each under way, 65,536 requests, and four logical zones
+largest : IsLimited (sized 4 16) (streams 65536 15)
+largest = record {
+  streams = omega (arith, has_streams 65536 15);
+  depth = omega arith;
+  requests = omega (arith, all_of_them 65536 15);
+  zones = omega arith;
+}
+
+-- one more of each
+too_many_streams : IsLimited (sized 4 16) (streams 65536 16) → ⊥
+too_many_streams is = absurd (omega (arith, is.streams, has_streams 65536 16))
+
+too_deep : IsLimited (sized 4 17) (streams 65536 15) → ⊥
+too_deep is = absurd (omega (arith, is.depth))
+
+too_many_requests : IsLimited (sized 4 16) (streams 65537 15) → ⊥
+too_many_requests is = absurd (omega (arith, is.requests, all_of_them 65537 15))
+
+too_many_zones : IsLimited (sized 5 16) (streams 65536 15) → ⊥
+too_many_zones is = absurd (omega (arith, is.zones))
+
+-- a desk over the six requests of the script, with so many lines and marks, so many that wait, and so many notices heard
+abbrev line : DeskLine
+line = Begin first
+
+abbrev mark : FlushMark
+mark = record { request = flush; calls = 1 }
+
+abbrev waits : Vio
+waits = writes phase.Reply
+
+abbrev desk : (lines marks parked notices : ℕ) → Desk
+desk lines marks parked notices = record { requests = script; log = replicate lines line; marks = replicate marks mark; notices = notices; parked = replicate parked waits }
+
+-- twelve lines, six marks, as many requests as are under way in all, and a notice of each of six zones
+fullest : IsDeskWithin (desk 12 6 262 6)
+fullest = record {
+  log = omega (arith, length-replicate 12 line);
+  marks = omega (arith, length-replicate 6 mark);
+  parked = omega (arith, length-replicate 262 waits);
+  notices = omega arith;
+}
+
+-- one more of each
+too_many_lines : IsDeskWithin (desk 13 6 262 6) → ⊥
+too_many_lines is = absurd (omega (arith, is.log, length-replicate 13 line))
+
+too_many_marks : IsDeskWithin (desk 12 7 262 6) → ⊥
+too_many_marks is = absurd (omega (arith, is.marks, length-replicate 7 mark))
+
+too_many_parked : IsDeskWithin (desk 12 6 263 6) → ⊥
+too_many_parked is = absurd (omega (arith, is.parked, length-replicate 263 waits))
+
+too_many_notices : IsDeskWithin (desk 12 6 262 7) → ⊥
+too_many_notices is = absurd (omega (arith, is.notices))
