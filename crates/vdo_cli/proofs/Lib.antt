@@ -8,5 +8,6 @@ pub mod PlayPins
 pub mod RunPins
 pub mod SessionPins
 pub mod TextPins
+pub mod ValuePins
 pub mod EndingLaws
 pub mod OnwardLaws

@@ -1,6 +1,6 @@
 -- One session that can be served, over a device of zeros, and the core at its start: so that there is a legal core.
 use Rattle.std.proofs.Common.{◌≡◌, ℕ, zero, suc, ◌+◌, ◌<◌, ◌≤◌, ◌%◌, false, List, [], ◌∷◌, length, get_or, replicate, take, drop, reverse, refl, sym, ◌∙◌, ap, subst, inl, inr, arith}
-use Rattle.core_laws.proofs.Common.{AllByRecursion, AreDistinct, Desk, DeviceZone, Each, Entry, Geometry, IsFresh, IsSession, Item, JournalZone, LogicalZone, Pbn, PhysicalZone, Request, Session, Sizes, Zone, ZoneData, cases_lt, eqb_tells, get_or-replicate, get_or-take, get_or_past, is_block, length-replicate, reverse-append, same_Some, total}
+use Rattle.core_laws.proofs.Common.{AllByRecursion, AreDistinct, Desk, DeviceZone, Each, Entry, Geometry, IsFresh, IsSession, Item, JournalZone, LogicalZone, Pbn, PhysicalZone, Request, Session, Sizes, Zone, ZoneData, cases_lt, eqb_tells, get_or-replicate, get_or-take, get_or_past, is_block, length-replicate, reverse-append, same_Some, total, zone_count}
 use Rattle.std.proofs.Math.Nat.{mod-lt}
 use Rattle.std.proofs.lemmas.Grind.{get_or_after_one}
 use Rattle.blk_base.specs.Limits.{IsGeometry}
@@ -145,7 +145,11 @@ small_served n room = record {
 -- the core
 
 abbrev no_lanes : List (List Item)
-no_lanes = [] ∷ [] ∷ [] ∷ [] ∷ [] ∷ [] ∷ []
+no_lanes = replicate (zone_count sizes) []
+
+all_empty : (n : ℕ) → AllByRecursion (λ (lane : List Item). lane ≡ []) (replicate n [])
+all_empty zero = tt
+all_empty (suc n) = (refl, all_empty n)
 
 abbrev empty_zone : ℕ → ZoneData → Zone
 empty_zone number keeps = record { number = number; steps = 0; keeps = keeps; inbox = []; outboxes = no_lanes }
@@ -189,7 +193,7 @@ each_of P (x ∷ xs) h zero y e = subst (P 0) (same_Some _ _ e) h.0
 each_of P (x ∷ xs) h (suc i) y e = each_of (λ k. P (suc k)) xs h.1 i y e
 
 empty_first : (n number : ℕ) (keeps : ZoneData) → IsFirstData (small_session n) number keeps → IsFirstZone (small_session n) number (empty_zone number keeps)
-empty_first n number keeps own = record { number_is = refl; steps = refl; lanes = refl; inbox = refl; outboxes = (refl, (refl, (refl, (refl, (refl, (refl, tt)))))); own = own }
+empty_first n number keeps own = record { number_is = refl; steps = refl; lanes = refl; inbox = refl; outboxes = all_empty (zone_count sizes); own = own }
 
 logical_first : (n zone : ℕ) → zone < 2 → IsFirstLogical (small_session n) (1 + zone) (logical zone)
 logical_first n zone below = record { number_is = refl; among = below; notified = refl; next = refl; places = refl; held = refl; waiting = refl; retired = refl; window = refl; slots = refl }

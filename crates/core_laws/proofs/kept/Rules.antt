@@ -1,6 +1,7 @@
 -- In a legal core a rule applies to the item in front of each inbox, and each post of a rule has a lane.
 use Rattle.std.proofs.Common.{◌⊎◌, ◌≡◌, ℕ, ◌<◌, ◌≤◌, true, false, None, Some, Option, List, [], ◌∷◌, ◌++◌, length, slice_get, refl, ap, sym, ◌∙◌, subst, inl, inr, arith}
-use Rattle.core_laws.proofs.Common.{AllByRecursion, Answer, Asks, Call, Carries, DataOk, Desk, DeviceZone, IsServed, IsSession, Item, ItemOk, JournalZone, KeptOk, LogicalZone, MayReply, Pbn, Phase, PhysicalZone, Post, Request, Script, SealedBlock, Session, Stage, Trace, Vio, VioOk, Writer, Zone, ZoneData, ZoneId, cases_Bool, desk_zone, device_zone, eqb_tells, every-map, journal_zone, logical_zone, option_cases, physical_zone, request_at, some_of, zone_at, zone_number, zone_of_stage}
+use Rattle.std.proofs.lemmas.Option.{slice_get_within}
+use Rattle.core_laws.proofs.Common.{AllByRecursion, Answer, Asks, Call, Carries, DataOk, Desk, DeviceZone, IsServed, IsSession, Item, ItemOk, JournalZone, KeptOk, LogicalZone, MayReply, Pbn, Phase, PhysicalZone, Post, Request, Script, SealedBlock, Session, Stage, Trace, Vio, VioOk, Writer, Zone, ZoneData, cases_Bool, desk_zone, device_zone, eqb_tells, every-map, journal_zone, logical_zone, notified_zones, option_cases, physical_zone, request_at, some_of, zone_at, zone_count, zone_number, zone_of, zone_of_stage}
 use Rattle.blk_base.specs.Regions.{journal_slot_of}
 use Rattle.blk_base.specs.declared.request.Answer.TheVariants as reply
 use Rattle.blk_base.specs.declared.request.Request.TheVariants as request
@@ -20,6 +21,7 @@ use Rattle.core_model.specs.Steps as steps
 use Rattle.core_model.specs.Steps.{Act, HasAct, MayBegin, Core, delivered}
 use Rattle.core_laws.proofs.device.DeviceCalls.{request_served}
 use Rattle.core_laws.proofs.kept.LegalKept.{goes}
+use Rattle.core_laws.proofs.kept.ZoneKinds.{Keeps, desk_keeps, logical_keeps, physical_keeps, journal_keeps, device_keeps}
 use Rattle.core_laws.proofs.physical.PhysicalFacts.{zone_below}
 use Rattle.core_laws.proofs.kept.ActKept.{carries_at}
 
@@ -31,18 +33,6 @@ marked_is Write reply.Ok marked = absurd cc
 marked_is asks other marked = absurd cc
 
 module _ (s : Session) (session : IsSession s) (t : Trace) where
-  -- a request's home is a logical zone
-  abbrev IsHome : ZoneId → Type 0
-  IsHome home = (1 ≤ zone_number s.sizes home) × (zone_number s.sizes home ≤ s.sizes.zones)
-
-  at_home : (v : Vio) → VioOk s t v → IsHome v.home
-  at_home v ok = let home = ap (zone_number s.sizes) ok.home in let below = zone_below s.sizes.zones v.at.0 session.zones in (omega (arith, home), omega (arith, home, below))
-
-  -- a block is in a lane to the journal or to the device
-  stage_behind : (q : Stage) → journal_zone s.sizes ≤ zone_of_stage s.sizes q
-  stage_behind stage.Cover = omega arith
-  stage_behind other = omega arith
-
   -- the desk
   replies : (desk : Desk) (v : Vio) (o : Option Answer) → v.answer ≡ o → v.phase ≡ phase.Reply → MayReply s t v o → HasAct s.sizes (at.Desk desk) (item.Request v ∷ [])
   replies desk v None is reply may = absurd may
@@ -56,15 +46,6 @@ module _ (s : Session) (session : IsSession s) (t : Trace) where
       ]
     ]
   ]
-
-  desk_at : (desk : Desk) (v : Vio) (q : Phase) → v.phase ≡ q → desk_zone ≡ zone_at s.sizes v.home q → IsHome v.home → Carries s t v q → HasAct s.sizes (at.Desk desk) (item.Request v ∷ [])
-  desk_at desk v phase.Reply is to home carries = replies desk v v.answer refl is carries
-  desk_at desk v other is to home carries = absurd (omega (arith, to, home.0))
-
-  desk_rule : (desk : Desk) (it : Item) → ItemOk s t desk_zone it → HasAct s.sizes (at.Desk desk) (it ∷ [])
-  desk_rule desk (item.Request v) ok = desk_at desk v v.phase refl ok.2 (at_home v ok.0) ok.1
-  desk_rule desk item.StopNotice ok = (_, _, _, steps.hears)
-  desk_rule desk other ok = absurd (let to = ok.1 in omega (arith, to, stage_behind))
 
   -- with none, it begins the next request of a stream, where one may begin
   pub served_some : (w : Writer) (r : Request) → IsServed r → (v : Vio) × (vio_of s.sizes w r ≡ Some v)
@@ -107,38 +88,14 @@ module _ (s : Session) (session : IsSession s) (t : Trace) where
     ]
   ]
 
-  module _ (n : ℕ) (l : LogicalZone) (own : DataOk s t n (at.Logical l)) where
-    waiters : AllByRecursion IsBlockRequest l.waiting
-    waiters = every-map {P = KeptOk s t phase.Wait} {Q = IsBlockRequest} (λ v k. (carries_at s t v phase.Wait k.2 k.1).block_request) l.waiting own.kept
-
-    logical_at : (v : Vio) (q : Phase) → v.phase ≡ q → logical_zone l.zone ≡ zone_at s.sizes v.home q → Carries s t v q → HasAct s.sizes (at.Logical l) (item.Request v ∷ [])
-    logical_at v phase.Arrive is to carries = arrives l v is carries.block_request
-    logical_at v phase.Settle is to carries = let grants = grants_some (with_slot l v) v.at.0 l.waiting waiters in (_, _, _, steps.serves (LogicalServes.settles grants.0 is grants.1 refl refl refl))
-    logical_at v phase.Loaded is to carries = let grants = grants_some l v.at.0 l.waiting waiters in (_, _, _, steps.serves (LogicalServes.gives grants.0 is grants.1 refl refl refl))
-    logical_at v phase.Abort is to carries = let grants = grants_some l v.at.0 l.waiting waiters in (_, _, _, steps.serves (LogicalServes.aborts grants.0 is grants.1 refl refl refl))
-    logical_at v phase.AbortEntered is to carries = (_, _, _, steps.serves (LogicalServes.aborts_entered is refl refl refl))
-    logical_at v other is to carries = absurd (let among = own.sound.among in omega (arith, to, among))
-
-    logical_rule : (it : Item) → ItemOk s t (logical_zone l.zone) it → HasAct s.sizes (at.Logical l) (it ∷ [])
-    logical_rule (item.Request v) ok = logical_at v v.phase refl ok.2 ok.1
-    logical_rule item.StopNotice ok = (_, _, _, steps.serves_notice)
-    logical_rule other ok = absurd (let to = ok.1 in let among = own.sound.among in omega (arith, to, among, stage_behind))
+  -- whoever waits in a zone is one
+  passes : (l : LogicalZone) (n : ℕ) (a : ℕ) (to : LogicalZone) → DataOk s t n (at.Logical l) → (more : List Post) × (passes_on s.sizes to (first_for a l.waiting) ≡ Some more)
+  passes l n a to own = grants_some to a l.waiting (every-map {P = KeptOk s t phase.Wait} {Q = IsBlockRequest} (λ v k. (carries_at s t v phase.Wait k.2 k.1).block_request) l.waiting own.kept)
 
   -- the physical zone
   claims : (p : PhysicalZone) (v : Vio) (free : List Pbn) → p.free ≡ free → v.phase ≡ phase.Claim → HasAct s.sizes (at.Physical p) (item.Request v ∷ [])
   claims p v [] none is = (_, _, _, steps.takes (PhysicalServes.is_full is none refl refl refl))
   claims p v (x ∷ others) some is = (_, _, _, steps.takes (PhysicalServes.claims x others is some refl refl refl))
-
-  physical_at : (p : PhysicalZone) (v : Vio) (q : Phase) → v.phase ≡ q → physical_zone s.sizes ≡ zone_at s.sizes v.home q → IsHome v.home → HasAct s.sizes (at.Physical p) (item.Request v ∷ [])
-  physical_at p v phase.Claim is to home = claims p v p.free refl is
-  physical_at p v phase.AbortClaim is to home = (_, _, _, steps.takes (PhysicalServes.aborts_claim is refl refl refl))
-  physical_at p v phase.AbortEnteredClaim is to home = (_, _, _, steps.takes (PhysicalServes.aborts_entered_claim is refl refl refl))
-  physical_at p v other is to home = absurd (omega (arith, to, home.1))
-
-  physical_rule : (p : PhysicalZone) (it : Item) → ItemOk s t (physical_zone s.sizes) it → HasAct s.sizes (at.Physical p) (it ∷ [])
-  physical_rule p (item.Request v) ok = physical_at p v v.phase refl ok.2 (at_home v ok.0)
-  physical_rule p item.StopNotice ok = (_, _, _, steps.takes_notice)
-  physical_rule p other ok = absurd (let to = ok.1 in omega (arith, to, stage_behind))
 
   -- the journal
   enters : (j : JournalZone) (v : Vio) → v.phase ≡ phase.Enter → HasAct s.sizes (at.Journal j) (item.Request v ∷ [])
@@ -153,10 +110,6 @@ module _ (s : Session) (session : IsSession s) (t : Trace) where
     ]
   ]
 
-  journal_at : (j : JournalZone) (v : Vio) (q : Phase) → v.phase ≡ q → journal_zone s.sizes ≡ zone_at s.sizes v.home q → IsHome v.home → HasAct s.sizes (at.Journal j) (item.Request v ∷ [])
-  journal_at j v phase.Enter is to home = enters j v is
-  journal_at j v other is to home = absurd (omega (arith, to, home.1))
-
   commits : (j : JournalZone) (b : SealedBlock) (waiting : List Vio) → j.waiting ≡ waiting → b.stage ≡ stage.Commit → HasAct s.sizes (at.Journal j) (item.Block b ∷ [])
   commits j b waiting are is = elim (cases_Bool (has_block s.sizes j)) [
     | inl block ↦ next waiting are block
@@ -166,16 +119,6 @@ module _ (s : Session) (session : IsSession s) (t : Trace) where
       next : (waiting : List Vio) → j.waiting ≡ waiting → has_block s.sizes j ≡ true → HasAct s.sizes (at.Journal j) (item.Block b ∷ [])
       next [] none block = (_, _, _, steps.ends (JournalEnds.commits_alone is none block refl refl refl))
       next (w ∷ ws) some block = (_, _, _, steps.ends (JournalEnds.commits_next w ws is some block refl refl refl))
-
-  ends_at : (j : JournalZone) (b : SealedBlock) (q : Stage) → b.stage ≡ q → journal_zone s.sizes ≡ zone_of_stage s.sizes q → HasAct s.sizes (at.Journal j) (item.Block b ∷ [])
-  ends_at j b stage.Commit is to = commits j b j.waiting refl is
-  ends_at j b stage.Fail is to = (_, _, _, steps.ends (JournalEnds.fails is refl refl refl))
-  ends_at j b other is to = absurd (omega (arith, to))
-
-  journal_rule : (j : JournalZone) (it : Item) → ItemOk s t (journal_zone s.sizes) it → HasAct s.sizes (at.Journal j) (it ∷ [])
-  journal_rule j (item.Request v) ok = journal_at j v v.phase refl ok.2 (at_home v ok.0)
-  journal_rule j (item.Block b) ok = ends_at j b b.stage refl ok.1
-  journal_rule j item.StopNotice ok = (_, _, _, steps.enters_notice)
 
   -- the device
   stores : (d : DeviceZone) (v : Vio) → v.phase ≡ phase.Store → IsInside s.sizes v.block → HasAct s.sizes (at.Device d) (item.Request v ∷ [])
@@ -190,12 +133,6 @@ module _ (s : Session) (session : IsSession s) (t : Trace) where
     | inr goes ↦ (_, _, _, steps.calls (DeviceServes.flushes is goes refl refl refl))
   ]
 
-  device_at : (d : DeviceZone) (v : Vio) (q : Phase) → v.phase ≡ q → device_zone s.sizes ≡ zone_at s.sizes v.home q → IsHome v.home → Carries s t v q → HasAct s.sizes (at.Device d) (item.Request v ∷ [])
-  device_at d v phase.Store is to home carries = stores d v is carries.2.inside
-  device_at d v phase.Load is to home carries = (_, _, _, steps.calls (DeviceServes.loads [] is carries.2 refl refl refl))
-  device_at d v phase.Flush is to home carries = flushes d v is
-  device_at d v other is to home carries = absurd (omega (arith, to, home.1))
-
   module _ (d : DeviceZone) (b : SealedBlock) where
     abbrev slot : Pbn
     slot = record { 0 = block_of_slot (journal_slot_of s.sizes.geometry b.sequence) }
@@ -206,32 +143,87 @@ module _ (s : Session) (session : IsSession s) (t : Trace) where
       | inr goes ↦ (_, _, _, steps.works (DeviceWorks.makes made slot refl does goes refl refl refl))
     ]
 
-    works_at : (q : Stage) → b.stage ≡ q → device_zone s.sizes ≡ zone_of_stage s.sizes q → HasAct s.sizes (at.Device d) (item.Block b ∷ [])
-    works_at stage.Cover is to = works (call.Flush true) (call.Flush false) (ap (call_of s.sizes b slot true) is) (ap (call_of s.sizes b slot false) is)
-    works_at stage.Write is to =
+    writes_block : b.stage ≡ stage.Write → HasAct s.sizes (at.Device d) (item.Block b ∷ [])
+    writes_block is =
         let bytes = journal_bytes s.sizes b in
         works (call.Write slot bytes true) (call.Write slot bytes false) (ap (call_of s.sizes b slot true) is) (ap (call_of s.sizes b slot false) is)
-    works_at stage.Harden is to = works (call.Flush true) (call.Flush false) (ap (call_of s.sizes b slot true) is) (ap (call_of s.sizes b slot false) is)
-    works_at other is to = absurd (omega (arith, to))
 
-  device_rule : (d : DeviceZone) (it : Item) → ItemOk s t (device_zone s.sizes) it → HasAct s.sizes (at.Device d) (it ∷ [])
-  device_rule d (item.Request v) ok = device_at d v v.phase refl ok.2 (at_home v ok.0) ok.1
-  device_rule d (item.Block b) ok = works_at d b b.stage refl ok.1
-  device_rule d other ok = absurd (let to = ok.1 in omega (arith, to))
+  -- The zone of this number, with the item in front of its inbox.
+  module _ (n : ℕ) (d : ZoneData) (own : DataOk s t n d) (there : n < zone_count s.sizes) where
+    abbrev Has : Item → Type 0
+    Has it = HasAct s.sizes d (it ∷ [])
+
+    -- it is of the kind that has this number, where the item has a rule
+    in_kind : {X : Type 0} (make : X → ZoneData) (m : ℕ) (it : Item) → n ≡ m → ((k : ZoneData) → DataOk s t m k → Keeps make k) → ((x : X) → DataOk s t m (make x) → HasAct s.sizes (make x) (it ∷ [])) → Has it
+    in_kind make m it is keeps rule =
+        let here = subst (λ (i : ℕ). DataOk s t i d) is own in
+        let kept = keeps d here in
+        subst (λ (k : ZoneData). HasAct s.sizes k (it ∷ [])) (sym kept.is) (rule kept.it (subst (λ (k : ZoneData). DataOk s t m k) kept.is here))
+
+    in_desk : (it : Item) → n ≡ desk_zone → ((desk : Desk) → HasAct s.sizes (at.Desk desk) (it ∷ [])) → Has it
+    in_desk it is rule = in_kind at.Desk desk_zone it is (desk_keeps s t) (λ desk here. rule desk)
+
+    in_physical : (it : Item) → n ≡ physical_zone s.sizes → ((p : PhysicalZone) → HasAct s.sizes (at.Physical p) (it ∷ [])) → Has it
+    in_physical it is rule = in_kind at.Physical (physical_zone s.sizes) it is (physical_keeps s t) (λ p here. rule p)
+
+    in_journal : (it : Item) → n ≡ journal_zone s.sizes → ((j : JournalZone) → HasAct s.sizes (at.Journal j) (it ∷ [])) → Has it
+    in_journal it is rule = in_kind at.Journal (journal_zone s.sizes) it is (journal_keeps s t) (λ j here. rule j)
+
+    in_device : (it : Item) → n ≡ device_zone s.sizes → ((dev : DeviceZone) → HasAct s.sizes (at.Device dev) (it ∷ [])) → Has it
+    in_device it is rule = in_kind at.Device (device_zone s.sizes) it is (device_keeps s t) (λ dev here. rule dev)
+
+    -- the home of a request
+    in_home : (v : Vio) → VioOk s t v → n ≡ zone_number s.sizes v.home
+        → ((l : LogicalZone) → DataOk s t (logical_zone (zone_of s.sizes.zones v.at.0)) (at.Logical l) → HasAct s.sizes (at.Logical l) (item.Request v ∷ [])) → Has (item.Request v)
+    in_home v ok is rule =
+        let zone = zone_of s.sizes.zones v.at.0 in
+        in_kind at.Logical (logical_zone zone) (item.Request v) (is ∙ ap (zone_number s.sizes) ok.home) (logical_keeps s t zone (zone_below s.sizes.zones v.at.0 session.zones)) rule
+
+    -- a request, by its phase; one that waits is in no lane
+    by_phase : (v : Vio) (q : Phase) → v.phase ≡ q → VioOk s t v → Carries s t v q → n ≡ zone_at s.sizes v.home q → Has (item.Request v)
+    by_phase v phase.Arrive is ok carries to = in_home v ok to (λ l here. arrives l v is carries.block_request)
+    by_phase v phase.Claim is ok carries to = in_physical _ to (λ p. claims p v p.free refl is)
+    by_phase v phase.Store is ok carries to = in_device _ to (λ dev. stores dev v is carries.2.inside)
+    by_phase v phase.Enter is ok carries to = in_journal _ to (λ j. enters j v is)
+    by_phase v phase.Settle is ok carries to =
+        in_home v ok to (λ l here. let grants = passes l _ v.at.0 (with_slot l v) here in (_, _, _, steps.serves (LogicalServes.settles grants.0 is grants.1 refl refl refl)))
+    by_phase v phase.Load is ok carries to = in_device _ to (λ dev. (_, _, _, steps.calls (DeviceServes.loads [] is carries.2 refl refl refl)))
+    by_phase v phase.Loaded is ok carries to = in_home v ok to (λ l here. let grants = passes l _ v.at.0 l here in (_, _, _, steps.serves (LogicalServes.gives grants.0 is grants.1 refl refl refl)))
+    by_phase v phase.AbortClaim is ok carries to = in_physical _ to (λ p. (_, _, _, steps.takes (PhysicalServes.aborts_claim is refl refl refl)))
+    by_phase v phase.Abort is ok carries to = in_home v ok to (λ l here. let grants = passes l _ v.at.0 l here in (_, _, _, steps.serves (LogicalServes.aborts grants.0 is grants.1 refl refl refl)))
+    by_phase v phase.AbortEnteredClaim is ok carries to = in_physical _ to (λ p. (_, _, _, steps.takes (PhysicalServes.aborts_entered_claim is refl refl refl)))
+    by_phase v phase.AbortEntered is ok carries to = in_home v ok to (λ l here. (_, _, _, steps.serves (LogicalServes.aborts_entered is refl refl refl)))
+    by_phase v phase.Flush is ok carries to = in_device _ to (λ dev. flushes dev v is)
+    by_phase v phase.Reply is ok carries to = in_desk _ to (λ desk. replies desk v v.answer refl is carries)
+    by_phase v other is ok carries to = absurd (omega (arith, to, there))
+
+    -- a sealed block, by its stage
+    by_stage : (b : SealedBlock) (q : Stage) → b.stage ≡ q → n ≡ zone_of_stage s.sizes q → Has (item.Block b)
+    by_stage b stage.Cover is to = in_device _ to (λ dev. works dev b (call.Flush true) (call.Flush false) (ap (call_of s.sizes b (slot dev b) true) is) (ap (call_of s.sizes b (slot dev b) false) is))
+    by_stage b stage.Write is to = in_device _ to (λ dev. writes_block dev b is)
+    by_stage b stage.Harden is to = in_device _ to (λ dev. works dev b (call.Flush true) (call.Flush false) (ap (call_of s.sizes b (slot dev b) true) is) (ap (call_of s.sizes b (slot dev b) false) is))
+    by_stage b stage.Commit is to = in_journal _ to (λ j. commits j b j.waiting refl is)
+    by_stage b stage.Fail is to = in_journal _ to (λ j. (_, _, _, steps.ends (JournalEnds.fails is refl refl refl)))
+
+    -- a stop notice, by the kind of zone
+    by_kind : (k : ZoneData) → DataOk s t n k → n ≤ notified_zones s.sizes → HasAct s.sizes k (item.StopNotice ∷ [])
+    by_kind (at.Desk desk) here few = (_, _, _, steps.hears)
+    by_kind (at.Logical l) here few = (_, _, _, steps.serves_notice)
+    by_kind (at.Physical p) here few = (_, _, _, steps.takes_notice)
+    by_kind (at.Journal j) here few = (_, _, _, steps.enters_notice)
+    by_kind other here few = absurd (omega (arith, here.number_is, few))
+
+    item_rule : (it : Item) → ItemOk s t n it → Has it
+    item_rule (item.Request v) ok = by_phase v v.phase refl ok.0 ok.1 ok.2
+    item_rule (item.Block b) ok = by_stage b b.stage refl ok.1
+    item_rule item.StopNotice ok = by_kind d own ok.1
 
 module _ (s : Session) (session : IsSession s) (core : Core) (legal : Legal s core) (n : ℕ) (z : Zone) (had : slice_get core.zones n ≡ Some z) where
   pub has_rule : (front : Item) (rest : List Item) → z.inbox ≡ front ∷ rest → HasAct s.sizes z.keeps (front ∷ [])
-  has_rule front rest taken = by_kind z.keeps (legal.each n z had).own
-    where
-      at_number : (m : ℕ) → n ≡ m → ItemOk s core.trace m front
-      at_number m is = subst (λ (k : ℕ). ItemOk s core.trace k front) is (subst (λ (items : List Item). AllByRecursion (ItemOk s core.trace n) items) taken (legal.each n z had).inbox).0
-
-      by_kind : (d : ZoneData) → DataOk s core.trace n d → HasAct s.sizes d (front ∷ [])
-      by_kind (at.Desk desk) own = desk_rule s session core.trace desk front (at_number desk_zone own.number_is)
-      by_kind (at.Logical l) own = logical_rule s session core.trace n l own front (at_number (logical_zone l.zone) own.number_is)
-      by_kind (at.Physical p) own = physical_rule s session core.trace p front (at_number (physical_zone s.sizes) own.number_is)
-      by_kind (at.Journal j) own = journal_rule s session core.trace j front (at_number (journal_zone s.sizes) own.number_is)
-      by_kind (at.Device d) own = device_rule s session core.trace d front (at_number (device_zone s.sizes) own.number_is)
+  has_rule front rest taken =
+      let ok = legal.each n z had in
+      item_rule s session core.trace n z.keeps ok.own (subst (λ (k : ℕ). n < k) legal.count (slice_get_within core.zones n z had)) front
+      (subst (λ (items : List Item). AllByRecursion (ItemOk s core.trace n) items) taken ok.inbox).0
 
   pub has_begin : MayBegin s.sizes z.keeps → HasAct s.sizes z.keeps []
   has_begin may = by_kind z.keeps (legal.each n z had).own may

@@ -1,6 +1,6 @@
 -- Each number has its kind of zone, and what is given out once is given out by one zone.
 use Rattle.std.proofs.Common.{◌≡◌, ℕ, zero, suc, ◌<◌, ◌≤◌, List, [], ◌∷◌, length, Some, slice_get, refl, arith}
-use Rattle.core_laws.proofs.Common.{DataOk, Each, Session, Trace, Zone, ZoneData, ZoneOk, block_token, desk_zone, device_zone, given, journal_token, journal_zone, notified_by, one_journal, one_physical, physical_zone, total, total_zero, zone_count}
+use Rattle.core_laws.proofs.Common.{DataOk, Each, Session, Trace, Zone, ZoneData, ZoneOk, block_token, desk_zone, device_zone, given, journal_token, journal_zone, logical_zone, notified_by, one_journal, one_physical, physical_zone, total, total_zero, zone_count}
 use Rattle.core_model.specs.declared.zones.ZoneData.TheVariants as at
 
 -- what stands at a number below the length
@@ -34,6 +34,15 @@ module _ (s : Session) (t : Trace) where
   pub desk_keeps : (d : ZoneData) → DataOk s t desk_zone d → Keeps at.Desk d
   desk_keeps (at.Desk desk) ok = record { it = desk; is = refl }
   desk_keeps other ok = absurd (omega (arith, ok.number_is))
+
+  pub logical_keeps : (zone : ℕ) → zone < s.sizes.zones → (d : ZoneData) → DataOk s t (logical_zone zone) d → Keeps at.Logical d
+  logical_keeps zone below (at.Logical l) ok = record { it = l; is = refl }
+  logical_keeps zone below other ok = absurd (omega (arith, ok.number_is, below))
+
+  pub physical_keeps : (d : ZoneData) → DataOk s t (physical_zone s.sizes) d → Keeps at.Physical d
+  physical_keeps (at.Physical p) ok = record { it = p; is = refl }
+  physical_keeps (at.Logical l) ok = absurd (omega (arith, ok.number_is, ok.sound.among))
+  physical_keeps other ok = absurd (omega (arith, ok.number_is))
 
   pub journal_keeps : (d : ZoneData) → DataOk s t (journal_zone s.sizes) d → Keeps at.Journal d
   journal_keeps (at.Journal j) ok = record { it = j; is = refl }

@@ -4,12 +4,9 @@ use Rattle.core_laws.proofs.Common.{IsZone, Sizes, ZoneId, le-ltb, logical_zones
 use Rattle.blk_base.specs.declared.place.ZoneId.TheVariants as id
 
 pub number_below : (sizes : Sizes) (name : ZoneId) → IsZone sizes name → zone_number sizes name < zone_count sizes
-number_below sizes id.Desk is = omega arith
 number_below sizes (id.Logical n) is = omega (arith, is)
 number_below sizes (id.Physical n) is = omega (arith, is)
-number_below sizes id.Journal is = omega arith
-number_below sizes id.Device is = omega arith
-number_below sizes other is = absurd is
+number_below sizes other is = omega arith
 
 -- the name of a number
 abbrev behind : ℕ → ZoneId

@@ -46,15 +46,15 @@ no_others = (λ is. is, λ is. is, refl, refl)
 are_notified : (notified sizes ≡ id.Journal ∷ id.Physical 0 ∷ id.Logical 1 ∷ id.Logical 0 ∷ []) × (length (notified sizes) ≡ notified_zones sizes)
 are_notified = (refl, refl)
 
--- A line of the table of phases, of a request of logical zone 1: the number of the zone where it is done (6 is none), and
--- whether it has the lock, has a block, has yet to arrive, and has an entry.
+-- A line of the table of phases, of a request of logical zone 1: the number of the zone where it is done (the count of the
+-- zones is none), and whether it has the lock, has a block, has yet to arrive, and has an entry.
 abbrev IsRow : Phase → ℕ → Bool → Bool → List Writer → Bool → Type 0
 IsRow now number locks has_block arrives entered = (zone_at sizes (id.Logical 1) now ≡ number) × (holds now ≡ locks) × (claims now ≡ has_block) × (arriving now first ≡ arrives) × (has_entry now ≡ entered)
 
 row_arrive : IsRow phase.Arrive 2 false false (first ∷ []) false
 row_arrive = (refl, refl, refl, refl, refl)
 
-row_wait : IsRow phase.Wait 6 false false [] false
+row_wait : IsRow phase.Wait (zone_count sizes) false false [] false
 row_wait = (refl, refl, refl, refl, refl)
 
 row_claim : IsRow phase.Claim 3 true false [] false
