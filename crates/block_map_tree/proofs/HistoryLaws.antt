@@ -1,9 +1,7 @@
 -- What calls change, and that no link is lost over them.
 use Rattle.std.specs.Prelude.{ℕ, ◌≡◌, ◌≢◌, ◌<◌, ◌≤◌, ◌+◌, ◌⊎◌, ◌↔◌, List, [], ◌∷◌, length, slice_index_or, slice_set, refl}
 use Rattle.std.proofs.Common.{sym, ◌∙◌, ap, subst, inl, inr, arith}
-use Rattle.std.proofs.lemmas.Bool.Decides.{eqb_tells, leb_tells}
 use Rattle.std.proofs.lemmas.List.{get_or-set_same}
-use Rattle.std.proofs.Math.ListN.{get_or-eq_default}
 use Rattle.blk_base.specs.declared.place.PageId.{PageId}
 use Rattle.blk_base.specs.declared.place.Pbn.{Pbn}
 use Rattle.blk_base.specs.declared.place.Mapping.{Mapping}
@@ -11,60 +9,20 @@ use Rattle.blk_base.specs.declared.place.Mapping.TheVariants.{Unmapped, At}
 use Rattle.blk_base.specs.declared.point.Point.{Point}
 use Rattle.blk_base.specs.Regions.{Root, block_of}
 use Rattle.page_codec.specs.declared.forms.MapPage.{MapPage}
-use Rattle.blk_base.specs.Regions.{IsDataBlock}
-use Rattle.page_codec.specs.Grammar.{HoldsMapping}
 use Rattle.dirty_pages.specs.declared.marks.Marks.{Marks}
-use Rattle.dirty_pages.specs.Marks.{IsLowPoint, AreClean, marks_at, changed_at, handed_out, settled}
+use Rattle.dirty_pages.specs.Marks.{IsLowPoint, AreClean, marks_at, with_marks, changed_at, handed_out, settled}
 use Rattle.dirty_pages.specs.History.{IsWaiting, IsUnwritten, IsUnreported, Becomes, IsAfter, AtMost}
 use Rattle.dirty_pages.proofs.MarkLaws.{due_inside, out_inside}
 use Rattle.dirty_pages.proofs.HistoryLaws as dirty
 use Rattle.block_map_tree.specs.declared.forms.Forest.{Forest}
 use Rattle.block_map_tree.specs.declared.forms.Path.{Path}
-use Rattle.block_map_tree.specs.declared.forms.Found.{Found}
-use Rattle.block_map_tree.specs.declared.forms.Found.TheVariants.{Leaf, Missing}
+use Rattle.block_map_tree.specs.declared.forms.Found.TheVariants.{Missing}
 use Rattle.block_map_tree.specs.Pages.{IsTreeOf, IsOnPath, IsRoot, IsLower, IsInner, page_on, page_at, above, slot_of}
-use Rattle.block_map_tree.specs.Tree.{Tree, IsTree, IsAt, as_root, by_link, IsThere, IsFound, IsLinkable, Links, Expires, IsWriting, Writes, number_of, marks_of, mappings_of, mapping_of}
+use Rattle.block_map_tree.specs.Tree.{Tree, IsTree, IsAt, as_root, by_link, IsThere, IsFound, IsLinkable, Links, Expires, IsWriting, number_of, marks_of, mappings_of, mapping_of}
 use Rattle.block_map_tree.specs.History.{Call, Link, HandOut, Write, Leads, LeadTo, event_of, events_of}
-use Rattle.block_map_tree.proofs.PageLaws.{at_set, one_number, one_below, lower_on_path, above_at, above_inner}
-use Rattle.block_map_tree.proofs.TreeLaws.{place_above, marks_move_none, marks_move_none_back}
-
-one_pbn : (a b : Pbn) → At a ≡ At b → a ≡ b
-one_pbn a b same = cc
-
--- a page stands at one block
-pub one_place : (tree : Tree) (page : PageId) (at other : Pbn) → IsAt tree page at → IsAt tree page other → at ≡ other
-one_place tree page at other (as_root r e) (as_root r' e') = ap (λ (n : ℕ). record { 0 = n }) (e ∙ sym e')
-one_place tree page at other (as_root r e) (by_link l' e') = absurd (let a = r.level in let b = l'.level in omega arith)
-one_place tree page at other (by_link l e) (as_root r' e') = absurd (let a = r'.level in let b = l.level in omega arith)
-one_place tree page at other (by_link l e) (by_link l' e') = one_pbn at other (sym e ∙ e')
-
--- a page that is no root stands at a data block
-pub at_data_block : (tree : Tree) (page : PageId) (at : Pbn) → IsTree tree → (IsRoot tree.forest page → ⊥) → IsAt tree page at → IsDataBlock tree.forest.geometry at.0
-at_data_block tree page at form lower (as_root r e) = absurd (lower r)
-at_data_block tree page at form lower (by_link l e) =
-    let n = number_of tree.forest (above page) in
-    elim (leb_tells (length tree.pages) n) [
-      | inl past ↦ absurd (let none = ap (λ (r : List Mapping). slice_index_or r (slot_of page) Unmapped) (get_or-eq_default tree.pages [] past.1) in cc)
-      | inr inside ↦
-          let held = form.held n [] inside.1 in
-          let count = held.count in
-          let holds = subst (λ (m : Mapping). HoldsMapping tree.forest.geometry 1 m) e (held.each (slot_of page) Unmapped (omega arith)) in
-          holds.0
-    ]
-
--- a walk finds one thing
-pub one_found : (tree : Tree) (path : Path) (found other : Found) → IsFound tree path found → IsFound tree path other → found ≡ other
-one_found tree path (Leaf at) (Leaf at') is is' = ap (λ (b : Pbn). Leaf b) (one_place tree _ at at' is.0 is'.0)
-one_found tree path (Leaf at) (Missing level) is is' = absurd (is'.1 (is.1 level is'.0))
-one_found tree path (Missing level) (Leaf at) is is' = absurd (is.1 (is'.1 level is.0))
-one_found tree path (Missing level) (Missing level') is is' =
-    elim (eqb_tells level level') [
-      | inl same ↦ ap (λ (l : ℕ). Missing l) same.1
-      | inr other ↦ elim (leb_tells level level') [
-        | inl low ↦ absurd (is'.1 (is.2 level' (let l = low.1 in let o = other.1 in omega arith) is'.0))
-        | inr high ↦ absurd (is.1 (is'.2 level (let h = high.1 in omega arith) is.0))
-      ]
-    ]
+use Rattle.dirty_pages.proofs.PageLists.{at_set}
+use Rattle.block_map_tree.proofs.PageLaws.{one_number, one_below, lower_on_path, above_at, above_inner}
+use Rattle.block_map_tree.proofs.TreeLaws.{place_above}
 
 -- what a link does to the slots
 link_reads : (old new : Tree) (page : PageId) (at : Pbn) (point : Point) (other : PageId) (slot : ℕ) → IsTree old → IsLinkable old page
@@ -123,26 +81,17 @@ link_others old new page at point form linkable links other b apart =
       ],
     )
 
-pub hand_out_moves_none : (old new : Tree) (page : PageId) (point : Point) (into : MapPage) → Expires old new point page into
-    → (other : PageId) (b : Pbn) → IsAt old other b ↔ IsAt new other b
-hand_out_moves_none old new page point into expires other b =
-    subst (λ (t : Tree). IsAt old other b ↔ IsAt t other b) (sym expires.set) (marks_move_none old _ other b, marks_move_none_back old _ other b)
-
-pub write_moves_none : (old new : Tree) (page : PageId) → Writes old new page → (other : PageId) (b : Pbn) → IsAt old other b ↔ IsAt new other b
-write_moves_none old new page writes other b =
-    subst (λ (t : Tree). IsAt old other b ↔ IsAt t other b) (sym writes.set) (marks_move_none old _ other b, marks_move_none_back old _ other b)
-
--- the marks of one page after a call that sets those of one page
-marks_after : (old new : Tree) (changed : PageId) (marks : Marks) (pages : List (List Mapping)) (page : PageId) → IsTree old → IsInner old.forest changed
+-- the marks of one page after a call that changes those of one page
+marks_after : (old new : Tree) (changed : PageId) (change : Marks → Marks) (pages : List (List Mapping)) (page : PageId) → IsTree old → IsInner old.forest changed
     → IsInner old.forest page → number_of old.forest changed < length old.marks
-    → new ≡ record { forest = old.forest; pages = pages; marks = slice_set old.marks (number_of old.forest changed) marks }
-    → ((changed ≡ page) × (marks_of new page ≡ marks)) ⊎ ((changed ≢ page) × (marks_of new page ≡ marks_of old page))
-marks_after old new changed marks pages page form inner inner' inside set =
-    let n = number_of old.forest changed in
-    let m = number_of old.forest page in
-    let read : marks_of new page ≡ marks_at (slice_set old.marks n marks) m = ap (λ (t : Tree). marks_of t page) set in
-    elim (at_set old.marks n m marks (marks_at [] 0) inside) [
-      | inl hit ↦ inl (one_number old.forest changed page form.forest inner inner' (sym hit.0), read ∙ hit.1)
+    → new ≡ record { forest = old.forest; pages = pages; marks = with_marks old.marks (number_of old.forest changed) change }
+    → ((changed ≡ page) × (marks_of new page ≡ change (marks_of old page))) ⊎ ((changed ≢ page) × (marks_of new page ≡ marks_of old page))
+marks_after old new changed change pages page form inner inner' inside set =
+    let read = ap (λ (t : Tree). marks_of t page) set in
+    elim (at_set old.marks (number_of old.forest changed) (number_of old.forest page) (change (marks_of old changed)) (marks_at [] 0) inside) [
+      | inl hit ↦
+          let same = one_number old.forest changed page form.forest inner inner' (sym hit.0) in
+          inl (same, read ∙ hit.1 ∙ ap (λ (p : PageId). change (marks_of old p)) same)
       | inr miss ↦ inr ((λ same. miss.0 (ap (λ (p : PageId). number_of old.forest p) (sym same))), read ∙ miss.1)
     ]
 
@@ -151,28 +100,16 @@ becomes : (old new : Tree) (call : Call) (page : PageId) → IsTree old → IsIn
     → Becomes (event_of call) page (marks_of old page) (marks_of new page)
 becomes old new (Link linked at point) page form inner leads =
     let lower = lower_on_path old.forest linked form.forest leads.0.path leads.0.lower in
-    let place = place_above old linked form leads.0 in
-    elim (marks_after old new (above linked) (changed_at point (marks_of old (above linked))) _ page form (above_inner old.forest linked form.forest lower) inner place.marks_inside leads.1.set) [
-      | inl hit ↦ inl (hit.0, hit.1 ∙ ap (λ (p : PageId). changed_at point (marks_of old p)) hit.0)
-      | inr miss ↦ inr miss
-    ]
+    marks_after old new (above linked) (changed_at point) _ page form (above_inner old.forest linked form.forest lower) inner (place_above old linked form leads.0).marks_inside leads.1.set
 becomes old new (HandOut out) page form inner leads =
     let expires = leads.2 in
     let inside = due_inside old.marks (number_of old.forest out) expires.marks.first expires.marks.due in
-    elim (marks_after old new out (handed_out (marks_of old out)) old.pages page form expires.inner inner inside expires.set) [
-      | inl hit ↦ inl (
-        hit.0,
-        ap (λ (p : PageId). (marks_of old p).writing) (sym hit.0) ∙ expires.marks.due.idle,
-        hit.1 ∙ ap (λ (p : PageId). handed_out (marks_of old p)) hit.0,
-      )
+    elim (marks_after old new out handed_out old.pages page form expires.inner inner inside expires.set) [
+      | inl hit ↦ inl (hit.0, ap (λ (p : PageId). (marks_of old p).writing) (sym hit.0) ∙ expires.marks.due.idle, hit.1)
       | inr miss ↦ inr miss
     ]
 becomes old new (Write out) page form inner leads =
-    let inside = out_inside old.marks (number_of old.forest out) leads.0.marks in
-    elim (marks_after old new out (settled (marks_of old out)) old.pages page form leads.0.inner inner inside leads.1.set) [
-      | inl hit ↦ inl (hit.0, hit.1 ∙ ap (λ (p : PageId). settled (marks_of old p)) hit.0)
-      | inr miss ↦ inr miss
-    ]
+    marks_after old new out settled old.pages page form leads.0.inner inner (out_inside old.marks (number_of old.forest out) leads.0.marks) leads.1.set
 
 -- calls keep a tree, and its trees are those of the zone
 call_keeps : (old new : Tree) (call : Call) → Leads old call new → IsTree new × (new.forest ≡ old.forest)
@@ -232,10 +169,7 @@ kept old new calls page point form lead wait =
 pub not_below : (old new : Tree) (calls : List Call) (page : PageId) (point low : Point) → IsTree old → LeadTo old calls new
     → IsUnwritten (events_of calls) page point → IsLowPoint new.marks low → low.0 ≤ point.0
 not_below old new calls page point low form lead unwritten is_low =
-    let has = dirty.has_point (marks_of old page) (marks_of new page) (events_of calls) page point (unwritten_after old new calls page point form lead unwritten) unwritten in
-    let least = is_low.least (number_of new.forest page) has.0 has.1 in
-    let early = has.2 in
-    omega arith
+    dirty.not_below (marks_of old page) new.marks (number_of new.forest page) (events_of calls) page point low (unwritten_after old new calls page point form lead unwritten) unwritten is_low
 
 pub not_written : (old new : Tree) (calls : List Call) (page : PageId) (point : Point) → IsTree old → LeadTo old calls new
     → IsUnwritten (events_of calls) page point → AreClean new.marks → ⊥

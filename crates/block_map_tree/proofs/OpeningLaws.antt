@@ -1,33 +1,25 @@
 -- The pages of an image as a tree.
-use Rattle.std.specs.Prelude.{ℕ, ◌≡◌, ◌≢◌, ◌<◌, ◌≤◌, ◌+◌, ◌-◌, ◌*◌, ◌/◌, ◌⊎◌, List, [], ◌∷◌, length, All, Contains, slice_index_or, slice_set, replicate, refl, zero, suc}
+use Rattle.std.specs.Prelude.{ℕ, ◌≡◌, ◌≢◌, ◌<◌, ◌≤◌, ◌+◌, ◌*◌, List, [], length, All, Contains, slice_index_or, slice_set, replicate, refl}
 use Rattle.std.proofs.Common.{sym, ◌∙◌, ap, subst, inl, inr, arith}
 use Rattle.std.proofs.lemmas.Bool.Decides.{eqb_tells, leb_tells}
 use Rattle.std.proofs.lemmas.List.{length-set, length-replicate, get_or-replicate, get_or_default}
-use Rattle.std.proofs.lemmas.List.Elements.{All-set, All-replicate}
+use Rattle.std.proofs.lemmas.List.Elements.{All-set, All-replicate, All-contains}
 use Rattle.std.proofs.Math.ListN.{get_or-eq_default}
 use Rattle.std.proofs.Math.Nat.{mul-le-mul_right}
 use Rattle.blk_base.specs.declared.place.PageId.{PageId}
 use Rattle.blk_base.specs.declared.place.Mapping.{Mapping}
 use Rattle.blk_base.specs.declared.place.Mapping.TheVariants.{Unmapped}
 use Rattle.blk_base.specs.declared.opened.OpenedPage.{OpenedPage}
-use Rattle.blk_base.proofs.PageIdLaws.{same_or_not}
 use Rattle.page_codec.specs.Grammar.{AreHeld}
 use Rattle.page_codec.proofs.HeldLaws.{held_unmapped, held_above}
 use Rattle.dirty_pages.specs.declared.marks.Marks.{Marks}
 use Rattle.dirty_pages.specs.Marks.{HasPoint, clean, marks_at}
 use Rattle.block_map_tree.specs.declared.forms.Forest.{Forest}
 use Rattle.block_map_tree.specs.Pages.{IsForest, IsTreeOf, IsOnPath, IsRoot, IsLower, IsInner, above, slot_of}
-use Rattle.block_map_tree.specs.Tree.{Tree, as_root, by_link, trees_of, row_of, number_of, most_rows, mappings_of, mapping_of}
+use Rattle.block_map_tree.specs.Tree.{Tree, as_root, by_link, trees_of, number_of, most_rows, mappings_of, mapping_of}
 use Rattle.block_map_tree.specs.Opening.{all_trees, IsListed, IsOpened, IsOpening, AreEnough, blank, IsTakenOver}
-use Rattle.block_map_tree.proofs.PageLaws.{at_set, one_number, row_root, row_lower, row_on_path, in_row, middle, above_inner}
-
--- a place of a list that repeats what is past its end
-get_or-replicate_past : {X : Type 0} (n i : ℕ) (x : X) → slice_index_or (replicate n x) i x ≡ x
-get_or-replicate_past {X} n i x =
-    elim (leb_tells n i) [
-      | inl past ↦ get_or-eq_default (replicate n x) x (let p = past.1 in let size = length-replicate {A = X} n x in omega arith)
-      | inr inside ↦ get_or-replicate n i x x inside.1
-    ]
+use Rattle.dirty_pages.proofs.PageLists.{at_set, replicate_at, listed_or_not}
+use Rattle.block_map_tree.proofs.PageLaws.{one_number, in_row, above_inner}
 
 -- one more page is taken over
 pub taken_more : (f : Forest) (k n : ℕ) (opened : List OpenedPage) (old now : List (List Mapping)) (o : OpenedPage) (row : List Mapping)
@@ -79,10 +71,6 @@ taken_past f k opened old now o taken o_is inside foreign =
       others = λ m none. taken.others m (λ i d low own_i same. none i d (omega arith) own_i same);
     }
 
-pub taken_none : (f : Forest) (opened : List OpenedPage) (old : List (List Mapping)) → IsTakenOver f opened 0 old old
-taken_none f opened old =
-    record { size = refl; held = λ all. all; taken = λ k d below own later. absurd (omega arith); others = λ n none. refl }
-
 blank_slot : (count n slot : ℕ) → slice_index_or (slice_index_or (replicate count blank) n []) slot Unmapped ≡ Unmapped
 unfolding blank
 blank_slot count n slot =
@@ -92,67 +80,12 @@ blank_slot count n slot =
           (get_or-eq_default (replicate count blank) [] (let p = past.1 in let size = length-replicate count blank in omega arith))
       | inr inside ↦
           ap (λ (r : List Mapping). slice_index_or r slot Unmapped) (get_or-replicate count n blank [] inside.1)
-          ∙ get_or-replicate_past 812 slot Unmapped
+          ∙ replicate_at 812 slot Unmapped
     ]
 
 blank_held : (f : Forest) (count : ℕ) → All (AreHeld f.geometry 1) (replicate count blank)
 unfolding blank
 blank_held f count = All-replicate (AreHeld f.geometry 1) count blank (held_unmapped f.geometry 1)
-
--- whether a page is one of a list
-listed_or_not : (opened : List OpenedPage) (page : PageId) → IsListed opened page ⊎ (IsListed opened page → ⊥)
-listed_or_not [] page = inr (λ listed. omega (arith, listed.1.1))
-listed_or_not (o ∷ opened) page =
-    elim (same_or_not o.page page) [
-      | inl here ↦ inl (o, (0, omega arith, refl), here)
-      | inr other ↦ elim (listed_or_not opened page) [
-        | inl behind ↦ inl (behind.0, (suc behind.1.0, omega (arith, behind.1.1), behind.1.2), behind.2)
-        | inr none ↦ inr (λ listed. not_here o opened page other none listed.0 listed.1.0 listed.1.1 listed.1.2 listed.2)
-      ]
-    ]
-  where
-    not_here : (o : OpenedPage) (opened : List OpenedPage) (page : PageId) → o.page ≢ page → (IsListed opened page → ⊥) → (p : OpenedPage) (k : ℕ) → k < length (o ∷ opened)
-        → slice_index_or (o ∷ opened) k p ≡ p → p.page ≡ page → ⊥
-    not_here o opened page other none p zero inside is named = other (ap (λ (q : OpenedPage). q.page) is ∙ named)
-    not_here o opened page other none p (suc k) inside is named = none (p, (k, omega arith, is), named)
-
--- there are enough rows at height 2
-pub enough_roots : (f : Forest) (opened : List OpenedPage) → IsForest f → All (λ o. IsTreeOf f o.page.tree → IsInner f o.page) opened
-    → f.geometry.height ≡ 2 → AreEnough f opened 1
-enough_roots f opened forest inner two =
-    let row : (page : PageId) → IsInner f page → row_of f page < 1 = λ page is. elim is.there [
-      | inl root ↦ let r = row_root f page root in omega arith
-      | inr lower ↦ absurd (let l = lower.level in let one = is.level in omega arith)
-    ] in
-    record {
-      most = omega arith;
-      paths = λ page on level. row_on_path f page 1 forest on level (omega arith) (λ three. absurd (omega arith));
-      opened_too = λ k d inside own. row (slice_index_or opened k d).page (inner k d inside own);
-    }
-
--- and at height 3 once all pages are looked at
-pub enough_rows : (f : Forest) (opened : List OpenedPage) (rows : ℕ) → IsForest f → All (λ o. IsTreeOf f o.page.tree → IsInner f o.page) opened
-    → f.geometry.height ≢ 2 → rows ≤ 813 → (f.geometry.logical - 1) / 812 / 60 / 812 + 1 < rows
-    → ((k : ℕ) (d : OpenedPage) → k < length opened → IsTreeOf f (slice_index_or opened k d).page.tree → (slice_index_or opened k d).page.level ≡ 1
-    → (slice_index_or opened k d).page.index + 1 < rows) → AreEnough f opened rows
-enough_rows f opened rows forest inner two most logical listed =
-    let heights = forest.sizes.height in
-    let three : f.geometry.height ≡ 3 = omega arith in
-    record {
-      most = omega arith;
-      paths = λ page on level. row_on_path f page rows forest on level (omega arith) (λ is. logical);
-      opened_too = λ k d inside own.
-          let page = (slice_index_or opened k d).page in
-          let is = inner k d inside own in
-          elim is.there [
-            | inl root ↦ let r = row_root f page root in omega arith
-            | inr lower ↦
-                let m = middle f page forest is.level lower in
-                let r = row_lower f page lower in
-                let i = listed k d inside own m.1 in
-                omega arith
-          ];
-    }
 
 pub numbers_inside : (f : Forest) (opened : List OpenedPage) (rows count : ℕ) → IsForest f → AreEnough f opened rows → count ≡ rows * trees_of f
     → (count ≤ most_rows f.geometry.height * trees_of f) × ((page : PageId) → IsOnPath f page → 1 ≤ page.level → number_of f page < count)
@@ -173,7 +106,7 @@ opening f opened count rows pages marks forest is_opened most paths rows_are tak
     let wide : length pages ≡ count = taken.size ∙ ap length rows_are ∙ length-replicate count blank in
     let marked : length marks ≡ count = ap length marks_are ∙ length-replicate count clean in
     let no_marks : (number : ℕ) → marks_at marks number ≡ clean =
-    λ number. ap (λ (m : List Marks). marks_at m number) marks_are ∙ get_or-replicate_past count number clean in
+    λ number. ap (λ (m : List Marks). marks_at m number) marks_are ∙ replicate_at count number clean in
     let whole : (k : ℕ) (d : OpenedPage) → k < length opened → IsTreeOf f (slice_index_or opened k d).page.tree
     → mappings_of tree (slice_index_or opened k d).page ≡ (slice_index_or opened k d).mappings =
     λ k d below own. taken.taken k d below own (λ j later inside own_j same. is_opened.once k j d later inside
@@ -215,7 +148,7 @@ opening f opened count rows pages marks forest is_opened most paths rows_are tak
           ];
       only = λ page inner there. elim there.stands [
         | as_root root e ↦ is_opened.roots page root
-        | by_link lower e ↦ elim (listed_or_not opened (above page)) [
+        | by_link lower e ↦ elim (listed_or_not (λ (o : OpenedPage). o.page) opened (above page)) [
           | inl parent ↦
               let own : IsTreeOf f parent.0.page.tree = subst (λ (p : PageId). IsTreeOf f p.tree) (sym parent.2) lower.tree in
               let row : mappings_of tree (above page) ≡ parent.0.mappings = ap (λ (p : PageId). mappings_of tree p) (sym parent.2) ∙ listed parent.0 parent.1 own in
@@ -225,7 +158,9 @@ opening f opened count rows pages marks forest is_opened most paths rows_are tak
                 named = parent.2;
                 leads = ap (λ (r : List Mapping). slice_index_or r (slot_of page) Unmapped) (sym row) ∙ e;
               })
-          | inr none ↦ absurd (let unmapped = empty (above page) (slot_of page) (above_inner f page forest lower) none in cc)
+          | inr none ↦ absurd (
+              let unlisted : IsListed opened (above page) → ⊥ = λ listed. All-contains (λ (o : OpenedPage). o.page ≢ above page) opened listed.0 none listed.1 listed.2 in
+              let unmapped = empty (above page) (slot_of page) (above_inner f page forest lower) unlisted in cc)
         ]
       ];
       empty = empty;

@@ -1,31 +1,18 @@
 -- Pages by their numbers, and the pages above an address.
-use Rattle.std.specs.Prelude.{ℕ, zero, suc, ◌≡◌, ◌≢◌, ◌<◌, ◌≤◌, ◌+◌, ◌-◌, ◌*◌, ◌/◌, ◌%◌, ◌^◌, ◌⊎◌, List, length, slice_index_or, slice_set, refl}
+use Rattle.std.specs.Prelude.{ℕ, zero, suc, ◌≡◌, ◌≢◌, ◌<◌, ◌≤◌, ◌+◌, ◌-◌, ◌*◌, ◌/◌, ◌%◌, ◌^◌, ◌⊎◌, refl}
 use Rattle.std.proofs.Common.{sym, ◌∙◌, ap, ap₂, subst, inl, inr, arith, zero-add}
-use Rattle.std.proofs.Math.Nat.{div-le_self, mul-div-le, mul-le-mul_left, mul-le-mul_right, add-mul-mod_self_left, mod-eq_of_lt, mod-lt, add-mul-div_left, div-eq_of_lt, div-lt_iff_lt-mul}
+use Rattle.std.proofs.Math.Nat.{mul-div-le, mul-le-mul_left, mul-le-mul_right, add-mul-mod_self_left, mod-eq_of_lt, mod-lt, add-mul-div_left, div-eq_of_lt, div-lt_iff_lt-mul}
 use Rattle.std.proofs.lemmas.Nat.{div-add-mod', le-div, div-mul-add, mod-mul-add}
 use Rattle.std.proofs.lemmas.Bool.Decides.{eqb_tells}
-use Rattle.std.proofs.lemmas.List.{get_or-set_same, get_or-set_other}
 use Rattle.blk_base.specs.declared.place.PageId.{PageId}
 use Rattle.blk_base.proofs.PageIdLaws.{same_page}
 use Rattle.block_map_tree.specs.declared.forms.Forest.{Forest}
 use Rattle.block_map_tree.specs.Pages.{IsForest, IsTreeOf, IsOnPath, IsRoot, IsLower, IsInner, above, slot_of, page_at}
 use Rattle.block_map_tree.specs.Tree.{trees_of, row_of, number_of, most_rows}
 
--- a place of a list after a write is the written one or another
-pub at_set : {X : Type 0} (xs : List X) (i j : ℕ) (y d : X) → i < length xs
-    → ((j ≡ i) × (slice_index_or (slice_set xs i y) j d ≡ y)) ⊎ ((j ≢ i) × (slice_index_or (slice_set xs i y) j d ≡ slice_index_or xs j d))
-at_set xs i j y d inside =
-    elim (eqb_tells j i) [
-      | inl same ↦ inl (same.1, ap (λ k. slice_index_or (slice_set xs i y) k d) same.1 ∙ get_or-set_same xs i y d inside)
-      | inr other ↦ inr (other.1, get_or-set_other xs i j y d other.1)
-    ]
-
 -- the trees of a zone, and their numbers there
 pub trees_some : (f : Forest) → (1 ≤ trees_of f)
 trees_some f = omega arith
-
-pub trees_few : (f : Forest) → trees_of f ≤ 60
-trees_few f = let few = div-le_self (59 - f.zone) f.zones in omega arith
 
 pub place_small : (f : Forest) (tree : ℕ) → IsForest f → IsTreeOf f tree → tree / f.zones < trees_of f
 place_small f tree forest own =
@@ -204,21 +191,6 @@ above_inner f page sizes lower =
             inr (record { tree = lower.tree; level = omega arith; index = omega arith })
       ];
     }
-
--- there are enough rows for the pages on the paths of the logical size
-pub row_on_path : (f : Forest) (page : PageId) (rows : ℕ) → IsForest f → IsOnPath f page → 1 ≤ page.level → 1 ≤ rows
-    → (f.geometry.height ≡ 3 → (f.geometry.logical - 1) / 812 / 60 / 812 + 1 < rows) → row_of f page < rows
-row_on_path f page rows forest on level some enough =
-    elim (root_or_lower f page forest on) [
-      | inl root ↦ let n = row_root f page root in omega arith
-      | inr lower ↦
-          let n = row_lower f page lower in
-          let m = middle f page forest level lower in
-          let i = (index_on_path page on.address on.there).1 m.1 in
-          let e = enough m.0 in
-          let a = on.inside in
-          omega arith
-    ]
 
 -- each number is that of a page
 numbered_root : (f : Forest) (page : PageId) (n : ℕ) → IsForest f → n / trees_of f ≡ 0 → page.tree ≡ f.zone + f.zones * (n % trees_of f)

@@ -1,5 +1,5 @@
 -- Each call by what the code computes. Callers know a tree by its view, `known`.
-use Rattle.std.specs.Prelude.{ℕ, ◌≡◌, ◌<◌, List, [], length, slice_index_or, slice_set}
+use Rattle.std.specs.Prelude.{ℕ, ◌≡◌, ◌<◌, List, [], length, slice_index_or, slice_set, refl}
 use Rattle.std.proofs.Common.{sym, ◌∙◌, ap, subst, inl, inr, arith}
 use Rattle.std.proofs.lemmas.List.{get_or_default}
 use Rattle.blk_base.specs.declared.place.PageId.{PageId}
@@ -15,7 +15,7 @@ use Rattle.dirty_pages.specs.declared.marks.Marks.{Marks}
 use Rattle.dirty_pages.specs.Marks.{HandsOut, marks_at, with_marks, changed_at, handed_out, settled}
 use Rattle.dirty_pages.proofs.MarkLaws.{due_inside, out_inside}
 use Rattle.block_map_tree.specs.Pages.{IsInner, above, slot_of}
-use Rattle.block_map_tree.specs.Tree.{Tree, IsTree, IsAt, IsThere, IsLinkable, Links, Expires, IsWriting, Writes, number_of, mappings_of, with_change}
+use Rattle.block_map_tree.specs.Tree.{Tree, IsTree, IsAt, IsThere, IsLinkable, Links, Expires, IsWriting, Writes, number_of, mappings_of}
 use Rattle.block_map_tree.proofs.TreeLaws.{HasPlace, marks_keep, marks_move_none, marks_move_none_back, links, place_above}
 
 -- where the page above stands
@@ -28,46 +28,30 @@ pub linking : (known tree : Tree) (page parent : PageId) (at : Pbn) (point : Poi
     → row' ≡ slice_set row slot (At at) → marks ≡ with_marks tree.marks n (changed_at point)
     → Links known (record { forest = tree.forest; pages = slice_set tree.pages n row'; marks = marks }) page at point
 linking known tree page parent at point n slot row row' marks same form linkable there block above_is number_is slot_is row_is row_set marks_set =
-    let linkable' = subst (λ (t : Tree). IsLinkable t page) (sym same) linkable in
-    let place = place_above tree page form linkable' in
+    let form' = rw same at form in
     let number : n ≡ number_of tree.forest (above page) = number_is ∙ ap (λ (p : PageId). number_of tree.forest p) above_is in
-    let read : row ≡ mappings_of tree (above page) =
-    row_is ∙ get_or_default tree.pages n row [] (subst (λ (k : ℕ). k < length tree.pages) (sym number) place.page_inside)
-    ∙ ap (λ (k : ℕ). slice_index_or tree.pages k []) number in
-    let written : row' ≡ slice_set (mappings_of tree (above page)) (slot_of page) (At at) =
-    row_set ∙ ap (λ (r : List Mapping). slice_set r slot (At at)) read ∙ ap (λ (s : ℕ). slice_set (mappings_of tree (above page)) s (At at)) slot_is in
-    let parent_there = subst (λ (t : Tree). IsThere t (above page)) (sym same) there in
-    let block' = subst (λ (t : Tree). IsDataBlock t.forest.geometry at.0) (sym same) block in
-    subst (λ (t : Tree). Links t (record { forest = tree.forest; pages = slice_set tree.pages n row'; marks = marks }) page at point) same
-    (links tree _ page at point form linkable' parent_there block'
-    (ap (λ (r : List Mapping). record { forest = tree.forest; pages = slice_set tree.pages n r; marks = marks }) written
-    ∙ ap (λ (m : List Marks). record { forest = tree.forest; pages = slice_set tree.pages n (slice_set (mappings_of tree (above page)) (slot_of page) (At at)); marks = m }) marks_set
-    ∙ ap (λ (k : ℕ). record { forest = tree.forest; pages = slice_set tree.pages k (slice_set (mappings_of tree (above page)) (slot_of page) (At at)); marks = with_marks tree.marks k (changed_at point) }) number))
+    let inside : n < length tree.pages = subst (λ (k : ℕ). k < length tree.pages) (sym number) (parent_place known tree page same form linkable).page_inside in
+    let read : row ≡ mappings_of tree (above page) = row_is ∙ get_or_default tree.pages n row [] inside ∙ ap (λ (k : ℕ). slice_index_or tree.pages k []) number in
+    rw (row_set, slot_is, read, marks_set, number, same) (links known page at point form' linkable there block)
 
 pub writing : (known tree : Tree) (page : PageId) (n : ℕ) (marks : List Marks) → tree ≡ known → IsTree tree → IsWriting known page
     → n ≡ number_of tree.forest page → marks ≡ with_marks tree.marks n settled
     → Writes known (record { forest = tree.forest; pages = tree.pages; marks = marks }) page
 writing known tree page n marks same form out number_is marks_are =
-    let out' = subst (λ (t : Tree). IsWriting t page) (sym same) out in
-    let m = number_of tree.forest page in
-    let set : record { forest = tree.forest; pages = tree.pages; marks = marks } ≡ with_change tree page settled =
-    ap (λ (ms : List Marks). record { forest = tree.forest; pages = tree.pages; marks = ms })
-    (marks_are ∙ ap (λ (k : ℕ). with_marks tree.marks k settled) number_is) in
-    subst (λ (t : Tree). Writes t (record { forest = tree.forest; pages = tree.pages; marks = marks }) page) same (record {
-      set = set;
-      form = subst (λ (t : Tree). IsTree t) (sym set)
-          (marks_keep tree m (settled (marks_at tree.marks m)) form (out_inside tree.marks m out'.marks) (λ point has. elim has [
-            | inl dirty ↦ (point, inl dirty)
-            | inr out_at ↦ cc
-          ]));
+    let m = number_of known.forest page in
+    rw (marks_are, number_is, same) (record {
+      set = refl;
+      form = marks_keep known m (settled (marks_at known.marks m)) (rw same at form) (out_inside known.marks m out.marks) (λ point has. elim has [
+        | inl dirty ↦ (point, inl dirty)
+        | inr out_at ↦ cc
+      ]);
     })
 
 -- the marks after a page was handed out are those of a tree
 pub handed_form : (tree : Tree) (new : List Marks) (point : Point) (n : ℕ) → IsTree tree → HandsOut tree.marks new point n
     → IsTree (record { forest = tree.forest; pages = tree.pages; marks = new })
 handed_form tree new point n form out =
-    subst (λ (ms : List Marks). IsTree (record { forest = tree.forest; pages = tree.pages; marks = ms })) (sym out.after)
-    (marks_keep tree n (handed_out (marks_at tree.marks n)) form (due_inside tree.marks n out.first out.due) (λ point' has. elim has [
+    rw out.after (marks_keep tree n (handed_out (marks_at tree.marks n)) form (due_inside tree.marks n out.first out.due) (λ point' has. elim has [
       | inl dirty ↦ cc
       | inr out_at ↦ (point', inl out_at)
     ]))

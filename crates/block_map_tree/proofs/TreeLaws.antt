@@ -1,5 +1,5 @@
 -- What the calls keep of a tree.
-use Rattle.std.specs.Prelude.{ℕ, ◌≡◌, ◌<◌, List, [], length, slice_index_or, slice_set}
+use Rattle.std.specs.Prelude.{ℕ, ◌<◌, List, [], length, slice_index_or, slice_set, refl}
 use Rattle.std.proofs.Common.{sym, ◌∙◌, ap, subst, inl, inr, arith}
 use Rattle.std.proofs.lemmas.List.{length-set}
 use Rattle.std.proofs.lemmas.List.Elements.{All-set}
@@ -15,7 +15,8 @@ use Rattle.dirty_pages.specs.declared.marks.Marks.{Marks}
 use Rattle.dirty_pages.specs.Marks.{HasPoint, marks_at, changed_at}
 use Rattle.block_map_tree.specs.Pages.{above, slot_of}
 use Rattle.block_map_tree.specs.Tree.{Tree, IsTree, IsAt, as_root, by_link, IsThere, IsLinkable, Links, number_of, mappings_of, marks_of, with_change, with_mapping}
-use Rattle.block_map_tree.proofs.PageLaws.{at_set, one_number, lower_on_path, above_on_path, above_inner}
+use Rattle.dirty_pages.proofs.PageLists.{at_set}
+use Rattle.block_map_tree.proofs.PageLaws.{one_number, lower_on_path, above_on_path, above_inner}
 
 -- other marks move no page
 pub marks_move_none : (tree : Tree) (marks : List Marks) (page : PageId) (at : Pbn) → IsAt tree page at → IsAt (record tree { marks = marks }) page at
@@ -92,11 +93,9 @@ place_above tree page form linkable =
     record { level = omega arith; page_inside = room; marks_inside = omega arith; slot_inside = omega (arith, width) }
 
 -- a link leaves a tree
-pub links : (tree new : Tree) (page : PageId) (at : Pbn) (point : Point) → IsTree tree → IsLinkable tree page
-    → IsThere tree (above page) → IsDataBlock tree.forest.geometry at.0
-    → new ≡ with_change (with_mapping tree (above page) (slot_of page) (At at)) (above page) (changed_at point)
-    → Links tree new page at point
-links tree new page at point form linkable parent data_block is =
+pub links : (tree : Tree) (page : PageId) (at : Pbn) (point : Point) → IsTree tree → IsLinkable tree page → IsThere tree (above page) → IsDataBlock tree.forest.geometry at.0
+    → Links tree (with_change (with_mapping tree (above page) (slot_of page) (At at)) (above page) (changed_at point)) page at point
+links tree page at point form linkable parent data_block =
     let place = place_above tree page form linkable in
     let n = number_of tree.forest (above page) in
     let row = slice_set (mappings_of tree (above page)) (slot_of page) (At at) in
@@ -106,8 +105,8 @@ links tree new page at point form linkable parent data_block is =
     λ other there. link_keeps tree n (slot_of page) at (slice_set tree.marks n marks) other place.page_inside place.slot_inside there in
     let size = length-set tree.pages n row in
     record {
-      set = is;
-      form = subst (λ (t : Tree). IsTree t) (sym is) (record {
+      set = refl;
+      form = record {
         forest = form.forest;
         room = λ other on level. let r = form.room other on level in omega arith;
         most = let m = form.most in omega arith;
@@ -120,5 +119,5 @@ links tree new page at point form linkable parent data_block is =
               kept other (subst (λ (p : PageId). IsThere tree p) (one_number tree.forest (above page) other form.forest inner_above inner (sym same.0)) parent)
           | inr elsewhere ↦ kept other (form.there other later inner (subst (λ (k : Marks). HasPoint k later) elsewhere.1 has))
         ];
-      });
+      };
     }

@@ -1,10 +1,10 @@
 -- The marks of a page speak of each of its changes that isn't durable.
-use Rattle.std.specs.Prelude.{◌≡◌, ◌≤◌, List, [], ◌∷◌, Option, None, Some, refl}
-use Rattle.std.proofs.Common.{sym, ◌∙◌, ap, subst, inl, inr, arith}
+use Rattle.std.specs.Prelude.{ℕ, ◌≡◌, ◌≤◌, List, [], ◌∷◌, Option, None, Some, refl}
+use Rattle.std.proofs.Common.{◌∙◌, ap, inl, inr, arith}
 use Rattle.blk_base.specs.declared.place.PageId.{PageId}
 use Rattle.blk_base.specs.declared.point.Point.{Point}
 use Rattle.dirty_pages.specs.declared.marks.Marks.{Marks}
-use Rattle.dirty_pages.specs.Marks.{clean, least_of, changed_at, handed_out, settled, HasPoint}
+use Rattle.dirty_pages.specs.Marks.{clean, least_of, changed_at, handed_out, settled, HasPoint, IsLowPoint, marks_at}
 use Rattle.dirty_pages.specs.History.{Event, Changed, HandedOut, Written, IsWaiting, IsInWrite, IsUnwritten, IsUnreported, Becomes, IsAfter, AtMost}
 
 least_of-new : (least : Option Point) (point : Point) → (least_of least point).0 ≤ point.0
@@ -25,9 +25,6 @@ none_at_most least point none is = let some = is.is in cc
 record Covers (events : List Event) (page : PageId) (marks : Marks) : Type 0 where
   waiting : (point : Point) → IsWaiting events page point → AtMost marks.dirty point
   in_write : (point : Point) → IsInWrite events page point → AtMost marks.writing point
-
-covers_same : (events : List Event) (page : PageId) (marks marks' : Marks) → marks' ≡ marks → Covers events page marks → Covers events page marks'
-covers_same events page marks marks' same known = subst (λ (m : Marks). Covers events page m) (sym same) known
 
 covers_changed : (events : List Event) (page : PageId) (point : Point) (marks : Marks) → Covers events page marks
     → Covers (Changed page point ∷ events) page (changed_at point marks)
@@ -59,22 +56,22 @@ covers_settled events page marks known = record { waiting = known.waiting; in_wr
 covers_more : (event : Event) (events : List Event) (page : PageId) (old new : Marks) → Covers events page old → Becomes event page old new
     → Covers (event ∷ events) page new
 covers_more (Changed other point) events page old new known step = elim step [
-  | inl this ↦ covers_same _ page _ new this.1 (subst (λ (p : PageId). Covers (Changed p point ∷ events) page (changed_at point old)) (sym this.0) (covers_changed events page point old known))
-  | inr none ↦ covers_same _ page old new none.1 (record {
+  | inl this ↦ rw (this.0, this.1) (covers_changed events page point old known)
+  | inr none ↦ rw none.1 (record {
     waiting = λ later wait. elim wait [ inl now ↦ absurd (none.0 now.0) | inr before ↦ known.waiting later before ];
     in_write = known.in_write;
   })
 ]
 covers_more (HandedOut other) events page old new known step = elim step [
-  | inl this ↦ covers_same _ page _ new this.2 (subst (λ (p : PageId). Covers (HandedOut p ∷ events) page (handed_out old)) (sym this.0) (covers_handed_out events page old this.1 known))
-  | inr none ↦ covers_same _ page old new none.1 (record {
+  | inl this ↦ rw (this.0, this.2) (covers_handed_out events page old this.1 known)
+  | inr none ↦ rw none.1 (record {
     waiting = λ point wait. known.waiting point wait.1;
     in_write = λ point out. elim out [ inl now ↦ absurd (none.0 now.0) | inr before ↦ known.in_write point before ];
   })
 ]
 covers_more (Written other) events page old new known step = elim step [
-  | inl this ↦ covers_same _ page _ new this.1 (subst (λ (p : PageId). Covers (Written p ∷ events) page (settled old)) (sym this.0) (covers_settled events page old known))
-  | inr none ↦ covers_same _ page old new none.1 (record { waiting = known.waiting; in_write = λ point out. known.in_write point out.1 })
+  | inl this ↦ rw (this.0, this.1) (covers_settled events page old known)
+  | inr none ↦ rw none.1 (record { waiting = known.waiting; in_write = λ point out. known.in_write point out.1 })
 ]
 
 covers : (old new : Marks) (events : List Event) (page : PageId) → IsAfter old events page new → Covers events page new
@@ -94,6 +91,12 @@ has_point old new events page point after unwritten =
       | inl wait ↦ let known = all.waiting point wait in (known.first, inl known.is, known.early)
       | inr out ↦ let known = all.in_write point out in (known.first, inr known.is, known.early)
     ]
+
+pub not_below : (old : Marks) (pages : List Marks) (number : ℕ) (events : List Event) (page : PageId) (point low : Point) → IsAfter old events page (marks_at pages number)
+    → IsUnwritten events page point → IsLowPoint pages low → low.0 ≤ point.0
+not_below old pages number events page point low after unwritten is =
+    let has = has_point old (marks_at pages number) events page point after unwritten in
+    omega (arith, is.least number has.0 has.1, has.2)
 
 pub not_clean : (old new : Marks) (events : List Event) (page : PageId) (point : Point) → IsAfter old events page new → IsUnwritten events page point
     → new ≡ clean → ⊥

@@ -1,3 +1,4 @@
 pub mod MinimaLaws
 pub mod MarkLaws
 pub mod HistoryLaws
+pub mod PageLists

@@ -1,5 +1,5 @@
 -- What the trees of least numbers tell of the marks.
-use Rattle.std.specs.Prelude.{ℕ, zero, suc, ◌≡◌, ◌≢◌, ◌<◌, ◌≤◌, min, ◌⊎◌, true, false, List, ◌∷◌, length, map, Option, None, Some, replicate, refl}
+use Rattle.std.specs.Prelude.{ℕ, zero, suc, ◌≡◌, ◌≢◌, ◌<◌, ◌≤◌, min, ◌⊎◌, List, ◌∷◌, length, map, Option, None, Some, replicate, refl}
 use Rattle.std.proofs.Common.{sym, ◌∙◌, ap, inl, inr, arith}
 use Rattle.std.proofs.Math.ListN.{get_or-map, get_or-eq_default}
 use Rattle.std.proofs.lemmas.Bool.{cases_lt}
@@ -7,7 +7,7 @@ use Rattle.std.proofs.lemmas.List.{get_or-set_same, get_or-set_other}
 use Rattle.blk_base.specs.declared.point.Point.{Point}
 use Rattle.dirty_pages.specs.declared.marks.Marks.{Marks}
 use Rattle.dirty_pages.specs.Minima.{key_at, IsLeast}
-use Rattle.dirty_pages.specs.Marks.{clean, HasPoint, IsDue, IsBeingWritten, marks_at, with_marks, handed_out, HandsOut, NoneIsDue, IsLowPoint, AreClean, due_by, due_of, unwritten_by, unwritten_of, clean_by, clean_of}
+use Rattle.dirty_pages.specs.Marks.{clean, HasPoint, IsDue, IsBeingWritten, marks_at, with_marks, handed_out, HandsOut, NoneIsDue, IsLowPoint, AreClean, due_by, due_of, unwritten_by, unwritten_of}
 
 pub map-replicate : {X Y : Type 0} (f : X → Y) (x : X) (n : ℕ) → map f (replicate n x) ≡ replicate n (f x)
 map-replicate f x zero = refl
@@ -55,17 +55,6 @@ unwritten-none None None is = refl
 unwritten-none None (Some point) is = cc
 unwritten-none (Some first) None is = cc
 unwritten-none (Some first) (Some point) is = cc
-
-clean_by-true : (dirty writing : Option Point) → clean_by dirty writing ≡ true → record { dirty = dirty; writing = writing } ≡ clean
-clean_by-true None None is = refl
-clean_by-true None (Some point) is = cc
-clean_by-true (Some first) writing is = cc
-
-pub clean-true : (marks : Marks) → clean_of marks ≡ true → marks ≡ clean
-clean-true marks is = clean_by-true marks.dirty marks.writing is
-
-pub clean-false : (marks : Marks) → clean_of marks ≡ false → marks ≡ clean → ⊥
-clean-false marks is clean_is = let here : clean_of marks ≡ true = ap clean_of clean_is in cc
 
 -- a page that is due, or has a point, is none past the last
 pub due_inside : (pages : List Marks) (page : ℕ) (first : Point) → IsDue (marks_at pages page) first → page < length pages

@@ -5,6 +5,7 @@ use Rattle.std.proofs.lemmas.List.{get_or-drop, drop-set-add, length-drop, get_o
 use Rattle.std.proofs.Math.ListN.{get_or-eq_default}
 use Rattle.std.proofs.lemmas.Bool.{cases_eq, cases_lt, leb-true, le-leb}
 use Rattle.std.proofs.lemmas.Bool.Decides.{leb_tells}
+use Rattle.dirty_pages.proofs.PageLists.{replicate_at}
 use Rattle.dirty_pages.specs.Minima.{is_at_most, lesser_of, key_at, IsLeast, IsTreeBut, IsTree}
 
 at_most-refl : (a : Option ℕ) → is_at_most a a ≡ true
@@ -55,12 +56,8 @@ child_at_most leaves nodes parent child tree positive inside side =
     let some : parent ≢ 0 = omega arith in
     let is = tree parent positive inside some in
     elim side [
-      | inl left ↦ ap (λ (p : Option ℕ). is_at_most p (key_at nodes child)) is
-          ∙ ap (λ (j : ℕ). is_at_most (lesser_of (key_at nodes (2 * parent)) (key_at nodes (2 * parent + 1))) (key_at nodes j)) left
-          ∙ lesser-at_most_left (key_at nodes (2 * parent)) (key_at nodes (2 * parent + 1))
-      | inr right ↦ ap (λ (p : Option ℕ). is_at_most p (key_at nodes child)) is
-          ∙ ap (λ (j : ℕ). is_at_most (lesser_of (key_at nodes (2 * parent)) (key_at nodes (2 * parent + 1))) (key_at nodes j)) right
-          ∙ lesser-at_most_right (key_at nodes (2 * parent)) (key_at nodes (2 * parent + 1))
+      | inl left ↦ rw (is, left) (lesser-at_most_left (key_at nodes (2 * parent)) (key_at nodes (2 * parent + 1)))
+      | inr right ↦ rw (is, right) (lesser-at_most_right (key_at nodes (2 * parent)) (key_at nodes (2 * parent + 1)))
     ]
 
 root_up_to : (leaves : ℕ) (nodes : List (Option ℕ)) → IsTree leaves nodes → (steps k : ℕ) → k ≤ steps → 0 < k → k < 2 * leaves
@@ -120,14 +117,9 @@ slot_changed leaves slot leaf nodes nodes' value is kept =
     kept ∙ ap (λ (j : ℕ). drop leaves (set nodes j value)) is ∙ drop-set-add leaves nodes slot value
 
 -- a tree in which no node has a number
-none_at : (n k : ℕ) → key_at (replicate n None) k ≡ None
-none_at zero k = refl
-none_at (suc n) zero = refl
-none_at (suc n) (suc k) = none_at n k
-
 pub tree_of_none : (leaves n : ℕ) → IsTree leaves (replicate n None)
 tree_of_none leaves n = λ k positive inside some.
-    none_at n k ∙ sym (ap (λ (l : Option ℕ). lesser_of l (key_at (replicate n None) (2 * k + 1))) (none_at n (2 * k)) ∙ ap (λ (r : Option ℕ). lesser_of None r) (none_at n (2 * k + 1)))
+    replicate_at n k None ∙ sym (ap (λ (l : Option ℕ). lesser_of l (key_at (replicate n None) (2 * k + 1))) (replicate_at n (2 * k) None) ∙ ap (λ (r : Option ℕ). lesser_of None r) (replicate_at n (2 * k + 1) None))
 
 -- what is written to a node changes no children but those of its parent
 module _ (nodes : List (Option ℕ)) (at : ℕ) (value : Option ℕ) where

@@ -18,6 +18,7 @@ pub fn no_change_is_lost()
 {}
 
 /// A page that was handed out is being written, with the same point, until it is reported as written.
+#[tactic(auto, using(crate::proofs::HistoryLaws::still_out))]
 pub fn a_page_is_being_written_until_it_is_written()
     ensures { (old new : Marks) (events : List Event) (page : PageId) (first : Point) → IsAfter old events page new
         → IsUnreported events page → old.writing ≡ Some first → new.writing ≡ Some first }

@@ -1,5 +1,5 @@
 -- The counts that a gate keeps, behind zeros for the generations that are done, are those of all generations.
-use Rattle.std.specs.Prelude.{ℕ, ◌≡◌, ◌<◌, ◌≤◌, ◌+◌, ◌-◌, List, [], ◌∷◌, ◌++◌, length, replicate}
+use Rattle.std.specs.Prelude.{ℕ, ◌≡◌, ◌<◌, ◌≤◌, ◌+◌, ◌-◌, List, [], ◌∷◌, ◌++◌, length, replicate, refl}
 use Rattle.std.proofs.Common.{ap, ◌∙◌, sym, subst, arith, get_or, set, drop, length-append, append_assoc, inl, inr}
 use Rattle.std.proofs.lemmas.List.{get_or-append_right, set-append_right, get_or-replicate, length-replicate, replicate_more}
 use Rattle.std.proofs.lemmas.Bool.{cases_lt}
@@ -49,9 +49,7 @@ counted f room oldest place v counts flushes gate is inside read =
     let same : v ≡ get_or (all_counts oldest counts) (oldest + place) 0 = read ∙ sym (old ∙ ap (λ k. get_or counts k 0) at) in
     let written : all_counts oldest (set counts place (f v)) ≡ set (all_counts oldest counts) (oldest + place) (f (get_or (all_counts oldest counts) (oldest + place) 0))
     = ap (λ k. replicate oldest 0 ++ set counts k (f v)) (sym at) ∙ sym moved ∙ ap (λ n. set (all_counts oldest counts) (oldest + place) (f n)) same in
-    let P : Flushes → Type 0 = λ known. ◌≡◌ {A = Flushes} (record { room = room; under_way = all_counts oldest (set counts place (f v)); waiting = flushes })
-    (record { room = known.room; under_way = set known.under_way (oldest + place) (f (get_or known.under_way (oldest + place) 0)); waiting = known.waiting }) in
-    subst P is (ap (λ (us : List ℕ). record { room = room; under_way = us; waiting = flushes }) written)
+    rw (← is) (ap (λ (us : List ℕ). record { room = room; under_way = us; waiting = flushes }) written)
 
 pub AreFrom-push : (n : ℕ) (flushes : List Waiting) (flush : Waiting) → AreFrom n flushes → flush.generation ≡ n + length flushes → AreFrom n (flushes ++ flush ∷ [])
 AreFrom-push n [] flush from is = (omega (arith, is), tt)
@@ -76,8 +74,7 @@ waits_among oldest counts (flush ∷ flushes) from busy first rest is done =
 pub waits : (room oldest : ℕ) (counts : List ℕ) (flushes : List Waiting) (gate : Flushes)
     → record { room = room; under_way = all_counts oldest counts; waiting = flushes } ≡ gate → AreFrom (oldest + 1) flushes
     → (get_or counts 0 0 ≡ 0 → ⊥) → OldestWaits gate
-waits room oldest counts flushes gate is from busy =
-    subst (λ (known : Flushes). OldestWaits known) is (waits_among oldest counts flushes from busy)
+waits room oldest counts flushes gate is from busy = rw (← is) (waits_among oldest counts flushes from busy)
 
 head_zero : (counts : List ℕ) → 0 < length counts → get_or counts 0 0 ≡ 0 → counts ≡ 0 ∷ drop 1 counts
 head_zero [] some zero_first = absurd (omega arith)
@@ -89,14 +86,19 @@ one_more_zero oldest counts some zero_first =
     ap (λ (zeros : List ℕ). zeros ++ drop 1 counts) (sym (replicate_more oldest 0)) ∙ append_assoc (replicate oldest 0) (0 ∷ []) (drop 1 counts)
     ∙ ap (λ (cs : List ℕ). replicate oldest 0 ++ cs) (sym (head_zero counts some zero_first))
 
-zero_up_to : (oldest : ℕ) (counts : List ℕ) → get_or counts 0 0 ≡ 0 → (older : ℕ) → older < oldest + 1 → get_or (all_counts oldest counts) older 0 ≡ 0
-zero_up_to oldest counts zero_first older before =
-    elim (cases_lt older oldest) [
+-- no older write is under way where that holds of the kept counts
+pub done_before : (room oldest generation : ℕ) (counts : List ℕ) (flushes : List Waiting) (gate : Flushes)
+    → record { room = room; under_way = all_counts oldest counts; waiting = flushes } ≡ gate
+    → ((k : ℕ) → k < length counts → oldest + k < generation → get_or counts k 0 ≡ 0) → AreOlderDone gate generation
+done_before room oldest generation counts flushes gate is each =
+    rw (← is) (λ older before. elim (cases_lt older oldest) [
       | inl below ↦ count_before oldest counts older below
-      | inr behind ↦
-          let at : older - oldest ≡ 0 = omega arith in
-          count_at oldest counts older behind ∙ ap (λ k. get_or counts k 0) at ∙ zero_first
-    ]
+      | inr behind ↦ count_at oldest counts older behind ∙
+          elim (cases_lt (older - oldest) (length counts)) [
+            | inl inside ↦ each (older - oldest) inside (omega arith)
+            | inr outside ↦ get_or-eq_default counts 0 outside
+          ]
+    ])
 
 leaves_here : (room oldest : ℕ) (counts : List ℕ) (flush : Waiting) (flushes rest : List Waiting) → AreFrom (oldest + 1) flushes
     → flushes ≡ flush ∷ rest → 0 < length counts → get_or counts 0 0 ≡ 0
@@ -106,7 +108,7 @@ leaves_here room oldest counts flush flushes rest from is some zero_first =
     let number = from_head.0 in
     record {
       oldest = is;
-      older_done = λ older before. zero_up_to oldest counts zero_first older (omega (arith, number));
+      older_done = done_before room oldest flush.generation counts flushes _ refl (λ k inside before. let none : k ≡ 0 = omega arith in ap (λ n. get_or counts n 0) none ∙ zero_first);
       kept = ap (λ (us : List ℕ). record { room = room; under_way = us; waiting = rest }) (one_more_zero oldest counts some zero_first);
     }
 
@@ -115,32 +117,13 @@ pub leaves : (room oldest : ℕ) (counts left : List ℕ) (flush : Waiting) (flu
     → record { room = room; under_way = all_counts oldest counts; waiting = flushes } ≡ gate → AreFrom (oldest + 1) flushes
     → flushes ≡ flush ∷ rest → 0 < length counts → get_or counts 0 0 ≡ 0 → left ≡ drop 1 counts
     → Leaves gate (record { room = room; under_way = all_counts (oldest + 1) left; waiting = rest }) flush
-leaves room oldest counts left flush flushes rest gate is from head some zero_first popped =
-    subst (λ (known : Flushes). Leaves known (record { room = room; under_way = all_counts (oldest + 1) left; waiting = rest }) flush) is
-    (subst (λ (cs : List ℕ). Leaves (record { room = room; under_way = all_counts oldest counts; waiting = flushes }) (record { room = room; under_way = all_counts (oldest + 1) cs; waiting = rest }) flush)
-    (sym popped) (leaves_here room oldest counts flush flushes rest from head some zero_first))
-
--- no older write is under way where that holds of the kept counts
-pub done_before : (room oldest generation : ℕ) (counts : List ℕ) (flushes : List Waiting) (gate : Flushes)
-    → record { room = room; under_way = all_counts oldest counts; waiting = flushes } ≡ gate
-    → ((k : ℕ) → k < length counts → oldest + k < generation → get_or counts k 0 ≡ 0) → AreOlderDone gate generation
-done_before room oldest generation counts flushes gate is each =
-    subst (λ (known : Flushes). AreOlderDone known generation) is
-    (λ older before. elim (cases_lt older oldest) [
-      | inl below ↦ count_before oldest counts older below
-      | inr behind ↦ count_at oldest counts older behind ∙
-          elim (cases_lt (older - oldest) (length counts)) [
-            | inl inside ↦ each (older - oldest) inside (omega arith)
-            | inr outside ↦ get_or-eq_default counts 0 outside
-          ]
-    ])
+leaves room oldest counts left flush flushes rest gate is from head some zero_first popped = rw (popped, ← is) (leaves_here room oldest counts flush flushes rest from head some zero_first)
 
 -- and one that isn't 0 shows that an older write is
 pub not_done_before : (room oldest generation place : ℕ) (counts : List ℕ) (flushes : List Waiting) (gate : Flushes)
     → record { room = room; under_way = all_counts oldest counts; waiting = flushes } ≡ gate
     → oldest + place < generation → (get_or counts place 0 ≡ 0 → ⊥) → AreOlderDone gate generation → ⊥
 not_done_before room oldest generation place counts flushes gate is before busy done =
-    let here : AreOlderDone (record { room = room; under_way = all_counts oldest counts; waiting = flushes }) generation
-    = subst (λ (known : Flushes). AreOlderDone known generation) (sym is) done in
+    let here = rw (← is) at done in
     let at : oldest + place - oldest ≡ place = omega arith in
     busy (sym (count_at oldest counts (oldest + place) (omega arith) ∙ ap (λ k. get_or counts k 0) at) ∙ here (oldest + place) before)

@@ -34,7 +34,7 @@ module _ {V : Type 0} (bytes_of : V → List ℕ) where
       → None ≡ option_map (has shown) (lock_of name seen) → left ≡ old.held ++ record { name = name; bytes = bytes } ∷ []
       → Arrives bytes_of known (record old { held = left }) name vio (Agent vio)
   takes old known is seen left name shown bytes vio same own none added =
-      subst (λ (k : Sharing V). Arrives bytes_of k (record old { held = left }) name vio (Agent vio)) is (
+      rw (← is) (
         refl,
         ap (λ (ls : List Lock). lock_of name ls) (sym same) ∙ unmapped (lock_of name seen) (has shown) none,
         ap (λ (ls : List Lock). record old { held = ls }) (added ∙ ap (λ (b : List ℕ). old.held ++ record { name = name; bytes = b } ∷ []) own),
@@ -48,7 +48,7 @@ module _ {V : Type 0} (bytes_of : V → List ℕ) where
       let named : lock.name ≡ name = same_bytes lock.name name (find-passes (is_of name) seen lock found) in
       let whole : lock ≡ lock_with bytes_of name vio
       = ap (λ (n : List ℕ). record { name = n; bytes = lock.bytes }) named ∙ ap (λ (b : List ℕ). record { name = name; bytes = b }) (same_bytes lock.bytes bytes alike ∙ own) in
-      subst (λ (k : Sharing V). Arrives bytes_of k (record old { waiting = left }) name vio Waits) is (
+      rw (← is) (
         ap (λ (ls : List Lock). lock_of name ls) (sym same) ∙ found ∙ ap (λ (l : Lock). Some l) whole,
         ap (λ (ws : List (Waiter V)). record old { waiting = ws }) added,
       )
@@ -57,7 +57,7 @@ module _ {V : Type 0} (bytes_of : V → List ℕ) where
       → Some false ≡ option_map (has bytes) (lock_of name seen) → Arrives bytes_of known known name vio (Alone vio)
   goes_alone old known is seen name bytes vio same own judged =
       let (lock, found, apart) = mapped (lock_of name seen) (has bytes) false judged in
-      subst (λ (k : Sharing V). Arrives bytes_of k k name vio (Alone vio)) is (
+      rw (← is) (
         refl,
         (lock, ap (λ (ls : List Lock). lock_of name ls) (sym same) ∙ found, λ alike. differ lock.bytes bytes apart (alike ∙ sym own)),
         refl,

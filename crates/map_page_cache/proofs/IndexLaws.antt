@@ -1,13 +1,14 @@
 -- Entries in the order of their pages: where one stands, and that the order stays.
-use Rattle.std.specs.Prelude.{ℕ, ◌≡◌, ◌<◌, ◌≤◌, ◌+◌, ◌-◌, List, length, refl}
-use Rattle.std.proofs.Common.{ap, ◌∙◌, sym, subst, arith, get_or, inl, inr, Result, Ok, Err, IfOk, IfErr, Ordering, Less, Equal, Greater}
+use Rattle.std.specs.Prelude.{ℕ, zero, suc, ◌≡◌, ◌<◌, ◌≤◌, ◌+◌, ◌-◌, ◌⊎◌, List, ◌∷◌, ◌++◌, length, Contains, refl}
+use Rattle.std.proofs.Common.{ap, ap₂, take, drop, drop-cons, ◌∙◌, sym, subst, arith, get_or, inl, inr, Result, Ok, Err, IfOk, IfErr, Ordering, Less, Equal, Greater}
 use Rattle.std.specs.List.{insert, remove}
 use Rattle.std.specs.List.Sorted.{IsSearchInRange, IsBinarySearchResult}
 use Rattle.std.specs.Ordering.{ordering_reverse, ordering_then, is_lt, nat_cmp}
 use Rattle.std.specs.Cmp.{IsTotalOrder}
 use Rattle.std.proofs.lemmas.Bool.{cases_eq, cases_lt}
 use Rattle.std.proofs.lemmas.Cmp.{on_total, then_total, tied_itself, nat_cmp_total, ranked}
-use Rattle.std.proofs.lemmas.List.{get_or_default}
+use Rattle.std.proofs.lemmas.List.{get_or_default, take-append-drop}
+use Rattle.std.proofs.lemmas.List.Elements.{Contains-append_left, Contains-append_right, Contains-append_cases}
 use Rattle.std.proofs.lemmas.List.Edits.{get_or-insert_at, get_or-insert_below, get_or-insert_above, get_or-remove_below, get_or-remove_above, length-insert, length-remove}
 use Rattle.std.proofs.lemmas.List.Sorted.{searchable_from_sorted}
 use Rattle.blk_base.specs.declared.place.PageId.{PageId}
@@ -74,17 +75,22 @@ no_slot index page place gap = λ slot has.
       | inr last ↦ apart _ _ (gap.behind has.0 entry last has.1) (sym same)
     ]
 
--- entries of one page stand at one place
-one_place : (entries : List IndexEntry) (j k : ℕ) (d : IndexEntry) → AreInOrder entries → j < length entries → k < length entries
-    → (get_or entries j d).page ≡ (get_or entries k d).page → j ≡ k
-one_place entries j k d order at_j at_k same =
-    elim (cases_eq j k) [
-      | inl equal ↦ equal
-      | inr other ↦ elim (cases_lt j k) [
-        | inl first ↦ absurd (apart _ _ (order j k d first at_k) same)
-        | inr last ↦ absurd (apart _ _ (order k j d (omega arith) at_j) (sym same))
-      ]
-    ]
+-- an element of a list with one more in it is that one, or an element without it
+first_or_rest : (entries : List IndexEntry) (new e : IndexEntry) → Contains (new ∷ entries) e → (new ≡ e) ⊎ Contains entries e
+first_or_rest entries new e (zero, inside, is) = inl is
+first_or_rest entries new e (suc k, inside, is) = inr (k, omega arith, is)
+
+new_or_old : (before behind : List IndexEntry) (new e : IndexEntry) → Contains (before ++ new ∷ behind) e → (new ≡ e) ⊎ Contains (before ++ behind) e
+new_or_old before behind new e has = elim (Contains-append_cases before (new ∷ behind) e has) [
+  | inl first ↦ inr (Contains-append_left before behind e first)
+  | inr later ↦ elim (first_or_rest behind new e later) [ inl here ↦ inl here | inr last ↦ inr (Contains-append_right before behind e last) ]
+]
+
+still_there : (before behind : List IndexEntry) (new e : IndexEntry) → Contains (before ++ behind) e → Contains (before ++ new ∷ behind) e
+still_there before behind new e has = elim (Contains-append_cases before behind e has) [
+  | inl first ↦ Contains-append_left before (new ∷ behind) e first
+  | inr (k, inside, is) ↦ Contains-append_right before (new ∷ behind) e (suc k, omega arith, is)
+]
 
 -- the elements behind the gap are those from it on
 behind_gap : (entries : List IndexEntry) (place : ℕ) (entry d : IndexEntry) (k j : ℕ) → place ≤ length entries → place ≤ k → j ≡ k + 1
@@ -128,31 +134,18 @@ pub adds : (room place slot : ℕ) (entries : List IndexEntry) (page : PageId) (
     → Adds index (record { room = room; entries = insert entries place (record { page = page; slot = slot }) }) page slot
 adds room place slot entries page index is gap =
     let entry : IndexEntry = record { page = page; slot = slot } in
-    let size = length-insert entries place entry gap.inside in
-    subst (λ (known : Index). Adds known (record { room = room; entries = insert entries place entry }) page slot) is
-    (record {
+    let before = take place entries in
+    let behind = drop place entries in
+    let whole = take-append-drop place entries in
+    rw (← is) (record {
       room = refl;
-      count = size;
-      added = (place, omega (arith, size, gap.inside), get_or-insert_at entries place entry entry gap.inside);
-      kept = λ other s has. let e : IndexEntry = record { page = other; slot = s } in
-          elim (cases_lt has.0 place) [
-            | inl first ↦ (has.0, omega (arith, size, has.1), get_or-insert_below entries place entry e has.0 first gap.inside ∙ has.2)
-            | inr from ↦ (has.0 + 1, omega (arith, size, has.1), get_or-insert_above entries place entry e has.0 from gap.inside ∙ has.2)
-          ];
-      only = λ other s has. let e : IndexEntry = record { page = other; slot = s } in
-          elim (cases_lt has.0 place) [
-            | inl first ↦ inl (has.0, omega (arith, gap.inside), sym (get_or-insert_below entries place entry e has.0 first gap.inside) ∙ has.2)
-            | inr from ↦ elim (cases_eq has.0 place) [
-              | inl here ↦
-                  let same : entry ≡ e = sym (get_or-insert_at entries place entry e gap.inside) ∙ ap (λ (n : ℕ). get_or (insert entries place entry) n e) (sym here) ∙ has.2 in
-                  inr (sym (ap (λ (i : IndexEntry). i.page) same), sym (ap (λ (i : IndexEntry). i.slot) same))
-              | inr past ↦ inl (
-                has.0 - 1,
-                omega (arith, size, has.1),
-                sym (behind_gap entries place entry e (has.0 - 1) has.0 gap.inside (omega arith) (omega arith)) ∙ has.2,
-              )
-            ]
-          ];
+      count = length-insert entries place entry gap.inside;
+      added = Contains-append_right before (entry ∷ behind) entry (0, omega arith, refl);
+      kept = λ other s has. still_there before behind entry _ (subst (λ (es : List IndexEntry). Contains es (record { page = other; slot = s })) (sym whole) has);
+      only = λ other s has. elim (new_or_old before behind entry _ has) [
+        | inl same ↦ inr (sym (ap (λ (i : IndexEntry). i.page) same), sym (ap (λ (i : IndexEntry). i.slot) same))
+        | inr old ↦ inl (subst (λ (es : List IndexEntry). Contains es (record { page = other; slot = s })) whole old)
+      ];
     })
 
 -- without one of them the order stays
@@ -175,39 +168,24 @@ pub removes : (room place : ℕ) (entries : List IndexEntry) (page : PageId) (in
     → Removes index (record { room = room; entries = remove entries place }) page
 removes room place entries page index is order found =
     let size = length-remove entries place found.inside in
-    subst (λ (known : Index). Removes known (record { room = room; entries = remove entries place }) page) is
-    (record {
+    let d : IndexEntry = record { page = page; slot = 0 } in
+    let before = take place entries in
+    let behind = drop (suc place) entries in
+    let whole : before ++ get_or entries place d ∷ behind ≡ entries = ap (λ (es : List IndexEntry). before ++ es) (sym (drop-cons entries place d found.inside)) ∙ take-append-drop place entries in
+    let gap : IsGapFor (remove entries place) page place = record {
+      inside = let inside = found.inside in omega arith;
+      before = λ k e below. ap₂ (λ (i : IndexEntry) (p : PageId). page_cmp i.page p) (get_or-remove_below entries place e k below found.inside) (sym (found.named e))
+          ∙ order k place e below found.inside;
+      behind = λ k e from within. ap₂ (λ (p : PageId) (i : IndexEntry). page_cmp p i.page) (sym (found.named e)) (get_or-remove_above entries place e k from found.inside)
+          ∙ order place (k + 1) e (omega arith) (omega arith);
+    } in
+    rw (← is) (record {
       room = refl;
       count = size;
-      gone = λ s has. let e : IndexEntry = record { page = page; slot = s } in
-          elim (cases_lt has.0 place) [
-            | inl first ↦
-                let at : (get_or entries has.0 e).page ≡ page
-                = ap (λ (i : IndexEntry). i.page) (sym (get_or-remove_below entries place e has.0 first found.inside) ∙ has.2) in
-                let same = one_place entries has.0 place e order (omega arith) found.inside (at ∙ sym (found.named e)) in
-                omega (arith, same)
-            | inr last ↦
-                let at : (get_or entries (has.0 + 1) e).page ≡ page
-                = ap (λ (i : IndexEntry). i.page) (sym (get_or-remove_above entries place e has.0 last found.inside) ∙ has.2) in
-                let same = one_place entries (has.0 + 1) place e order (omega (arith, size, has.1)) found.inside (at ∙ sym (found.named e)) in
-                omega (arith, same)
-          ];
-      kept = λ other s apart has. let e : IndexEntry = record { page = other; slot = s } in
-          elim (cases_lt has.0 place) [
-            | inl first ↦ (has.0, omega (arith, size), get_or-remove_below entries place e has.0 first found.inside ∙ has.2)
-            | inr from ↦ elim (cases_eq has.0 place) [
-              | inl here ↦ absurd (apart (sym (ap (λ (i : IndexEntry). i.page) has.2) ∙ ap (λ (n : ℕ). (get_or entries n e).page) here ∙ found.named e))
-              | inr past ↦
-                  let back : has.0 - 1 + 1 ≡ has.0 = omega arith in (
-                    has.0 - 1,
-                    omega (arith, size, has.1),
-                    get_or-remove_above entries place e (has.0 - 1) (omega arith) found.inside ∙ ap (λ (n : ℕ). get_or entries n e) back ∙ has.2,
-                  )
-            ]
-          ];
-      only = λ other s has. let e : IndexEntry = record { page = other; slot = s } in
-          elim (cases_lt has.0 place) [
-            | inl first ↦ (has.0, omega (arith, found.inside), sym (get_or-remove_below entries place e has.0 first found.inside) ∙ has.2)
-            | inr last ↦ (has.0 + 1, omega (arith, size, has.1), sym (get_or-remove_above entries place e has.0 last found.inside) ∙ has.2)
-          ];
+      gone = no_slot (record { room = room; entries = remove entries place }) page place gap;
+      kept = λ other s apart has. elim (new_or_old before behind (get_or entries place d) _ (subst (λ (es : List IndexEntry). Contains es (record { page = other; slot = s })) (sym whole) has)) [
+        | inl same ↦ absurd (apart (sym (ap (λ (i : IndexEntry). i.page) same) ∙ found.named d))
+        | inr old ↦ old
+      ];
+      only = λ other s has. subst (λ (es : List IndexEntry). Contains es (record { page = other; slot = s })) whole (still_there before behind (get_or entries place d) _ has);
     })

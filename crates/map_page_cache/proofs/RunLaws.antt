@@ -1,228 +1,120 @@
 -- Over a run of calls: what the pages are, and that what isn't durable is kept.
-use Rattle.std.specs.Prelude.{ℕ, suc, zero, ◌≡◌, ◌≢◌, ◌<◌, ◌≤◌, ◌⊎◌, List, [], ◌∷◌, ◌++◌, length, All, refl}
-use Rattle.std.proofs.Common.{ap, ◌∙◌, sym, subst, arith, get_or, set, inl, inr, length-append}
-use Rattle.std.proofs.Math.Seq.{get_or-append_seam}
-use Rattle.std.proofs.lemmas.Bool.{cases_eq, cases_lt}
-use Rattle.std.proofs.lemmas.List.{get_or-set_same, get_or-set_other, length-set, get_or_append_left, get_or_default}
+use Rattle.std.specs.Prelude.{ℕ, ◌≡◌, ◌≢◌, ◌<◌, ◌≤◌, ◌⊎◌, ◌↔◌, List, [], ◌∷◌, length, All, Contains, refl}
+use Rattle.std.proofs.Common.{ap, ◌∙◌, sym, subst, arith, get_or, set, inl, inr}
+use Rattle.std.proofs.lemmas.Bool.{cases_eq}
+use Rattle.std.proofs.lemmas.List.{get_or_default, length-set}
+use Rattle.std.proofs.lemmas.List.Elements.{Contains-push_cases}
 use Rattle.blk_base.specs.declared.place.PageId.{PageId}
-use Rattle.blk_base.specs.declared.place.Mapping.{Mapping}
 use Rattle.blk_base.specs.declared.point.Point.{Point}
 use Rattle.blk_base.proofs.PageIdLaws.{same_or_not}
 use Rattle.page_codec.specs.declared.forms.MapPage.{MapPage}
 use Rattle.dirty_pages.specs.declared.marks.Marks.{Marks}
-use Rattle.dirty_pages.specs.Marks.{HasPoint, IsLowPoint, AreClean, clean, marks_at, with_marks, changed_at, handed_out, settled}
-use Rattle.dirty_pages.specs.History.{Changed, HandedOut, Written, IsUnwritten, IsUnreported, Becomes, IsAfter}
-use Rattle.dirty_pages.proofs.MarkLaws.{changed_here, changed_elsewhere, due_inside}
+use Rattle.dirty_pages.specs.Marks.{IsLowPoint, AreClean, clean, marks_at, with_marks, changed_at, handed_out, settled}
+use Rattle.dirty_pages.specs.History.{IsUnwritten, IsUnreported, IsAfter}
+use Rattle.dirty_pages.proofs.MarkLaws.{changed_here, changed_elsewhere}
+use Rattle.dirty_pages.proofs.PageLists.{at_set, listed_or_not}
 use Rattle.dirty_pages.proofs.HistoryLaws as dirty
-use Rattle.map_page_cache.specs.CachedPages.{CachedPages, IsCache, IsPageOf, IsThere, IsAbsent, with_mapping, Sets, Expires, IsWriting, Writes}
+use Rattle.map_page_cache.specs.CachedPages.{CachedPages, IsCache, AreApart, IsThere, IsAbsent, with_mapping, Expires, IsWriting}
 use Rattle.map_page_cache.specs.Frames.{IsAt}
 use Rattle.map_page_cache.specs.Runs.{Call, Install, Set, HandOut, Write, Leads, LeadTo, IsContent, events_of}
-use Rattle.map_page_cache.proofs.FrameLaws.{page_in, at_by}
-use Rattle.map_page_cache.proofs.CacheLaws.{at_there, in_at, one_frame, absent_at}
-
--- the page is in a frame with these marks, or isn't there and has none
-abbrev HasMarks : CachedPages → PageId → Marks → Type 0
-HasMarks cache page marks = ((frame : ℕ) × IsAt cache.pages page frame × (marks ≡ marks_at cache.marks frame)) ⊎ (IsAbsent cache page × (marks ≡ clean))
+use Rattle.map_page_cache.proofs.FrameLaws.{at_by, one_page, one_frame, absent_at, none_absent, set_at, set_other, same_frames, push_at, push_old}
+use Rattle.map_page_cache.proofs.CacheLaws.{there_at, in_at, content_at, being_written}
 
 in_or_absent : (pages : List MapPage) (page : PageId) → ((frame : ℕ) × IsAt pages page frame) ⊎ All (λ content. content.head.page ≢ page) pages
-in_or_absent [] page = inr (λ k d inside. absurd (omega arith))
-in_or_absent (content ∷ pages) page =
-    elim (same_or_not content.head.page page) [
-      | inl here ↦ inl (0, record { inside = omega arith; named = λ d. here })
-      | inr other ↦ elim (in_or_absent pages page) [
-        | inl behind ↦ inl (suc behind.0, record { inside = let i = behind.1.inside in omega arith; named = λ d. behind.1.named d })
-        | inr absent ↦ inr (not_here content pages page other absent)
-      ]
-    ]
-  where
-    not_here : (content : MapPage) (pages : List MapPage) (page : PageId) → content.head.page ≢ page → All (λ c. c.head.page ≢ page) pages
-        → All (λ c. c.head.page ≢ page) (content ∷ pages)
-    not_here content pages page other absent zero d inside = other
-    not_here content pages page other absent (suc k) d inside = absent k d (omega arith)
-
-has_marks : (cache : CachedPages) (page : PageId) → (marks : Marks) × HasMarks cache page marks
-has_marks cache page = elim (in_or_absent cache.pages page) [
-  | inl there ↦ (marks_at cache.marks there.0, inl (there.0, there.1, refl))
-  | inr absent ↦ (clean, inr (absent, refl))
+in_or_absent pages page = elim (listed_or_not (λ (c : MapPage). c.head.page) pages page) [
+  | inl there ↦ inl (there.1.0, at_by pages page there.1.0 there.0 there.1.1 (ap (λ (c : MapPage). c.head.page) there.1.2 ∙ there.2))
+  | inr absent ↦ inr absent
 ]
 
-one_marks : (cache : CachedPages) (page : PageId) (frame : ℕ) (marks : Marks) → IsCache cache → IsAt cache.pages page frame → HasMarks cache page marks
-    → marks ≡ marks_at cache.marks frame
-one_marks cache page frame marks form at (inl has) = has.2 ∙ ap (λ (k : ℕ). marks_at cache.marks k) (one_frame cache.pages page has.0 frame form.apart has.1 at)
-one_marks cache page frame marks form at (inr none) = absurd (absent_at cache.pages page none.0 frame at)
+-- the frame of a page, or for one that isn't there the first empty one, whose marks are clean
+abbrev place_by : (pages : List MapPage) (page : PageId) → ((frame : ℕ) × IsAt pages page frame) ⊎ All (λ content. content.head.page ≢ page) pages → ℕ
+place_by pages page (inl there) = there.0
+place_by pages page (inr absent) = length pages
 
--- what is there after a page was pushed or set
-pushed_there : (pages : List MapPage) (new content : MapPage) (k : ℕ) → k < length (pages ++ new ∷ []) → get_or (pages ++ new ∷ []) k content ≡ content
-    → ((k ≡ length pages) × (content ≡ new)) ⊎ ((k < length pages) × (get_or pages k content ≡ content))
-pushed_there pages new content k inside is =
-    let size = length-append pages (new ∷ []) in
-    elim (cases_lt k (length pages)) [
-      | inl old ↦ inr (old, sym (get_or_append_left pages (new ∷ []) content k old) ∙ is)
-      | inr last ↦ let here : k ≡ length pages = omega arith in
-          inl (here, sym is ∙ ap (λ (n : ℕ). get_or (pages ++ new ∷ []) n content) here ∙ get_or-append_seam pages new [] content)
+abbrev place_of : List MapPage → PageId → ℕ
+place_of pages page = place_by pages page (in_or_absent pages page)
+
+abbrev marks_of : CachedPages → PageId → Marks
+marks_of cache page = marks_at cache.marks (place_of cache.pages page)
+
+at_place : (pages : List MapPage) (page : PageId) (frame : ℕ) → AreApart pages → IsAt pages page frame → place_of pages page ≡ frame
+at_place pages page frame apart at = by_place pages page frame (in_or_absent pages page) apart at
+  where
+    by_place : (pages : List MapPage) (page : PageId) (frame : ℕ) (known : ((k : ℕ) × IsAt pages page k) ⊎ All (λ content. content.head.page ≢ page) pages)
+        → AreApart pages → IsAt pages page frame → place_by pages page known ≡ frame
+    by_place pages page frame (inl there) apart at = one_frame pages page there.0 frame apart there.1 at
+    by_place pages page frame (inr absent) apart at = absurd (absent_at pages page absent frame at)
+
+no_place : (pages : List MapPage) (page : PageId) → All (λ content. content.head.page ≢ page) pages → place_of pages page ≡ length pages
+no_place pages page absent = by_none pages page (in_or_absent pages page) absent
+  where
+    by_none : (pages : List MapPage) (page : PageId) (known : ((k : ℕ) × IsAt pages page k) ⊎ All (λ content. content.head.page ≢ page) pages)
+        → All (λ content. content.head.page ≢ page) pages → place_by pages page known ≡ length pages
+    by_none pages page (inl there) absent = absurd (absent_at pages page absent there.0 there.1)
+    by_none pages page (inr none) absent = refl
+
+at_marks : (cache : CachedPages) (page : PageId) (frame : ℕ) → IsCache cache → IsAt cache.pages page frame → marks_of cache page ≡ marks_at cache.marks frame
+at_marks cache page frame form at = ap (λ (k : ℕ). marks_at cache.marks k) (at_place cache.pages page frame form.apart at)
+
+no_marks : (cache : CachedPages) (page : PageId) → IsCache cache → IsAbsent cache page → marks_of cache page ≡ clean
+no_marks cache page form absent = ap (λ (k : ℕ). marks_at cache.marks k) (no_place cache.pages page absent) ∙ form.empty (length cache.pages) (omega arith)
+
+-- a page comes to a frame whose marks are clean
+placed : (old new : CachedPages) (place : ℕ) (fresh page : PageId) → IsCache old → IsCache new → IsAbsent old fresh → new.marks ≡ old.marks → marks_at old.marks place ≡ clean
+    → ((k : ℕ) → IsAt new.pages page k → ((k ≡ place) × (fresh ≡ page)) ⊎ ((k ≢ place) × IsAt old.pages page k))
+    → ((k : ℕ) → k ≢ place → IsAt old.pages page k → IsAt new.pages page k) → marks_of new page ≡ marks_of old page
+placed old new place fresh page form form' absent same is_clean split stays = elim (in_or_absent new.pages page) [
+  | inl there ↦ at_marks new page there.0 form' there.1 ∙ ap (λ (ms : List Marks). marks_at ms there.0) same ∙ elim (split there.0 there.1) [
+    | inl here ↦ ap (λ (k : ℕ). marks_at old.marks k) here.0 ∙ is_clean ∙ sym (no_marks old page form (subst (λ (p : PageId). IsAbsent old p) here.1 absent))
+    | inr before ↦ sym (at_marks old page there.0 form before.1)
+  ]
+  | inr none ↦ no_marks new page form' none ∙ sym (elim (in_or_absent old.pages page) [
+    | inl there ↦ at_marks old page there.0 form there.1 ∙ elim (cases_eq there.0 place) [
+      | inl here ↦ ap (λ (k : ℕ). marks_at old.marks k) here ∙ is_clean
+      | inr apart ↦ absurd (absent_at new.pages page none there.0 (stays there.0 apart there.1))
     ]
-
-set_there : (pages : List MapPage) (place : ℕ) (new content : MapPage) (k : ℕ) → place < length pages → k < length (set pages place new) → get_or (set pages place new) k content ≡ content
-    → ((k ≡ place) × (content ≡ new)) ⊎ ((k ≢ place) × (k < length pages) × (get_or pages k content ≡ content))
-set_there pages place new content k within inside is =
-    let size = length-set pages place new in
-    elim (cases_eq k place) [
-      | inl here ↦ inl (here, sym is ∙ ap (λ (n : ℕ). get_or (set pages place new) n content) here ∙ get_or-set_same pages place new content within)
-      | inr apart ↦ inr (apart, omega arith, sym (get_or-set_other pages place k new content apart) ∙ is)
-    ]
-
--- the pages of a list of which one is replaced
-set_at : (pages : List MapPage) (place k : ℕ) (content : MapPage) (page : PageId) → place < length pages → IsAt (set pages place content) page k
-    → ((k ≡ place) × (content.head.page ≡ page)) ⊎ ((k ≢ place) × IsAt pages page k)
-set_at pages place k content page inside at =
-    let found = get_or (set pages place content) k content in
-    elim (set_there pages place content found k inside at.inside (get_or_default (set pages place content) k found content at.inside)) [
-      | inl here ↦ inl (here.0, ap (λ (c : MapPage). c.head.page) (sym here.1) ∙ at.named content)
-      | inr before ↦ inr (before.0, at_by pages page k found before.1 (ap (λ (c : MapPage). c.head.page) before.2 ∙ at.named content))
-    ]
-
-set_other : (pages : List MapPage) (place k : ℕ) (content : MapPage) (page : PageId) → k ≢ place → IsAt pages page k → IsAt (set pages place content) page k
-set_other pages place k content page apart at = record {
-  inside = let size = length-set pages place content in let inside = at.inside in omega arith;
-  named = λ d. ap (λ (c : MapPage). c.head.page) (get_or-set_other pages place k content d apart) ∙ at.named d;
-}
-
-set_here : (pages : List MapPage) (place : ℕ) (content : MapPage) (page : PageId) → place < length pages → content.head.page ≡ page → IsAt (set pages place content) page place
-set_here pages place content page inside named = record {
-  inside = let size = length-set pages place content in omega arith;
-  named = λ d. ap (λ (c : MapPage). c.head.page) (get_or-set_same pages place content d inside) ∙ named;
-}
-
-push_at : (pages : List MapPage) (k : ℕ) (content : MapPage) (page : PageId) → IsAt (pages ++ content ∷ []) page k
-    → ((k ≡ length pages) × (content.head.page ≡ page)) ⊎ IsAt pages page k
-push_at pages k content page at =
-    let found = get_or (pages ++ content ∷ []) k content in
-    elim (pushed_there pages content found k at.inside (get_or_default (pages ++ content ∷ []) k found content at.inside)) [
-      | inl here ↦ inl (here.0, ap (λ (c : MapPage). c.head.page) (sym here.1) ∙ at.named content)
-      | inr before ↦ inr (at_by pages page k found before.0 (ap (λ (c : MapPage). c.head.page) before.1 ∙ at.named content))
-    ]
-
-push_old : (pages : List MapPage) (k : ℕ) (content : MapPage) (page : PageId) → IsAt pages page k → IsAt (pages ++ content ∷ []) page k
-push_old pages k content page at = record {
-  inside = let size = length-append pages (content ∷ []) in let inside = at.inside in omega arith;
-  named = λ d. ap (λ (c : MapPage). c.head.page) (get_or_append_left pages (content ∷ []) d k at.inside) ∙ at.named d;
-}
-
--- a page that is in no frame isn't there
-none_absent : (pages : List MapPage) (page : PageId) → ((frame : ℕ) → IsAt pages page frame → ⊥) → All (λ content. content.head.page ≢ page) pages
-none_absent pages page none k d inside named = none k (at_by pages page k d inside named)
+    | inr before ↦ no_marks old page form before
+  ])
+]
 
 -- an installed page has no marks, and neither had the page that was given up for it
-installed : (old new : CachedPages) (content : MapPage) (page : PageId) (marks : Marks) → IsCache old → Leads old (Install content) new → HasMarks new page marks
-    → HasMarks old page marks
-installed old new content page marks form (absent, inl fills) has = elim (subst (λ (c : CachedPages). HasMarks c page marks) fills.after has) [
-  | inl there ↦ elim (push_at old.pages there.0 content page there.1) [
-    | inl here ↦ inr (
-      subst (λ (p : PageId). IsAbsent old p) here.1 absent,
-      there.2 ∙ form.empty there.0 (let h = here.0 in omega arith),
-    )
-    | inr before ↦ inl (there.0, before, there.2)
-  ]
-  | inr none ↦ inr (
-    none_absent old.pages page (λ frame at. absent_at (old.pages ++ content ∷ []) page none.0 frame (push_old old.pages frame content page at)),
-    none.1,
-  )
-]
-installed old new content page marks form (absent, inr gives) has = elim (subst (λ (c : CachedPages). HasMarks c page marks) gives.after has) [
-  | inl there ↦ elim (set_at old.pages gives.frame there.0 content page gives.inside there.1) [
-    | inl here ↦ inr (
-      subst (λ (p : PageId). IsAbsent old p) here.1 absent,
-      there.2 ∙ ap (λ (k : ℕ). marks_at old.marks k) here.0 ∙ gives.clean,
-    )
-    | inr before ↦ inl (there.0, before.1, there.2)
-  ]
-  | inr none ↦ elim (in_or_absent old.pages page) [
-    | inl before ↦ elim (cases_eq before.0 gives.frame) [
-      | inl here ↦ inl (before.0, before.1, none.1 ∙ sym (ap (λ (k : ℕ). marks_at old.marks k) here ∙ gives.clean))
-      | inr apart ↦ absurd (absent_at (set old.pages gives.frame content) page none.0 before.0 (set_other old.pages gives.frame before.0 content page apart before.1))
-    ]
-    | inr before ↦ inr (before, none.1)
-  ]
-]
+installed : (old new : CachedPages) (content : MapPage) (page : PageId) → IsCache old → IsCache new → Leads old (Install content) new → marks_of new page ≡ marks_of old page
+installed old new content page form form' (absent, inl fills) =
+    placed old new (length old.pages) content.head.page page form form' absent (ap (λ (c : CachedPages). c.marks) fills.after) (form.empty (length old.pages) (omega arith))
+    (λ k at. push_at old.pages k content page (subst (λ (c : CachedPages). IsAt c.pages page k) fills.after at))
+    (λ k apart at. subst (λ (c : CachedPages). IsAt c.pages page k) (sym fills.after) (push_old old.pages k content page at))
+installed old new content page form form' (absent, inr gives) =
+    placed old new gives.frame content.head.page page form form' absent (ap (λ (c : CachedPages). c.marks) gives.after) gives.clean
+    (λ k at. set_at old.pages gives.frame k content page gives.inside (subst (λ (c : CachedPages). IsAt c.pages page k) gives.after at))
+    (λ k apart at. subst (λ (c : CachedPages). IsAt c.pages page k) (sym gives.after) (set_other old.pages gives.frame k content page apart at))
 
 -- a call that changes the marks of one page, and moves none
-marked : (old : CachedPages) (pages : List MapPage) (changed : PageId) (place : ℕ) (change : Marks → Marks) (page : PageId) (marks : Marks) → IsCache old
-    → IsAt old.pages changed place → ((other : PageId) (frame : ℕ) → IsAt pages other frame → IsAt old.pages other frame)
-    → ((other : PageId) (frame : ℕ) → IsAt old.pages other frame → IsAt pages other frame)
-    → HasMarks (record old { pages = pages; marks = with_marks old.marks place change }) page marks
-    → (before : Marks) × HasMarks old page before
-    × (((changed ≡ page) × (before ≡ marks_at old.marks place) × (marks ≡ change before)) ⊎ ((changed ≢ page) × (marks ≡ before)))
-marked old pages changed place change page marks form at back on (inl there) =
-    let before = back page there.0 there.1 in
+marked : (old new : CachedPages) (changed : PageId) (place : ℕ) (change : Marks → Marks) (page : PageId) → IsCache old → IsCache new → IsAt old.pages changed place
+    → ((other : PageId) (frame : ℕ) → IsAt old.pages other frame ↔ IsAt new.pages other frame) → new.marks ≡ with_marks old.marks place change
+    → ((changed ≡ page) × (marks_of new page ≡ change (marks_of old page))) ⊎ ((changed ≢ page) × (marks_of new page ≡ marks_of old page))
+marked old new changed place change page form form' at stay are =
     let size = form.marks in
     let fits = form.fits in
     let inside = at.inside in
-    elim (cases_eq there.0 place) [
-      | inl here ↦
-          let d = page_in old.pages place at.inside in
-          let same : changed ≡ page = sym (at.named d) ∙ ap (λ (k : ℕ). (get_or old.pages k d).head.page) (sym here) ∙ before.named d in (
-            marks_at old.marks place,
-            inl (place, subst (λ (p : PageId). IsAt old.pages p place) same at, refl),
-            inl (
-              same,
-              refl,
-              there.2 ∙ ap (λ (k : ℕ). marks_at (with_marks old.marks place change) k) here ∙ changed_here old.marks place change (omega arith),
-            ),
+    elim (same_or_not changed page) [
+      | inl same ↦
+          let own = subst (λ (p : PageId). IsAt old.pages p place) same at in
+          inl (
+            same,
+            at_marks new page place form' ((stay page place).0 own) ∙ ap (λ (ms : List Marks). marks_at ms place) are
+                ∙ changed_here old.marks place change (omega arith) ∙ ap change (sym (at_marks old page place form own)),
           )
-      | inr apart ↦ (
-        marks_at old.marks there.0,
-        inl (there.0, before, refl),
-        inr (
-          (λ same. apart (one_frame old.pages page there.0 place form.apart before (subst (λ (p : PageId). IsAt old.pages p place) same at))),
-          there.2 ∙ changed_elsewhere old.marks place there.0 change apart,
-        ),
+      | inr apart ↦ inr (
+        apart,
+        elim (in_or_absent old.pages page) [
+          | inl there ↦ at_marks new page there.0 form' ((stay page there.0).0 there.1) ∙ ap (λ (ms : List Marks). marks_at ms there.0) are
+              ∙ changed_elsewhere old.marks place there.0 change (λ here. apart (one_page old.pages changed page place at (subst (λ (k : ℕ). IsAt old.pages page k) here there.1)))
+              ∙ sym (at_marks old page there.0 form there.1)
+          | inr none ↦ no_marks new page form' (none_absent new.pages page (λ frame now. absent_at old.pages page none frame ((stay page frame).1 now)))
+              ∙ sym (no_marks old page form none)
+        ],
       )
     ]
-marked old pages changed place change page marks form at back on (inr none) = (
-  clean,
-  inr (none_absent old.pages page (λ frame before. absent_at pages page none.0 frame (on page frame before)), refl),
-  inr ((λ same. absent_at pages page none.0 place (on page place (subst (λ (p : PageId). IsAt old.pages p place) same at))), none.1),
-)
-
-entered : (old new : CachedPages) (changed : PageId) (slot : ℕ) (mapping : Mapping) (point : Point) (page : PageId) (marks : Marks) → IsCache old
-    → Sets old new changed slot mapping point → HasMarks new page marks → (before : Marks) × HasMarks old page before × Becomes (Changed changed point) page before marks
-entered old new changed slot mapping point page marks form sets has =
-    let content = with_mapping slot mapping sets.content in
-    let at = in_at old changed sets.frame sets.content sets.stood in
-    let known = marked old (set old.pages sets.frame content) changed sets.frame (changed_at point) page marks form at
-    (λ other frame there. elim (set_at old.pages sets.frame frame content other sets.stood.inside there) [
-      | inl here ↦ subst (λ (k : ℕ). IsAt old.pages other k) (sym here.0) (subst (λ (p : PageId). IsAt old.pages p sets.frame) (sym sets.stood.named ∙ here.1) at)
-      | inr before ↦ before.1
-    ])
-    (λ other frame there. elim (cases_eq frame sets.frame) [
-      | inl here ↦
-          let at' = subst (λ (k : ℕ). IsAt old.pages other k) here there in
-          let same : content.head.page ≡ other = sets.stood.named ∙ sym (at.named content) ∙ at'.named content in
-          subst (λ (k : ℕ). IsAt (set old.pages sets.frame content) other k) (sym here) (set_here old.pages sets.frame content other sets.stood.inside same)
-      | inr apart ↦ set_other old.pages sets.frame frame content other apart there
-    ])
-    (subst (λ (c : CachedPages). HasMarks c page marks) sets.after has) in
-    (known.0, known.1, elim known.2 [ inl this ↦ inl (this.0, this.2) | inr none ↦ inr none ])
-
-expired : (old new : CachedPages) (out : PageId) (point : Point) (copy : MapPage) (page : PageId) (marks : Marks) → IsCache old
-    → Expires old new point out copy → HasMarks new page marks → (before : Marks) × HasMarks old page before × Becomes (HandedOut out) page before marks
-expired old new out point copy page marks form expires has =
-    let known = marked old old.pages out expires.frame handed_out page marks form (in_at old out expires.frame copy expires.stood) (λ other frame there. there) (λ other frame there. there)
-    (subst (λ (c : CachedPages). HasMarks c page marks) (expires.after ∙ ap (λ (ms : List Marks). record old { marks = ms }) expires.marks.after) has) in (
-      known.0,
-      known.1,
-      elim known.2 [
-        | inl this ↦ inl (this.0, ap (λ (m : Marks). m.writing) this.1 ∙ expires.marks.due.idle, this.2)
-        | inr none ↦ inr none
-      ],
-    )
-
-reported : (old new : CachedPages) (out page : PageId) (marks : Marks) → IsCache old → Writes old new out → HasMarks new page marks
-    → (before : Marks) × HasMarks old page before × Becomes (Written out) page before marks
-reported old new out page marks form writes has =
-    let known = marked old old.pages out writes.frame settled page marks form (in_at old out writes.frame writes.content writes.stood) (λ other frame there. there) (λ other frame there. there)
-    (subst (λ (c : CachedPages). HasMarks c page marks) writes.after has) in
-    (known.0, known.1, elim known.2 [ inl this ↦ inl (this.0, this.2) | inr none ↦ inr none ])
 
 call_keeps : (old new : CachedPages) (call : Call) → Leads old call new → IsCache new
 call_keeps old new (Install content) leads = elim leads.1 [ inl fills ↦ fills.form | inr gives ↦ gives.form ]
@@ -235,93 +127,71 @@ calls_keep old new [] form same = subst (λ (c : CachedPages). IsCache c) (sym s
 calls_keep old new (call ∷ calls) form lead = call_keeps lead.0 new call lead.2
 
 -- the marks of a page follow from what the calls do to it
-after : (old new : CachedPages) (calls : List Call) (page : PageId) (marks : Marks) → IsCache old → LeadTo old calls new → HasMarks new page marks
-    → (before : Marks) × HasMarks old page before × IsAfter before (events_of calls) page marks
-after old new [] page marks form same has = (marks, subst (λ (c : CachedPages). HasMarks c page marks) same has, refl)
-after old new (Install content ∷ calls) page marks form lead has =
-    after old lead.0 calls page marks form lead.1 (installed lead.0 new content page marks (calls_keep old lead.0 calls form lead.1) lead.2 has)
-after old new (Set changed slot mapping point ∷ calls) page marks form lead has =
-    let step = entered lead.0 new changed slot mapping point page marks (calls_keep old lead.0 calls form lead.1) lead.2 has in
-    let past = after old lead.0 calls page step.0 form lead.1 step.1 in
-    (past.0, past.1, (step.0, past.2, step.2))
-after old new (HandOut out ∷ calls) page marks form lead has =
-    let step = expired lead.0 new out lead.2.0 lead.2.1 page marks (calls_keep old lead.0 calls form lead.1) lead.2.2 has in
-    let past = after old lead.0 calls page step.0 form lead.1 step.1 in
-    (past.0, past.1, (step.0, past.2, step.2))
-after old new (Write out ∷ calls) page marks form lead has =
-    let step = reported lead.0 new out page marks (calls_keep old lead.0 calls form lead.1) lead.2.1 has in
-    let past = after old lead.0 calls page step.0 form lead.1 step.1 in
-    (past.0, past.1, (step.0, past.2, step.2))
+marks_more : (start : Marks) (old new : CachedPages) (call : Call) (calls : List Call) (page : PageId) → IsCache old → Leads old call new
+    → IsAfter start (events_of calls) page (marks_of old page) → IsAfter start (events_of (call ∷ calls)) page (marks_of new page)
+marks_more start old new (Install content) calls page form leads past =
+    subst (λ (m : Marks). IsAfter start (events_of calls) page m) (sym (installed old new content page form (call_keeps old new (Install content) leads) leads)) past
+marks_more start old new (Set changed slot mapping point) calls page form sets past =
+    let content = with_mapping slot mapping sets.content in
+    let at = in_at old changed sets.frame sets.content sets.stood in
+    let stay = same_frames old.pages sets.frame content (subst (λ (p : PageId). IsAt old.pages p sets.frame) (sym sets.stood.named) at) in (
+      marks_of old page,
+      past,
+      marked old new changed sets.frame (changed_at point) page form sets.form at
+          (subst (λ (c : CachedPages). (other : PageId) (frame : ℕ) → IsAt old.pages other frame ↔ IsAt c.pages other frame) (sym sets.after) stay) (ap (λ (c : CachedPages). c.marks) sets.after),
+    )
+marks_more start old new (HandOut out) calls page form (point, copy, expires) past =
+    let at = in_at old out expires.frame copy expires.stood in (
+      marks_of old page,
+      past,
+      elim (marked old new out expires.frame handed_out page form expires.form at (λ other frame. subst (λ (c : CachedPages). IsAt old.pages other frame ↔ IsAt c.pages other frame) (sym expires.after) ((λ there. there), λ there. there)) expires.marks.after) [
+        | inl this ↦ inl (
+          this.0,
+          ap (λ (p : PageId). (marks_of old p).writing) (sym this.0) ∙ ap (λ (m : Marks). m.writing) (at_marks old out expires.frame form at) ∙ expires.marks.due.idle,
+          this.1,
+        )
+        | inr none ↦ inr none
+      ],
+    )
+marks_more start old new (Write out) calls page form (is, writes) past =
+    (marks_of old page, past, marked old new out writes.frame settled page form writes.form (in_at old out writes.frame writes.content writes.stood) (λ other frame. subst (λ (c : CachedPages). IsAt old.pages other frame ↔ IsAt c.pages other frame) (sym writes.after) ((λ there. there), λ there. there)) (ap (λ (c : CachedPages). c.marks) writes.after))
 
--- an entry that isn't durable: its page is in a frame whose marks have a point
-owed : (old new : CachedPages) (calls : List Call) (page : PageId) (point : Point) → IsCache old → LeadTo old calls new
-    → IsUnwritten (events_of calls) page point
-    → (frame : ℕ) × IsAt new.pages page frame × ((low : Point) × HasPoint (marks_at new.marks frame) low × (low.0 ≤ point.0))
-owed old new calls page point form lead unwritten =
-    let own = has_marks new page in
-    let past = after old new calls page own.0 form lead own.1 in
-    let has = dirty.has_point past.0 own.0 (events_of calls) page point past.2 unwritten in
-    elim own.1 [
-      | inl there ↦ (there.0, there.1, (has.0, subst (λ (m : Marks). HasPoint m has.0) there.2 has.1, has.2))
-      | inr none ↦ absurd (dirty.not_clean past.0 own.0 (events_of calls) page point past.2 unwritten none.1)
-    ]
+after : (old new : CachedPages) (calls : List Call) (page : PageId) → IsCache old → LeadTo old calls new
+    → IsAfter (marks_of old page) (events_of calls) page (marks_of new page)
+after old new [] page form same = ap (λ (c : CachedPages). marks_of c page) same
+after old new (call ∷ calls) page form lead =
+    marks_more (marks_of old page) lead.0 new call calls page (calls_keep old lead.0 calls form lead.1) lead.2 (after old lead.0 calls page form lead.1)
 
+-- an entry that isn't durable
 pub owed_is_there : (old new : CachedPages) (calls : List Call) (page : PageId) (point : Point) → IsCache old → LeadTo old calls new
     → IsUnwritten (events_of calls) page point → (content : MapPage) × IsThere new page content
 owed_is_there old new calls page point form lead unwritten =
-    let at = owed old new calls page point form lead unwritten in
-    let d = page_in new.pages at.0 at.1.inside in
-    let content = get_or new.pages at.0 d in
-    (content, at_there new page at.0 content at.1 (get_or_default new.pages at.0 d content at.1.inside))
+    elim (in_or_absent new.pages page) [
+      | inl there ↦ let found = content_at new page there.0 there.1 in (found.0, ((there.0, found.1.inside, found.1.is), found.1.named))
+      | inr none ↦ absurd (dirty.not_clean _ _ (events_of calls) page point (after old new calls page form lead) unwritten (no_marks new page (calls_keep old new calls form lead) none))
+    ]
 
 pub owed_from_low : (old new : CachedPages) (calls : List Call) (page : PageId) (point low : Point) → IsCache old → LeadTo old calls new
     → IsUnwritten (events_of calls) page point → IsLowPoint new.marks low → low.0 ≤ point.0
 owed_from_low old new calls page point low form lead unwritten is =
-    let at = owed old new calls page point form lead unwritten in
-    let least = is.least at.0 at.2.0 at.2.1 in
-    let early = at.2.2 in
-    omega arith
+    dirty.not_below (marks_of old page) new.marks (place_of new.pages page) (events_of calls) page point low (after old new calls page form lead) unwritten is
 
 pub owed_not_clean : (old new : CachedPages) (calls : List Call) (page : PageId) (point : Point) → IsCache old → LeadTo old calls new
     → IsUnwritten (events_of calls) page point → AreClean new.marks → ⊥
 owed_not_clean old new calls page point form lead unwritten are =
-    let at = owed old new calls page point form lead unwritten in
-    let none = are at.0 in
-    elim at.2.1 [ inl dirty_at ↦ cc | inr out_at ↦ cc ]
+    dirty.not_clean _ _ (events_of calls) page point (after old new calls page form lead) unwritten (are (place_of new.pages page))
 
 -- a page that was handed out is being written until it is reported
-pub is_out : (old new : CachedPages) (page : PageId) (point : Point) (copy : MapPage) → IsCache old → Expires old new point page copy → IsWriting new page
-is_out old new page point copy form expires =
-    let inside = due_inside old.marks expires.frame expires.marks.first expires.marks.due in
-    subst (λ (c : CachedPages). IsWriting c page) (sym expires.after) (record {
-      frame = expires.frame;
-      content = copy;
-      stands = record { inside = expires.stood.inside; is = expires.stood.is; named = expires.stood.named };
-      marks = record {
-        first = expires.marks.first;
-        is = ap (λ (ms : List Marks). (marks_at ms expires.frame).writing) expires.marks.after
-            ∙ ap (λ (m : Marks). m.writing) (changed_here old.marks expires.frame handed_out inside) ∙ expires.marks.due.dirty;
-      };
-    })
-
 pub still_out : (old new : CachedPages) (calls : List Call) (page : PageId) → IsCache old → LeadTo old calls new
     → IsUnreported (events_of calls) page → IsWriting old page → IsWriting new page
 still_out old new calls page form lead unreported out =
-    let own = has_marks new page in
-    let past = after old new calls page own.0 form lead own.1 in
-    let was = one_marks old page out.frame past.0 form (in_at old page out.frame out.content out.stands) past.1 in
-    let now = dirty.still_out past.0 own.0 (events_of calls) page out.marks.first past.2 unreported (ap (λ (m : Marks). m.writing) was ∙ out.marks.is) in
-    elim own.1 [
-      | inl there ↦
-          let d = page_in new.pages there.0 there.1.inside in
-          let content = get_or new.pages there.0 d in
-          record {
-            frame = there.0;
-            content = content;
-            stands = record { inside = there.1.inside; is = get_or_default new.pages there.0 content d there.1.inside; named = there.1.named d };
-            marks = record { first = out.marks.first; is = ap (λ (m : Marks). m.writing) (sym there.2) ∙ now };
-          }
-      | inr none ↦ absurd (let idle = ap (λ (m : Marks). m.writing) none.1 in cc)
+    let form' = calls_keep old new calls form lead in
+    let was = at_marks old page out.frame form (in_at old page out.frame out.content out.stands) in
+    let now = dirty.still_out _ _ (events_of calls) page out.marks.first (after old new calls page form lead) unreported (ap (λ (m : Marks). m.writing) was ∙ out.marks.is) in
+    elim (in_or_absent new.pages page) [
+      | inl there ↦ being_written new page there.0 there.1
+          (record { first = out.marks.first; is = ap (λ (m : Marks). m.writing) (sym (at_marks new page there.0 form' there.1)) ∙ now })
+      | inr none ↦ absurd (let idle = ap (λ (m : Marks). m.writing) (no_marks new page form' none) in cc)
     ]
 
 pub not_out_before : (old new : CachedPages) (page : PageId) (point : Point) (copy : MapPage) → IsCache old → Expires old new point page copy → IsWriting old page → ⊥
@@ -335,41 +205,42 @@ not_out_before old new page point copy form expires out =
 -- a page has one content
 pub one_content : (cache : CachedPages) (page : PageId) (content other : MapPage) → IsCache cache → IsThere cache page content → IsThere cache page other → content ≡ other
 one_content cache page content other form there there' =
-    let at = at_by cache.pages page there.0.0 content there.0.1 (ap (λ (c : MapPage). c.head.page) there.0.2 ∙ there.1) in
-    let at' = at_by cache.pages page there'.0.0 other there'.0.1 (ap (λ (c : MapPage). c.head.page) there'.0.2 ∙ there'.1) in
-    let same = one_frame cache.pages page there.0.0 there'.0.0 form.apart at at' in
+    let same = one_frame cache.pages page there.0.0 there'.0.0 form.apart (there_at cache page content there) (there_at cache page other there') in
     sym there.0.2 ∙ ap (λ (k : ℕ). get_or cache.pages k content) same ∙ get_or_default cache.pages there'.0.0 content other there'.0.1 ∙ there'.0.2
 
-pub content_held : (cache : CachedPages) (page : PageId) (content : MapPage) → IsCache cache → IsThere cache page content → IsPageOf cache.geometry content
-content_held cache page content form there = subst (λ (c : MapPage). IsPageOf cache.geometry c) there.0.2 (form.each there.0.0 content there.0.1)
+contains-set : (pages : List MapPage) (place : ℕ) (new content : MapPage) → place < length pages → (there : Contains (set pages place new) content)
+    → (new ≡ content) ⊎ ((there.0 ≢ place) × (there.0 < length pages) × (get_or pages there.0 content ≡ content))
+contains-set pages place new content inside there =
+    let size = length-set pages place new in
+    elim (at_set pages place there.0 new content inside) [
+      | inl here ↦ inl (sym here.1 ∙ there.2)
+      | inr apart ↦ inr (apart.0, omega (arith, there.1), sym apart.1 ∙ there.2)
+    ]
 
 content_step : (start old new : CachedPages) (calls : List Call) (call : Call) (page : PageId) (content : MapPage) → IsCache old → Leads old call new
     → ((before : MapPage) → IsThere old page before → IsContent start calls page before) → IsThere new page content → IsContent start (call ∷ calls) page content
 content_step start old new calls (Install from) page content form (absent, inl fills) known there =
     let there' = subst (λ (c : CachedPages). IsThere c page content) fills.after there in
-    elim (pushed_there old.pages from content there'.0.0 there'.0.1 there'.0.2) [
-      | inl here ↦ inl (ap (λ (c : MapPage). c.head.page) (sym here.1) ∙ there'.1, here.1)
-      | inr before ↦ inr ((λ same. absent there'.0.0 content before.0 (ap (λ (c : MapPage). c.head.page) before.1 ∙ there'.1 ∙ sym same)), known content ((there'.0.0, before.0, before.1), there'.1))
+    elim (Contains-push_cases old.pages from content there'.0) [
+      | inl before ↦ inr ((λ same. absent before.0 content before.1 (ap (λ (c : MapPage). c.head.page) before.2 ∙ there'.1 ∙ sym same)), known content (before, there'.1))
+      | inr new' ↦ inl (ap (λ (c : MapPage). c.head.page) new' ∙ there'.1, sym new')
     ]
 content_step start old new calls (Install from) page content form (absent, inr gives) known there =
-    let there' = subst (λ (c : CachedPages). IsThere c page content) gives.after there in
-    elim (set_there old.pages gives.frame from content there'.0.0 gives.inside there'.0.1 there'.0.2) [
-      | inl here ↦ inl (ap (λ (c : MapPage). c.head.page) (sym here.1) ∙ there'.1, here.1)
-      | inr before ↦ inr (
-        (λ same. absent there'.0.0 content before.1 (ap (λ (c : MapPage). c.head.page) before.2 ∙ there'.1 ∙ sym same)),
-        known content ((there'.0.0, before.1, before.2), there'.1),
-      )
+    let (there', named) = subst (λ (c : CachedPages). IsThere c page content) gives.after there in
+    elim (contains-set old.pages gives.frame from content gives.inside there') [
+      | inl here ↦ inl (ap (λ (c : MapPage). c.head.page) here ∙ named, sym here)
+      | inr before ↦ inr ((λ same. absent there'.0 content before.1 (ap (λ (c : MapPage). c.head.page) before.2 ∙ named ∙ sym same)), known content ((there'.0, before.1, before.2), named))
     ]
 content_step start old new calls (Set changed slot mapping point) page content form sets known there =
-    let there' = subst (λ (c : CachedPages). IsThere c page content) sets.after there in
-    elim (set_there old.pages sets.frame (with_mapping slot mapping sets.content) content there'.0.0 sets.stood.inside there'.0.1 there'.0.2) [
+    let (there', named) = subst (λ (c : CachedPages). IsThere c page content) sets.after there in
+    elim (contains-set old.pages sets.frame (with_mapping slot mapping sets.content) content sets.stood.inside there') [
       | inl here ↦
-          let same : changed ≡ page = sym sets.stood.named ∙ ap (λ (c : MapPage). c.head.page) (sym here.1) ∙ there'.1 in
-          inl (same, (sets.content, known sets.content ((sets.frame, sets.stood.inside, sets.stood.is), sets.stood.named ∙ same), here.1))
+          let same : changed ≡ page = sym sets.stood.named ∙ ap (λ (c : MapPage). c.head.page) here ∙ named in
+          inl (same, (sets.content, known sets.content ((sets.frame, sets.stood.inside, sets.stood.is), sets.stood.named ∙ same), sym here))
       | inr before ↦ inr (
-        (λ same. before.0 (one_frame old.pages page there'.0.0 sets.frame form.apart (at_by old.pages page there'.0.0 content before.1 (ap (λ (c : MapPage). c.head.page) before.2 ∙ there'.1))
+        (λ same. before.0 (one_frame old.pages page there'.0 sets.frame form.apart (there_at old page content ((there'.0, before.1, before.2), named))
             (subst (λ (p : PageId). IsAt old.pages p sets.frame) same (in_at old changed sets.frame sets.content sets.stood)))),
-        known content ((there'.0.0, before.1, before.2), there'.1),
+        known content ((there'.0, before.1, before.2), named),
       )
     ]
 content_step start old new calls (HandOut out) page content form leads known there = known content (subst (λ (c : CachedPages). IsThere c page content) leads.2.after there)

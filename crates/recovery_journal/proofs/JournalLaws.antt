@@ -289,10 +289,7 @@ module _ (log : Log) (zone : ℕ) (point : Point) (count : ℕ) (kept : IsKept l
 pub kept_sealed_as : (log : Log) (left seen : List Entry) (es : List CommittedEntry) → IsKept log → 0 < length log.filling → length log.filling ≤ 192 → log.sequence ≤ log.committed
     → left ≡ [] → seen ≡ log.filling → es ≡ log.entries ++ placed log.sequence 0 seen
     → IsKept (record log { sequence = log.sequence + 1; filling = left; entries = es })
-kept_sealed_as log left seen es kept waits few written empty same added =
-    let now : es ≡ log.entries ++ placed log.sequence 0 log.filling = added ∙ ap (λ (fs : List Entry). log.entries ++ placed log.sequence 0 fs) same in
-    subst (λ (l : List Entry). IsKept (record log { sequence = log.sequence + 1; filling = l; entries = es })) (sym empty)
-    (subst (λ (l : List CommittedEntry). IsKept (record log { sequence = log.sequence + 1; filling = []; entries = l })) (sym now) (kept_sealed log kept waits few written))
+kept_sealed_as log left seen es kept waits few written empty same added = rw (empty, added, same) (kept_sealed log kept waits few written)
 
 pub found_as : (log now : Log) (zone : ℕ) (point : Point) (count : ℕ) (seen : List Point) → log ≡ now → seen ≡ raised log.marks zone point
     → zone < length now.marks → IsBehind now point → count ≤ length log.entries
@@ -308,9 +305,7 @@ found_as log now zone point count seen is risen inside behind few durable next =
 
 pub advanced_as : (log : Log) (zone : ℕ) (point : Point) (count : ℕ) (marks : List Point) (es : List CommittedEntry) → marks ≡ raised log.marks zone point → es ≡ drop count log.entries
     → record log { entries = es; handed = log.handed - count; marks = marks } ≡ advanced log zone point count
-advanced_as log zone point count marks es risen left =
-    ap (λ (ms : List Point). record log { entries = es; handed = log.handed - count; marks = ms }) risen
-    ∙ ap (λ (l : List CommittedEntry). record log { entries = l; handed = log.handed - count; marks = raised log.marks zone point }) left
+advanced_as log zone point count marks es risen left = rw (risen, left)
 
 -- the entries before the first that some zone needs, as code finds it
 
@@ -348,7 +343,7 @@ needed_next marks es first found = λ k d inside.
 pub block_held : (log : Log) (head : ℕ) (entries : List Entry) → IsKept log → 0 < length log.filling → length log.filling ≤ 192 → head ≡ head_of log → entries ≡ log.filling
     → HoldsBlock log.sequence head entries
 block_held log head entries kept waits few head_is same =
-    subst (λ (es : List Entry). HoldsBlock log.sequence head es) (sym same) (record {
+    rw same (record {
       named = (omega (arith, kept.first, kept.committed.0), kept.number_filling waits);
       head_below = omega (arith, head_is, head_reached log kept);
       few = few;

@@ -1,6 +1,6 @@
 -- An empty journal keeps what is true of a journal.
 use Rattle.std.specs.Prelude.{ℕ, ◌≡◌, ◌<◌, ◌≤◌, ◌^◌, List, [], replicate}
-use Rattle.std.proofs.Common.{arith, ap, ◌∙◌}
+use Rattle.std.proofs.Common.{arith, ap}
 use Rattle.std.proofs.lemmas.List.{length-replicate}
 use Rattle.std.proofs.lemmas.List.Elements.{All-nil, All-replicate}
 use Rattle.blk_base.specs.Limits.{IsGeometry}
@@ -47,9 +47,5 @@ pub is_opening : (geometry : Geometry) (start zones size : ℕ) (filling : List 
       marks = marks;
     }) (opening geometry start zones)
 is_opening geometry start zones size filling entries first marks same none no_entries at all =
-    let made : ℕ → List Entry → List CommittedEntry → List Point → Log = λ n fs es ms. record (opening geometry start zones) { size = n; filling = fs; entries = es; marks = ms } in
-    ap (λ (n : ℕ). made n filling entries marks) same
-    ∙ ap (λ (fs : List Entry). made geometry.journal fs entries marks) none
-    ∙ ap (λ (es : List CommittedEntry). made geometry.journal [] es marks) no_entries
-    ∙ ap (λ (ms : List Point). made geometry.journal [] [] ms) all
-    ∙ ap (λ (p : ℕ). made geometry.journal [] [] (replicate zones (record { 0 = p }))) at
+    let point : first ≡ record { 0 = point_at start 0 } = ap (λ (p : ℕ). record { 0 = p }) at in
+    rw (same, none, no_entries, all, point)

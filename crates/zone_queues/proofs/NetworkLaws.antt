@@ -1,43 +1,17 @@
 -- What a change of one zone's boxes is in the network, and that the network stays fit.
 use Rattle.std.specs.Prelude.{ℕ, zero, suc, ◌≡◌, ◌≢◌, ◌<◌, ◌≤◌, ◌+◌, List, [], ◌∷◌, ◌++◌, length, map, replicate, refl, Option, Some, None, IfSome, Bool, not, IsTrue, ◌↔◌}
-use Rattle.std.proofs.Common.{ap, ◌∙◌, sym, subst, arith, get_or, set, inl, inr, length-append, take}
-use Rattle.std.proofs.Math.Seq.{take-length}
+use Rattle.std.proofs.Common.{ap, ap₂, ◌∙◌, sym, subst, arith, get_or, set, inl, inr, length-append, take}
+use Rattle.std.proofs.Math.Seq.{take-length, map-set_same}
+use Rattle.std.proofs.Math.ListN.{get_or-map as map_at}
 use Rattle.std.proofs.lemmas.List.{get_or-set_same, get_or-set_other, length-set, set-set, set-get_or, map-set, length-map, get_or-map, get_or-replicate, length-replicate}
 use Rattle.std.proofs.lemmas.Bool.{cases_eq}
 use Rattle.zone_queues.specs.Queues.{Queue, Boxes, Network, empty, with_outbox, with_more, network_of, inbox_at, outbox_at, entry_at, set_outbox, count_sent, IsFit, opening, moved, Takes, HasRoom, HasRoomFor, HasRoomTo}
 
+-- what is the same of an element and the one in its place is so of each
+stays : {X Y : Type 0} (f : X → Y) (xs : List X) (x z : ℕ) (y d : X) → f y ≡ f (get_or xs x d) → f (get_or (set xs x y) z d) ≡ f (get_or xs z d)
+stays f xs x z y d same = sym (map_at f (set xs x y) z d) ∙ ap (λ ys. get_or ys z (f d)) (map-set_same f xs x y d same) ∙ map_at f xs z d
+
 module _ {V : Type 0} where
-  -- boxes past the last zone
-  abbrev pub no_boxes : Boxes V
-  no_boxes = record { inbox = empty V 0; outboxes = [] }
-
-  pub network-with_outbox : (ports : List (Boxes V)) (from to : ℕ) (boxes : Boxes V) (queue : Queue V) → from < length ports → boxes ≡ get_or ports from boxes
-      → network_of (set ports from (with_outbox boxes to queue)) ≡ record (network_of ports) { outboxes = set_outbox (network_of ports).outboxes from to queue }
-  network-with_outbox ports from to boxes queue inside is =
-      let row : get_or (map (λ (b : Boxes V). b.outboxes) ports) from [] ≡ boxes.outboxes
-      = get_or-map (λ (b : Boxes V). b.outboxes) ports from boxes [] inside ∙ ap (λ (b : Boxes V). b.outboxes) (sym is) in
-      let same : set (map (λ (b : Boxes V). b.inbox) ports) from boxes.inbox ≡ map (λ (b : Boxes V). b.inbox) ports
-      = ap (λ (q : Queue V). set (map (λ (b : Boxes V). b.inbox) ports) from q)
-      (ap (λ (b : Boxes V). b.inbox) is ∙ sym (get_or-map (λ (b : Boxes V). b.inbox) ports from boxes (empty V 0) inside))
-      ∙ set-get_or (map (λ (b : Boxes V). b.inbox) ports) from (empty V 0) in
-      let inboxes = map-set (λ (b : Boxes V). b.inbox) ports from (with_outbox boxes to queue) ∙ same in
-      let outboxes = map-set (λ (b : Boxes V). b.outboxes) ports from (with_outbox boxes to queue)
-      ∙ ap (λ (r : List (Queue V)). set (map (λ (b : Boxes V). b.outboxes) ports) from (set r to queue)) (sym row) in
-      ap (λ (qs : List (Queue V)). record { inboxes = qs; outboxes = map (λ (b : Boxes V). b.outboxes) (set ports from (with_outbox boxes to queue)) }) inboxes
-      ∙ ap (λ (os : List (List (Queue V))). record { inboxes = map (λ (b : Boxes V). b.inbox) ports; outboxes = os }) outboxes
-
-  pub network-with_inbox : (ports : List (Boxes V)) (zone : ℕ) (boxes : Boxes V) (queue : Queue V) → zone < length ports → boxes ≡ get_or ports zone boxes
-      → network_of (set ports zone (record boxes { inbox = queue })) ≡ record (network_of ports) { inboxes = set (network_of ports).inboxes zone queue }
-  network-with_inbox ports zone boxes queue inside is =
-      let same : set (map (λ (b : Boxes V). b.outboxes) ports) zone boxes.outboxes ≡ map (λ (b : Boxes V). b.outboxes) ports
-      = ap (λ (q : List (Queue V)). set (map (λ (b : Boxes V). b.outboxes) ports) zone q)
-      (ap (λ (b : Boxes V). b.outboxes) is ∙ sym (get_or-map (λ (b : Boxes V). b.outboxes) ports zone boxes [] inside))
-      ∙ set-get_or (map (λ (b : Boxes V). b.outboxes) ports) zone [] in
-      let inboxes = map-set (λ (b : Boxes V). b.inbox) ports zone (record boxes { inbox = queue }) in
-      let outboxes = map-set (λ (b : Boxes V). b.outboxes) ports zone (record boxes { inbox = queue }) ∙ same in
-      ap (λ (qs : List (Queue V)). record { inboxes = qs; outboxes = map (λ (b : Boxes V). b.outboxes) (set ports zone (record boxes { inbox = queue })) }) inboxes
-      ∙ ap (λ (os : List (List (Queue V))). record { inboxes = set (map (λ (b : Boxes V). b.inbox) ports) zone queue; outboxes = os }) outboxes
-
   pub inbox-network : (ports : List (Boxes V)) (zone : ℕ) (boxes : Boxes V) → zone < length ports → boxes ≡ get_or ports zone boxes
       → inbox_at (network_of ports) zone ≡ boxes.inbox
   inbox-network ports zone boxes inside is =
@@ -48,11 +22,26 @@ module _ {V : Type 0} where
   row-network ports from boxes inside is =
       get_or-map (λ (b : Boxes V). b.outboxes) ports from boxes [] inside ∙ ap (λ (b : Boxes V). b.outboxes) (sym is)
 
-  pub length-network : (ports : List (Boxes V)) → length (network_of ports).inboxes ≡ length ports
-  length-network ports = length-map ports (λ (b : Boxes V). b.inbox)
+  pub network-with_outbox : (ports : List (Boxes V)) (from to : ℕ) (boxes : Boxes V) (queue : Queue V) → from < length ports → boxes ≡ get_or ports from boxes
+      → network_of (set ports from (with_outbox boxes to queue)) ≡ record (network_of ports) { outboxes = set_outbox (network_of ports).outboxes from to queue }
+  network-with_outbox ports from to boxes queue inside is =
+      ap₂ (λ (qs : List (Queue V)) (os : List (List (Queue V))). record { inboxes = qs; outboxes = os })
+      (map-set_same (λ (b : Boxes V). b.inbox) ports from (with_outbox boxes to queue) boxes (ap (λ (b : Boxes V). b.inbox) is))
+      (map-set (λ (b : Boxes V). b.outboxes) ports from (with_outbox boxes to queue)
+      ∙ ap (λ (r : List (Queue V)). set (network_of ports).outboxes from (set r to queue)) (sym (row-network ports from boxes inside is)))
 
-  pub rows-network : (ports : List (Boxes V)) → length (network_of ports).outboxes ≡ length ports
-  rows-network ports = length-map ports (λ (b : Boxes V). b.outboxes)
+  pub network-with_inbox : (ports : List (Boxes V)) (zone : ℕ) (boxes : Boxes V) (queue : Queue V) → boxes ≡ get_or ports zone boxes
+      → network_of (set ports zone (record boxes { inbox = queue })) ≡ record (network_of ports) { inboxes = set (network_of ports).inboxes zone queue }
+  network-with_inbox ports zone boxes queue is =
+      ap₂ (λ (qs : List (Queue V)) (os : List (List (Queue V))). record { inboxes = qs; outboxes = os })
+      (map-set (λ (b : Boxes V). b.inbox) ports zone (record boxes { inbox = queue }))
+      (map-set_same (λ (b : Boxes V). b.outboxes) ports zone (record boxes { inbox = queue }) boxes (ap (λ (b : Boxes V). b.outboxes) is))
+
+  pub zones_network : (ports : List (Boxes V)) → length (network_of ports).inboxes ≡ length ports
+  zones_network ports = length-map ports (λ (b : Boxes V). b.inbox)
+
+  pub rows_network : (ports : List (Boxes V)) → length (network_of ports).outboxes ≡ length ports
+  rows_network ports = length-map ports (λ (b : Boxes V). b.outboxes)
 
   -- an outbox is part of what is on the way
   pub count_sent-part : (outboxes : List (List (Queue V))) (x y : ℕ) → x < length outboxes → length (entry_at outboxes x y).items ≤ count_sent outboxes y
@@ -82,34 +71,6 @@ module _ {V : Type 0} where
       ∙ ap (λ (r : List (Queue V)). set (set outboxes x (set row y first)) x r) (set-set row y first queue)
       ∙ set-set outboxes x (set row y first) (set row y queue)
 
-  set_outbox-same : (outboxes : List (List (Queue V))) (x y : ℕ) → set_outbox outboxes x y (entry_at outboxes x y) ≡ outboxes
-  set_outbox-same outboxes x y =
-      ap (λ (r : List (Queue V)). set outboxes x r) (set-get_or (get_or outboxes x []) y (empty V 0)) ∙ set-get_or outboxes x []
-
-  pub row_length : (outboxes : List (List (Queue V))) (x z : ℕ) (row : List (Queue V)) → length row ≡ length (get_or outboxes x [])
-      → length (get_or (set outboxes x row) z []) ≡ length (get_or outboxes z [])
-  row_length [] x z row same = refl
-  row_length (r ∷ rs) zero zero row same = same
-  row_length (r ∷ rs) zero (suc z) row same = refl
-  row_length (r ∷ rs) (suc x) zero row same = refl
-  row_length (r ∷ rs) (suc x) (suc z) row same = row_length rs x z row same
-
-  queue_room : (row : List (Queue V)) (y z : ℕ) (queue : Queue V) → queue.room ≡ (get_or row y (empty V 0)).room
-      → (get_or (set row y queue) z (empty V 0)).room ≡ (get_or row z (empty V 0)).room
-  queue_room [] y z queue same = refl
-  queue_room (q ∷ qs) zero zero queue same = same
-  queue_room (q ∷ qs) zero (suc z) queue same = refl
-  queue_room (q ∷ qs) (suc y) zero queue same = refl
-  queue_room (q ∷ qs) (suc y) (suc z) queue same = queue_room qs y z queue same
-
-  entry_room : (outboxes : List (List (Queue V))) (x y w z : ℕ) (queue : Queue V) → queue.room ≡ (entry_at outboxes x y).room
-      → (entry_at (set_outbox outboxes x y queue) w z).room ≡ (entry_at outboxes w z).room
-  entry_room [] x y w z queue same = refl
-  entry_room (r ∷ rs) zero y zero z queue same = queue_room r y z queue same
-  entry_room (r ∷ rs) zero y (suc w) z queue same = refl
-  entry_room (r ∷ rs) (suc x) y zero z queue same = refl
-  entry_room (r ∷ rs) (suc x) y (suc w) z queue same = entry_room rs x y w z queue same
-
   -- one outbox to a zone and that zone's inbox change, and no more is on the way than before but what there is room for
   IsFit-step : (lanes : Network V) (x y : ℕ) (inbox queue : Queue V) → IsFit lanes → x < length lanes.outboxes → y < length lanes.outboxes
       → inbox.room ≡ (inbox_at lanes y).room → queue.room ≡ (outbox_at lanes x y).room
@@ -125,11 +86,12 @@ module _ {V : Type 0} where
       let at_y : length (get_or (set lanes.inboxes y inbox) y (empty V 0)).items + count_sent (set_outbox lanes.outboxes x y queue) y ≤ (get_or (set lanes.inboxes y inbox) y (empty V 0)).room
       = subst (λ (q : Queue V). length q.items + count_sent (set_outbox lanes.outboxes x y queue) y ≤ q.room)
       (sym (get_or-set_same lanes.inboxes y inbox (empty V 0) (omega arith))) (omega (arith, counted, few)) in
+      let room_of : Queue V → ℕ = λ q. q.room in
       record {
         zones = inboxes ∙ zones ∙ sym size;
-        square = λ z below. row_length lanes.outboxes x z (set row y queue) (length-set row y queue) ∙ fit.square z (omega arith) ∙ sym size;
-        rooms = λ w z first second. entry_room lanes.outboxes x y w z queue queue_same ∙ fit.rooms w z (omega arith) (omega arith)
-            ∙ sym (queue_room lanes.inboxes y z inbox inbox_room);
+        square = λ z below. stays length lanes.outboxes x z (set row y queue) [] (length-set row y queue) ∙ fit.square z (omega arith) ∙ sym size;
+        rooms = λ w z first second. stays (λ (r : List (Queue V)). room_of (get_or r z (empty V 0))) lanes.outboxes x w (set row y queue) [] (stays room_of row y z queue (empty V 0) queue_same)
+            ∙ fit.rooms w z (omega arith) (omega arith) ∙ sym (stays room_of lanes.inboxes y z inbox (empty V 0) inbox_room);
         filled = λ z below. elim (cases_eq z y) [
           | inl same ↦ subst (λ (n : ℕ). length (get_or (set lanes.inboxes y inbox) n (empty V 0)).items + count_sent (set_outbox lanes.outboxes x y queue) n
               ≤ (get_or (set lanes.inboxes y inbox) n (empty V 0)).room) (sym same) at_y
@@ -147,14 +109,6 @@ module _ {V : Type 0} where
   IsFit-post lanes x y queue fit from to same more few =
       subst (λ (qs : List (Queue V)). IsFit (record { inboxes = qs; outboxes = set_outbox lanes.outboxes x y queue })) (set-get_or lanes.inboxes y (empty V 0))
       (IsFit-step lanes x y (inbox_at lanes y) queue fit from to refl same (omega (arith, more, few)))
-
-  pub IsFit-take : (lanes : Network V) (y : ℕ) (inbox : Queue V) → IsFit lanes → y < length lanes.outboxes
-      → inbox.room ≡ (inbox_at lanes y).room → length inbox.items ≤ length (inbox_at lanes y).items
-      → IsFit (record lanes { inboxes = set lanes.inboxes y inbox })
-  IsFit-take lanes y inbox fit inside same less =
-      let kept = fit.filled y inside in
-      subst (λ (os : List (List (Queue V))). IsFit (record { inboxes = set lanes.inboxes y inbox; outboxes = os })) (set_outbox-same lanes.outboxes y y)
-      (IsFit-step lanes y y inbox (outbox_at lanes y y) fit inside inside same refl (omega (arith, kept, less, same)))
 
   pub IsFit-moved : (lanes : Network V) (x y : ℕ) → IsFit lanes → x < length lanes.outboxes → y < length lanes.outboxes → IsFit (moved lanes x y)
   IsFit-moved lanes x y fit from to =
@@ -193,13 +147,9 @@ module _ {V : Type 0} where
       → third ≡ record second { outboxes = set_outbox second.outboxes x y back }
       → third ≡ moved lanes x y
   moved-steps lanes first second third x y batch none back from out cut added emptied put =
-      let second_is : second ≡ record { inboxes = set lanes.inboxes y (with_more (inbox_at lanes y) batch.items); outboxes = set_outbox lanes.outboxes x y none }
-      = added ∙ ap (λ (s : Network V). record s { inboxes = set s.inboxes y (with_more (inbox_at s y) batch.items) }) cut in
-      put ∙ ap (λ (s : Network V). record s { outboxes = set_outbox s.outboxes x y back }) second_is
-      ∙ ap (λ (os : List (List (Queue V))). record { inboxes = set lanes.inboxes y (with_more (inbox_at lanes y) batch.items); outboxes = os })
-      (set_outbox-again lanes.outboxes x y none back from)
-      ∙ ap (λ (q : Queue V). record { inboxes = set lanes.inboxes y (with_more (inbox_at lanes y) batch.items); outboxes = set_outbox lanes.outboxes x y q }) emptied
-      ∙ ap (λ (q : Queue V). record { inboxes = set lanes.inboxes y (with_more (inbox_at lanes y) q.items); outboxes = set_outbox lanes.outboxes x y (empty V q.room) }) out
+      rw (put, added, cut, emptied, out)
+      (ap (λ (os : List (List (Queue V))). record { inboxes = set lanes.inboxes y (with_more (inbox_at lanes y) (outbox_at lanes x y).items); outboxes = os })
+      (set_outbox-again lanes.outboxes x y none (empty V (outbox_at lanes x y).room) from))
 
   -- the oldest item of one zone's boxes left, and so of the network
   pub takes_at : (ports : List (Boxes V)) (zone : ℕ) (boxes left : Boxes V) (result : Option V) → zone < length ports → boxes ≡ get_or ports zone boxes
@@ -207,10 +157,10 @@ module _ {V : Type 0} where
       → IfSome result (Takes (network_of ports) (network_of (set ports zone left)) zone)
   takes_at ports zone boxes left None inside is from = tt
   takes_at ports zone boxes left (Some item) inside is from =
-      let size = length-network ports in
+      let size = zones_network ports in
       let whole : left ≡ record boxes { inbox = left.inbox } = ap (λ (os : List (Queue V)). record { inbox = left.inbox; outboxes = os }) (sym (ap (λ (b : Boxes V). b.outboxes) from)) in
       let after : network_of (set ports zone left) ≡ record (network_of ports) { inboxes = set (network_of ports).inboxes zone left.inbox }
-      = ap (λ (b : Boxes V). network_of (set ports zone b)) whole ∙ network-with_inbox ports zone boxes left.inbox inside is in
+      = ap (λ (b : Boxes V). network_of (set ports zone b)) whole ∙ network-with_inbox ports zone boxes left.inbox is in
       let before : inbox_at (network_of ports) zone ≡ boxes.inbox = inbox-network ports zone boxes inside is in
       let now : inbox_at (network_of (set ports zone left)) zone ≡ left.inbox
       = ap (λ (s : Network V). inbox_at s zone) after ∙ get_or-set_same (network_of ports).inboxes zone left.inbox (empty V 0) (omega arith) in
@@ -237,11 +187,7 @@ module _ {V : Type 0} where
 
   pub IsFit-made : (lanes : Network V) (room : List ℕ) (n : ℕ) → n ≡ length room
       → lanes ≡ record { inboxes = map (empty V) (take n room); outboxes = replicate n (map (empty V) room) } → IsFit lanes
-  IsFit-made lanes room n all is =
-      let whole : lanes ≡ opening V room
-      = is ∙ ap (λ (k : ℕ). record { inboxes = map (empty V) (take k room); outboxes = replicate k (map (empty V) room) }) all
-      ∙ ap (λ (r : List ℕ). record { inboxes = map (empty V) r; outboxes = replicate (length room) (map (empty V) room) }) (take-length room) in
-      subst (λ (s : Network V). IsFit s) (sym whole) (IsFit-opening room)
+  IsFit-made lanes room n all is = rw (is, all, take-length room) (IsFit-opening room)
 
 -- whether there is an item, from whether there is none
 pub some_items : (n : ℕ) (none : Bool) → (IsTrue none ↔ (n ≡ 0)) → IsTrue (not none) ↔ (0 < n)

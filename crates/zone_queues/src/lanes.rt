@@ -73,6 +73,7 @@ impl<V: Drop> Lanes<V> {
 }
 
 // Adds an item to the outbox of a zone to a zone.
+#[tactic(auto, using(crate::proofs::NetworkLaws::rows_network))]
 fn post_at<V: Drop>(ports: &mut Vec<Ports<V>>, from: u32, to: u32, item: V)
     requires sender { from < length (network_of ports.old.items).outboxes }
     requires receiver { to < length (slice_index_or (network_of ports.old.items).outboxes from []) }
@@ -85,6 +86,7 @@ fn post_at<V: Drop>(ports: &mut Vec<Ports<V>>, from: u32, to: u32, item: V)
 }
 
 // Takes the oldest item of a zone's inbox.
+#[tactic(auto, using(crate::proofs::NetworkLaws::zones_network))]
 fn take_at<V: Drop>(ports: &mut Vec<Ports<V>>, zone: u32) -> Option<V>
     requires { zone < length (network_of ports.old.items).inboxes }
     ensures some { IfSome result (Takes (network_of ports.old.items) (network_of ports.new.items) zone) }
@@ -95,6 +97,7 @@ fn take_at<V: Drop>(ports: &mut Vec<Ports<V>>, zone: u32) -> Option<V>
 }
 
 // Hands out the outbox from a zone to a zone, and puts this list in its place.
+#[tactic(auto, using(crate::proofs::NetworkLaws::rows_network))]
 fn exchange_at<V: Drop>(ports: &mut Vec<Ports<V>>, from: u32, to: u32, lane: Lane<V>) -> Lane<V>
     requires sender { from < length (network_of ports.old.items).outboxes }
     requires receiver { to < length (slice_index_or (network_of ports.old.items).outboxes from []) }
@@ -107,6 +110,7 @@ fn exchange_at<V: Drop>(ports: &mut Vec<Ports<V>>, from: u32, to: u32, lane: Lan
 }
 
 // Adds all items of a batch to a zone's inbox. The batch is empty then.
+#[tactic(auto, using(crate::proofs::NetworkLaws::zones_network))]
 fn receive_at<V: Drop>(ports: &mut Vec<Ports<V>>, to: u32, batch: &mut Lane<V>)
     requires receiver { to < length (network_of ports.old.items).inboxes }
     requires room { HasRoomFor (inbox_at (network_of ports.old.items) to) batch.old.items }

@@ -1,11 +1,5 @@
-use Rattle.block_map_tree.proofs.HistoryLaws.{is_out, still_out, not_out_before}
+use Rattle.block_map_tree.proofs.HistoryLaws.{still_out}
 use Rattle.block_map_tree.proofs.laws.a_page_is_out_until_it_is_written.Goals as goal
-
-pub returns-clause-taken : goal.returns-clause-taken
-returns-clause-taken c = is_out
 
 pub returns-clause-kept : goal.returns-clause-kept
 returns-clause-kept c = still_out
-
-pub returns-clause-idle : goal.returns-clause-idle
-returns-clause-idle c = not_out_before

@@ -1,11 +1,8 @@
-use Rattle.map_page_cache.proofs.RunLaws.{one_content, content_held, content_after}
+use Rattle.map_page_cache.proofs.RunLaws.{one_content, content_after}
 use Rattle.map_page_cache.proofs.laws.a_page_is_as_it_was_set.Goals as goal
 
 pub returns-clause-one : goal.returns-clause-one
 returns-clause-one c = one_content
-
-pub returns-clause-held : goal.returns-clause-held
-returns-clause-held c = content_held
 
 pub returns-clause-content : goal.returns-clause-content
 returns-clause-content c = content_after

@@ -1,8 +1,5 @@
-use Rattle.map_page_cache.proofs.RunLaws.{is_out, still_out, not_out_before}
+use Rattle.map_page_cache.proofs.RunLaws.{still_out, not_out_before}
 use Rattle.map_page_cache.proofs.laws.a_page_is_out_until_it_is_written.Goals as goal
-
-pub returns-clause-taken : goal.returns-clause-taken
-returns-clause-taken c = is_out
 
 pub returns-clause-kept : goal.returns-clause-kept
 returns-clause-kept c = still_out

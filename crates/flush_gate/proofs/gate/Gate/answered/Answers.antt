@@ -1,4 +1,3 @@
-use Rattle.std.proofs.lemmas.Grind.{common_steps}
 use Rattle.std.proofs.Common.{◌+◌, ◌∙◌, arith}
 use Rattle.std.proofs.lemmas.List.{get_or_default}
 use Rattle.flush_gate.proofs.GateLaws.{counted}
@@ -9,9 +8,3 @@ returns-clause-counted c =
     let size = c.self.inside.counts.ok in
     counted (λ n. n + 1) _ _ _ _ c.self.inside.counts.items _ _ c.self.view_is (omega arith)
     (c.index_mut.ensures.value ∙ get_or_default c.self.inside.counts.items _ _ 0 (omega arith))
-
-pub overflow_add-index_mut : goal.overflow_add-index_mut
-overflow_add-index_mut c = grind (arith, common_steps)
-
-pub returns-clause-generation : goal.returns-clause-generation
-returns-clause-generation c = grind (arith, common_steps)

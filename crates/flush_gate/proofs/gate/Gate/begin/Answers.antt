@@ -1,4 +1,3 @@
-use Rattle.std.proofs.lemmas.Grind.{common_steps}
 use Rattle.std.proofs.Common.{◌+◌, List, length, arith, ap, sym, subst}
 use Rattle.flush_gate.specs.Flushes.{Flushes, AreFrom}
 use Rattle.flush_gate.specs.declared.waiting.Waiting.{Waiting}
@@ -20,6 +19,3 @@ invariant_of-self c =
       room = omega arith;
       counts_room = omega arith;
     }
-
-pub returns-clause-waits : goal.returns-clause-waits
-returns-clause-waits c = grind (arith, common_steps)

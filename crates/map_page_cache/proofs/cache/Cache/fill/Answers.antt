@@ -1,9 +1,11 @@
-use Rattle.std.proofs.Common.{ℕ, ◌≡◌, ◌<◌, ◌+◌, ◌∷◌, [], ◌++◌, List, Bool, length, length-append, ap, ◌∙◌, sym, subst, arith, set, true}
+use Rattle.std.proofs.Common.{◌≡◌, ◌<◌, ◌+◌, ◌∷◌, [], ◌∙◌, length, length-append, List, ap, sym, subst, arith, refl, true}
 use Rattle.page_codec.specs.declared.forms.MapPage.{MapPage}
+use Rattle.dirty_pages.specs.Marks.{clean_of}
+use Rattle.map_page_cache.specs.contracts.cache.Cache.{the_view}
 use Rattle.map_page_cache.specs.CachedPages.{CachedPages, IsAbsent, Fills}
-use Rattle.map_page_cache.specs.Frames.{Follows, AreFlags}
-use Rattle.map_page_cache.proofs.FrameLaws.{follows-push}
-use Rattle.map_page_cache.proofs.CacheLaws.{absent_at, flags-push}
+use Rattle.map_page_cache.specs.Frames.{Follows}
+use Rattle.map_page_cache.proofs.FrameLaws.{absent_at, follows-push}
+use Rattle.map_page_cache.proofs.CacheLaws.{flags-set}
 use Rattle.map_page_cache.proofs.StepLaws.{fills}
 use Rattle.map_page_cache.proofs.cache.Cache.fill.Goals as goal
 
@@ -14,30 +16,24 @@ insert-requires-clause-absent c = λ s has.
 
 pub returns : goal.returns
 returns c =
-    let cache : CachedPages = record { geometry = c.self.inside.geometry; frames = c.self.inside.room; pages = c.self.inside.pages.items; marks = c.self.inside.marks } in
-    let done = fills c.args.self.now cache c.args.page c.args.from.now c.copy_of.result c.self.view_is c.self.invariant.form c.requires.absent c.requires.named c.requires.held
-    c.requires.room c.copy_of.ensures in
-    subst (λ (pages : List MapPage). Fills c.args.self.now (record { geometry = cache.geometry; frames = cache.frames; pages = pages; marks = cache.marks }) c.args.from.now)
-    (sym {A = List MapPage} c.push_reserved.ensures.items) done
+    subst (λ (pages : List MapPage). Fills c.args.self.now (record (the_view c.self.inside) { pages = pages }) c.args.from.now) (sym {A = List MapPage} c.push_reserved.ensures.items)
+    (fills c.args.self.now (the_view c.self.inside) c.args.page c.args.from.now c.copy_of.result c.self.view_is c.self.invariant.form c.requires.absent c.requires.named c.requires.held
+    c.requires.room c.copy_of.ensures)
 
 pub invariant_of-self : goal.invariant_of-self
 invariant_of-self c =
-    let cache : CachedPages = record { geometry = c.self.inside.geometry; frames = c.self.inside.room; pages = c.self.inside.pages.items; marks = c.self.inside.marks } in
-    let pages = cache.pages in
-    let copy = c.copy_of.result in
+    let cache = the_view c.self.inside in
     let size = c.self.inside.pages.ok in
-    let place : c.len-frame.result ≡ length pages = omega arith in
-    let room : length pages < cache.frames = subst (λ (known : CachedPages). length known.pages < known.frames) (sym c.self.view_is) c.requires.room in
-    let named = ap (λ (m : MapPage). m.head.page) c.copy_of.ensures ∙ c.requires.named in
-    let more : length pages + 1 ≡ length (pages ++ copy ∷ []) = sym (length-append pages (copy ∷ [])) in
-    let flags : AreFlags c.set.new.self cache.frames (length (pages ++ copy ∷ [])) cache.marks =
-    subst (λ (n : ℕ). AreFlags c.set.new.self cache.frames n cache.marks) more
-    (subst (λ (fs : List Bool). AreFlags fs cache.frames (length pages + 1) cache.marks) (sym (c.set.ensures ∙ ap (λ (n : ℕ). set c.self.inside.clean n true) place))
-    (flags-push c.self.inside.clean cache.frames (length pages) cache.marks c.self.invariant.clean room (c.self.invariant.form.empty (length pages) (omega arith)))) in
+    let place : c.len-frame.result ≡ length cache.pages = omega arith in
+    let room : length cache.pages < cache.frames = subst (λ (known : CachedPages). length known.pages < known.frames) (sym c.self.view_is) c.requires.room in
+    let more = c.push_reserved.ensures.items in
+    let grown : length c.push_reserved.new.self.items ≡ length cache.pages + 1 = omega (arith, ap (λ (ps : List MapPage). length ps) more, length-append cache.pages (c.copy_of.result ∷ [])) in
     record {
       form = (returns c).form;
       room = omega (arith, c.push_reserved.ensures.capacity, c.self.invariant.room);
       index = subst (λ (ps : List MapPage). Follows c.insert.new.self cache.frames ps) (sym {A = List MapPage} c.push_reserved.ensures.items)
-          (follows-push c.self.inside.index c.insert.new.self cache.frames c.len-frame.result pages copy c.args.page c.self.invariant.index c.insert.ensures place named);
-      clean = subst (λ (ps : List MapPage). AreFlags c.set.new.self cache.frames (length ps) cache.marks) (sym {A = List MapPage} c.push_reserved.ensures.items) flags;
+          (follows-push c.self.inside.index c.insert.new.self cache.frames c.len-frame.result cache.pages c.copy_of.result c.args.page c.self.invariant.index c.insert.ensures place
+          (ap (λ (m : MapPage). m.head.page) c.copy_of.ensures ∙ c.requires.named));
+      clean = flags-set c.self.inside.clean c.set.new.self cache.frames (length cache.pages) _ c.len-frame.result true cache.marks cache.marks c.self.invariant.clean (omega arith) (omega arith)
+          (omega arith) (λ other apart near. omega arith) (ap clean_of (sym (c.self.invariant.form.empty c.len-frame.result (omega arith)))) (λ other apart. refl) c.set.ensures;
     }

@@ -1,4 +1,5 @@
 use Rattle.std.proofs.Common.{subst, arith}
+use Rattle.map_page_cache.specs.contracts.cache.Cache.{the_view}
 use Rattle.map_page_cache.specs.CachedPages.{CachedPages, IsThere, IsAbsent}
 use Rattle.map_page_cache.proofs.CacheLaws.{at_there, no_slot_absent}
 use Rattle.map_page_cache.proofs.cache.Cache.get.Goals as goal
@@ -15,7 +16,6 @@ returns-in_err-frame-clause-none c =
 
 pub returns-clause-some : goal.returns-clause-some
 returns-clause-some c =
-    let cache : CachedPages = record { geometry = c.self.inside.geometry; frames = c.self.inside.room; pages = c.self.inside.pages.items; marks = c.self.inside.marks } in
     let at = c.self.invariant.index.pages_at c.args.page c.in_ok-frame.frame c.in_ok-frame.ensures.some in
     subst (λ (known : CachedPages). IsThere known c.args.page c.index.result.now) c.self.view_is
-    (at_there cache c.args.page c.in_ok-frame.frame c.index.result.now at c.index.ensures)
+    (at_there (the_view c.self.inside) c.args.page c.in_ok-frame.frame c.index.result.now at c.index.ensures)

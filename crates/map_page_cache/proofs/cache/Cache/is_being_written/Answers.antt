@@ -3,7 +3,9 @@ use Rattle.std.specs.Prelude.{is_some}
 use Rattle.blk_base.specs.declared.point.Point.{Point}
 use Rattle.dirty_pages.specs.declared.marks.Marks.{Marks}
 use Rattle.map_page_cache.specs.CachedPages.{CachedPages, IsWriting}
-use Rattle.map_page_cache.proofs.CacheLaws.{absent_at, no_slot_absent, in_at, being_written}
+use Rattle.map_page_cache.specs.contracts.cache.Cache.{the_view}
+use Rattle.map_page_cache.proofs.FrameLaws.{absent_at}
+use Rattle.map_page_cache.proofs.CacheLaws.{no_slot_absent, in_at, being_written}
 use Rattle.map_page_cache.proofs.StepLaws.{writing_in}
 use Rattle.map_page_cache.proofs.cache.Cache.is_being_written.Goals as goal
 
@@ -20,24 +22,22 @@ marks-requires c =
 
 pub returns-in-Some : goal.returns-in-Some
 returns-in-Some c =
-    let cache : CachedPages = record { geometry = c.self.inside.geometry; frames = c.self.inside.room; pages = c.self.inside.pages.items; marks = c.self.inside.marks } in
     let at = c.self.invariant.index.pages_at c.args.page c.in-Some.frame c.in-Some.ensures.some in (
       (λ writes.
           let some = value_of c.marks.result.writing (sym c.is_some.ensures ∙ writes) in
           subst (λ (known : CachedPages). IsWriting known c.args.page) c.self.view_is
-          (being_written cache c.args.page c.in-Some.frame at
+          (being_written (the_view c.self.inside) c.args.page c.in-Some.frame at
           (record { first = some.0; is = ap (λ (m : Marks). m.writing) (sym c.marks.ensures) ∙ some.1 }))),
       (λ writes.
-          let out = writing_in cache c.args.page c.in-Some.frame c.self.invariant.form at (subst (λ (known : CachedPages). IsWriting known c.args.page) (sym c.self.view_is) writes) in
+          let out = writing_in (the_view c.self.inside) c.args.page c.in-Some.frame c.self.invariant.form at (subst (λ (known : CachedPages). IsWriting known c.args.page) (sym c.self.view_is) writes) in
           c.is_some.ensures ∙ ap (λ (m : Marks). is_some m.writing) c.marks.ensures ∙ ap (λ (o : Option Point). is_some o) out.is),
     )
 
 pub returns-in-None : goal.returns-in-None
 returns-in-None c =
-    let cache : CachedPages = record { geometry = c.self.inside.geometry; frames = c.self.inside.room; pages = c.self.inside.pages.items; marks = c.self.inside.marks } in
     let absent = no_slot_absent c.self.inside.index c.self.inside.room c.self.inside.pages.items c.args.page c.self.invariant.index c.in-None.ensures.none in (
       (λ never. cc),
       (λ writes.
           let out = subst (λ (known : CachedPages). IsWriting known c.args.page) (sym c.self.view_is) writes in
-          absurd (absent_at c.self.inside.pages.items c.args.page absent out.frame (in_at cache c.args.page out.frame out.content out.stands))),
+          absurd (absent_at c.self.inside.pages.items c.args.page absent out.frame (in_at (the_view c.self.inside) c.args.page out.frame out.content out.stands))),
     )

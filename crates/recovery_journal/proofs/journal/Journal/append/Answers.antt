@@ -1,4 +1,4 @@
-use Rattle.std.proofs.Common.{List, ap, subst, sym, arith, rules}
+use Rattle.std.proofs.Common.{List, ap, subst, sym, arith}
 use Rattle.blk_base.specs.declared.journal_entry.Entry.{Entry}
 use Rattle.recovery_journal.specs.contracts.journal.Journal.{the_view}
 use Rattle.recovery_journal.specs.Log.{Log}
@@ -18,6 +18,3 @@ invariant_of-self c = record {
       (kept_added (the_view c.self.inside) c.args.entry c.self.invariant.kept c.requires.held (omega (arith, c.requires.sequence, ap (λ (l : Log). l.sequence) c.self.view_is)) (omega (arith, c.if-head-self.false, c.first_sequence-head.ensures)));
   room = c.self.invariant.room;
 }
-
-pub returns-clause-room : goal.returns-clause-room
-returns-clause-room c = search rules

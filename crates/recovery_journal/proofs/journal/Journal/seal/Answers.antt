@@ -1,4 +1,4 @@
-use Rattle.std.proofs.Common.{◌∙◌, ◌+◌, ◌++◌, List, length, arith, ap, rules}
+use Rattle.std.proofs.Common.{◌∙◌, ◌+◌, ◌++◌, List, length, arith, ap}
 use Rattle.blk_base.specs.declared.journal_entry.Entry.{Entry}
 use Rattle.blk_base.specs.declared.journal_entry.CommittedEntry.{CommittedEntry}
 use Rattle.recovery_journal.specs.contracts.journal.Journal.{the_view}
@@ -38,9 +38,3 @@ returns-clause-head c =
     ap (λ (es : List CommittedEntry). first_sequence es (c.self.inside.sequence + 1))
     (c.enter.ensures.items ∙ ap (λ (es : List Entry). c.self.inside.entries.items ++ placed c.self.inside.sequence 0 es) c.as_slice.ensures.value)
     ∙ first-sealed c.self.inside.entries.items c.self.inside.sequence c.self.inside.filling waits ∙ ap head_of c.self.view_is
-
-pub returns-clause-ring : goal.returns-clause-ring
-returns-clause-ring c = search rules
-
-pub returns-clause-some : goal.returns-clause-some
-returns-clause-some c = search rules
