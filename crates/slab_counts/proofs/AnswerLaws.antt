@@ -1,11 +1,14 @@
 -- A call has one answer.
-use Rattle.std.specs.Prelude.{ℕ, ◌≡◌}
+use Rattle.std.specs.Prelude.{ℕ, ◌≡◌, ◌+◌, slice_index}
 use Rattle.std.proofs.Common.{sym, ◌∙◌, ap, arith, inl, inr, refl}
 use Rattle.std.proofs.lemmas.Bool.{cases_lt}
 use Rattle.blk_base.specs.declared.place.Pbn.{Pbn}
 use Rattle.blk_base.specs.declared.point.Half.{Half}
 use Rattle.blk_base.specs.declared.point.Half.TheVariants.{Increment, Decrement}
-use Rattle.slab_counts.specs.Counts.{Counts, ClaimsFree, HasNoFree, Shares, IsRefused, Takes, IsStray, claimed}
+use Rattle.slab_counts.specs.Counts.{Counts, ClaimsFree, HasNoFree, Shares, IsRefused, Takes, IsStray, claimed, offset_of}
+use Rattle.slab_counts.specs.Kept.{IsWithin}
+use Rattle.lane_kernels.specs.Kernels.{IsLeastFree}
+use Rattle.blk_base.specs.Regions.{slab_start_of}
 use Rattle.slab_counts.specs.declared.refusals.Refusal.{Refusal}
 use Rattle.slab_counts.specs.declared.refusals.Refusal.TheVariants.{NotData, NotLive, Full}
 
@@ -43,3 +46,11 @@ one_refusal old at Full Full is is' = refl
 pub taken_or_stray : (half : Half) (old new : Counts) (at : Pbn) → Takes half old new at → IsStray half old at → ⊥
 taken_or_stray Increment old new at taken stray = elim stray [ inl full ↦ omega (arith, full, taken.0) | inr none ↦ omega (arith, none, taken.1) ]
 taken_or_stray Decrement old new at taken stray = omega (arith, stray, taken.0)
+
+-- where a place is free, some block is
+pub some_free : (c : Counts) (place : ℕ) → IsWithin c → IsLeastFree c.counters c.claims place → HasNoFree c → ⊥
+some_free c place within is none =
+    let at : Pbn = record { 0 = slab_start_of c.geometry c.slab + place } in
+    let offset : offset_of c at ≡ place = omega arith in
+    none at (omega arith, omega (arith, is.inside, within.counters))
+    (ap (λ (k : ℕ). slice_index c.counters k) offset ∙ is.free.0, ap (λ (k : ℕ). slice_index c.claims k) offset ∙ is.free.1)

@@ -14,7 +14,7 @@ use Rattle.slab_counts.specs.Calls.{Call, FreeClaimed, Shared, Extended, Dropped
 pub one_same : (at block : Pbn) → at.0 ≡ block.0 → one_of at block ≡ 1
 one_same at block same = rw (eq-eqb at.0 block.0 same)
 
-one_other : (at block : Pbn) → at.0 ≢ block.0 → one_of at block ≡ 0
+pub one_other : (at block : Pbn) → at.0 ≢ block.0 → one_of at block ≡ 0
 one_other at block other = rw (ne_eqb at.0 block.0 other)
 
 -- a number of one block that was raised or lowered, as that of each block

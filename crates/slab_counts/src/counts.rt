@@ -90,6 +90,24 @@ impl SlabCounts {
         Some(Claim::on(Pbn(self.start + offset as u32)))
     }
 
+    /// Whether some block is free. The place is kept, so that asking again is quick.
+    pub fn has_free(&mut self) -> bool
+        ensures yes { IsTrue result → ¬ HasNoFree self.old }
+        ensures no { (result ≡ false) → HasNoFree self.old }
+        ensures same { self.new ≡ self.old }
+    {
+        match first_free_from(&self.counters, &self.claims, self.mark) {
+            Some(offset) => {
+                self.mark = offset;
+                true
+            }
+            None => {
+                self.mark = self.counters.len();
+                false
+            }
+        }
+    }
+
     /// Claims a block that something is mapped to, for one more mapping. It is refused exactly where it has a tree page or
     /// is no data block of this slab (`NotData`), nothing is mapped to it (`NotLive`), or its counter and claims are
     /// together at the limit (`Full`), in this order.

@@ -4,10 +4,8 @@ ghost use Rattle.blk_base.specs.Regions.{slab_start_of};
 ghost use Rattle.blk_base.specs.declared.point.Half.TheVariants.{Decrement};
 ghost use Rattle.slab_tests.specs.Held.{Covers};
 
-mod plain;
-
-use crate::counts::plain::PlainCounts;
 use crate::images::{FIRST, SIZES, opened_image};
+use crate::plain_counts::PlainCounts;
 use blk_base::{Pbn, Point, Update};
 use slab_counts::{Claim, Receipt, Refusal, SlabCounts, Stray, Ticket};
 use std::alloc::{AllocError, Global};
@@ -77,9 +75,11 @@ fn seen(counts: &SlabCounts) -> (Option<u8>, u32) {
 #[test]
 fn a_block_is_used_again(rt: HostRuntime) -> Result<(), Fail> {
     let mut counts = opened_counts(rt.alloc())?;
+    let some_free = counts.has_free();
     let first = counts.claim_free().ok_or("first")?;
     let more = counts.extend(&first);
     let claimed = (
+        some_free,
         counts.count(Pbn(91)),
         counts.is_free(Pbn(91)),
         counts.used(),
@@ -105,7 +105,7 @@ fn a_block_is_used_again(rt: HostRuntime) -> Result<(), Fail> {
     ];
     assert_eq!(rt;
         (claimed, at, again),
-        ((0, false, 6), Pbn(91), Some(Pbn(91)))
+        ((true, 0, false, 6), Pbn(91), Some(Pbn(91)))
     );
     assert_eq!(rt;
         (answers, mapped, unmapped),
@@ -443,7 +443,7 @@ fn count_alike(
 #[test]
 fn as_the_plain_counts(rt: HostRuntime) -> Result<(), Fail> {
     let mut counts = opened_counts(rt.alloc())?;
-    let mut plain = PlainCounts::opened();
+    let mut plain = PlainCounts::opened(FIRST, 64, 0);
     let mut met = Met::nothing();
     let alike = count_alike(&mut counts, &mut plain, &mut met, rt.alloc());
     assert_eq!(rt; (alike, met.all()), (Ok(600), [14, 46, 24, 139, 24, 60]));

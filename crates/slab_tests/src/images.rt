@@ -1,10 +1,19 @@
 ghost use Rattle.std.specs.Prelude.{◌≡◌, ◌≤◌, ◌+◌, ◌<◌, All, IfOk, length};
+ghost use Rattle.slab_tests.specs.Tested.{two_zones};
 
 use blk_base::{Geometry, Opened, Pbn, Point, Super};
 use std::alloc::{AllocError, Global};
 
 /// One slab of 64 data blocks, of which the first is block 85.
 pub(crate) const SIZES: Geometry = Geometry::DEFAULT;
+
+/// Eight slabs of 16 data blocks. Of two zones the second one has the second, fourth, sixth and eighth of them, which begin
+/// at the blocks 106, 148, 190 and 232.
+pub(crate) const TWO_ZONES: Geometry = Geometry {
+    slabs: 8,
+    slab_blocks: 16,
+    ..Geometry::DEFAULT
+};
 
 /// The first data block.
 pub(crate) const FIRST: u32 = 85;
@@ -50,4 +59,48 @@ pub(crate) fn opening_counter(k: usize) -> u8
         Some(counter) => (*counter).min(254),
         None => 0,
     }
+}
+
+/// An image of eight slabs. In the order of the blocks of the second of two zones, the first has a tree page, the next five
+/// are mapped, and the others are free.
+pub(crate) fn image_of_two_zones(alloc: Global) -> Result<Opened, AllocError>
+    ensures sizes { IfOk result (λ opened. opened.head.geometry ≡ two_zones) }
+    ensures counters { IfOk result (λ opened. length opened.counters.items ≡ 128) }
+    ensures limit { IfOk result (λ opened. All (λ counter. counter ≤ 254) opened.counters.items) }
+{
+    let counters = counters_in_two_zones(alloc)?;
+    Ok(Opened {
+        head: Super {
+            geometry: TWO_ZONES,
+            clean: true,
+            start: 1,
+        },
+        pages: Vec::new(alloc),
+        counters,
+        commits: [Point(0); 8].to_vec(alloc)?,
+        tree_pages: [Pbn(106)].to_vec(alloc)?,
+    })
+}
+
+fn counters_in_two_zones(alloc: Global) -> Result<Vec<u8>, AllocError>
+    ensures count { IfOk result (λ counters. length counters.items ≡ 128) }
+    ensures limit { IfOk result (λ counters. All (λ counter. counter ≤ 254) counters.items) }
+{
+    let mut counters = Vec::new(alloc);
+    for k in 0..128_usize {
+        counters.push(counter_in_two_zones(k / 16, k % 16))?;
+    }
+    Ok(counters)
+}
+
+// The blocks of the first zone are free.
+fn counter_in_two_zones(slab: usize, offset: usize) -> u8
+    requires slab { slab < 8 }
+    requires offset { offset < 16 }
+    ensures { result ≤ 254 }
+{
+    if slab % 2 == 0 {
+        return 0;
+    }
+    opening_counter(slab / 2 * 16 + offset)
 }

@@ -5,3 +5,13 @@
 mod counts;
 #[cfg(test)]
 mod images;
+#[cfg(test)]
+mod plain_counts;
+#[cfg(test)]
+mod plain_tickets;
+#[cfg(test)]
+mod plain_zone;
+#[cfg(test)]
+mod tickets;
+#[cfg(test)]
+mod zones;

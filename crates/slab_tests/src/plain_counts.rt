@@ -1,4 +1,4 @@
-use crate::images::{FIRST, opening_counter};
+use crate::images::opening_counter;
 use slab_counts::Refusal;
 
 // The greatest counter, with the claims.
@@ -19,21 +19,36 @@ struct PlainBlock {
 }
 
 impl PlainCounts {
-    pub(crate) fn opened() -> PlainCounts {
+    /// 64 data blocks in groups of so many, of which one begins this far behind the other; the first begins at `first`.
+    pub(crate) fn opened(first: u32, group: u32, stride: u32) -> PlainCounts {
         let mut blocks = [PlainBlock {
-            at: FIRST,
+            at: first,
             count: 0,
             claims: 0,
             page: false,
         }; 64];
-        let mut at = FIRST;
+        let mut begins = first;
+        let mut offset = 0_u32;
         for (k, block) in blocks.iter_mut().enumerate() {
-            block.at = at;
+            block.at = begins.saturating_add(offset);
             block.count = u32::from(opening_counter(k));
             block.page = k == 0;
-            at = at.saturating_add(1);
+            offset = offset.saturating_add(1);
+            if offset == group {
+                begins = begins.saturating_add(stride);
+                offset = 0;
+            }
         }
         PlainCounts { blocks }
+    }
+
+    pub(crate) fn has_free(&self) -> bool {
+        for block in &self.blocks {
+            if block.count == 0 && block.claims == 0 {
+                return true;
+            }
+        }
+        false
     }
 
     fn find(&self, at: u32) -> Option<PlainBlock> {

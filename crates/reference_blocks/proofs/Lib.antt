@@ -1,0 +1,2 @@
+pub mod UpdateLaws
+pub mod Rows

@@ -1,0 +1,21 @@
+-- The zone of the tests, and what a test holds of it.
+use Rattle.std.specs.Prelude.{ℕ, ◌≡◌, List}
+use Rattle.blk_base.specs.declared.geometry.Geometry.{Geometry}
+use Rattle.slab_counts.specs.declared.tickets.Ticket.{Ticket}
+use Rattle.slab_tests.specs.declared.zones.Held.{Held}
+use Rattle.slab_tests.specs.Out.{AreOut}
+use Rattle.slab_zone.specs.Zone.{Zone}
+
+-- eight slabs of 16 blocks
+abbrev pub two_zones : Geometry
+two_zones = record { logical = 1000; slabs = 8; slab_blocks = 16; journal = 8; index = 16; slab_journal = 4; height = 2; nonce = 1 }
+
+-- it is the second of two zones, and these tickets are out there
+pub record IsSecond (z : Zone) (tickets : List Ticket) (issued step : ℕ) : Type 0 where
+  pub geometry : z.geometry ≡ two_zones
+  pub zone : z.zone ≡ 1
+  pub zones : z.zones ≡ 2
+  pub out : AreOut z.desk tickets issued step
+
+abbrev pub IsTested : Zone → Held → Type 0
+IsTested z held = IsSecond z held.tickets.items held.clock.issued held.clock.step

@@ -1,0 +1,2 @@
+pub mod ReceiptLaws
+mod Rows
