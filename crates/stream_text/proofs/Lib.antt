@@ -5,3 +5,4 @@ pub mod WordLaws
 pub mod PutLaws
 pub mod RunLaws
 pub mod TextLaws
+pub mod NoteLaws

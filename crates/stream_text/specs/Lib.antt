@@ -5,3 +5,4 @@ pub mod Facts
 pub mod Runs
 pub mod Texts
 pub mod Puts
+pub mod Notes

@@ -3,6 +3,8 @@
 
 mod answers;
 mod fault;
+mod indexed;
+mod notes;
 mod puts;
 mod reading;
 mod runs;
@@ -11,4 +13,5 @@ mod words;
 
 pub use answers::put_answers;
 pub use fault::{ReadScript, ScriptFault};
+pub use indexed::{AnswerRoom, put_indexed_answers};
 pub use reading::read_script;
