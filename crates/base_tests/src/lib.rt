@@ -11,6 +11,8 @@ mod fields;
 #[cfg(test)]
 mod images;
 #[cfg(test)]
+mod indexed;
+#[cfg(test)]
 mod journals;
 #[cfg(test)]
 mod pages;
