@@ -19,6 +19,8 @@ mod pages;
 #[cfg(test)]
 mod reports;
 #[cfg(test)]
+mod scripts;
+#[cfg(test)]
 mod shared;
 #[cfg(test)]
 mod slabs;

@@ -6,3 +6,9 @@ pub mod PutLaws
 pub mod RunLaws
 pub mod TextLaws
 pub mod NoteLaws
+pub mod NumberLaws
+pub mod RunWordLaws
+pub mod AskedLaws
+pub mod StreamLaws
+pub mod ScriptLaws
+pub mod ScriptRows

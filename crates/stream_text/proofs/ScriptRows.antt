@@ -1,0 +1,117 @@
+-- What lines ask for, and which fault of a line is named: for each rule a case that it takes and one that it refuses.
+use Rattle.std.specs.Prelude.{ℕ, ◌≡◌, true, false, List, [], ◌∷◌, ◌++◌, codes, Option, Some, None, Result, Ok, Err, refl}
+use Rattle.blk_base.specs.declared.request.Request.TheVariants.{Read, Discard, Flush}
+use Rattle.stream_text.specs.LineFaults.{first_of, both}
+use Rattle.stream_text.specs.LineWords.{number_of, within, extent_of, run_of_part, block_of_word}
+use Rattle.stream_text.specs.LineGrammar.{asked_of_line}
+use Rattle.stream_text.specs.StreamRows.{discards, with_requests}
+use Rattle.stream_text.specs.WholeScript.{lines_with_ends, text_of, is_passed_over, is_too_long}
+use Rattle.stream_text.specs.declared.refusal.LineFault.{LineFault}
+use Rattle.stream_text.specs.declared.refusal.LineFault.TheVariants.{Word, Number, Stream, Range, BlockLength}
+use Rattle.stream_text.specs.declared.asked.Asked.{Asked}
+use Rattle.stream_text.specs.declared.asked.Asked.TheVariants.{One, Discards}
+
+pub number_zeros : number_of (codes "007") ≡ Some 7
+number_zeros = refl
+
+pub number_empty : number_of [] ≡ None
+number_empty = refl
+
+pub number_letter : number_of (codes "7x") ≡ None
+number_letter = refl
+
+pub within_least : within 1 4096 Range (Some 1) ≡ Ok 1
+within_least = refl
+
+pub within_zero : within 1 4096 Range (Some 0) ≡ Err Range
+within_zero = refl
+
+pub within_most : within 0 15 Stream (Some 15) ≡ Ok 15
+within_most = refl
+
+pub within_more : within 0 15 Stream (Some 16) ≡ Err Stream
+within_more = refl
+
+pub within_none : within 0 15 Stream None ≡ Err Number
+within_none = refl
+
+pub first_before : first_of Stream Number ≡ Number
+first_before = refl
+
+pub first_after : first_of Number Stream ≡ Number
+first_after = refl
+
+pub extent_last : extent_of (Ok (4294967295, 1)) ≡ Ok (4294967295, 4294967295)
+extent_last = refl
+
+pub extent_beyond : extent_of (Ok (4294967295, 2)) ≡ Err Range
+extent_beyond = refl
+
+pub run_upper : run_of_part (codes "3*fF") ≡ Ok (record { count = 3; byte = 255 })
+run_upper = refl
+
+pub run_short : run_of_part (codes "3*f") ≡ Err Word
+run_short = refl
+
+pub run_bare : run_of_part (codes "3") ≡ Err Word
+run_bare = refl
+
+pub run_twice : run_of_part (codes "3*ff*ff") ≡ Err Word
+run_twice = refl
+
+pub run_letter : run_of_part (codes "x*ff") ≡ Err Number
+run_letter = refl
+
+pub run_zero : run_of_part (codes "0*ff") ≡ Err Range
+run_zero = refl
+
+pub block_short : block_of_word (codes "1*41+2*42") ≡ Err BlockLength
+block_short = refl
+
+pub block_form : block_of_word (codes "0*41+x*42+1*4") ≡ Err Word
+block_form = refl
+
+pub flush_row : asked_of_line (codes "0 flush") ≡ Ok (One 0 Flush)
+flush_row = refl
+
+pub flush_more : asked_of_line (codes "0 flush 1") ≡ Err Word
+flush_more = refl
+
+pub read_row : asked_of_line (codes "3 read 9") ≡ Ok (One 3 (Read (record { 0 = 9 })))
+read_row = refl
+
+pub read_upper : asked_of_line (codes "3 Read 9") ≡ Err Word
+read_upper = refl
+
+pub discard_row : asked_of_line (codes "1 discard 5 3") ≡ Ok (Discards 1 5 7)
+discard_row = refl
+
+pub discard_none : asked_of_line (codes "1 discard 5 0") ≡ Err Range
+discard_none = refl
+
+pub number_first : asked_of_line (codes "16 discard x 0") ≡ Err Number
+number_first = refl
+
+pub stream_next : asked_of_line (codes "16 discard 5 0") ≡ Err Stream
+stream_next = refl
+
+pub discards_two : discards 5 2 ≡ Discard (record { 0 = 5 }) ∷ Discard (record { 0 = 6 }) ∷ []
+discards_two = refl
+
+pub lines_two : lines_with_ends (codes "a\n\nb") ≡ codes "a\n" ∷ codes "\n" ∷ codes "b" ∷ []
+lines_two = refl
+
+pub text_ended : text_of (codes "a\n") ≡ codes "a"
+text_ended = refl
+
+pub passed_comment : is_passed_over (codes "# 0 flush") ≡ true
+passed_comment = refl
+
+pub passed_none : is_passed_over (codes "0 flush") ≡ false
+passed_none = refl
+
+pub long_at_limit : is_too_long 134217727 (codes "\n") ≡ false
+long_at_limit = refl
+
+pub long_beyond : is_too_long 134217728 (codes "\n") ≡ true
+long_beyond = refl
