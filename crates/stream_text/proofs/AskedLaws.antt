@@ -1,5 +1,5 @@
 -- A line with five words or more.
-use Rattle.std.specs.Prelude.{ℕ, ◌≡◌, ◌==◌, Bool, true, false, List, [], ◌∷◌, Result, Err, if◌then◌else◌, refl}
+use Rattle.std.specs.Prelude.{ℕ, ◌≡◌, ◌==◌, Bool, true, false, List, [], ◌∷◌, Err, if◌then◌else◌, refl}
 use Rattle.std.specs.List.{onto_first}
 use Rattle.std.proofs.Common.{◌∙◌, ap}
 use Rattle.stream_text.specs.Lines.{words_of}

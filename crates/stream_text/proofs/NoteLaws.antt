@@ -66,6 +66,7 @@ notes-answer lines older stream notes by answer at own there is = λ n within.
   where
     found : (n : ℕ) → (by.number == n) ≡ true → answer_of (Answer by answer ∷ older) (writer stream n) ≡ Some answer
     found n same = elim (eqb_tells by.stream stream) [ inl taken ↦ rw (taken.0, same) refl | inr other ↦ absurd (other.1 own) ]
+
     passed : (n : ℕ) → (by.number == n) ≡ false → answer_of (Answer by answer ∷ older) (writer stream n) ≡ answer_of older (writer stream n)
     passed n other = elim (eqb_tells by.stream stream) [ inl taken ↦ rw (taken.0, other) refl | inr apart ↦ rw apart.0 refl ]
 
@@ -89,6 +90,7 @@ places-own older stream notes placed own is = λ n within.
   where
     found : (n : ℕ) → (placed.request.number == n) ≡ true → place_of (placed ∷ older) (writer stream n) ≡ Some placed
     found n same = elim (eqb_tells placed.request.stream stream) [ inl taken ↦ rw (taken.0, same) refl | inr other ↦ absurd (other.1 own) ]
+
     passed : (n : ℕ) → (placed.request.number == n) ≡ false → place_of (placed ∷ older) (writer stream n) ≡ place_of older (writer stream n)
     passed n other = elim (eqb_tells placed.request.stream stream) [ inl taken ↦ rw (taken.0, other) refl | inr apart ↦ rw apart.0 refl ]
 

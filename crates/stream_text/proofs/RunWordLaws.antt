@@ -1,5 +1,5 @@
 -- A run that is read from a word, and the bytes of runs that are read one after the other.
-use Rattle.std.specs.Prelude.{ℕ, ◌≡◌, ◌==◌, nat_le, Bool, true, false, List, [], ◌∷◌, ◌++◌, replicate, Option, Some, None, Result, Ok, Err, if◌then◌else◌, refl}
+use Rattle.std.specs.Prelude.{ℕ, ◌≡◌, ◌==◌, nat_le, Bool, true, false, List, [], ◌∷◌, replicate, Some, None, Result, Ok, Err, if◌then◌else◌, refl}
 use Rattle.std.specs.List.{onto_first}
 use Rattle.std.proofs.Common.{sym, ◌∙◌, ap, subst, arith, inl, inr}
 use Rattle.std.proofs.lemmas.Bool.{cases_Bool}

@@ -1,14 +1,13 @@
 -- What lines ask for, and which fault of a line is named: for each rule a case that it takes and one that it refuses.
-use Rattle.std.specs.Prelude.{ℕ, ◌≡◌, true, false, List, [], ◌∷◌, ◌++◌, codes, Option, Some, None, Result, Ok, Err, refl}
+use Rattle.std.specs.Prelude.{◌≡◌, true, false, [], ◌∷◌, codes, Some, None, Ok, Err, refl}
 use Rattle.blk_base.specs.declared.request.Request.TheVariants.{Read, Discard, Flush}
 use Rattle.stream_text.specs.LineFaults.{first_of, both}
-use Rattle.stream_text.specs.LineWords.{number_of, within, extent_of, run_of_part, block_of_word}
+use Rattle.stream_text.specs.LineWords.{number_of, within, extent_of, run_of, run_of_part, run_before, block_of_bytes}
+use Rattle.stream_text.specs.Runs.{Run}
 use Rattle.stream_text.specs.LineGrammar.{asked_of_line}
-use Rattle.stream_text.specs.StreamRows.{discards, with_requests}
+use Rattle.stream_text.specs.StreamRows.{discards}
 use Rattle.stream_text.specs.WholeScript.{lines_with_ends, text_of, is_passed_over, is_too_long}
-use Rattle.stream_text.specs.declared.refusal.LineFault.{LineFault}
 use Rattle.stream_text.specs.declared.refusal.LineFault.TheVariants.{Word, Number, Stream, Range, BlockLength}
-use Rattle.stream_text.specs.declared.asked.Asked.{Asked}
 use Rattle.stream_text.specs.declared.asked.Asked.TheVariants.{One, Discards}
 
 pub number_zeros : number_of (codes "007") ≡ Some 7
@@ -47,8 +46,26 @@ extent_last = refl
 pub extent_beyond : extent_of (Ok (4294967295, 2)) ≡ Err Range
 extent_beyond = refl
 
-pub run_upper : run_of_part (codes "3*fF") ≡ Ok (record { count = 3; byte = 255 })
-run_upper = refl
+pub run_right : run_of (Ok 3) (Some 255) ≡ Ok (record { count = 3; byte = 255 })
+run_right = refl
+
+pub run_faulty : run_of (Err Range) (Some 255) ≡ Err Range
+run_faulty = refl
+
+pub run_form : run_of (Err Number) None ≡ Err Word
+run_form = refl
+
+pub bytes_next : run_before (both (Ok (record { count = 2; byte = 7 })) (Ok (8 ∷ []))) ≡ Ok (7 ∷ 7 ∷ 8 ∷ [])
+bytes_next = refl
+
+pub bytes_first : run_before (both {A = Run} (Err Range) (Err Number)) ≡ Err Number
+bytes_first = refl
+
+pub block_short : block_of_bytes (Ok (7 ∷ 7 ∷ 8 ∷ [])) ≡ Err BlockLength
+block_short = refl
+
+pub block_faulty : block_of_bytes (Err Range) ≡ Err Range
+block_faulty = refl
 
 pub run_short : run_of_part (codes "3*f") ≡ Err Word
 run_short = refl
@@ -58,18 +75,6 @@ run_bare = refl
 
 pub run_twice : run_of_part (codes "3*ff*ff") ≡ Err Word
 run_twice = refl
-
-pub run_letter : run_of_part (codes "x*ff") ≡ Err Number
-run_letter = refl
-
-pub run_zero : run_of_part (codes "0*ff") ≡ Err Range
-run_zero = refl
-
-pub block_short : block_of_word (codes "1*41+2*42") ≡ Err BlockLength
-block_short = refl
-
-pub block_form : block_of_word (codes "0*41+x*42+1*4") ≡ Err Word
-block_form = refl
 
 pub flush_row : asked_of_line (codes "0 flush") ≡ Ok (One 0 Flush)
 flush_row = refl

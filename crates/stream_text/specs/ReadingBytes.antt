@@ -1,5 +1,5 @@
 -- A script that is read in part: the streams so far, and the beginning of a line.
-use Rattle.std.specs.Prelude.{ℕ, ◌≡◌, ◌≢◌, ◌≤◌, ◌<◌, ◌+◌, List, ◌++◌, length, Result, Ok, Err}
+use Rattle.std.specs.Prelude.{ℕ, ◌≡◌, ◌≢◌, ◌≤◌, ◌+◌, List, ◌++◌, length, Result, Ok, Err}
 use Rattle.std.specs.List.{AllByRecursion}
 use Rattle.vdo_model.specs.Scripts.{Script}
 use Rattle.stream_text.specs.StreamRows.{count_of}

@@ -92,12 +92,7 @@ fn discard_of(stream: &[u8], address: &[u8], count: &[u8]) -> Result<Asked, Line
     Ok(Asked::Discards { stream, at, last })
 }
 
-fn of_four(
-    stream: &[u8],
-    command: &[u8],
-    address: &[u8],
-    last: &[u8],
-) -> Result<Asked, LineFault>
+fn of_four(stream: &[u8], command: &[u8], address: &[u8], last: &[u8]) -> Result<Asked, LineFault>
     ensures asked { result ≡ asked_of_words (stream.now ∷ command.now ∷ address.now ∷ last.now ∷ []) }
     ensures stream { IfOk result (λ asked. stream_asked asked < 16) }
 {

@@ -109,9 +109,7 @@ fn fill(word: &[u8], block: &mut [u8]) -> Result<usize, LineFault>
 pub(crate) fn block_of(word: &[u8]) -> Result<Block, LineFault>
     ensures { result ≡ block_of_word word.now }
 {
-    let mut block = Block {
-        bytes: [0; 4096],
-    };
+    let mut block = Block { bytes: [0; 4096] };
     let filled = fill(word, &mut block.bytes)?;
     if filled != 4096 {
         return Err(LineFault::BlockLength);

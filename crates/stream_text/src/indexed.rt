@@ -128,7 +128,15 @@ fn put_stream<K: Sink>(
     }
     note_answers(desk, stream, &mut room.answers);
     note_places(places, stream, &mut room.places);
-    put_noted_stream(desk, places, &room.answers, &room.places, stream, requests, out)
+    put_noted_stream(
+        desk,
+        places,
+        &room.answers,
+        &room.places,
+        stream,
+        requests,
+        out,
+    )
 }
 
 /// Puts the line of each answered request, stream after stream, in the order of the requests. It takes no memory, and its

@@ -14,8 +14,8 @@ mod puts;
 mod reading;
 mod refusal;
 mod runs;
-mod streams;
 mod search;
+mod streams;
 mod whole;
 mod words;
 

@@ -1,4 +1,4 @@
-use Rattle.std.proofs.Common.{refl, arith}
+use Rattle.std.proofs.Common.{arith}
 use Rattle.stream_text.proofs.RunWordLaws.{filled-start, filled-next, filled-last}
 use Rattle.stream_text.specs.RunParts.{run_said}
 use Rattle.stream_text.proofs.blocks.fill.Goals as goal

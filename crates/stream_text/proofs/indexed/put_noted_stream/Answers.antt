@@ -1,8 +1,4 @@
-use Rattle.std.proofs.Common.{◌≡◌, reverse, get_or, None, arith, ap, ◌++◌, ◌∙◌}
-use Rattle.blk_base.specs.declared.request.Request.{Request}
-use Rattle.vdo_model.specs.declared.report.Placed.{Placed}
-use Rattle.vdo_model.specs.DeskLog.{answer_of}
-use Rattle.stream_text.specs.Texts.{line_text, writer}
+use Rattle.std.proofs.Common.{reverse, arith}
 use Rattle.stream_text.proofs.PutLaws.{on_err, but-all, but-next, but-part, lost}
 use Rattle.stream_text.proofs.NoteLaws.{stream_text-noted}
 use Rattle.stream_text.proofs.indexed.put_noted_stream.Goals as goal

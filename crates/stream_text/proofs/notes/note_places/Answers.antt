@@ -1,4 +1,4 @@
-use Rattle.std.proofs.Common.{ℕ, ◌∙◌}
+use Rattle.std.proofs.Common.{◌∙◌}
 use Rattle.vdo_model.specs.declared.report.Placed.{Placed}
 use Rattle.stream_text.proofs.NoteLaws.{step-placed, step-passed}
 use Rattle.stream_text.proofs.notes.note_places.Goals.{then-placed-stream, else-placed-stream}

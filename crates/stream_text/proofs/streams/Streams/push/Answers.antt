@@ -1,4 +1,4 @@
-use Rattle.std.proofs.Common.{ℕ, List, ◌∷◌, [], ◌∙◌, ap, arith}
+use Rattle.std.proofs.Common.{ℕ, ◌∷◌, [], ◌∙◌, ap, arith}
 use Rattle.stream_text.specs.StreamRows.{with_requests}
 use Rattle.stream_text.proofs.StreamLaws.{pushed, unchanged}
 use Rattle.stream_text.proofs.PutLaws.{on_err}

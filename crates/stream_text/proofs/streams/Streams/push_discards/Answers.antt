@@ -1,5 +1,3 @@
-use Rattle.std.proofs.Common.{List, ◌++◌, ◌+◌, ◌∙◌, sym, ap, arith, length}
-use Rattle.stream_text.specs.StreamRows.{with_requests, discards}
 use Rattle.stream_text.proofs.StreamLaws.{next_discard}
 use Rattle.stream_text.proofs.streams.Streams.push_discards.Goals as goal
 

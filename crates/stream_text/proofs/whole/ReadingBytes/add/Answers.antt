@@ -1,5 +1,4 @@
-use Rattle.std.proofs.Common.{◌≤◌, ◌<◌, ◌+◌, length, sym, arith, eqb-true}
-use Rattle.std.proofs.lemmas.Bool.{eqb-false}
+use Rattle.std.proofs.Common.{◌≤◌, ◌+◌, length, sym, arith, eqb-true}
 use Rattle.stream_text.specs.declared.refusal.LineFault.TheVariants.{TooLong}
 use Rattle.stream_text.proofs.ScriptLaws.{long-line, long-script, refuses-so}
 use Rattle.stream_text.proofs.whole.ReadingBytes.add.Goals as goal

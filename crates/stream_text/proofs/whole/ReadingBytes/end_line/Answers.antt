@@ -1,4 +1,4 @@
-use Rattle.std.proofs.Common.{◌≡◌, ◌+◌, length, sym, ◌∙◌, ap, subst}
+use Rattle.std.proofs.Common.{◌+◌, sym, ◌∙◌, ap, subst}
 use Rattle.std.specs.Prelude.{ℕ, List, []}
 use Rattle.stream_text.specs.WholeScript.{after_text}
 use Rattle.stream_text.specs.ReadingBytes.{goes_on_from, StopsLine}

@@ -1,4 +1,4 @@
-use Rattle.std.proofs.Common.{List, ℕ, ◌≡◌, ◌≤◌, ◌+◌, length, take, ◌∙◌, ap, refl, arith}
+use Rattle.std.proofs.Common.{List, ℕ, ◌≡◌, length, take, ◌∙◌, ap, refl, arith}
 use Rattle.std.proofs.lemmas.List.{length-take-le}
 use Rattle.std.proofs.lemmas.Result.{err_from_is_err_and}
 use Rattle.stream_text.specs.ReadingBytes.{goes_on_from}
