@@ -12,3 +12,4 @@ pub mod AskedLaws
 pub mod StreamLaws
 pub mod ScriptLaws
 pub mod ScriptRows
+pub mod WorkloadLaws

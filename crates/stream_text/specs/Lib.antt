@@ -13,3 +13,4 @@ pub mod LineGrammar
 pub mod StreamRows
 pub mod WholeScript
 pub mod ReadingBytes
+pub mod Workloads

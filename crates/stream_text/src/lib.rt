@@ -6,6 +6,7 @@ mod answers;
 mod asked;
 mod blocks;
 mod cuts;
+mod drawing;
 mod fault;
 mod indexed;
 mod notes;
@@ -20,6 +21,7 @@ mod whole;
 mod words;
 
 pub use answers::put_answers;
+pub use drawing::workload;
 pub use fault::{ReadScript, ScriptFault};
 pub use indexed::{AnswerRoom, put_indexed_answers};
 pub use reading::read_script;

@@ -36,7 +36,7 @@ impl Streams {
     }
 
     /// One more request of a stream. It fails where memory runs out, and then changes nothing.
-    fn push(&mut self, stream: u8, request: Request) -> Result<(), AllocError>
+    pub(crate) fn push(&mut self, stream: u8, request: Request) -> Result<(), AllocError>
         requires { stream < length self.old }
         ensures ok { OnOk result (self.new ≡ with_requests self.old stream (request ∷ [])) }
         ensures err { OnErr result (self.new ≡ self.old) }

@@ -62,7 +62,7 @@ fn fill_of(word: &[u8]) -> Option<u8>
 
 /// The block that a byte fills.
 #[tactic(auto, unfolding(crate::specs::Grammar::filled_block))]
-fn filled(byte: u8) -> Block
+pub(crate) fn filled(byte: u8) -> Block
     ensures { result ≡ filled_block byte }
 {
     Block {
