@@ -28,9 +28,7 @@ fn name(stream: u8, number: u32) -> Writer {
 
 /// Request 0 of stream 0 is answered twice, the last of stream 0 not at all, and one that isn't there is answered.
 fn desk_lines(alloc: Global) -> Result<Rows<DeskLine>, AllocError> {
-    let bytes = Block {
-        bytes: [255; 4096],
-    };
+    let bytes = Block { bytes: [255; 4096] };
     let mut lines = Vec::new(alloc);
     for (request, answer) in [
         (name(15, 0), Answer::NoSpace),
@@ -111,6 +109,9 @@ fn answers_of_streams_are_put(rt: HostRuntime) -> Result<(), Fail> {
     let whole = indexed(rt.alloc(), 1000, ANSWERS)?;
     let same = searched(rt.alloc())?;
     let cut = indexed(rt.alloc(), 30, b"0 0 discard 0 ok z1:70000\n0 1 ")?;
-    assert_eq!(rt; [whole, same, cut], [(Ok(()), None), (Ok(()), None), (Err(Failed), None)]);
+    assert_eq!(rt;
+        [whole, same, cut],
+        [(Ok(()), None), (Ok(()), None), (Err(Failed), None)]
+    );
     Ok(())
 }

@@ -4,7 +4,8 @@ use blk_base::Request;
 use disk_model::MemSource;
 use std::alloc::{AllocError, Global};
 use std::test::Fail;
-use stream_text::{LineFault, ReadRequests, ScriptRefusal, read_requests};
+use stream_text::{LineFault, ReadRequests, ScriptRefusal, read_requests, workload};
+use vdo_model::Requests;
 
 /// What became of a script: the stream, kind, address, first and last byte of its last request that is found stream after
 /// stream, and how many requests it has; or the refusal's line and fault.
@@ -42,14 +43,20 @@ const SERVED: [(&str, (u8, u8, u32, u8, u8, usize)); 12] = [
     ("\n\n#\n# 0 read\n", (0, b'-', 0, 0, 0, 0)),
     ("0 flush", (0, b'f', 0, 0, 0, 1)),
     ("15 read 4294967295\n", (15, b'r', 4294967295, 0, 0, 1)),
-    ("0003 read 0000000000000000000000000000007\n", (3, b'r', 7, 0, 0, 1)),
+    (
+        "0003 read 0000000000000000000000000000007\n",
+        (3, b'r', 7, 0, 0, 1),
+    ),
     ("0 write 9 1*41+4095*00", (0, b'w', 9, 0x41, 0, 1)),
     ("0 write 9 1*41+1*41+4094*fF\n", (0, b'w', 9, 0x41, 0xff, 1)),
     ("2 write 0 4096*aB\n", (2, b'w', 0, 0xab, 0xab, 1)),
     ("1 discard 4294967295 1\n", (1, b'd', 4294967295, 0, 0, 1)),
     ("0 discard 5 3\n0 flush\n", (0, b'f', 0, 0, 0, 4)),
     ("0 discard 0 65536\n#", (0, b'd', 65535, 0, 0, 65536)),
-    ("4 discard 4294901760 65536", (4, b'd', 4294967295, 0, 0, 65536)),
+    (
+        "4 discard 4294901760 65536",
+        (4, b'd', 4294967295, 0, 0, 65536),
+    ),
 ];
 
 #[test]
@@ -146,7 +153,13 @@ fn a_line_has_32768_bytes(rt: HostRuntime) -> Result<(), Fail> {
     let longest = comment(rt.alloc(), 32768)?;
     let longer = comment(rt.alloc(), 32769)?;
     let told = [read(rt.alloc(), &longest)?, read(rt.alloc(), &longer)?];
-    assert_eq!(rt; told, [Some(Ok((0, b'f', 0, 0, 0, 1))), Some(Err((2, LineFault::TooLong)))]);
+    assert_eq!(rt;
+        told,
+        [
+            Some(Ok((0, b'f', 0, 0, 0, 1))),
+            Some(Err((2, LineFault::TooLong)))
+        ]
+    );
     Ok(())
 }
 
@@ -162,10 +175,44 @@ fn refusals_are_printed(rt: HostRuntime) {
         (refusal(3, LineFault::Number), "script line 3: number"),
         (refusal(4, LineFault::Stream), "script line 4: stream"),
         (refusal(5, LineFault::Range), "script line 5: range"),
-        (refusal(6, LineFault::BlockLength), "script line 6: block length"),
+        (
+            refusal(6, LineFault::BlockLength),
+            "script line 6: block length",
+        ),
         (refusal(7, LineFault::TooMany), "script line 7: too many"),
         (ReadRequests::Read, "read fault"),
         (ReadRequests::Memory, "no memory"),
     ];
     assert_eq!(rt; not_shown(&rt, &texts), None);
+}
+
+fn told_at(requests: &Requests, stream: u8, number: usize) -> Option<(u8, u32, u8, u8)> {
+    Some(told_request(requests.stream(stream).get(number)?))
+}
+
+// As tools/workload.py says.
+#[test]
+fn a_seed_gives_requests(rt: HostRuntime) -> Result<(), Fail> {
+    let small = workload(rt.alloc(), 0, 6, 2, 1000)?;
+    let large = workload(rt.alloc(), 7, 66, 16, 4294967295)?;
+    let told = [
+        told_at(&small, 0, 0),
+        told_at(&small, 1, 0),
+        told_at(&small, 1, 2),
+        told_at(&small, 1, 3),
+        told_at(&large, 15, 3),
+        told_at(&large, 0, 4),
+        told_at(&large, 1, 4),
+    ];
+    let want = [
+        Some((b'd', 424, 0, 0)),
+        Some((b'w', 236, 13, 13)),
+        Some((b'r', 22, 0, 0)),
+        None,
+        Some((b'w', 236092707, 5, 5)),
+        Some((b'f', 0, 0, 0)),
+        Some((b'r', 1295903991, 0, 0)),
+    ];
+    assert_eq!(rt; told, want);
+    Ok(())
 }
