@@ -11,11 +11,15 @@ mod fields;
 #[cfg(test)]
 mod images;
 #[cfg(test)]
+mod indexed;
+#[cfg(test)]
 mod journals;
 #[cfg(test)]
 mod pages;
 #[cfg(test)]
 mod reports;
+#[cfg(test)]
+mod scripts;
 #[cfg(test)]
 mod shared;
 #[cfg(test)]

@@ -5,3 +5,11 @@ pub mod WordLaws
 pub mod PutLaws
 pub mod RunLaws
 pub mod TextLaws
+pub mod NoteLaws
+pub mod NumberLaws
+pub mod RunWordLaws
+pub mod AskedLaws
+pub mod StreamLaws
+pub mod ScriptLaws
+pub mod ScriptRows
+pub mod WorkloadLaws

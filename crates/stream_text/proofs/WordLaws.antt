@@ -45,7 +45,7 @@ address-digit logical value byte digits digit =
 pub address-other : (logical value byte : ℕ) (digits : List ℕ) → is_ascii_digit byte ≡ false → address_after logical value (byte ∷ digits) ≡ None
 address-other logical value byte digits other = rw other refl
 
-value_grows : (value : ℕ) (digits : List ℕ) → value ≤ digits_value_after 10 value digits
+pub value_grows : (value : ℕ) (digits : List ℕ) → value ≤ digits_value_after 10 value digits
 value_grows value [] = omega arith
 value_grows value (byte ∷ digits) = omega (arith, value_grows (value * 10 + digit_value byte) digits)
 

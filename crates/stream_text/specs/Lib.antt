@@ -5,3 +5,12 @@ pub mod Facts
 pub mod Runs
 pub mod Texts
 pub mod Puts
+pub mod Notes
+pub mod LineFaults
+pub mod LineWords
+pub mod RunParts
+pub mod LineGrammar
+pub mod StreamRows
+pub mod WholeScript
+pub mod ReadingBytes
+pub mod Workloads

@@ -99,7 +99,7 @@ fn put_name<K: Sink>(stream: u8, number: usize, out: &mut K) -> Result<(), Faile
     put_all(&pieces, out)
 }
 
-fn put_line<K: Sink>(
+pub(crate) fn put_line<K: Sink>(
     stream: u8,
     number: usize,
     request: &Request,

@@ -8,7 +8,7 @@ use blk_base::{Block, Lba, Request};
 pub const LONGEST_LINE: usize = 64;
 
 /// The first word of a line, and what stands behind the space after it.
-fn cut_word(line: &[u8]) -> (&[u8], Option<&[u8]>)
+pub(crate) fn cut_word(line: &[u8]) -> (&[u8], Option<&[u8]>)
     ensures { MatchOption result.1
         (words_of line.now ≡ result.0.now ∷ [])
         (λ rest. words_of line.now ≡ result.0.now ∷ words_of rest.now) }
@@ -62,7 +62,7 @@ fn fill_of(word: &[u8]) -> Option<u8>
 
 /// The block that a byte fills.
 #[tactic(auto, unfolding(crate::specs::Grammar::filled_block))]
-fn filled(byte: u8) -> Block
+pub(crate) fn filled(byte: u8) -> Block
     ensures { result ≡ filled_block byte }
 {
     Block {

@@ -1,0 +1,122 @@
+-- What lines ask for, and which fault of a line is named: for each rule a case that it takes and one that it refuses.
+use Rattle.std.specs.Prelude.{◌≡◌, true, false, [], ◌∷◌, codes, Some, None, Ok, Err, refl}
+use Rattle.blk_base.specs.declared.request.Request.TheVariants.{Read, Discard, Flush}
+use Rattle.stream_text.specs.LineFaults.{first_of, both}
+use Rattle.stream_text.specs.LineWords.{number_of, within, extent_of, run_of, run_of_part, run_before, block_of_bytes}
+use Rattle.stream_text.specs.Runs.{Run}
+use Rattle.stream_text.specs.LineGrammar.{asked_of_line}
+use Rattle.stream_text.specs.StreamRows.{discards}
+use Rattle.stream_text.specs.WholeScript.{lines_with_ends, text_of, is_passed_over, is_too_long}
+use Rattle.stream_text.specs.declared.refusal.LineFault.TheVariants.{Word, Number, Stream, Range, BlockLength}
+use Rattle.stream_text.specs.declared.asked.Asked.TheVariants.{One, Discards}
+
+pub number_zeros : number_of (codes "007") ≡ Some 7
+number_zeros = refl
+
+pub number_empty : number_of [] ≡ None
+number_empty = refl
+
+pub number_letter : number_of (codes "7x") ≡ None
+number_letter = refl
+
+pub within_least : within 1 4096 Range (Some 1) ≡ Ok 1
+within_least = refl
+
+pub within_zero : within 1 4096 Range (Some 0) ≡ Err Range
+within_zero = refl
+
+pub within_most : within 0 15 Stream (Some 15) ≡ Ok 15
+within_most = refl
+
+pub within_more : within 0 15 Stream (Some 16) ≡ Err Stream
+within_more = refl
+
+pub within_none : within 0 15 Stream None ≡ Err Number
+within_none = refl
+
+pub first_before : first_of Stream Number ≡ Number
+first_before = refl
+
+pub first_after : first_of Number Stream ≡ Number
+first_after = refl
+
+pub extent_last : extent_of (Ok (4294967295, 1)) ≡ Ok (4294967295, 4294967295)
+extent_last = refl
+
+pub extent_beyond : extent_of (Ok (4294967295, 2)) ≡ Err Range
+extent_beyond = refl
+
+pub run_right : run_of (Ok 3) (Some 255) ≡ Ok (record { count = 3; byte = 255 })
+run_right = refl
+
+pub run_faulty : run_of (Err Range) (Some 255) ≡ Err Range
+run_faulty = refl
+
+pub run_form : run_of (Err Number) None ≡ Err Word
+run_form = refl
+
+pub bytes_next : run_before (both (Ok (record { count = 2; byte = 7 })) (Ok (8 ∷ []))) ≡ Ok (7 ∷ 7 ∷ 8 ∷ [])
+bytes_next = refl
+
+pub bytes_first : run_before (both {A = Run} (Err Range) (Err Number)) ≡ Err Number
+bytes_first = refl
+
+pub block_short : block_of_bytes (Ok (7 ∷ 7 ∷ 8 ∷ [])) ≡ Err BlockLength
+block_short = refl
+
+pub block_faulty : block_of_bytes (Err Range) ≡ Err Range
+block_faulty = refl
+
+pub run_short : run_of_part (codes "3*f") ≡ Err Word
+run_short = refl
+
+pub run_bare : run_of_part (codes "3") ≡ Err Word
+run_bare = refl
+
+pub run_twice : run_of_part (codes "3*ff*ff") ≡ Err Word
+run_twice = refl
+
+pub flush_row : asked_of_line (codes "0 flush") ≡ Ok (One 0 Flush)
+flush_row = refl
+
+pub flush_more : asked_of_line (codes "0 flush 1") ≡ Err Word
+flush_more = refl
+
+pub read_row : asked_of_line (codes "3 read 9") ≡ Ok (One 3 (Read (record { 0 = 9 })))
+read_row = refl
+
+pub read_upper : asked_of_line (codes "3 Read 9") ≡ Err Word
+read_upper = refl
+
+pub discard_row : asked_of_line (codes "1 discard 5 3") ≡ Ok (Discards 1 5 7)
+discard_row = refl
+
+pub discard_none : asked_of_line (codes "1 discard 5 0") ≡ Err Range
+discard_none = refl
+
+pub number_first : asked_of_line (codes "16 discard x 0") ≡ Err Number
+number_first = refl
+
+pub stream_next : asked_of_line (codes "16 discard 5 0") ≡ Err Stream
+stream_next = refl
+
+pub discards_two : discards 5 2 ≡ Discard (record { 0 = 5 }) ∷ Discard (record { 0 = 6 }) ∷ []
+discards_two = refl
+
+pub lines_two : lines_with_ends (codes "a\n\nb") ≡ codes "a\n" ∷ codes "\n" ∷ codes "b" ∷ []
+lines_two = refl
+
+pub text_ended : text_of (codes "a\n") ≡ codes "a"
+text_ended = refl
+
+pub passed_comment : is_passed_over (codes "# 0 flush") ≡ true
+passed_comment = refl
+
+pub passed_none : is_passed_over (codes "0 flush") ≡ false
+passed_none = refl
+
+pub long_at_limit : is_too_long 134217727 (codes "\n") ≡ false
+long_at_limit = refl
+
+pub long_beyond : is_too_long 134217728 (codes "\n") ≡ true
+long_beyond = refl

@@ -1,0 +1,22 @@
+use Rattle.std.proofs.Common.{◌≢◌, sym, ◌∙◌, ap, subst}
+use Rattle.std.specs.Prelude.{ℕ, List, [], Ok}
+use Rattle.stream_text.specs.WholeScript.{after_text}
+use Rattle.stream_text.specs.ReadingBytes.{StopsLine}
+use Rattle.stream_text.proofs.ReadingLaws.{not_empty}
+use Rattle.stream_text.proofs.ScriptLaws.{served-last, stops-last}
+use Rattle.stream_text.proofs.whole.ReadingBytes.end.Goals as goal
+
+pub returns-in-Err-clause-refused : goal.returns-in-Err-clause-refused
+returns-in-Err-clause-refused c =
+    let self = c.args.self in
+    let some : self.line.items ≢ [] = λ e. not_empty self.line.items c.is_empty.result c.is_empty.ensures c.if-is_empty.false e in
+    stops-last self.number self.before self.streams self.line.items c.in-Err.stop c.stopped.result c.requires.one_line some c.requires.short c.requires.within
+    (subst (λ (line : List ℕ). StopsLine c.in-Err.stop (after_text self.streams line)) c.deref.ensures.0 c.in-Err.ensures.stopped) c.stopped.ensures
+
+pub returns-in-Ok-clause-ok : goal.returns-in-Ok-clause-ok
+returns-in-Ok-clause-ok c =
+    let self = c.args.self in
+    let some : self.line.items ≢ [] = λ e. not_empty self.line.items c.is_empty.result c.is_empty.ensures c.if-is_empty.false e in
+    served-last self.number self.before self.streams c.add_line.new.streams self.line.items c.requires.one_line some c.requires.short c.requires.within
+    (ap (after_text self.streams) (sym c.deref.ensures.0) ∙ c.in-Ok.ensures.ok.same)
+    ∙ ap Ok (sym c.into_requests-in-Ok.ensures)

@@ -1,0 +1,53 @@
+-- A script that is read in part: the streams so far, and the beginning of a line.
+use Rattle.std.specs.Prelude.{ℕ, ◌≡◌, ◌≢◌, ◌≤◌, ◌+◌, List, ◌++◌, length, Result, Ok, Err}
+use Rattle.std.specs.List.{AllByRecursion}
+use Rattle.vdo_model.specs.Scripts.{Script}
+use Rattle.stream_text.specs.StreamRows.{count_of}
+use Rattle.stream_text.specs.WholeScript.{lines_with_ends, script_from}
+use Rattle.stream_text.specs.declared.refusal.LineFault.{LineFault}
+use Rattle.stream_text.specs.declared.refusal.ScriptRefusal.{ScriptRefusal}
+use Rattle.stream_text.specs.declared.refusal.ReadRequests.{ReadRequests}
+use Rattle.stream_text.specs.declared.refusal.ReadRequests.TheVariants as read
+use Rattle.stream_text.specs.declared.adding.LineStop.{LineStop}
+use Rattle.stream_text.specs.declared.adding.LineStop.TheVariants as stop
+
+-- what the whole script is, if these bytes are the rest
+abbrev pub goes_on_from : ℕ → ℕ → Script → List ℕ → List ℕ → Result Script ScriptRefusal
+goes_on_from number before script line rest = script_from number before script (lines_with_ends (line ++ rest))
+
+-- what is kept while a script is read
+pub record IsReadingBytes (count number before : ℕ) (script : Script) (line : List ℕ) : Type 0 where
+  pub rows : length script ≡ 16
+  pub counted : count ≡ count_of script
+  pub few : count ≤ 65536
+  pub short : length line ≤ 32768
+  pub one_line : AllByRecursion (λ byte. byte ≢ 10) line
+  pub within : before + length line ≤ 134217728
+  pub numbered : number ≤ before + 1
+
+-- what a refusal says of the script
+abbrev pub RefusesScript : ReadRequests → Result Script ScriptRefusal → Type 0
+RefusesScript (read.Script refusal) script = script ≡ Err refusal
+RefusesScript read.Read script = Unit {0}
+RefusesScript read.Memory script = Unit {0}
+
+-- why a line adds nothing
+abbrev pub StopsLine : LineStop → Result Script LineFault → Type 0
+StopsLine (stop.Fault fault) script = script ≡ Err fault
+StopsLine stop.Memory script = Unit {0}
+
+-- the streams have what a line asks for
+pub record IsAdded (after : Result Script LineFault) (new : Script) (count : ℕ) : Type 0 where
+  pub same : after ≡ Ok new
+  pub counted : count ≡ count_of new
+  pub few : count ≤ 65536
+
+-- what is said of a line that adds nothing
+abbrev pub refusal_said : ℕ → LineStop → ReadRequests
+refusal_said number (stop.Fault fault) = read.Script (record { line = number; fault = fault })
+refusal_said number stop.Memory = read.Memory
+
+-- 16 streams of at most 65,536 requests in all
+pub record IsWholeScript (script : Script) : Type 0 where
+  pub rows : length script ≡ 16
+  pub few : count_of script ≤ 65536

@@ -1,0 +1,118 @@
+ghost use Rattle.std.specs.Prelude.{ℕ, ◌≡◌, ◌<◌, ◌≤◌, ◌+◌, ◌==◌, ◌++◌, ◌∷◌, [], List, Result, IfOk, length, take, replicate, min};
+ghost use Rattle.std.specs.List.{slice_split};
+ghost use Rattle.stream_text.specs.declared.refusal.LineFault.{LineFault as Fault};
+ghost use Rattle.hex.specs.Hex.{decode_sized};
+ghost use Rattle.stream_text.specs.Grammar.{first_byte};
+ghost use Rattle.stream_text.specs.LineWords.{run_of_pieces, run_of_part, bytes_of_parts, block_of_word};
+ghost use Rattle.stream_text.specs.RunParts.{run_said, behind, bytes_of_run, HoldsBytes};
+
+use crate::cuts::cut;
+use crate::numbers::{both, number_within};
+use crate::refusal::LineFault;
+use blk_base::Block;
+
+/// So many times the same byte.
+#[derive(Clone, Copy, Debug, PartialEq, Eq)]
+pub struct PlainRun {
+    count: u32,
+    byte: u8,
+}
+
+// The byte that two hexadecimal digits write.
+fn digits_byte(digits: &[u8]) -> Option<u8>
+    ensures { result ≡ first_byte (decode_sized digits.now 1) }
+{
+    let mut byte = [0];
+    match hex::decode_to_slice(digits, &mut byte) {
+        Ok(()) => Some(byte[0]),
+        Err(_) => None,
+    }
+}
+
+// The run of what stands around the asterisk.
+fn run_around(count: &[u8], digits: &[u8]) -> Result<PlainRun, LineFault>
+    ensures { run_said result ≡ run_of_pieces (count.now ∷ digits.now ∷ []) }
+{
+    let Some(byte) = digits_byte(digits) else {
+        return Err(LineFault::Word);
+    };
+    let count = number_within(count, 1, 4096, LineFault::Range)?;
+    Ok(PlainRun { count, byte })
+}
+
+/// The run that a part writes.
+fn run(part: &[u8]) -> Result<PlainRun, LineFault>
+    ensures { run_said result ≡ run_of_part part.now }
+{
+    let (count, rest) = cut(b'*', part);
+    let Some(rest) = rest else {
+        return Err(LineFault::Word);
+    };
+    let (digits, more) = cut(b'*', rest);
+    match more {
+        Some(_) => Err(LineFault::Word),
+        None => run_around(count, digits),
+    }
+}
+
+// Adds a run behind the first bytes of a block. More bytes than it has room for are told as 4097.
+fn add_run(block: &mut [u8], filled: usize, run: PlainRun) -> usize
+    requires length { length block.old ≡ 4096 }
+    requires filled { filled ≤ 4097 }
+    ensures length { length block.new ≡ 4096 }
+    ensures filled { result ≡ min (filled + run.count) 4097 }
+    ensures bytes { filled + run.count ≤ 4096 → take (filled + run.count) block.new ≡ take filled block.old ++ replicate run.count run.byte }
+{
+    let end = (filled + run.count as usize).min(4097);
+    if end <= 4096 {
+        block[filled..end].fill(run.byte);
+    }
+    end
+}
+
+// Adds the next run, or notes its fault.
+fn with_run(
+    block: &mut [u8],
+    so_far: Result<usize, LineFault>,
+    run: Result<PlainRun, LineFault>,
+) -> Result<usize, LineFault>
+    requires length { length block.old ≡ 4096 }
+    requires filled { IfOk so_far (λ filled. filled ≤ 4097) }
+    ensures length { length block.new ≡ 4096 }
+    ensures filled { IfOk result (λ filled. filled ≤ 4097) }
+    ensures bytes { (before : Result (List ℕ) Fault) → HoldsBytes before so_far block.old
+        → HoldsBytes (behind before (bytes_of_run (run_said run))) result block.new }
+{
+    let (filled, run) = both(so_far, run)?;
+    Ok(add_run(block, filled, run))
+}
+
+// Fills a block with the runs of a word. How many bytes they are is told up to 4097.
+fn fill(word: &[u8], block: &mut [u8]) -> Result<usize, LineFault>
+    requires { length block.old ≡ 4096 }
+    ensures length { length block.new ≡ 4096 }
+    ensures bytes { HoldsBytes (bytes_of_parts (slice_split (λ byte. byte == 43) word.now)) result block.new }
+{
+    let mut so_far: Result<usize, LineFault> = Ok(0);
+    let mut rest = word;
+    'parts: loop {
+        let (part, more) = cut(b'+', rest);
+        so_far = with_run(block, so_far, run(part));
+        match more {
+            Some(more) => rest = more,
+            None => return so_far,
+        }
+    }
+}
+
+/// The block whose bytes a word writes as runs.
+pub(crate) fn block_of(word: &[u8]) -> Result<Block, LineFault>
+    ensures { result ≡ block_of_word word.now }
+{
+    let mut block = Block { bytes: [0; 4096] };
+    let filled = fill(word, &mut block.bytes)?;
+    if filled != 4096 {
+        return Err(LineFault::BlockLength);
+    }
+    Ok(block)
+}

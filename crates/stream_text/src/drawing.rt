@@ -1,0 +1,99 @@
+ghost use Rattle.std.specs.Prelude.{◌≡◌, ◌<◌, ◌≤◌, IfOk};
+ghost use Rattle.stream_text.specs.Workloads.{next_state, number_of_state, drawn_block, drawn_kind, drawn_request, workload_of};
+
+use crate::streams::Streams;
+use crate::words::filled;
+use blk_base::{Lba, Request};
+use std::alloc::{AllocError, Global};
+use vdo_model::Requests;
+
+/// A request that was drawn, and the state behind it.
+#[derive(Drop)]
+pub struct Drawn {
+    state: u64,
+    request: Request,
+}
+
+fn next(state: u64) -> u64
+    ensures { result ≡ next_state state }
+{
+    state
+        .wrapping_mul(6364136223846793005)
+        .wrapping_add(1442695040888963407)
+}
+
+fn number(state: u64) -> u32
+    requires { state < 18446744073709551616 }
+    ensures { result ≡ number_of_state state }
+{
+    (state >> 33) as u32
+}
+
+// A request of this kind, 0 to 7.
+fn draw_kind(kind: u32, at: Lba, state: u64) -> Drawn
+    ensures { result ≡ drawn_kind kind at.0 state }
+{
+    if kind < 4 {
+        let state = next(state);
+        let block = filled((number(state) % 32) as u8);
+        let request = Request::Write {
+            at,
+            block,
+            fua: false,
+        };
+        return Drawn { state, request };
+    }
+    let request = if kind < 7 {
+        Request::Read(at)
+    } else {
+        Request::Discard(at)
+    };
+    Drawn { state, request }
+}
+
+// A request below the logical size.
+fn draw_block(logical: u32, state: u64) -> Drawn
+    requires { 0 < logical }
+    ensures { result ≡ drawn_block logical state }
+{
+    let first = next(state);
+    let second = next(first);
+    let at = Lba(number(second) % logical);
+    draw_kind(number(first) % 8, at, second)
+}
+
+// The request of this number.
+fn draw(logical: u32, i: u32, state: u64) -> Drawn
+    requires { 0 < logical }
+    ensures { result ≡ drawn_request logical i state }
+{
+    if i > 0 && i % 64 == 0 {
+        let request = Request::Flush;
+        return Drawn { state, request };
+    }
+    draw_block(logical, state)
+}
+
+/// The requests that a seed gives: so many, dealt out to 1 to 16 streams, at addresses below the logical size. They come as
+/// 16 streams. It fails where memory runs out.
+pub fn workload(
+    alloc: Global,
+    seed: u64,
+    requests: u32,
+    streams: u8,
+    logical: u32,
+) -> Result<Requests, AllocError>
+    requires some { 0 < streams }
+    requires streams { streams ≤ 16 }
+    requires logical { 0 < logical }
+    ensures { IfOk result (λ script. script ≡ workload_of seed streams logical requests) }
+{
+    let mut rows = Streams::new(alloc)?;
+    let mut state = seed;
+    for i in 0..requests {
+        let drawn = draw(logical, i, state);
+        state = drawn.state;
+        rows.push((i % u32::from(streams)) as u8, drawn.request)?;
+    }
+    Ok(rows.into_requests())
+}

@@ -1,0 +1,186 @@
+ghost use Rattle.std.specs.Prelude.{◌≡◌, ◌≢◌, ◌≤◌, ◌<◌, ◌+◌, ◌++◌, ◌∷◌, [], ℕ, List, length, Ok, IsTrue, IfOk, IfErr, OnOk, IsErrOf};
+ghost use Rattle.disk_model.specs.Causes.{Rose};
+ghost use Rattle.stream_text.specs.StreamRows.{no_requests};
+ghost use Rattle.stream_text.specs.WholeScript.{whole_script};
+ghost use Rattle.stream_text.specs.ReadingBytes.{goes_on_from, refusal_said, IsReadingBytes, IsWholeScript, RefusesScript};
+
+use crate::adding::{LineStop, add_line};
+use crate::refusal::{LineFault, ReadRequests, ScriptRefusal};
+use crate::streams::Streams;
+use arrayvec::ArrayVec;
+use disk_model::Source;
+use std::alloc::Global;
+use vdo_model::Requests;
+
+/// How many bytes a line may have, without its newline.
+const LONGEST_LINE: usize = 32768;
+
+/// How many bytes a script may have.
+const LONGEST_SCRIPT: u64 = 134_217_728;
+
+/// A script that is read in part: the streams so far with the number of their requests, the number of the line that is
+/// being read, the bytes before it, and its bytes so far.
+#[derive(Drop)]
+struct ReadingBytes {
+    streams: Streams,
+    count: u64,
+    number: u64,
+    before: u64,
+    line: ArrayVec<u8, LONGEST_LINE>,
+}
+
+// What is said of a line that adds nothing.
+fn stopped(number: u64, stop: LineStop) -> ReadRequests
+    ensures { result ≡ refusal_said number stop }
+{
+    match stop {
+        LineStop::Memory => ReadRequests::Memory,
+        LineStop::Fault(fault) => {
+            ReadRequests::Script(ScriptRefusal {
+                line: number,
+                fault,
+            })
+        }
+    }
+}
+
+impl ReadingBytes {
+    // The line that was read is whole, and its newline was taken.
+    fn end_line(&mut self) -> Result<(), ReadRequests>
+        requires sound { IsReadingBytes self.old.count self.old.number self.old.before self.old.streams self.old.line.items }
+        requires room { self.old.before + length self.old.line.items < 134217728 }
+        ensures sound { OnOk result (IsReadingBytes self.new.count self.new.number self.new.before self.new.streams self.new.line.items) }
+        ensures ok { OnOk result ((rest : List ℕ) →
+            goes_on_from self.old.number self.old.before self.old.streams self.old.line.items (10 ∷ rest)
+            ≡ goes_on_from self.new.number self.new.before self.new.streams self.new.line.items rest) }
+        ensures taken { OnOk result (self.new.before + length self.new.line.items ≡ self.old.before + length self.old.line.items + 1) }
+        ensures refused { IfErr result (λ fault. (rest : List ℕ) →
+            RefusesScript fault (goes_on_from self.old.number self.old.before self.old.streams self.old.line.items (10 ∷ rest))) }
+        ensures no_fault { IfErr result (λ fault. fault ≢ ReadRequests.Read) }
+    {
+        match add_line(&mut self.streams, self.count, &self.line) {
+            Err(stop) => Err(stopped(self.number, stop)),
+            Ok(count) => {
+                self.count = count;
+                self.before += self.line.len() as u64 + 1;
+                self.number += 1;
+                self.line.clear();
+                Ok(())
+            }
+        }
+    }
+
+    // The next byte of the script.
+    fn add(&mut self, byte: u8) -> Result<(), ReadRequests>
+        requires { IsReadingBytes self.old.count self.old.number self.old.before self.old.streams self.old.line.items }
+        ensures sound { OnOk result (IsReadingBytes self.new.count self.new.number self.new.before self.new.streams self.new.line.items) }
+        ensures ok { OnOk result ((rest : List ℕ) →
+            goes_on_from self.old.number self.old.before self.old.streams self.old.line.items (byte ∷ rest)
+            ≡ goes_on_from self.new.number self.new.before self.new.streams self.new.line.items rest) }
+        ensures taken { OnOk result (self.new.before + length self.new.line.items ≡ self.old.before + length self.old.line.items + 1) }
+        ensures refused { IfErr result (λ fault. (rest : List ℕ) →
+            RefusesScript fault (goes_on_from self.old.number self.old.before self.old.streams self.old.line.items (byte ∷ rest))) }
+        ensures no_fault { IfErr result (λ fault. fault ≢ ReadRequests.Read) }
+    {
+        if self.before + self.line.len() as u64 >= LONGEST_SCRIPT {
+            return Err(stopped(self.number, LineStop::Fault(LineFault::TooLong)));
+        }
+        if byte == b'\n' {
+            return self.end_line();
+        }
+        if self.line.is_full() {
+            return Err(stopped(self.number, LineStop::Fault(LineFault::TooLong)));
+        }
+        self.line.push(byte);
+        Ok(())
+    }
+
+    // The next bytes of the script.
+    fn feed(&mut self, bytes: &[u8]) -> Result<(), ReadRequests>
+        requires { IsReadingBytes self.old.count self.old.number self.old.before self.old.streams self.old.line.items }
+        ensures sound { OnOk result (IsReadingBytes self.new.count self.new.number self.new.before self.new.streams self.new.line.items) }
+        ensures ok { OnOk result ((rest : List ℕ) →
+            goes_on_from self.old.number self.old.before self.old.streams self.old.line.items (bytes.now ++ rest)
+            ≡ goes_on_from self.new.number self.new.before self.new.streams self.new.line.items rest) }
+        ensures taken { OnOk result (self.new.before + length self.new.line.items ≡ self.old.before + length self.old.line.items + length bytes.now) }
+        ensures refused { IfErr result (λ fault. (rest : List ℕ) →
+            RefusesScript fault (goes_on_from self.old.number self.old.before self.old.streams self.old.line.items (bytes.now ++ rest))) }
+        ensures no_fault { IfErr result (λ fault. fault ≢ ReadRequests.Read) }
+    {
+        for byte in bytes {
+            self.add(*byte)?;
+        }
+        Ok(())
+    }
+
+    // The bytes of the source until its end.
+    fn feed_all<S: Source>(&mut self, source: &mut S) -> Result<(), ReadRequests>
+        requires { IsReadingBytes self.old.count self.old.number self.old.before self.old.streams self.old.line.items }
+        ensures sound { OnOk result (IsReadingBytes self.new.count self.new.number self.new.before self.new.streams self.new.line.items) }
+        ensures ok { IsTrue S.tells → OnOk result (
+            goes_on_from self.old.number self.old.before self.old.streams self.old.line.items (S.left source.old)
+            ≡ goes_on_from self.new.number self.new.before self.new.streams self.new.line.items []) }
+        ensures whole { IsTrue S.tells → OnOk result (S.left source.new ≡ []) }
+        ensures refused { IsTrue S.tells → IfErr result (λ fault.
+            RefusesScript fault (goes_on_from self.old.number self.old.before self.old.streams self.old.line.items (S.left source.old))) }
+        ensures read { IsErrOf result ReadRequests.Read → Rose (S.faults source.old) (S.faults source.new) }
+        ensures later { S.faults source.old ≤ S.faults source.new }
+    {
+        let mut buffer = [0; 4096];
+        'pieces: loop {
+            let Ok(count) = source.take(&mut buffer) else {
+                return Err(ReadRequests::Read);
+            };
+            if count == 0 {
+                return Ok(());
+            }
+            self.feed(&buffer[..count])?;
+        }
+    }
+
+    // The script has no more bytes.
+    fn end(mut self) -> Result<Requests, ReadRequests>
+        requires { IsReadingBytes self.count self.number self.before self.streams self.line.items }
+        ensures ok { IfOk result (λ script. goes_on_from self.number self.before self.streams self.line.items [] ≡ Ok script) }
+        ensures shape { IfOk result IsWholeScript }
+        ensures refused { IfErr result (λ fault. RefusesScript fault (goes_on_from self.number self.before self.streams self.line.items [])) }
+        ensures no_fault { IfErr result (λ fault. fault ≢ ReadRequests.Read) }
+    {
+        if self.line.is_empty() {
+            return Ok(self.streams.into_requests());
+        }
+        match add_line(&mut self.streams, self.count, &self.line) {
+            Err(stop) => Err(stopped(self.number, stop)),
+            Ok(_) => Ok(self.streams.into_requests()),
+        }
+    }
+}
+
+/// Reads the requests of a script, in pieces of any size, until the source's end or the first line with a fault. They come
+/// as 16 streams, of which each may have none.
+///
+/// It fails with `Script` where a line has a fault, with `Read` where the source failed, and with `Memory` where memory
+/// runs out. The memory that it takes is the requests' alone.
+pub fn read_requests<S: Source>(alloc: Global, source: &mut S) -> Result<Requests, ReadRequests>
+    // The script is what all the bytes say, and the source was read to its end.
+    ensures script { IsTrue S.tells → IfOk result (λ script. (whole_script (S.left source.old) ≡ Ok script) × (S.left source.new ≡ [])) }
+    // Whatever the source tells, no other requests come.
+    ensures shape { IfOk result IsWholeScript }
+    // The line that is named is the first with a fault, and its fault the first that it has.
+    ensures refused { IsTrue S.tells → IfErr result (λ fault. RefusesScript fault (whole_script (S.left source.old))) }
+    ensures read { IsErrOf result ReadRequests.Read → Rose (S.faults source.old) (S.faults source.new) }
+    ensures later { S.faults source.old ≤ S.faults source.new }
+{
+    let Ok(streams) = Streams::new(alloc) else {
+        return Err(ReadRequests::Memory);
+    };
+    let mut reading = ReadingBytes {
+        streams,
+        count: 0,
+        number: 1,
+        before: 0,
+        line: ArrayVec::new(),
+    };
+    reading.feed_all(source)?;
+    reading.end()
+}
