@@ -30,7 +30,7 @@ pub use Rattle.core_model.specs.declared.items.SealedBlock.{SealedBlock}
 pub use Rattle.core_model.specs.declared.items.Stage.{Stage}
 pub use Rattle.core_model.specs.declared.items.Vio.{Vio}
 pub use Rattle.core_model.specs.declared.sizes.Sizes.{Sizes}
-pub use Rattle.core_model.specs.declared.zones.Desk.{Desk}
+pub use Rattle.core_model.specs.DeskData.{Desk}
 pub use Rattle.core_model.specs.declared.zones.DeviceZone.{DeviceZone}
 pub use Rattle.core_model.specs.declared.zones.JournalZone.{JournalZone}
 pub use Rattle.core_model.specs.declared.zones.Lock.{Lock}

@@ -19,7 +19,7 @@ ghost use Rattle.vdo_model.specs.ZoneOrder.{places_in};
 ghost use Rattle.vdo_model.specs.declared.report.DeskLine.{DeskLine};
 ghost use Rattle.vdo_model.specs.declared.report.DeskLine.TheVariants as line;
 ghost use Rattle.core_model.specs.declared.zones.ZoneData.TheVariants.{Desk, Device, Journal, Logical};
-ghost use Rattle.core_model.specs.declared.zones.Desk.{Desk as DeskData};
+ghost use Rattle.core_model.specs.DeskData.{Desk as DeskData};
 ghost use Rattle.core_model.specs.declared.zones.DeviceZone.{DeviceZone};
 ghost use Rattle.core_model.specs.declared.zones.JournalZone.{JournalZone};
 ghost use Rattle.core_model.specs.declared.zones.LogicalZone.{LogicalZone};

@@ -1,1 +1,2 @@
 pub mod rows
+pub mod ListForms

@@ -18,7 +18,7 @@ use Rattle.core_model.specs.declared.items.Item.TheVariants as item
 use Rattle.core_model.specs.declared.items.Phase.TheVariants as phase
 use Rattle.core_model.specs.declared.items.Vio.{Vio}
 use Rattle.core_model.specs.declared.sizes.Sizes.{Sizes}
-use Rattle.core_model.specs.declared.zones.Desk.{Desk}
+use Rattle.core_model.specs.DeskData.{Desk}
 use Rattle.core_model.specs.Zones.{notified_zones}
 use Rattle.core_model.specs.Trace.{Trace, Says, Flushes}
 use Rattle.core_model.specs.Vios.{Post, begun_vio, turned}

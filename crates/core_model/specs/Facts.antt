@@ -34,7 +34,7 @@ use Rattle.core_model.specs.declared.items.Vio.{Vio}
 use Rattle.core_model.specs.declared.sizes.Sizes.{Sizes}
 use Rattle.core_model.specs.declared.zones.ZoneData.{ZoneData}
 use Rattle.core_model.specs.declared.zones.ZoneData.TheVariants as at
-use Rattle.core_model.specs.declared.zones.Desk.{Desk}
+use Rattle.core_model.specs.DeskData.{Desk}
 use Rattle.core_model.specs.declared.zones.DeviceZone.{DeviceZone}
 use Rattle.core_model.specs.declared.zones.JournalZone.{JournalZone}
 use Rattle.core_model.specs.declared.zones.Lock.{Lock}

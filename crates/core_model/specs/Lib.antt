@@ -1,3 +1,6 @@
+pub mod SessionLimits
+pub mod DeskLines
+pub mod DeskData
 pub mod Zones
 pub mod Phases
 pub mod Trace

@@ -18,7 +18,7 @@ use Rattle.vdo_model.specs.Scripts.{Script, request_at, value_written}
 use Rattle.core_model.specs.declared.sizes.Sizes.{Sizes}
 use Rattle.core_model.specs.declared.zones.Logged.{Logged}
 use Rattle.plain_laws.specs.Sums.{total}
-use Rattle.core_model.specs.Limits.{IsLimited}
+use Rattle.core_model.specs.SessionLimits.{IsLimited}
 use Rattle.core_model.specs.Tokens.{is_block}
 use Rattle.core_model.specs.Trace.{Calls, Trace, calls, entered, committed, done, of_address, newest, entry_of, entries_of}
 

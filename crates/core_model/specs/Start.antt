@@ -3,7 +3,7 @@ use Rattle.std.specs.Prelude.{ℕ, ◌≡◌, ◌<◌, false, [], length}
 use Rattle.std.specs.List.{AllByRecursion}
 use Rattle.core_model.specs.declared.zones.ZoneData.{ZoneData}
 use Rattle.core_model.specs.declared.zones.ZoneData.TheVariants as at
-use Rattle.core_model.specs.declared.zones.Desk.{Desk}
+use Rattle.core_model.specs.DeskData.{Desk}
 use Rattle.core_model.specs.declared.zones.DeviceZone.{DeviceZone}
 use Rattle.core_model.specs.declared.zones.JournalZone.{JournalZone}
 use Rattle.core_model.specs.declared.zones.LogicalZone.{LogicalZone}

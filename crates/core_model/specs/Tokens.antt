@@ -15,6 +15,7 @@ use Rattle.core_model.specs.declared.zones.ZoneData.TheVariants as at
 use Rattle.core_model.specs.declared.zones.Lock.{Lock}
 use Rattle.core_model.specs.declared.zones.Logged.{Logged}
 use Rattle.core_model.specs.declared.zones.Zone.{Zone}
+pub use Rattle.core_model.specs.DeskLines.{is_answer, is_begin}
 use Rattle.core_model.specs.Phases.{row}
 use Rattle.core_model.specs.Zones.{notified_zones}
 use Rattle.plain_laws.specs.Sums.{total, bit}
@@ -171,14 +172,6 @@ abbrev pub journal_token : Token
 journal_token = record { item = is_sealed; own = idle_at; gave = one_journal }
 
 -- How many requests are under way, and how many stop notices.
-abbrev pub is_begin : DeskLine → ℕ
-is_begin (Begin v) = 1
-is_begin (Answer v a) = 0
-
-abbrev pub is_answer : DeskLine → ℕ
-is_answer (Begin v) = 0
-is_answer (Answer v a) = 1
-
 abbrev pub room_token : Token
 room_token = record { item = of_vio (λ v. 1); own = in_log is_answer; gave = in_log is_begin }
 

@@ -1,63 +1,51 @@
-ghost use Rattle.std.specs.Prelude.{◌≡◌, ◌<◌, ◌↔◌, [], ◌∷◌, ◌++◌, OnOk, OnErr, IfSome, IfNone, IsTrue, Some, length, slice_get, remove};
+ghost use Rattle.std.specs.Prelude.{◌≡◌, ◌+◌, ◌<◌, ◌≤◌, ◌↔◌, [], ◌∷◌, ◌++◌, IfOk, IfSome, IfNone, IsTrue, Some, length, slice_get, remove};
 
 use std::alloc::{AllocError, Global};
 use std::marker::Model;
 
-/// A list, first in, first out.
+/// A list, first in, first out. Its room, for `ROOM` items, is taken when it is made: no item is ever refused.
 #[derive(Drop)]
-pub struct Fifo<T> {
-    pub items: Vec<T>,
+pub struct Fifo<T, const ROOM: usize> {
+    items: Vec<T>,
 }
 
-impl<T> Model for Fifo<T> {
-    ghost use Rattle.std.specs.Prelude.{List};
+impl<T, const ROOM: usize> Model for Fifo<T, ROOM> {
+    ghost use Rattle.std.specs.Prelude.{◌≤◌, List, vec_capacity, vec_len};
 
     ghost Value = { List T };
 
     ghost view = { λ f. f.items.items };
+
+    ghost invariant = { λ f. (vec_len f.items ≤ ROOM) × (ROOM ≤ vec_capacity f.items) };
 }
 
-impl<T: Drop> Fifo<T> {
+impl<T: Drop, const ROOM: usize> Fifo<T, ROOM> {
     /// The empty list.
-    pub fn new(alloc: Global) -> Fifo<T>
-        ensures { result ≡ [] }
+    pub fn new(alloc: Global) -> Result<Fifo<T, ROOM>, AllocError>
+        ensures { IfOk result (λ fifo. fifo ≡ []) }
     {
-        Fifo {
-            items: Vec::new(alloc),
-        }
+        Ok(Fifo {
+            items: Vec::with_capacity(alloc, ROOM)?,
+        })
     }
 
-    /// The list of these items, the first of which stands in front.
-    pub fn from_vec(items: Vec<T>) -> Fifo<T>
-        ensures { result ≡ items.items }
+    /// An item behind all others.
+    pub fn push(&mut self, item: T)
+        requires { length self.old < ROOM }
+        ensures { self.new ≡ self.old ++ item ∷ [] }
     {
-        Fifo { items }
+        self.items.push_reserved(item);
     }
 
-    /// An item behind all others. Where no memory is found for it, nothing changes.
-    pub fn push(&mut self, item: T) -> Result<(), AllocError>
-        ensures ok { OnOk result (self.new ≡ self.old ++ item ∷ []) }
-        ensures err { OnErr result (self.new ≡ self.old) }
+    /// All items of another list, behind those that are here. The other list is empty then, and keeps its room.
+    pub fn append(&mut self, more: &mut Fifo<T, ROOM>)
+        requires { length self.old + length more.old ≤ ROOM }
+        ensures added { self.new ≡ self.old ++ more.old }
+        ensures emptied { more.new ≡ [] }
     {
-        self.items.push(item)?;
-        Ok(())
-    }
-
-    /// An item in front of all others. Where no memory is found for it, nothing changes.
-    pub fn push_front(&mut self, item: T) -> Result<(), AllocError>
-        ensures ok { OnOk result (self.new ≡ item ∷ self.old) }
-        ensures err { OnErr result (self.new ≡ self.old) }
-    {
-        self.items.insert(0, item)?;
-        Ok(())
-    }
-
-    /// All items of another list, behind those that are here.
-    pub fn append(&mut self, mut more: Fifo<T>) -> Result<(), AllocError>
-        ensures { OnOk result (self.new ≡ self.old ++ more) }
-    {
-        self.items.append(&mut more.items)?;
-        Ok(())
+        let Ok(()) = self.items.append(&mut more.items) else {
+            unreachable!()
+        };
     }
 
     /// The item in front, which leaves the list.
@@ -80,6 +68,13 @@ impl<T: Drop> Fifo<T> {
         self.items.remove(index)
     }
 
+    /// All items leave the list.
+    pub fn clear(&mut self)
+        ensures { self.new ≡ [] }
+    {
+        self.items.clear();
+    }
+
     /// Whether there is no item.
     pub fn is_empty(&self) -> bool
         ensures { IsTrue result ↔ (self.now ≡ []) }
@@ -87,9 +82,10 @@ impl<T: Drop> Fifo<T> {
         self.items.is_empty()
     }
 
-    /// How many items there are.
+    /// How many items there are, at most as many as there is room for.
     pub fn len(&self) -> usize
-        ensures { result ≡ length self.now }
+        ensures count { result ≡ length self.now }
+        ensures most { result ≤ ROOM }
     {
         self.items.len()
     }

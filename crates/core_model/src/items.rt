@@ -1,4 +1,4 @@
-use crate::Logged;
+use crate::{BoxedVio, Logged};
 use blk_base::{Answer, Block, Lba, Mapping, Pbn, Writer, ZoneId};
 
 /// What a request asks for.
@@ -89,13 +89,13 @@ pub enum Stage {
 pub struct SealedBlock {
     pub stage: Stage,
     pub sequence: u64,
-    pub vio: Vio,
+    pub vio: BoxedVio,
 }
 
 /// What the zones pass to each other.
 #[derive(Drop)]
 pub enum Item {
-    Request(Vio),
+    Request(BoxedVio),
     Block(SealedBlock),
     /// A stop notice: the session is stopped. The device zone sends it to the zones, and each of them to the desk.
     StopNotice,

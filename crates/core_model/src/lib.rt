@@ -2,14 +2,29 @@
 //! which states are legal.
 #![tactic(auto)]
 
+mod boxed;
+mod desk;
 mod fifo;
 mod items;
+mod limits;
+mod outboxes;
+mod register;
+mod scripts;
 mod sizes;
+mod supply;
 mod zones;
 
+pub use boxed::BoxedVio;
+pub use desk::{Desk, DeskRows};
 pub use fifo::Fifo;
 pub use items::{Asks, Item, Phase, SealedBlock, Stage, Vio};
-pub use sizes::Sizes;
-pub use zones::{
-    Desk, DeviceZone, JournalZone, Lock, Logged, LogicalZone, PhysicalZone, Zone, ZoneData,
+pub use limits::{
+    BLOCK_ROOM, LANE_ROOM, MOST_BLOCKS, MOST_DEPTH, MOST_ITEMS, MOST_NOTICES, MOST_REQUESTS,
+    MOST_STREAMS, MOST_UNDER_WAY, MOST_ZONES, POST_ROOM, REQUEST_ROOM,
 };
+pub use outboxes::{Lane, Outboxes};
+pub use register::Register;
+pub use scripts::is_limited;
+pub use sizes::Sizes;
+pub use supply::Supply;
+pub use zones::{DeviceZone, JournalZone, Lock, Logged, LogicalZone, PhysicalZone, Zone, ZoneData};

@@ -1,6 +1,8 @@
-use crate::{Fifo, Item, Vio};
+use crate::{
+    BLOCK_ROOM, BoxedVio, Desk, Fifo, LANE_ROOM, Lane, Outboxes, REQUEST_ROOM, Register, Supply,
+};
 use blk_base::{Entry, Lba, Mapping, Pbn, Writer};
-use vdo_model::{DeskLine, FlushMark, Placed, Requests, Rows};
+use vdo_model::{Placed, Rows};
 
 /// A write whose journal entry was handed in.
 #[derive(Clone, Copy)]
@@ -20,18 +22,6 @@ pub struct Lock {
     pub place: u64,
 }
 
-/// Where requests begin and are answered.
-#[derive(Drop)]
-pub struct Desk {
-    pub requests: Requests,
-    pub log: Rows<DeskLine>,
-    pub marks: Rows<FlushMark>,
-    /// How many zones have passed on the stop notice.
-    pub notices: u32,
-    /// Requests to be answered as stopped, which wait until every zone has passed it on.
-    pub parked: Fifo<Vio>,
-}
-
 /// The addresses of some trees: their places, locks and slots.
 #[derive(Drop)]
 pub struct LogicalZone {
@@ -41,17 +31,17 @@ pub struct LogicalZone {
     pub notified: bool,
     /// The place that is drawn next.
     pub next: u64,
-    pub places: Rows<Placed>,
+    pub places: Register<Placed, REQUEST_ROOM>,
     /// The locks that are held, one for each address at most.
-    pub held: Fifo<Lock>,
+    pub held: Register<Lock, LANE_ROOM>,
     /// Who waits for a lock, in the order of their places.
-    pub waiting: Fifo<Vio>,
+    pub waiting: Fifo<BoxedVio, LANE_ROOM>,
     /// The addresses of aborted writes whose entry was handed in: their locks are never released.
-    pub retired: Fifo<Lba>,
+    pub retired: Register<Lba, BLOCK_ROOM>,
     /// The entries of the journal when the session began: where an address is mapped that isn't set since.
     pub window: Rows<Entry>,
     /// The slots that were set since, with whoever set them.
-    pub slots: Rows<Logged>,
+    pub slots: Register<Logged, BLOCK_ROOM>,
 }
 
 /// The data blocks.
@@ -60,7 +50,7 @@ pub struct PhysicalZone {
     /// The stop notice has come.
     pub notified: bool,
     /// The blocks that nobody has taken.
-    pub free: Fifo<Pbn>,
+    pub free: Supply,
 }
 
 /// The recovery journal.
@@ -73,11 +63,11 @@ pub struct JournalZone {
     /// A sealed block failed, and no entry is handed in any more.
     pub broken: bool,
     /// Who waits until the block under way is committed.
-    pub waiting: Fifo<Vio>,
+    pub waiting: Fifo<BoxedVio, LANE_ROOM>,
     /// The entries that were handed in.
-    pub entered: Rows<Logged>,
+    pub entered: Register<Logged, BLOCK_ROOM>,
     /// Those that are committed.
-    pub committed: Rows<Logged>,
+    pub committed: Register<Logged, BLOCK_ROOM>,
 }
 
 /// The device.
@@ -104,6 +94,6 @@ pub struct Zone {
     pub number: u32,
     pub steps: u64,
     pub keeps: ZoneData,
-    pub inbox: Fifo<Item>,
-    pub outboxes: Fifo<Fifo<Item>>,
+    pub inbox: Lane,
+    pub outboxes: Outboxes,
 }

@@ -4,11 +4,31 @@ ghost use Rattle.core_model.specs.Sessions.{IsServed};
 ghost use Rattle.steps_device.specs.DeviceCalls.{Fits};
 
 use blk_base::{Answer, Block, Geometry, Layout, Lba, Pbn, Request, Writer};
-use core_model::{Sizes, Zone, ZoneData};
+use core_model::{Sizes, Zone, ZoneData, is_limited};
 use disk_model::Disk;
 use std::alloc::{AllocError, Global};
 use vdo_core::{Event, StepFault, Stepped, Zones, begin, play};
 use vdo_model::{DeskLine, Placed, Requests};
+
+/// Why a core wasn't played.
+#[derive(Clone, Copy, Debug, PartialEq, Eq)]
+pub(crate) enum Unplayed {
+    Memory,
+    TooLarge,
+    Step(StepFault),
+}
+
+impl From<AllocError> for Unplayed {
+    fn from(_: AllocError) -> Unplayed {
+        Unplayed::Memory
+    }
+}
+
+impl From<StepFault> for Unplayed {
+    fn from(fault: StepFault) -> Unplayed {
+        Unplayed::Step(fault)
+    }
+}
 
 // A request, with blocks of one byte each.
 #[derive(Clone, Copy)]
@@ -96,8 +116,11 @@ fn data_blocks(alloc: Global) -> Result<Vec<Pbn>, AllocError> {
 }
 
 // A core at the start of a session on a fresh image.
-fn first(alloc: Global, sizes: &Sizes, streams: &[&[Ask]]) -> Result<Zones, StepFault> {
+fn first(alloc: Global, sizes: &Sizes, streams: &[&[Ask]]) -> Result<Zones, Unplayed> {
     let script = script(alloc, streams)?;
+    if !is_limited(&script) {
+        return Err(Unplayed::TooLarge);
+    }
     let free = data_blocks(alloc)?;
     Ok(begin(alloc, sizes, script, &[], free)?)
 }
@@ -116,21 +139,20 @@ pub(crate) fn in_order(alloc: Global, zones: u32) -> Result<Vec<Event>, AllocErr
 
 // Plays these events again and again, until there is no work for any of them.
 fn play_out<D: Disk>(
-    alloc: Global,
     sizes: &Sizes,
     zones: &mut Zones,
     events: &[Event],
     disk: &mut D,
-) -> Result<(), StepFault>
+) -> Result<(), Unplayed>
     requires { Fits sizes.now (D.seen disk.old) }
 {
     for round in 0..1000_u32 {
-        match play(alloc, sizes, zones, events, disk)? {
+        match play(sizes, zones, events, disk)? {
             Stepped::Did => {}
             Stepped::Idle => return Ok(()),
         }
     }
-    Err(StepFault::Exhausted)
+    Err(Unplayed::Step(StepFault::Exhausted))
 }
 
 // The core after these events, again and again, on a device with what these streams ask.
@@ -140,14 +162,14 @@ pub(crate) fn played<D: Disk>(
     streams: &[&[Ask]],
     events: &[Event],
     disk: &mut D,
-) -> Result<Zones, StepFault>
+) -> Result<Zones, Unplayed>
     requires { sizes.now.geometry ≡ Geometry.DEFAULT }
 {
     if disk.blocks() < Layout::of(&Geometry::DEFAULT).needed() {
-        return Err(StepFault::Stray);
+        return Err(Unplayed::Step(StepFault::Stray));
     }
     let mut zones = first(alloc, sizes, streams)?;
-    play_out(alloc, sizes, &mut zones, events, disk)?;
+    play_out(sizes, &mut zones, events, disk)?;
     Ok(zones)
 }
 
@@ -169,7 +191,7 @@ fn desk(zones: &[Zone]) -> &[DeskLine] {
                 ..
             },
             ..
-        ] => desk.log.as_slice(),
+        ] => desk.lines(),
         _ => &[],
     }
 }

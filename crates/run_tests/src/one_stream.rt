@@ -1,10 +1,10 @@
-use crate::cores::{Ask, Given, are_answers, in_order, places, played, sizes};
+use crate::cores::{Ask, Given, Unplayed, are_answers, in_order, places, played, sizes};
 use crate::runs::fresh;
 use blk_base::{Pbn, Writer};
 use disk_model::{CallKind, FaultAt, MemDisk};
 use std::alloc::{AllocError, Global};
 use std::test::Fail;
-use vdo_core::{Event, StepFault};
+use vdo_core::Event;
 use vdo_model::Placed;
 
 // What one stream asks, the block whose first write fails, and what it is given.
@@ -86,7 +86,7 @@ fn failing(alloc: Global, fails: Option<u32>) -> Result<MemDisk, AllocError> {
 }
 
 // Whether the row's requests are answered so.
-fn is_answered(alloc: Global, events: &[Event], row: &Row) -> Result<bool, StepFault> {
+fn is_answered(alloc: Global, events: &[Event], row: &Row) -> Result<bool, Unplayed> {
     let mut disk = failing(alloc, row.fails)?;
     let zones = played(alloc, &sizes(1, 1), &[row.asks], events, &mut disk)?;
     Ok(are_answers(zones.as_slice(), 0, row.gives))
@@ -125,7 +125,7 @@ const PLACES: [Placed; 2] = [
 fn drawn(
     alloc: Global,
     events: &[Event],
-) -> Result<(usize, Option<Placed>, Option<Placed>), StepFault> {
+) -> Result<(usize, Option<Placed>, Option<Placed>), Unplayed> {
     let asks: &[Ask] = &[Ask::Write(5, 0x61), Ask::Read(5)];
     let mut disk = fresh(alloc)?;
     let zones = played(alloc, &sizes(1, 1), &[asks], events, &mut disk)?;

@@ -1,8 +1,8 @@
-use crate::cores::{Ask, Given, are_answers, in_order, played, sizes};
+use crate::cores::{Ask, Given, Unplayed, are_answers, in_order, played, sizes};
 use crate::runs::fresh;
 use std::alloc::{AllocError, Global};
 use std::test::Fail;
-use vdo_core::{Event, StepFault};
+use vdo_core::Event;
 
 // Addresses below 812 are of logical zone 0 of two, and those from there on of zone 1.
 const ASKS: [&[Ask]; 2] = [
@@ -61,7 +61,7 @@ fn mixed(alloc: Global, events: &[Event]) -> Result<Vec<Event>, AllocError> {
 }
 
 // Whether both streams are answered so where these events are played.
-fn are_answered(alloc: Global, events: &[Event]) -> Result<bool, StepFault> {
+fn are_answered(alloc: Global, events: &[Event]) -> Result<bool, Unplayed> {
     let mut disk = fresh(alloc)?;
     let zones = played(alloc, &sizes(2, 3), &ASKS, events, &mut disk)?;
     let zones = zones.as_slice();

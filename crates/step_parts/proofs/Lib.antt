@@ -1,3 +1,4 @@
 pub mod DevicePins
-pub mod FaultLaws
 pub mod SilentLaws
+pub mod ResultLaws
+pub mod FaultLaws

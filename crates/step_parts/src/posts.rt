@@ -1,14 +1,14 @@
-ghost use Rattle.std.specs.Prelude.{◌≡◌, [], ◌∷◌, ◌++◌, OnOk, IfOk, IfSome, IfNone};
+ghost use Rattle.std.specs.Prelude.{◌≡◌, ◌<◌, ◌≤◌, ◌↔◌, [], ◌∷◌, ◌++◌, IfOk, IfSome, IfNone, IsTrue, length};
 
 use blk_base::ZoneId;
-use core_model::{Fifo, Item};
+use core_model::{Fifo, Item, POST_ROOM};
 use std::alloc::{AllocError, Global};
 use std::marker::Model;
 
-/// What a step posts: items in their order, each with the zone that it goes to.
+/// What a step posts: items in their order, each with the zone that it goes to. Its room is taken when it is made.
 #[derive(Drop)]
 pub struct Posts {
-    posts: Fifo<(ZoneId, Item)>,
+    posts: Fifo<(ZoneId, Item), POST_ROOM>,
 }
 
 impl Model for Posts {
@@ -22,29 +22,28 @@ impl Model for Posts {
 
 impl Posts {
     /// Nothing is posted.
-    pub fn none(alloc: Global) -> Posts
-        ensures { result ≡ [] }
+    pub fn new(alloc: Global) -> Result<Posts, AllocError>
+        ensures { IfOk result (λ posts. posts ≡ []) }
     {
-        Posts {
-            posts: Fifo::new(alloc),
-        }
+        Ok(Posts {
+            posts: Fifo::new(alloc)?,
+        })
     }
 
-    /// One item is posted.
-    pub fn one(alloc: Global, to: ZoneId, item: Item) -> Result<Posts, AllocError>
-        ensures { IfOk result (λ posts. posts ≡ (to, item) ∷ []) }
+    /// The first item.
+    pub fn first(&mut self, to: ZoneId, item: Item)
+        requires { self.old ≡ [] }
+        ensures { self.new ≡ (to, item) ∷ [] }
     {
-        let mut posts = Fifo::new(alloc);
-        posts.push((to, item))?;
-        Ok(Posts { posts })
+        self.push(to, item);
     }
 
     /// One more item, behind the others.
-    pub fn push(&mut self, to: ZoneId, item: Item) -> Result<(), AllocError>
-        ensures { OnOk result (self.new ≡ self.old ++ (to, item) ∷ []) }
+    pub fn push(&mut self, to: ZoneId, item: Item)
+        requires { length self.old < POST_ROOM }
+        ensures { self.new ≡ self.old ++ (to, item) ∷ [] }
     {
-        self.posts.push((to, item))?;
-        Ok(())
+        self.posts.push((to, item));
     }
 
     /// The first post, which is taken out.
@@ -53,5 +52,20 @@ impl Posts {
         ensures none { IfNone result ((self.old ≡ []) × (self.new ≡ [])) }
     {
         self.posts.pop()
+    }
+
+    /// All posts are taken out.
+    pub fn clear(&mut self)
+        ensures { self.new ≡ [] }
+    {
+        self.posts.clear();
+    }
+
+    /// How many posts there are, at most as many as there is room for.
+    pub fn len(&self) -> usize
+        ensures count { result ≡ length self.now }
+        ensures most { result ≤ POST_ROOM }
+    {
+        self.posts.len()
     }
 }

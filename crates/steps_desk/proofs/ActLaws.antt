@@ -4,7 +4,7 @@ use Rattle.core_model.specs.declared.items.Item.TheVariants as item
 use Rattle.core_model.specs.declared.items.Vio.{Vio}
 use Rattle.core_model.specs.declared.sizes.Sizes.{Sizes}
 use Rattle.core_model.specs.declared.zones.ZoneData.TheVariants as at
-use Rattle.core_model.specs.declared.zones.Desk.{Desk}
+use Rattle.core_model.specs.DeskData.{Desk}
 use Rattle.core_model.specs.DeskRows.{DeskBegins, DeskServes, with_notice, woken}
 use Rattle.core_model.specs.DeskRows.DeskBegins.{answers as answers_at_once, sends}
 use Rattle.core_model.specs.DeskRows.DeskServes.{parks, answers, marks}

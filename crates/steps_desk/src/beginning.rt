@@ -1,23 +1,22 @@
-ghost use Rattle.std.specs.Prelude.{◌≡◌, ◌<◌, ◌^◌, ◌∷◌, [], ℕ, IfOk, IfErr, IfSome, IfNone, length};
+ghost use Rattle.std.specs.Prelude.{◌≡◌, ◌<◌, ◌≤◌, ◌+◌, ◌∷◌, [], ℕ, IfOk, IfErr, OnOk, IsTrue, IfSome, IfNone, false};
 ghost use Rattle.vdo_model.specs.DeskLog.{IsNextLine};
 ghost use Rattle.vdo_model.specs.declared.report.DeskLine.TheVariants as line;
 ghost use Rattle.core_model.specs.declared.items.Item.TheVariants as item;
 ghost use Rattle.core_model.specs.declared.zones.ZoneData.TheVariants as at;
 ghost use Rattle.core_model.specs.DeskRows as rows;
+ghost use Rattle.core_model.specs.Limits.{HasRoomToBegin};
 ghost use Rattle.core_model.specs.Steps.{MayBegin};
+ghost use Rattle.step_parts.specs.declared.fault.StepFault.TheVariants.{Exhausted};
 ghost use Rattle.core_model.specs.Trace.{Trace};
 ghost use Rattle.core_model.specs.Vios as vios;
 ghost use Rattle.step_parts.specs.Acts.{ActsAlone};
-ghost use Rattle.step_parts.specs.Causes.{MemoryOrStray};
-ghost use Rattle.steps_desk.specs.Begins.{BeginsUnserved, CanCount};
+ghost use Rattle.steps_desk.specs.Begins.{BeginsNone, CanBegin};
 
-use crate::answering::{answer, is_notified};
+use crate::answering::is_notified;
 use crate::lines::{answered, begun};
 use blk_base::{Answer, Block, Lba, Mapping, PAGE_SLOTS, Pbn, Request, TREES, Writer, ZoneId};
 use core_model::{Asks, Desk, Item, Phase, Sizes, Vio};
-use std::alloc::{AllocError, Global};
-use step_parts::{Posts, StepFault, turned};
-use vdo_model::DeskLine;
+use step_parts::{Posts, StepFault};
 
 // A request for an address when it is begun.
 fn begun_vio(sizes: &Sizes, request: Writer, asks: Asks, at: Lba, bytes: Block) -> Vio
@@ -62,8 +61,9 @@ fn vio_of(sizes: &Sizes, request: Writer, asked: &Request) -> Option<Vio>
         }
         Request::Flush => {
             let zeros = Block::zero();
-            let vio = begun_vio(sizes, request, Asks::Flush, Lba(0), zeros);
-            Some(turned(vio, Phase::Flush))
+            let mut vio = begun_vio(sizes, request, Asks::Flush, Lba(0), zeros);
+            vio.phase = Phase::Flush;
+            Some(vio)
         }
         Request::Write { .. } | Request::Discard(_) => None,
     }
@@ -113,16 +113,16 @@ fn first_zone(vio: &Vio) -> ZoneId
 
 // The number of the next request of a stream, where it may be begun.
 fn next_of(sizes: &Sizes, desk: &Desk, stream: u8) -> Option<u32>
-    requires { length desk.now.log < 2 ^ 32 }
+    requires { CanBegin sizes.now desk.now }
     ensures may { IfSome result (λ number.
         IsNextLine sizes.now.depth desk.now.requests (line.Begin (record { stream = stream; number = number })) desk.now.log) }
     ensures none { IfNone result (
         (number : ℕ) → IsNextLine sizes.now.depth desk.now.requests (line.Begin (record { stream = stream; number = number })) desk.now.log → ⊥) }
 {
-    let lines = desk.log.as_slice();
+    let lines = desk.lines();
     let next = begun(stream, lines);
     let done = answered(stream, lines);
-    let requests = desk.requests.stream(stream);
+    let requests = desk.requests().stream(stream);
     if next >= requests.len() || next as u64 >= done as u64 + u64::from(sizes.depth) {
         return None;
     }
@@ -131,11 +131,11 @@ fn next_of(sizes: &Sizes, desk: &Desk, stream: u8) -> Option<u32>
 
 // The next request of the lowest stream that may begin one.
 fn lowest(sizes: &Sizes, desk: &Desk) -> Option<Writer>
-    requires { CanCount sizes.now desk.now }
+    requires { CanBegin sizes.now desk.now }
     ensures may { IfSome result (λ request. IsNextLine sizes.now.depth desk.now.requests (line.Begin request) desk.now.log) }
     ensures none { IfNone result (MayBegin sizes.now (at.Desk desk.now) → ⊥) }
 {
-    for number in 0..desk.requests.count() {
+    for number in 0..desk.requests().count() {
         let stream = number as u8;
         if let Some(number) = next_of(sizes, desk, stream) {
             return Some(Writer { stream, number });
@@ -145,65 +145,66 @@ fn lowest(sizes: &Sizes, desk: &Desk) -> Option<Writer>
 }
 
 // A request is begun, and sent on.
-fn send(alloc: Global, desk: &mut Desk, request: Writer, vio: Vio) -> Result<Posts, AllocError>
-    ensures { IfOk result (λ posts. (desk.new ≡ record desk.old { log = line.Begin request ∷ desk.old.log })
-        × (posts ≡ (rows.first_zone vio, item.Request vio) ∷ [])) }
+fn send(desk: &mut Desk, vio: Vio, posts: &mut Posts) -> Result<(), StepFault>
+    requires { posts.old ≡ [] }
+    ensures desk { OnOk result (desk.new ≡ record desk.old { log = line.Begin vio.request ∷ desk.old.log }) }
+    ensures posts { OnOk result (posts.new ≡ (rows.first_zone vio, item.Request vio) ∷ []) }
+    ensures err { IfErr result (λ fault. (fault ≡ Exhausted) × (HasRoomToBegin desk.old → ⊥)) }
 {
-    desk.log.push(DeskLine::Begin { request })?;
     let to = first_zone(&vio);
-    Posts::one(alloc, to, Item::Request(vio))
-}
-
-// A request is begun, and answered at once.
-fn answer_at_once(
-    alloc: Global,
-    desk: &mut Desk,
-    request: Writer,
-    given: Answer,
-) -> Result<Posts, AllocError>
-    ensures { IfOk result (λ posts. (desk.new ≡ record desk.old { log = line.Answer request given ∷ line.Begin request ∷ desk.old.log }) × (posts ≡ [])) }
-{
-    desk.log.push(DeskLine::Begin { request })?;
-    answer(desk, request, given)?;
-    Ok(Posts::none(alloc))
+    match desk.begin(vio) {
+        Some(boxed) => {
+            posts.first(to, Item::Request(boxed));
+            Ok(())
+        }
+        None => Err(StepFault::Exhausted),
+    }
 }
 
 // A request is begun, and answered at once or sent on.
 fn begin_one(
-    alloc: Global,
     sizes: &Sizes,
     desk: &mut Desk,
     request: Writer,
-) -> Result<Posts, StepFault>
-    requires zones { 0 < sizes.now.zones }
+    posts: &mut Posts,
+) -> Result<(), StepFault>
+    requires can { CanBegin sizes.now desk.old }
     requires next { IsNextLine sizes.now.depth desk.old.requests (line.Begin request) desk.old.log }
-    ensures ok { IfOk result (λ posts. (made : Trace) × rows.DeskBegins sizes.now desk.old desk.new made posts) }
-    ensures err { IfErr result (MemoryOrStray (BeginsUnserved sizes.now desk.old)) }
+    requires none { posts.old ≡ [] }
+    ensures ok { OnOk result ((made : Trace) × rows.DeskBegins sizes.now desk.old desk.new made posts.new) }
+    ensures err { IfErr result (BeginsNone sizes.now desk.old) }
 {
     let notified = is_notified(sizes, desk);
-    let requests = desk.requests.stream(request.stream);
+    let requests = desk.requests().stream(request.stream);
     let Some(vio) = vio_of(sizes, request, &requests[request.number as usize]) else {
         return Err(StepFault::Stray);
     };
     match at_once(sizes, notified, vio.asks, vio.at) {
-        Some(given) => Ok(answer_at_once(alloc, desk, request, given)?),
-        None => Ok(send(alloc, desk, request, vio)?),
+        Some(given) => {
+            desk.answer_at_once(request, given);
+            Ok(())
+        }
+        None => send(desk, vio, posts),
     }
 }
 
 /// What the desk does with no item in its inbox: the next request of the lowest stream that may begin one is begun, and it
-/// posts this; none where no stream may. It fails with `Memory` where no memory is found for the next line of the log or
-/// for what is posted, and with `Stray` where the request isn't one that is served.
-pub fn begin_next(alloc: Global, sizes: &Sizes, desk: &mut Desk) -> Result<Option<Posts>, StepFault>
-    requires { CanCount sizes.now desk.old }
-    ensures begun { IfOk result (λ begun. IfSome begun (ActsAlone sizes.now (at.Desk desk.old) [] (at.Desk desk.new))) }
-    ensures might { IfOk result (λ begun. IfSome begun (λ posts. MayBegin sizes.now (at.Desk desk.old))) }
-    ensures same { IfOk result (λ begun. IfNone begun (desk.new ≡ desk.old)) }
-    ensures none { IfOk result (λ begun. IfNone begun (MayBegin sizes.now (at.Desk desk.old) → ⊥)) }
-    ensures err { IfErr result (MemoryOrStray (BeginsUnserved sizes.now desk.old)) }
+/// posts this; it says whether a stream may. It fails with `Exhausted` where there is no room for one more request, and
+/// with `Stray` where the request isn't one that is served.
+pub fn begin_next(sizes: &Sizes, desk: &mut Desk, posts: &mut Posts) -> Result<bool, StepFault>
+    requires can { CanBegin sizes.now desk.old }
+    requires none { posts.old ≡ [] }
+    ensures begun { IfOk result (λ some. IsTrue some → ActsAlone sizes.now (at.Desk desk.old) [] (at.Desk desk.new) posts.new) }
+    ensures might { IfOk result (λ some. IsTrue some → MayBegin sizes.now (at.Desk desk.old)) }
+    ensures same { IfOk result (λ some. (some ≡ false) → (desk.new ≡ desk.old) × (posts.new ≡ [])) }
+    ensures none { IfOk result (λ some. (some ≡ false) → MayBegin sizes.now (at.Desk desk.old) → ⊥) }
+    ensures err { IfErr result (λ fault. MayBegin sizes.now (at.Desk desk.old) × BeginsNone sizes.now desk.old fault) }
 {
     match lowest(sizes, desk) {
-        Some(request) => Ok(Some(begin_one(alloc, sizes, desk, request)?)),
-        None => Ok(None),
+        Some(request) => {
+            begin_one(sizes, desk, request, posts)?;
+            Ok(true)
+        }
+        None => Ok(false),
     }
 }

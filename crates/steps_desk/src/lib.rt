@@ -4,11 +4,7 @@
 mod acting;
 mod answering;
 mod beginning;
-mod counting;
 mod lines;
-mod starting;
 
 pub use acting::act;
 pub use beginning::begin_next;
-pub use counting::can_count;
-pub use starting::first;

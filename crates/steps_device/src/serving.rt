@@ -1,177 +1,194 @@
-ghost use Rattle.std.specs.Prelude.{◌≡◌, ◌<◌, ◌^◌, ◌-◌, false, IfOk, IfErr};
+ghost use Rattle.std.specs.Prelude.{◌≡◌, ◌<◌, ◌≤◌, ◌^◌, ◌-◌, [], false, OnOk, OnErr};
 ghost use Rattle.disk_model.specs.Seen.{Stays};
 ghost use Rattle.core_model.specs.DeviceRows as rows;
 ghost use Rattle.core_model.specs.DeviceRows.{DeviceServes};
+ghost use Rattle.core_model.specs.SessionLimits.{most_zones};
 ghost use Rattle.core_model.specs.Trace.{Trace};
 ghost use Rattle.core_model.specs.declared.items.Phase.TheVariants as phase;
-ghost use Rattle.step_parts.specs.Causes.{NoRule, MemoryOrStray};
+ghost use Rattle.step_parts.specs.Causes.{NoRule};
 ghost use Rattle.step_parts.specs.DeviceLog.{HasCalled};
 ghost use Rattle.steps_device.specs.DeviceCalls.{Fits};
 
 use crate::calling::{flush, is_inside, read_block, write_block};
 use crate::stopping::halt;
 use blk_base::{Answer, Block, ZoneId};
-use core_model::{DeviceZone, Item, Phase, Sizes, Vio};
+use core_model::{BoxedVio, DeviceZone, Item, Phase, Sizes};
 use disk_model::Disk;
-use std::alloc::{AllocError, Global};
-use step_parts::{Posts, StepFault, ended, turned};
+use step_parts::{Posts, Stray};
 
 // The data of a write.
 fn store<D: Disk>(
-    alloc: Global,
     sizes: &Sizes,
     zone: &mut DeviceZone,
-    vio: Vio,
+    vio: BoxedVio,
     disk: &mut D,
-) -> Result<Posts, AllocError>
+    posts: &mut Posts,
+)
     requires phase { vio.phase ≡ phase.Store }
     requires inside { rows.IsInside sizes.now vio.block }
     requires runs { zone.old.stopped ≡ false }
     requires counts { zone.old.calls < 2 ^ 64 - 1 }
     requires fits { Fits sizes.now (D.seen disk.old) }
+    requires few { sizes.now.zones ≤ most_zones }
+    requires none { posts.old ≡ [] }
     ensures stays { Stays (D.seen disk.old) (D.seen disk.new) }
-    ensures serves { IfOk result (λ posts. (made : Trace) × DeviceServes sizes.now zone.old vio zone.new made posts
-        × HasCalled D.tells (D.seen disk.old) (D.seen disk.new) made) }
+    ensures serves { (made : Trace) × DeviceServes sizes.now zone.old vio zone.new made posts.new
+        × HasCalled D.tells (D.seen disk.old) (D.seen disk.new) made }
 {
-    let Ok(()) = write_block(disk, vio.block, &vio.bytes) else {
-        let failed = ended(vio, Phase::AbortClaim, Answer::Stopped);
-        return halt(
-            alloc,
+    let Ok(()) = write_block(disk, vio.get().block, &vio.get().bytes) else {
+        let failed = vio.end(Phase::AbortClaim, Answer::Stopped);
+        halt(
             sizes,
             zone,
             ZoneId::Physical(0),
             Item::Request(failed),
+            posts,
         );
+        return;
     };
     zone.calls += 1;
-    let stored = turned(vio, Phase::Enter);
-    Posts::one(alloc, ZoneId::Journal, Item::Request(stored))
+    posts.first(ZoneId::Journal, Item::Request(vio.turn(Phase::Enter)));
 }
 
 // The block of a read.
 fn load<D: Disk>(
-    alloc: Global,
     sizes: &Sizes,
     zone: &mut DeviceZone,
-    mut vio: Vio,
+    vio: BoxedVio,
     disk: &mut D,
-) -> Result<Posts, AllocError>
+    posts: &mut Posts,
+)
     requires phase { vio.phase ≡ phase.Load }
     requires inside { rows.IsInside sizes.now vio.block }
     requires counts { zone.old.calls < 2 ^ 64 - 1 }
     requires fits { Fits sizes.now (D.seen disk.old) }
+    requires few { sizes.now.zones ≤ most_zones }
+    requires none { posts.old ≡ [] }
     ensures stays { Stays (D.seen disk.old) (D.seen disk.new) }
-    ensures serves { IfOk result (λ posts. (made : Trace) × DeviceServes sizes.now zone.old vio zone.new made posts
-        × HasCalled D.tells (D.seen disk.old) (D.seen disk.new) made) }
+    ensures serves { (made : Trace) × DeviceServes sizes.now zone.old vio zone.new made posts.new
+        × HasCalled D.tells (D.seen disk.old) (D.seen disk.new) made }
 {
-    let home = vio.home;
+    let home = vio.get().home;
     let mut bytes = Block::zero();
-    let Ok(()) = read_block(disk, vio.block, &mut bytes) else {
-        let failed = ended(vio, Phase::Abort, Answer::ReadFault);
-        return Posts::one(alloc, home, Item::Request(failed));
+    let Ok(()) = read_block(disk, vio.get().block, &mut bytes) else {
+        let failed = vio.end(Phase::Abort, Answer::ReadFault);
+        posts.first(home, Item::Request(failed));
+        return;
     };
     zone.calls += 1;
-    vio.phase = Phase::Loaded;
-    vio.bytes = bytes;
-    Posts::one(alloc, home, Item::Request(vio))
+    posts.first(home, Item::Request(vio.load(bytes)));
 }
 
 // A flush request.
 fn flush_for<D: Disk>(
-    alloc: Global,
     sizes: &Sizes,
     zone: &mut DeviceZone,
-    mut vio: Vio,
+    vio: BoxedVio,
     disk: &mut D,
-) -> Result<Posts, AllocError>
+    posts: &mut Posts,
+)
     requires phase { vio.phase ≡ phase.Flush }
     requires counts { zone.old.calls < 2 ^ 64 - 1 }
+    requires few { sizes.now.zones ≤ most_zones }
+    requires none { posts.old ≡ [] }
     ensures stays { Stays (D.seen disk.old) (D.seen disk.new) }
-    ensures serves { IfOk result (λ posts. (made : Trace) × DeviceServes sizes.now zone.old vio zone.new made posts
-        × HasCalled D.tells (D.seen disk.old) (D.seen disk.new) made) }
+    ensures serves { (made : Trace) × DeviceServes sizes.now zone.old vio zone.new made posts.new
+        × HasCalled D.tells (D.seen disk.old) (D.seen disk.new) made }
 {
     if zone.stopped {
-        let unmade = ended(vio, Phase::Reply, Answer::Stopped);
-        return Posts::one(alloc, ZoneId::Desk, Item::Request(unmade));
+        let unmade = vio.end(Phase::Reply, Answer::Stopped);
+        posts.first(ZoneId::Desk, Item::Request(unmade));
+        return;
     }
     let Ok(()) = flush(disk) else {
-        let failed = ended(vio, Phase::Reply, Answer::Stopped);
-        return halt(alloc, sizes, zone, ZoneId::Desk, Item::Request(failed));
+        let failed = vio.end(Phase::Reply, Answer::Stopped);
+        halt(sizes, zone, ZoneId::Desk, Item::Request(failed), posts);
+        return;
     };
     zone.calls += 1;
-    vio.phase = Phase::Reply;
-    vio.answer = Some(Answer::Ok);
-    vio.calls = zone.calls;
-    Posts::one(alloc, ZoneId::Desk, Item::Request(vio))
+    posts.first(ZoneId::Desk, Item::Request(vio.mark(zone.calls)));
 }
 
 // The data of a write, which isn't written once the session is stopped.
 fn serve_store<D: Disk>(
-    alloc: Global,
     sizes: &Sizes,
     zone: &mut DeviceZone,
-    vio: Vio,
+    vio: BoxedVio,
     disk: &mut D,
-) -> Result<Posts, StepFault>
+    posts: &mut Posts,
+) -> Result<(), Stray>
     requires phase { vio.phase ≡ phase.Store }
     requires counts { zone.old.calls < 2 ^ 64 - 1 }
     requires fits { Fits sizes.now (D.seen disk.old) }
+    requires few { sizes.now.zones ≤ most_zones }
+    requires none { posts.old ≡ [] }
     ensures stays { Stays (D.seen disk.old) (D.seen disk.new) }
-    ensures serves { IfOk result (λ posts. (made : Trace) × DeviceServes sizes.now zone.old vio zone.new made posts
+    ensures serves { OnOk result ((made : Trace) × DeviceServes sizes.now zone.old vio zone.new made posts.new
         × HasCalled D.tells (D.seen disk.old) (D.seen disk.new) made) }
-    ensures err { IfErr result (MemoryOrStray (NoRule (DeviceServes sizes.now zone.old vio))) }
+    ensures err { OnErr result (NoRule (DeviceServes sizes.now zone.old vio)) }
 {
     if zone.stopped {
-        let unmade = ended(vio, Phase::AbortClaim, Answer::Stopped);
-        return Ok(Posts::one(alloc, ZoneId::Physical(0), Item::Request(unmade))?);
+        let unmade = vio.end(Phase::AbortClaim, Answer::Stopped);
+        posts.first(ZoneId::Physical(0), Item::Request(unmade));
+        return Ok(());
     }
-    if !is_inside(sizes, vio.block) {
-        return Err(StepFault::Stray);
+    if !is_inside(sizes, vio.get().block) {
+        return Err(Stray);
     }
-    Ok(store(alloc, sizes, zone, vio, disk)?)
+    store(sizes, zone, vio, disk, posts);
+    Ok(())
 }
 
 // The block of a read.
 fn serve_load<D: Disk>(
-    alloc: Global,
     sizes: &Sizes,
     zone: &mut DeviceZone,
-    vio: Vio,
+    vio: BoxedVio,
     disk: &mut D,
-) -> Result<Posts, StepFault>
+    posts: &mut Posts,
+) -> Result<(), Stray>
     requires phase { vio.phase ≡ phase.Load }
     requires counts { zone.old.calls < 2 ^ 64 - 1 }
     requires fits { Fits sizes.now (D.seen disk.old) }
+    requires few { sizes.now.zones ≤ most_zones }
+    requires none { posts.old ≡ [] }
     ensures stays { Stays (D.seen disk.old) (D.seen disk.new) }
-    ensures serves { IfOk result (λ posts. (made : Trace) × DeviceServes sizes.now zone.old vio zone.new made posts
+    ensures serves { OnOk result ((made : Trace) × DeviceServes sizes.now zone.old vio zone.new made posts.new
         × HasCalled D.tells (D.seen disk.old) (D.seen disk.new) made) }
-    ensures err { IfErr result (MemoryOrStray (NoRule (DeviceServes sizes.now zone.old vio))) }
+    ensures err { OnErr result (NoRule (DeviceServes sizes.now zone.old vio)) }
 {
-    if !is_inside(sizes, vio.block) {
-        return Err(StepFault::Stray);
+    if !is_inside(sizes, vio.get().block) {
+        return Err(Stray);
     }
-    Ok(load(alloc, sizes, zone, vio, disk)?)
+    load(sizes, zone, vio, disk, posts);
+    Ok(())
 }
 
 /// What the device's zone does with a request in front of its inbox. It makes one call of the device, or none.
 pub(crate) fn call_device<D: Disk>(
-    alloc: Global,
     sizes: &Sizes,
     zone: &mut DeviceZone,
-    vio: Vio,
+    vio: BoxedVio,
     disk: &mut D,
-) -> Result<Posts, StepFault>
+    posts: &mut Posts,
+) -> Result<(), Stray>
     requires counts { zone.old.calls < 2 ^ 64 - 1 }
     requires fits { Fits sizes.now (D.seen disk.old) }
+    requires few { sizes.now.zones ≤ most_zones }
+    requires none { posts.old ≡ [] }
     ensures stays { Stays (D.seen disk.old) (D.seen disk.new) }
-    ensures serves { IfOk result (λ posts. (made : Trace) × DeviceServes sizes.now zone.old vio zone.new made posts
+    ensures serves { OnOk result ((made : Trace) × DeviceServes sizes.now zone.old vio zone.new made posts.new
         × HasCalled D.tells (D.seen disk.old) (D.seen disk.new) made) }
-    ensures err { IfErr result (MemoryOrStray (NoRule (DeviceServes sizes.now zone.old vio))) }
+    ensures err { OnErr result (NoRule (DeviceServes sizes.now zone.old vio)) }
 {
-    match vio.phase {
-        Phase::Store => serve_store(alloc, sizes, zone, vio, disk),
-        Phase::Load => serve_load(alloc, sizes, zone, vio, disk),
-        Phase::Flush => Ok(flush_for(alloc, sizes, zone, vio, disk)?),
-        _ => Err(StepFault::Stray),
+    let phase = vio.get().phase;
+    match phase {
+        Phase::Store => serve_store(sizes, zone, vio, disk, posts),
+        Phase::Load => serve_load(sizes, zone, vio, disk, posts),
+        Phase::Flush => {
+            flush_for(sizes, zone, vio, disk, posts);
+            Ok(())
+        }
+        _ => Err(Stray),
     }
 }

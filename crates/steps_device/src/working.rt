@@ -1,11 +1,12 @@
-ghost use Rattle.std.specs.Prelude.{◌≡◌, ◌<◌, ◌^◌, ◌-◌, [], ◌∷◌, true, false, Some, IfOk, IfErr, OnOk, OnErr};
+ghost use Rattle.std.specs.Prelude.{◌≡◌, ◌<◌, ◌≤◌, ◌^◌, ◌-◌, [], ◌∷◌, true, false, Some, OnOk, OnErr};
 ghost use Rattle.disk_model.specs.declared.call.Call.{Call};
 ghost use Rattle.disk_model.specs.Seen.{Stays};
 ghost use Rattle.core_model.specs.DeviceRows as rows;
 ghost use Rattle.core_model.specs.DeviceRows.{DeviceWorks, call_of, journal_bytes};
+ghost use Rattle.core_model.specs.SessionLimits.{most_zones};
 ghost use Rattle.core_model.specs.Trace.{Trace, Calls};
 ghost use Rattle.core_model.specs.Vios as vios;
-ghost use Rattle.step_parts.specs.Causes.{NoRule, MemoryOrStray};
+ghost use Rattle.step_parts.specs.Causes.{NoRule};
 ghost use Rattle.step_parts.specs.DeviceLog.{HasCalled};
 ghost use Rattle.steps_device.specs.DeviceCalls as log;
 ghost use Rattle.steps_device.specs.DeviceCalls.{Fits, HasFailed};
@@ -16,8 +17,7 @@ use blk_base::{Block, Entry, Layout, Mapping, Pbn, ZoneId};
 use core_model::{DeviceZone, Item, SealedBlock, Sizes, Stage};
 use disk_model::{Disk, Failed};
 use journal_codec::{Entries, JournalBlock, encode};
-use std::alloc::Global;
-use step_parts::{Posts, StepFault};
+use step_parts::{Posts, Stray};
 
 // The bytes of a sealed block.
 fn sealed_bytes(sizes: &Sizes, block: &SealedBlock) -> Block
@@ -25,9 +25,9 @@ fn sealed_bytes(sizes: &Sizes, block: &SealedBlock) -> Block
 {
     let mut entries = Entries::new();
     entries.push(Entry::Remap {
-        at: block.vio.at,
-        old: block.vio.old,
-        new: Mapping::At(block.vio.block),
+        at: block.vio.get().at,
+        old: block.vio.get().old,
+        new: Mapping::At(block.vio.get().block),
     });
     let mut bytes = Block::zero();
     encode(
@@ -108,33 +108,38 @@ fn staged(mut block: SealedBlock, stage: Stage) -> SealedBlock
 
 /// What the device's zone does with a sealed block in front of its inbox. It makes one call of the device, or none.
 pub(crate) fn work_block<D: Disk>(
-    alloc: Global,
     sizes: &Sizes,
     zone: &mut DeviceZone,
     block: SealedBlock,
     disk: &mut D,
-) -> Result<Posts, StepFault>
+    posts: &mut Posts,
+) -> Result<(), Stray>
     requires counts { zone.old.calls < 2 ^ 64 - 1 }
     requires fits { Fits sizes.now (D.seen disk.old) }
+    requires few { sizes.now.zones ≤ most_zones }
+    requires none { posts.old ≡ [] }
     ensures stays { Stays (D.seen disk.old) (D.seen disk.new) }
-    ensures works { IfOk result (λ posts. (made : Trace) × DeviceWorks sizes.now zone.old block zone.new made posts
+    ensures works { OnOk result ((made : Trace) × DeviceWorks sizes.now zone.old block zone.new made posts.new
         × HasCalled D.tells (D.seen disk.old) (D.seen disk.new) made) }
-    ensures err { IfErr result (MemoryOrStray (NoRule (DeviceWorks sizes.now zone.old block))) }
+    ensures err { OnErr result (NoRule (DeviceWorks sizes.now zone.old block)) }
 {
     if !needs_call(block.stage) {
-        return Err(StepFault::Stray);
+        return Err(Stray);
     }
     let slot = Layout::of(&sizes.geometry).journal_slot(block.sequence);
     if zone.stopped {
         let unmade = staged(block, Stage::Fail);
-        return Ok(Posts::one(alloc, ZoneId::Journal, Item::Block(unmade))?);
+        posts.first(ZoneId::Journal, Item::Block(unmade));
+        return Ok(());
     }
     let stage = next_stage(block.stage);
     let to = next_zone(block.stage);
     let Ok(()) = make_call(sizes, &block, slot, disk) else {
         let failed = staged(block, Stage::Fail);
-        return Ok(halt(alloc, sizes, zone, ZoneId::Journal, Item::Block(failed))?);
+        halt(sizes, zone, ZoneId::Journal, Item::Block(failed), posts);
+        return Ok(());
     };
     zone.calls += 1;
-    Ok(Posts::one(alloc, to, Item::Block(staged(block, stage)))?)
+    posts.first(to, Item::Block(staged(block, stage)));
+    Ok(())
 }

@@ -1,8 +1,8 @@
 -- What the journal's zone counts.
-use Rattle.std.specs.Prelude.{◌<◌, ◌+◌, ◌^◌, length}
+use Rattle.std.specs.Prelude.{◌<◌, ◌+◌, ◌^◌}
+use Rattle.core_model.specs.SessionLimits.{most_blocks}
 use Rattle.core_model.specs.declared.sizes.Sizes.{Sizes}
-use Rattle.core_model.specs.declared.zones.JournalZone.{JournalZone}
 
--- the sequence of the block that is sealed next is a number of its type
-abbrev pub CanCount : Sizes → JournalZone → Type 0
-CanCount sizes j = sizes.start + (sizes.opened + length j.entered) < 2 ^ 64
+-- the sequence of each block that is sealed is a number of its type
+abbrev pub CanCount : Sizes → Type 0
+CanCount sizes = sizes.start + (sizes.opened + most_blocks) < 2 ^ 64

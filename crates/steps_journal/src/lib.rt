@@ -2,12 +2,10 @@
 #![tactic(auto)]
 
 mod acting;
-mod counting;
 mod ending;
 mod entering;
 mod refusing;
 mod starting;
 
 pub use acting::act;
-pub use counting::can_count;
 pub use starting::first;

@@ -1,23 +1,25 @@
-ghost use Rattle.std.specs.Prelude.{◌≡◌};
+ghost use Rattle.std.specs.Prelude.{◌≡◌, IfOk};
 ghost use Rattle.core_model.specs.declared.zones.ZoneData.TheVariants as at;
 ghost use Rattle.core_model.specs.Zones.{journal_zone};
 ghost use Rattle.core_model.specs.Sessions.{Session};
 ghost use Rattle.core_model.specs.Start.{IsFirstData};
 
-use core_model::{Fifo, JournalZone};
-use std::alloc::Global;
-use vdo_model::Rows;
+use core_model::{Fifo, JournalZone, Register};
+use std::alloc::{AllocError, Global};
 
-/// The journal's zone at the start of a session: nothing was handed in.
-pub fn first(alloc: Global) -> JournalZone
-    ensures { (s : Session) → IsFirstData s (journal_zone s.sizes) (at.Journal result) }
+/// The journal's zone at the start of a session: nothing was handed in. All its room is taken here.
+pub fn first(alloc: Global) -> Result<JournalZone, AllocError>
+    ensures { IfOk result (λ first. (s : Session) → IsFirstData s (journal_zone s.sizes) (at.Journal first)) }
 {
-    JournalZone {
+    let waiting = Fifo::new(alloc)?;
+    let entered = Register::new(alloc)?;
+    let committed = Register::new(alloc)?;
+    Ok(JournalZone {
         notified: false,
         busy: false,
         broken: false,
-        waiting: Fifo::new(alloc),
-        entered: Rows::new(alloc),
-        committed: Rows::new(alloc),
-    }
+        waiting,
+        entered,
+        committed,
+    })
 }

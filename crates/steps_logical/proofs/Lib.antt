@@ -1,2 +1,3 @@
 mod ActLaws
 mod StrayLaws
+mod WaitingLaws

@@ -1,46 +1,30 @@
-ghost use Rattle.std.specs.Prelude.{◌≡◌, IfOk, reverse};
+ghost use Rattle.std.specs.Prelude.{◌≡◌, reverse};
 ghost use Rattle.core_model.specs.LogicalRows as rows;
 ghost use Rattle.core_model.specs.Trace.{newest, of_address};
 
 use blk_base::Lba;
-use core_model::{Fifo, Lock, Logged};
-use std::alloc::{AllocError, Global};
+use core_model::{Lock, Logged};
 
-/// Whether an address is among these.
+/// Whether an address is among these, the oldest of which stands first.
 pub(crate) fn is_among(at: Lba, retired: &[Lba]) -> bool
-    ensures { result ≡ rows.is_among at.0 retired.now }
+    ensures { result ≡ rows.is_among at.0 (reverse retired.now) }
 {
-    match retired {
-        [] => false,
-        [other, others @ ..] => *other == at || is_among(at, others),
+    let mut found = false;
+    for other in retired {
+        found = *other == at || found;
     }
+    found
 }
 
-/// Whether its lock is.
+/// Whether its lock is among these, the oldest of which stands first.
 pub(crate) fn is_held(at: Lba, held: &[Lock]) -> bool
-    ensures { result ≡ rows.is_held at.0 held.now }
+    ensures { result ≡ rows.is_held at.0 (reverse held.now) }
 {
-    match held {
-        [] => false,
-        [lock, others @ ..] => lock.at == at || is_held(at, others),
+    let mut found = false;
+    for lock in held {
+        found = lock.at == at || found;
     }
-}
-
-/// The locks but that of this address.
-pub(crate) fn without(
-    alloc: Global,
-    at: Lba,
-    mut held: Fifo<Lock>,
-) -> Result<Fifo<Lock>, AllocError>
-    ensures { IfOk result (λ rest. rest ≡ rows.without at.0 held) }
-{
-    let mut rest = Fifo::new(alloc);
-    while let Some(lock) = held.pop() {
-        if lock.at != at {
-            rest.push(lock)?;
-        }
-    }
-    Ok(rest)
+    found
 }
 
 /// The last write of an address, the oldest write first.

@@ -1,71 +1,87 @@
-ghost use Rattle.std.specs.Prelude.{◌≡◌, ◌<◌, ◌^◌, ◌-◌, List, [], ◌∷◌, ◌++◌, IfOk, IfErr, OnOk, None, Some, true};
+ghost use Rattle.std.specs.Prelude.{◌≡◌, ◌-◌, ◌<◌, ◌≤◌, ◌^◌, List, [], ◌∷◌, ◌++◌, IfOk, OnOk, OnErr, None, Some, true, length};
+ghost use Rattle.blk_base.specs.Sectors.{zero_block};
 ghost use Rattle.blk_base.specs.declared.place.ZoneId.TheVariants as id;
 ghost use Rattle.core_model.specs.declared.items.Item.TheVariants as item;
 ghost use Rattle.core_model.specs.declared.items.Phase.TheVariants as phase;
+ghost use Rattle.core_model.specs.Limits.{IsLogicalWithin};
 ghost use Rattle.core_model.specs.LogicalRows as rows;
+ghost use Rattle.core_model.specs.SessionLimits.{most_items};
 ghost use Rattle.core_model.specs.Trace.{Trace, Aborts, Draws, Gives, Sets};
 ghost use Rattle.core_model.specs.Vios.{Post};
 ghost use Rattle.core_model.specs.Vios as vios;
-ghost use Rattle.step_parts.specs.Causes.{NoRule, MemoryOrStray};
+ghost use Rattle.step_parts.specs.Causes.{NoRule};
 
-use crate::locks::{is_among, is_held, latest, without};
-use crate::waiting::{FirstOf, Parted, part, stop_all, take_first};
+use crate::locks::{is_among, is_held, latest};
+use crate::waiting::{stop_all, take_first};
 use blk_base::{Answer, Block, Lba, Mapping, ZoneId};
-use core_model::{Asks, Fifo, Item, Lock, LogicalZone, Phase, Sizes, Vio};
+use core_model::{Asks, BoxedVio, Item, Lock, LogicalZone, Phase, Sizes};
 use image_layout::mapping_at;
-use std::alloc::{AllocError, Global};
-use step_parts::{Posts, StepFault, ended, logged, turned};
+use step_parts::{Posts, Stray};
 use vdo_model::Placed;
 
 // The request with the zone's next place, which is drawn.
-fn draw(zone: &mut LogicalZone, mut vio: Vio) -> Result<Vio, AllocError>
-    requires { zone.old.next < 2 ^ 64 - 1 }
-    ensures zone { OnOk result (zone.new ≡ rows.drawn_by zone.old vio) }
-    ensures vio { IfOk result (λ drawn. drawn ≡ rows.placed zone.old vio) }
+fn draw(zone: &mut LogicalZone, vio: BoxedVio) -> BoxedVio
+    requires { IsLogicalWithin (2 ^ 64 - 2) zone.old }
+    ensures zone { zone.new ≡ rows.drawn_by zone.old vio }
+    ensures vio { result ≡ rows.placed zone.old vio }
 {
     let place = zone.next;
     zone.places.push(Placed {
-        request: vio.request,
+        request: vio.get().request,
         zone: u32::from(zone.zone),
         place,
-    })?;
+    });
     zone.next += 1;
-    vio.place = place;
-    Ok(vio)
+    vio.draw(place)
+}
+
+// The bytes of an address that is mapped to no block.
+fn zeros(vio: BoxedVio) -> BoxedVio
+    ensures { result ≡ record vio { phase = phase.Loaded; bytes = zero_block } }
+{
+    vio.load(Block::zero())
 }
 
 // Where a read goes that has the lock of its address: it reads the mapped block, or is given zeros.
-fn read_next(sizes: &Sizes, zone: &LogicalZone, mut vio: Vio, mapping: Mapping) -> (ZoneId, Item)
+fn read_next(sizes: &Sizes, zone: &LogicalZone, vio: BoxedVio, mapping: Mapping) -> (ZoneId, Item)
     ensures { result ≡ rows.read_next sizes.now zone.now vio mapping }
 {
     match mapping {
         Mapping::At(block) => {
-            vio.phase = Phase::Load;
-            vio.block = block;
-            (ZoneId::Device, Item::Request(vio))
+            let loads = vio.take_block(Phase::Load, block);
+            (ZoneId::Device, Item::Request(loads))
         }
         Mapping::Unmapped | Mapping::Zero => {
-            vio.phase = Phase::Loaded;
-            vio.bytes = Block::zero();
-            (ZoneId::Logical(u32::from(zone.zone)), Item::Request(vio))
+            let loaded = zeros(vio);
+            (ZoneId::Logical(u32::from(zone.zone)), Item::Request(loaded))
         }
     }
 }
 
-// Where a request goes that has the lock of its address, and what is mapped there is known to it; a flush takes no lock.
-fn goes_on(sizes: &Sizes, zone: &LogicalZone, mut vio: Vio) -> Option<(ZoneId, Item)>
+// A request that has the lock of its address, and knows what is mapped there.
+fn look(zone: &LogicalZone, vio: BoxedVio) -> BoxedVio
+    ensures { result ≡ rows.looked zone.now vio }
+{
+    let at = vio.get().at;
+    let latest = latest(zone.slots.as_slice(), at);
+    let old = match latest {
+        Some(write) => Mapping::At(write.block),
+        None => mapping_at(zone.window.as_slice(), at),
+    };
+    vio.look(old, latest)
+}
+
+// Where a request goes that has the lock of its address; a flush takes no lock.
+fn goes_on(sizes: &Sizes, zone: &LogicalZone, vio: BoxedVio) -> Option<(ZoneId, Item)>
     ensures { result ≡ rows.goes_on sizes.now zone.now vio }
 {
-    vio.latest = latest(zone.slots.as_slice(), vio.at);
-    vio.old = match vio.latest {
-        Some(write) => Mapping::At(write.block),
-        None => mapping_at(zone.window.as_slice(), vio.at),
-    };
-    let mapping = vio.old;
-    match vio.asks {
-        Asks::Read => Some(read_next(sizes, zone, vio, mapping)),
+    let asks = vio.get().asks;
+    let looked = look(zone, vio);
+    let mapping = looked.get().old;
+    match asks {
+        Asks::Read => Some(read_next(sizes, zone, looked, mapping)),
         Asks::Write => {
-            let claims = turned(vio, Phase::Claim);
+            let claims = looked.turn(Phase::Claim);
             Some((ZoneId::Physical(0), Item::Request(claims)))
         }
         Asks::Flush => None,
@@ -73,172 +89,188 @@ fn goes_on(sizes: &Sizes, zone: &LogicalZone, mut vio: Vio) -> Option<(ZoneId, I
 }
 
 // The lock of an address goes to the first that waits for it, or is released.
-fn release(
-    alloc: Global,
-    sizes: &Sizes,
-    zone: &mut LogicalZone,
-    at: Lba,
-    posts: &mut Posts,
-) -> Result<(), StepFault>
+fn release(sizes: &Sizes, zone: &mut LogicalZone, at: Lba, posts: &mut Posts) -> Result<(), Stray>
+    requires held { length zone.old.held ≤ most_items }
+    requires few { length posts.old ≤ 1 }
     ensures zone { OnOk result (zone.new ≡ rows.released at.0 zone.old) }
     ensures posts { OnOk result ((more : List Post) × (rows.granted sizes.now at.0 zone.old ≡ Some more) × (posts.new ≡ posts.old ++ more)) }
-    ensures err { IfErr result (MemoryOrStray (rows.granted sizes.now at.0 zone.old ≡ None)) }
+    ensures err { OnErr result (rows.granted sizes.now at.0 zone.old ≡ None) }
 {
-    let waiting = std::mem::replace(&mut zone.waiting, Fifo::new(alloc));
-    let FirstOf { first, rest } = take_first(alloc, at, waiting)?;
-    zone.waiting = rest;
-    let held = std::mem::replace(&mut zone.held, Fifo::new(alloc));
-    zone.held = without(alloc, at, held)?;
+    let first = take_first(at, &mut zone.waiting);
+    zone.held.leave_out(at);
     match first {
         None => Ok(()),
         Some(vio) => {
-            let place = vio.place;
-            zone.held.push_front(Lock { at: vio.at, place })?;
+            let place = vio.get().place;
+            zone.held.push(Lock {
+                at: vio.get().at,
+                place,
+            });
             let Some((to, item)) = goes_on(sizes, zone, vio) else {
-                return Err(StepFault::Stray);
+                return Err(Stray);
             };
-            posts.push(to, item)?;
+            posts.push(to, item);
             Ok(())
         }
     }
 }
 
 // A request takes the lock of its address, which nobody holds.
-fn take_lock(sizes: &Sizes, zone: &mut LogicalZone, vio: Vio) -> Result<(ZoneId, Item), StepFault>
-    ensures zone { OnOk result (zone.new ≡ record zone.old { held = rows.lock_of vio ∷ zone.old.held }) }
+fn take_lock(sizes: &Sizes, zone: &mut LogicalZone, vio: BoxedVio) -> Result<(ZoneId, Item), Stray>
+    requires { length zone.old.held ≤ most_items }
+    ensures zone { zone.new ≡ record zone.old { held = rows.lock_of vio ∷ zone.old.held } }
     ensures post { IfOk result (λ post. rows.goes_on sizes.now zone.old vio ≡ Some post) }
-    ensures err { IfErr result (MemoryOrStray (rows.goes_on sizes.now zone.old vio ≡ None)) }
+    ensures err { OnErr result (rows.goes_on sizes.now zone.old vio ≡ None) }
 {
-    let place = vio.place;
-    zone.held.push_front(Lock { at: vio.at, place })?;
+    let place = vio.get().place;
+    zone.held.push(Lock {
+        at: vio.get().at,
+        place,
+    });
     match goes_on(sizes, zone, vio) {
         Some(post) => Ok(post),
-        None => Err(StepFault::Stray),
+        None => Err(Stray),
     }
 }
 
 // A request draws its place, and takes the lock of its address or waits for it.
 fn arrive(
-    alloc: Global,
     sizes: &Sizes,
     zone: &mut LogicalZone,
-    vio: Vio,
-) -> Result<Posts, StepFault>
+    vio: BoxedVio,
+    posts: &mut Posts,
+) -> Result<(), Stray>
     requires phase { vio.phase ≡ phase.Arrive }
-    requires counts { zone.old.next < 2 ^ 64 - 1 }
-    ensures ok { IfOk result (λ posts. rows.LogicalServes sizes.now zone.old vio zone.new (Draws (rows.place_of_vio zone.old vio) ∷ []) posts) }
-    ensures err { IfErr result (MemoryOrStray (NoRule (rows.LogicalServes sizes.now zone.old vio))) }
+    requires within { IsLogicalWithin (2 ^ 64 - 2) zone.old }
+    requires none { posts.old ≡ [] }
+    ensures ok { OnOk result (rows.LogicalServes sizes.now zone.old vio zone.new (Draws (rows.place_of_vio zone.old vio) ∷ []) posts.new) }
+    ensures err { OnErr result (NoRule (rows.LogicalServes sizes.now zone.old vio)) }
 {
-    let at = vio.at;
-    let drawn = draw(zone, vio)?;
+    let at = vio.get().at;
+    let drawn = draw(zone, vio);
     if is_among(at, zone.retired.as_slice()) {
-        let stopped = ended(drawn, Phase::Reply, Answer::Stopped);
-        return Ok(Posts::one(alloc, ZoneId::Desk, Item::Request(stopped))?);
+        let stopped = drawn.end(Phase::Reply, Answer::Stopped);
+        posts.first(ZoneId::Desk, Item::Request(stopped));
+        return Ok(());
     }
     if is_held(at, zone.held.as_slice()) {
-        zone.waiting.push(turned(drawn, Phase::Wait))?;
-        return Ok(Posts::none(alloc));
+        zone.waiting.push(drawn.turn(Phase::Wait));
+        return Ok(());
     }
     let (to, item) = take_lock(sizes, zone, drawn)?;
-    Ok(Posts::one(alloc, to, item)?)
+    posts.first(to, item);
+    Ok(())
 }
 
 // The entry of a write is committed: its slot is set, and the lock released.
 fn settle(
-    alloc: Global,
     sizes: &Sizes,
     zone: &mut LogicalZone,
-    vio: Vio,
-) -> Result<Posts, StepFault>
-    requires { vio.phase ≡ phase.Settle }
-    ensures ok { IfOk result (λ posts. rows.LogicalServes sizes.now zone.old vio zone.new (Sets (vios.logged vio) ∷ []) posts) }
-    ensures err { IfErr result (MemoryOrStray (NoRule (rows.LogicalServes sizes.now zone.old vio))) }
+    vio: BoxedVio,
+    posts: &mut Posts,
+) -> Result<(), Stray>
+    requires phase { vio.phase ≡ phase.Settle }
+    requires within { IsLogicalWithin (2 ^ 64 - 2) zone.old }
+    requires none { posts.old ≡ [] }
+    ensures ok { OnOk result (rows.LogicalServes sizes.now zone.old vio zone.new (Sets (vios.logged vio) ∷ []) posts.new) }
+    ensures err { OnErr result (NoRule (rows.LogicalServes sizes.now zone.old vio)) }
 {
-    let at = vio.at;
-    zone.slots.push(logged(&vio))?;
-    let done = ended(vio, Phase::Reply, Answer::Ok);
-    let mut posts = Posts::one(alloc, ZoneId::Desk, Item::Request(done))?;
-    release(alloc, sizes, zone, at, &mut posts)?;
-    Ok(posts)
+    let at = vio.get().at;
+    zone.slots.push(vio.logged());
+    posts.first(
+        ZoneId::Desk,
+        Item::Request(vio.end(Phase::Reply, Answer::Ok)),
+    );
+    release(sizes, zone, at, posts)
 }
 
 // A read is given its bytes, and the lock is released.
-fn give(alloc: Global, sizes: &Sizes, zone: &mut LogicalZone, vio: Vio) -> Result<Posts, StepFault>
-    requires { vio.phase ≡ phase.Loaded }
-    ensures ok { IfOk result (λ posts. rows.LogicalServes sizes.now zone.old vio zone.new (Gives (vios.gift vio) ∷ []) posts) }
-    ensures err { IfErr result (MemoryOrStray (NoRule (rows.LogicalServes sizes.now zone.old vio))) }
+fn give(
+    sizes: &Sizes,
+    zone: &mut LogicalZone,
+    vio: BoxedVio,
+    posts: &mut Posts,
+) -> Result<(), Stray>
+    requires phase { vio.phase ≡ phase.Loaded }
+    requires within { IsLogicalWithin (2 ^ 64 - 2) zone.old }
+    requires none { posts.old ≡ [] }
+    ensures ok { OnOk result (rows.LogicalServes sizes.now zone.old vio zone.new (Gives (vios.gift vio) ∷ []) posts.new) }
+    ensures err { OnErr result (NoRule (rows.LogicalServes sizes.now zone.old vio)) }
 {
-    let at = vio.at;
+    let at = vio.get().at;
     let mut bytes = Block::zero();
-    bytes.copy_from(&vio.bytes);
-    let done = ended(vio, Phase::Reply, Answer::Bytes(bytes));
-    let mut posts = Posts::one(alloc, ZoneId::Desk, Item::Request(done))?;
-    release(alloc, sizes, zone, at, &mut posts)?;
-    Ok(posts)
+    bytes.copy_from(&vio.get().bytes);
+    posts.first(
+        ZoneId::Desk,
+        Item::Request(vio.end(Phase::Reply, Answer::Bytes(bytes))),
+    );
+    release(sizes, zone, at, posts)
 }
 
 // A request is aborted, and the lock is released.
-fn abort(alloc: Global, sizes: &Sizes, zone: &mut LogicalZone, vio: Vio) -> Result<Posts, StepFault>
-    requires { vio.phase ≡ phase.Abort }
-    ensures ok { IfOk result (λ posts. rows.LogicalServes sizes.now zone.old vio zone.new [] posts) }
-    ensures err { IfErr result (MemoryOrStray (NoRule (rows.LogicalServes sizes.now zone.old vio))) }
+fn abort(
+    sizes: &Sizes,
+    zone: &mut LogicalZone,
+    vio: BoxedVio,
+    posts: &mut Posts,
+) -> Result<(), Stray>
+    requires phase { vio.phase ≡ phase.Abort }
+    requires within { IsLogicalWithin (2 ^ 64 - 2) zone.old }
+    requires none { posts.old ≡ [] }
+    ensures ok { OnOk result (rows.LogicalServes sizes.now zone.old vio zone.new [] posts.new) }
+    ensures err { OnErr result (NoRule (rows.LogicalServes sizes.now zone.old vio)) }
 {
-    let at = vio.at;
-    let done = turned(vio, Phase::Reply);
-    let mut posts = Posts::one(alloc, ZoneId::Desk, Item::Request(done))?;
-    release(alloc, sizes, zone, at, &mut posts)?;
-    Ok(posts)
+    let at = vio.get().at;
+    posts.first(ZoneId::Desk, Item::Request(vio.turn(Phase::Reply)));
+    release(sizes, zone, at, posts)
 }
 
 // A write whose entry was handed in is aborted: the lock of its address is never released.
-fn abort_entered(
-    alloc: Global,
-    sizes: &Sizes,
-    zone: &mut LogicalZone,
-    vio: Vio,
-) -> Result<Posts, AllocError>
-    requires { vio.phase ≡ phase.AbortEntered }
-    ensures { IfOk result (λ posts. rows.LogicalServes sizes.now zone.old vio zone.new (Aborts (vios.logged vio) ∷ []) posts) }
+fn abort_entered(sizes: &Sizes, zone: &mut LogicalZone, vio: BoxedVio, posts: &mut Posts)
+    requires phase { vio.phase ≡ phase.AbortEntered }
+    requires within { IsLogicalWithin (2 ^ 64 - 2) zone.old }
+    requires none { posts.old ≡ [] }
+    ensures { rows.LogicalServes sizes.now zone.old vio zone.new (Aborts (vios.logged vio) ∷ []) posts.new }
 {
-    let at = vio.at;
-    let waiting = std::mem::replace(&mut zone.waiting, Fifo::new(alloc));
-    let Parted { wanted, rest } = part(alloc, at, waiting)?;
-    zone.waiting = rest;
-    let held = std::mem::replace(&mut zone.held, Fifo::new(alloc));
-    zone.held = without(alloc, at, held)?;
-    zone.retired.push_front(at)?;
-    let done = turned(vio, Phase::Reply);
-    let mut posts = Posts::one(alloc, ZoneId::Desk, Item::Request(done))?;
-    stop_all(wanted, &mut posts)?;
-    Ok(posts)
+    let at = vio.get().at;
+    posts.first(ZoneId::Desk, Item::Request(vio.turn(Phase::Reply)));
+    stop_all(at, &mut zone.waiting, posts);
+    zone.held.leave_out(at);
+    zone.retired.push(at);
 }
 
 /// One phase of a request in a logical zone.
 pub(crate) fn serve_logical(
-    alloc: Global,
     sizes: &Sizes,
     zone: &mut LogicalZone,
-    vio: Vio,
-) -> Result<Posts, StepFault>
-    requires { zone.old.next < 2 ^ 64 - 1 }
-    ensures ok { IfOk result (λ posts. (made : Trace) × rows.LogicalServes sizes.now zone.old vio zone.new made posts) }
-    ensures err { IfErr result (MemoryOrStray (NoRule (rows.LogicalServes sizes.now zone.old vio))) }
+    vio: BoxedVio,
+    posts: &mut Posts,
+) -> Result<(), Stray>
+    requires within { IsLogicalWithin (2 ^ 64 - 2) zone.old }
+    requires none { posts.old ≡ [] }
+    ensures ok { OnOk result ((made : Trace) × rows.LogicalServes sizes.now zone.old vio zone.new made posts.new) }
+    ensures err { OnErr result (NoRule (rows.LogicalServes sizes.now zone.old vio)) }
 {
-    match vio.phase {
-        Phase::Arrive => Ok(arrive(alloc, sizes, zone, vio)?),
-        Phase::Settle => Ok(settle(alloc, sizes, zone, vio)?),
-        Phase::Loaded => Ok(give(alloc, sizes, zone, vio)?),
-        Phase::Abort => Ok(abort(alloc, sizes, zone, vio)?),
-        Phase::AbortEntered => Ok(abort_entered(alloc, sizes, zone, vio)?),
-        _ => Err(StepFault::Stray),
+    let phase = vio.get().phase;
+    match phase {
+        Phase::Arrive => arrive(sizes, zone, vio, posts),
+        Phase::Settle => settle(sizes, zone, vio, posts),
+        Phase::Loaded => give(sizes, zone, vio, posts),
+        Phase::Abort => abort(sizes, zone, vio, posts),
+        Phase::AbortEntered => {
+            abort_entered(sizes, zone, vio, posts);
+            Ok(())
+        }
+        _ => Err(Stray),
     }
 }
 
 /// The session is stopped: a logical zone passes the notice on.
-pub(crate) fn hear_stop(alloc: Global, zone: &mut LogicalZone) -> Result<Posts, AllocError>
+pub(crate) fn hear_stop(zone: &mut LogicalZone, posts: &mut Posts)
+    requires { posts.old ≡ [] }
     ensures zone { zone.new ≡ record zone.old { notified = true } }
-    ensures posts { IfOk result (λ posts. posts ≡ (id.Desk, item.StopNotice) ∷ []) }
+    ensures posts { posts.new ≡ (id.Desk, item.StopNotice) ∷ [] }
 {
     zone.notified = true;
-    Posts::one(alloc, ZoneId::Desk, Item::StopNotice)
+    posts.first(ZoneId::Desk, Item::StopNotice);
 }

@@ -1,76 +1,31 @@
-ghost use Rattle.std.specs.Prelude.{◌≡◌, ◌++◌, OnOk, IfOk, IfNone};
+ghost use Rattle.std.specs.Prelude.{◌≡◌, ◌+◌, ◌≤◌, ◌<◌, ◌++◌, IfNone, Some, length, slice_get};
 ghost use Rattle.core_model.specs.LogicalRows as rows;
 
 use blk_base::{Answer, Lba, ZoneId};
-use core_model::{Fifo, Item, Phase, Vio};
-use std::alloc::{AllocError, Global};
-use step_parts::{Posts, ended};
+use core_model::{BoxedVio, Fifo, Item, LANE_ROOM, POST_ROOM, Phase};
+use step_parts::Posts;
 
-/// The first that waits for an address, where one does, and the others that wait.
-#[derive(Drop)]
-pub(crate) struct FirstOf {
-    pub first: Option<Vio>,
-    pub rest: Fifo<Vio>,
-}
-
-/// Takes the first that waits for an address out of those that wait.
-pub(crate) fn take_first(
-    alloc: Global,
-    at: Lba,
-    mut waiting: Fifo<Vio>,
-) -> Result<FirstOf, AllocError>
-    ensures first { IfOk result (λ taken. taken.first ≡ rows.first_for at.0 waiting) }
-    ensures rest { IfOk result (λ taken. taken.rest ≡ rows.but_first_for at.0 waiting) }
-    ensures none { IfOk result (λ taken. IfNone taken.first (taken.rest ≡ waiting)) }
+/// Takes the first that waits for an address out of those that wait; `None` exactly where nobody waits for it.
+pub(crate) fn take_first(at: Lba, waiting: &mut Fifo<BoxedVio, LANE_ROOM>) -> Option<BoxedVio>
+    ensures first { result ≡ rows.first_for at.0 waiting.old }
+    ensures rest { waiting.new ≡ rows.but_first_for at.0 waiting.old }
 {
-    let mut passed = Fifo::new(alloc);
-    while let Some(vio) = waiting.pop() {
-        if vio.at == at {
-            passed.append(waiting)?;
-            return Ok(FirstOf {
-                first: Some(vio),
-                rest: passed,
-            });
-        }
-        passed.push(vio)?;
-    }
-    Ok(FirstOf {
-        first: None,
-        rest: passed,
-    })
-}
-
-/// Those that wait for an address, and the others.
-#[derive(Drop)]
-pub(crate) struct Parted {
-    pub wanted: Fifo<Vio>,
-    pub rest: Fifo<Vio>,
-}
-
-/// Parts those that wait for an address from those that wait for others.
-pub(crate) fn part(alloc: Global, at: Lba, mut waiting: Fifo<Vio>) -> Result<Parted, AllocError>
-    ensures wanted { IfOk result (λ parted. parted.wanted ≡ rows.all_for at.0 waiting) }
-    ensures rest { IfOk result (λ parted. parted.rest ≡ rows.none_for at.0 waiting) }
-{
-    let mut wanted = Fifo::new(alloc);
-    let mut rest = Fifo::new(alloc);
-    while let Some(vio) = waiting.pop() {
-        if vio.at == at {
-            wanted.push(vio)?;
-        } else {
-            rest.push(vio)?;
+    for index in 0..waiting.len() {
+        if waiting.as_slice()[index].get().at == at {
+            return Some(waiting.take_at(index));
         }
     }
-    Ok(Parted { wanted, rest })
+    None
 }
 
-/// All of these are answered as stopped: posts behind those that are there.
-pub(crate) fn stop_all(mut waiting: Fifo<Vio>, posts: &mut Posts) -> Result<(), AllocError>
-    ensures { OnOk result (posts.new ≡ posts.old ++ rows.all_stopped waiting) }
+/// All that wait for an address are answered as stopped: posts behind those that are there.
+pub(crate) fn stop_all(at: Lba, waiting: &mut Fifo<BoxedVio, LANE_ROOM>, posts: &mut Posts)
+    requires { length posts.old + length waiting.old ≤ POST_ROOM }
+    ensures waiting { waiting.new ≡ rows.none_for at.0 waiting.old }
+    ensures posts { posts.new ≡ posts.old ++ rows.all_stopped (rows.all_for at.0 waiting.old) }
 {
-    while let Some(vio) = waiting.pop() {
-        let stopped = ended(vio, Phase::Reply, Answer::Stopped);
-        posts.push(ZoneId::Desk, Item::Request(stopped))?;
+    while let Some(vio) = take_first(at, waiting) {
+        let stopped = vio.end(Phase::Reply, Answer::Stopped);
+        posts.push(ZoneId::Desk, Item::Request(stopped));
     }
-    Ok(())
 }

@@ -5,7 +5,7 @@ ghost use Rattle.core_model.specs.Sessions.{Session};
 ghost use Rattle.core_model.specs.Start.{IsFirstData};
 
 use blk_base::Pbn;
-use core_model::{Fifo, PhysicalZone};
+use core_model::{PhysicalZone, Supply};
 
 /// The physical zone at the start of a session, with these free blocks.
 pub fn first(free: Vec<Pbn>) -> PhysicalZone
@@ -13,6 +13,6 @@ pub fn first(free: Vec<Pbn>) -> PhysicalZone
 {
     PhysicalZone {
         notified: false,
-        free: Fifo::from_vec(free),
+        free: Supply::from_vec(free),
     }
 }

@@ -3,3 +3,6 @@ mod PlayLaws
 mod StartLaws
 mod StrayLaws
 mod ZoneLaws
+mod LaneLaws
+mod NoFaults
+mod MoveLaws

@@ -1,7 +1,6 @@
 -- In a legal core nothing is stray.
 use Rattle.std.proofs.Common.{◌≡◌, ℕ, Bool, Some, List, [], ◌∷◌, ◌++◌, ◌<◌, length, take, drop, slice_get, refl, ap, sym, ◌∙◌, inl, inr}
 use Rattle.std.specs.List.{AllByRecursion}
-use Rattle.disk_model.specs.Seen.{Seen}
 use Rattle.vdo_model.specs.Scripts.{Script, request_at}
 use Rattle.core_model.specs.declared.items.Item.{Item}
 use Rattle.core_model.specs.declared.sizes.Sizes.{Sizes}
@@ -15,12 +14,9 @@ use Rattle.core_model.specs.Steps.{Core}
 use Rattle.core_model.specs.Trace.{Trace}
 use Rattle.core_model.specs.Vios.{Post}
 use Rattle.core_model.specs.Zones.{zone_number}
-use Rattle.core_laws.proofs.kept.LegalMoves.{legal_leads}
 use Rattle.core_laws.proofs.device.DeviceCalls.{request_served}
 use Rattle.core_laws.proofs.kept.Rules.{has_rule, has_lanes, served_some}
-use Rattle.vdo_core.specs.Causes.{BeginsUnserved, HasLane, IsStray, MayFaultAfter}
-use Rattle.vdo_core.specs.Plays.{core_with}
-use Rattle.step_parts.specs.declared.fault.StepFault.TheVariants as fault
+use Rattle.vdo_core.specs.Causes.{BeginsUnserved, HasLane, IsStray}
 
 -- a list is its first item and the others
 first_and_others : (items : List Item) → items ≡ take 1 items ++ drop 1 items
@@ -46,7 +42,3 @@ none_stray s core n z session legal had (inl (front, rest, taken, none)) = let (
 none_stray s core n z session legal had (inr (inl (none, unserved))) = none_unserved s core.trace n z.keeps session (legal.each n z had).own unserved
 none_stray s core n z session legal had (inr (inr (new, made, posts, act, astray))) =
     astray (have_lanes s.sizes z posts (has_lanes s session core legal n z had (take 1 z.inbox) (drop 1 z.inbox) new made posts (first_and_others z.inbox) (none_behind z.inbox) act))
-
-pub none_after : (tells : Bool) (s : Session) (zones : List Zone) (t : Trace) (before : Seen) → IsSession s → Legal s (core_with zones t) → MayFaultAfter tells s.sizes zones before fault.Stray → ⊥
-none_after tells s zones t before session legal (between, log, (made, leads, notified), (number, (z, had, stray))) =
-    none_stray s (core_with between (made ++ t)) number z session (legal_leads s (core_with zones t) (core_with between (made ++ t)) session (leads t) legal) had stray

@@ -1,14 +1,17 @@
 -- The zones of a core at its start, one after another.
 use Rattle.std.proofs.Common.{◌≡◌, ℕ, ◌+◌, List, [], ◌∷◌, ◌++◌, length, sym, ap, subst, ◌∙◌, length-append, refl}
+use Rattle.std.specs.List.{AllByRecursion}
 use Rattle.core_model.specs.declared.items.Item.{Item}
 use Rattle.core_model.specs.declared.sizes.Sizes.{Sizes}
 use Rattle.core_model.specs.declared.zones.ZoneData.{ZoneData}
 use Rattle.core_model.specs.declared.zones.Zone.{Zone}
 use Rattle.core_model.specs.Sessions.{Session}
-use Rattle.core_model.specs.Start.{IsFirstData, IsFirstZone}
+use Rattle.vdo_model.specs.Scripts.{Script}
+use Rattle.core_model.specs.DeskData.{Desk}
+use Rattle.core_model.specs.Zones.{desk_zone, zone_count}
+use Rattle.core_model.specs.Start.{IsFirstData, IsFirstDesk, IsFirstZone}
 use Rattle.plain_laws.specs.Sums.{Each}
 use Rattle.plain_laws.proofs.ListLaws.{Each-append}
-use Rattle.vdo_core.specs.Starts.{AreEmptyLanes}
 
 -- no zone at all
 pub no_zone : (s : Session) → Each (IsFirstZone s) []
@@ -24,22 +27,29 @@ pub one_longer : (old new : List Zone) (zone : Zone) → new ≡ old ++ zone ∷
 one_longer old new zone is = ap length is ∙ length-append old (zone ∷ [])
 
 -- a zone with empty lanes and the data that it begins with
-pub empty_first : (s : Session) (number : ℕ) (keeps : ZoneData) (inbox : List Item) (lanes : List (List Item))
-    → inbox ≡ [] → AreEmptyLanes s.sizes lanes → IsFirstData s number keeps
+pub empty_first : (s : Session) (sizes : Sizes) (number count : ℕ) (keeps : ZoneData) (inbox : List Item) (lanes : List (List Item))
+    → s.sizes ≡ sizes → inbox ≡ [] → length lanes ≡ count → count ≡ zone_count sizes → AllByRecursion (λ lane. lane ≡ []) lanes → IsFirstData s number keeps
     → IsFirstZone s number (record { number = number; steps = 0; keeps = keeps; inbox = inbox; outboxes = lanes })
-empty_first s number keeps inbox lanes none empty first = record {
+empty_first s sizes number count keeps inbox lanes is none counted counts empty first = record {
   number_is = refl;
   steps = refl;
-  lanes = empty.count;
+  lanes = counted ∙ counts ∙ ap zone_count (sym is);
   inbox = none;
-  outboxes = empty.empty;
+  outboxes = empty;
   own = first;
 }
-
--- lanes that suit sizes suit the same sizes of a session
-pub lanes_of : (s : Session) (sizes : Sizes) (lanes : List (List Item)) → s.sizes ≡ sizes → AreEmptyLanes sizes lanes → AreEmptyLanes s.sizes lanes
-lanes_of s sizes lanes is empty = subst (λ (z : Sizes). AreEmptyLanes z lanes) (sym is) empty
 
 -- the data of a zone by another name of its number
 pub numbered : (s : Session) (number other : ℕ) (keeps : ZoneData) → other ≡ number → IsFirstData s number keeps → IsFirstData s other keeps
 numbered s number other keeps is first = subst (λ (n : ℕ). IsFirstData s n keeps) (sym is) first
+
+-- the desk that has the requests, and began none
+pub first_desk : (s : Session) (desk : Desk) (requests : Script) → desk ≡ record { requests = requests; log = []; marks = []; notices = 0; parked = [] } → s.script ≡ requests → IsFirstDesk s desk_zone desk
+first_desk s desk requests is script = record {
+  number_is = refl;
+  requests = ap (λ (d : Desk). d.requests) is ∙ sym script;
+  log = ap (λ (d : Desk). d.log) is;
+  marks = ap (λ (d : Desk). d.marks) is;
+  notices = ap (λ (d : Desk). d.notices) is;
+  parked = ap (λ (d : Desk). d.parked) is;
+}

@@ -9,10 +9,10 @@ use Rattle.core_model.specs.Steps.{Act, sent_to}
 use Rattle.core_model.specs.Trace.{Trace}
 use Rattle.core_model.specs.Vios.{Post}
 use Rattle.core_laws.proofs.lists.CoreLists.{length-posted}
-use Rattle.step_parts.specs.Causes.{NoRule, MemoryOrStray}
+use Rattle.step_parts.specs.Causes.{NoRule}
 use Rattle.step_parts.specs.declared.fault.StepFault.{StepFault}
 use Rattle.step_parts.specs.declared.fault.StepFault.TheVariants as fault
-use Rattle.vdo_core.specs.Causes.{BeginsUnserved, HasLane, MayFault, MayFaultAt, OneMayFault}
+use Rattle.vdo_core.specs.Causes.{BeginsNone, HasLane, MayFault}
 
 -- a zone has the same lanes after a post
 sent_number : (own : Bool) (to : ℕ) (it : Item) (z : Zone) → (sent_to own to it z).number ≡ z.number
@@ -32,28 +32,17 @@ lanes_stay sizes own to it z [] all = tt
 lanes_stay sizes own to it z (p ∷ posts) all = (lane_stays sizes own to it z p all.0, lanes_stay sizes own to it z posts all.1)
 
 -- no rule applies to the item in front
-pub act_may_fault : (sizes : Sizes) (z : Zone) (front : Item) (rest : List Item) (f : StepFault)
-    → z.inbox ≡ front ∷ rest → MemoryOrStray (NoRule (Act sizes z.keeps (front ∷ []))) f → MayFault sizes z f
-act_may_fault sizes z front rest fault.Memory taken why = tt
-act_may_fault sizes z front rest fault.Exhausted taken why = absurd why
-act_may_fault sizes z front rest fault.Stray taken why = inl (front, rest, taken, why)
+pub act_may_fault : (sizes : Sizes) (z : Zone) (front : Item) (rest : List Item)
+    → z.inbox ≡ front ∷ rest → NoRule (Act sizes z.keeps (front ∷ [])) → MayFault sizes z fault.Stray
+act_may_fault sizes z front rest taken why = inl (front, rest, taken, why)
 
--- a request that may begin isn't served
-pub begin_may_fault : (sizes : Sizes) (z : Zone) (f : StepFault) → z.inbox ≡ [] → MemoryOrStray (BeginsUnserved sizes z.keeps) f → MayFault sizes z f
-begin_may_fault sizes z fault.Memory none why = tt
-begin_may_fault sizes z fault.Exhausted none why = absurd why
+-- a request that may begin isn't served, or there is no room for it
+pub begin_may_fault : (sizes : Sizes) (z : Zone) (f : StepFault) → z.inbox ≡ [] → BeginsNone sizes z.keeps f → MayFault sizes z f
+begin_may_fault sizes z fault.Exhausted none why = inr why
 begin_may_fault sizes z fault.Stray none why = inr (inl (none, why))
 
 -- a rule posts to no zone
-pub posts_may_fault : (sizes : Sizes) (z : Zone) (front : List Item) (new : ZoneData) (made : Trace) (posts : List Post) (f : StepFault)
-    → take 1 z.inbox ≡ front → Act sizes z.keeps front new made posts → MemoryOrStray (AllByRecursion (HasLane sizes z) posts → ⊥) f → MayFault sizes z f
-posts_may_fault sizes z front new made posts fault.Memory taken act why = tt
-posts_may_fault sizes z front new made posts fault.Exhausted taken act why = absurd why
-posts_may_fault sizes z front new made posts fault.Stray taken act why =
+pub posts_may_fault : (sizes : Sizes) (z : Zone) (front : List Item) (new : ZoneData) (made : Trace) (posts : List Post)
+    → take 1 z.inbox ≡ front → Act sizes z.keeps front new made posts → (AllByRecursion (HasLane sizes z) posts → ⊥) → MayFault sizes z fault.Stray
+posts_may_fault sizes z front new made posts taken act why =
     inr (inr (new, made, posts, subst (λ (items : List Item). Act sizes z.keeps items new made posts) (sym taken) act, why))
-
--- a zone that falters is one of the core
-pub one_may_fault : (sizes : Sizes) (zones : List Zone) (number : ℕ) (f : StepFault) → MayFaultAt sizes zones number f → OneMayFault sizes zones f
-one_may_fault sizes zones number fault.Memory why = tt
-one_may_fault sizes zones number fault.Exhausted why = (number, why)
-one_may_fault sizes zones number fault.Stray why = (number, why)

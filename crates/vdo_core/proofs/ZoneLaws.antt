@@ -13,12 +13,6 @@ use Rattle.core_model.specs.Vios.{Post}
 use Rattle.step_parts.specs.Acts.{Acts, ActsAlone}
 use Rattle.vdo_core.specs.Plays.{ZoneSteps}
 
--- an item behind those of one list
-pub posted_is : (to : ℕ) (x : Item) (lane : List Item) (lanes : List (List Item)) → slice_get lanes to ≡ Some lane → slice_set lanes to (lane ++ x ∷ []) ≡ posted to x lanes
-posted_is to x lane [] got = refl
-posted_is zero x lane (l ∷ ls) got = ap (λ (k : List Item). (k ++ x ∷ []) ∷ ls) (sym (same_Some _ _ got))
-posted_is (suc to) x lane (l ∷ ls) got = ap (λ (ks : List (List Item)). l ∷ ks) (posted_is to x lane ls got)
-
 -- a step from its parts: what an act leaves in the zone, with its posts delivered
 pub step_of : (sizes : Sizes) (old new : Zone) (keeps : ZoneData) (front rest : List Item) (made : Trace) (posts : List Post)
     → old.steps < step_limit → old.inbox ≡ front ++ rest → (front ≡ [] → rest ≡ []) → Act sizes old.keeps front keeps made posts

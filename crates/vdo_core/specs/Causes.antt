@@ -1,5 +1,5 @@
 -- Why an event comes to no end.
-use Rattle.std.specs.Prelude.{ℕ, ⊤, ◌≡◌, ◌<◌, ◌-◌, ◌^◌, ◌⊎◌, Bool, List, [], ◌∷◌, Some, length, take, slice_get}
+use Rattle.std.specs.Prelude.{ℕ, ⊤, ◌≡◌, ◌<◌, ◌≤◌, ◌+◌, ◌^◌, ◌⊎◌, Bool, List, [], ◌∷◌, Some, length, take, slice_get}
 use Rattle.std.specs.List.{AllByRecursion}
 use Rattle.disk_model.specs.Seen.{Seen}
 use Rattle.core_model.specs.declared.items.Item.{Item}
@@ -7,7 +7,9 @@ use Rattle.core_model.specs.declared.sizes.Sizes.{Sizes}
 use Rattle.core_model.specs.declared.zones.Zone.{Zone}
 use Rattle.core_model.specs.declared.zones.ZoneData.{ZoneData}
 use Rattle.core_model.specs.declared.zones.ZoneData.TheVariants as at
-use Rattle.core_model.specs.Steps.{Act}
+use Rattle.core_model.specs.Limits.{HasRoomToBegin, IsWithin}
+use Rattle.core_model.specs.SessionLimits.{IsLimited, most_blocks, most_zones}
+use Rattle.core_model.specs.Steps.{Act, MayBegin}
 use Rattle.core_model.specs.Trace.{Trace}
 use Rattle.core_model.specs.Vios.{Post}
 use Rattle.core_model.specs.Zones.{zone_number}
@@ -15,20 +17,33 @@ use Rattle.step_parts.specs.Causes.{NoRule}
 use Rattle.step_parts.specs.declared.fault.StepFault.{StepFault}
 use Rattle.step_parts.specs.declared.fault.StepFault.TheVariants as fault
 use Rattle.steps_desk.specs.Begins as desk
-use Rattle.steps_journal.specs.Counts as journal
 use Rattle.vdo_core.specs.Plays.{LeadsTo}
 
 -- a zone has a lane for a post
 abbrev pub HasLane : Sizes → Zone → Post → Type 0
 HasLane sizes z post = (zone_number sizes post.0 ≡ z.number) ⊎ (zone_number sizes post.0 < length z.outboxes)
 
--- what a zone counts isn't the last number of its type, and there is a logical zone
-abbrev pub CanCount : Sizes → ZoneData → Type 0
-CanCount sizes (at.Desk d) = desk.CanCount sizes d
-CanCount sizes (at.Logical l) = l.next < 2 ^ 64 - 1
-CanCount sizes (at.Physical p) = ⊤
-CanCount sizes (at.Journal j) = journal.CanCount sizes j
-CanCount sizes (at.Device d) = d.calls < 2 ^ 64 - 1
+-- the session is no larger than it may be: there is a logical zone, and the sequence of each block is a number of its type
+pub record IsSized (sizes : Sizes) : Type 0 where
+  pub zones : 0 < sizes.zones
+  pub few : sizes.zones ≤ most_zones
+  pub sequences : sizes.start + (sizes.opened + most_blocks) < 2 ^ 64
+
+-- and so is the script of the desk
+abbrev pub IsServedBy : Sizes → ZoneData → Type 0
+IsServedBy sizes (at.Desk d) = IsLimited sizes d.requests
+IsServedBy sizes other = ⊤
+
+-- a zone can step: besides, it keeps within its room
+pub record CanStep (sizes : Sizes) (z : Zone) : Type 0 where
+  pub sized : IsSized sizes
+  pub served : IsServedBy sizes z.keeps
+  pub within : IsWithin z
+
+-- a stream may begin a request for which there is no room
+abbrev pub BeginsCrowded : Sizes → ZoneData → Type 0
+BeginsCrowded sizes (at.Desk d) = MayBegin sizes (at.Desk d) × (HasRoomToBegin d → ⊥)
+BeginsCrowded sizes other = ⊥
 
 -- what a rule posts goes to no zone
 abbrev pub GoesAstray : Sizes → Zone → List Item → Type 0
@@ -43,25 +58,27 @@ abbrev pub BeginsUnserved : Sizes → ZoneData → Type 0
 BeginsUnserved sizes (at.Desk d) = desk.BeginsUnserved sizes d
 BeginsUnserved sizes other = ⊥
 
+-- why no request is begun where one may be
+abbrev pub BeginsNone : Sizes → ZoneData → StepFault → Type 0
+BeginsNone sizes d fault.Exhausted = BeginsCrowded sizes d
+BeginsNone sizes d fault.Stray = BeginsUnserved sizes d
+
 -- something is stray: an item, a request that may begin, or what a rule posts
 abbrev pub IsStray : Sizes → Zone → Type 0
 IsStray sizes z = NoneApplies sizes z ⊎ ((z.inbox ≡ []) × BeginsUnserved sizes z.keeps) ⊎ GoesAstray sizes z (take 1 z.inbox)
 
 -- why a zone comes to no end of its step
 abbrev pub MayFault : Sizes → Zone → StepFault → Type 0
-MayFault sizes z fault.Memory = ⊤
-MayFault sizes z fault.Exhausted = CanCount sizes z.keeps → ⊥
+MayFault sizes z fault.Exhausted = (CanStep sizes z → ⊥) ⊎ BeginsCrowded sizes z.keeps
 MayFault sizes z fault.Stray = IsStray sizes z
 
 -- why the zone of a number doesn't
 abbrev pub MayFaultAt : Sizes → List Zone → ℕ → StepFault → Type 0
 MayFaultAt sizes zones number fault = (z : Zone) × (slice_get zones number ≡ Some z) × MayFault sizes z fault
 
--- why some zone doesn't; what moves between two fails for want of memory alone
+-- why some zone doesn't
 abbrev pub OneMayFault : Sizes → List Zone → StepFault → Type 0
-OneMayFault sizes zones fault.Memory = ⊤
-OneMayFault sizes zones fault.Exhausted = (number : ℕ) × MayFaultAt sizes zones number fault.Exhausted
-OneMayFault sizes zones fault.Stray = (number : ℕ) × MayFaultAt sizes zones number fault.Stray
+OneMayFault sizes zones fault = (number : ℕ) × MayFaultAt sizes zones number fault
 
 -- one does after some events
 abbrev pub MayFaultAfter : Bool → Sizes → List Zone → Seen → StepFault → Type 0

@@ -1,3 +1,4 @@
+pub mod Lanes
 pub mod Causes
 pub mod Moves
 pub mod Plays

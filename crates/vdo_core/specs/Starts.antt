@@ -1,12 +1,9 @@
 -- What a core begins with.
-use Rattle.std.specs.Prelude.{◌≡◌, List, [], length}
-use Rattle.std.specs.List.{AllByRecursion}
+use Rattle.std.specs.Prelude.{◌≡◌, List}
 use Rattle.blk_base.specs.declared.journal_entry.Entry.{Entry}
 use Rattle.blk_base.specs.declared.place.Pbn.{Pbn}
 use Rattle.vdo_model.specs.Scripts.{Script}
-use Rattle.core_model.specs.declared.items.Item.{Item}
 use Rattle.core_model.specs.declared.sizes.Sizes.{Sizes}
-use Rattle.core_model.specs.Zones.{zone_count}
 use Rattle.core_model.specs.Sessions.{Session}
 
 -- a session of these sizes, requests, entries of the window and free blocks
@@ -15,8 +12,3 @@ pub record IsOf (s : Session) (sizes : Sizes) (script : Script) (window : List E
   pub script_is : s.script ≡ script
   pub window_is : s.window ≡ window
   pub free_is : s.free ≡ free
-
--- a lane to every zone, with nothing in it
-pub record AreEmptyLanes (sizes : Sizes) (lanes : List (List Item)) : Type 0 where
-  pub count : length lanes ≡ zone_count sizes
-  pub empty : AllByRecursion (λ lane. lane ≡ []) lanes

@@ -1,22 +1,13 @@
-ghost use Rattle.std.specs.Prelude.{◌≡◌, ◌<◌, ◌≤◌, true, false};
+ghost use Rattle.std.specs.Prelude.{◌≡◌, ◌+◌, ◌^◌, ◌<◌, ◌≤◌, ◌↔◌, IsTrue, true, false};
+ghost use Rattle.core_model.specs.Limits.{IsDataWithin, IsJournalWithin, IsLogicalWithin, IsWithin};
+ghost use Rattle.core_model.specs.SessionLimits.{IsLimited, most_blocks};
 ghost use Rattle.core_model.specs.Steps.{step_limit};
-ghost use Rattle.vdo_core.specs.Causes.{CanCount};
+ghost use Rattle.vdo_core.specs.Causes.{CanStep, IsServedBy, IsSized};
 
-use core_model::{Sizes, Zone, ZoneData};
-
-/// Whether a zone can count on: what it counts isn't the last number of its type, and there is a logical zone.
-pub(crate) fn can_count(sizes: &Sizes, keeps: &ZoneData) -> bool
-    ensures yes { result ≡ true → CanCount sizes.now keeps.now }
-    ensures no { result ≡ false → CanCount sizes.now keeps.now → ⊥ }
-{
-    match keeps {
-        ZoneData::Desk(desk) => steps_desk::can_count(sizes, desk),
-        ZoneData::Logical(zone) => zone.next < u64::MAX,
-        ZoneData::Physical(_) => true,
-        ZoneData::Journal(zone) => steps_journal::can_count(sizes, zone),
-        ZoneData::Device(zone) => zone.calls < u64::MAX,
-    }
-}
+use core_model::{
+    Desk, JournalZone, LogicalZone, MOST_BLOCKS, MOST_DEPTH, MOST_ITEMS, MOST_REQUESTS,
+    MOST_STREAMS, MOST_ZONES, Sizes, Zone, ZoneData,
+};
 
 /// Whether a zone may step once more: it made fewer than 2^64 - 1 steps.
 pub(crate) fn has_steps_left(zone: &Zone) -> bool
@@ -24,4 +15,94 @@ pub(crate) fn has_steps_left(zone: &Zone) -> bool
     ensures no { result ≡ false → step_limit ≤ zone.now.steps }
 {
     zone.steps < u64::MAX
+}
+
+// Whether the session is no larger than it may be.
+fn is_sized(sizes: &Sizes) -> bool
+    ensures { IsTrue result ↔ IsSized sizes.now }
+{
+    let zones = usize::from(sizes.zones);
+    0 < zones && zones <= MOST_ZONES && has_sequences(sizes)
+}
+
+// Whether the sequence of each block that is sealed is a number of its type.
+fn has_sequences(sizes: &Sizes) -> bool
+    ensures { IsTrue result ↔ (sizes.now.start + (sizes.now.opened + most_blocks) < 2 ^ 64) }
+{
+    sizes
+        .start
+        .checked_add(u64::from(sizes.opened) + MOST_BLOCKS as u64)
+        .is_some()
+}
+
+// Whether the script of a desk is no larger than it may be.
+fn is_served_by(sizes: &Sizes, desk: &Desk) -> bool
+    ensures { IsTrue result ↔ IsLimited sizes.now desk.now.requests }
+{
+    desk.requests().count() <= MOST_STREAMS
+        && sizes.depth as usize <= MOST_DEPTH
+        && desk.count() <= MOST_REQUESTS
+        && usize::from(sizes.zones) <= MOST_ZONES
+}
+
+// Whether a logical zone keeps within its room.
+fn is_logical_within(steps: u64, zone: &LogicalZone) -> bool
+    ensures { IsTrue result ↔ IsLogicalWithin steps zone.now }
+{
+    zone.next <= steps
+        && zone.places.len() <= MOST_REQUESTS
+        && zone.held.len() <= MOST_ITEMS
+        && zone.waiting.len() <= MOST_ITEMS
+        && zone.retired.len() <= MOST_BLOCKS
+        && zone.slots.len() <= MOST_BLOCKS
+}
+
+// Whether the journal keeps within its room.
+fn is_journal_within(zone: &JournalZone) -> bool
+    ensures { IsTrue result ↔ IsJournalWithin zone.now }
+{
+    zone.waiting.len() <= MOST_ITEMS
+        && zone.entered.len() <= MOST_BLOCKS
+        && zone.committed.len() <= MOST_BLOCKS
+}
+
+// Whether what a zone keeps is within its room.
+fn is_data_within(steps: u64, keeps: &ZoneData) -> bool
+    ensures { IsTrue result ↔ IsDataWithin steps keeps.now }
+{
+    match keeps {
+        ZoneData::Desk(desk) => desk.is_within(),
+        ZoneData::Logical(zone) => is_logical_within(steps, zone),
+        ZoneData::Physical(_) => true,
+        ZoneData::Journal(zone) => is_journal_within(zone),
+        ZoneData::Device(zone) => zone.calls <= steps,
+    }
+}
+
+// Whether a zone serves a script that is no larger than it may be.
+fn serves(sizes: &Sizes, keeps: &ZoneData) -> bool
+    ensures { IsTrue result ↔ IsServedBy sizes.now keeps.now }
+{
+    match keeps {
+        ZoneData::Desk(desk) => is_served_by(sizes, desk),
+        ZoneData::Logical(_) | ZoneData::Physical(_) | ZoneData::Journal(_) | ZoneData::Device(_) =>
+            true,
+    }
+}
+
+/// Whether a zone keeps within its room.
+pub(crate) fn is_within(zone: &Zone) -> bool
+    ensures { IsTrue result ↔ IsWithin zone.now }
+{
+    zone.inbox.len() <= MOST_ITEMS
+        && zone.outboxes.are_short()
+        && is_data_within(zone.steps, &zone.keeps)
+}
+
+/// Whether a zone can step: the session is no larger than it may be, and the zone keeps within its room.
+pub(crate) fn can_step(sizes: &Sizes, zone: &Zone) -> bool
+    ensures yes { result ≡ true → CanStep sizes.now zone.now }
+    ensures no { result ≡ false → CanStep sizes.now zone.now → ⊥ }
+{
+    is_sized(sizes) && serves(sizes, &zone.keeps) && is_within(zone)
 }

@@ -13,7 +13,6 @@ use crate::stepping::step_zone;
 use crate::zones::Zones;
 use core_model::Sizes;
 use disk_model::Disk;
-use std::alloc::Global;
 use step_parts::{StepFault, Stepped};
 
 /// What may happen next.
@@ -27,7 +26,6 @@ pub enum Event {
 
 /// One zone of a core steps. It is idle where no zone has the number, and fails as `step_zone` does.
 pub fn step<D: Disk>(
-    alloc: Global,
     sizes: &Sizes,
     zones: &mut Zones,
     number: u32,
@@ -42,15 +40,15 @@ pub fn step<D: Disk>(
     ensures silent { IfOk result (λ stepped. stepped ≡ Idle → D.seen disk.new ≡ D.seen disk.old) }
     ensures err { IfErr result (MayFaultAt sizes.now zones.old number) }
 {
+    zones.posts.clear();
     let Some(zone) = zones.zones.get_mut(number as usize) else {
         return Ok(Stepped::Idle);
     };
-    Ok(step_zone(alloc, sizes, zone, disk)?)
+    Ok(step_zone(sizes, zone, &mut zones.posts, disk)?)
 }
 
 /// One event.
 fn play_one<D: Disk>(
-    alloc: Global,
     sizes: &Sizes,
     zones: &mut Zones,
     event: Event,
@@ -66,8 +64,8 @@ fn play_one<D: Disk>(
     ensures err { IfErr result (OneMayFault sizes.now zones.old) }
 {
     match event {
-        Event::Step(number) => Ok(step(alloc, sizes, zones, number, disk)?),
-        Event::Move(from, to) => Ok(move_items(alloc, zones, from, to)?),
+        Event::Step(number) => Ok(step(sizes, zones, number, disk)?),
+        Event::Move(from, to) => Ok(move_items(zones, from, to)?),
     }
 }
 
@@ -86,7 +84,6 @@ fn either(first: Stepped, second: Stepped) -> Stepped
 /// Events one after another. It is idle exactly where there is no work for any of them, and nothing changes then. They
 /// end at the first that fails, as `step` and `move_items` do.
 pub fn play<D: Disk>(
-    alloc: Global,
     sizes: &Sizes,
     zones: &mut Zones,
     events: &[Event],
@@ -103,7 +100,7 @@ pub fn play<D: Disk>(
 {
     let mut any = Stepped::Idle;
     for event in events {
-        let stepped = play_one(alloc, sizes, zones, *event, disk)?;
+        let stepped = play_one(sizes, zones, *event, disk)?;
         any = either(any, stepped);
     }
     Ok(any)

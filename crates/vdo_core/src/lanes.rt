@@ -1,48 +1,41 @@
-ghost use Rattle.std.specs.Prelude.{◌≡◌, ◌≤◌, OnOk, IfErr, length};
+ghost use Rattle.std.specs.Prelude.{◌≡◌, OnOk, OnErr};
 ghost use Rattle.std.specs.List.{AllByRecursion};
-ghost use Rattle.core_model.specs.Steps.{posted, sent, delivered};
-ghost use Rattle.step_parts.specs.Causes.{MemoryOrStray};
+ghost use Rattle.core_model.specs.Steps.{sent, delivered};
 ghost use Rattle.vdo_core.specs.Causes.{HasLane};
+ghost use Rattle.vdo_core.specs.Lanes.{HasRoomFor, most_posts};
 
 use crate::numbers::zone_number;
 use blk_base::ZoneId;
-use core_model::{Fifo, Item, Sizes, Zone};
-use step_parts::{Posts, StepFault};
+use core_model::{Item, Sizes, Zone};
+use step_parts::{Posts, Stray};
 
-// An item goes behind those of one outbox.
-fn post(outboxes: &mut Fifo<Fifo<Item>>, to: u64, item: Item) -> Result<(), StepFault>
-    ensures ok { OnOk result (outboxes.new ≡ posted to item outboxes.old) }
-    ensures err { IfErr result (MemoryOrStray (length outboxes.old ≤ to)) }
-{
-    let to = to as usize;
-    if to >= outboxes.items.len() {
-        return Err(StepFault::Stray);
-    }
-    let outbox = &mut outboxes.items[to];
-    outbox.push(item)?;
-    Ok(())
-}
-
-// What a zone posts to itself goes to its own inbox.
-fn send(sizes: &Sizes, zone: &mut Zone, to: ZoneId, item: Item) -> Result<(), StepFault>
+// What a zone posts to itself goes to its own inbox, and else behind the items of an outbox.
+fn send(sizes: &Sizes, zone: &mut Zone, to: ZoneId, item: Item) -> Result<(), Stray>
+    requires { HasRoomFor 1 zone.old }
     ensures ok { OnOk result (zone.new ≡ sent sizes.now (to, item) zone.old) }
-    ensures err { IfErr result (MemoryOrStray (HasLane sizes.now zone.old (to, item) → ⊥)) }
+    ensures err { OnErr result (HasLane sizes.now zone.old (to, item) → ⊥) }
 {
     let number = zone_number(sizes, to);
     if number == u64::from(zone.number) {
-        zone.inbox.push(item)?;
-        Ok(())
-    } else {
-        post(&mut zone.outboxes, number, item)?;
-        Ok(())
+        zone.inbox.push(item);
+        return Ok(());
     }
+    let to = number as usize;
+    if to >= zone.outboxes.len() {
+        return Err(Stray);
+    }
+    zone.outboxes.post(to, item);
+    Ok(())
 }
 
 /// The posts go to their lanes, in their order.
-pub(crate) fn deliver(sizes: &Sizes, zone: &mut Zone, mut posts: Posts) -> Result<(), StepFault>
-    ensures ok { OnOk result (zone.new ≡ delivered sizes.now posts zone.old) }
-    ensures err { IfErr result (MemoryOrStray (AllByRecursion (HasLane sizes.now zone.old) posts → ⊥)) }
+pub(crate) fn deliver(sizes: &Sizes, zone: &mut Zone, posts: &mut Posts) -> Result<(), Stray>
+    requires { HasRoomFor most_posts zone.old }
+    ensures ok { OnOk result (zone.new ≡ delivered sizes.now posts.old zone.old) }
+    ensures err { OnErr result (AllByRecursion (HasLane sizes.now zone.old) posts.old → ⊥) }
 {
+    // Asked for the proof alone: a step posts no more than there is room for.
+    let _count = posts.len();
     while let Some((to, item)) = posts.pop() {
         send(sizes, zone, to, item)?;
     }

@@ -14,7 +14,7 @@ mod stepping;
 mod zones;
 
 pub use events::{Event, play, step};
-pub use laws::a_legal_core_has_no_strays;
+pub use laws::a_legal_core_never_fails;
 pub use moving::move_items;
 pub use starting::begin;
 pub use step_parts::{StepFault, Stepped};

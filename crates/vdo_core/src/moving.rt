@@ -1,70 +1,51 @@
-ghost use Rattle.std.specs.Prelude.{◌≡◌, ◌≢◌, ◌<◌, [], Some, IfOk, OnOk, length, slice_get, slice_set};
+ghost use Rattle.std.specs.Prelude.{◌≡◌, ◌≢◌, ◌<◌, ◌+◌, ◌≤◌, [], Some, IfOk, IfErr, List, length, slice_get, slice_set};
+ghost use Rattle.core_model.specs.declared.items.Item.{Item};
+ghost use Rattle.core_model.specs.declared.sizes.Sizes.{Sizes};
 ghost use Rattle.core_model.specs.declared.zones.Zone.{Zone};
+ghost use Rattle.core_model.specs.Limits.{IsShort};
+ghost use Rattle.step_parts.specs.declared.fault.StepFault.TheVariants.{Exhausted};
 ghost use Rattle.step_parts.specs.declared.fault.Stepped.TheVariants.{Did, Idle};
+ghost use Rattle.vdo_core.specs.Causes.{OneMayFault};
 ghost use Rattle.vdo_core.specs.Moves.{MovesNothing, has_items};
 ghost use Rattle.vdo_core.specs.Plays.{MovesAll};
 
+use crate::counting::is_within;
 use crate::zones::Zones;
-use core_model::{Fifo, Item, Zone};
-use std::alloc::{AllocError, Global};
-use step_parts::Stepped;
-
-// Whether a list has items.
-fn has_any(items: &[Item]) -> bool
-    ensures { result ≡ has_items (Some items.now) }
-{
-    match items {
-        [] => false,
-        [_, ..] => true,
-    }
-}
+use core_model::{Lane, Zone};
+use step_parts::{StepFault, Stepped};
 
 // Whether an outbox has items.
 fn has_posted(zone: &Zone, to: usize) -> bool
     ensures { result ≡ has_items (slice_get zone.now.outboxes to) }
 {
-    match zone.outboxes.as_slice().get(to) {
-        Some(outbox) => has_any(outbox.as_slice()),
-        None => false,
-    }
+    to < zone.outboxes.len() && !zone.outboxes.is_empty(to)
 }
 
-// The items of an outbox, which is left empty.
-fn empty(alloc: Global, outboxes: &mut Fifo<Fifo<Item>>, to: usize) -> Fifo<Item>
-    requires { to < length outboxes.old }
-    ensures part { slice_get outboxes.old to ≡ Some result }
-    ensures rest { outboxes.new ≡ slice_set outboxes.old to [] }
-{
-    std::mem::replace(&mut outboxes.items[to], Fifo::new(alloc))
-}
-
-// The whole outbox of one zone becomes the tail of the inbox of another.
-fn carry(alloc: Global, zones: &mut Zones, from: usize, to: usize) -> Result<(), AllocError>
+// The whole outbox of one zone becomes the tail of the inbox of another, by way of an empty batch.
+fn carry(zones: &mut Vec<Zone>, batch: &mut Lane, from: usize, to: usize)
     requires apart { from ≢ to }
-    requires source { from < length zones.old }
-    requires target { to < length zones.old }
-    requires outbox { (source : Zone) → slice_get zones.old from ≡ Some source → to < length source.outboxes }
-    ensures { OnOk result (MovesAll from to zones.old zones.new) }
+    requires source { from < length zones.old.items }
+    requires target { to < length zones.old.items }
+    requires outbox { (source : Zone) → slice_get zones.old.items from ≡ Some source → to < length source.outboxes }
+    requires sent { (source : Zone) (lane : List Item) → slice_get zones.old.items from ≡ Some source → slice_get source.outboxes to ≡ Some lane → IsShort lane }
+    requires there { (target : Zone) → slice_get zones.old.items to ≡ Some target → IsShort target.inbox }
+    requires none { batch.old ≡ [] }
+    ensures { MovesAll from to zones.old.items zones.new.items }
 {
-    let source = &mut zones.zones[from];
-    let part = empty(alloc, &mut source.outboxes, to);
-    let target = &mut zones.zones[to];
-    target.inbox.append(part)?;
-    Ok(())
+    let source = &mut zones[from];
+    source.outboxes.exchange(to, batch);
+    let target = &mut zones[to];
+    target.inbox.append(batch);
 }
 
-/// What one zone posted to another moves from the outbox to the tail of the inbox, all of it. It fails where no memory is
-/// found for that.
-pub fn move_items(
-    alloc: Global,
-    zones: &mut Zones,
-    from: u32,
-    to: u32,
-) -> Result<Stepped, AllocError>
+/// What one zone posted to another moves from the outbox to the tail of the inbox, all of it. It asks for no memory. It
+/// fails with `Exhausted` where one of the two is past its room.
+pub fn move_items(zones: &mut Zones, from: u32, to: u32) -> Result<Stepped, StepFault>
     ensures did { IfOk result (λ stepped. stepped ≡ Did → MovesAll from to zones.old zones.new) }
     ensures busy { IfOk result (λ stepped. stepped ≡ Did → MovesNothing zones.old from to → ⊥) }
     ensures idle { IfOk result (λ stepped. stepped ≡ Idle → MovesNothing zones.old from to) }
     ensures same { IfOk result (λ stepped. stepped ≡ Idle → zones.new ≡ zones.old) }
+    ensures err { IfErr result (λ fault. (fault ≡ Exhausted) × ((sizes : Sizes) → OneMayFault sizes zones.old Exhausted)) }
 {
     let (source, target) = (from as usize, to as usize);
     let count = zones.zones.len();
@@ -74,6 +55,13 @@ pub fn move_items(
     if !has_posted(&zones.zones[source], target) {
         return Ok(Stepped::Idle);
     }
-    carry(alloc, zones, source, target)?;
+    if !is_within(&zones.zones[source]) {
+        return Err(StepFault::Exhausted);
+    }
+    if !is_within(&zones.zones[target]) {
+        return Err(StepFault::Exhausted);
+    }
+    zones.batch.clear();
+    carry(&mut zones.zones, &mut zones.batch, source, target);
     Ok(Stepped::Did)
 }

@@ -1,29 +1,19 @@
-ghost use Rattle.std.specs.Prelude.{◌≡◌, ◌+◌, ◌<◌, [], ◌∷◌, ◌++◌, IfOk, OnOk, length, reverse};
+ghost use Rattle.std.specs.Prelude.{◌≡◌, ◌+◌, ◌<◌, ◌≤◌, [], ◌∷◌, ◌++◌, IfOk, OnOk, length, reverse};
 ghost use Rattle.std.specs.List.{AllByRecursion};
 ghost use Rattle.core_model.specs.Zones as numbers;
 ghost use Rattle.core_model.specs.Sessions.{Session, IsServed};
+ghost use Rattle.core_model.specs.SessionLimits.{most_requests, most_streams, requests_in};
 ghost use Rattle.core_model.specs.Start.{IsFirst, IsFirstZone, IsFirstData};
 ghost use Rattle.plain_laws.specs.Sums.{Each};
 ghost use Rattle.vdo_core.specs.Plays.{core_with};
-ghost use Rattle.vdo_core.specs.Starts.{IsOf, AreEmptyLanes};
+ghost use Rattle.vdo_core.specs.Starts.{IsOf};
 
 use crate::numbers::{DESK, device_zone, journal_zone, logical_zone, physical_zone, zone_count};
 use crate::zones::Zones;
 use blk_base::{Entry, Pbn};
-use core_model::{Fifo, Item, Sizes, Zone, ZoneData};
+use core_model::{Desk, Fifo, Outboxes, Sizes, Zone, ZoneData};
 use std::alloc::{AllocError, Global};
 use vdo_model::{Requests, Rows};
-
-// Lanes to every zone, with nothing in them.
-fn empty_lanes(alloc: Global, sizes: &Sizes) -> Result<Fifo<Fifo<Item>>, AllocError>
-    ensures { IfOk result (AreEmptyLanes sizes.now) }
-{
-    let mut lanes = Fifo::new(alloc);
-    for made in 0..zone_count(sizes) {
-        lanes.push(Fifo::new(alloc))?;
-    }
-    Ok(lanes)
-}
 
 // A copy of the entries, the oldest first.
 fn copied(alloc: Global, window: &[Entry]) -> Result<Rows<Entry>, AllocError>
@@ -47,21 +37,23 @@ fn push<T: Drop>(items: &mut Vec<T>, item: T) -> Result<(), AllocError>
 // A zone with nothing in its lanes, behind the others.
 fn add(
     alloc: Global,
+    sizes: &Sizes,
     number: u32,
     keeps: ZoneData,
-    outboxes: Fifo<Fifo<Item>>,
     zones: &mut Vec<Zone>,
 ) -> Result<(), AllocError>
     requires { length zones.old.items ≡ number }
     ensures count { OnOk result (length zones.new.items ≡ length zones.old.items + 1) }
-    ensures first { OnOk result ((s : Session) → AreEmptyLanes s.sizes outboxes → IsFirstData s number keeps
+    ensures first { OnOk result ((s : Session) → s.sizes ≡ sizes.now → IsFirstData s number keeps
         → Each (IsFirstZone s) zones.old.items → Each (IsFirstZone s) zones.new.items) }
 {
+    let inbox = Fifo::new(alloc)?;
+    let outboxes = Outboxes::new(alloc, zone_count(sizes))?;
     let zone = Zone {
         number,
         steps: 0,
         keeps,
-        inbox: Fifo::new(alloc),
+        inbox,
         outboxes,
     };
     push(zones, zone)?;
@@ -81,10 +73,9 @@ fn add_logical(
 {
     for zone in 0..sizes.zones {
         let number = logical_zone(zone);
-        let lanes = empty_lanes(alloc, sizes)?;
         let window = copied(alloc, window)?;
-        let logical = ZoneData::Logical(steps_logical::first(alloc, zone, window));
-        add(alloc, number, logical, lanes, zones)?;
+        let logical = steps_logical::first(alloc, zone, window)?;
+        add(alloc, sizes, number, ZoneData::Logical(logical), zones)?;
     }
     Ok(())
 }
@@ -100,20 +91,24 @@ fn add_others(
     ensures count { OnOk result (length zones.new.items ≡ numbers.zone_count sizes.now) }
     ensures first { OnOk result ((s : Session) → s.sizes ≡ sizes.now → s.free ≡ free.items → Each (IsFirstZone s) zones.old.items → Each (IsFirstZone s) zones.new.items) }
 {
-    let lanes = empty_lanes(alloc, sizes)?;
     let physical = ZoneData::Physical(steps_physical::first(free));
-    add(alloc, physical_zone(sizes), physical, lanes, zones)?;
-    let lanes = empty_lanes(alloc, sizes)?;
-    let journal = ZoneData::Journal(steps_journal::first(alloc));
-    add(alloc, journal_zone(sizes), journal, lanes, zones)?;
-    let lanes = empty_lanes(alloc, sizes)?;
+    add(alloc, sizes, physical_zone(sizes), physical, zones)?;
+    let journal = steps_journal::first(alloc)?;
+    add(
+        alloc,
+        sizes,
+        journal_zone(sizes),
+        ZoneData::Journal(journal),
+        zones,
+    )?;
     let device = ZoneData::Device(steps_device::first());
-    add(alloc, device_zone(sizes), device, lanes, zones)?;
+    add(alloc, sizes, device_zone(sizes), device, zones)?;
     Ok(())
 }
 
 /// The core at the start of a session: it has the requests, no one of which is begun, the entries of the window, the
-/// oldest first, and the free data blocks. Each request must be one that is served. It fails where no memory is found.
+/// oldest first, and the free data blocks. Each request must be one that is served, and there may be 16 streams and 65,536
+/// requests in all. It takes all the room that the session will need, and fails where no memory is found for it.
 pub fn begin(
     alloc: Global,
     sizes: &Sizes,
@@ -121,14 +116,15 @@ pub fn begin(
     window: &[Entry],
     free: Vec<Pbn>,
 ) -> Result<Zones, AllocError>
-    requires { AllByRecursion (AllByRecursion IsServed) requests }
+    requires served { AllByRecursion (AllByRecursion IsServed) requests }
+    requires streams { length requests ≤ most_streams }
+    requires few { requests_in requests ≤ most_requests }
     ensures { IfOk result (λ zones. (s : Session) → IsOf s sizes.now requests (reverse window.now) free.items → IsFirst s (core_with zones [])) }
 {
-    let lanes = empty_lanes(alloc, sizes)?;
     let mut zones = Vec::new(alloc);
-    let desk = ZoneData::Desk(steps_desk::first(alloc, requests));
-    add(alloc, DESK, desk, lanes, &mut zones)?;
+    let desk = Desk::new(alloc, requests)?;
+    add(alloc, sizes, DESK, ZoneData::Desk(desk), &mut zones)?;
     add_logical(alloc, sizes, window, &mut zones)?;
     add_others(alloc, sizes, free, &mut zones)?;
-    Ok(Zones::from_vec(zones))
+    Zones::from_vec(alloc, zones)
 }

@@ -1,12 +1,16 @@
-ghost use Rattle.std.specs.Prelude.{◌≡◌};
+ghost use Rattle.std.specs.Prelude.{◌≡◌, IfOk};
 
-use core_model::Zone;
+use core_model::{Fifo, Lane, Zone};
+use std::alloc::{AllocError, Global};
 use std::marker::Model;
+use step_parts::Posts;
 
-/// The zones of a core, by their numbers.
+/// The zones of a core, by their numbers, with the room for what a step posts and what a move brings.
 #[derive(Drop)]
 pub struct Zones {
     pub(crate) zones: Vec<Zone>,
+    pub(crate) posts: Posts,
+    pub(crate) batch: Lane,
 }
 
 impl Model for Zones {
@@ -19,11 +23,17 @@ impl Model for Zones {
 }
 
 impl Zones {
-    /// A core of these zones.
-    pub fn from_vec(zones: Vec<Zone>) -> Zones
-        ensures { result ≡ zones.items }
+    /// A core of these zones. It fails where no memory is found for the room.
+    pub fn from_vec(alloc: Global, zones: Vec<Zone>) -> Result<Zones, AllocError>
+        ensures { IfOk result (λ core. core ≡ zones.items) }
     {
-        Zones { zones }
+        let posts = Posts::new(alloc)?;
+        let batch = Fifo::new(alloc)?;
+        Ok(Zones {
+            zones,
+            posts,
+            batch,
+        })
     }
 
     /// The zones, from number 0.

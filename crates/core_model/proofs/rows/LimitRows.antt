@@ -10,7 +10,7 @@ use Rattle.vdo_model.specs.declared.report.FlushMark.{FlushMark}
 use Rattle.core_model.specs.declared.items.Phase.TheVariants as phase
 use Rattle.core_model.specs.declared.items.Vio.{Vio}
 use Rattle.core_model.specs.declared.sizes.Sizes.{Sizes}
-use Rattle.core_model.specs.declared.zones.Desk.{Desk}
+use Rattle.core_model.specs.DeskData.{Desk}
 use Rattle.core_model.specs.Limits.{IsDeskWithin, IsLimited, requests_in}
 use Rattle.core_model.proofs.rows.PhaseRows.{writes}
 use Rattle.core_model.proofs.rows.WorkedTraces.{first, flush, script, sizes}

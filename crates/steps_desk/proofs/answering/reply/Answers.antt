@@ -1,17 +1,23 @@
-use Rattle.std.proofs.Common.{rules, ◌∙◌, ap, Some, [], ◌∷◌}
+use Rattle.std.proofs.Common.{◌≡◌, ◌∙◌, ap, sym, false, Some, [], ◌∷◌, refl}
+use Rattle.blk_base.specs.declared.request.Answer.TheVariants.{Ok}
 use Rattle.vdo_model.specs.declared.report.DeskLine.TheVariants as line
+use Rattle.core_model.specs.declared.items.Asks.TheVariants.{Flush}
 use Rattle.core_model.specs.DeskRows.DeskServes.{answers, marks}
-use Rattle.core_model.specs.DeskRows.{mark_of_vio}
+use Rattle.core_model.specs.DeskRows.{is_marked, mark_of_vio}
 use Rattle.core_model.specs.Trace.{Says, Flushes}
 use Rattle.steps_desk.proofs.answering.reply.Goals as goal
 
-pub returns-in_ok-mark-in-Some-clause-ok : goal.returns-in_ok-mark-in-Some-clause-ok
-returns-in_ok-mark-in-Some-clause-ok c =
+pub returns-then-is_marked-clause-ok : goal.returns-then-is_marked-clause-ok
+returns-then-is_marked-clause-ok c =
     let is = c.is_marked.ensures.so c.if-is_marked.true in
-    (Flushes (mark_of_vio c.args.vio) ∷ [], marks (search rules) is.0 (c.in-Some.is ∙ ap Some is.1) (search rules) (search rules) (search rules))
+    let asks : c.args.vio.asks ≡ Flush = rw c.get.ensures at is.0 in
+    let answer : c.args.vio.answer ≡ Some Ok = sym c.take_answer.ensures.answer ∙ c.in-Some.is ∙ ap Some is.1 in
+    (Flushes (mark_of_vio c.args.vio) ∷ [], marks c.requires.phase asks answer (rw c.take_answer.ensures.left at c.mark.ensures) refl refl)
 
-pub returns-in_ok-answer-in-Some-clause-ok : goal.returns-in_ok-answer-in-Some-clause-ok
-returns-in_ok-answer-in-Some-clause-ok c = (
-  Says (line.Answer c.args.vio.request c.in-Some.given) ∷ [],
-  answers c.in-Some.given (search rules) (search rules) (c.requires.notified c.in-Some.given (search rules)) (search rules) (search rules) (search rules) (search rules),
-)
+pub returns-else-is_marked-clause-ok : goal.returns-else-is_marked-clause-ok
+returns-else-is_marked-clause-ok c =
+    let answer : c.args.vio.answer ≡ Some c.in-Some.given = sym c.take_answer.ensures.answer ∙ c.in-Some.is in
+    let marked : is_marked c.args.vio.asks c.in-Some.given ≡ false = rw c.get.ensures at (sym c.is_marked.ensures.is ∙ c.if-is_marked.false) in (
+      Says (line.Answer c.args.vio.request c.in-Some.given) ∷ [],
+      answers c.in-Some.given c.requires.phase answer (c.requires.notified c.in-Some.given answer) marked (rw c.take_answer.ensures.left at c.answer.ensures) refl refl,
+    )

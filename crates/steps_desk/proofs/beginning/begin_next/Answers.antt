@@ -2,4 +2,4 @@ use Rattle.steps_desk.proofs.ActLaws.{begins}
 use Rattle.steps_desk.proofs.beginning.begin_next.Goals as goal
 
 pub returns-in_ok-begin_one-in-Some-clause-begun : goal.returns-in_ok-begin_one-in-Some-clause-begun
-returns-in_ok-begin_one-in-Some-clause-begun c = begins _ _ _ _ c.in_ok-begin_one-in-Some.ensures.ok
+returns-in_ok-begin_one-in-Some-clause-begun c = λ yes. begins _ _ _ _ c.in_ok-begin_one-in-Some.ensures.ok

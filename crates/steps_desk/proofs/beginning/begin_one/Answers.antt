@@ -1,34 +1,37 @@
-use Rattle.std.proofs.Common.{rules, refl, arith, subst, ◌≡◌, List, Some, None, slice_get, [], ◌∷◌}
+use Rattle.std.proofs.Common.{rules, refl, arith, subst, ◌≡◌, ◌∙◌, List, Some, None, slice_get, [], ◌∷◌}
 use Rattle.std.proofs.lemmas.Grind.{common_steps}
 use Rattle.std.proofs.lemmas.Option.{gets}
 use Rattle.blk_base.specs.declared.request.Request.{Request}
-use Rattle.vdo_model.specs.Scripts.{request_at}
+use Rattle.vdo_model.specs.Scripts.{request_at, stream_of}
 use Rattle.vdo_model.specs.declared.report.DeskLine.TheVariants as line
 use Rattle.core_model.specs.DeskRows.{at_once, is_notified, vio_of}
 use Rattle.core_model.specs.DeskRows.DeskBegins.{answers, sends}
 use Rattle.core_model.specs.Trace.{Says}
+use Rattle.step_parts.proofs.ResultLaws.{on_ok_both}
+use Rattle.steps_desk.proofs.Begun.{named}
 use Rattle.steps_desk.proofs.beginning.begin_one.Goals as goal
 
-pub returns-in_ok-answer_at_once-in-Some-at_once-clause-ok : goal.returns-in_ok-answer_at_once-in-Some-at_once-clause-ok
-returns-in_ok-answer_at_once-in-Some-at_once-clause-ok c =
+pub returns-in-Some-at_once-clause-ok : goal.returns-in-Some-at_once-clause-ok
+returns-in-Some-at_once-clause-ok c =
     let found : slice_get c.stream-requests.result.now c.args.request.number ≡ Some c.index-requests-request.result = grind (arith, common_steps, gets) in
-    let asked : request_at c.args.desk.now.requests c.args.request ≡ Some c.index-requests-request.result =
+    let asked : request_at c.requests.result.now c.args.request ≡ Some c.index-requests-request.result =
     subst (λ (rs : List Request). slice_get rs c.args.request.number ≡ Some c.index-requests-request.result) c.stream-requests.ensures found in
     let served : vio_of c.args.sizes.now c.args.request c.index-requests-request.result ≡ Some c.in-Some.vio = search rules in
-    let once : at_once c.args.sizes.now (is_notified c.args.sizes.now c.args.desk.now) c.in-Some.vio.asks c.in-Some.vio.at.0 ≡ Some c.in-Some-at_once.given = search rules in
-    let done = c.in_ok-answer_at_once-in-Some-at_once.ensures in (
+    let once : at_once c.args.sizes.now (is_notified c.args.sizes.now c.args.desk.now) c.in-Some.vio.asks c.in-Some.vio.at.0 ≡ Some c.in-Some-at_once.given = search rules in (
       Says (line.Answer c.args.request c.in-Some-at_once.given) ∷ Says (line.Begin c.args.request) ∷ [],
-      answers c.args.request c.index-requests-request.result c.in-Some.vio c.in-Some-at_once.given c.requires.next asked served once done.0 refl done.1,
+      answers c.args.request c.index-requests-request.result c.in-Some.vio c.in-Some-at_once.given c.requires.next (rw c.requests.ensures at asked) served once
+          c.answer_at_once.ensures refl c.requires.none,
     )
 
-pub returns-in_ok-send-in-None-clause-ok : goal.returns-in_ok-send-in-None-clause-ok
-returns-in_ok-send-in-None-clause-ok c =
+pub returns-in-None-clause-ok : goal.returns-in-None-clause-ok
+returns-in-None-clause-ok c =
     let found : slice_get c.stream-requests.result.now c.args.request.number ≡ Some c.index-requests-request.result = grind (arith, common_steps, gets) in
-    let asked : request_at c.args.desk.now.requests c.args.request ≡ Some c.index-requests-request.result =
+    let asked : request_at c.requests.result.now c.args.request ≡ Some c.index-requests-request.result =
     subst (λ (rs : List Request). slice_get rs c.args.request.number ≡ Some c.index-requests-request.result) c.stream-requests.ensures found in
     let served : vio_of c.args.sizes.now c.args.request c.index-requests-request.result ≡ Some c.in-Some.vio = search rules in
     let none : at_once c.args.sizes.now (is_notified c.args.sizes.now c.args.desk.now) c.in-Some.vio.asks c.in-Some.vio.at.0 ≡ None = search rules in
-    let done = c.in_ok-send-in-None.ensures in (
+    let name = named c.args.sizes.now c.args.request c.index-requests-request.result c.in-Some.vio served in
+    on_ok_both c.send.result (λ desk posts. (
       Says (line.Begin c.args.request) ∷ [],
-      sends c.args.request c.index-requests-request.result c.in-Some.vio c.requires.next asked served none done.0 refl done.1,
-    )
+      sends c.args.request c.index-requests-request.result c.in-Some.vio c.requires.next (rw c.requests.ensures at asked) served none (rw name at desk) refl posts,
+    )) c.send.ensures.desk c.send.ensures.posts

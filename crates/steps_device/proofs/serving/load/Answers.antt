@@ -1,5 +1,4 @@
 use Rattle.std.proofs.Common.{rules, true, false, [], ◌∷◌, refl}
-use Rattle.std.proofs.lemmas.Result.{IfOk-weaker}
 use Rattle.disk_model.specs.declared.call.Call.TheVariants as call
 use Rattle.core_model.specs.DeviceRows.DeviceServes.{loads, load_fails}
 use Rattle.core_model.specs.Trace.{Calls, Fails}
@@ -7,17 +6,15 @@ use Rattle.steps_device.proofs.serving.load.Goals as goal
 
 pub returns-in_default-clause-serves : goal.returns-in_default-clause-serves
 returns-in_default-clause-serves g c =
-    let failed = c.in_default.ensures.err in
-    IfOk-weaker c.one.result _ _ (λ posts is. (
+    let failed = c.in_default.ensures.err in (
       Fails c.args.vio.request (call.Read c.args.vio.block c.read_block.new.into false) failed.0 ∷ [],
       load_fails c.read_block.new.into failed.0 c.requires.phase c.requires.inside refl refl (search rules),
-      failed.1 c.args.vio.request,
-    )) c.one.ensures
+      rw c.get-2.ensures at (failed.1 c.args.vio.request),
+    )
 
 pub returns-clause-serves : goal.returns-clause-serves
-returns-clause-serves g c =
-    IfOk-weaker c.one-2.result _ _ (λ posts is. (
-      Calls (call.Read c.args.vio.block c.read_block.new.into true) ∷ [],
-      loads c.read_block.new.into c.requires.phase c.requires.inside (search rules) refl is,
-      c.in-Ok.ensures.ok,
-    )) c.one-2.ensures
+returns-clause-serves g c = (
+  Calls (call.Read c.args.vio.block c.read_block.new.into true) ∷ [],
+  loads c.read_block.new.into c.requires.phase c.requires.inside (search rules) refl (search rules),
+  rw c.get-2.ensures at c.in-Ok.ensures.ok,
+)

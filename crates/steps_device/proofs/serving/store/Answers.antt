@@ -1,5 +1,4 @@
 use Rattle.std.proofs.Common.{rules, true, false, [], ◌∷◌, refl}
-use Rattle.std.proofs.lemmas.Result.{IfOk-weaker}
 use Rattle.disk_model.specs.declared.call.Call.TheVariants as call
 use Rattle.core_model.specs.DeviceRows.DeviceServes.{stores, store_fails}
 use Rattle.core_model.specs.Trace.{Calls, Fails}
@@ -7,17 +6,15 @@ use Rattle.steps_device.proofs.serving.store.Goals as goal
 
 pub returns-in_default-clause-serves : goal.returns-in_default-clause-serves
 returns-in_default-clause-serves g c =
-    let failed = c.in_default.ensures.err in
-    IfOk-weaker c.halt.result _ _ (λ posts is. (
+    let failed = c.in_default.ensures.err in (
       Fails c.args.vio.request (call.Write c.args.vio.block c.args.vio.bytes false) failed.0 ∷ [],
       store_fails failed.0 c.requires.phase c.requires.runs c.requires.inside c.halt.ensures.zone refl (search rules),
-      failed.1 c.args.vio.request,
-    )) c.halt.ensures.posts
+      rw (c.get.ensures, c.get-2.ensures) at (failed.1 c.args.vio.request),
+    )
 
 pub returns-clause-serves : goal.returns-clause-serves
-returns-clause-serves g c =
-    IfOk-weaker c.one.result _ _ (λ posts is. (
-      Calls (call.Write c.args.vio.block c.args.vio.bytes true) ∷ [],
-      stores c.requires.phase c.requires.runs c.requires.inside (search rules) refl (search rules),
-      c.in-Ok.ensures.ok,
-    )) c.one.ensures
+returns-clause-serves g c = (
+  Calls (call.Write c.args.vio.block c.args.vio.bytes true) ∷ [],
+  stores c.requires.phase c.requires.runs c.requires.inside (search rules) refl (search rules),
+  rw (c.get.ensures, c.get-2.ensures) at c.in-Ok.ensures.ok,
+)

@@ -1,10 +1,13 @@
-use Rattle.std.proofs.Common.{◌≡◌, ◌++◌}
+use Rattle.std.proofs.Common.{◌≡◌, ◌≤◌, ◌+◌, ◌++◌, length}
 use Rattle.core_model.specs.DeviceRows.{stop_notices}
 use Rattle.core_model.specs.Zones.{logical_zones}
 use Rattle.steps_device.proofs.stopping.notify_logical.Given as goal
 
 abbrev pub invariant-loop-left : goal.invariant-loop-left
-invariant-loop-left l = l.posts ++ stop_notices (logical_zones l.left) ≡ l.initial.posts ++ stop_notices (logical_zones l.initial.left)
+invariant-loop-left l = record {
+  room : length l.posts + l.left ≤ 278;
+  posts : l.posts ++ stop_notices (logical_zones l.left) ≡ l.initial.posts ++ stop_notices (logical_zones l.initial.left);
+}
 
 abbrev pub decreases-loop-left : goal.decreases-loop-left
 decreases-loop-left l = l.left

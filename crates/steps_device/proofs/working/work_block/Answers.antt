@@ -13,7 +13,7 @@ returns-then-zone-clause-works g c =
     let needed : needs_call c.args.block.stage ≡ true = sym c.needs_call.ensures ∙ c.if-not-needs_call.false in
     let some = some_call c.args.sizes.now c.args.block c.journal_slot-slot.result false c.args.block.stage needed in (
       [],
-      unmade some.0 c.journal_slot-slot.result some.1 c.if-zone.true refl refl (block_post _ _ _ _ _ _ c.in_ok-one.ensures refl c.staged-unmade.ensures),
+      unmade some.0 c.journal_slot-slot.result some.1 c.if-zone.true refl refl (block_post _ _ _ _ _ _ c.first.ensures refl c.staged-unmade.ensures),
       unchanged _ _,
     )
 
@@ -22,7 +22,7 @@ returns-in_default-clause-works g c =
     let failed = c.in_default.ensures.err in (
       Fails c.args.block.vio.request failed.0 failed.2.0 ∷ [],
       fails failed.0 c.journal_slot-slot.result failed.2.0 (rw c.of.ensures at c.journal_slot-slot.ensures.block) failed.1 c.if-zone.false c.halt.ensures.zone refl
-          (block_post _ _ _ _ _ _ c.in_ok-halt.ensures.posts refl c.staged-failed.ensures),
+          (block_post _ _ _ _ _ _ c.halt.ensures.posts refl c.staged-failed.ensures),
       failed.2.1 c.args.block.vio.request,
     )
 
@@ -31,6 +31,6 @@ returns-clause-works g c =
     let made = c.in-Ok.ensures.ok in (
       Calls made.0 ∷ [],
       makes made.0 c.journal_slot-slot.result (rw c.of.ensures at c.journal_slot-slot.ensures.block) made.1 c.if-zone.false (search rules) refl
-          (block_post _ _ _ _ _ _ c.in_ok-one-2.ensures c.next_zone-to.ensures (c.staged.ensures ∙ ap (λ (s : Stage). staged s c.args.block) c.next_stage-stage.ensures)),
+          (block_post _ _ _ _ _ _ c.first-2.ensures c.next_zone-to.ensures (c.staged.ensures ∙ ap (λ (s : Stage). staged s c.args.block) c.next_stage-stage.ensures)),
       made.2,
     )

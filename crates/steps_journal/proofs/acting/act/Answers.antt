@@ -1,26 +1,18 @@
-use Rattle.std.proofs.Common.{[], ◌∷◌}
-use Rattle.core_model.specs.declared.zones.ZoneData.TheVariants as at
-use Rattle.core_model.specs.Steps.{Act}
-use Rattle.step_parts.specs.Causes.{NoRule, MemoryOrStray}
-use Rattle.step_parts.proofs.FaultLaws.{passed_on, strays_by}
+use Rattle.std.proofs.lemmas.Result.{on_ok_weaker, on_err_weaker}
 use Rattle.steps_journal.proofs.ActLaws.{acts, ends_block, hears, stays, keeps}
 use Rattle.steps_journal.proofs.acting.act.Goals as goal
 
-pub returns-in_ok-serve_journal-in-Request-clause-ok : goal.returns-in_ok-serve_journal-in-Request-clause-ok
-returns-in_ok-serve_journal-in-Request-clause-ok c = rw c.in-Request.is (acts _ _ _ _ _ c.in_ok-serve_journal-in-Request.ensures.ok)
+pub returns-in-Request-clause-ok : goal.returns-in-Request-clause-ok
+returns-in-Request-clause-ok c = rw c.in-Request.is (on_ok_weaker c.serve_journal.result (acts _ _ _ _ _) c.serve_journal.ensures.ok)
 
-pub returns-in_ok-end_block-in-Block-clause-ok : goal.returns-in_ok-end_block-in-Block-clause-ok
-returns-in_ok-end_block-in-Block-clause-ok c = rw c.in-Block.is (ends_block _ _ _ _ _ c.in_ok-end_block-in-Block.ensures.ok)
+pub returns-in-Request-clause-err : goal.returns-in-Request-clause-err
+returns-in-Request-clause-err c = rw c.in-Request.is (on_err_weaker c.serve_journal.result (stays _ _ _) c.serve_journal.ensures.err)
 
-pub returns-in_ok-hear_stop-in-StopNotice-clause-ok : goal.returns-in_ok-hear_stop-in-StopNotice-clause-ok
-returns-in_ok-hear_stop-in-StopNotice-clause-ok c = rw c.in-StopNotice.is (hears _ _ _ _ c.in_ok-hear_stop-in-StopNotice.ensures.zone c.in_ok-hear_stop-in-StopNotice.ensures.posts)
+pub returns-in-Block-clause-ok : goal.returns-in-Block-clause-ok
+returns-in-Block-clause-ok c = rw c.in-Block.is (on_ok_weaker c.end_block.result (ends_block _ _ _ _ _) c.end_block.ensures.ok)
 
-pub returns-in_err-serve_journal-in-Request-clause-err : goal.returns-in_err-serve_journal-in-Request-clause-err
-returns-in_err-serve_journal-in-Request-clause-err c =
-    let why : MemoryOrStray (NoRule (Act c.args.sizes.now (at.Journal c.args.zone.now) (c.args.item ∷ []))) c.in_err-serve_journal-in-Request.field-0.0 = rw c.in-Request.is (strays_by (stays _ _ _) _ c.in_err-serve_journal-in-Request.ensures.err) in
-    passed_on c.from_residual.result (MemoryOrStray (NoRule (Act c.args.sizes.now (at.Journal c.args.zone.now) (c.args.item ∷ [])))) c.in_err-serve_journal-in-Request.field-0.0 c.from_residual.ensures.1 why
+pub returns-in-Block-clause-err : goal.returns-in-Block-clause-err
+returns-in-Block-clause-err c = rw c.in-Block.is (on_err_weaker c.end_block.result (keeps _ _ _) c.end_block.ensures.err)
 
-pub returns-in_err-end_block-in-Block-clause-err : goal.returns-in_err-end_block-in-Block-clause-err
-returns-in_err-end_block-in-Block-clause-err c =
-    let why : MemoryOrStray (NoRule (Act c.args.sizes.now (at.Journal c.args.zone.now) (c.args.item ∷ []))) c.in_err-end_block-in-Block.field-0.0 = rw c.in-Block.is (strays_by (keeps _ _ _) _ c.in_err-end_block-in-Block.ensures.err) in
-    passed_on c.from_residual-in_err-end_block-in-Block.result (MemoryOrStray (NoRule (Act c.args.sizes.now (at.Journal c.args.zone.now) (c.args.item ∷ [])))) c.in_err-end_block-in-Block.field-0.0 c.from_residual-in_err-end_block-in-Block.ensures.1 why
+pub returns-in-StopNotice-clause-ok : goal.returns-in-StopNotice-clause-ok
+returns-in-StopNotice-clause-ok c = rw c.in-StopNotice.is (hears _ _ _ _ c.hear_stop.ensures.zone c.hear_stop.ensures.posts)

@@ -7,20 +7,20 @@ use Rattle.steps_journal.proofs.ending.end_committed.Goals as goal
 pub returns-then-not-has_block : goal.returns-then-not-has_block
 returns-then-not-has_block c = (
   Commits (logged c.args.block.vio) ∷ [],
-  ends_last _ _ _ _ _ _ _ _ _ c.requires.stage c.in_ok-commit.ensures c.has_block.ensures c.if-not-has_block.true c.turned-settling.ensures c.in_ok-posts.ensures
-      c.in_ok-refuse_all.ensures.waiting c.in_ok-refuse_all.ensures.posts,
+  ends_last _ _ _ _ _ _ _ _ _ c.requires.stage c.commit.ensures c.has_block.ensures c.if-not-has_block.true c.turn.ensures (rw c.get.ensures at c.first.ensures)
+      c.refuse_all.ensures.waiting c.refuse_all.ensures.posts,
 )
 
-pub returns-in_ok-hand_in-in-Some : goal.returns-in_ok-hand_in-in-Some
-returns-in_ok-hand_in-in-Some c = (
+pub returns-in-Some : goal.returns-in-Some
+returns-in-Some c = (
   Enters (logged c.in-Some.next) ∷ Commits (logged c.args.block.vio) ∷ [],
-  ends_next _ _ _ _ _ _ _ _ _ _ _ c.requires.stage c.in_ok-commit.ensures c.has_block.ensures c.if-not-has_block.false c.turned-settling.ensures c.in_ok-posts.ensures
-      c.in-Some.ensures.some c.in_ok-hand_in-in-Some.ensures.zone c.in_ok-hand_in-in-Some.ensures.posts,
+  ends_next _ _ _ _ _ _ _ _ _ _ _ c.requires.stage c.commit.ensures c.has_block.ensures c.if-not-has_block.false c.turn.ensures (rw c.get.ensures at c.first.ensures)
+      c.in-Some.ensures.some c.hand_in.ensures.zone c.hand_in.ensures.posts,
 )
 
-pub returns-in-None : goal.returns-in-None
-returns-in-None c = (
+pub returns-in_default : goal.returns-in_default
+returns-in_default c = (
   Commits (logged c.args.block.vio) ∷ [],
-  ends_alone _ _ _ _ _ _ _ _ c.requires.stage c.in_ok-commit.ensures c.has_block.ensures c.if-not-has_block.false c.turned-settling.ensures c.in_ok-posts.ensures
-      c.in-None.ensures.none.0 c.in-None.ensures.none.1,
+  ends_alone _ _ _ _ _ _ _ _ c.requires.stage c.commit.ensures c.has_block.ensures c.if-not-has_block.false c.turn.ensures (rw c.get.ensures at c.first.ensures)
+      c.in_default.ensures.none.0 c.in_default.ensures.none.1,
 )

@@ -7,7 +7,7 @@ pub returns-clause-ok : goal.returns-clause-ok
 returns-clause-ok c =
     let retired : is_among c.args.vio.at.0 c.args.zone.now.retired ≡ false = search rules in
     let held : is_held c.args.vio.at.0 c.args.zone.now.held ≡ false = search rules in
-    let zone : c.draw.new.zone ≡ drawn_by c.args.zone.now c.args.vio = search rules in
-    let vio : c.in_ok-drawn.drawn ≡ placed c.args.zone.now c.args.vio = search rules in
-    let same : goes_on c.args.sizes.now c.draw.new.zone c.in_ok-drawn.drawn ≡ goes_on c.args.sizes.now c.args.zone.now (placed c.args.zone.now c.args.vio) = rw (zone, vio) in
+    let zone : c.draw-drawn.new.zone ≡ drawn_by c.args.zone.now c.args.vio = c.draw-drawn.ensures.zone in
+    let vio : c.draw-drawn.result ≡ placed c.args.zone.now c.args.vio = c.draw-drawn.ensures.vio in
+    let same : goes_on c.args.sizes.now c.draw-drawn.new.zone c.draw-drawn.result ≡ goes_on c.args.sizes.now c.args.zone.now (placed c.args.zone.now c.args.vio) = rw (zone, vio) refl in
     arrives_free _ c.requires.phase retired held (sym same ∙ c.in_ok-to.ensures.post) (search rules) refl (search rules)

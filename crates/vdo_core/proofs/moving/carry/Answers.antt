@@ -5,15 +5,15 @@ use Rattle.vdo_core.proofs.moving.carry.Goals as goal
 
 pub returns : goal.returns
 returns c =
-    let had : slice_get c.args.zones.now c.args.from ≡ Some c.index_mut-source.result.now = grind (arith, common_steps, gets) in
-    let target : slice_get c.args.zones.now c.args.to ≡ Some c.index_mut-target.result.now = grind (arith, common_steps, gets) in
+    let had : slice_get c.args.zones.now.items c.args.from ≡ Some c.index_mut-source.result.now = grind (arith, common_steps, gets) in
+    let target : slice_get c.args.zones.now.items c.args.to ≡ Some c.index_mut-target.result.now = grind (arith, common_steps, gets) in
     record {
       source = c.index_mut-source.result.now;
       target = c.index_mut-target.result.now;
-      part = c.empty-part.result;
+      part = c.exchange.new.batch;
       apart = c.requires.apart;
       had_source = had;
       had_target = target;
-      outbox = c.empty-part.ensures.part;
-      has = rw (c.zones.view_is, c.in_ok-append.ensures, c.empty-part.ensures.rest) refl;
+      outbox = c.exchange.ensures.out;
+      has = rw (c.append.ensures.added, c.exchange.ensures.kept, c.requires.none) refl;
     }

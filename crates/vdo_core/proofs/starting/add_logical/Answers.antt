@@ -1,7 +1,7 @@
 use Rattle.std.proofs.Common.{arith, ◌≡◌, ◌<◌, ap, ◌∙◌, sym}
 use Rattle.core_model.specs.declared.sizes.Sizes.{Sizes}
 use Rattle.core_model.specs.declared.zones.ZoneData.TheVariants as at
-use Rattle.vdo_core.proofs.StartLaws.{lanes_of, numbered}
+use Rattle.vdo_core.proofs.StartLaws.{numbered}
 use Rattle.vdo_core.proofs.starting.add_logical.Goals as goal
 
 pub loop-zone-preserved : goal.loop-zone-preserved
@@ -12,7 +12,6 @@ loop-zone-preserved c =
       count = omega (arith, longer, count);
       first = λ s sizes window each.
           (let among : c.loop-zone.zone < s.sizes.zones = (let most : s.sizes.zones ≡ c.args.sizes.now.zones = ap (λ (x : Sizes). x.zones) sizes in omega (arith, most)) in
-          let first = numbered s _ c.logical_zone-number.result (at.Logical c.first.result) c.logical_zone-number.ensures (c.first.ensures s (window ∙ sym c.in_ok-window.ensures) among) in
-          let lanes = lanes_of s c.args.sizes.now c.in_ok-lanes.lanes sizes c.in_ok-lanes.ensures in
-          c.in_ok-add.ensures.first s lanes first (c.loop-zone.invariant.first s sizes window each));
+          let first = numbered s _ c.logical_zone-number.result (at.Logical c.in_ok-logical.logical) c.logical_zone-number.ensures (c.in_ok-logical.ensures s (window ∙ sym c.in_ok-window.ensures) among) in
+          c.in_ok-add.ensures.first s sizes first (c.loop-zone.invariant.first s sizes window each));
     }

@@ -1,14 +1,14 @@
 use Rattle.std.proofs.Common.{◌∙◌, ap, sym}
 use Rattle.core_model.specs.Zones.{physical_zone, journal_zone, device_zone}
 use Rattle.core_model.specs.declared.zones.ZoneData.TheVariants as at
-use Rattle.vdo_core.proofs.StartLaws.{lanes_of, numbered}
+use Rattle.vdo_core.proofs.StartLaws.{numbered}
 use Rattle.vdo_core.proofs.starting.add_others.Goals as goal
 
 pub returns-clause-first : goal.returns-clause-first
 returns-clause-first c s sizes free each =
     let physical = numbered s _ c.physical_zone.result (at.Physical c.first.result) (c.physical_zone.ensures ∙ ap physical_zone (sym sizes)) (c.first.ensures s free) in
-    let with_physical = c.in_ok-add.ensures.first s (lanes_of s _ _ sizes c.in_ok-lanes.ensures) physical each in
-    let journal = numbered s _ c.journal_zone.result (at.Journal c.first-2.result) (c.journal_zone.ensures ∙ ap journal_zone (sym sizes)) (c.first-2.ensures s) in
-    let with_journal = c.in_ok-add-2.ensures.first s (lanes_of s _ _ sizes c.in_ok-lanes-2.ensures) journal with_physical in
+    let with_physical = c.in_ok-add.ensures.first s sizes physical each in
+    let journal = numbered s _ c.journal_zone.result (at.Journal c.in_ok-journal.journal) (c.journal_zone.ensures ∙ ap journal_zone (sym sizes)) (c.in_ok-journal.ensures s) in
+    let with_journal = c.in_ok-add-2.ensures.first s sizes journal with_physical in
     let device = numbered s _ c.device_zone.result (at.Device c.first-3.result) (c.device_zone.ensures ∙ ap device_zone (sym sizes)) (c.first-3.ensures s) in
-    c.in_ok-add-3.ensures.first s (lanes_of s _ _ sizes c.in_ok-lanes-3.ensures) device with_journal
+    c.in_ok-add-3.ensures.first s sizes device with_journal

@@ -1,0 +1,44 @@
+-- How large a session may be.
+use Rattle.std.specs.Prelude.{ℕ, ◌+◌, ◌*◌, ◌≤◌, length}
+use Rattle.vdo_model.specs.Scripts.{Script}
+use Rattle.core_model.specs.declared.sizes.Sizes.{Sizes}
+use Rattle.plain_laws.specs.Sums.{total}
+
+-- how many streams a script has at most, how many requests of each are under way, how many requests there are in all, how
+-- many logical zones, and how many blocks a journal has
+abbrev pub most_streams : ℕ
+most_streams = 16
+
+abbrev pub most_depth : ℕ
+most_depth = 16
+
+abbrev pub most_requests : ℕ
+most_requests = 65536
+
+abbrev pub most_zones : ℕ
+most_zones = 4
+
+abbrev pub most_blocks : ℕ
+most_blocks = 1024
+
+-- how many requests are under way at most, how many zones are notified of a stop, and how many items there are: requests,
+-- and stop notices
+abbrev pub most_under_way : ℕ
+most_under_way = most_streams * most_depth
+
+abbrev pub most_notices : ℕ
+most_notices = 2 + most_zones
+
+abbrev pub most_items : ℕ
+most_items = most_under_way + most_notices
+
+-- how many requests a script has
+abbrev pub requests_in : Script → ℕ
+requests_in script = total length script
+
+-- a session of these sizes, with these requests, is no larger than it may be
+pub record IsLimited (sizes : Sizes) (script : Script) : Type 0 where
+  pub streams : length script ≤ most_streams
+  pub depth : sizes.depth ≤ most_depth
+  pub requests : requests_in script ≤ most_requests
+  pub zones : sizes.zones ≤ most_zones

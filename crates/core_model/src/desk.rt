@@ -1,0 +1,247 @@
+ghost use Rattle.std.specs.Prelude.{◌↔◌, IsTrue, ◌≡◌, ◌+◌, ◌*◌, ◌-◌, ◌^◌, ◌<◌, ◌≤◌, [], ◌∷◌, ◌++◌, IfOk, IfSome, IfNone, length, reverse, vec_len, vec_capacity};
+ghost use Rattle.blk_base.specs.declared.request.Answer.TheVariants.{Ok as Done};
+ghost use Rattle.vdo_model.specs.declared.report.DeskLine.TheVariants.{Answer as Answered, Begin};
+ghost use Rattle.core_model.specs.DeskRows.{mark_of_vio};
+ghost use Rattle.core_model.specs.Limits.{HasRoomToBegin, IsDeskWithin};
+ghost use Rattle.core_model.specs.SessionLimits.{most_requests, most_streams, most_under_way, requests_in};
+ghost use Rattle.plain_laws.specs.Sums.{total};
+
+use crate::scripts::count_requests;
+use crate::{
+    Asks, BoxedVio, Fifo, LANE_ROOM, MOST_ITEMS, MOST_NOTICES, MOST_UNDER_WAY, Phase, Vio,
+};
+use blk_base::{Answer, Block, Lba, Mapping, Pbn, Writer, ZoneId};
+use std::alloc::{AllocError, Global};
+use std::marker::Model;
+use vdo_model::{DeskLine, FlushMark, Requests, Rows};
+
+/// Where requests begin and are answered. It has the boxes of all requests that aren't under way.
+#[derive(Drop)]
+pub struct Desk {
+    requests: Requests,
+    // How many requests there are.
+    count: usize,
+    lines: Vec<DeskLine>,
+    marks: Vec<FlushMark>,
+    notices: u32,
+    parked: Fifo<BoxedVio, LANE_ROOM>,
+    spare: Vec<BoxedVio>,
+}
+
+impl Model for Desk {
+    ghost use Rattle.std.specs.Prelude.{◌≡◌, ◌+◌, ◌*◌, ◌≤◌, reverse, vec_capacity, vec_len};
+    ghost use Rattle.core_model.specs.DeskData.{Desk as DeskData};
+    ghost use Rattle.core_model.specs.SessionLimits.{most_requests, most_under_way, requests_in};
+    ghost use Rattle.core_model.specs.DeskLines.{AreBegunFirst, is_answer, is_begin};
+    ghost use Rattle.plain_laws.specs.Sums.{total};
+
+    ghost Value = { DeskData };
+
+    ghost view = { λ d. record {
+      requests = d.requests;
+      log = reverse d.lines.items;
+      marks = reverse d.marks.items;
+      notices = d.notices;
+      parked = d.parked;
+    } };
+
+    ghost invariant = { λ d. record {
+      counted : d.count ≡ requests_in d.requests;
+      few : d.count ≤ most_requests;
+      lines_room : 2 * requests_in d.requests + 2 ≤ vec_capacity d.lines;
+      marks_room : requests_in d.requests + 1 ≤ vec_capacity d.marks;
+      few_spare : vec_len d.spare ≤ most_under_way;
+      spare_room : most_under_way ≤ vec_capacity d.spare;
+      spare : AreBegunFirst (reverse d.lines.items)
+          → most_under_way + total is_answer (reverse d.lines.items) ≤ vec_len d.spare + total is_begin (reverse d.lines.items);
+    } };
+}
+
+/// What a report has of the desk: the requests, the desk log and the marks.
+#[derive(Drop)]
+pub struct DeskRows {
+    pub requests: Requests,
+    pub log: Rows<DeskLine>,
+    pub marks: Rows<FlushMark>,
+}
+
+// A request in a box that isn't under way.
+fn blank() -> Vio {
+    Vio {
+        request: Writer {
+            stream: 0,
+            number: 0,
+        },
+        asks: Asks::Flush,
+        at: Lba(0),
+        home: ZoneId::Desk,
+        phase: Phase::Reply,
+        bytes: Block::zero(),
+        place: 0,
+        old: Mapping::Unmapped,
+        latest: None,
+        block: Pbn(0),
+        answer: None,
+        calls: 0,
+    }
+}
+
+// Boxes for as many requests as may be under way.
+fn spare_boxes(alloc: Global) -> Result<Vec<BoxedVio>, AllocError>
+    ensures count { IfOk result (λ boxes. vec_len boxes ≡ most_under_way) }
+    ensures room { IfOk result (λ boxes. most_under_way ≤ vec_capacity boxes) }
+{
+    let mut boxes = Vec::with_capacity(alloc, MOST_UNDER_WAY)?;
+    for made in 0..MOST_UNDER_WAY {
+        boxes.push_reserved(BoxedVio::new(alloc, blank())?);
+    }
+    Ok(boxes)
+}
+
+impl Desk {
+    /// The desk at the start of a session: it has the requests, and began none of them. It takes all its room.
+    pub fn new(alloc: Global, requests: Requests) -> Result<Desk, AllocError>
+        requires streams { length requests ≤ most_streams }
+        requires few { requests_in requests ≤ most_requests }
+        ensures { IfOk result (λ desk. desk ≡ record { requests = requests; log = []; marks = []; notices = 0; parked = [] }) }
+    {
+        let count = count_requests(&requests);
+        let lines = Vec::with_capacity(alloc, 2 * count + 2)?;
+        let marks = Vec::with_capacity(alloc, count + 1)?;
+        let parked = Fifo::new(alloc)?;
+        let spare = spare_boxes(alloc)?;
+        Ok(Desk {
+            requests,
+            count,
+            lines,
+            marks,
+            notices: 0,
+            parked,
+            spare,
+        })
+    }
+
+    /// The requests of the script.
+    pub fn requests(&self) -> &Requests
+        ensures { result.now ≡ self.now.requests }
+    {
+        &self.requests
+    }
+
+    /// How many requests there are.
+    pub fn count(&self) -> usize
+        ensures { result ≡ requests_in self.now.requests }
+    {
+        self.count
+    }
+
+    /// The lines of the desk log, the oldest first.
+    pub fn lines(&self) -> &[DeskLine]
+        ensures { self.now.log ≡ reverse result.now }
+    {
+        &self.lines
+    }
+
+    /// How many zones have passed on the stop notice.
+    pub fn notices(&self) -> u32
+        ensures { result ≡ self.now.notices }
+    {
+        self.notices
+    }
+
+    /// Whether the desk keeps within its room.
+    pub fn is_within(&self) -> bool
+        ensures { IsTrue result ↔ IsDeskWithin self.now }
+    {
+        self.lines.len() <= 2 * self.count
+            && self.marks.len() <= self.count
+            && self.parked.len() <= MOST_ITEMS
+            && self.notices <= MOST_NOTICES
+    }
+
+    /// A request is begun, as it is under way; `None` only where there is no room for it.
+    pub fn begin(&mut self, vio: Vio) -> Option<BoxedVio>
+        ensures desk { IfSome result (λ boxed. self.new ≡ record self.old { log = Begin vio.request ∷ self.old.log }) }
+        ensures vio { IfSome result (λ boxed. boxed ≡ vio) }
+        ensures none { IfNone result (HasRoomToBegin self.old → ⊥) }
+    {
+        if self.lines.len() + 2 > 2 * self.count {
+            return None;
+        }
+        let mut boxed = self.spare.pop()?;
+        let request = vio.request;
+        boxed.put(vio);
+        self.lines.push_reserved(DeskLine::Begin { request });
+        Some(boxed)
+    }
+
+    /// A request is begun, and answered at once.
+    pub fn answer_at_once(&mut self, request: Writer, answer: Answer)
+        requires { length self.old.log ≤ 2 * requests_in self.old.requests }
+        ensures { self.new ≡ record self.old { log = Answered request answer ∷ Begin request ∷ self.old.log } }
+    {
+        self.lines.push_reserved(DeskLine::Begin { request });
+        self.lines
+            .push_reserved(DeskLine::Answer { request, answer });
+    }
+
+    /// A request is answered, and its box is spare again.
+    pub fn answer(&mut self, vio: BoxedVio, answer: Answer)
+        requires { length self.old.log ≤ 2 * requests_in self.old.requests + 1 }
+        ensures { self.new ≡ record self.old { log = Answered vio.request answer ∷ self.old.log } }
+    {
+        let request = vio.get().request;
+        self.lines
+            .push_reserved(DeskLine::Answer { request, answer });
+        if self.spare.len() < MOST_UNDER_WAY {
+            self.spare.push_reserved(vio);
+        }
+    }
+
+    /// A flush is answered, with its mark.
+    pub fn mark(&mut self, vio: BoxedVio)
+        requires lines { length self.old.log ≤ 2 * requests_in self.old.requests }
+        requires marks { length self.old.marks ≤ requests_in self.old.requests }
+        ensures { self.new ≡ record self.old { log = Answered vio.request Done ∷ self.old.log; marks = mark_of_vio vio ∷ self.old.marks } }
+    {
+        let request = vio.get().request;
+        let calls = vio.get().calls;
+        self.marks.push_reserved(FlushMark { request, calls });
+        self.answer(vio, Answer::Ok);
+    }
+
+    /// A request waits until the stop notice of every zone has come.
+    pub fn park(&mut self, vio: BoxedVio)
+        requires { length self.old.parked < LANE_ROOM }
+        ensures { self.new ≡ record self.old { parked = self.old.parked ++ vio ∷ [] } }
+    {
+        self.parked.push(vio);
+    }
+
+    /// The first of those that wait for it.
+    pub fn unpark(&mut self) -> Option<BoxedVio>
+        ensures some { IfSome result (λ vio. self.old ≡ record self.new { parked = vio ∷ self.new.parked }) }
+        ensures none { IfNone result ((self.old.parked ≡ []) × (self.new ≡ self.old)) }
+    {
+        self.parked.pop()
+    }
+
+    /// One more zone has passed on the stop notice.
+    pub fn hear(&mut self)
+        requires { self.old.notices < 2 ^ 32 - 1 }
+        ensures { self.new ≡ record self.old { notices = self.old.notices + 1 } }
+    {
+        self.notices += 1;
+    }
+
+    /// What a report has of it.
+    pub fn into_rows(self) -> DeskRows
+        ensures { result ≡ record { requests = self.requests; log = self.log; marks = self.marks } }
+    {
+        DeskRows {
+            requests: self.requests,
+            log: Rows::from_vec(self.lines),
+            marks: Rows::from_vec(self.marks),
+        }
+    }
+}

@@ -1,0 +1,35 @@
+/// How many streams a script may have.
+pub const MOST_STREAMS: usize = 16;
+
+/// How many requests of one stream may be under way.
+pub const MOST_DEPTH: usize = 16;
+
+/// How many requests a script may have.
+pub const MOST_REQUESTS: usize = 65_536;
+
+/// How many logical zones there may be.
+pub const MOST_ZONES: usize = 4;
+
+/// How many requests may be under way.
+pub const MOST_UNDER_WAY: usize = MOST_STREAMS * MOST_DEPTH;
+
+/// How many zones may be notified of a stop: the logical zones, the physical zone and the journal.
+pub const MOST_NOTICES: u32 = 6;
+
+/// How many items may be under way: requests, and stop notices.
+pub const MOST_ITEMS: usize = MOST_UNDER_WAY + MOST_NOTICES as usize;
+
+/// How many blocks the recovery journal may have.
+pub const MOST_BLOCKS: usize = 1_024;
+
+/// The room of the list of what one step posts: each request that the zone keeps, and a few items more.
+pub const POST_ROOM: usize = MOST_ITEMS + 16;
+
+/// The room of a lane: for all items that are under way, and then for what one step posts, or a move brings.
+pub const LANE_ROOM: usize = MOST_ITEMS + POST_ROOM;
+
+/// The room of a list with an item for each block of the journal, and one more.
+pub const BLOCK_ROOM: usize = MOST_BLOCKS + 1;
+
+/// The room of a list with an item for each request.
+pub const REQUEST_ROOM: usize = MOST_REQUESTS + 1;

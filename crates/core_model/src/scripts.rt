@@ -1,0 +1,35 @@
+ghost use Rattle.std.specs.Prelude.{◌≡◌, ◌≤◌, ◌↔◌, IsTrue, length};
+ghost use Rattle.core_model.specs.SessionLimits.{most_requests, most_streams, requests_in};
+
+use crate::{MOST_REQUESTS, MOST_STREAMS};
+use vdo_model::Requests;
+
+/// How many requests there are.
+pub(crate) fn count_requests(requests: &Requests) -> usize
+    requires streams { length requests.now ≤ most_streams }
+    requires few { requests_in requests.now ≤ most_requests }
+    ensures { result ≡ requests_in requests.now }
+{
+    let mut count = 0;
+    for stream in 0..requests.count() {
+        count += requests.stream(stream as u8).len();
+    }
+    count
+}
+
+/// Whether a script is no larger than it may be: it has at most 16 streams, and at most 65,536 requests in all.
+pub fn is_limited(requests: &Requests) -> bool
+    ensures { IsTrue result ↔ (length requests.now ≤ most_streams) × (requests_in requests.now ≤ most_requests) }
+{
+    if requests.count() > MOST_STREAMS {
+        return false;
+    }
+    let mut count = 0;
+    for stream in 0..requests.count() {
+        count += requests.stream(stream as u8).len();
+        if count > MOST_REQUESTS {
+            return false;
+        }
+    }
+    true
+}
