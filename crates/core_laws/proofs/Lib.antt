@@ -3,7 +3,6 @@ pub mod desk
 pub mod device
 pub mod journal
 pub mod kept
-pub mod limits
 pub mod lists
 pub mod logical
 pub mod physical

@@ -1,6 +1,7 @@
 pub mod ActKept
 pub mod Arrivals
 pub mod Carried
+pub mod Counted
 pub mod FirstCore
 pub mod FirstState
 pub mod Frame

@@ -5,5 +5,4 @@ pub mod LeaseTokens
 pub mod Lift
 pub mod Owners
 pub mod Posts
-pub mod Rooms
 pub mod TokenLaws

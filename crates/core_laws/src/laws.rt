@@ -1,35 +1,29 @@
 //! The laws of the core that other crates stand on.
 
-ghost use Rattle.std.specs.Prelude.{◌≡◌, ◌<◌, ◌≤◌, ◌+◌, ◌*◌, ◌⊎◌, ◌↔◌, ℕ, Bool, true, false, length, Some, IsSome, List, [], ◌∷◌, slice_get, slice_set, ◌++◌};
+ghost use Rattle.std.specs.Prelude.{◌≡◌, ◌<◌, ◌≤◌, ◌+◌, ◌⊎◌, ◌↔◌, ℕ, true, false, length, Some, IsSome, List, [], ◌∷◌, slice_get, slice_set, ◌++◌};
 ghost use Rattle.std.specs.List.{AllByRecursion};
 ghost use Rattle.blk_base.specs.declared.request.Answer.{Answer};
 ghost use Rattle.blk_base.specs.declared.request.Answer.TheVariants.{Range, Stopped};
 ghost use Rattle.blk_base.specs.declared.request.Request.{Request};
 ghost use Rattle.blk_base.specs.declared.request.Writer.{Writer};
 ghost use Rattle.disk_model.specs.declared.call.Call.{Call};
-ghost use Rattle.plain_laws.specs.Sums.{total};
-ghost use Rattle.vdo_model.specs.DeskLog.{IsDeskLog, IsNextLine, AllAnswered, answer_of};
+ghost use Rattle.vdo_model.specs.DeskLog.{IsDeskLog, AllAnswered, answer_of};
 ghost use Rattle.vdo_model.specs.FlushMarks.{AreFlushMarks};
 ghost use Rattle.vdo_model.specs.Places.{AreDrawn, IsAnsweredAtOnce, place_of};
 ghost use Rattle.vdo_model.specs.RightReads.{ReadsRight};
 ghost use Rattle.vdo_model.specs.RightRuns.{RunRight};
-ghost use Rattle.vdo_model.specs.Scripts.{Script, address_of, request_at};
+ghost use Rattle.vdo_model.specs.Scripts.{address_of, request_at};
 ghost use Rattle.vdo_model.specs.Stops.{RightAfterStops};
 ghost use Rattle.vdo_model.specs.ZoneOrder.{places_in};
-ghost use Rattle.vdo_model.specs.declared.report.DeskLine.{DeskLine};
-ghost use Rattle.vdo_model.specs.declared.report.DeskLine.TheVariants as line;
-ghost use Rattle.core_model.specs.declared.zones.ZoneData.TheVariants.{Desk, Device, Journal, Logical};
+ghost use Rattle.core_model.specs.declared.zones.ZoneData.TheVariants.{Desk, Device, Logical};
 ghost use Rattle.core_model.specs.DeskData.{Desk as DeskData};
 ghost use Rattle.core_model.specs.declared.zones.DeviceZone.{DeviceZone};
-ghost use Rattle.core_model.specs.declared.zones.JournalZone.{JournalZone};
 ghost use Rattle.core_model.specs.declared.zones.LogicalZone.{LogicalZone};
 ghost use Rattle.core_model.specs.declared.zones.Zone.{Zone};
 ghost use Rattle.core_model.specs.declared.zones.ZoneData.{ZoneData};
 ghost use Rattle.core_model.specs.declared.items.Item.{Item};
 ghost use Rattle.core_model.specs.declared.sizes.Sizes.{Sizes};
-ghost use Rattle.core_model.specs.Legal.{Legal, share};
-ghost use Rattle.core_model.specs.Limits.{IsDeskWithin, IsShort, IsWithin, most_blocks, most_requests, requests_in};
-ghost use Rattle.core_model.specs.Tokens.{is_answer, is_begin, kept_by, queued};
+ghost use Rattle.core_model.specs.Legal.{Legal};
 ghost use Rattle.core_model.specs.Reports.{ShowsValues, opening_values, progress_of, report_of};
 ghost use Rattle.core_model.specs.RightTraces.{IsHeldBack, StopsAtFailure};
 ghost use Rattle.core_model.specs.Sessions.{Session, IsSession, HasHonestReads};
@@ -105,63 +99,6 @@ pub fn a_legal_core_is_right_after_a_stop()
     ensures marked { (s : Session) (core : Core) → IsSession s → Legal s core → AreFlushMarks s.script (moments core.trace) (marks core.trace) }
     ensures stops { (s : Session) (core : Core) → IsSession s → Legal s core
         → RightAfterStops (ShowsValues s) s.blocks s.before s.sizes.geometry.logical (opening_values s) (report_of s core.trace) (calls core.trace) }
-{}
-
-/// In a legal core each lane and each list of requests that a zone keeps is within its share: as many as there may be
-/// requests under way, and stop notices.
-pub fn a_legal_core_has_room()
-    ensures inbox { (s : Session) (core : Core) (n : ℕ) (z : Zone) → Legal s core → slice_get core.zones n ≡ Some z → length z.inbox ≤ share s }
-    ensures lanes { (s : Session) (core : Core) (n : ℕ) (z : Zone) (to : ℕ) (lane : List Item) → Legal s core → slice_get core.zones n ≡ Some z
-        → slice_get z.outboxes to ≡ Some lane → length lane ≤ share s }
-    ensures kept { (s : Session) (core : Core) (n : ℕ) (z : Zone) → Legal s core → slice_get core.zones n ≡ Some z → queued (λ it. 1) z.keeps ≤ share s }
-{}
-
-/// In a desk log that is well formed each request of the script is begun once at most, and answered once at most; and as many
-/// requests are under way as its streams may have at most. Where another may be begun, there is room for it in both counts.
-pub fn a_desk_log_is_bounded()
-    ensures under_way { (depth : ℕ) (script : Script) (log : List DeskLine) → IsDeskLog depth script log
-        → total is_begin log ≤ length script * depth + total is_answer log }
-    ensures fewer { (depth : ℕ) (script : Script) (log : List DeskLine) (w : Writer) → IsDeskLog depth script log → IsNextLine depth script (line.Begin w) log
-        → total is_begin log < length script * depth + total is_answer log }
-    ensures answered { (depth : ℕ) (script : Script) (log : List DeskLine) → IsDeskLog depth script log → total is_answer log ≤ total is_begin log }
-    ensures lines { (depth : ℕ) (script : Script) (log : List DeskLine) → IsDeskLog depth script log → length log ≤ 2 * requests_in script }
-    ensures more_lines { (depth : ℕ) (script : Script) (log : List DeskLine) (w : Writer) → IsDeskLog depth script log → IsNextLine depth script (line.Begin w) log
-        → length log + 2 ≤ 2 * requests_in script }
-{}
-
-/// In a legal core of a session that is no larger than it may be, the lists of each zone are no longer than said: those of
-/// the desk, the places of a logical zone, the inbox, each outbox, and the requests that a zone keeps.
-pub fn a_legal_core_is_within_limits()
-    ensures desk { (s : Session) (core : Core) (n : ℕ) (z : Zone) (desk : DeskData) → IsSession s → Legal s core → slice_get core.zones n ≡ Some z
-        → z.keeps ≡ Desk desk → IsDeskWithin desk }
-    ensures places { (s : Session) (core : Core) (n : ℕ) (z : Zone) (l : LogicalZone) → IsSession s → Legal s core → slice_get core.zones n ≡ Some z
-        → z.keeps ≡ Logical l → length l.places ≤ most_requests }
-    ensures inbox { (s : Session) (core : Core) (n : ℕ) (z : Zone) → IsSession s → Legal s core → slice_get core.zones n ≡ Some z → IsShort z.inbox }
-    ensures lanes { (s : Session) (core : Core) (n : ℕ) (z : Zone) → IsSession s → Legal s core → slice_get core.zones n ≡ Some z
-        → AllByRecursion (λ lane. IsShort lane) z.outboxes }
-    ensures waiting { (s : Session) (core : Core) (n : ℕ) (z : Zone) → IsSession s → Legal s core → slice_get core.zones n ≡ Some z → IsShort (kept_by z.keeps) }
-{}
-
-/// In a legal core a logical zone drew no more places than it made steps, and the device's zone made no more calls. A logical
-/// zone has a lock for each request under way at most. The journal has no more entries than an image's journal has blocks, and
-/// so no zone has more slots that were set, or more addresses that are never released.
-pub fn a_legal_core_counts_within_limits()
-    ensures next { (s : Session) (core : Core) (n : ℕ) (z : Zone) (l : LogicalZone) → Legal s core → slice_get core.zones n ≡ Some z → z.keeps ≡ Logical l → l.next ≤ z.steps }
-    ensures calls { (s : Session) (core : Core) (n : ℕ) (z : Zone) (d : DeviceZone) → Legal s core → slice_get core.zones n ≡ Some z → z.keeps ≡ Device d → d.calls ≤ z.steps }
-    ensures held { (s : Session) (core : Core) (n : ℕ) (z : Zone) (l : LogicalZone) → Legal s core → slice_get core.zones n ≡ Some z → z.keeps ≡ Logical l → length l.held ≤ share s }
-    ensures entered { (s : Session) (core : Core) (n : ℕ) (z : Zone) (j : JournalZone) → IsSession s → Legal s core → slice_get core.zones n ≡ Some z → z.keeps ≡ Journal j
-        → length j.entered ≤ most_blocks }
-    ensures committed { (s : Session) (core : Core) (n : ℕ) (z : Zone) (j : JournalZone) → IsSession s → Legal s core → slice_get core.zones n ≡ Some z → z.keeps ≡ Journal j
-        → length j.committed ≤ most_blocks }
-    ensures slots { (s : Session) (core : Core) (n : ℕ) (z : Zone) (l : LogicalZone) → IsSession s → Legal s core → slice_get core.zones n ≡ Some z → z.keeps ≡ Logical l
-        → length l.slots ≤ most_blocks }
-    ensures retired { (s : Session) (core : Core) (n : ℕ) (z : Zone) (l : LogicalZone) → IsSession s → Legal s core → slice_get core.zones n ≡ Some z → z.keeps ≡ Logical l
-        → length l.retired ≤ most_blocks }
-{}
-
-/// In a legal core each zone keeps within its room: room for that, taken at the start, suffices for the whole session.
-pub fn a_legal_core_keeps_within_its_room()
-    ensures { (s : Session) (core : Core) (n : ℕ) (z : Zone) → IsSession s → Legal s core → slice_get core.zones n ≡ Some z → IsWithin z }
 {}
 
 /// What a zone does with an item is fixed, and in the device's zone by how the device answered: two acts on the same item

@@ -4,9 +4,7 @@
 mod laws;
 
 pub use laws::{
-    a_desk_log_is_bounded, a_legal_core_counts_within_limits, a_legal_core_goes_on,
-    a_legal_core_has_room, a_legal_core_is_in_order, a_legal_core_is_right_after_a_stop,
-    a_legal_core_is_within_limits, a_legal_core_keeps_within_its_room, a_legal_core_reads_right,
-    a_legal_core_stops_at_a_failure, a_view_steps_as_its_zone, an_act_has_one_result,
-    every_event_keeps_a_core_legal, the_views_stand_for_a_core,
+    a_legal_core_goes_on, a_legal_core_is_in_order, a_legal_core_is_right_after_a_stop,
+    a_legal_core_reads_right, a_legal_core_stops_at_a_failure, a_view_steps_as_its_zone,
+    an_act_has_one_result, every_event_keeps_a_core_legal, the_views_stand_for_a_core,
 };

@@ -20,8 +20,8 @@ use Rattle.core_model.specs.Sessions.{Session, IsSession}
 use Rattle.core_model.specs.Steps.{Core, MayBegin}
 use Rattle.core_model.specs.Trace.{Trace, lines}
 use Rattle.core_laws.proofs.kept.LegalMoves.{legal_leads}
-use Rattle.core_laws.proofs.limits.DeskLimits.{answers_few, log_before, under_way_before}
-use Rattle.core_laws.proofs.limits.WholeZones.{zone_within}
+use Rattle.core_limits.proofs.DeskLimits.{answers_few, log_before, under_way_before}
+use Rattle.core_limits.proofs.WholeZones.{zone_within}
 use Rattle.core_laws.proofs.trace.DeskOfTrace.{desk_log_right}
 use Rattle.step_parts.specs.declared.fault.StepFault.{StepFault}
 use Rattle.step_parts.specs.declared.fault.StepFault.TheVariants as fault

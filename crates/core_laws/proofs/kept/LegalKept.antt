@@ -10,7 +10,7 @@ use Rattle.core_laws.proofs.kept.Keys.{OfJournal, idle_none}
 use Rattle.core_laws.proofs.kept.StepActs.{by_act, known, sides}
 use Rattle.core_laws.proofs.kept.Arrivals.{arrivals_kept, course}
 use Rattle.core_laws.proofs.kept.Streams.{flows_step}
-use Rattle.core_laws.proofs.limits.Counted.{made_once}
+use Rattle.core_laws.proofs.kept.Counted.{made_once}
 use Rattle.core_laws.proofs.tokens.ActSums.{IsRow, act_row}
 use Rattle.core_laws.proofs.tokens.Known.{IsIn, KeptIn}
 use Rattle.core_laws.proofs.tokens.Known as tokens

@@ -1,5 +1,5 @@
-use Rattle.core_laws.proofs.limits.ZoneLimits.{desk_within, inbox_within, lanes_within, places_within, waiting_within}
-use Rattle.core_laws.proofs.laws.a_legal_core_is_within_limits.Goals as goal
+use Rattle.core_limits.proofs.ZoneLimits.{desk_within, inbox_within, lanes_within, places_within, waiting_within}
+use Rattle.core_limits.proofs.laws.a_legal_core_is_within_limits.Goals as goal
 
 pub returns-clause-desk : goal.returns-clause-desk
 returns-clause-desk c = λ s core n z desk session legal had. desk_within s core session legal n z had desk

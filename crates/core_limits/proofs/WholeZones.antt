@@ -5,8 +5,8 @@ use Rattle.core_model.specs.declared.zones.ZoneData.TheVariants as at
 use Rattle.core_model.specs.Legal.{Legal}
 use Rattle.core_model.specs.Limits.{IsDataWithin, IsWithin}
 use Rattle.core_model.specs.Steps.{Core}
-use Rattle.core_laws.proofs.limits.Bounds.{calls_within, committed_within, entered_within, held_within, next_within, retired_within, slots_within}
-use Rattle.core_laws.proofs.limits.ZoneLimits.{desk_within, few_items, inbox_within, lanes_within, places_within, waiting_within}
+use Rattle.core_limits.proofs.Bounds.{calls_within, committed_within, entered_within, held_within, next_within, retired_within, slots_within}
+use Rattle.core_limits.proofs.ZoneLimits.{desk_within, few_items, inbox_within, lanes_within, places_within, waiting_within}
 
 module _ (s : Session) (core : Core) (session : IsSession s) (legal : Legal s core) (n : ℕ) (z : Zone) (had : slice_get core.zones n ≡ Some z) where
   data_within : (d : ZoneData) → z.keeps ≡ d → IsDataWithin z.steps d

@@ -6,10 +6,10 @@ use Rattle.core_model.specs.declared.zones.ZoneData.TheVariants as at
 use Rattle.core_model.specs.Legal.{Legal, share}
 use Rattle.core_model.specs.Limits.{IsDeskWithin, IsShort, most_depth, most_items, most_notices, most_requests, most_streams, requests_in}
 use Rattle.core_model.specs.Steps.{Core}
-use Rattle.core_laws.proofs.limits.DeskLimits.{answers_few, begins_few, log_few, marks_few}
-use Rattle.core_laws.proofs.limits.PlaceLimits.{in_zone_few, places_few}
+use Rattle.core_limits.proofs.DeskLimits.{answers_few, begins_few, log_few, marks_few}
+use Rattle.core_limits.proofs.PlaceLimits.{in_zone_few, places_few}
 use Rattle.core_laws.proofs.tokens.Lift.{items_total}
-use Rattle.core_laws.proofs.tokens.Rooms.{few_words, inbox_room, lane_room, one_each, queue_room}
+use Rattle.core_limits.proofs.Rooms.{few_words, inbox_room, lane_room, one_each, queue_room}
 use Rattle.core_laws.proofs.trace.DeskOfTrace.{desk_log_right}
 use Rattle.core_laws.proofs.trace.PlacesOfTrace.{places_drawn}
 

@@ -6,7 +6,7 @@ use Rattle.core_model.specs.declared.items.Item.TheVariants as item
 use Rattle.core_model.specs.declared.zones.ZoneData.TheVariants as at
 use Rattle.core_model.specs.Legal.{Legal, share}
 use Rattle.core_model.specs.Steps.{Core}
-use Rattle.core_laws.proofs.lists.StreamSums.{over, over_more}
+use Rattle.core_limits.proofs.StreamSums.{over, over_more}
 use Rattle.core_laws.proofs.tokens.Lift.{items_total}
 use Rattle.core_laws.proofs.trace.DeskOfTrace.{desk_log_right}
 use Rattle.core_laws.proofs.kept.ZoneKinds.{desk_sits, device_sits, no_words}

@@ -1,7 +1,7 @@
 use Rattle.std.proofs.Common.{arith}
-use Rattle.core_laws.proofs.limits.DeskLimits.{answers_few, log_before, log_few, under_way_before}
-use Rattle.core_laws.proofs.tokens.Rooms.{under_way}
-use Rattle.core_laws.proofs.laws.a_desk_log_is_bounded.Goals as goal
+use Rattle.core_limits.proofs.DeskLimits.{answers_few, log_before, log_few, under_way_before}
+use Rattle.core_limits.proofs.Rooms.{under_way}
+use Rattle.core_limits.proofs.laws.a_desk_log_is_bounded.Goals as goal
 
 pub returns-clause-under_way : goal.returns-clause-under_way
 returns-clause-under_way c = λ depth script log right. let few = under_way depth script log right in omega (arith, few)

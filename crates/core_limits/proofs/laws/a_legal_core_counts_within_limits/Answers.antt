@@ -1,5 +1,5 @@
-use Rattle.core_laws.proofs.limits.Bounds.{next_within, calls_within, held_within, entered_within, committed_within, slots_within, retired_within}
-use Rattle.core_laws.proofs.laws.a_legal_core_counts_within_limits.Goals as goal
+use Rattle.core_limits.proofs.Bounds.{next_within, calls_within, held_within, entered_within, committed_within, slots_within, retired_within}
+use Rattle.core_limits.proofs.laws.a_legal_core_counts_within_limits.Goals as goal
 
 pub returns-clause-next : goal.returns-clause-next
 returns-clause-next c = λ s core n z l legal had. next_within s core legal n z had l

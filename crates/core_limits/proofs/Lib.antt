@@ -1,6 +1,7 @@
 pub mod Bounds
-pub mod Counted
 pub mod DeskLimits
 pub mod PlaceLimits
-pub mod ZoneLimits
+pub mod Rooms
+pub mod StreamSums
 pub mod WholeZones
+pub mod ZoneLimits

@@ -4,8 +4,8 @@ use Rattle.std.proofs.lemmas.Option.{slice_get_within}
 use Rattle.core_laws.proofs.Common.{AllByRecursion, DeskLine, Fails, Flushes, IsDeskLog, IsNextLine, Says, Script, Trace, Writer, answer_of, begun, cases_lt, eqb_tells, get_or_past, is_answer, is_begin, lines, marks, request_at, same_tells, some_of, total}
 use Rattle.vdo_model.specs.declared.report.DeskLine.TheVariants.{Begin, Answer}
 use Rattle.core_model.specs.Limits.{requests_in}
-use Rattle.core_laws.proofs.lists.StreamSums.{Apart, Inside, named, names_few, over, over_le, over_more, over_script}
-use Rattle.core_laws.proofs.tokens.Rooms.{all_begun, under_way}
+use Rattle.core_limits.proofs.StreamSums.{Apart, Inside, named, names_few, over, over_le, over_more, over_script}
+use Rattle.core_limits.proofs.Rooms.{all_begun, under_way}
 use Rattle.core_laws.proofs.trace.Growth.{begun_more}
 
 -- how many requests a stream of a script has

@@ -1,5 +1,5 @@
-use Rattle.core_laws.proofs.tokens.Rooms.{inbox_room, lane_room, queue_room}
-use Rattle.core_laws.proofs.laws.a_legal_core_has_room.Goals as goal
+use Rattle.core_limits.proofs.Rooms.{inbox_room, lane_room, queue_room}
+use Rattle.core_limits.proofs.laws.a_legal_core_has_room.Goals as goal
 
 pub returns-clause-inbox : goal.returns-clause-inbox
 returns-clause-inbox c = λ s core n z legal. inbox_room s core legal n z

@@ -10,7 +10,7 @@ use Rattle.core_model.specs.Steps.{Core}
 use Rattle.core_model.specs.Tokens.{kept_items}
 use Rattle.core_laws.proofs.kept.FirstState.{total_at_most}
 use Rattle.core_laws.proofs.kept.ZoneKinds.{journal_sits}
-use Rattle.core_laws.proofs.tokens.Rooms.{all_requests, carried}
+use Rattle.core_limits.proofs.Rooms.{all_requests, carried}
 use Rattle.core_laws.proofs.trace.Growth.{entered_grows}
 use Rattle.core_laws.proofs.trace.DeskOfTrace.{shown_of}
 

@@ -1,5 +1,0 @@
-use Rattle.core_laws.proofs.limits.WholeZones.{zone_within}
-use Rattle.core_laws.proofs.laws.a_legal_core_keeps_within_its_room.Goals as goal
-
-pub returns : goal.returns
-returns c = λ s core n z session legal. zone_within s core session legal n z
