@@ -2,7 +2,6 @@
 use Rattle.std.specs.Prelude.{ℕ, ◌≡◌, List}
 use Rattle.blk_base.specs.declared.geometry.Geometry.{Geometry}
 use Rattle.slab_counts.specs.declared.tickets.Ticket.{Ticket}
-use Rattle.slab_tests.specs.declared.zones.Held.{Held}
 use Rattle.slab_tests.specs.Out.{AreOut}
 use Rattle.slab_zone.specs.Zone.{Zone}
 
@@ -16,6 +15,3 @@ pub record IsSecond (z : Zone) (tickets : List Ticket) (issued step : ℕ) : Typ
   pub zone : z.zone ≡ 1
   pub zones : z.zones ≡ 2
   pub out : AreOut z.desk tickets issued step
-
-abbrev pub IsTested : Zone → Held → Type 0
-IsTested z held = IsSecond z held.tickets.items held.clock.issued held.clock.step

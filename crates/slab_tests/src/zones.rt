@@ -1,7 +1,7 @@
 ghost use Rattle.std.specs.Prelude.{◌≡◌, ◌≤◌, ◌<◌, IsTrue, IfOk, OnOk};
 ghost use Rattle.blk_base.specs.Points.{half_of};
 ghost use Rattle.slab_zone.specs.Zone.{IsOf, IsOfZone, IsClaimedIn};
-ghost use Rattle.slab_tests.specs.Tested.{IsTested, two_zones};
+ghost use Rattle.slab_tests.specs.Tested.{IsSecond, two_zones};
 
 use crate::images::{TWO_ZONES, image_of_two_zones};
 use crate::plain_zone::{PlainAsked, PlainZone};
@@ -47,7 +47,7 @@ impl Met {
 
 // The second of two zones, in its first step, of which nothing is held.
 fn first_step(alloc: Global) -> Result<(SlabZone, Held), AllocError>
-    ensures { IfOk result (λ opened. IsTested opened.0 opened.1) }
+    ensures { IfOk result (λ opened. IsSecond opened.0 opened.1.tickets.items opened.1.clock.issued opened.1.clock.step) }
 {
     let opened = image_of_two_zones(alloc)?;
     let mut zone = SlabZone::new(alloc, 1, 2, 1, &opened)?;
@@ -73,7 +73,7 @@ fn is_mine(at: Pbn) -> bool
 
 // Whether it is a block of the zone, to which nothing is mapped, and on which there is a claim.
 fn is_claimed(zone: &SlabZone, held: &Held, at: Pbn) -> bool
-    requires { IsTested zone.now held.now }
+    requires { IsSecond zone.now held.now.tickets.items held.now.clock.issued held.now.clock.step }
     ensures { IsTrue result → IsClaimedIn zone.now at }
 {
     is_mine(at) && zone.count(at) == 0 && !zone.is_free(at)
@@ -81,8 +81,8 @@ fn is_claimed(zone: &SlabZone, held: &Held, at: Pbn) -> bool
 
 // Begins a step.
 fn begin(zone: &mut SlabZone, plain: &mut PlainZone, held: &mut Held, number: u64) -> bool
-    requires { IsTested zone.old held.old }
-    ensures { IsTested zone.new held.new }
+    requires { IsSecond zone.old held.old.tickets.items held.old.clock.issued held.old.clock.step }
+    ensures { IsSecond zone.new held.new.tickets.items held.new.clock.issued held.new.clock.step }
 {
     if held.clock.step > 100_000 {
         return true;
@@ -100,8 +100,8 @@ fn ask(
     held: &mut Held,
     met: &mut Met,
 ) -> Result<bool, AllocError>
-    requires { IsTested zone.old held.old }
-    ensures { OnOk result (IsTested zone.new held.new) }
+    requires { IsSecond zone.old held.old.tickets.items held.old.clock.issued held.old.clock.step }
+    ensures { OnOk result (IsSecond zone.new held.new.tickets.items held.new.clock.issued held.new.clock.step) }
 {
     if held.tickets.len() >= 32 || held.clock.issued >= 1000 {
         return Ok(true);
@@ -131,8 +131,8 @@ fn withdraw(
     met: &mut Met,
     place: usize,
 ) -> bool
-    requires { IsTested zone.old held.old }
-    ensures { IsTested zone.new held.new }
+    requires { IsSecond zone.old held.old.tickets.items held.old.clock.issued held.old.clock.step }
+    ensures { IsSecond zone.new held.new.tickets.items held.new.clock.issued held.new.clock.step }
 {
     let count = held.tickets.len();
     if count == 0 {
@@ -147,8 +147,8 @@ fn withdraw(
 
 // Shares a block; the claim is let go, and stays counted.
 fn share(zone: &mut SlabZone, plain: &mut PlainZone, held: &Held, met: &mut Met, at: u32) -> bool
-    requires { IsTested zone.old held.now }
-    ensures { IsTested zone.new held.now }
+    requires { IsSecond zone.old held.now.tickets.items held.now.clock.issued held.now.clock.step }
+    ensures { IsSecond zone.new held.now.tickets.items held.now.clock.issued held.now.clock.step }
 {
     let wanted = plain.claim_share(at);
     match zone.claim_share(Pbn(at)) {
@@ -162,8 +162,8 @@ fn share(zone: &mut SlabZone, plain: &mut PlainZone, held: &Held, met: &mut Met,
 
 // Extends the claim that came last.
 fn extend(zone: &mut SlabZone, plain: &mut PlainZone, held: &mut Held) -> Result<bool, AllocError>
-    requires { IsTested zone.old held.old }
-    ensures { OnOk result (IsTested zone.new held.new) }
+    requires { IsSecond zone.old held.old.tickets.items held.old.clock.issued held.old.clock.step }
+    ensures { OnOk result (IsSecond zone.new held.new.tickets.items held.new.clock.issued held.new.clock.step) }
 {
     let Some(claim) = held.claims.pop() else {
         return Ok(true);
@@ -186,8 +186,8 @@ fn extend(zone: &mut SlabZone, plain: &mut PlainZone, held: &mut Held) -> Result
 
 // Drops the claim that came last.
 fn drop_claim(zone: &mut SlabZone, plain: &mut PlainZone, held: &mut Held) -> bool
-    requires { IsTested zone.old held.old }
-    ensures { IsTested zone.new held.new }
+    requires { IsSecond zone.old held.old.tickets.items held.old.clock.issued held.old.clock.step }
+    ensures { IsSecond zone.new held.new.tickets.items held.new.clock.issued held.new.clock.step }
 {
     let Some(claim) = held.claims.pop() else {
         return true;
@@ -201,8 +201,8 @@ fn drop_claim(zone: &mut SlabZone, plain: &mut PlainZone, held: &mut Held) -> bo
 
 // Spends the claim that came last.
 fn spend(zone: &mut SlabZone, held: &mut Held) -> Result<bool, AllocError>
-    requires { IsTested zone.old held.old }
-    ensures { OnOk result (IsTested zone.new held.new) }
+    requires { IsSecond zone.old held.old.tickets.items held.old.clock.issued held.old.clock.step }
+    ensures { OnOk result (IsSecond zone.new held.new.tickets.items held.new.clock.issued held.new.clock.step) }
 {
     let Some(claim) = held.claims.pop() else {
         return Ok(true);
@@ -220,8 +220,8 @@ fn spend_page(
     plain: &mut PlainZone,
     held: &mut Held,
 ) -> Result<bool, AllocError>
-    requires { IsTested zone.old held.old }
-    ensures { OnOk result (IsTested zone.new held.new) }
+    requires { IsSecond zone.old held.old.tickets.items held.old.clock.issued held.old.clock.step }
+    ensures { OnOk result (IsSecond zone.new held.new.tickets.items held.new.clock.issued held.new.clock.step) }
 {
     let Some(claim) = held.claims.pop() else {
         return Ok(true);
@@ -253,8 +253,8 @@ fn apply(
     at: Pbn,
     is_increment: bool,
 ) -> bool
-    requires { IsTested zone.old held.now }
-    ensures { IsTested zone.new held.now }
+    requires { IsSecond zone.old held.now.tickets.items held.now.clock.issued held.now.clock.step }
+    ensures { IsSecond zone.new held.now.tickets.items held.now.clock.issued held.now.clock.step }
 {
     if !is_mine(at) {
         return false;
@@ -273,7 +273,7 @@ fn apply(
 
 // Whether both say the same of a block.
 fn look(zone: &SlabZone, plain: &PlainZone, held: &Held, at: Pbn) -> bool
-    requires { IsTested zone.now held.now }
+    requires { IsSecond zone.now held.now.tickets.items held.now.clock.issued held.now.clock.step }
 {
     is_mine(at) && (u32::from(zone.count(at)), zone.is_free(at)) == plain.look(at.0)
 }
@@ -293,8 +293,8 @@ fn step(
     met: &mut Met,
     number: u64,
 ) -> Result<bool, AllocError>
-    requires { IsTested zone.old held.old }
-    ensures { OnOk result (IsTested zone.new held.new) }
+    requires { IsSecond zone.old held.old.tickets.items held.old.clock.issued held.old.clock.step }
+    ensures { OnOk result (IsSecond zone.new held.new.tickets.items held.new.clock.issued held.new.clock.step) }
 {
     let rest = number / 16;
     match number % 16 {
@@ -328,7 +328,7 @@ fn count_alike(
     held: &mut Held,
     met: &mut Met,
 ) -> Result<u64, AllocError>
-    requires { IsTested zone.old held.old }
+    requires { IsSecond zone.old held.old.tickets.items held.old.clock.issued held.old.clock.step }
 {
     let mut number = 1_u64;
     for turn in 0..600_u64 {
