@@ -1,9 +1,8 @@
 -- What the lists of the zones make of their items, in the words of the rules.
-use Rattle.std.proofs.Common.{◌≡◌, ◌≢◌, ◌<◌, ◌+◌, ◌==◌, ℕ, zero, suc, not, Bool, true, false, List, [], ◌∷◌, ◌++◌, Some, slice_get, slice_set, get_or, drop, length, reverse, refl, sym, ap, ◌∙◌, arith, cond}
+use Rattle.std.proofs.Common.{◌≡◌, ◌<◌, ◌+◌, ◌==◌, ℕ, zero, suc, not, Bool, true, false, List, [], ◌∷◌, ◌++◌, Some, slice_get, slice_set, get_or, drop, length, reverse, refl, sym, ap, ◌∙◌, cond}
 use Rattle.std.specs.List.{filter}
 use Rattle.std.proofs.lemmas.List.{append-nil, drop_more, reverse-append}
 use Rattle.std.proofs.lemmas.Option.{same_Some}
-use Rattle.blk_base.specs.declared.place.Lba.{Lba}
 use Rattle.core_model.specs.LogicalRows.{without}
 use Rattle.core_model.specs.Steps.{posted}
 use Rattle.core_model.specs.declared.items.Item.{Item}

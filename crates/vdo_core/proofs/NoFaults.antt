@@ -1,23 +1,19 @@
 -- In a legal core no zone is past its room, and no step fails.
-use Rattle.std.proofs.Common.{◌≡◌, ◌<◌, ◌≤◌, ◌+◌, ◌*◌, ◌++◌, ℕ, Bool, Some, List, [], ◌∷◌, length, slice_get, refl, ap, sym, subst, ◌∙◌, arith, inl, inr}
+use Rattle.std.proofs.Common.{◌≡◌, ◌<◌, ◌≤◌, ◌+◌, ◌*◌, ◌++◌, ℕ, Bool, Some, List, [], ◌∷◌, length, slice_get, sym, subst, arith, inl, inr}
 use Rattle.std.proofs.lemmas.Nat.{mul-le}
 use Rattle.disk_model.specs.Seen.{Seen}
 use Rattle.vdo_model.specs.Scripts.{Script}
 use Rattle.vdo_model.specs.declared.report.DeskLine.{DeskLine}
-use Rattle.vdo_model.specs.DeskLog.{IsDeskLog, IsNextLine}
-use Rattle.vdo_model.specs.declared.report.DeskLine.TheVariants as line
-use Rattle.core_model.specs.DeskData.{Desk}
+use Rattle.vdo_model.specs.DeskLog.{IsDeskLog}
 use Rattle.core_model.specs.DeskLines.{AreBegunFirst}
-use Rattle.core_model.specs.Limits.{HasRoomToBegin}
-use Rattle.core_model.specs.declared.sizes.Sizes.{Sizes}
 use Rattle.core_model.specs.declared.zones.Zone.{Zone}
 use Rattle.core_model.specs.declared.zones.ZoneData.{ZoneData}
 use Rattle.core_model.specs.declared.zones.ZoneData.TheVariants as at
 use Rattle.core_model.specs.Facts.{DataOk}
 use Rattle.core_model.specs.Legal.{Legal}
-use Rattle.core_model.specs.SessionLimits.{IsLimited, most_blocks}
+use Rattle.core_model.specs.SessionLimits.{IsLimited}
 use Rattle.core_model.specs.Sessions.{Session, IsSession}
-use Rattle.core_model.specs.Steps.{Core, MayBegin}
+use Rattle.core_model.specs.Steps.{Core}
 use Rattle.core_model.specs.Trace.{Trace, lines}
 use Rattle.core_laws.proofs.kept.LegalMoves.{legal_leads}
 use Rattle.core_limits.proofs.DeskLimits.{answers_few, log_before, under_way_before}

@@ -1,5 +1,5 @@
 -- In a legal core nothing is stray.
-use Rattle.std.proofs.Common.{◌≡◌, ℕ, Bool, Some, List, [], ◌∷◌, ◌++◌, ◌<◌, length, take, drop, slice_get, refl, ap, sym, ◌∙◌, inl, inr}
+use Rattle.std.proofs.Common.{◌≡◌, ℕ, Some, List, [], ◌∷◌, ◌++◌, ◌<◌, length, take, drop, slice_get, refl, ap, sym, ◌∙◌, inl, inr}
 use Rattle.std.specs.List.{AllByRecursion}
 use Rattle.vdo_model.specs.Scripts.{Script, request_at}
 use Rattle.core_model.specs.declared.items.Item.{Item}

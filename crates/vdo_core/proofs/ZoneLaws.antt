@@ -1,12 +1,11 @@
 -- Items on their way, and what a step of a zone is.
-use Rattle.std.proofs.Common.{◌≡◌, ◌<◌, ◌+◌, ℕ, zero, suc, Bool, List, [], ◌∷◌, ◌++◌, Some, slice_get, slice_set, refl, sym, ap, subst, ◌∙◌, arith, inl, inr}
-use Rattle.std.proofs.lemmas.Option.{same_Some}
+use Rattle.std.proofs.Common.{◌≡◌, ◌<◌, ◌+◌, Bool, List, [], ◌∷◌, ◌++◌, sym, ap, subst, ◌∙◌, arith, inl, inr}
 use Rattle.core_model.specs.declared.items.Item.{Item}
 use Rattle.core_model.specs.declared.sizes.Sizes.{Sizes}
 use Rattle.core_model.specs.declared.zones.ZoneData.{ZoneData}
 use Rattle.core_model.specs.declared.zones.Zone.{Zone}
 use Rattle.core_laws.proofs.tokens.Lift.{delivered_same}
-use Rattle.core_model.specs.Steps.{posted, delivered, step_limit, Act, IsIdle, MayBegin, ZoneStep}
+use Rattle.core_model.specs.Steps.{delivered, step_limit, Act, IsIdle, MayBegin, ZoneStep}
 use Rattle.disk_model.specs.Seen.{Seen}
 use Rattle.core_model.specs.Trace.{Trace}
 use Rattle.core_model.specs.Vios.{Post}

@@ -1,8 +1,8 @@
-use Rattle.std.proofs.Common.{rules, refl, arith, subst, ◌≡◌, ◌∙◌, List, Some, None, slice_get, [], ◌∷◌}
+use Rattle.std.proofs.Common.{rules, refl, arith, subst, ◌≡◌, List, Some, None, slice_get, [], ◌∷◌}
 use Rattle.std.proofs.lemmas.Grind.{common_steps}
 use Rattle.std.proofs.lemmas.Option.{gets}
 use Rattle.blk_base.specs.declared.request.Request.{Request}
-use Rattle.vdo_model.specs.Scripts.{request_at, stream_of}
+use Rattle.vdo_model.specs.Scripts.{request_at}
 use Rattle.vdo_model.specs.declared.report.DeskLine.TheVariants as line
 use Rattle.core_model.specs.DeskRows.{at_once, is_notified, vio_of}
 use Rattle.core_model.specs.DeskRows.DeskBegins.{answers, sends}

@@ -1,6 +1,5 @@
 use Rattle.std.proofs.Common.{◌≡◌, ◌≤◌, ◌+◌, ◌++◌, length}
 use Rattle.core_model.specs.LogicalRows.{all_for, none_for, all_stopped}
-use Rattle.core_model.specs.SessionLimits.{most_items}
 use Rattle.steps_logical.proofs.waiting.stop_all.Given as goal
 
 abbrev pub invariant-loop-vio : goal.invariant-loop-vio

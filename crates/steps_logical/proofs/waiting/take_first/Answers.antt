@@ -2,7 +2,7 @@ use Rattle.std.proofs.Common.{arith, ap, ◌≡◌, ◌∙◌, ◌==◌, sym, tr
 use Rattle.std.proofs.lemmas.Grind.{common_steps}
 use Rattle.std.proofs.lemmas.Option.{gets, same_Some}
 use Rattle.core_model.specs.declared.items.Vio.{Vio}
-use Rattle.steps_logical.proofs.WaitingLaws.{found_first, found_rest}
+use Rattle.steps_logical.proofs.WaitingLaws.{found_first}
 use Rattle.steps_logical.proofs.waiting.take_first.Goals as goal
 
 pub returns-then-eq-clause-first : goal.returns-then-eq-clause-first

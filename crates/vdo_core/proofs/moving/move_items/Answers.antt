@@ -2,7 +2,7 @@ use Rattle.std.proofs.Common.{arith, ◌≡◌, ◌≢◌, ◌<◌, ◌∙◌, f
 use Rattle.std.proofs.lemmas.Grind.{common_steps}
 use Rattle.std.proofs.lemmas.Option.{gets, same_Some, slice_get-get_or}
 use Rattle.core_model.specs.declared.zones.Zone.{Zone}
-use Rattle.core_model.specs.Limits.{IsShort, IsWithin}
+use Rattle.core_model.specs.Limits.{IsWithin}
 use Rattle.vdo_core.specs.Moves.{has_items}
 use Rattle.vdo_core.proofs.MoveLaws.{has_lane, short_lane}
 use Rattle.vdo_core.proofs.moving.move_items.Goals as goal

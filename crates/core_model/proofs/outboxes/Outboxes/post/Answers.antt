@@ -1,7 +1,6 @@
-use Rattle.std.proofs.Common.{arith, ◌≡◌, ◌∙◌, ap, Some, slice_get, slice_set, List}
+use Rattle.std.proofs.Common.{arith, ◌≡◌, Some, slice_get}
 use Rattle.std.proofs.lemmas.Grind.{common_steps}
 use Rattle.std.proofs.lemmas.Option.{gets}
-use Rattle.core_model.specs.declared.items.Item.{Item}
 use Rattle.core_model.proofs.ListForms.{posted_is}
 use Rattle.core_model.proofs.outboxes.Outboxes.post.Goals as goal
 

@@ -1,4 +1,4 @@
-use Rattle.std.proofs.Common.{◌≡◌, ◌∙◌, ap, sym, reverse}
+use Rattle.std.proofs.Common.{◌∙◌, ap, sym, reverse}
 use Rattle.core_model.specs.LogicalRows.{without}
 use Rattle.core_model.proofs.ListForms.{without_reverse}
 use Rattle.core_model.proofs.register.Register+Lock+ROOM.leave_out.Goals as goal
