@@ -1,10 +1,10 @@
 -- How long a desk log gets: each request of the script is begun once at most, and answered once at most.
-use Rattle.std.proofs.Common.{◌≡◌, ℕ, true, zero, suc, ◌+◌, ◌*◌, ◌<◌, ◌≤◌, IsNone, IsSome, Some, List, [], ◌∷◌, length, get_or, refl, ap, inl, inr, arith}
+use Rattle.std.proofs.Common.{◌≡◌, ℕ, true, ◌+◌, ◌*◌, ◌<◌, ◌≤◌, IsNone, IsSome, Some, List, [], ◌∷◌, length, get_or, refl, ap, inl, inr, arith}
 use Rattle.std.proofs.lemmas.Option.{slice_get_within}
 use Rattle.core_laws.proofs.Common.{AllByRecursion, DeskLine, Fails, Flushes, IsDeskLog, IsNextLine, Says, Script, Trace, Writer, answer_of, begun, cases_lt, eqb_tells, get_or_past, is_answer, is_begin, lines, marks, request_at, same_tells, some_of, total}
 use Rattle.vdo_model.specs.declared.report.DeskLine.TheVariants.{Begin, Answer}
 use Rattle.core_model.specs.Limits.{requests_in}
-use Rattle.core_limits.proofs.StreamSums.{Apart, Inside, named, names_few, over, over_le, over_more, over_script}
+use Rattle.core_limits.proofs.StreamSums.{Apart, Inside, named, names_few, over, over_le, over_more, over_none, over_script}
 use Rattle.core_limits.proofs.Rooms.{all_begun, under_way}
 use Rattle.core_laws.proofs.trace.Growth.{begun_more}
 
@@ -27,7 +27,7 @@ asked_inside script w some =
     (stream_there script w.stream (omega (arith, below)), below)
 
 -- no more of a stream are begun than it has
-begun_few : (depth : ℕ) (script : Script) (log : List DeskLine) (stream : ℕ) → IsDeskLog depth script log → begun stream log ≤ requests_of script stream
+pub begun_few : (depth : ℕ) (script : Script) (log : List DeskLine) (stream : ℕ) → IsDeskLog depth script log → begun stream log ≤ requests_of script stream
 begun_few depth script [] stream right = omega arith
 begun_few depth script (Begin w ∷ older) stream right = elim (eqb_tells w.stream stream) [
   | inl same ↦
@@ -49,34 +49,30 @@ begins_few depth script log right =
 
 -- what is begun of each stream is a part of all that is
 all_counted : (k : ℕ) (log : List DeskLine) → over k (λ i. begun i log) ≤ total is_begin log
-all_counted k [] = zeros k
-  where
-    zeros : (k : ℕ) → over k (λ i. 0) ≤ 0
-    zeros zero = omega arith
-    zeros (suc k) = let rest = zeros k in omega (arith, rest)
+all_counted k [] = over_none k (λ i. 0) (λ i. omega arith)
 all_counted k (Begin w ∷ older) =
     let rest = all_counted k older in
     elim (over_more k w.stream (λ i. begun i older)) [ inl one ↦ omega (arith, rest, one.1) | inr none ↦ omega (arith, rest, none.1) ]
 all_counted k (Answer w a ∷ older) = let rest = all_counted k older in omega (arith, rest)
 
 -- the requests that are answered
-abbrev answered_names : List DeskLine → List Writer
+abbrev pub answered_names : List DeskLine → List Writer
 answered_names [] = []
 answered_names (Begin w ∷ older) = answered_names older
 answered_names (Answer w a ∷ older) = w ∷ answered_names older
 
 -- each is its own name
-abbrev itself : Writer → Writer
+abbrev pub itself : Writer → Writer
 itself w = w
 
 -- as many as are answered
-as_many : (log : List DeskLine) → length (answered_names log) ≡ total is_answer log
+pub as_many : (log : List DeskLine) → length (answered_names log) ≡ total is_answer log
 as_many [] = refl
 as_many (Begin w ∷ older) = omega (arith, as_many older)
 as_many (Answer w a ∷ older) = omega (arith, as_many older)
 
 -- a request without an answer isn't among them
-none_named : (log : List DeskLine) (w : Writer) → IsNone (answer_of log w) → named itself w (answered_names log) ≡ 0
+pub none_named : (log : List DeskLine) (w : Writer) → IsNone (answer_of log w) → named itself w (answered_names log) ≡ 0
 none_named [] w none = refl
 none_named (Begin v ∷ older) w none = none_named older w none
 none_named (Answer v a ∷ older) w none = elim (same_tells v w) [
@@ -85,12 +81,12 @@ none_named (Answer v a ∷ older) w none = elim (same_tells v w) [
 ]
 
 -- each is there once, and was begun
-answered_apart : (depth : ℕ) (script : Script) (log : List DeskLine) → IsDeskLog depth script log → Apart itself (answered_names log)
+pub answered_apart : (depth : ℕ) (script : Script) (log : List DeskLine) → IsDeskLog depth script log → Apart itself (answered_names log)
 answered_apart depth script [] right = tt
 answered_apart depth script (Begin w ∷ older) right = answered_apart depth script older right.1
 answered_apart depth script (Answer w a ∷ older) right = (none_named older w right.0.1, answered_apart depth script older right.1)
 
-answered_inside : (depth : ℕ) (script : Script) (log : List DeskLine) (bound : ℕ → ℕ) → IsDeskLog depth script log → ((i : ℕ) → begun i log ≤ bound i)
+pub answered_inside : (depth : ℕ) (script : Script) (log : List DeskLine) (bound : ℕ → ℕ) → IsDeskLog depth script log → ((i : ℕ) → begun i log ≤ bound i)
     → AllByRecursion (Inside (length script) bound) (answered_names log)
 answered_inside depth script [] bound right le = tt
 answered_inside depth script (Begin w ∷ older) bound right le = answered_inside depth script older bound right.1 (λ i. let more = begun_more i (Begin w) older in omega (arith, le i, more))
@@ -107,7 +103,7 @@ answers_few depth script log right =
     omega (arith, a, as_many log, all_counted (length script) log)
 
 -- each line begins or answers
-lines_are : (log : List DeskLine) → length log ≡ total is_begin log + total is_answer log
+pub lines_are : (log : List DeskLine) → length log ≡ total is_begin log + total is_answer log
 lines_are [] = refl
 lines_are (Begin w ∷ older) = omega (arith, lines_are older)
 lines_are (Answer w a ∷ older) = omega (arith, lines_are older)

@@ -1,5 +1,6 @@
 pub mod Bounds
 pub mod DeskLimits
+pub mod FullLogs
 pub mod PlaceLimits
 pub mod Rooms
 pub mod StreamSums

@@ -6,7 +6,7 @@ use Rattle.core_model.specs.declared.items.Item.TheVariants as item
 use Rattle.core_model.specs.declared.zones.ZoneData.TheVariants as at
 use Rattle.core_model.specs.Legal.{Legal, share}
 use Rattle.core_model.specs.Steps.{Core}
-use Rattle.core_limits.proofs.StreamSums.{over, over_more}
+use Rattle.core_limits.proofs.StreamSums.{over, over_more, over_none}
 use Rattle.core_laws.proofs.tokens.Lift.{items_total}
 use Rattle.core_laws.proofs.trace.DeskOfTrace.{desk_log_right}
 use Rattle.core_laws.proofs.kept.ZoneKinds.{desk_sits, device_sits, no_words}
@@ -40,11 +40,7 @@ all_begun depth script (Begin w ∷ older) right =
 all_begun depth script (Answer w a ∷ older) right = let rest = all_begun depth script older right.1 in omega (arith, rest)
 
 all_answered : (k : ℕ) (desk : List DeskLine) → over k (λ i. answered i desk) ≤ total is_answer desk
-all_answered k [] = zeros k
-  where
-    zeros : (k : ℕ) → over k (λ i. 0) ≤ 0
-    zeros zero = omega arith
-    zeros (suc k) = let rest = zeros k in omega (arith, rest)
+all_answered k [] = over_none k (λ i. 0) (λ i. omega arith)
 all_answered k (Begin w ∷ older) = let rest = all_answered k older in omega (arith, rest)
 all_answered k (Answer w a ∷ older) =
     let rest = all_answered k older in

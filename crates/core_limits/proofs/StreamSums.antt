@@ -30,6 +30,11 @@ over_less (suc k) m f g le less below = elim (eqb_tells m k) [
   | inr other ↦ omega (arith, le k, over_less k m f g le less (omega (arith, below, other.1)))
 ]
 
+-- where each is none
+pub over_none : (k : ℕ) (f : ℕ → ℕ) → ((i : ℕ) → f i ≤ 0) → over k f ≤ 0
+over_none zero f none = omega arith
+over_none (suc k) f none = omega (arith, none k, over_none k f none)
+
 -- where each is at most 1
 pub over_ones : (k : ℕ) (f : ℕ → ℕ) → ((i : ℕ) → f i ≤ 1) → over k f ≤ k
 over_ones zero f ones = omega arith
@@ -58,7 +63,7 @@ Apart name (x ∷ xs) = (named name (name x) xs ≡ 0) × Apart name xs
 abbrev pub Inside : (k : ℕ) (bound : ℕ → ℕ) → Writer → Type 0
 Inside k bound w = (w.stream < k) × (w.number < bound w.stream)
 
-abbrev at : ℕ → ℕ → Writer
+abbrev pub at : ℕ → ℕ → Writer
 at stream number = record { stream = stream; number = number }
 
 module _ {X : Type 0} (name : X → Writer) where
@@ -71,7 +76,7 @@ module _ {X : Type 0} (name : X → Writer) where
   ]
 
   -- how many are of each number of a stream
-  abbrev of_stream : (ℕ → ℕ) → List X → ℕ → ℕ
+  abbrev pub of_stream : (ℕ → ℕ) → List X → ℕ → ℕ
   of_stream bound xs stream = over (bound stream) (λ number. named name (at stream number) xs)
 
   -- each is counted at its number

@@ -1,10 +1,10 @@
 //! How much a legal core holds at most, in each of its zones.
 
-ghost use Rattle.std.specs.Prelude.{◌≡◌, ◌<◌, ◌≤◌, ◌+◌, ◌*◌, ℕ, length, Some, List, slice_get};
+ghost use Rattle.std.specs.Prelude.{◌≡◌, ◌<◌, ◌≤◌, ◌+◌, ◌*◌, ◌↔◌, ℕ, length, Some, List, slice_get};
 ghost use Rattle.std.specs.List.{AllByRecursion};
 ghost use Rattle.blk_base.specs.declared.request.Writer.{Writer};
 ghost use Rattle.plain_laws.specs.Sums.{total};
-ghost use Rattle.vdo_model.specs.DeskLog.{IsDeskLog, IsNextLine};
+ghost use Rattle.vdo_model.specs.DeskLog.{AllAnswered, IsDeskLog, IsNextLine};
 ghost use Rattle.vdo_model.specs.Scripts.{Script};
 ghost use Rattle.vdo_model.specs.declared.report.DeskLine.{DeskLine};
 ghost use Rattle.vdo_model.specs.declared.report.DeskLine.TheVariants as line;
@@ -42,6 +42,11 @@ pub fn a_desk_log_is_bounded()
     ensures lines { (depth : ℕ) (script : Script) (log : List DeskLine) → IsDeskLog depth script log → length log ≤ 2 * requests_in script }
     ensures more_lines { (depth : ℕ) (script : Script) (log : List DeskLine) (w : Writer) → IsDeskLog depth script log → IsNextLine depth script (line.Begin w) log
         → length log + 2 ≤ 2 * requests_in script }
+{}
+
+/// A desk log that is well formed has two lines for each request of its script exactly where each request is answered.
+pub fn a_desk_log_is_full_when_all_are_answered()
+    ensures { (depth : ℕ) (script : Script) (log : List DeskLine) → IsDeskLog depth script log → (length log ≡ 2 * requests_in script) ↔ AllAnswered script log }
 {}
 
 /// In a legal core of a session that is no larger than it may be, the lists of each zone are no longer than said: those of
