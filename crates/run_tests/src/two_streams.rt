@@ -1,8 +1,9 @@
 use crate::cores::{Ask, Given, Unplayed, are_answers, in_order, played, sizes};
 use crate::runs::fresh;
+use core_model::Sizes;
 use std::alloc::{AllocError, Global};
 use std::test::Fail;
-use vdo_core::Event;
+use vdo_core::{Event, StepFault, Zones, is_done, ready};
 
 // Addresses below 812 are of logical zone 0 of two, and those from there on of zone 1.
 const ASKS: [&[Ask]; 2] = [
@@ -77,5 +78,35 @@ fn answers_in_three_orders(rt: HostRuntime) -> Result<(), Fail> {
     events.reverse();
     let third = are_answered(rt.alloc(), &events)?;
     assert_eq!(rt; [first, second, third], [true, true, true]);
+    Ok(())
+}
+
+// Whether all is answered, and for how many of these events there is work.
+fn left_over(sizes: &Sizes, zones: &Zones, events: &[Event]) -> Result<(bool, u32), StepFault> {
+    let mut count = 0_u32;
+    for event in events {
+        if ready(sizes, zones, *event)? {
+            count = count.wrapping_add(1);
+        }
+    }
+    Ok((is_done(zones), count))
+}
+
+// What is left over at the start of a session, and when these events were played as long as there was work for one.
+fn before_and_after(alloc: Global, events: &[Event]) -> Result<[(bool, u32); 2], Unplayed> {
+    let sizes = sizes(2, 3);
+    let mut disk = fresh(alloc)?;
+    let first = played(alloc, &sizes, &ASKS, &[], &mut disk)?;
+    let before = left_over(&sizes, &first, events)?;
+    let last = played(alloc, &sizes, &ASKS, events, &mut disk)?;
+    let after = left_over(&sizes, &last, events)?;
+    Ok([before, after])
+}
+
+#[test]
+fn there_is_work_until_all_is_answered(rt: HostRuntime) -> Result<(), Fail> {
+    let events = in_order(rt.alloc(), 6)?;
+    let left = before_and_after(rt.alloc(), &events)?;
+    assert_eq!(rt; left, [(false, 1), (true, 0)]);
     Ok(())
 }

@@ -144,6 +144,18 @@ fn lowest(sizes: &Sizes, desk: &Desk) -> Option<Writer>
     None
 }
 
+/// Whether a stream may begin a request.
+pub fn may_begin(sizes: &Sizes, desk: &Desk) -> bool
+    requires { CanBegin sizes.now desk.now }
+    ensures yes { IsTrue result → MayBegin sizes.now (at.Desk desk.now) }
+    ensures no { (result ≡ false) → MayBegin sizes.now (at.Desk desk.now) → ⊥ }
+{
+    match lowest(sizes, desk) {
+        Some(_) => true,
+        None => false,
+    }
+}
+
 // A request is begun, and sent on.
 fn send(desk: &mut Desk, vio: Vio, posts: &mut Posts) -> Result<(), StepFault>
     requires { posts.old ≡ [] }

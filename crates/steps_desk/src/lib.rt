@@ -7,4 +7,4 @@ mod beginning;
 mod lines;
 
 pub use acting::act;
-pub use beginning::begin_next;
+pub use beginning::{begin_next, may_begin};

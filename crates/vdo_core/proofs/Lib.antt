@@ -1,3 +1,4 @@
+mod DoneLaws
 mod NoStrays
 mod PlayLaws
 mod StartLaws

@@ -3,8 +3,9 @@ use Rattle.std.proofs.Common.{ℕ, ◌≡◌, ◌<◌, zero, suc, true, Some, Li
 use Rattle.std.proofs.lemmas.Option.{same_Some}
 use Rattle.std.specs.List.{AllByRecursion}
 use Rattle.core_model.specs.declared.items.Item.{Item}
+use Rattle.core_model.specs.declared.zones.Zone.{Zone}
 use Rattle.core_model.specs.Limits.{IsShort}
-use Rattle.vdo_core.specs.Moves.{has_items}
+use Rattle.vdo_core.specs.Moves.{MovesNothing, MovesSome, has_items}
 
 -- an outbox with items is there
 pub has_lane : (lanes : List (List Item)) (to : ℕ) → has_items (slice_get lanes to) ≡ true → to < length lanes
@@ -17,3 +18,9 @@ pub short_lane : (lanes : List (List Item)) (to : ℕ) (lane : List Item) → Al
 short_lane [] to lane all got = absurd cc
 short_lane (l ∷ lanes) zero lane all got = subst (λ (items : List Item). IsShort items) (same_Some _ _ got) all.0
 short_lane (l ∷ lanes) (suc to) lane all got = short_lane lanes to lane all.1 got
+
+-- where there is something to move there isn't nothing
+pub moves_something : (zones : List Zone) (from to : ℕ) → MovesSome zones from to → MovesNothing zones from to → ⊥
+moves_something zones from to some nothing =
+    let none = nothing some.source some.target some.apart some.had_source some.had_target in
+    cc (none, some.posted)

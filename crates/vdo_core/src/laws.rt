@@ -1,13 +1,15 @@
-ghost use Rattle.std.specs.Prelude.{◌≡◌, ℕ, Bool, Some, List, slice_get};
+ghost use Rattle.std.specs.Prelude.{◌≡◌, ◌↔◌, ℕ, Bool, Some, List, slice_get};
 ghost use Rattle.disk_model.specs.Seen.{Seen};
 ghost use Rattle.core_model.specs.declared.zones.Zone.{Zone};
 ghost use Rattle.core_model.specs.Legal.{Legal};
 ghost use Rattle.core_model.specs.Sessions.{Session, IsSession};
 ghost use Rattle.core_model.specs.Steps.{Core};
-ghost use Rattle.core_model.specs.Trace.{Trace};
+ghost use Rattle.core_model.specs.Trace.{Trace, lines};
 ghost use Rattle.step_parts.specs.declared.fault.StepFault.{StepFault};
 ghost use Rattle.vdo_core.specs.Causes.{MayFault, MayFaultAfter};
+ghost use Rattle.vdo_core.specs.Done.{IsDone};
 ghost use Rattle.vdo_core.specs.Plays.{core_with};
+ghost use Rattle.vdo_model.specs.DeskLog.{AllAnswered};
 
 /// In a legal core no zone's step fails, and no events from it come to one that does: no zone is past its room, nothing
 /// that it counts is past its type, and nothing is stray.
@@ -16,4 +18,9 @@ pub fn a_legal_core_never_fails()
         → MayFault s.sizes z fault → ⊥ }
     ensures plays { (tells : Bool) (s : Session) (zones : List Zone) (t : Trace) (before : Seen) (fault : StepFault) → IsSession s → Legal s (core_with zones t)
         → MayFaultAfter tells s.sizes zones before fault → ⊥ }
+{}
+
+/// A legal core is done exactly where each request of the script is answered.
+pub fn a_legal_core_is_done_when_all_are_answered()
+    ensures { (s : Session) (core : Core) → Legal s core → IsDone core.zones ↔ AllAnswered s.script (lines core.trace) }
 {}

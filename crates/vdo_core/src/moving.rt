@@ -1,4 +1,4 @@
-ghost use Rattle.std.specs.Prelude.{◌≡◌, ◌≢◌, ◌<◌, ◌+◌, ◌≤◌, [], Some, IfOk, IfErr, List, length, slice_get, slice_set};
+ghost use Rattle.std.specs.Prelude.{◌≡◌, ◌≢◌, ◌<◌, ◌+◌, ◌≤◌, [], Some, IfOk, IfErr, IsTrue, List, false, length, slice_get, slice_set};
 ghost use Rattle.core_model.specs.declared.items.Item.{Item};
 ghost use Rattle.core_model.specs.declared.sizes.Sizes.{Sizes};
 ghost use Rattle.core_model.specs.declared.zones.Zone.{Zone};
@@ -6,7 +6,7 @@ ghost use Rattle.core_model.specs.Limits.{IsShort};
 ghost use Rattle.step_parts.specs.declared.fault.StepFault.TheVariants.{Exhausted};
 ghost use Rattle.step_parts.specs.declared.fault.Stepped.TheVariants.{Did, Idle};
 ghost use Rattle.vdo_core.specs.Causes.{OneMayFault};
-ghost use Rattle.vdo_core.specs.Moves.{MovesNothing, has_items};
+ghost use Rattle.vdo_core.specs.Moves.{MovesNothing, MovesSome, has_items};
 ghost use Rattle.vdo_core.specs.Plays.{MovesAll};
 
 use crate::counting::is_within;
@@ -38,6 +38,19 @@ fn carry(zones: &mut Vec<Zone>, batch: &mut Lane, from: usize, to: usize)
     target.inbox.append(batch);
 }
 
+/// Whether one zone has posted something to another.
+pub(crate) fn can_move(zones: &Zones, from: u32, to: u32) -> bool
+    ensures yes { IsTrue result → MovesSome zones.now from to }
+    ensures no { (result ≡ false) → MovesNothing zones.now from to }
+{
+    let (source, target) = (from as usize, to as usize);
+    let count = zones.zones.len();
+    if source == target || source >= count || target >= count {
+        return false;
+    }
+    has_posted(&zones.zones[source], target)
+}
+
 /// What one zone posted to another moves from the outbox to the tail of the inbox, all of it. It asks for no memory. It
 /// fails with `Exhausted` where one of the two is past its room.
 pub fn move_items(zones: &mut Zones, from: u32, to: u32) -> Result<Stepped, StepFault>
@@ -47,14 +60,10 @@ pub fn move_items(zones: &mut Zones, from: u32, to: u32) -> Result<Stepped, Step
     ensures same { IfOk result (λ stepped. stepped ≡ Idle → zones.new ≡ zones.old) }
     ensures err { IfErr result (λ fault. (fault ≡ Exhausted) × ((sizes : Sizes) → OneMayFault sizes zones.old Exhausted)) }
 {
+    if !can_move(zones, from, to) {
+        return Ok(Stepped::Idle);
+    }
     let (source, target) = (from as usize, to as usize);
-    let count = zones.zones.len();
-    if source == target || source >= count || target >= count {
-        return Ok(Stepped::Idle);
-    }
-    if !has_posted(&zones.zones[source], target) {
-        return Ok(Stepped::Idle);
-    }
     if !is_within(&zones.zones[source]) {
         return Err(StepFault::Exhausted);
     }
