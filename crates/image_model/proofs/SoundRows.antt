@@ -1,9 +1,10 @@
 -- Sound images: for each clause that speaks of a part, a part that it accepts and one that it refuses.
-use Rattle.std.proofs.Common.{ℕ, ◌≡◌, ◌+◌, ◌-◌, ◌%◌, ◌<◌, ◌≤◌, ◌^◌, true, false, List, [], ◌∷◌, length, get_or, refl, ap, inl, inr, arith}
+use Rattle.std.proofs.Common.{ℕ, ◌≡◌, ◌+◌, ◌-◌, ◌%◌, ◌<◌, ◌≤◌, ◌^◌, true, false, List, [], ◌∷◌, Ok, Err, length, get_or, refl, ap, inl, inr, arith}
 use Rattle.std.proofs.Math.Nat.{mod-lt}
 use Rattle.blk_base.specs.Sectors.{sector, zero_block}
 use Rattle.blk_base.specs.declared.geometry.Super.{Super}
 use Rattle.blk_base.specs.declared.journal_entry.Entry.{Entry}
+use Rattle.blk_base.specs.declared.layout.DataPlace.{DataPlace}
 use Rattle.blk_base.specs.declared.place.Mapping.TheVariants.{At}
 use Rattle.byte_fields.specs.Fields.{number_at}
 use Rattle.disk_model.specs.Log.{Blocks}
@@ -13,11 +14,11 @@ use Rattle.journal_codec.proofs.PrefixLaws.{written}
 use Rattle.journal_codec.proofs.ReadLaws.{one_reading}
 use Rattle.blk_base.specs.declared.journal_entry.CommittedEntry.{CommittedEntry}
 use Rattle.image_layout.specs.Window.{journal_of}
-use Rattle.image_model.specs.Counts.{block_of_data, commit_at, commit_of}
+use Rattle.image_model.specs.Counts.{HasMappings, Stores, block_of_data, commit_at, commit_of}
 use Rattle.image_model.specs.Maps.{Image}
-use Rattle.image_model.specs.Sound.{IsDataPlace, HasSequences, AreUnshared, IsOfItsTime, IsClosed}
+use Rattle.image_model.specs.Sound.{IsDataPlace, HasSequences, AreUnshared, IsOfItsTime, IsClosed, IsTrueOf}
 use Rattle.image_model.proofs.CountRows.{counted, journaled, kept, kept_is, place}
-use Rattle.image_model.proofs.CountLaws.{none_in_nothing}
+use Rattle.image_model.proofs.CountLaws.{none_in_nothing, one_number, one_stored}
 use Rattle.image_model.proofs.Example.{small, pbn, one, block, holds as journal_holds, has_sector}
 use Rattle.image_model.proofs.MapRows.{image as mapped_image, page, remap}
 use Rattle.image_model.proofs.ZeroLaws.{no_commit, no_journal_sector, no_slab_sector, of_eight}
@@ -49,6 +50,23 @@ sequences_of_clean unclean = absurd (cc unclean)
 shared : AreUnshared (mapped_image (remap 5 (At (pbn 85)) ∷ [])) → ⊥
 unfolding number_at
 shared unshared = unshared (pbn 85) 5 (page 0 0 0, omega arith, refl) refl
+
+-- A block's count is true: it is stored, and as often something is mapped to the block; not once less, and not where it
+-- is at fault.
+true_count : (image : Image) (at : DataPlace) → Stores image at (Ok 2) → HasMappings image (block_of_data image.geometry at) 2 → IsTrueOf image at
+true_count image at stores maps = (2, stores, maps)
+
+untrue_count : (image : Image) (at : DataPlace) → Stores image at (Ok 2) → HasMappings image (block_of_data image.geometry at) 1 → IsTrueOf image at → ⊥
+untrue_count image at stores maps is =
+    let stored = one_stored image at (Ok 2) (Ok is.0) stores is.1 in
+    let mapped = one_number image (block_of_data image.geometry at) 1 is.0 maps is.2 in
+    let same : 2 ≡ is.0 = cc stored in
+    omega (arith, same, mapped)
+
+faulty_count : (image : Image) (at : DataPlace) → Stores image at (Err 1536) → IsTrueOf image at → ⊥
+faulty_count image at stores is =
+    let stored = one_stored image at (Err 1536) (Ok is.0) stores is.1 in
+    cc stored
 
 -- Nothing is from a later time than the last sequence, here 0: zeros are from no time.
 zeros_are_timely : IsOfItsTime small [] 0

@@ -23,7 +23,7 @@ use Rattle.image_model.specs.declared.fault.ImageFault.TheVariants.{Super, Windo
 use Rattle.image_model.specs.Counts.{HasMappings, Stores, block_of_data}
 use Rattle.image_model.specs.Maps.{Image, ArePagesGood, IsGoodPage, IsReadable, IsTreePage, head_of, mapping_of, page_at, put_last}
 use Rattle.image_model.specs.Pages.{IsAhead}
-use Rattle.image_model.specs.Sound.{AreStored, AreUnshared, IsDataPlace, Opens, image_of}
+use Rattle.image_model.specs.Sound.{AreStored, AreUnshared, IsDataPlace, IsTrueOf, Opens, image_of}
 use Rattle.image_model.specs.Windows.{IsFaulty, IsLast}
 
 -- 1: the superblock is refused; or the journal is at its end, so that recovery would need a sequence past the last one
@@ -84,8 +84,7 @@ pub record IsCountsFault (image : Image) (at : Pbn) (stored mapped : ℕ) : Type
   pub stores : Stores image place (Ok stored)
   pub maps : HasMappings image at mapped
   pub differ : stored ≡ mapped → ⊥
-  pub first : (other : DataPlace) (stored_too mapped_too : ℕ) → IsDataPlace image.geometry other → (block_of_data image.geometry other).0 < at.0
-      → Stores image other (Ok stored_too) → HasMappings image (block_of_data image.geometry other) mapped_too → stored_too ≡ mapped_too
+  pub first : (other : DataPlace) → IsDataPlace image.geometry other → (block_of_data image.geometry other).0 < at.0 → IsTrueOf image other
 
 -- the image can be opened
 pub record IsOpened (blocks : Blocks) (image : Image) : Type 0 where

@@ -42,10 +42,12 @@ AreStored image = (place : DataPlace) → IsDataPlace image.geometry place → (
 abbrev pub AreUnshared : Image → Type 0
 AreUnshared image = (at : Pbn) (address : ℕ) → IsTreePage image at → mapping_of image address ≡ At at → ⊥
 
--- the stored count of each data block is the number of its mappings
+-- the stored count of a data block is the number of its mappings
+abbrev pub IsTrueOf : Image → DataPlace → Type 0
+IsTrueOf image place = (count : ℕ) × Stores image place (Ok count) × HasMappings image (block_of_data image.geometry place) count
+
 abbrev pub AreTrue : Image → Type 0
-AreTrue image = (place : DataPlace) (stored mapped : ℕ) → IsDataPlace image.geometry place
-    → Stores image place (Ok stored) → HasMappings image (block_of_data image.geometry place) mapped → stored ≡ mapped
+AreTrue image = (place : DataPlace) → IsDataPlace image.geometry place → IsTrueOf image place
 
 -- Nothing is from a later time: no commit point, no update in a slab's journal and no sector of the recovery journal.
 pub record IsOfItsTime (g : Geometry) (blocks : Blocks) (last : ℕ) : Type 0 where
