@@ -1,13 +1,15 @@
 -- For each clause on reference blocks a case that it accepts, and one that breaks it alone.
-use Rattle.std.specs.Prelude.{ℕ, ◌≡◌, ◌<◌, [], ◌∷◌, ◌++◌, replicate, Option, None, Some}
-use Rattle.std.proofs.Common.{arith, refl}
+use Rattle.std.specs.Prelude.{ℕ, zero, suc, ◌≡◌, ◌≢◌, ◌<◌, ◌≤◌, List, [], ◌∷◌, ◌++◌, map, replicate, Option, None, Some}
+use Rattle.std.proofs.Common.{ap, arith, refl}
 use Rattle.std.proofs.lemmas.List.Elements.{All-nil}
 use Rattle.blk_base.specs.declared.geometry.Geometry.{Geometry}
 use Rattle.blk_base.specs.declared.point.Point.{Point}
-use Rattle.dirty_pages.specs.Marks.{clean, IsDue}
+use Rattle.dirty_pages.specs.Marks.{clean, marks_at, IsDue}
+use Rattle.slab_codec.specs.Reference.{reference_bytes}
+use Rattle.slab_codec.specs.declared.forms.ReferenceSector.{ReferenceSector}
 use Rattle.slab_codec.specs.declared.forms.SlabEntry.{SlabEntry}
-use Rattle.reference_blocks.specs.References.{References, NoneDirty, point_at, updated, with_sectors, written}
-use Rattle.reference_blocks.specs.Updates.{Updated, Written, AreRising, counters_after, newest_of, up_to, updates_of}
+use Rattle.reference_blocks.specs.References.{References, HandsOutBlock, IsKept, NoneDirty, opening, point_at, points_of, sectors_of, updated, with_sectors, written}
+use Rattle.reference_blocks.specs.Updates.{Updated, Written, AreRising, Does, LeadTo, counters_after, newest_of, up_to, updates_of}
 
 -- a slab of 1000 data blocks: two sectors of counters, in one block
 abbrev sizes : Geometry
@@ -87,3 +89,88 @@ below_the_opening = λ are. omega (arith, are.1)
 -- up_to
 older_alone : up_to sizes (p 5 ∷ p 1000 ∷ []) (entry 1024 600 ∷ entry 900 700 ∷ []) ≡ entry 900 700 ∷ []
 older_alone = refl
+
+the_point_itself : up_to sizes (p 5 ∷ p 1024 ∷ []) (entry 1024 600 ∷ []) ≡ entry 1024 600 ∷ []
+the_point_itself = refl
+
+-- points_of: those of the slab, of two slabs with two sectors each
+points_of_first : points_of (record sizes { slabs = 2 }) 0 (p 1 ∷ p 2 ∷ p 3 ∷ p 4 ∷ []) ≡ p 1 ∷ p 2 ∷ []
+points_of_first = refl
+
+points_of_second : points_of (record sizes { slabs = 2 }) 1 (p 1 ∷ p 2 ∷ p 3 ∷ p 4 ∷ []) ≡ p 3 ∷ p 4 ∷ []
+points_of_second = refl
+
+-- opening: clean, with the points of the image
+opened_clean : opening sizes (p 5 ∷ p 7 ∷ []) ≡ some
+opened_clean = refl
+
+-- sectors_of: the eight of the block, in their order; past the last sector nothing is said
+commits_of_first : map (λ (s : ReferenceSector). s.commit) (sectors_of sizes (p 3 ∷ replicate 8 (p 4)) [] 0) ≡ p 3 ∷ replicate 7 (p 4)
+commits_of_first = refl
+
+commits_of_second : map (λ (s : ReferenceSector). s.commit) (sectors_of sizes (replicate 8 (p 4) ++ p 3 ∷ []) [] 1) ≡ p 3 ∷ replicate 7 (p 0)
+commits_of_second = refl
+
+-- HandsOutBlock
+abbrev dirtied : References
+dirtied = updated some 600 (p 1024)
+
+abbrev out : References
+out = record dirtied { handed = p 5 ∷ p 1024 ∷ []; blocks = record { dirty = None; writing = Some (p 1024) } ∷ [] }
+
+abbrev said : List ℕ
+said = reference_bytes (sectors_of sizes dirtied.applied [] 0)
+
+abbrev point_or_none : Option Point → ℕ
+point_or_none None = 0
+point_or_none (Some point) = point.0
+
+its_point : (n : ℕ) (first : Point) → IsDue (marks_at dirtied.blocks n) first → 1024 ≤ first.0
+its_point zero first due = let same : 1024 ≡ first.0 = ap (λ (o : Option Point). point_or_none o) due.dirty in omega (arith, same)
+its_point (suc n) first due = let no : ◌≡◌ {A = Option Point} None (Some first) = due.dirty in cc
+
+handed_out_now : HandsOutBlock dirtied out [] said 0
+handed_out_now = record {
+  first = record { first = p 1024; due = record { idle = refl; dirty = refl }; reached = omega arith; least = its_point; after = refl };
+  says = refl;
+  keeps = refl;
+  same = refl;
+}
+
+clean_is_not_handed_out : (counters bytes : List ℕ) (new : References) → ¬ HandsOutBlock some new counters bytes 0
+clean_is_not_handed_out counters bytes new = λ did. let no : ◌≡◌ {A = Option Point} None (Some did.first.first) = did.first.due.dirty in cc
+
+another_point_kept : ¬ HandsOutBlock dirtied (record out { handed = p 5 ∷ p 7 ∷ [] }) [] said 0
+another_point_kept = λ did. let no : ◌≡◌ {A = ℕ} 7 1024 = ap (λ (ps : List Point). (point_at ps 1).0) did.keeps in omega (arith, no)
+
+another_says_so : ¬ HandsOutBlock dirtied (record out { applied = p 5 ∷ p 7 ∷ [] }) [] said 0
+another_says_so = λ did. let no : ◌≡◌ {A = ℕ} 7 1024 = ap (λ (r : References). (point_at r.applied 1).0) did.same in omega (arith, no)
+
+other_bytes : (bytes : List ℕ) → bytes ≢ said → ¬ HandsOutBlock dirtied out [] bytes 0
+other_bytes bytes other = λ did. other did.says
+
+-- IsKept
+kept : IsKept some
+kept = record { sectors = refl; handed = refl; blocks = refl }
+
+a_point_too_few : ¬ IsKept (record some { applied = p 5 ∷ [] })
+a_point_too_few = λ is. omega (arith, is.sectors)
+
+a_handed_point_too_few : ¬ IsKept (record some { handed = p 5 ∷ [] })
+a_handed_point_too_few = λ is. omega (arith, is.handed)
+
+a_block_too_many : ¬ IsKept (record some { blocks = clean ∷ clean ∷ [] })
+a_block_too_many = λ is. omega (arith, is.blocks)
+
+-- Does, LeadTo
+one_update : LeadTo some (Updated (entry 1024 600) ∷ []) dirtied
+one_update = (some, refl, (omega arith, refl))
+
+past_the_slab : (new : References) → ¬ Does (Updated (entry 1024 1000)) some new
+past_the_slab new = λ did. omega (arith, did.0)
+
+not_in_a_write : (new : References) → ¬ Does (Written 0) dirtied new
+not_in_a_write new = λ did. let no : ◌≡◌ {A = Option Point} None (Some did.0.first) = did.0.is in cc
+
+nothing_done : ¬ LeadTo some [] dirtied
+nothing_done = λ is. let no : ◌≡◌ {A = ℕ} 1024 7 = ap (λ (r : References). (point_at r.applied 1).0) is in omega (arith, no)

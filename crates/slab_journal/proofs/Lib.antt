@@ -1,1 +1,4 @@
+pub mod UnsettledRows
+pub mod DurableLaws
+pub mod LowLaws
 pub mod SlabLaws

@@ -1,3 +1,4 @@
+pub mod AwayLaws
 pub mod HeldLaws
 pub mod OutLaws
 pub mod TestedLaws

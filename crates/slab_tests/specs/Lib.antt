@@ -1,3 +1,4 @@
+pub mod Away
 pub mod Held
 pub mod Out
 pub mod Tested

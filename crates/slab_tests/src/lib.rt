@@ -8,9 +8,13 @@ mod images;
 #[cfg(test)]
 mod plain_counts;
 #[cfg(test)]
+mod plain_references;
+#[cfg(test)]
 mod plain_tickets;
 #[cfg(test)]
 mod plain_zone;
+#[cfg(test)]
+mod references;
 #[cfg(test)]
 mod tickets;
 #[cfg(test)]
