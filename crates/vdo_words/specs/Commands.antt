@@ -1,5 +1,5 @@
 -- The commands: which options each has, with what defaults, and what excludes what.
-use Rattle.std.specs.Prelude.{ℕ, not, ◌&&◌, List, [], ◌∷◌, ◌++◌, codes, bytes_eq, Option, Some, None, Result, Ok, Err, option_map, if◌then◌else◌}
+use Rattle.std.specs.Prelude.{ℕ, not, ◌&&◌, List, [], ◌∷◌, ◌++◌, codes, bytes_eq, Option, Some, None, Result, option_map, if◌then◌else◌}
 use Rattle.std.specs.Option.{ok_or}
 use Rattle.vdo_words.specs.Given.{Given, given}
 use Rattle.vdo_words.specs.Options.{are_right, is_given, number_or}
@@ -22,11 +22,11 @@ core_names = Depth ∷ LogicalZones ∷ PhysicalZones ∷ HashZones ∷ Cache �
 
 abbrev pub core_of : List Given → CoreOptions
 core_of options = record {
-    depth = number_or 1 Depth options;
-    logical_zones = number_or 1 LogicalZones options;
-    physical_zones = number_or 1 PhysicalZones options;
-    hash_zones = number_or 1 HashZones options;
-    cache = number_or 16 Cache options;
+  depth = number_or 1 Depth options;
+  logical_zones = number_or 1 LogicalZones options;
+  physical_zones = number_or 1 PhysicalZones options;
+  hash_zones = number_or 1 HashZones options;
+  cache = number_or 16 Cache options;
 }
 
 abbrev pub format_names : List OptionName
@@ -34,14 +34,14 @@ format_names = Logical ∷ Slabs ∷ SlabBlocks ∷ Journal ∷ Index ∷ SlabJo
 
 abbrev pub format_of : List Given → Option FormatOptions
 format_of options = if are_right format_names options then Some (record {
-    logical = number_or 1000 Logical options;
-    slabs = number_or 1 Slabs options;
-    slab_blocks = number_or 64 SlabBlocks options;
-    journal = number_or 8 Journal options;
-    index = number_or 16 Index options;
-    slab_journal = number_or 4 SlabJournal options;
-    height = number_or 2 Height options;
-    nonce = number_or 1 Nonce options;
+  logical = number_or 1000 Logical options;
+  slabs = number_or 1 Slabs options;
+  slab_blocks = number_or 64 SlabBlocks options;
+  journal = number_or 8 Journal options;
+  index = number_or 16 Index options;
+  slab_journal = number_or 4 SlabJournal options;
+  height = number_or 2 Height options;
+  nonce = number_or 1 Nonce options;
 }) else None
 
 -- threads, or the schedule of a number
@@ -60,20 +60,20 @@ abbrev pub crash_of : List Given → Option CrashOptions
 crash_of options =
     if are_right (Schedule ∷ core_names ++ After ∷ Image ∷ []) options && is_given After options && is_given Image options
     then Some (record {
-        schedule = number_or 0 Schedule options;
-        core = core_of options;
-        after = number_or 0 After options;
-        image = number_or 0 Image options;
+      schedule = number_or 0 Schedule options;
+      core = core_of options;
+      after = number_or 0 After options;
+      image = number_or 0 Image options;
     })
     else None
 
 abbrev pub workload_of : List Given → Option WorkloadOptions
 workload_of options = if are_right (Schedule ∷ core_names ++ Seed ∷ Requests ∷ Streams ∷ []) options then Some (record {
-    schedule = number_or 0 Schedule options;
-    core = core_of options;
-    seed = number_or 0 Seed options;
-    requests = number_or 1000 Requests options;
-    streams = number_or 4 Streams options;
+  schedule = number_or 0 Schedule options;
+  core = core_of options;
+  seed = number_or 0 Seed options;
+  requests = number_or 1000 Requests options;
+  streams = number_or 4 Streams options;
 }) else None
 
 -- a command that has no option

@@ -43,7 +43,7 @@ pub(crate) fn is_given(name: OptionName, words: &[String]) -> bool
 }
 
 /// The number that the words give for this option.
-fn number_given(name: OptionName, words: &[String]) -> Option<u64>
+fn value_given(name: OptionName, words: &[String]) -> Option<u64>
     ensures { result ≡ number_in name (first_of (spelling name) (given (map string_bytes words.now))) }
 {
     number_of(name, find(name.spelling(), words)?.value?)
@@ -53,7 +53,7 @@ fn number_given(name: OptionName, words: &[String]) -> Option<u64>
 pub(crate) fn wide(name: OptionName, default: u64, words: &[String]) -> u64
     ensures { result ≡ number_or default name (given (map string_bytes words.now)) }
 {
-    number_given(name, words).unwrap_or(default)
+    value_given(name, words).unwrap_or(default)
 }
 
 /// The same of an option whose range ends at 32 bits.

@@ -1,6 +1,7 @@
-ghost use Rattle.std.specs.Prelude.{◌≡◌, map, string_bytes};
+ghost use Rattle.std.specs.Prelude.{◌≡◌, IfOk, map, string_bytes};
 ghost use Rattle.vdo_words.specs.Given.{given};
 ghost use Rattle.vdo_words.specs.Options.{number_or};
+ghost use Rattle.vdo_words.specs.Ranges.{IsCommandWithin};
 ghost use Rattle.vdo_words.specs.declared.naming.OptionName.TheVariants.{Schedule};
 ghost use Rattle.vdo_words.specs.Commands.{bare_command, command_named, core_of, crash_of, format_of, read, run_of, workload_of, drive_of};
 
@@ -170,11 +171,14 @@ fn bare(command: Command, words: &[String]) -> Option<Command>
     are_right(&[], words).then_some(command)
 }
 
-/// The command that the words are. They are refused where there is none, where its name or an option is another than the
-/// command has, where an option stands twice, has no value or one that isn't 1 to 20 decimal digits within its range,
-/// where `run` has both `--threads` and `--schedule`, and where `crash` lacks `--after` or `--image`.
+/// The command that the words are; of one that runs a core every number is within its range.
+///
+/// They are refused where there is no word, where the first is no command's name, where an option isn't the command's,
+/// stands twice, or has no value or one that isn't 1 to 20 decimal digits within its range, where `--threads` has a value
+/// or stands beside `--schedule`, and where `crash` lacks `--after` or `--image`.
 pub fn read_command(words: &[String]) -> Result<Command, Usage>
-    ensures { result ≡ read (map string_bytes words.now) }
+    ensures exact { result ≡ read (map string_bytes words.now) }
+    ensures within { IfOk result IsCommandWithin }
 {
     let [name, rest @ ..] = words else {
         return Err(Usage);
