@@ -1,0 +1,4 @@
+pub mod NumberLaws
+pub mod ReadingLaws
+pub mod OptionRows
+pub mod CommandRows

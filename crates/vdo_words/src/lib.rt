@@ -1,0 +1,17 @@
+//! The words of a command line: which command they are, with what options.
+//!
+//! The first word is the command. Then come its options and flags, in any order, each at most once. An option is
+//! written `--name value` or `--name=value`; a value is 1 to 20 decimal digits.
+#![tactic(auto)]
+
+mod commands;
+mod given;
+mod naming;
+mod options;
+mod reading;
+mod rules;
+
+pub use commands::{
+    Command, CoreOptions, CrashOptions, Drive, FormatOptions, RunOptions, Usage, WorkloadOptions,
+};
+pub use reading::read_command;
