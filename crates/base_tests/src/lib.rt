@@ -1,5 +1,5 @@
-//! Tests of the crates that speak of blocks, devices, reports and texts, and of the formats, with bytes that another
-//! program computed: each public call on known input.
+//! Tests of the crates that speak of blocks, devices and reports, and of the formats, with bytes that another program
+//! computed: each public call on known input.
 #![tactic(auto)]
 
 #[cfg(test)]
@@ -11,18 +11,12 @@ mod fields;
 #[cfg(test)]
 mod images;
 #[cfg(test)]
-mod indexed;
-#[cfg(test)]
 mod journals;
 #[cfg(test)]
 mod pages;
 #[cfg(test)]
 mod reports;
 #[cfg(test)]
-mod scripts;
-#[cfg(test)]
 mod shared;
 #[cfg(test)]
 mod slabs;
-#[cfg(test)]
-mod texts;

@@ -12,4 +12,7 @@ pub mod AskedLaws
 pub mod StreamLaws
 pub mod ScriptLaws
 pub mod ScriptRows
+pub mod WholeRows
+pub mod NoteRows
 pub mod WorkloadLaws
+pub mod WorkloadRows

@@ -1,4 +1,5 @@
-//! Scripts of the whole grammar: what each asks for, and the line and the fault of each that is refused.
+//! Scripts of the whole grammar: what each asks for; how refusals are printed; and the requests of a seed.
+use crate::agreeing::both_say;
 use crate::shared::not_shown;
 use blk_base::Request;
 use disk_model::MemSource;
@@ -9,7 +10,7 @@ use vdo_model::Requests;
 
 /// What became of a script: the stream, kind, address, first and last byte of its last request that is found stream after
 /// stream, and how many requests it has; or the refusal's line and fault.
-type Told = Result<(u8, u8, u32, u8, u8, usize), (u64, LineFault)>;
+pub type Told = Result<(u8, u8, u32, u8, u8, usize), (u64, LineFault)>;
 
 fn told_request(request: &Request) -> (u8, u32, u8, u8) {
     match request {
@@ -20,7 +21,8 @@ fn told_request(request: &Request) -> (u8, u32, u8, u8) {
     }
 }
 
-fn read(alloc: Global, text: &[u8]) -> Result<Option<Told>, AllocError> {
+/// What becomes of a script; none where memory runs out.
+pub fn read(alloc: Global, text: &[u8]) -> Result<Option<Told>, AllocError> {
     let mut source = MemSource::new(Vec::from_slice(alloc, text)?, None);
     match read_requests(alloc, &mut source) {
         Ok(requests) => {
@@ -38,7 +40,18 @@ fn read(alloc: Global, text: &[u8]) -> Result<Option<Told>, AllocError> {
     }
 }
 
-const SERVED: [(&str, (u8, u8, u32, u8, u8, usize)); 12] = [
+const SERVED: [(&str, (u8, u8, u32, u8, u8, usize)); 20] = [
+    ("015 flush\n", (15, b'f', 0, 0, 0, 1)),
+    ("#x\n\n0 flush\n#", (0, b'f', 0, 0, 0, 1)),
+    ("#\r\n#\t\n5 flush", (5, b'f', 0, 0, 0, 1)),
+    ("0 write 5 0001*41+04095*00", (0, b'w', 5, 0x41, 0, 1)),
+    (
+        "0 write 4294967295 4095*00+1*Ff",
+        (0, b'w', 4294967295, 0, 0xff, 1),
+    ),
+    ("0 discard 4294967294 2", (0, b'd', 4294967295, 0, 0, 2)),
+    ("0 discard 0 65535\n1 flush", (1, b'f', 0, 0, 0, 65536)),
+    ("3 read 5\n1 flush\n3 read 6\n", (3, b'r', 6, 0, 0, 3)),
     ("", (0, b'-', 0, 0, 0, 0)),
     ("\n\n#\n# 0 read\n", (0, b'-', 0, 0, 0, 0)),
     ("0 flush", (0, b'f', 0, 0, 0, 1)),
@@ -63,103 +76,13 @@ const SERVED: [(&str, (u8, u8, u32, u8, u8, usize)); 12] = [
 fn scripts_are_served(rt: HostRuntime) -> Result<(), Fail> {
     let mut other = None;
     for (text, want) in SERVED {
-        if read(rt.alloc(), text.as_bytes())? != Some(Ok(want)) {
+        if read(rt.alloc(), text.as_bytes())? != Some(Ok(want))
+            || both_say(rt.alloc(), text.as_bytes())? != Some(None)
+        {
             other = Some(text);
         }
     }
     assert_eq!(rt; other, None);
-    Ok(())
-}
-
-const REFUSED: [(&str, u64, LineFault); 52] = [
-    ("0 write 5 4095*61", 1, LineFault::BlockLength),
-    ("16 read 0", 1, LineFault::Stream),
-    ("0 erase 5", 1, LineFault::Word),
-    ("0 read x", 1, LineFault::Number),
-    ("0 discard 0 0", 1, LineFault::Range),
-    ("0 flush\n\n# x\n0 erase 5\n0 erase 5\n", 4, LineFault::Word),
-    ("0", 1, LineFault::Word),
-    (" ", 1, LineFault::Word),
-    ("0 read", 1, LineFault::Word),
-    ("0 flush 1", 1, LineFault::Word),
-    ("0 read 5 5", 1, LineFault::Word),
-    ("0 read 5 ", 1, LineFault::Word),
-    ("0  read 5", 1, LineFault::Word),
-    ("0 read ", 1, LineFault::Number),
-    (" read 5", 1, LineFault::Number),
-    ("0 read 5\r", 1, LineFault::Number),
-    ("0 flush\r", 1, LineFault::Word),
-    ("0 Read 5", 1, LineFault::Word),
-    ("0 write 5", 1, LineFault::Word),
-    ("0 write 5 4096", 1, LineFault::Word),
-    ("0 write 5 4096*6", 1, LineFault::Word),
-    ("0 write 5 4096*611", 1, LineFault::Word),
-    ("0 write 5 4096*6g", 1, LineFault::Word),
-    ("0 write 5 4096**61", 1, LineFault::Word),
-    ("0 write 5 4096*61*61", 1, LineFault::Word),
-    ("0 write 5 4096*61+", 1, LineFault::Word),
-    ("0 write 5 +4096*61", 1, LineFault::Word),
-    ("0 write 5 4096*61 ", 1, LineFault::Word),
-    ("0 write 5 *61", 1, LineFault::Number),
-    ("0 write 5 x*61", 1, LineFault::Number),
-    ("0 write 5 +1*61", 1, LineFault::Word),
-    ("0 write 5 0*61+4096*61", 1, LineFault::Range),
-    ("0 write 5 4097*61", 1, LineFault::Range),
-    ("0 write 5 4096*61+1*61", 1, LineFault::BlockLength),
-    ("0 write 5 1*61+4094*61", 1, LineFault::BlockLength),
-    ("0 read 4294967296", 1, LineFault::Range),
-    ("0 read 99999999999999999999999999999", 1, LineFault::Range),
-    ("99999999999999999999999999999 read 5", 1, LineFault::Stream),
-    ("0 discard 5 65537", 1, LineFault::Range),
-    ("0 discard 4294967295 2", 1, LineFault::Range),
-    ("0 discard 5 -1", 1, LineFault::Number),
-    ("x write y z", 1, LineFault::Word),
-    ("x write 5 0*61", 1, LineFault::Number),
-    ("16 write x 4096*61", 1, LineFault::Number),
-    ("16 write 5 x*61", 1, LineFault::Number),
-    ("16 write 4294967296 1*61", 1, LineFault::Stream),
-    ("0 write 4294967296 1*61", 1, LineFault::Range),
-    ("0 write x 1*61", 1, LineFault::Number),
-    ("0 write 5 x*61+0*61+1*6", 1, LineFault::Word),
-    ("0 write 5 0*61+x*61", 1, LineFault::Number),
-    ("0 discard 0 65536\n0 flush", 2, LineFault::TooMany),
-    ("0 discard 0 65536\n0 discard 0 0", 2, LineFault::Range),
-];
-
-#[test]
-fn scripts_are_refused(rt: HostRuntime) -> Result<(), Fail> {
-    let mut other = None;
-    for (text, line, fault) in REFUSED {
-        if read(rt.alloc(), text.as_bytes())? != Some(Err((line, fault))) {
-            other = Some(text);
-        }
-    }
-    assert_eq!(rt; other, None);
-    Ok(())
-}
-
-/// A comment of so many bytes behind an empty line, with a flush behind it.
-fn comment(alloc: Global, length: usize) -> Result<Vec<u8>, AllocError> {
-    let mut text = vec![in alloc; b'#'; length]?;
-    text.insert(0, b'\n')?;
-    for byte in *b"\n0 flush" {
-        text.push(byte)?;
-    }
-    Ok(text)
-}
-
-#[test]
-fn a_line_has_32768_bytes(rt: HostRuntime) -> Result<(), Fail> {
-    let longest = comment(rt.alloc(), 32768)?;
-    let longer = comment(rt.alloc(), 32769)?;
-    let told = [read(rt.alloc(), &longest)?, read(rt.alloc(), &longer)?];
-    assert_eq!(rt;
-        told,
-        [
-            Some(Ok((0, b'f', 0, 0, 0, 1))),
-            Some(Err((2, LineFault::TooLong)))
-        ]
-    );
     Ok(())
 }
 
