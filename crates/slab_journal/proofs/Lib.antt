@@ -1,4 +1,1 @@
-pub mod UnsettledRows
-pub mod DurableLaws
-pub mod LowLaws
 pub mod SlabLaws

@@ -11,9 +11,7 @@ mod covering;
 mod entries;
 mod forms;
 mod journal;
-mod laws;
 
 pub use entries::UPDATES_PER_BLOCK;
 pub use forms::Full;
 pub use journal::SlabJournal;
-pub use laws::every_update_below_the_low_point_is_durable;
