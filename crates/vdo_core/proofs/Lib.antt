@@ -1,4 +1,5 @@
 mod DoneLaws
+mod FreeLaws
 mod NoStrays
 mod PlayLaws
 mod StartLaws
@@ -6,4 +7,5 @@ mod StrayLaws
 mod ZoneLaws
 mod LaneLaws
 mod NoFaults
+mod SessionLaws
 mod MoveLaws

@@ -48,7 +48,7 @@ pub fn step<D: Disk>(
 }
 
 /// One event.
-fn play_one<D: Disk>(
+pub(crate) fn play_one<D: Disk>(
     sizes: &Sizes,
     zones: &mut Zones,
     event: Event,

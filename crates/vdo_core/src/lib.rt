@@ -3,8 +3,10 @@
 #![tactic(auto)]
 
 mod acting;
+mod cores;
 mod counting;
 mod events;
+mod free_blocks;
 mod lanes;
 mod laws;
 mod moving;
@@ -14,6 +16,7 @@ mod stepping;
 mod work;
 mod zones;
 
+pub use cores::{Core, Setup};
 pub use events::{Event, play, step};
 pub use laws::{a_legal_core_is_done_when_all_are_answered, a_legal_core_never_fails};
 pub use moving::move_items;

@@ -1,0 +1,114 @@
+-- A session for what was read of an image, whatever else is on the device: that of an image that has only this.
+use Rattle.std.proofs.Common.{ℕ, zero, suc, ◌≡◌, ◌≤◌, ◌<◌, ◌+◌, ◌^◌, Bool, List, [], ◌∷◌, ◌++◌, length, take, get_or, replicate, refl, sym, ◌∙◌, ap, subst, arith, length-append}
+use Rattle.std.proofs.lemmas.List.{length-replicate}
+use Rattle.std.proofs.Math.Seq.{take-append_seam}
+use Rattle.std.specs.List.{AllByRecursion}
+use Rattle.blk_base.specs.Regions.{needed_blocks}
+use Rattle.blk_base.specs.Sectors.{zero_block}
+use Rattle.blk_base.specs.declared.journal_entry.Entry.{Entry}
+use Rattle.disk_model.specs.Log.{block_at}
+use Rattle.disk_model.specs.Seen.{Seen}
+use Rattle.image_layout.specs.Window.{IsWindow, journal_of}
+use Rattle.image_layout.proofs.WindowLaws.{written_few}
+use Rattle.vdo_model.specs.Scripts.{Script}
+use Rattle.plain_laws.proofs.ListLaws.{every-append}
+use Rattle.core_model.specs.declared.sizes.Sizes.{Sizes}
+use Rattle.core_model.specs.declared.zones.Zone.{Zone}
+use Rattle.core_model.specs.Sessions.{Session, IsSession}
+use Rattle.core_model.specs.Start.{IsFirst}
+use Rattle.core_laws.proofs.kept.FirstState.{legal_first}
+use Rattle.core_laws.proofs.kept.LegalMoves.{legal_leads}
+use Rattle.step_parts.specs.declared.fault.StepFault.{StepFault}
+use Rattle.vdo_core.specs.Causes.{OneMayFault}
+use Rattle.vdo_core.specs.Cores.{CanBegin, IsReached}
+use Rattle.vdo_core.specs.FreeBlocks.{free_of}
+use Rattle.vdo_core.specs.Plays.{LeadsTo, core_with}
+use Rattle.vdo_core.specs.Starts.{IsOf}
+use Rattle.vdo_core.proofs.FreeLaws.{free_distinct, free_fresh}
+use Rattle.vdo_core.proofs.NoFaults.{none_fails}
+
+zeros_length : length zero_block ≡ 4096
+unfolding zero_block
+zeros_length = let zero : ℕ = 0 in length-replicate 4096 zero
+
+whole_at : (blocks : List (List ℕ)) (b : ℕ) → AllByRecursion (λ block. length block ≡ 4096) blocks → length (block_at blocks b) ≡ 4096
+whole_at [] b whole = zeros_length
+whole_at (block ∷ blocks) zero whole = whole.0
+whole_at (block ∷ blocks) (suc b) whole = whole_at blocks b whole.1
+
+whole_zeros : (n : ℕ) → AllByRecursion (λ block. length block ≡ 4096) (replicate n zero_block)
+whole_zeros zero = tt
+whole_zeros (suc n) = (zeros_length, whole_zeros n)
+
+module _ (sizes : Sizes) (script : Script) (window : List Entry) (can : CanBegin sizes script window) where
+  -- the image: no superblock, the journal, and zeros behind it
+  abbrev behind : List (List ℕ)
+  behind = replicate (needed_blocks sizes.geometry) zero_block
+
+  abbrev image : List (List ℕ)
+  image = zero_block ∷ (can.journal ++ behind)
+
+  whole : AllByRecursion (λ block. length block ≡ 4096) image
+  whole = (zeros_length, every-append (λ block. length block ≡ 4096) can.journal behind can.whole (whole_zeros (needed_blocks sizes.geometry)))
+
+  journal_is : journal_of sizes.geometry image ≡ can.journal
+  journal_is = subst (λ (n : ℕ). take n (can.journal ++ behind) ≡ can.journal) can.count (take-append_seam can.journal behind)
+
+  -- how many entries there are is a number of its type
+  pub few_entries : length window < 2 ^ 32
+  few_entries = let few = written_few sizes.geometry sizes.start can.journal window (omega (arith, can.geometry.journal.0)) can.is_window.written in omega (arith, few, can.geometry.journal.1)
+
+  abbrev pub imagined : Session
+  imagined = record {
+    sizes = sizes;
+    script = script;
+    blocks = image;
+    before = [];
+    image = image;
+    window = window;
+    free = free_of sizes.geometry window;
+  }
+
+  pub is_of : IsOf imagined sizes script window (free_of sizes.geometry window)
+  is_of = record { sizes_is = refl; script_is = refl; window_is = refl; free_is = refl }
+
+  pub is_session : IsSession imagined
+  is_session = record {
+    sizes = can.geometry;
+    start = can.start;
+    zones = can.zones;
+    limits = can.limits;
+    room = (let all = length-append can.journal behind in let some = length-replicate (needed_blocks sizes.geometry) zero_block in omega (arith, all, some));
+    served = can.served;
+    one_image = record { size = refl; whole = λ b below. whole_at image b whole; only = λ b below. (refl, tt) };
+    is_window = subst (λ (journal : List (List ℕ)). IsWindow sizes.geometry sizes.start journal window) (sym journal_is) can.is_window;
+    opened = can.opened;
+    few = written_few sizes.geometry sizes.start can.journal window (omega (arith, can.geometry.journal.0)) can.is_window.written;
+    free = free_fresh sizes.geometry can.geometry imagined refl;
+    distinct = free_distinct sizes.geometry can.geometry window;
+  }
+
+  -- a first core of it is reached
+  pub first_reached : (zones : List Zone) → IsFirst imagined (core_with zones []) → IsReached sizes zones
+  first_reached zones first = record {
+    session = imagined;
+    trace = [];
+    sizes_are = refl;
+    is_session = is_session;
+    legal = legal_first imagined (core_with zones []) first is_session;
+  }
+
+-- what is reached leads to what is reached, and nothing fails there
+module _ (sizes : Sizes) (zones : List Zone) (reached : IsReached sizes zones) where
+  pub reached_on : (tells : Bool) (later : List Zone) (before after : Seen) → LeadsTo tells sizes zones later before after → IsReached sizes later
+  reached_on tells later before after (made, leads, told) = record {
+    session = reached.session;
+    trace = made ++ reached.trace;
+    sizes_are = reached.sizes_are;
+    is_session = reached.is_session;
+    legal = legal_leads reached.session (core_with zones reached.trace) (core_with later (made ++ reached.trace)) reached.is_session (rw reached.sizes_are (leads reached.trace)) reached.legal;
+  }
+
+  pub none_fails_here : (fault : StepFault) → OneMayFault sizes zones fault → ⊥
+  none_fails_here fault (number, (zone, had, why)) =
+      none_fails reached.session (core_with zones reached.trace) number zone fault reached.is_session reached.legal had (rw reached.sizes_are why)

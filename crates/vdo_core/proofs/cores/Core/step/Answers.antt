@@ -1,0 +1,15 @@
+use Rattle.std.proofs.Common.{ap}
+use Rattle.vdo_core.specs.Cores.{CoreState}
+use Rattle.vdo_core.specs.Plays.{HasNoWork}
+use Rattle.vdo_core.proofs.SessionLaws.{none_fails_here, reached_on}
+use Rattle.vdo_core.proofs.cores.Core.step.Goals as goal
+
+pub unreachable-requires : goal.unreachable-requires
+unreachable-requires g c = none_fails_here c.self.inside.sizes c.self.inside.zones c.self.invariant c.in_default.field-0 c.in_default.ensures.err
+
+pub invariant_of-self : goal.invariant_of-self
+invariant_of-self g c =
+    reached_on c.self.inside.sizes c.self.inside.zones c.self.invariant g.D.Disk.tells c.play_one.new.zones (g.D.Disk.seen c.args.device.now) (g.D.Disk.seen c.play_one.new.disk) c.in-Ok.ensures.leads
+
+pub returns-clause-idle : goal.returns-clause-idle
+returns-clause-idle g c idle = rw (← c.self.view_is) (c.in-Ok.ensures.idle idle)

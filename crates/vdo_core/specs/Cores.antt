@@ -1,0 +1,48 @@
+-- A core as a whole, and what it can begin with.
+use Rattle.std.specs.Prelude.{ℕ, ◌≡◌, ◌<◌, ◌≤◌, ◌^◌, List, length}
+use Rattle.std.specs.List.{AllByRecursion}
+use Rattle.blk_base.specs.Limits.{IsGeometry}
+use Rattle.blk_base.specs.declared.geometry.Super.{Super}
+use Rattle.blk_base.specs.declared.journal_entry.Entry.{Entry}
+use Rattle.image_layout.specs.Window.{IsWindow}
+use Rattle.vdo_model.specs.Scripts.{Script}
+use Rattle.core_model.specs.declared.sizes.Sizes.{Sizes}
+use Rattle.core_model.specs.declared.zones.Zone.{Zone}
+use Rattle.core_model.specs.Legal.{Legal}
+use Rattle.core_model.specs.SessionLimits.{IsLimited}
+use Rattle.core_model.specs.Sessions.{Session, IsSession, IsServed}
+use Rattle.core_model.specs.Trace.{Trace}
+use Rattle.vdo_core.specs.Plays.{core_with}
+use Rattle.vdo_core.specs.declared.cores.Setup.{Setup}
+
+-- what a contract sees of a core: what its zones know of the session, and the zones by their numbers
+pub record CoreState : Type 0 where
+  pub sizes : Sizes
+  pub zones : List Zone
+
+-- a session of these sizes comes to these zones by some events
+pub record IsReached (sizes : Sizes) (zones : List Zone) : Type 0 where
+  pub session : Session
+  pub trace : Trace
+  pub sizes_are : session.sizes ≡ sizes
+  pub is_session : IsSession session
+  pub legal : Legal session (core_with zones trace)
+
+-- the sizes of a session over an image with this superblock and so many entries in its window
+abbrev pub sizes_of : Setup → Super → ℕ → Sizes
+sizes_of setup head entries =
+    record { geometry = head.geometry; start = head.start; opened = entries; zones = setup.logical_zones; depth = setup.depth }
+
+-- A core can begin with these sizes, this script and the entries of the window, the newest first: the session is no larger
+-- than it may be, its requests are served, and the window is that of some blocks of a journal.
+pub record CanBegin (sizes : Sizes) (script : Script) (window : List Entry) : Type 0 where
+  pub geometry : IsGeometry sizes.geometry
+  pub start : (1 ≤ sizes.start) × (sizes.start < 2 ^ 54)
+  pub zones : 1 ≤ sizes.zones
+  pub limits : IsLimited sizes script
+  pub served : AllByRecursion (AllByRecursion IsServed) script
+  pub opened : sizes.opened ≡ length window
+  pub journal : List (List ℕ)
+  pub count : length journal ≡ sizes.geometry.journal
+  pub whole : AllByRecursion (λ block. length block ≡ 4096) journal
+  pub is_window : IsWindow sizes.geometry sizes.start journal window

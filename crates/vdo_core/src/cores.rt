@@ -1,0 +1,146 @@
+ghost use Rattle.std.specs.Prelude.{◌≡◌, ◌↔◌, [], IfOk, IsTrue, false, length, reverse};
+ghost use Rattle.disk_model.specs.Seen.{Stays};
+ghost use Rattle.core_model.specs.Sessions.{Session};
+ghost use Rattle.core_model.specs.Start.{IsFirst};
+ghost use Rattle.step_parts.specs.declared.fault.Stepped.TheVariants.{Did, Idle};
+ghost use Rattle.steps_device.specs.DeviceCalls.{Fits};
+ghost use Rattle.vdo_core.specs.Cores.{CanBegin, IsReached, sizes_of};
+ghost use Rattle.vdo_core.specs.Done.{IsDone};
+ghost use Rattle.vdo_core.specs.FreeBlocks.{free_of};
+ghost use Rattle.vdo_core.specs.Plays.{HasNoWork, PlaysOne, core_with};
+ghost use Rattle.vdo_core.specs.Starts.{IsOf};
+
+use crate::events::{Event, play_one};
+use crate::free_blocks::free_blocks;
+use crate::starting::begin;
+use crate::work::{is_done, ready};
+use crate::zones::Zones;
+use blk_base::{Entry, Layout, Super};
+use core_model::Sizes;
+use disk_model::Disk;
+use std::alloc::{AllocError, Global};
+use std::marker::Model;
+use step_parts::Stepped;
+use vdo_model::Requests;
+
+/// How a core is set up.
+#[derive(Clone, Copy, Debug, PartialEq, Eq)]
+pub struct Setup {
+    /// How many logical zones there are, 1 to 4.
+    pub logical_zones: u8,
+    /// How many requests of a stream are under way at most, up to 16.
+    pub depth: u32,
+}
+
+/// A core in a session: some events lead to it from a start. So nothing in it is stray, no zone is past its room, and none
+/// of its steps can fail.
+#[derive(Drop)]
+pub struct Core {
+    sizes: Sizes,
+    zones: Zones,
+}
+
+impl Model for Core {
+    ghost use Rattle.vdo_core.specs.Cores.{CoreState, IsReached};
+
+    ghost Value = { CoreState };
+
+    ghost view = { λ c. record { sizes = c.sizes; zones = c.zones } };
+
+    ghost invariant = { λ c. IsReached c.sizes c.zones };
+}
+
+impl Core {
+    /// The core at the start of a session over an image that was opened, with its superblock and the entries of its window,
+    /// the oldest first. It has the requests, no one of which is begun, and takes all the room that the session will need. It
+    /// fails where no memory is found for it.
+    pub fn begin(
+        alloc: Global,
+        setup: &Setup,
+        head: &Super,
+        window: &[Entry],
+        requests: Requests,
+    ) -> Result<Core, AllocError>
+        requires { CanBegin (sizes_of setup.now head.now (length window.now)) requests (reverse window.now) }
+        ensures sizes { IfOk result (λ core. core.sizes ≡ sizes_of setup.now head.now (length window.now)) }
+        ensures first { IfOk result (λ core. (s : Session) → IsOf s core.sizes requests (reverse window.now) (free_of head.now.geometry (reverse window.now))
+            → IsFirst s (core_with core.zones [])) }
+    {
+        let sizes = Sizes {
+            geometry: head.geometry,
+            start: head.start,
+            opened: window.len() as u32,
+            zones: setup.logical_zones,
+            depth: setup.depth,
+        };
+        let layout = Layout::of(&head.geometry);
+        let free = free_blocks(alloc, &layout, window)?;
+        let zones = begin(alloc, &sizes, requests, window, free)?;
+        Ok(Core { sizes, zones })
+    }
+
+    /// One event: a zone steps, or what it posted to another moves there. It is idle exactly where there is no work for it,
+    /// and then nothing changes. It asks for no memory.
+    pub fn step<D: Disk>(&mut self, event: Event, device: &mut D) -> Stepped
+        requires { Fits self.old.sizes (D.seen device.old) }
+        ensures stays { Stays (D.seen device.old) (D.seen device.new) }
+        ensures sizes { self.new.sizes ≡ self.old.sizes }
+        ensures plays { PlaysOne D.tells self.old.sizes event self.old.zones self.new.zones (D.seen device.old) (D.seen device.new) }
+        ensures did { result ≡ Did → HasNoWork self.old.sizes self.old.zones event → ⊥ }
+        ensures idle { result ≡ Idle → HasNoWork self.old.sizes self.old.zones event }
+        ensures same { result ≡ Idle → self.new ≡ self.old }
+    {
+        let Ok(stepped) = play_one(&self.sizes, &mut self.zones, event, device) else {
+            unreachable!();
+        };
+        stepped
+    }
+
+    /// Whether there is work for an event: exactly where `step` isn't idle.
+    pub fn ready(&self, event: Event) -> bool
+        ensures yes { IsTrue result → HasNoWork self.now.sizes self.now.zones event → ⊥ }
+        ensures no { (result ≡ false) → HasNoWork self.now.sizes self.now.zones event }
+    {
+        let Ok(some) = ready(&self.sizes, &self.zones, event) else {
+            unreachable!();
+        };
+        some
+    }
+
+    /// Whether each request is answered.
+    pub fn done(&self) -> bool
+        ensures yes { IsTrue result → IsDone self.now.zones }
+        ensures no { (result ≡ false) → IsDone self.now.zones → ⊥ }
+    {
+        is_done(&self.zones)
+    }
+
+    /// How many zones there are, 5 to 8.
+    pub fn zone_count(&self) -> u32
+        ensures { result ≡ length self.now.zones }
+    {
+        self.zones.as_slice().len() as u32
+    }
+
+    /// What its zones know of the session.
+    pub fn sizes(&self) -> Sizes
+        ensures { result ≡ self.now.sizes }
+    {
+        self.sizes
+    }
+
+    /// The zones, by their numbers.
+    pub fn into_zones(self) -> Zones
+        ensures { result ≡ self.zones }
+    {
+        self.zones
+    }
+
+    /// The core of zones that a session of these sizes came to.
+    pub fn from_zones(sizes: Sizes, zones: Zones) -> Core
+        requires { IsReached sizes zones }
+        ensures { result ≡ record { sizes = sizes; zones = zones } }
+    {
+        Core { sizes, zones }
+    }
+}
