@@ -11,8 +11,8 @@ use Rattle.step_parts.specs.DeviceLog.{HasCalled}
 
 -- the zone acts, and doesn't call the device
 abbrev pub ActsAlone : Sizes → ZoneData → List Item → ZoneData → List Post → Type 0
-ActsAlone sizes old front new posts = (made : Trace) × Act sizes old front new made posts × ((tells : Bool) (seen : Seen) → HasCalled tells seen seen made)
+ActsAlone sizes old front new posts = (made : Trace) × Act sizes old front new made posts × ((tells honest : Bool) (seen : Seen) → HasCalled tells honest seen seen made)
 
 -- the zone acts, and the device has had its calls
-abbrev pub Acts : Bool → Sizes → ZoneData → List Item → ZoneData → List Post → Seen → Seen → Type 0
-Acts tells sizes old front new posts before after = (made : Trace) × Act sizes old front new made posts × HasCalled tells before after made
+abbrev pub Acts : Bool → Bool → Sizes → ZoneData → List Item → ZoneData → List Post → Seen → Seen → Type 0
+Acts tells honest sizes old front new posts before after = (made : Trace) × Act sizes old front new made posts × HasCalled tells honest before after made

@@ -1,6 +1,10 @@
 -- What a step leaves of the device.
-use Rattle.std.specs.Prelude.{ℕ, suc, ◌≡◌, ◌+◌, ◌-◌, ◌^◌, ◌≤◌, Bool, true, false, IsTrue, [], ◌∷◌, ◌++◌, min}
-use Rattle.disk_model.specs.Seen.{Seen}
+use Rattle.std.specs.Prelude.{ℕ, suc, ◌≡◌, ◌+◌, ◌-◌, ◌^◌, ◌≤◌, Bool, true, false, IsTrue, List, [], ◌∷◌, ◌++◌, length, min}
+use Rattle.disk_model.specs.declared.call.Call.{Call}
+use Rattle.disk_model.specs.declared.call.Call.TheVariants.{Read}
+use Rattle.disk_model.specs.Images.{IsMixOf}
+use Rattle.disk_model.specs.Log.{Blocks, settled}
+use Rattle.disk_model.specs.Seen.{Seen, Stays}
 use Rattle.core_model.specs.Trace.{Trace, Calls, Fails, calls}
 
 -- how many calls failed, and how many of these found no memory for a place in the log
@@ -25,11 +29,21 @@ has_calls (other ∷ t) = has_calls t
 abbrev pub RoseBy : ℕ → ℕ → ℕ → Type 0
 RoseBy n before now = min (before + n) (2 ^ 64 - 1) ≤ now
 
--- What is seen of a device before what happened, and after it: one that tells has the calls in its log. Its count of faults
--- rose with each call that failed, and its count of those without a place in the log with each that isn't kept there. A
--- device that isn't called is as it was.
-pub record HasCalled (tells : Bool) (before after : Seen) (made : Trace) : Type 0 where
+-- each read that succeeded gave, sector by sector, what the device may give then: these calls followed those of the log
+abbrev pub GivesSettled : Blocks → List Call → Trace → Type 0
+GivesSettled opening log [] = Unit {0}
+GivesSettled opening log (Calls (Read at bytes true) ∷ t) =
+    (length bytes ≡ 4096) × IsMixOf (settled opening (calls t ++ log) at.0) bytes × GivesSettled opening log t
+GivesSettled opening log (other ∷ t) = GivesSettled opening log t
+
+-- What is seen of a device before what happened, and after it: its opening blocks and its size stay; one that tells has the
+-- calls in its log, and where it is honest its reads gave what was settled. Its count of faults rose with each call that
+-- failed, and its count of those without a place in the log with each that isn't kept there. A device that isn't called is
+-- as it was.
+pub record HasCalled (tells honest : Bool) (before after : Seen) (made : Trace) : Type 0 where
+  pub stays : Stays before after
   pub log : IsTrue tells → after.log ≡ calls made ++ before.log
+  pub given : IsTrue tells → IsTrue honest → GivesSettled before.opening before.log made
   pub faults : RoseBy (failed_calls made) before.faults after.faults
   pub unkept : RoseBy (lost_calls made) before.unkept after.unkept
   pub idle : has_calls made ≡ false → after ≡ before

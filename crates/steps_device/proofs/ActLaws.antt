@@ -16,15 +16,15 @@ use Rattle.step_parts.specs.Acts.{Acts}
 use Rattle.step_parts.specs.Causes.{NoRule}
 use Rattle.step_parts.specs.DeviceLog.{HasCalled}
 
-pub acts : (tells : Bool) (sizes : Sizes) (old new : DeviceZone) (v : Vio) (posts : List Post) (before after : Seen)
-    → ((made : Trace) × DeviceServes sizes old v new made posts × HasCalled tells before after made)
-    → Acts tells sizes (at.Device old) (item.Request v ∷ []) (at.Device new) posts before after
-acts tells sizes old new v posts before after (made, row, log) = (made, calls row, log)
+pub acts : (tells honest : Bool) (sizes : Sizes) (old new : DeviceZone) (v : Vio) (posts : List Post) (before after : Seen)
+    → ((made : Trace) × DeviceServes sizes old v new made posts × HasCalled tells honest before after made)
+    → Acts tells honest sizes (at.Device old) (item.Request v ∷ []) (at.Device new) posts before after
+acts tells honest sizes old new v posts before after (made, row, log) = (made, calls row, log)
 
-pub works_on : (tells : Bool) (sizes : Sizes) (old new : DeviceZone) (b : SealedBlock) (posts : List Post) (before after : Seen)
-    → ((made : Trace) × DeviceWorks sizes old b new made posts × HasCalled tells before after made)
-    → Acts tells sizes (at.Device old) (item.Block b ∷ []) (at.Device new) posts before after
-works_on tells sizes old new b posts before after (made, row, log) = (made, works row, log)
+pub works_on : (tells honest : Bool) (sizes : Sizes) (old new : DeviceZone) (b : SealedBlock) (posts : List Post) (before after : Seen)
+    → ((made : Trace) × DeviceWorks sizes old b new made posts × HasCalled tells honest before after made)
+    → Acts tells honest sizes (at.Device old) (item.Block b ∷ []) (at.Device new) posts before after
+works_on tells honest sizes old new b posts before after (made, row, log) = (made, works row, log)
 
 -- where no rule serves a request, or works on a block, the zone has no act for it
 pub stays : (sizes : Sizes) (old : DeviceZone) (v : Vio) → NoRule (DeviceServes sizes old v) → NoRule (Act sizes (at.Device old) (item.Request v ∷ []))

@@ -17,8 +17,8 @@ pub record Fits (sizes : Sizes) (seen : Seen) : Type 0 where
   pub room : needed_blocks sizes.geometry ≤ seen.size
 
 -- this call failed, whoever it was made for
-abbrev pub HasFailed : Bool → Seen → Seen → Call → Type 0
-HasFailed tells before after call = (kept : Bool) × ((w : Writer) → HasCalled tells before after (Fails w call kept ∷ []))
+abbrev pub HasFailed : Bool → Bool → Seen → Seen → Call → Type 0
+HasFailed tells honest before after call = (kept : Bool) × ((w : Writer) → HasCalled tells honest before after (Fails w call kept ∷ []))
 
 -- a sealed block at this stage needs a call of the device
 abbrev pub needs_call : Stage → Bool

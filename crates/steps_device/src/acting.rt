@@ -28,7 +28,7 @@ pub fn act<D: Disk>(
     requires few { sizes.now.zones ≤ most_zones }
     requires none { posts.old ≡ [] }
     ensures stays { Stays (D.seen disk.old) (D.seen disk.new) }
-    ensures acts { OnOk result (Acts D.tells sizes.now (at.Device zone.old) (item ∷ []) (at.Device zone.new) posts.new (D.seen disk.old) (D.seen disk.new)) }
+    ensures acts { OnOk result (Acts D.tells D.honest sizes.now (at.Device zone.old) (item ∷ []) (at.Device zone.new) posts.new (D.seen disk.old) (D.seen disk.new)) }
     ensures err { OnErr result (NoRule (Act sizes.now (at.Device zone.old) (item ∷ []))) }
 {
     match item {

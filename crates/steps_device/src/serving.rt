@@ -33,7 +33,7 @@ fn store<D: Disk>(
     requires none { posts.old ≡ [] }
     ensures stays { Stays (D.seen disk.old) (D.seen disk.new) }
     ensures serves { (made : Trace) × DeviceServes sizes.now zone.old vio zone.new made posts.new
-        × HasCalled D.tells (D.seen disk.old) (D.seen disk.new) made }
+        × HasCalled D.tells D.honest (D.seen disk.old) (D.seen disk.new) made }
 {
     let Ok(()) = write_block(disk, vio.get().block, &vio.get().bytes) else {
         let failed = vio.end(Phase::AbortClaim, Answer::Stopped);
@@ -66,7 +66,7 @@ fn load<D: Disk>(
     requires none { posts.old ≡ [] }
     ensures stays { Stays (D.seen disk.old) (D.seen disk.new) }
     ensures serves { (made : Trace) × DeviceServes sizes.now zone.old vio zone.new made posts.new
-        × HasCalled D.tells (D.seen disk.old) (D.seen disk.new) made }
+        × HasCalled D.tells D.honest (D.seen disk.old) (D.seen disk.new) made }
 {
     let home = vio.get().home;
     let mut bytes = Block::zero();
@@ -93,7 +93,7 @@ fn flush_for<D: Disk>(
     requires none { posts.old ≡ [] }
     ensures stays { Stays (D.seen disk.old) (D.seen disk.new) }
     ensures serves { (made : Trace) × DeviceServes sizes.now zone.old vio zone.new made posts.new
-        × HasCalled D.tells (D.seen disk.old) (D.seen disk.new) made }
+        × HasCalled D.tells D.honest (D.seen disk.old) (D.seen disk.new) made }
 {
     if zone.stopped {
         let unmade = vio.end(Phase::Reply, Answer::Stopped);
@@ -124,7 +124,7 @@ fn serve_store<D: Disk>(
     requires none { posts.old ≡ [] }
     ensures stays { Stays (D.seen disk.old) (D.seen disk.new) }
     ensures serves { OnOk result ((made : Trace) × DeviceServes sizes.now zone.old vio zone.new made posts.new
-        × HasCalled D.tells (D.seen disk.old) (D.seen disk.new) made) }
+        × HasCalled D.tells D.honest (D.seen disk.old) (D.seen disk.new) made) }
     ensures err { OnErr result (NoRule (DeviceServes sizes.now zone.old vio)) }
 {
     if zone.stopped {
@@ -154,7 +154,7 @@ fn serve_load<D: Disk>(
     requires none { posts.old ≡ [] }
     ensures stays { Stays (D.seen disk.old) (D.seen disk.new) }
     ensures serves { OnOk result ((made : Trace) × DeviceServes sizes.now zone.old vio zone.new made posts.new
-        × HasCalled D.tells (D.seen disk.old) (D.seen disk.new) made) }
+        × HasCalled D.tells D.honest (D.seen disk.old) (D.seen disk.new) made) }
     ensures err { OnErr result (NoRule (DeviceServes sizes.now zone.old vio)) }
 {
     if !is_inside(sizes, vio.get().block) {
@@ -178,7 +178,7 @@ pub(crate) fn call_device<D: Disk>(
     requires none { posts.old ≡ [] }
     ensures stays { Stays (D.seen disk.old) (D.seen disk.new) }
     ensures serves { OnOk result ((made : Trace) × DeviceServes sizes.now zone.old vio zone.new made posts.new
-        × HasCalled D.tells (D.seen disk.old) (D.seen disk.new) made) }
+        × HasCalled D.tells D.honest (D.seen disk.old) (D.seen disk.new) made) }
     ensures err { OnErr result (NoRule (DeviceServes sizes.now zone.old vio)) }
 {
     let phase = vio.get().phase;

@@ -85,9 +85,9 @@ fn make_call<D: Disk>(
     requires inside { slot.0 < (D.seen disk.old).size }
     ensures stays { Stays (D.seen disk.old) (D.seen disk.new) }
     ensures ok { OnOk result ((made : Call) × (call_of sizes.now block.now slot true block.now.stage ≡ Some made)
-        × HasCalled D.tells (D.seen disk.old) (D.seen disk.new) (Calls made ∷ [])) }
+        × HasCalled D.tells D.honest (D.seen disk.old) (D.seen disk.new) (Calls made ∷ [])) }
     ensures err { OnErr result ((failed : Call) × (call_of sizes.now block.now slot false block.now.stage ≡ Some failed)
-        × HasFailed D.tells (D.seen disk.old) (D.seen disk.new) failed) }
+        × HasFailed D.tells D.honest (D.seen disk.old) (D.seen disk.new) failed) }
 {
     match block.stage {
         Stage::Write => {
@@ -120,7 +120,7 @@ pub(crate) fn work_block<D: Disk>(
     requires none { posts.old ≡ [] }
     ensures stays { Stays (D.seen disk.old) (D.seen disk.new) }
     ensures works { OnOk result ((made : Trace) × DeviceWorks sizes.now zone.old block zone.new made posts.new
-        × HasCalled D.tells (D.seen disk.old) (D.seen disk.new) made) }
+        × HasCalled D.tells D.honest (D.seen disk.old) (D.seen disk.new) made) }
     ensures err { OnErr result (NoRule (DeviceWorks sizes.now zone.old block)) }
 {
     if !needs_call(block.stage) {

@@ -78,6 +78,6 @@ none_fails s core n z fault.Exhausted session legal had (inr crowded) =
     begins_with_room s core.trace n z.keeps session (legal.each n z had).own (desk_log_right s core.trace legal.right) crowded
 none_fails s core n z fault.Stray session legal had stray = none_stray s core n z session legal had stray
 
-pub none_fails_after : (tells : Bool) (s : Session) (zones : List Zone) (t : Trace) (before : Seen) (f : StepFault) → IsSession s → Legal s (core_with zones t) → MayFaultAfter tells s.sizes zones before f → ⊥
-none_fails_after tells s zones t before f session legal (between, log, (made, leads, told), (number, (z, had, why))) =
+pub none_fails_after : (tells honest : Bool) (s : Session) (zones : List Zone) (t : Trace) (before : Seen) (f : StepFault) → IsSession s → Legal s (core_with zones t) → MayFaultAfter tells honest s.sizes zones before f → ⊥
+none_fails_after tells honest s zones t before f session legal (between, log, (made, leads, told), (number, (z, had, why))) =
     none_fails s (core_with between (made ++ t)) number z f session (legal_leads s (core_with zones t) (core_with between (made ++ t)) session (leads t) legal) had why

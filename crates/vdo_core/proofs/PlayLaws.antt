@@ -1,19 +1,23 @@
 -- Events one after another.
 use Rattle.std.proofs.Math.Seq.{drop-cons}
-use Rattle.std.proofs.Common.{arith, subst, ◌<◌, ◌≤◌, ◌+◌, length, drop, get_or, ◌≡◌, ℕ, zero, suc, Bool, false, List, [], ◌∷◌, ◌++◌, Some, slice_get, slice_set, refl, sym, ap, ◌∙◌, append_assoc, inl, inr}
+use Rattle.std.proofs.Common.{arith, subst, ◌<◌, ◌≤◌, ◌+◌, length, drop, get_or, ◌≡◌, ℕ, zero, suc, Bool, true, false, List, [], ◌∷◌, ◌++◌, Some, slice_get, slice_set, refl, sym, ap, ◌∙◌, append_assoc, inl, inr}
 use Rattle.std.proofs.lemmas.List.{append-nil, drop_all}
 use Rattle.std.proofs.lemmas.Option.{same_Some}
 use Rattle.std.specs.List.{AllByRecursion}
 use Rattle.std.proofs.lemmas.List.Elements.{All-from_recursion}
 use Rattle.disk_model.specs.Seen.{Seen}
 use Rattle.disk_model.specs.declared.call.Call.{Call}
+use Rattle.disk_model.specs.declared.call.Call.TheVariants.{Read}
+use Rattle.disk_model.specs.Images.{IsMixOf}
+use Rattle.disk_model.specs.Log.{Blocks, settled}
+use Rattle.disk_model.proofs.SeenLaws.{stays_on}
 use Rattle.core_model.specs.declared.sizes.Sizes.{Sizes}
 use Rattle.core_model.specs.declared.zones.Zone.{Zone}
 use Rattle.core_model.specs.Steps.{Core, IsIdle, Leads}
 use Rattle.core_model.specs.Steps.Leads.{rests, steps, moves}
 use Rattle.core_model.specs.Trace.{Trace, Calls, Fails, calls}
 use Rattle.core_laws.proofs.trace.Cuts.{calls_append}
-use Rattle.step_parts.specs.DeviceLog.{HasCalled, failed_calls, has_calls, lost_calls}
+use Rattle.step_parts.specs.DeviceLog.{GivesSettled, HasCalled, failed_calls, has_calls, lost_calls}
 use Rattle.step_parts.proofs.SilentLaws.{unchanged}
 use Rattle.vdo_core.specs.Moves.{MovesNothing}
 use Rattle.vdo_core.specs.Plays.{core_with, StepsAt, MovesAll, HasNoWork, PlaysOne, Plays, LeadsTo}
@@ -50,8 +54,18 @@ none_called (Calls c ∷ t) made none = absurd cc
 none_called (Fails w c kept ∷ t) made none = absurd cc
 none_called (other ∷ t) made none = none_called t made none
 
-called_on : (tells : Bool) (a b c : Seen) (made more : Trace) → HasCalled tells a b made → HasCalled tells b c more → HasCalled tells a c (more ++ made)
-called_on tells a b c made more early late = record {
+-- and what they gave is what the device may have given, which had the earlier ones
+given_append : (opening : Blocks) (log : List Call) (more made : Trace) → GivesSettled opening (calls made ++ log) more → GivesSettled opening log made → GivesSettled opening log (more ++ made)
+given_append opening log [] made late early = early
+given_append opening log (Calls (Read at bytes true) ∷ t) made late early =
+    let later : calls t ++ (calls made ++ log) ≡ calls (t ++ made) ++ log = sym (append_assoc (calls t) (calls made) log) ∙ ap (λ (cs : List Call). cs ++ log) (sym (calls_append t made)) in
+    (late.0, subst (λ (cs : List Call). IsMixOf (settled opening cs at.0) bytes) later late.1, given_append opening log t made late.2 early)
+given_append opening log (other ∷ t) made late early = given_append opening log t made late early
+
+called_on : (tells honest : Bool) (a b c : Seen) (made more : Trace) → HasCalled tells honest a b made → HasCalled tells honest b c more → HasCalled tells honest a c (more ++ made)
+called_on tells honest a b c made more early late = record {
+  stays = stays_on a b c early.stays late.stays;
+  given = λ notified fair. given_append a.opening a.log more made (rw (← early.stays.opening, ← early.log notified) (late.given notified fair)) (early.given notified fair);
   log = λ notified. late.log notified ∙ ap (λ (cs : List Call). calls more ++ cs) (early.log notified) ∙ sym (append_assoc (calls more) (calls made) a.log) ∙ ap (λ (cs : List Call). cs ++ a.log) (sym (calls_append more made));
   faults = (let p = early.faults in let q = late.faults in omega (arith, p, q, failed_append more made));
   unkept = (let p = early.unkept in let q = late.unkept in omega (arith, p, q, lost_append more made));
@@ -59,21 +73,21 @@ called_on tells a b c made more early late = record {
 }
 
 -- nothing happens
-pub nothing : (tells : Bool) (sizes : Sizes) (zones : List Zone) (log : Seen) → LeadsTo tells sizes zones zones log log
-nothing tells sizes zones log = ([], (λ (t : Trace). rests), unchanged tells log)
+pub nothing : (tells honest : Bool) (sizes : Sizes) (zones : List Zone) (log : Seen) → LeadsTo tells honest sizes zones zones log log
+nothing tells honest sizes zones log = ([], (λ (t : Trace). rests), unchanged tells honest log)
 
 -- one event, and then others
-pub leads_further : (tells : Bool) (sizes : Sizes) (a b c : List Zone) (log log' log'' : Seen)
-    → LeadsTo tells sizes a b log log' → LeadsTo tells sizes b c log' log'' → LeadsTo tells sizes a c log log''
-leads_further tells sizes a b c log log' log'' (made, early, notified) (more, late, notified') = (
+pub leads_further : (tells honest : Bool) (sizes : Sizes) (a b c : List Zone) (log log' log'' : Seen)
+    → LeadsTo tells honest sizes a b log log' → LeadsTo tells honest sizes b c log' log'' → LeadsTo tells honest sizes a c log log''
+leads_further tells honest sizes a b c log log' log'' (made, early, notified) (more, late, notified') = (
   more ++ made,
   (λ (t : Trace). rw append_assoc (leads_on sizes (core_with a t) (core_with b (made ++ t)) (core_with c (more ++ (made ++ t))) (early t) (late (made ++ t)))),
-  called_on tells log log' log'' made more notified notified',
+  called_on tells honest log log' log'' made more notified notified',
 )
 
 -- a step of a zone is one of the core
-pub stepped_leads : (tells : Bool) (sizes : Sizes) (n : ℕ) (a b : List Zone) (log log' : Seen) → StepsAt tells sizes n a b log log' → LeadsTo tells sizes a b log log'
-stepped_leads tells sizes n a b log log' at = (
+pub stepped_leads : (tells honest : Bool) (sizes : Sizes) (n : ℕ) (a b : List Zone) (log log' : Seen) → StepsAt tells honest sizes n a b log log' → LeadsTo tells honest sizes a b log log'
+stepped_leads tells honest sizes n a b log log' at = (
   at.step.0,
   (λ (t : Trace). steps (record {
     number = n;
@@ -88,8 +102,8 @@ stepped_leads tells sizes n a b log log' at = (
 )
 
 -- a move is one of the core
-moved_leads : (tells : Bool) (sizes : Sizes) (from to : ℕ) (a b : List Zone) (log : Seen) → MovesAll from to a b → LeadsTo tells sizes a b log log
-moved_leads tells sizes from to a b log all = (
+moved_leads : (tells honest : Bool) (sizes : Sizes) (from to : ℕ) (a b : List Zone) (log : Seen) → MovesAll from to a b → LeadsTo tells honest sizes a b log log
+moved_leads tells honest sizes from to a b log all = (
   [],
   (λ (t : Trace). moves (record {
     from = from;
@@ -104,46 +118,46 @@ moved_leads tells sizes from to a b log all = (
     outbox = rw append-nil all.outbox;
     has = ap (λ (zs : List Zone). core_with zs t) all.has;
   }) rests),
-  unchanged tells log,
+  unchanged tells honest log,
 )
 
 -- after an event, whether there was work or not
-pub step_plays : (tells : Bool) (sizes : Sizes) (n : ℕ) (a b : List Zone) (log log' : Seen) (stepped : Stepped)
-    → (stepped ≡ Did → StepsAt tells sizes n a b log log') → (stepped ≡ Idle → (z : Zone) → slice_get a n ≡ Some z → IsIdle sizes z)
-    → (stepped ≡ Idle → b ≡ a) → (stepped ≡ Idle → log' ≡ log) → PlaysOne tells sizes (event.Step n) a b log log'
-step_plays tells sizes n a b log log' Did did idle same silent = inl (did refl)
-step_plays tells sizes n a b log log' Idle did idle same silent = inr (idle refl, same refl, silent refl)
+pub step_plays : (tells honest : Bool) (sizes : Sizes) (n : ℕ) (a b : List Zone) (log log' : Seen) (stepped : Stepped)
+    → (stepped ≡ Did → StepsAt tells honest sizes n a b log log') → (stepped ≡ Idle → (z : Zone) → slice_get a n ≡ Some z → IsIdle sizes z)
+    → (stepped ≡ Idle → b ≡ a) → (stepped ≡ Idle → log' ≡ log) → PlaysOne tells honest sizes (event.Step n) a b log log'
+step_plays tells honest sizes n a b log log' Did did idle same silent = inl (did refl)
+step_plays tells honest sizes n a b log log' Idle did idle same silent = inr (idle refl, same refl, silent refl)
 
-pub move_plays : (tells : Bool) (sizes : Sizes) (from to : ℕ) (a b : List Zone) (log : Seen) (stepped : Stepped)
-    → (stepped ≡ Did → MovesAll from to a b) → (stepped ≡ Idle → MovesNothing a from to) → (stepped ≡ Idle → b ≡ a) → PlaysOne tells sizes (event.Move from to) a b log log
-move_plays tells sizes from to a b log Did did idle same = inl (did refl, refl)
-move_plays tells sizes from to a b log Idle did idle same = inr (idle refl, same refl, refl)
+pub move_plays : (tells honest : Bool) (sizes : Sizes) (from to : ℕ) (a b : List Zone) (log : Seen) (stepped : Stepped)
+    → (stepped ≡ Did → MovesAll from to a b) → (stepped ≡ Idle → MovesNothing a from to) → (stepped ≡ Idle → b ≡ a) → PlaysOne tells honest sizes (event.Move from to) a b log log
+move_plays tells honest sizes from to a b log Did did idle same = inl (did refl, refl)
+move_plays tells honest sizes from to a b log Idle did idle same = inr (idle refl, same refl, refl)
 
 -- what an event does leads on
-pub played_leads : (tells : Bool) (sizes : Sizes) (e : Event) (a b : List Zone) (log log' : Seen) → PlaysOne tells sizes e a b log log' → LeadsTo tells sizes a b log log'
-played_leads tells sizes (event.Step n) a b log log' (inl at) = stepped_leads tells sizes n a b log log' at
-played_leads tells sizes (event.Step n) a b log log' (inr (idle, same, silent)) = rw (same, silent) (nothing tells sizes a log)
-played_leads tells sizes (event.Move from to) a b log log' (inl (all, silent)) = rw silent (moved_leads tells sizes from to a b log all)
-played_leads tells sizes (event.Move from to) a b log log' (inr (idle, same, silent)) = rw (same, silent) (nothing tells sizes a log)
+pub played_leads : (tells honest : Bool) (sizes : Sizes) (e : Event) (a b : List Zone) (log log' : Seen) → PlaysOne tells honest sizes e a b log log' → LeadsTo tells honest sizes a b log log'
+played_leads tells honest sizes (event.Step n) a b log log' (inl at) = stepped_leads tells honest sizes n a b log log' at
+played_leads tells honest sizes (event.Step n) a b log log' (inr (idle, same, silent)) = rw (same, silent) (nothing tells honest sizes a log)
+played_leads tells honest sizes (event.Move from to) a b log log' (inl (all, silent)) = rw silent (moved_leads tells honest sizes from to a b log all)
+played_leads tells honest sizes (event.Move from to) a b log log' (inr (idle, same, silent)) = rw (same, silent) (nothing tells honest sizes a log)
 
 -- an event before those that are left
-pub next_plays : (tells : Bool) (sizes : Sizes) (events : List Event) (n : ℕ) (d : Event) (a b later : List Zone) (log log' log'' : Seen)
-    → n < length events → PlaysOne tells sizes (get_or events n d) a b log log' → Plays tells sizes (drop (n + 1) events) b later log' log''
-    → Plays tells sizes (drop n events) a later log log''
-next_plays tells sizes events n d a b later log log' log'' within one rest =
+pub next_plays : (tells honest : Bool) (sizes : Sizes) (events : List Event) (n : ℕ) (d : Event) (a b later : List Zone) (log log' log'' : Seen)
+    → n < length events → PlaysOne tells honest sizes (get_or events n d) a b log log' → Plays tells honest sizes (drop (n + 1) events) b later log' log''
+    → Plays tells honest sizes (drop n events) a later log log''
+next_plays tells honest sizes events n d a b later log log' log'' within one rest =
     let next : n + 1 ≡ suc n = omega (arith) in
-    let left = subst (λ (m : ℕ). Plays tells sizes (drop m events) b later log' log'') next rest in
-    subst (λ (es : List Event). Plays tells sizes es a later log log'') (sym (drop-cons events n d within)) (b, log', one, left)
+    let left = subst (λ (m : ℕ). Plays tells honest sizes (drop m events) b later log' log'') next rest in
+    subst (λ (es : List Event). Plays tells honest sizes es a later log log'') (sym (drop-cons events n d within)) (b, log', one, left)
 
 -- no event is left
-pub none_left : (tells : Bool) (sizes : Sizes) (events : List Event) (n : ℕ) (a : List Zone) (log : Seen)
-    → length events ≤ n → Plays tells sizes (drop n events) a a log log
-none_left tells sizes events n a log past = subst (λ (es : List Event). Plays tells sizes es a a log log) (sym (drop_all n events past)) (refl, refl)
+pub none_left : (tells honest : Bool) (sizes : Sizes) (events : List Event) (n : ℕ) (a : List Zone) (log : Seen)
+    → length events ≤ n → Plays tells honest sizes (drop n events) a a log log
+none_left tells honest sizes events n a log past = subst (λ (es : List Event). Plays tells honest sizes es a a log log) (sym (drop_all n events past)) (refl, refl)
 
 -- a zone that steps isn't idle, so there was work for its event
-pub step_busy : (tells : Bool) (sizes : Sizes) (n : ℕ) (a b : List Zone) (log log' : Seen) → StepsAt tells sizes n a b log log'
+pub step_busy : (tells honest : Bool) (sizes : Sizes) (n : ℕ) (a b : List Zone) (log log' : Seen) → StepsAt tells honest sizes n a b log log'
     → ((z : Zone) → slice_get a n ≡ Some z → IsIdle sizes z → ⊥) → HasNoWork sizes a (event.Step n) → ⊥
-step_busy tells sizes n a b log log' at busy none = busy at.zone at.had (none at.zone at.had)
+step_busy tells honest sizes n a b log log' at busy none = busy at.zone at.had (none at.zone at.had)
 
 -- where no zone changed, there is still none
 pub none_still : (sizes : Sizes) (a b : List Zone) (e : Event) → a ≡ b → HasNoWork sizes a e → HasNoWork sizes b e

@@ -100,8 +100,8 @@ module _ (sizes : Sizes) (script : Script) (window : List Entry) (can : CanBegin
 
 -- what is reached leads to what is reached, and nothing fails there
 module _ (sizes : Sizes) (zones : List Zone) (reached : IsReached sizes zones) where
-  pub reached_on : (tells : Bool) (later : List Zone) (before after : Seen) → LeadsTo tells sizes zones later before after → IsReached sizes later
-  reached_on tells later before after (made, leads, told) = record {
+  pub reached_on : (tells honest : Bool) (later : List Zone) (before after : Seen) → LeadsTo tells honest sizes zones later before after → IsReached sizes later
+  reached_on tells honest later before after (made, leads, told) = record {
     session = reached.session;
     trace = made ++ reached.trace;
     sizes_are = reached.sizes_are;

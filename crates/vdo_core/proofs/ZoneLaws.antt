@@ -30,19 +30,19 @@ step_of sizes old new keeps front rest made posts counts taken in_turn act is =
     }
 
 -- a zone steps with the item in front of its inbox
-pub stepped : (tells : Bool) (sizes : Sizes) (old new : Zone) (keeps : ZoneData) (front : Item) (rest : List Item) (posts : List Post) (before after : Seen)
-    → old.steps < step_limit → old.inbox ≡ front ∷ rest → Acts tells sizes old.keeps (front ∷ []) keeps posts before after
-    → new ≡ delivered sizes posts (record old { keeps = keeps; inbox = rest; steps = old.steps + 1 }) → ZoneSteps tells sizes old new before after
-stepped tells sizes old new keeps front rest posts before after counts taken (made, act, log) is =
+pub stepped : (tells honest : Bool) (sizes : Sizes) (old new : Zone) (keeps : ZoneData) (front : Item) (rest : List Item) (posts : List Post) (before after : Seen)
+    → old.steps < step_limit → old.inbox ≡ front ∷ rest → Acts tells honest sizes old.keeps (front ∷ []) keeps posts before after
+    → new ≡ delivered sizes posts (record old { keeps = keeps; inbox = rest; steps = old.steps + 1 }) → ZoneSteps tells honest sizes old new before after
+stepped tells honest sizes old new keeps front rest posts before after counts taken (made, act, log) is =
     let in_turn : front ∷ [] ≡ [] → rest ≡ [] = λ e. cc in
     (made, step_of sizes old new keeps (front ∷ []) rest made posts counts taken in_turn act is, log)
 
 -- a zone steps with no item, and doesn't call the device
-pub begun : (tells : Bool) (sizes : Sizes) (old new : Zone) (keeps : ZoneData) (rest : List Item) (posts : List Post) (seen : Seen)
+pub begun : (tells honest : Bool) (sizes : Sizes) (old new : Zone) (keeps : ZoneData) (rest : List Item) (posts : List Post) (seen : Seen)
     → old.steps < step_limit → old.inbox ≡ [] → rest ≡ [] → ActsAlone sizes old.keeps [] keeps posts
-    → new ≡ delivered sizes posts (record old { keeps = keeps; inbox = rest; steps = old.steps + 1 }) → ZoneSteps tells sizes old new seen seen
-begun tells sizes old new keeps rest posts seen counts taken none (made, act, silent) is =
-    (made, step_of sizes old new keeps [] rest made posts counts (taken ∙ sym none) (λ e. none) act is, silent tells seen)
+    → new ≡ delivered sizes posts (record old { keeps = keeps; inbox = rest; steps = old.steps + 1 }) → ZoneSteps tells honest sizes old new seen seen
+begun tells honest sizes old new keeps rest posts seen counts taken none (made, act, silent) is =
+    (made, step_of sizes old new keeps [] rest made posts counts (taken ∙ sym none) (λ e. none) act is, silent tells honest seen)
 
 -- a zone that counts on has work where it has an item, or may begin a request
 pub has_item : (sizes : Sizes) (z : Zone) (front : Item) (rest : List Item) → z.steps < step_limit → z.inbox ≡ front ∷ rest → IsIdle sizes z → ⊥

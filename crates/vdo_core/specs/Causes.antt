@@ -81,5 +81,5 @@ abbrev pub OneMayFault : Sizes → List Zone → StepFault → Type 0
 OneMayFault sizes zones fault = (number : ℕ) × MayFaultAt sizes zones number fault
 
 -- one does after some events
-abbrev pub MayFaultAfter : Bool → Sizes → List Zone → Seen → StepFault → Type 0
-MayFaultAfter tells sizes zones before fault = (between : List Zone) × (seen : Seen) × LeadsTo tells sizes zones between before seen × OneMayFault sizes between fault
+abbrev pub MayFaultAfter : Bool → Bool → Sizes → List Zone → Seen → StepFault → Type 0
+MayFaultAfter tells honest sizes zones before fault = (between : List Zone) × (seen : Seen) × LeadsTo tells honest sizes zones between before seen × OneMayFault sizes between fault

@@ -15,15 +15,15 @@ abbrev pub core_with : List Zone → Trace → Core
 core_with zones t = record { zones = zones; trace = t }
 
 -- one zone steps
-abbrev pub ZoneSteps : Bool → Sizes → Zone → Zone → Seen → Seen → Type 0
-ZoneSteps tells sizes old new before after = (made : Trace) × ZoneStep sizes old new made × HasCalled tells before after made
+abbrev pub ZoneSteps : Bool → Bool → Sizes → Zone → Zone → Seen → Seen → Type 0
+ZoneSteps tells honest sizes old new before after = (made : Trace) × ZoneStep sizes old new made × HasCalled tells honest before after made
 
 -- the zone of this number steps, and all others stay
-pub record StepsAt (tells : Bool) (sizes : Sizes) (number : ℕ) (old new : List Zone) (before after : Seen) : Type 0 where
+pub record StepsAt (tells honest : Bool) (sizes : Sizes) (number : ℕ) (old new : List Zone) (before after : Seen) : Type 0 where
   pub zone : Zone
   pub zone' : Zone
   pub had : slice_get old number ≡ Some zone
-  pub step : ZoneSteps tells sizes zone zone' before after
+  pub step : ZoneSteps tells honest sizes zone zone' before after
   pub has : new ≡ slice_set old number zone'
 
 -- what one zone posted to another moves, all of it, to the tail of its inbox
@@ -43,18 +43,18 @@ HasNoWork sizes zones (event.Step number) = (z : Zone) → slice_get zones numbe
 HasNoWork sizes zones (event.Move from to) = MovesNothing zones from to
 
 -- an event: the zone steps, or all moves; or nothing happens, where there is no work for it
-abbrev pub PlaysOne : Bool → Sizes → Event → List Zone → List Zone → Seen → Seen → Type 0
-PlaysOne tells sizes (event.Step number) old new before after =
-    StepsAt tells sizes number old new before after ⊎ (HasNoWork sizes old (event.Step number) × (new ≡ old) × (after ≡ before))
-PlaysOne tells sizes (event.Move from to) old new before after =
+abbrev pub PlaysOne : Bool → Bool → Sizes → Event → List Zone → List Zone → Seen → Seen → Type 0
+PlaysOne tells honest sizes (event.Step number) old new before after =
+    StepsAt tells honest sizes number old new before after ⊎ (HasNoWork sizes old (event.Step number) × (new ≡ old) × (after ≡ before))
+PlaysOne tells honest sizes (event.Move from to) old new before after =
     (MovesAll from to old new × (after ≡ before)) ⊎ (HasNoWork sizes old (event.Move from to) × (new ≡ old) × (after ≡ before))
 
 -- all of these, one after another
-abbrev pub Plays : Bool → Sizes → List Event → List Zone → List Zone → Seen → Seen → Type 0
-Plays tells sizes [] old new before after = (new ≡ old) × (after ≡ before)
-Plays tells sizes (e ∷ events) old new before after =
-    (between : List Zone) × (seen : Seen) × PlaysOne tells sizes e old between before seen × Plays tells sizes events between new seen after
+abbrev pub Plays : Bool → Bool → Sizes → List Event → List Zone → List Zone → Seen → Seen → Type 0
+Plays tells honest sizes [] old new before after = (new ≡ old) × (after ≡ before)
+Plays tells honest sizes (e ∷ events) old new before after =
+    (between : List Zone) × (seen : Seen) × PlaysOne tells honest sizes e old between before seen × Plays tells honest sizes events between new seen after
 
 -- events lead from one core to another
-abbrev pub LeadsTo : Bool → Sizes → List Zone → List Zone → Seen → Seen → Type 0
-LeadsTo tells sizes old new before after = (made : Trace) × ((t : Trace) → Leads sizes (core_with old t) (core_with new (made ++ t))) × HasCalled tells before after made
+abbrev pub LeadsTo : Bool → Bool → Sizes → List Zone → List Zone → Seen → Seen → Type 0
+LeadsTo tells honest sizes old new before after = (made : Trace) × ((t : Trace) → Leads sizes (core_with old t) (core_with new (made ++ t))) × HasCalled tells honest before after made

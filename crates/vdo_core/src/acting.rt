@@ -26,7 +26,7 @@ pub(crate) fn act<D: Disk>(
     requires fits { Fits sizes.now (D.seen disk.old) }
     requires none { posts.old ≡ [] }
     ensures stays { Stays (D.seen disk.old) (D.seen disk.new) }
-    ensures acts { OnOk result (Acts D.tells sizes.now keeps.old (item ∷ []) keeps.new posts.new (D.seen disk.old) (D.seen disk.new)) }
+    ensures acts { OnOk result (Acts D.tells D.honest sizes.now keeps.old (item ∷ []) keeps.new posts.new (D.seen disk.old) (D.seen disk.new)) }
     ensures err { OnErr result (NoRule (Act sizes.now keeps.old (item ∷ []))) }
 {
     match keeps {

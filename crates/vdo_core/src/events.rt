@@ -33,7 +33,7 @@ pub fn step<D: Disk>(
 ) -> Result<Stepped, StepFault>
     requires { Fits sizes.now (D.seen disk.old) }
     ensures stays { Stays (D.seen disk.old) (D.seen disk.new) }
-    ensures did { IfOk result (λ stepped. stepped ≡ Did → StepsAt D.tells sizes.now number zones.old zones.new (D.seen disk.old) (D.seen disk.new)) }
+    ensures did { IfOk result (λ stepped. stepped ≡ Did → StepsAt D.tells D.honest sizes.now number zones.old zones.new (D.seen disk.old) (D.seen disk.new)) }
     ensures idle { IfOk result (λ stepped. stepped ≡ Idle → (zone : Zone) → slice_get zones.old number ≡ Some zone → IsIdle sizes.now zone) }
     ensures busy { IfOk result (λ stepped. stepped ≡ Did → (zone : Zone) → slice_get zones.old number ≡ Some zone → IsIdle sizes.now zone → ⊥) }
     ensures same { IfOk result (λ stepped. stepped ≡ Idle → zones.new ≡ zones.old) }
@@ -56,8 +56,8 @@ pub(crate) fn play_one<D: Disk>(
 ) -> Result<Stepped, StepFault>
     requires { Fits sizes.now (D.seen disk.old) }
     ensures stays { Stays (D.seen disk.old) (D.seen disk.new) }
-    ensures plays { OnOk result (PlaysOne D.tells sizes.now event zones.old zones.new (D.seen disk.old) (D.seen disk.new)) }
-    ensures leads { OnOk result (LeadsTo D.tells sizes.now zones.old zones.new (D.seen disk.old) (D.seen disk.new)) }
+    ensures plays { OnOk result (PlaysOne D.tells D.honest sizes.now event zones.old zones.new (D.seen disk.old) (D.seen disk.new)) }
+    ensures leads { OnOk result (LeadsTo D.tells D.honest sizes.now zones.old zones.new (D.seen disk.old) (D.seen disk.new)) }
     ensures busy { IfOk result (λ stepped. stepped ≡ Did → HasNoWork sizes.now zones.old event → ⊥) }
     ensures idle { IfOk result (λ stepped. stepped ≡ Idle → HasNoWork sizes.now zones.old event) }
     ensures same { IfOk result (λ stepped. stepped ≡ Idle → zones.new ≡ zones.old) }
@@ -91,12 +91,12 @@ pub fn play<D: Disk>(
 ) -> Result<Stepped, StepFault>
     requires { Fits sizes.now (D.seen disk.old) }
     ensures stays { Stays (D.seen disk.old) (D.seen disk.new) }
-    ensures plays { OnOk result (Plays D.tells sizes.now events.now zones.old zones.new (D.seen disk.old) (D.seen disk.new)) }
-    ensures leads { OnOk result (LeadsTo D.tells sizes.now zones.old zones.new (D.seen disk.old) (D.seen disk.new)) }
+    ensures plays { OnOk result (Plays D.tells D.honest sizes.now events.now zones.old zones.new (D.seen disk.old) (D.seen disk.new)) }
+    ensures leads { OnOk result (LeadsTo D.tells D.honest sizes.now zones.old zones.new (D.seen disk.old) (D.seen disk.new)) }
     ensures busy { IfOk result (λ stepped. stepped ≡ Did → AllByRecursion (HasNoWork sizes.now zones.old) events.now → ⊥) }
     ensures idle { IfOk result (λ stepped. stepped ≡ Idle → AllByRecursion (HasNoWork sizes.now zones.old) events.now) }
     ensures same { IfOk result (λ stepped. stepped ≡ Idle → zones.new ≡ zones.old) }
-    ensures err { IfErr result (MayFaultAfter D.tells sizes.now zones.old (D.seen disk.old)) }
+    ensures err { IfErr result (MayFaultAfter D.tells D.honest sizes.now zones.old (D.seen disk.old)) }
 {
     let mut any = Stepped::Idle;
     for event in events {

@@ -16,8 +16,8 @@ ghost use Rattle.vdo_model.specs.DeskLog.{AllAnswered};
 pub fn a_legal_core_never_fails()
     ensures step { (s : Session) (core : Core) (n : ℕ) (z : Zone) (fault : StepFault) → IsSession s → Legal s core → slice_get core.zones n ≡ Some z
         → MayFault s.sizes z fault → ⊥ }
-    ensures plays { (tells : Bool) (s : Session) (zones : List Zone) (t : Trace) (before : Seen) (fault : StepFault) → IsSession s → Legal s (core_with zones t)
-        → MayFaultAfter tells s.sizes zones before fault → ⊥ }
+    ensures plays { (tells honest : Bool) (s : Session) (zones : List Zone) (t : Trace) (before : Seen) (fault : StepFault) → IsSession s → Legal s (core_with zones t)
+        → MayFaultAfter tells honest s.sizes zones before fault → ⊥ }
 {}
 
 /// A legal core is done exactly where each request of the script is answered.

@@ -51,7 +51,7 @@ pub fn step_zone<D: Disk>(
     requires fits { Fits sizes.now (D.seen disk.old) }
     requires none { posts.old ≡ [] }
     ensures stays { Stays (D.seen disk.old) (D.seen disk.new) }
-    ensures did { IfOk result (λ stepped. stepped ≡ Did → ZoneSteps D.tells sizes.now zone.old zone.new (D.seen disk.old) (D.seen disk.new)) }
+    ensures did { IfOk result (λ stepped. stepped ≡ Did → ZoneSteps D.tells D.honest sizes.now zone.old zone.new (D.seen disk.old) (D.seen disk.new)) }
     ensures busy { IfOk result (λ stepped. stepped ≡ Did → IsIdle sizes.now zone.old → ⊥) }
     ensures idle { IfOk result (λ stepped. stepped ≡ Idle → IsIdle sizes.now zone.old) }
     ensures same { IfOk result (λ stepped. stepped ≡ Idle → zone.new ≡ zone.old) }

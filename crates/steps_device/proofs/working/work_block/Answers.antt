@@ -14,7 +14,7 @@ returns-then-zone-clause-works g c =
     let some = some_call c.args.sizes.now c.args.block c.journal_slot-slot.result false c.args.block.stage needed in (
       [],
       unmade some.0 c.journal_slot-slot.result some.1 c.if-zone.true refl refl (block_post _ _ _ _ _ _ c.first.ensures refl c.staged-unmade.ensures),
-      unchanged _ _,
+      unchanged _ _ _,
     )
 
 pub returns-in_default-clause-works : goal.returns-in_default-clause-works

@@ -10,7 +10,7 @@ pub loop-event-init : goal.loop-event-init
 loop-event-init g c = record {
   stays = record { opening = refl; size = refl };
   plays = λ later log rest. rest;
-  leads = nothing g.D.Disk.tells c.args.sizes.now c.args.zones.now _;
+  leads = nothing g.D.Disk.tells g.D.Disk.honest c.args.sizes.now c.args.zones.now _;
   busy = search rules;
   idle = λ idle rest. rest;
   same = λ idle. refl;
@@ -25,8 +25,8 @@ loop-event-preserved g c =
     record {
       stays = stays_on _ _ _ before.stays after.stays;
       plays = λ later log rest.
-          before.plays later log (next_plays _ _ c.args.events.now c.loop-event.event-index _ c.loop-event.zones c.play_one.new.zones later _ _ log c.loop-event-test.true after.plays rest);
-      leads = leads_further g.D.Disk.tells c.args.sizes.now c.args.zones.now c.loop-event.zones c.play_one.new.zones _ _ _ before.leads after.leads;
+          before.plays later log (next_plays _ _ _ c.args.events.now c.loop-event.event-index _ c.loop-event.zones c.play_one.new.zones later _ _ log c.loop-event-test.true after.plays rest);
+      leads = leads_further g.D.Disk.tells g.D.Disk.honest c.args.sizes.now c.args.zones.now c.loop-event.zones c.play_one.new.zones _ _ _ before.leads after.leads;
       busy = λ did none. elim (c.either-any.ensures.did did) [
         | inl early ↦ before.busy early none
         | inr (idle, now) ↦ after.busy now (none_still c.args.sizes.now c.args.zones.now c.loop-event.zones _ (sym (before.same idle)) (none_for_one none_first c.args.events.now event _ c.loop-event-test.true none))
@@ -40,12 +40,12 @@ loop-event-preserved g c =
 
 pub returns-in_err-stepped-clause-err : goal.returns-in_err-stepped-clause-err
 returns-in_err-stepped-clause-err g c =
-    passed_on c.from_residual.result (MayFaultAfter g.D.Disk.tells c.args.sizes.now c.args.zones.now (g.D.Disk.seen c.args.disk.now)) c.in_err-stepped.field-0.0 c.from_residual.ensures.1
+    passed_on c.from_residual.result (MayFaultAfter g.D.Disk.tells g.D.Disk.honest c.args.sizes.now c.args.zones.now (g.D.Disk.seen c.args.disk.now)) c.in_err-stepped.field-0.0 c.from_residual.ensures.1
     (c.loop-event.zones, g.D.Disk.seen c.loop-event.disk, c.loop-event.invariant.leads, c.in_err-stepped.ensures.err)
 
 pub returns-clause-plays : goal.returns-clause-plays
 returns-clause-plays g c =
-    c.loop-event.invariant.plays c.loop-event.zones _ (none_left g.D.Disk.tells c.args.sizes.now c.args.events.now c.loop-event.event-index c.loop-event.zones _ c.loop-event-test.false)
+    c.loop-event.invariant.plays c.loop-event.zones _ (none_left g.D.Disk.tells g.D.Disk.honest c.args.sizes.now c.args.events.now c.loop-event.event-index c.loop-event.zones _ c.loop-event-test.false)
 
 pub returns-clause-idle : goal.returns-clause-idle
 returns-clause-idle g c idle =

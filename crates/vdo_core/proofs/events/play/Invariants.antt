@@ -10,9 +10,9 @@ abbrev pub invariant-loop-event : goal.invariant-loop-event
 invariant-loop-event g l = record {
   stays : Stays (g.D.Disk.seen l.fn.disk) (g.D.Disk.seen l.disk);
   plays : (later : List Zone) (seen : Seen)
-      → Plays g.D.Disk.tells l.sizes (drop l.event-index l.events) l.zones later (g.D.Disk.seen l.disk) seen
-      → Plays g.D.Disk.tells l.sizes l.events l.fn.zones later (g.D.Disk.seen l.fn.disk) seen;
-  leads : LeadsTo g.D.Disk.tells l.sizes l.fn.zones l.zones (g.D.Disk.seen l.fn.disk) (g.D.Disk.seen l.disk);
+      → Plays g.D.Disk.tells g.D.Disk.honest l.sizes (drop l.event-index l.events) l.zones later (g.D.Disk.seen l.disk) seen
+      → Plays g.D.Disk.tells g.D.Disk.honest l.sizes l.events l.fn.zones later (g.D.Disk.seen l.fn.disk) seen;
+  leads : LeadsTo g.D.Disk.tells g.D.Disk.honest l.sizes l.fn.zones l.zones (g.D.Disk.seen l.fn.disk) (g.D.Disk.seen l.disk);
   busy : l.any ≡ Did → AllByRecursion (HasNoWork l.sizes l.fn.zones) l.events → ⊥;
   idle : l.any ≡ Idle → AllByRecursion (HasNoWork l.sizes l.fn.zones) (drop l.event-index l.events) → AllByRecursion (HasNoWork l.sizes l.fn.zones) l.events;
   same : l.any ≡ Idle → l.zones ≡ l.fn.zones;

@@ -6,16 +6,16 @@ use Rattle.vdo_core.proofs.events.play_one.Goals as goal
 pub returns-in_ok-step-in-Step-clause-plays : goal.returns-in_ok-step-in-Step-clause-plays
 returns-in_ok-step-in-Step-clause-plays g c =
     let e = c.in_ok-step-in-Step.ensures in
-    rw c.in-Step.is (step_plays g.D.Disk.tells c.args.sizes.now _ c.args.zones.now c.step.new.zones _ _ c.in_ok-step-in-Step.field-0 e.did e.idle e.same e.silent)
+    rw c.in-Step.is (step_plays g.D.Disk.tells g.D.Disk.honest c.args.sizes.now _ c.args.zones.now c.step.new.zones _ _ c.in_ok-step-in-Step.field-0 e.did e.idle e.same e.silent)
 
 pub returns-in_ok-step-in-Step-clause-leads : goal.returns-in_ok-step-in-Step-clause-leads
 returns-in_ok-step-in-Step-clause-leads g c =
-    played_leads g.D.Disk.tells c.args.sizes.now c.args.event c.args.zones.now c.step.new.zones _ _ (returns-in_ok-step-in-Step-clause-plays g c)
+    played_leads g.D.Disk.tells g.D.Disk.honest c.args.sizes.now c.args.event c.args.zones.now c.step.new.zones _ _ (returns-in_ok-step-in-Step-clause-plays g c)
 
 pub returns-in_ok-step-in-Step-clause-busy : goal.returns-in_ok-step-in-Step-clause-busy
 returns-in_ok-step-in-Step-clause-busy g c did =
     let e = c.in_ok-step-in-Step.ensures in
-    rw c.in-Step.is (step_busy g.D.Disk.tells c.args.sizes.now _ c.args.zones.now c.step.new.zones _ _ (e.did did) (e.busy did))
+    rw c.in-Step.is (step_busy g.D.Disk.tells g.D.Disk.honest c.args.sizes.now _ c.args.zones.now c.step.new.zones _ _ (e.did did) (e.busy did))
 
 pub returns-in_ok-step-in-Step-clause-idle : goal.returns-in_ok-step-in-Step-clause-idle
 returns-in_ok-step-in-Step-clause-idle g c idle = rw c.in-Step.is (c.in_ok-step-in-Step.ensures.idle idle)
@@ -23,11 +23,11 @@ returns-in_ok-step-in-Step-clause-idle g c idle = rw c.in-Step.is (c.in_ok-step-
 pub returns-in_ok-move_items-in-Move-clause-plays : goal.returns-in_ok-move_items-in-Move-clause-plays
 returns-in_ok-move_items-in-Move-clause-plays g c =
     let e = c.in_ok-move_items-in-Move.ensures in
-    rw c.in-Move.is (move_plays g.D.Disk.tells c.args.sizes.now _ _ c.args.zones.now c.move_items.new.zones _ c.in_ok-move_items-in-Move.field-0 e.did e.idle e.same)
+    rw c.in-Move.is (move_plays g.D.Disk.tells g.D.Disk.honest c.args.sizes.now _ _ c.args.zones.now c.move_items.new.zones _ c.in_ok-move_items-in-Move.field-0 e.did e.idle e.same)
 
 pub returns-in_ok-move_items-in-Move-clause-leads : goal.returns-in_ok-move_items-in-Move-clause-leads
 returns-in_ok-move_items-in-Move-clause-leads g c =
-    played_leads g.D.Disk.tells c.args.sizes.now c.args.event c.args.zones.now c.move_items.new.zones _ _ (returns-in_ok-move_items-in-Move-clause-plays g c)
+    played_leads g.D.Disk.tells g.D.Disk.honest c.args.sizes.now c.args.event c.args.zones.now c.move_items.new.zones _ _ (returns-in_ok-move_items-in-Move-clause-plays g c)
 
 pub returns-in_ok-move_items-in-Move-clause-busy : goal.returns-in_ok-move_items-in-Move-clause-busy
 returns-in_ok-move_items-in-Move-clause-busy g c did = rw c.in-Move.is (c.in_ok-move_items-in-Move.ensures.busy did)

@@ -10,14 +10,14 @@ use Rattle.vdo_core.proofs.stepping.step_zone.Goals as goal
 pub returns-in_ok-deliver-in-Some-clause-did : goal.returns-in_ok-deliver-in-Some-clause-did
 returns-in_ok-deliver-in-Some-clause-did g c did =
     let counts = c.has_steps_left.ensures.yes c.if-not-has_steps_left.false in
-    stepped g.D.Disk.tells c.args.sizes.now c.args.zone.now c.deliver.new.zone c.act.new.keeps c.in-Some.item c.pop.new.self c.act.new.posts _ _
+    stepped g.D.Disk.tells g.D.Disk.honest c.args.sizes.now c.args.zone.now c.deliver.new.zone c.act.new.keeps c.in-Some.item c.pop.new.self c.act.new.posts _ _
     counts c.in-Some.ensures.some c.in_ok-act-in-Some.ensures.acts c.in_ok-deliver-in-Some.ensures.ok
 
 pub returns-in_ok-deliver-in-None-clause-did : goal.returns-in_ok-deliver-in-None-clause-did
 returns-in_ok-deliver-in-None-clause-did g c did =
     let acts = c.in_ok-begun-in-None.ensures.begun c.if-not-begun.false in
     let counts = c.has_steps_left.ensures.yes c.if-not-has_steps_left.false in
-    begun g.D.Disk.tells c.args.sizes.now c.args.zone.now c.deliver-in-None.new.zone c.begin.new.keeps c.pop.new.self c.begin.new.posts _
+    begun g.D.Disk.tells g.D.Disk.honest c.args.sizes.now c.args.zone.now c.deliver-in-None.new.zone c.begin.new.keeps c.pop.new.self c.begin.new.posts _
     counts c.in-None.ensures.none.0 c.in-None.ensures.none.1 acts c.in_ok-deliver-in-None.ensures.ok
 
 pub returns-in_err-act-in-Some-clause-err : goal.returns-in_err-act-in-Some-clause-err

@@ -9,7 +9,7 @@ unreachable-requires g c = none_fails_here c.self.inside.sizes c.self.inside.zon
 
 pub invariant_of-self : goal.invariant_of-self
 invariant_of-self g c =
-    reached_on c.self.inside.sizes c.self.inside.zones c.self.invariant g.D.Disk.tells c.play_one.new.zones (g.D.Disk.seen c.args.device.now) (g.D.Disk.seen c.play_one.new.disk) c.in-Ok.ensures.leads
+    reached_on c.self.inside.sizes c.self.inside.zones c.self.invariant g.D.Disk.tells g.D.Disk.honest c.play_one.new.zones (g.D.Disk.seen c.args.device.now) (g.D.Disk.seen c.play_one.new.disk) c.in-Ok.ensures.leads
 
 pub returns-clause-idle : goal.returns-clause-idle
 returns-clause-idle g c idle = rw (← c.self.view_is) (c.in-Ok.ensures.idle idle)
