@@ -13,6 +13,6 @@ pub mod StreamLaws
 pub mod ScriptLaws
 pub mod ScriptRows
 pub mod WholeRows
-pub mod NoteRows
+pub mod AnswerRoomRows
 pub mod WorkloadLaws
 pub mod WorkloadRows

@@ -5,7 +5,7 @@ pub mod Facts
 pub mod Runs
 pub mod Texts
 pub mod Puts
-pub mod Notes
+pub mod AnswerRooms
 pub mod LineFaults
 pub mod LineWords
 pub mod RunParts

@@ -10,6 +10,7 @@ use Rattle.vdo_model.specs.declared.report.Placed.{Placed}
 use Rattle.vdo_model.specs.Scripts.{Script, stream_of}
 use Rattle.vdo_model.specs.DeskLog.{answer_of}
 use Rattle.vdo_model.specs.Places.{place_of}
+pub use Rattle.answer_notes.specs.Notes.{writer}
 use Rattle.stream_text.specs.Runs.{runs_of, runs_text}
 
 -- what was asked for
@@ -40,10 +41,6 @@ abbrev pub line_text : Writer → Request → Option Reply → Option Placed →
 line_text w request (Some answer) place =
     decimal w.stream ++ codes " " ++ decimal w.number ++ codes " " ++ request_text request ++ codes " " ++ answer_text answer ++ place_text place ++ codes "\n"
 line_text w request None place = []
-
--- the name of a request
-abbrev pub writer : ℕ → ℕ → Writer
-writer stream number = record { stream = stream; number = number }
 
 -- the lines of a stream's requests, the first of which has this number
 abbrev pub stream_text : List DeskLine → List Placed → ℕ → ℕ → List Request → List ℕ

@@ -2,12 +2,13 @@ ghost use Rattle.std.specs.Prelude.{◌≡◌, ◌<◌, ◌≤◌, ◌++◌, Non
 ghost use Rattle.disk_model.specs.Causes.{HasCause};
 ghost use Rattle.vdo_model.specs.DeskLog.{answer_of};
 ghost use Rattle.vdo_model.specs.Places.{place_of};
-ghost use Rattle.stream_text.specs.Notes.{NotesAnswer, NotesAnswers, NotesPlaces, HasRoomFor};
+ghost use Rattle.answer_notes.specs.Notes.{NotesAnswer, NotesAnswers, NotesPlaces};
+ghost use Rattle.stream_text.specs.AnswerRooms.{HasRoomFor};
 ghost use Rattle.stream_text.specs.Puts.{PutsPart};
 ghost use Rattle.stream_text.specs.Texts.{line_text, stream_text, answers_text, writer};
 
 use crate::answers::put_line;
-use crate::notes::{note_answers, note_places};
+use answer_notes::{note_answers, note_places};
 use blk_base::Request;
 use disk_model::{Failed, Sink};
 use std::alloc::{AllocError, Global};

@@ -9,7 +9,6 @@ mod cuts;
 mod drawing;
 mod fault;
 mod indexed;
-mod notes;
 mod numbers;
 mod puts;
 mod reading;

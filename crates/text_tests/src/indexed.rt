@@ -1,5 +1,6 @@
 //! The answers of several streams, put where they stand.
 use crate::shared::first_other;
+use answer_notes::{note_answers, note_places};
 use blk_base::{Answer, Block, Lba, Request, Writer};
 use disk_model::{Failed, MemSink};
 use std::alloc::{AllocError, Global};
@@ -112,6 +113,29 @@ fn answers_of_streams_are_put(rt: HostRuntime) -> Result<(), Fail> {
     assert_eq!(rt;
         [whole, same, cut],
         [(Ok(()), None), (Ok(()), None), (Err(Failed), None)]
+    );
+    Ok(())
+}
+
+#[test]
+fn newest_answers_and_places_are_noted(rt: HostRuntime) -> Result<(), Fail> {
+    let mut answers = [None; 3];
+    note_answers(desk_lines(rt.alloc())?.as_slice(), 0, &mut answers);
+    let mut drawn = [None; 3];
+    note_places(places(rt.alloc())?.as_slice(), 0, &mut drawn);
+    let first = Placed {
+        request: name(0, 0),
+        zone: 1,
+        place: 70_000,
+    };
+    let second = Placed {
+        request: name(0, 1),
+        zone: 1,
+        place: 3,
+    };
+    assert_eq!(rt;
+        (answers, drawn),
+        ([Some(11), Some(5), None], [Some(first), Some(second), None])
     );
     Ok(())
 }

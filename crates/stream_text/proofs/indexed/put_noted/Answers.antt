@@ -1,6 +1,6 @@
 use Rattle.stream_text.specs.Texts.{writer}
 use Rattle.std.specs.Prelude.{reverse}
-use Rattle.stream_text.proofs.NoteLaws.{noted_answer}
+use Rattle.answer_notes.proofs.NoteLaws.{noted_answer}
 use Rattle.stream_text.proofs.indexed.put_noted.Goals as goal
 
 pub returns-clause-err : goal.returns-clause-err

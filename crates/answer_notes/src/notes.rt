@@ -1,5 +1,5 @@
 ghost use Rattle.std.specs.Prelude.{◌≡◌, Some, length, reverse, slice_set};
-ghost use Rattle.stream_text.specs.Notes.{NotesAnswers, NotesPlaces};
+ghost use Rattle.answer_notes.specs.Notes.{NotesAnswers, NotesPlaces};
 
 use vdo_model::{DeskLine, Placed};
 
@@ -14,7 +14,7 @@ fn note<T: Copy>(notes: &mut [Option<T>], number: u32, item: T)
 }
 
 /// Notes for each request of a stream that there is room for which line is its newest answer.
-pub(crate) fn note_answers(desk: &[DeskLine], stream: u8, notes: &mut [Option<usize>])
+pub fn note_answers(desk: &[DeskLine], stream: u8, notes: &mut [Option<usize>])
     ensures length { length notes.new ≡ length notes.old }
     ensures notes { NotesAnswers desk.now (reverse desk.now) stream notes.new }
 {
@@ -32,7 +32,7 @@ pub(crate) fn note_answers(desk: &[DeskLine], stream: u8, notes: &mut [Option<us
 }
 
 /// Notes for each request of a stream that there is room for its place.
-pub(crate) fn note_places(places: &[Placed], stream: u8, notes: &mut [Option<Placed>])
+pub fn note_places(places: &[Placed], stream: u8, notes: &mut [Option<Placed>])
     ensures length { length notes.new ≡ length notes.old }
     ensures notes { NotesPlaces (reverse places.now) stream notes.new }
 {

@@ -1,6 +1,6 @@
 use Rattle.std.proofs.Common.{◌≡◌, length, take, reverse}
-use Rattle.stream_text.specs.Notes.{NotesPlaces}
-use Rattle.stream_text.proofs.notes.note_places.Given as goal
+use Rattle.answer_notes.specs.Notes.{NotesPlaces}
+use Rattle.answer_notes.proofs.notes.note_places.Given as goal
 
 abbrev pub invariant-loop-placed : goal.invariant-loop-placed
 invariant-loop-placed l = record {

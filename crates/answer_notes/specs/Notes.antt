@@ -1,14 +1,16 @@
 -- Where the answers of one stream's requests stand, so that each is found and not searched.
-use Rattle.std.specs.Prelude.{ℕ, ◌≡◌, ◌<◌, ◌≤◌, List, length, get_or, slice_get, Option, Some, None}
+use Rattle.std.specs.Prelude.{ℕ, ◌≡◌, ◌<◌, List, length, get_or, slice_get, Option, Some, None}
 use Rattle.blk_base.specs.declared.request.Answer.{Answer as Reply}
 use Rattle.blk_base.specs.declared.request.Writer.{Writer}
 use Rattle.vdo_model.specs.declared.report.DeskLine.{DeskLine}
 use Rattle.vdo_model.specs.declared.report.DeskLine.TheVariants.{Answer}
 use Rattle.vdo_model.specs.declared.report.Placed.{Placed}
-use Rattle.vdo_model.specs.Scripts.{Script, stream_of}
 use Rattle.vdo_model.specs.DeskLog.{answer_of}
 use Rattle.vdo_model.specs.Places.{place_of}
-use Rattle.stream_text.specs.Texts.{writer}
+
+-- the name of a request
+abbrev pub writer : ℕ → ℕ → Writer
+writer stream number = record { stream = stream; number = number }
 
 -- the line of this number, from 0, answers a request, and nothing answers it later
 pub record IsNewestAnswer (lines older : List DeskLine) (w : Writer) (at : ℕ) : Type 0 where
@@ -29,7 +31,3 @@ NotesAnswers lines older stream notes = (n : ℕ) → n < length notes → Notes
 -- each request of a stream has its place noted
 abbrev pub NotesPlaces : List Placed → ℕ → List (Option Placed) → Type 0
 NotesPlaces older stream notes = (n : ℕ) → n < length notes → get_or notes n None ≡ place_of older (writer stream n)
-
--- none of the streams 0 to 15 has more requests than this
-abbrev pub HasRoomFor : ℕ → Script → Type 0
-HasRoomFor room script = (stream : ℕ) → stream < 16 → length (stream_of script stream) ≤ room

@@ -1,9 +1,9 @@
 use Rattle.std.proofs.Common.{◌∙◌, sym, subst, reverse, take, List}
 use Rattle.vdo_model.specs.declared.report.DeskLine.{DeskLine}
-use Rattle.stream_text.specs.Notes.{NotesAnswers}
-use Rattle.stream_text.proofs.NoteLaws.{one_more, line_there, step-begin, step-other, step-answer}
-use Rattle.stream_text.proofs.notes.note_answers.Goals.{in-Begin, in-Answer+then-request-stream, in-Answer+else-request-stream}
-use Rattle.stream_text.proofs.notes.note_answers.Goals as goal
+use Rattle.answer_notes.specs.Notes.{NotesAnswers}
+use Rattle.answer_notes.proofs.NoteLaws.{one_more, line_there, step-begin, step-other, step-answer}
+use Rattle.answer_notes.proofs.notes.note_answers.Goals.{in-Begin, in-Answer+then-request-stream, in-Answer+else-request-stream}
+use Rattle.answer_notes.proofs.notes.note_answers.Goals as goal
 
 pub loop-at-preserved : goal.loop-at-preserved
 loop-at-preserved c =

@@ -1,8 +1,8 @@
 use Rattle.std.proofs.Common.{◌∙◌}
 use Rattle.vdo_model.specs.declared.report.Placed.{Placed}
-use Rattle.stream_text.proofs.NoteLaws.{step-placed, step-passed}
-use Rattle.stream_text.proofs.notes.note_places.Goals.{then-placed-stream, else-placed-stream}
-use Rattle.stream_text.proofs.notes.note_places.Goals as goal
+use Rattle.answer_notes.proofs.NoteLaws.{step-placed, step-passed}
+use Rattle.answer_notes.proofs.notes.note_places.Goals.{then-placed-stream, else-placed-stream}
+use Rattle.answer_notes.proofs.notes.note_places.Goals as goal
 
 -- what a read past the end would give
 abbrev none : Placed

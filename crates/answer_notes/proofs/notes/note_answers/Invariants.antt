@@ -1,6 +1,6 @@
 use Rattle.std.proofs.Common.{◌≡◌, length, take, reverse}
-use Rattle.stream_text.specs.Notes.{NotesAnswers}
-use Rattle.stream_text.proofs.notes.note_answers.Given as goal
+use Rattle.answer_notes.specs.Notes.{NotesAnswers}
+use Rattle.answer_notes.proofs.notes.note_answers.Given as goal
 
 abbrev pub invariant-loop-at : goal.invariant-loop-at
 invariant-loop-at l = record {

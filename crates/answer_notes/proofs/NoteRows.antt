@@ -1,12 +1,10 @@
 -- Notes of answers and places: for each clause a note that it takes and one that it refuses.
-use Rattle.std.proofs.Common.{ℕ, zero, suc, ◌≡◌, ◌<◌, List, [], ◌∷◌, Some, None, refl, arith}
+use Rattle.std.proofs.Common.{zero, suc, List, [], ◌∷◌, Some, None, refl, arith}
 use Rattle.blk_base.specs.declared.request.Answer.TheVariants as reply
-use Rattle.blk_base.specs.declared.request.Request.TheVariants.{Flush}
 use Rattle.vdo_model.specs.declared.report.DeskLine.{DeskLine}
 use Rattle.vdo_model.specs.declared.report.DeskLine.TheVariants.{Begin, Answer}
 use Rattle.vdo_model.specs.declared.report.Placed.{Placed}
-use Rattle.stream_text.specs.Texts.{writer}
-use Rattle.stream_text.specs.Notes.{IsNewestAnswer, NotesAnswer, NotesAnswers, NotesPlaces, HasRoomFor}
+use Rattle.answer_notes.specs.Notes.{IsNewestAnswer, NotesAnswer, NotesAnswers, NotesPlaces, writer}
 
 -- request 0 is begun, answered Stopped and answered Ok; request 1 has no answer
 abbrev lines : List DeskLine
@@ -57,10 +55,3 @@ place_noted (suc (suc n)) within = absurd (omega arith)
 
 place_missed : NotesPlaces (placed ∷ []) 3 (None ∷ []) → ⊥
 place_missed notes = absurd (let place = notes 0 (omega arith) in cc)
-
-room_enough : HasRoomFor 1 ((Flush ∷ []) ∷ [])
-room_enough zero within = omega arith
-room_enough (suc stream) within = omega arith
-
-room_short : HasRoomFor 1 ([] ∷ (Flush ∷ Flush ∷ []) ∷ []) → ⊥
-room_short room = absurd (let fits = room 1 (omega arith) in omega (arith, fits))

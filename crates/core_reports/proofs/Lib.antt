@@ -1,0 +1,4 @@
+pub mod ListingLaws
+pub mod FoundLaws
+pub mod ReportLaws
+pub mod ReportRows

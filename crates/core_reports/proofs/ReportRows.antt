@@ -1,0 +1,176 @@
+-- What the zones of a small core have of its report, and the requests that are found: each clause met, and broken alone.
+use Rattle.std.proofs.Common.{ℕ, zero, suc, ◌≡◌, false, Some, None, List, [], ◌∷◌, replicate, slice_get, sym, ap, ◌∙◌, refl, arith}
+use Rattle.std.proofs.lemmas.List.{length-replicate}
+use Rattle.std.proofs.lemmas.Option.{same_Some}
+use Rattle.std.specs.List.{AllByRecursion}
+use Rattle.plain_laws.proofs.ListLaws.{every-get}
+use Rattle.blk_base.specs.declared.request.Answer.TheVariants as reply
+use Rattle.blk_base.specs.declared.request.Request.TheVariants.{Flush}
+use Rattle.blk_base.specs.declared.request.Writer.{Writer}
+use Rattle.vdo_model.specs.declared.report.DeskLine.{DeskLine}
+use Rattle.vdo_model.specs.declared.report.DeskLine.TheVariants.{Begin, Answer}
+use Rattle.vdo_model.specs.declared.report.Placed.{Placed}
+use Rattle.vdo_model.specs.Histories.{Progress}
+use Rattle.core_model.specs.DeskData.{Desk}
+use Rattle.core_model.specs.Reports.{is_there}
+use Rattle.core_model.specs.Trace.{logged_of}
+use Rattle.core_model.specs.declared.zones.JournalZone.{JournalZone}
+use Rattle.core_model.specs.declared.zones.Logged.{Logged}
+use Rattle.core_model.specs.declared.zones.Zone.{Zone}
+use Rattle.core_model.specs.declared.zones.ZoneData.{ZoneData}
+use Rattle.core_model.specs.declared.zones.ZoneData.TheVariants as at
+use Rattle.core_model.proofs.rows.PhaseRows.{desk, device, journal, logical, physical}
+use Rattle.core_model.proofs.rows.WorkedTraces.{first, of_first, other, place, script, second, writer}
+use Rattle.core_reports.specs.Found.{AreFound, AreNoted, IsFound}
+use Rattle.core_reports.specs.Listed.{HasDesk, HasEntered, places_at, places_of_all}
+use Rattle.core_reports.specs.Rooms.{IsRoomFor}
+
+-- room: for one request of stream 0 and two of stream 1, and too little for stream 1
+room_enough : IsRoomFor (1 ∷ 2 ∷ []) ((Flush ∷ []) ∷ (Flush ∷ Flush ∷ []) ∷ [])
+room_enough zero within = omega arith
+room_enough (suc zero) within = omega arith
+room_enough (suc (suc stream)) within = omega arith
+
+room_short : IsRoomFor (2 ∷ 1 ∷ []) ((Flush ∷ []) ∷ (Flush ∷ Flush ∷ []) ∷ []) → ⊥
+room_short is = absurd (let fits = is 1 (omega arith) in omega (arith, fits))
+
+abbrev zone : ℕ → ZoneData → Zone
+zone number keeps = record { number = number; steps = 0; keeps = keeps; inbox = []; outboxes = [] }
+
+-- two places were drawn in the first logical zone, one in the second; one entry was handed in
+abbrev near : List Placed
+near = place second 0 1 ∷ place first 0 0 ∷ []
+
+abbrev far : List Placed
+far = place other 1 0 ∷ []
+
+abbrev front : Zone
+front = zone 0 (desk [] [] 0 [])
+
+abbrev of_journal : List Logged → Zone
+of_journal entries = zone 4 (journal false [] entries [])
+
+abbrev zones : List Zone
+zones = front ∷ zone 1 (logical 2 near [] [] [] []) ∷ zone 2 (logical 1 far [] [] [] []) ∷ zone 3 (physical []) ∷ of_journal (of_first ∷ []) ∷ zone 5 (device false 0) ∷ []
+
+-- a logical zone alone has places
+places_at_logical : places_at (logical 2 near [] [] [] []) ≡ near
+places_at_logical = refl
+
+places_at_desk : places_at (desk [] [] 0 []) ≡ []
+places_at_desk = refl
+
+places_at_journal : places_at (journal false [] (of_first ∷ []) []) ≡ []
+places_at_journal = refl
+
+-- those of the second zone stand before those of the first one, which are older
+all_places : places_of_all zones ≡ place other 1 0 ∷ place second 0 1 ∷ place first 0 0 ∷ []
+all_places = refl
+
+-- the desk
+abbrev data_of : ℕ → Desk
+data_of notices = record { requests = script; log = []; marks = []; notices = notices; parked = [] }
+
+desk_there : HasDesk (data_of 0) zones
+desk_there = record { zone = front; had = refl; keeps = refl }
+
+abbrev notices_at : ZoneData → ℕ
+notices_at (at.Desk d) = d.notices
+notices_at kept = 0
+
+-- had: there is none; keeps: it keeps something else
+no_desk : HasDesk (data_of 0) [] → ⊥
+no_desk is = absurd (let had = is.had in cc)
+
+other_desk : HasDesk (data_of 1) zones → ⊥
+other_desk is =
+    let same : front ≡ is.zone = same_Some _ _ is.had in
+    let count : 0 ≡ 1 = ap (λ (z : Zone). notices_at z.keeps) same ∙ ap notices_at is.keeps in
+    absurd (omega (arith, count))
+
+-- the journal
+abbrev Enters : List Logged → Zone → Type 0
+Enters entries z = (j : JournalZone) → z.keeps ≡ at.Journal j → j.entered ≡ entries
+
+abbrev entered_at : ZoneData → List Logged
+entered_at (at.Journal j) = j.entered
+entered_at kept = []
+
+all_enter : AllByRecursion (Enters (of_first ∷ [])) zones
+all_enter =
+    ((λ j is. absurd cc), ((λ j is. absurd cc), ((λ j is. absurd cc), ((λ j is. absurd cc), ((λ j is. ap entered_at (sym is)), ((λ j is. absurd cc), tt))))))
+
+entered_there : HasEntered (of_first ∷ []) zones
+entered_there = record {
+  number = 4;
+  zone = of_journal (of_first ∷ []);
+  journal = record { notified = false; busy = false; broken = false; waiting = []; entered = of_first ∷ []; committed = [] };
+  had = refl;
+  keeps = refl;
+  each = λ n z j had keeps. every-get (Enters (of_first ∷ [])) zones n z all_enter had j keeps;
+}
+
+-- had, keeps: there is none; each: there are two, and one of them has handed in nothing
+only_desk : (n : ℕ) (z : Zone) (j : JournalZone) → slice_get (front ∷ []) n ≡ Some z → z.keeps ≡ at.Journal j → ⊥
+only_desk zero z j had keeps =
+    let same : desk [] [] 0 [] ≡ at.Journal j = ap (λ (y : Zone). y.keeps) (same_Some _ _ had) ∙ keeps in
+    cc
+only_desk (suc n) z j had keeps = cc
+
+no_journal : HasEntered (of_first ∷ []) [] → ⊥
+no_journal is = absurd (let had = is.had in cc)
+
+desk_is_none : HasEntered (of_first ∷ []) (front ∷ []) → ⊥
+desk_is_none is = only_desk is.number is.zone is.journal is.had is.keeps
+
+two_journals : HasEntered (of_first ∷ []) (of_journal (of_first ∷ []) ∷ of_journal [] ∷ []) → ⊥
+two_journals is = absurd (let none = is.each 1 (of_journal []) _ refl refl in cc)
+
+-- notes: request 0 of stream 0 is answered by line 1
+abbrev answered : Writer → List DeskLine
+answered w = Answer w reply.Stopped ∷ Begin w ∷ []
+
+abbrev lines : List DeskLine
+lines = Begin first ∷ Answer first reply.Stopped ∷ []
+
+are_noted : AreNoted lines ((Some 1 ∷ None ∷ []) ∷ [])
+are_noted zero below zero within = record { by = first; answer = reply.Stopped; there = refl; newest = refl }
+are_noted zero below (suc zero) within = refl
+are_noted zero below (suc (suc n)) within = absurd (omega arith)
+are_noted (suc stream) below n within = absurd (omega arith)
+
+not_noted : AreNoted lines ((None ∷ []) ∷ []) → ⊥
+not_noted notes = absurd (let none = notes 0 (omega arith) 0 (omega arith) in cc)
+
+is_found : IsFound (answered first) (1 ∷ []) first
+is_found = record { stream = omega arith; number = omega arith; answered = refl }
+
+-- stream: there are streams 0 to 15; number: there is room for one request; answered: it isn't
+late_stream : IsFound (answered (writer 16 0)) (replicate 17 1) (writer 16 0) → ⊥
+late_stream is = absurd (omega (arith, is.stream))
+
+late_number : IsFound (answered (writer 0 1)) (1 ∷ []) (writer 0 1) → ⊥
+late_number is = absurd (omega (arith, is.number))
+
+unanswered : IsFound (Begin first ∷ []) (1 ∷ []) first → ⊥
+unanswered is = absurd (let some = is.answered in cc)
+
+-- how far each write has come: the first one's entry was handed in
+abbrev progress : Progress
+progress = record { is_set = λ w. false; is_handed = λ w. is_there (logged_of (of_first ∷ []) w) }
+
+abbrev drawn : Placed
+drawn = place first 0 0
+
+are_found : AreFound (answered first) (1 ∷ []) (of_first ∷ []) progress (drawn ∷ [])
+are_found = record { few = omega arith; handed = λ w. refl; found = (is_found, tt) }
+
+-- few: one place more than there may be requests; handed: another entry was; found: the request isn't answered
+too_many : AreFound (answered first) (1 ∷ []) (of_first ∷ []) progress (replicate 65537 drawn) → ⊥
+too_many is = absurd (omega (arith, is.few, length-replicate 65537 drawn))
+
+other_handed : AreFound (answered first) (1 ∷ []) [] progress (drawn ∷ []) → ⊥
+other_handed is = absurd (let handed = is.handed first in cc)
+
+not_found : AreFound (Begin first ∷ []) (1 ∷ []) (of_first ∷ []) progress (drawn ∷ []) → ⊥
+not_found is = unanswered is.found.0

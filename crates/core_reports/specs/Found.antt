@@ -1,0 +1,30 @@
+-- The answers of a core's requests, found by notes.
+use Rattle.std.specs.Prelude.{ℕ, ◌≡◌, ◌<◌, ◌≤◌, IsSome, List, [], Option, length, get_or, reverse}
+use Rattle.std.specs.List.{AllByRecursion}
+use Rattle.blk_base.specs.declared.request.Writer.{Writer}
+use Rattle.answer_notes.specs.Notes.{NotesAnswers}
+use Rattle.vdo_model.specs.declared.report.DeskLine.{DeskLine}
+use Rattle.vdo_model.specs.declared.report.Placed.{Placed}
+use Rattle.vdo_model.specs.DeskLog.{answer_of}
+use Rattle.vdo_model.specs.Histories.{Progress}
+use Rattle.core_model.specs.Reports.{is_there}
+use Rattle.core_model.specs.SessionLimits.{most_requests, most_streams}
+use Rattle.core_model.specs.Trace.{logged_of}
+use Rattle.core_model.specs.declared.zones.Logged.{Logged}
+
+-- each stream's answers among these lines are noted
+abbrev pub AreNoted : List DeskLine → List (List (Option ℕ)) → Type 0
+AreNoted lines notes = (stream : ℕ) → stream < most_streams → NotesAnswers lines (reverse lines) stream (get_or notes stream [])
+
+-- a request that is answered, where there is room to note so many answers of each stream
+pub record IsFound (log : List DeskLine) (room : List ℕ) (w : Writer) : Type 0 where
+  pub stream : w.stream < most_streams
+  pub number : w.number < get_or room w.stream 0
+  pub answered : IsSome (answer_of log w)
+
+-- places that are no more than a session has requests, each of a request whose answer is found; and how far a write has
+-- come is said by the entries that were handed in
+pub record AreFound (log : List DeskLine) (room : List ℕ) (entries : List Logged) (progress : Progress) (places : List Placed) : Type 0 where
+  pub few : length places ≤ most_requests
+  pub handed : (w : Writer) → progress.is_handed w ≡ is_there (logged_of entries w)
+  pub found : AllByRecursion (λ p. IsFound log room p.request) places

@@ -1,0 +1,3 @@
+pub mod Rooms
+pub mod Listed
+pub mod Found

@@ -1,0 +1,35 @@
+-- What the zones of a core have of its report.
+use Rattle.std.specs.Prelude.{ℕ, ◌≡◌, List, [], ◌∷◌, ◌++◌, Some, slice_get}
+use Rattle.vdo_model.specs.declared.report.Placed.{Placed}
+use Rattle.core_model.specs.DeskData.{Desk}
+use Rattle.core_model.specs.Zones.{desk_zone}
+use Rattle.core_model.specs.declared.zones.JournalZone.{JournalZone}
+use Rattle.core_model.specs.declared.zones.Logged.{Logged}
+use Rattle.core_model.specs.declared.zones.Zone.{Zone}
+use Rattle.core_model.specs.declared.zones.ZoneData.{ZoneData}
+use Rattle.core_model.specs.declared.zones.ZoneData.TheVariants as at
+
+-- the places that a zone drew
+abbrev pub places_at : ZoneData → List Placed
+places_at (at.Logical l) = l.places
+places_at other = []
+
+-- those of all zones, one zone's list behind the other's; that of the first zone is the oldest
+abbrev pub places_of_all : List Zone → List Placed
+places_of_all [] = []
+places_of_all (z ∷ zones) = places_of_all zones ++ places_at z.keeps
+
+-- the desk is the first zone, and keeps this
+pub record HasDesk (desk : Desk) (zones : List Zone) : Type 0 where
+  pub zone : Zone
+  pub had : slice_get zones desk_zone ≡ Some zone
+  pub keeps : zone.keeps ≡ at.Desk desk
+
+-- there is a journal, and each that is there has handed in these entries
+pub record HasEntered (entries : List Logged) (zones : List Zone) : Type 0 where
+  pub number : ℕ
+  pub zone : Zone
+  pub journal : JournalZone
+  pub had : slice_get zones number ≡ Some zone
+  pub keeps : zone.keeps ≡ at.Journal journal
+  pub each : (n : ℕ) (z : Zone) (j : JournalZone) → slice_get zones n ≡ Some z → z.keeps ≡ at.Journal j → j.entered ≡ entries

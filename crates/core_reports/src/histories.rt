@@ -1,0 +1,101 @@
+ghost use Rattle.std.specs.Prelude.{◌≡◌, ◌<◌, ◌++◌, List, [], ◌∷◌, IfNone, IfSome, length, map, reverse};
+ghost use Rattle.vdo_model.specs.DeskLog.{answer_of};
+ghost use Rattle.vdo_model.specs.Histories.{Progress, entry_of, histories_of, mark_of};
+ghost use Rattle.vdo_model.specs.Scripts.{request_at};
+ghost use Rattle.vdo_model.specs.declared.report.Mark.{Mark as Marked};
+ghost use Rattle.core_model.specs.DeskData.{Desk as DeskData};
+ghost use Rattle.core_model.specs.Reports.{is_there};
+ghost use Rattle.core_model.specs.Trace.{logged_of};
+ghost use Rattle.core_model.specs.declared.zones.Logged.{Logged as Entered};
+ghost use Rattle.core_reports.specs.Found.{AreFound, AreNoted, IsFound};
+ghost use Rattle.core_reports.specs.Listed.{HasDesk, HasEntered};
+
+use crate::listing::entries;
+use crate::marks::mark;
+use crate::notes::{StreamNotes, note_streams, noted_line};
+use blk_base::{Lba, Request, Writer};
+use core_model::{Logged, REQUEST_ROOM, Register, Zone, ZoneData};
+use vdo_model::{DeskLine, HistoryEntry, Placed, Requests};
+
+// The address that a request changes, where it is a write or a discard.
+fn changed(requests: &Requests, request: Writer) -> Option<Lba>
+    ensures some { IfSome result (λ at. (mark : Marked) → entry_of (request_at requests.now request) request mark ≡ record { at = at; request = request; mark = mark } ∷ []) }
+    ensures none { IfNone result ((mark : Marked) → entry_of (request_at requests.now request) request mark ≡ []) }
+{
+    match requests.stream(request.stream).get(request.number as usize) {
+        Some(Request::Write { at, .. } | Request::Discard(at)) => Some(*at),
+        Some(Request::Read(_) | Request::Flush) | None => None,
+    }
+}
+
+// Adds what a request that has a place adds to the histories, while there is room for it.
+fn add_entry(
+    requests: &Requests,
+    desk: &[DeskLine],
+    notes: &[StreamNotes],
+    entries: &[Logged],
+    request: Writer,
+    histories: &mut Register<HistoryEntry, REQUEST_ROOM>,
+)
+    ensures { (progress : Progress) → progress.is_handed request ≡ is_there (logged_of (reverse entries.now) request) → AreNoted desk.now notes.now
+        → IsFound (reverse desk.now) (map length notes.now) request → length histories.old < REQUEST_ROOM
+        → histories.new ≡ entry_of (request_at requests.now request) request (mark_of (answer_of (reverse desk.now) request) (progress.is_set request) (progress.is_handed request)) ++ histories.old }
+{
+    let Some(at) = changed(requests, request) else {
+        return;
+    };
+    if histories.len() < REQUEST_ROOM {
+        let mark = mark(desk, noted_line(notes, request), entries, request);
+        histories.push(HistoryEntry { at, request, mark });
+    }
+}
+
+// Adds what the requests of these places add to the histories, in the order of the places.
+fn add_entries(
+    requests: &Requests,
+    desk: &[DeskLine],
+    notes: &[StreamNotes],
+    entries: &[Logged],
+    places: &[Placed],
+    histories: &mut Register<HistoryEntry, REQUEST_ROOM>,
+)
+    ensures { (progress : Progress) → histories.old ≡ [] → AreNoted desk.now notes.now
+        → AreFound (reverse desk.now) (map length notes.now) (reverse entries.now) progress (reverse places.now)
+        → histories.new ≡ histories_of requests.now (reverse desk.now) progress (reverse places.now) }
+{
+    for placed in places {
+        add_entry(requests, desk, notes, entries, placed.request, histories);
+    }
+}
+
+/// Lists the histories: the writes and discards among these places, in the order of the places.
+pub(crate) fn list_histories(
+    zones: &[Zone],
+    places: &[Placed],
+    notes: &mut [StreamNotes],
+    histories: &mut Register<HistoryEntry, REQUEST_ROOM>,
+)
+    ensures { (desk : DeskData) (entries : List Entered) (progress : Progress) → HasDesk desk zones.now → HasEntered entries zones.now → histories.old ≡ []
+        → AreFound desk.log (map length notes.old) entries progress (reverse places.now)
+        → histories.new ≡ histories_of desk.requests desk.log progress (reverse places.now) }
+{
+    let Some(zone) = zones.first() else {
+        return;
+    };
+    match &zone.keeps {
+        ZoneData::Desk(desk) => {
+            let lines = desk.lines();
+            note_streams(lines, notes);
+            add_entries(
+                desk.requests(),
+                lines,
+                notes,
+                entries(zones),
+                places,
+                histories,
+            );
+        }
+        ZoneData::Logical(_) | ZoneData::Physical(_) | ZoneData::Journal(_) | ZoneData::Device(_) =>
+            {}
+    }
+}
