@@ -14,10 +14,16 @@ use Rattle.vdo_model.specs.Scripts.{Script}
 use Rattle.plain_laws.proofs.ListLaws.{every-append}
 use Rattle.core_model.specs.declared.sizes.Sizes.{Sizes}
 use Rattle.core_model.specs.declared.zones.Zone.{Zone}
+use Rattle.core_model.specs.declared.zones.ZoneData.{ZoneData}
+use Rattle.core_model.specs.Facts.{DataOk}
+use Rattle.core_model.specs.Legal.{Legal}
 use Rattle.core_model.specs.Sessions.{Session, IsSession}
 use Rattle.core_model.specs.Start.{IsFirst}
+use Rattle.core_model.specs.Trace.{Trace}
+use Rattle.core_model.specs.Zones.{desk_zone}
 use Rattle.core_laws.proofs.kept.FirstState.{legal_first}
 use Rattle.core_laws.proofs.kept.LegalMoves.{legal_leads}
+use Rattle.core_laws.proofs.kept.ZoneKinds.{desk_sits}
 use Rattle.step_parts.specs.declared.fault.StepFault.{StepFault}
 use Rattle.vdo_core.specs.Causes.{OneMayFault}
 use Rattle.vdo_core.specs.Cores.{CanBegin, IsReached}
@@ -89,7 +95,7 @@ module _ (sizes : Sizes) (script : Script) (window : List Entry) (can : CanBegin
   }
 
   -- a first core of it is reached
-  pub first_reached : (zones : List Zone) → IsFirst imagined (core_with zones []) → IsReached sizes zones
+  abbrev pub first_reached : (zones : List Zone) → IsFirst imagined (core_with zones []) → IsReached sizes zones
   first_reached zones first = record {
     session = imagined;
     trace = [];
@@ -100,7 +106,7 @@ module _ (sizes : Sizes) (script : Script) (window : List Entry) (can : CanBegin
 
 -- what is reached leads to what is reached, and nothing fails there
 module _ (sizes : Sizes) (zones : List Zone) (reached : IsReached sizes zones) where
-  pub reached_on : (tells honest : Bool) (later : List Zone) (before after : Seen) → LeadsTo tells honest sizes zones later before after → IsReached sizes later
+  abbrev pub reached_on : (tells honest : Bool) (later : List Zone) (before after : Seen) → LeadsTo tells honest sizes zones later before after → IsReached sizes later
   reached_on tells honest later before after (made, leads, told) = record {
     session = reached.session;
     trace = made ++ reached.trace;
@@ -112,3 +118,11 @@ module _ (sizes : Sizes) (zones : List Zone) (reached : IsReached sizes zones) w
   pub none_fails_here : (fault : StepFault) → OneMayFault sizes zones fault → ⊥
   none_fails_here fault (number, (zone, had, why)) =
       none_fails reached.session (core_with zones reached.trace) number zone fault reached.is_session reached.legal had (rw reached.sizes_are why)
+
+-- a core has one script: that of its desk
+pub one_script : (s s' : Session) (zones : List Zone) (t t' : Trace) → Legal s (core_with zones t) → Legal s' (core_with zones t') → s.script ≡ s'.script
+one_script s s' zones t t' legal legal' =
+    let sits = desk_sits s t zones legal.each legal.count in
+    let own = subst (λ (d : ZoneData). DataOk s t desk_zone d) sits.keeps (legal.each desk_zone sits.zone sits.had).own in
+    let own' = subst (λ (d : ZoneData). DataOk s' t' desk_zone d) sits.keeps (legal'.each desk_zone sits.zone sits.had).own in
+    sym own.sound.requests ∙ own'.sound.requests

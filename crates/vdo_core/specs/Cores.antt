@@ -12,6 +12,7 @@ use Rattle.core_model.specs.Legal.{Legal}
 use Rattle.core_model.specs.SessionLimits.{IsLimited}
 use Rattle.core_model.specs.Sessions.{Session, IsSession, IsServed}
 use Rattle.core_model.specs.Trace.{Trace}
+use Rattle.core_reports.specs.Rooms.{IsRoomFor}
 use Rattle.vdo_core.specs.Plays.{core_with}
 use Rattle.vdo_core.specs.declared.cores.Setup.{Setup}
 
@@ -27,6 +28,11 @@ pub record IsReached (sizes : Sizes) (zones : List Zone) : Type 0 where
   pub sizes_are : session.sizes ≡ sizes
   pub is_session : IsSession session
   pub legal : Legal session (core_with zones trace)
+
+-- and there is room for the report of its script
+pub record IsWhole (sizes : Sizes) (zones : List Zone) (room : List ℕ) : Type 0 where
+  pub reached : IsReached sizes zones
+  pub has_room : IsRoomFor room reached.session.script
 
 -- the sizes of a session over an image with this superblock and so many entries in its window
 abbrev pub sizes_of : Setup → Super → ℕ → Sizes

@@ -1,10 +1,13 @@
 ghost use Rattle.std.specs.Prelude.{◌≡◌, ◌↔◌, [], IfOk, IsTrue, false, length, reverse};
 ghost use Rattle.disk_model.specs.Seen.{Stays};
-ghost use Rattle.core_model.specs.Sessions.{Session};
+ghost use Rattle.core_model.specs.Legal.{Legal};
+ghost use Rattle.core_model.specs.Reports.{report_of};
+ghost use Rattle.core_model.specs.Sessions.{IsSession, Session};
 ghost use Rattle.core_model.specs.Start.{IsFirst};
+ghost use Rattle.core_model.specs.Trace.{Trace};
 ghost use Rattle.step_parts.specs.declared.fault.Stepped.TheVariants.{Did, Idle};
 ghost use Rattle.steps_device.specs.DeviceCalls.{Fits};
-ghost use Rattle.vdo_core.specs.Cores.{CanBegin, IsReached, sizes_of};
+ghost use Rattle.vdo_core.specs.Cores.{CanBegin, IsWhole, sizes_of};
 ghost use Rattle.vdo_core.specs.Done.{IsDone};
 ghost use Rattle.vdo_core.specs.FreeBlocks.{free_of};
 ghost use Rattle.vdo_core.specs.Plays.{HasNoWork, PlaysOne, core_with};
@@ -17,11 +20,12 @@ use crate::work::{is_done, ready};
 use crate::zones::Zones;
 use blk_base::{Entry, Layout, Super};
 use core_model::Sizes;
+use core_reports::{ReportRoom, report};
 use disk_model::Disk;
 use std::alloc::{AllocError, Global};
 use std::marker::Model;
 use step_parts::Stepped;
-use vdo_model::Requests;
+use vdo_model::{Requests, RunReport};
 
 /// How a core is set up.
 #[derive(Clone, Copy, Debug, PartialEq, Eq)]
@@ -38,16 +42,27 @@ pub struct Setup {
 pub struct Core {
     sizes: Sizes,
     zones: Zones,
+    room: ReportRoom,
+}
+
+/// What a core is made of.
+#[derive(Drop)]
+pub struct CoreParts {
+    pub sizes: Sizes,
+    /// The zones, by their numbers.
+    pub zones: Zones,
+    /// Room for the report of the session.
+    pub room: ReportRoom,
 }
 
 impl Model for Core {
-    ghost use Rattle.vdo_core.specs.Cores.{CoreState, IsReached};
+    ghost use Rattle.vdo_core.specs.Cores.{CoreState, IsWhole};
 
     ghost Value = { CoreState };
 
     ghost view = { λ c. record { sizes = c.sizes; zones = c.zones } };
 
-    ghost invariant = { λ c. IsReached c.sizes c.zones };
+    ghost invariant = { λ c. IsWhole c.sizes c.zones c.room };
 }
 
 impl Core {
@@ -75,8 +90,9 @@ impl Core {
         };
         let layout = Layout::of(&head.geometry);
         let free = free_blocks(alloc, &layout, window)?;
+        let room = ReportRoom::with_room_for(alloc, &requests)?;
         let zones = begin(alloc, &sizes, requests, window, free)?;
-        Ok(Core { sizes, zones })
+        Ok(Core { sizes, zones, room })
     }
 
     /// One event: a zone steps, or what it posted to another moves there. It is idle exactly where there is no work for it,
@@ -129,18 +145,36 @@ impl Core {
         self.sizes
     }
 
-    /// The zones, by their numbers.
-    pub fn into_zones(self) -> Zones
-        ensures { result ≡ self.zones }
+    /// The report of the session, where each request is answered. It asks for no memory, and its time is linear in the
+    /// requests. The places of the logical zones stand one zone's behind the other's, in the order of their numbers.
+    pub fn report(self) -> RunReport
+        ensures { (s : Session) (t : Trace) → IsSession s → Legal s (core_with self.zones t) → IsDone self.zones → result ≡ report_of s t }
     {
-        self.zones
+        report(self.zones.into_vec(), self.room)
     }
 
-    /// The core of zones that a session of these sizes came to.
-    pub fn from_zones(sizes: Sizes, zones: Zones) -> Core
-        requires { IsReached sizes zones }
-        ensures { result ≡ record { sizes = sizes; zones = zones } }
+    /// What it is made of.
+    pub fn into_parts(self) -> CoreParts
+        ensures sizes { result.sizes ≡ self.sizes }
+        ensures zones { result.zones ≡ self.zones }
+        ensures whole { IsWhole result.sizes result.zones result.room }
     {
-        Core { sizes, zones }
+        CoreParts {
+            sizes: self.sizes,
+            zones: self.zones,
+            room: self.room,
+        }
+    }
+
+    /// The core that is made of these parts, to which some events of a session lead.
+    pub fn from_parts(parts: CoreParts) -> Core
+        requires { IsWhole parts.sizes parts.zones parts.room }
+        ensures { result ≡ record { sizes = parts.sizes; zones = parts.zones } }
+    {
+        Core {
+            sizes: parts.sizes,
+            zones: parts.zones,
+            room: parts.room,
+        }
     }
 }

@@ -16,7 +16,7 @@ mod stepping;
 mod work;
 mod zones;
 
-pub use cores::{Core, Setup};
+pub use cores::{Core, CoreParts, Setup};
 pub use events::{Event, play, step};
 pub use laws::{a_legal_core_is_done_when_all_are_answered, a_legal_core_never_fails};
 pub use moving::move_items;

@@ -42,4 +42,11 @@ impl Zones {
     {
         &self.zones
     }
+
+    /// The zones.
+    pub(crate) fn into_vec(self) -> Vec<Zone>
+        ensures { result.items ≡ self }
+    {
+        self.zones
+    }
 }

@@ -14,8 +14,10 @@ pub invariant_of-result : goal.invariant_of-result
 invariant_of-result c =
     let sizes = sizes_of c.args.setup.now c.args.head.now (length c.args.window.now) in
     let window = reverse c.args.window.now in
-    first_reached sizes c.args.requests window c.requires c.in_ok-zones.zones
-    (c.in_ok-zones.ensures (imagined sizes c.args.requests window c.requires) (rw (c.in_ok-free.ensures, c.of-layout.ensures) (is_of sizes c.args.requests window c.requires)))
+    record {
+      reached = first_reached sizes c.args.requests window c.requires c.in_ok-zones.zones (c.in_ok-zones.ensures (imagined sizes c.args.requests window c.requires) (rw (c.in_ok-free.ensures, c.of-layout.ensures) (is_of sizes c.args.requests window c.requires)));
+      has_room = c.in_ok-room.ensures;
+    }
 
 pub returns-clause-first : goal.returns-clause-first
 returns-clause-first c s is = c.in_ok-zones.ensures s (rw (c.in_ok-free.ensures, c.of-layout.ensures) is)
