@@ -1,11 +1,11 @@
-mod DoneLaws
-mod FreeLaws
+pub mod DoneLaws
+pub mod FreeLaws
 mod NoStrays
-mod PlayLaws
+pub mod PlayLaws
 mod StartLaws
 mod StrayLaws
 mod ZoneLaws
 mod LaneLaws
 mod NoFaults
-mod SessionLaws
+pub mod SessionLaws
 mod MoveLaws
