@@ -1,7 +1,7 @@
 mod DoneLaws
 mod FreeLaws
 mod NoStrays
-mod PlayLaws
+pub mod PlayLaws
 mod StartLaws
 mod StrayLaws
 mod ZoneLaws
