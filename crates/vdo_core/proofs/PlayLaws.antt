@@ -177,3 +177,9 @@ none_for_none P events n past = subst (AllByRecursion P) (sym (drop_all n events
 -- there is none for one of these, where there is none for any
 pub none_for_one : (P : Event → Type 0) (events : List Event) (n : ℕ) (d : Event) → n < length events → AllByRecursion P events → P (get_or events n d)
 none_for_one P events n d within none = All-from_recursion P events none n d within
+
+-- what a list of events does leads on
+pub plays_lead : (tells honest : Bool) (sizes : Sizes) (events : List Event) (a b : List Zone) (log log' : Seen) → Plays tells honest sizes events a b log log' → LeadsTo tells honest sizes a b log log'
+plays_lead tells honest sizes [] a b log log' (same, silent) = rw (same, silent) (nothing tells honest sizes a log)
+plays_lead tells honest sizes (e ∷ events) a b log log' (between, seen, one, rest) =
+    leads_further tells honest sizes a between b log seen log' (played_leads tells honest sizes e a between log seen one) (plays_lead tells honest sizes events between b seen log' rest)

@@ -1,4 +1,4 @@
-ghost use Rattle.std.specs.Prelude.{◌≡◌, ◌↔◌, [], IfOk, IsTrue, false, length, reverse};
+ghost use Rattle.std.specs.Prelude.{◌≡◌, ◌≤◌, ◌↔◌, [], IfOk, IsTrue, false, length, reverse};
 ghost use Rattle.disk_model.specs.Seen.{Stays};
 ghost use Rattle.core_model.specs.Legal.{Legal};
 ghost use Rattle.core_model.specs.Reports.{report_of};
@@ -133,7 +133,8 @@ impl Core {
 
     /// How many zones there are, 5 to 8.
     pub fn zone_count(&self) -> u32
-        ensures { result ≡ length self.now.zones }
+        ensures count { result ≡ length self.now.zones }
+        ensures few { result ≤ 8 }
     {
         self.zones.as_slice().len() as u32
     }

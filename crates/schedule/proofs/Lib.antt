@@ -1,0 +1,2 @@
+mod TurnLaws
+mod TurnRows

@@ -1,0 +1,223 @@
+-- The turns of a core of two zones: each clause with a case that it accepts and one that breaks it alone.
+use Rattle.std.proofs.Common.{ℕ, suc, ◌≡◌, ◌∙◌, ◌++◌, Bool, Some, List, [], ◌∷◌, length, slice_get, refl, sym, ap, subst, inl, inr, arith}
+use Rattle.std.proofs.lemmas.Option.{same_Some}
+use Rattle.disk_model.specs.Picks.{next_state, number_in}
+use Rattle.disk_model.specs.Seen.{Seen}
+use Rattle.core_model.specs.declared.items.Item.{Item}
+use Rattle.core_model.specs.declared.items.Item.TheVariants.{StopNotice}
+use Rattle.core_model.specs.declared.sizes.Sizes.{Sizes}
+use Rattle.core_model.specs.declared.zones.Zone.{Zone}
+use Rattle.core_model.specs.declared.zones.ZoneData.{ZoneData}
+use Rattle.core_model.specs.declared.zones.ZoneData.TheVariants as at
+use Rattle.core_model.specs.Steps.{IsIdle}
+use Rattle.core_model.proofs.rows.PhaseRows.{physical}
+use Rattle.vdo_core.specs.Done.{IsDone}
+use Rattle.vdo_core.specs.Moves.{has_items}
+use Rattle.vdo_core.specs.Plays.{HasNoWork, PlaysOne}
+use Rattle.vdo_core.specs.declared.events.Event.{Event}
+use Rattle.vdo_core.specs.declared.events.Event.TheVariants as event
+use Rattle.schedule.specs.Turns.{AreReady, Drives, IsTurn, PlaysUntilDone, event_count, event_of}
+use Rattle.schedule.proofs.TurnLaws.{ready_once, turn_once}
+
+-- event_count: a step of each zone, and a move from each to each
+counts : (event_count 1 ≡ 2) × (event_count 2 ≡ 6) × (event_count 8 ≡ 72)
+counts = (refl, refl, refl)
+
+counts-not_steps_alone : event_count 2 ≡ 2 → ⊥
+counts-not_steps_alone is = absurd (omega (arith, is))
+
+-- event_of: the steps come first, and of the moves those of the first sender, each in the order of its receivers
+steps_first : (event_of 3 0 ≡ event.Step 0) × (event_of 3 2 ≡ event.Step 2)
+steps_first = (refl, refl)
+
+then_moves : (event_of 3 3 ≡ event.Move 0 0) × (event_of 3 4 ≡ event.Move 0 1) × (event_of 3 6 ≡ event.Move 1 0) × (event_of 3 11 ≡ event.Move 2 2)
+then_moves = (refl, refl, refl, refl)
+
+then_moves-not_by_receiver : event_of 3 4 ≡ event.Move 1 0 → ⊥
+then_moves-not_by_receiver is = absurd cc
+
+steps_first-not_past_the_zones : event_of 3 3 ≡ event.Step 3 → ⊥
+steps_first-not_past_the_zones is = absurd cc
+
+-- Two zones. The first has an item in its inbox and one for the other; the second has no work.
+abbrev one : List Item
+one = StopNotice ∷ []
+
+abbrev sender : ZoneData → List Item → Zone
+sender keeps outbox = record { number = 0; steps = 0; keeps = keeps; inbox = one; outboxes = [] ∷ outbox ∷ [] }
+
+abbrev receiver : List Item → Zone
+receiver inbox = record { number = 1; steps = 0; keeps = physical []; inbox = inbox; outboxes = [] ∷ [] ∷ [] }
+
+-- before that item moves, and after
+abbrev zones : ZoneData → List Zone
+zones keeps = sender keeps one ∷ receiver [] ∷ []
+
+abbrev moved : ZoneData → List Zone
+moved keeps = sender keeps [] ∷ receiver one ∷ []
+
+-- the first zone is a desk all of whose requests are answered, since it has none; or it is no desk
+abbrev done : ZoneData
+done = at.Desk (record { requests = []; log = []; marks = []; notices = 0; parked = [] })
+
+abbrev undone : ZoneData
+undone = physical []
+
+is_done : IsDone (zones done)
+is_done = record { zone = sender done one; desk = record { requests = []; log = []; marks = []; notices = 0; parked = [] }; had = refl; keeps = refl; full = refl }
+
+isnt_done : IsDone (zones undone) → ⊥
+isnt_done is =
+    let keeps : undone ≡ at.Desk is.desk = ap (λ (z : Zone). z.keeps) (same_Some _ _ is.had) ∙ is.keeps in
+    absurd cc
+
+module _ (sizes : Sizes) (keeps : ZoneData) where
+  -- which events there is work for
+  step_of_first : HasNoWork sizes (zones keeps) (event.Step 0) → ⊥
+  step_of_first none = elim (none (sender keeps one) refl) [
+    | inl nothing ↦ let empty = nothing.inbox in absurd cc
+    | inr many ↦ absurd (omega (arith, many))
+  ]
+
+  none_of_second : HasNoWork sizes (zones keeps) (event.Step 1)
+  none_of_second z had = subst (λ (zone : Zone). IsIdle sizes zone) (same_Some _ _ had) (inl (record { inbox = refl; none_begins = λ begins. begins }))
+
+  none_to_itself : (n : ℕ) → HasNoWork sizes (zones keeps) (event.Move n n)
+  none_to_itself n source target apart had_source had_target = absurd (apart refl)
+
+  move_to_second : HasNoWork sizes (zones keeps) (event.Move 0 1) → ⊥
+  move_to_second none = let empty = none (sender keeps one) (receiver []) (λ same. omega (arith, same)) refl refl in absurd cc
+
+  none_to_first : HasNoWork sizes (zones keeps) (event.Move 1 0)
+  none_to_first source target apart had_source had_target =
+      ap (λ (z : Zone). has_items (slice_get z.outboxes 0)) (sym (same_Some _ _ had_source))
+
+  -- AreReady: of no event none; of all those for which there is work, in their order
+  abbrev both : List Event
+  both = event.Step 0 ∷ event.Move 0 1 ∷ []
+
+  ready_none : AreReady sizes (zones keeps) 0 []
+  ready_none = refl
+
+  ready_none-not_one : AreReady sizes (zones keeps) 0 (event.Step 0 ∷ []) → ⊥
+  ready_none-not_one are = absurd cc
+
+  ready : AreReady sizes (zones keeps) 6 both
+  ready =
+      inl (none_to_itself 1, inl (none_to_first, inr (event.Step 0 ∷ [], refl, move_to_second, inl (none_to_itself 0, inl (none_of_second, inr ([], refl, step_of_first, refl))))))
+
+  ready-not_without_work : AreReady sizes (zones keeps) 6 (event.Step 0 ∷ event.Step 1 ∷ event.Move 0 1 ∷ []) → ⊥
+  ready-not_without_work are = let same = ready_once sizes (zones keeps) 6 both _ ready are in absurd cc
+
+  ready-none_left_out : AreReady sizes (zones keeps) 6 (event.Step 0 ∷ []) → ⊥
+  ready-none_left_out are = let same = ready_once sizes (zones keeps) 6 both _ ready are in absurd cc
+
+  ready-in_no_other_order : AreReady sizes (zones keeps) 6 (event.Move 0 1 ∷ event.Step 0 ∷ []) → ⊥
+  ready-in_no_other_order are = let same = ready_once sizes (zones keeps) 6 both _ ready are in absurd cc
+
+  -- IsTurn: from the state 0 the numbers are 167951807 and 218396424, so the second of the two comes first
+  first_turn : IsTurn sizes (zones keeps) 0 (event.Move 0 1)
+  unfolding next_state number_in
+  first_turn = record { ready = both; are_ready = ready; is = refl }
+
+  second_turn : IsTurn sizes (zones keeps) 1442695040888963407 (event.Step 0)
+  unfolding next_state number_in
+  second_turn = record { ready = both; are_ready = ready; is = refl }
+
+  first_turn-not_another_place : IsTurn sizes (zones keeps) 0 (event.Step 0) → ⊥
+  first_turn-not_another_place is = let same = turn_once sizes (zones keeps) 0 _ _ first_turn is in absurd cc
+
+  first_turn-not_without_work : IsTurn sizes (zones keeps) 0 (event.Step 1) → ⊥
+  first_turn-not_without_work is = let same = turn_once sizes (zones keeps) 0 _ _ first_turn is in absurd cc
+
+  -- how many items the second zone of two has in its inbox
+  abbrev received : List Zone → ℕ
+  received [] = 0
+  received (a ∷ []) = 0
+  received (a ∷ b ∷ rest) = length b.inbox
+
+  -- the move, and what it leaves
+  plays : (tells honest : Bool) (seen : Seen) → PlaysOne tells honest sizes (event.Move 0 1) (zones keeps) (moved keeps) seen seen
+  plays tells honest seen = inl (
+    record {
+      source = sender keeps one;
+      target = receiver [];
+      part = one;
+      apart = λ same. omega (arith, same);
+      had_source = refl;
+      had_target = refl;
+      outbox = refl;
+      has = refl;
+    },
+    refl,
+  )
+
+  brings_one : (tells honest : Bool) (zones' : List Zone) (before after : Seen) → PlaysOne tells honest sizes (event.Move 0 1) (zones keeps) zones' before after → received zones' ≡ 1
+  brings_one tells honest zones' before after (inl (moves, silent)) =
+      let target : receiver [] ≡ moves.target = same_Some _ _ moves.had_target in
+      let source : sender keeps one ≡ moves.source = same_Some _ _ moves.had_source in
+      let part : one ≡ moves.part = same_Some _ _ (subst (λ (z : Zone). slice_get z.outboxes 1 ≡ Some moves.part) (sym source) moves.outbox) in
+      ap received moves.has ∙ ap (λ (z : Zone). length (z.inbox ++ moves.part)) (sym target) ∙ ap length (sym part)
+  brings_one tells honest zones' before after (inr (none, same, silent)) = absurd (move_to_second none)
+
+module _ (tells honest : Bool) (sizes : Sizes) (seen : Seen) where
+  -- Drives: no turn changes nothing
+  no_turn : Drives tells honest sizes 7 7 [] (zones undone) (zones undone) seen seen
+  no_turn = (refl, refl, refl)
+
+  no_turn-of_the_state : Drives tells honest sizes 7 8 [] (zones undone) (zones undone) seen seen → ⊥
+  no_turn-of_the_state d = let same = d.0 in absurd (omega (arith, same))
+
+  no_turn-of_the_zones : Drives tells honest sizes 7 7 [] (zones undone) (moved undone) seen seen → ⊥
+  no_turn-of_the_zones d = let same = ap (received sizes undone) d.1 in absurd (omega (arith, same))
+
+  no_turn-of_the_device : Drives tells honest sizes 7 7 [] (zones undone) (zones undone) seen (record seen { faults = suc seen.faults }) → ⊥
+  no_turn-of_the_device d = let same = ap (λ (s : Seen). s.faults) d.2 in absurd (omega (arith, same))
+
+  -- a turn takes its event, and steps the state, where the core isn't done
+  one_turn : Drives tells honest sizes 0 (next_state 0) (event.Move 0 1 ∷ []) (zones undone) (moved undone) seen seen
+  one_turn = (moved undone, seen, isnt_done, first_turn sizes undone, plays sizes undone tells honest seen, (refl, refl, refl))
+
+  one_turn-of_a_core_that_is_done : Drives tells honest sizes 0 (next_state 0) (event.Move 0 1 ∷ []) (zones done) (moved done) seen seen → ⊥
+  one_turn-of_a_core_that_is_done d = d.2 is_done
+
+  one_turn-not_another : (new : List Zone) → Drives tells honest sizes 0 (next_state 0) (event.Step 0 ∷ []) (zones undone) new seen seen → ⊥
+  one_turn-not_another new d = first_turn-not_another_place sizes undone d.3
+
+  one_turn-of_the_zones : Drives tells honest sizes 0 (next_state 0) (event.Move 0 1 ∷ []) (zones undone) (zones undone) seen seen → ⊥
+  one_turn-of_the_zones d =
+      let brought = brings_one sizes undone tells honest d.0 seen d.1 d.4 in
+      let same = ap (received sizes undone) d.5.1 in
+      absurd (omega (arith, brought, same))
+
+  one_turn-of_the_state : Drives tells honest sizes 0 0 (event.Move 0 1 ∷ []) (zones undone) (moved undone) seen seen → ⊥
+  unfolding next_state
+  one_turn-of_the_state d = let same = d.5.0 in absurd (omega (arith, same))
+
+  -- PlaysUntilDone: no event changes nothing
+  no_event : PlaysUntilDone tells honest sizes [] (zones undone) (zones undone) seen seen
+  no_event = (refl, refl)
+
+  no_event-of_the_zones : PlaysUntilDone tells honest sizes [] (zones undone) (moved undone) seen seen → ⊥
+  no_event-of_the_zones p = let same = ap (received sizes undone) p.0 in absurd (omega (arith, same))
+
+  no_event-of_the_device : PlaysUntilDone tells honest sizes [] (zones undone) (zones undone) seen (record seen { faults = suc seen.faults }) → ⊥
+  no_event-of_the_device p = let same = ap (λ (s : Seen). s.faults) p.1 in absurd (omega (arith, same))
+
+  -- an event is played where the core isn't done, and only there
+  one_event : PlaysUntilDone tells honest sizes (event.Move 0 1 ∷ []) (zones undone) (moved undone) seen seen
+  one_event = inr (moved undone, seen, isnt_done, plays sizes undone tells honest seen, (refl, refl))
+
+  one_event-not_left_out : PlaysUntilDone tells honest sizes (event.Move 0 1 ∷ []) (zones undone) (zones undone) seen seen → ⊥
+  one_event-not_left_out (inl (is, same, silent)) = isnt_done is
+  one_event-not_left_out (inr (between, s, isnt, played, (same, silent))) =
+      let brought = brings_one sizes undone tells honest between seen s played in
+      let stays = ap (received sizes undone) same in
+      absurd (omega (arith, brought, stays))
+
+  no_event_once_done : PlaysUntilDone tells honest sizes (event.Move 0 1 ∷ []) (zones done) (zones done) seen seen
+  no_event_once_done = inl (is_done, refl, refl)
+
+  no_event_once_done-not_played : PlaysUntilDone tells honest sizes (event.Move 0 1 ∷ []) (zones done) (moved done) seen seen → ⊥
+  no_event_once_done-not_played (inl (is, same, silent)) = let stays = ap (received sizes done) same in absurd (omega (arith, stays))
+  no_event_once_done-not_played (inr (between, s, isnt, _, _)) = isnt is_done

@@ -1,0 +1,123 @@
+ghost use Rattle.std.specs.Prelude.{◌≡◌, ◌≤◌, ◌<◌, [], ◌∷◌, List, MatchOption, length, map};
+ghost use Rattle.disk_model.specs.Picks.{next_state, number_in};
+ghost use Rattle.disk_model.specs.Seen.{Stays};
+ghost use Rattle.steps_device.specs.DeviceCalls.{Fits};
+ghost use Rattle.vdo_core.specs.Done.{IsDone};
+ghost use Rattle.vdo_core.specs.declared.events.Event.{Event};
+ghost use Rattle.schedule.specs.Turns.{AreReady, Drives, IsTurn, event_count, event_of};
+
+use arrayvec::ArrayVec;
+use disk_model::Disk;
+use std::marker::Model;
+use vdo_core::{Core, Event};
+
+/// How many events a core has at most: a step of each of eight zones, and a move from each to each.
+const MOST_EVENTS: usize = 72;
+
+/// An order of the events of a core, made from a number: the state of a row of numbers, each of which chooses one event of
+/// those for which there is work.
+#[derive(Clone, Copy, Debug, PartialEq, Eq)]
+pub struct Schedule {
+    state: u64,
+}
+
+impl Model for Schedule {
+    ghost use Rattle.std.specs.Prelude.{ℕ};
+
+    ghost Value = { ℕ };
+
+    ghost view = { λ s. s.state };
+
+    ghost inverse = { λ n. record { state = n } };
+}
+
+impl Schedule {
+    /// The order that a number makes.
+    pub fn from_number(number: u64) -> Schedule
+        ensures { result ≡ number }
+    {
+        Schedule { state: number }
+    }
+
+    /// One turn of a core that isn't done: one event of those for which there is work. Where there is none, nothing changes.
+    pub(crate) fn turn<D: Disk>(&mut self, core: &mut Core, device: &mut D)
+        requires { Fits core.old.sizes (D.seen device.old) }
+        ensures stays { Stays (D.seen device.old) (D.seen device.new) }
+        ensures sizes { core.new.sizes ≡ core.old.sizes }
+        ensures drives { (IsDone core.old.zones → ⊥)
+            → (events : List Event) × Drives D.tells D.honest core.old.sizes self.old self.new events core.old.zones core.new.zones (D.seen device.old) (D.seen device.new) }
+    {
+        let Some(event) = choose(core, self.state) else {
+            return;
+        };
+        self.state = next_state(self.state);
+        core.step(event, device);
+    }
+}
+
+// The next state of a row of numbers.
+#[tactic(auto, unfolding(disk_model::specs::Picks::next_state))]
+fn next_state(state: u64) -> u64
+    ensures { result ≡ next_state state }
+{
+    state
+        .wrapping_mul(6_364_136_223_846_793_005)
+        .wrapping_add(1_442_695_040_888_963_407)
+}
+
+// The number that a state of a row gives: its high bits.
+#[tactic(auto, unfolding(disk_model::specs::Picks::number_in))]
+fn number_in(state: u64) -> u64
+    ensures { result ≡ number_in state }
+{
+    state / (1 << 33)
+}
+
+// The event of a number, from 0, of a core of so many zones.
+fn event_of(zones: u32, k: u32) -> Event
+    requires { 0 < zones }
+    ensures { result ≡ event_of zones k }
+{
+    if k < zones {
+        return Event::Step(k);
+    }
+    let place = k - zones;
+    Event::Move(place / zones, place % zones)
+}
+
+// How many events a core of so many zones has.
+fn event_count(zones: u32) -> u32
+    requires { zones ≤ 8 }
+    ensures count { result ≡ event_count zones }
+    ensures few { result ≤ 72 }
+{
+    zones + zones * zones
+}
+
+// The numbers of the events for which there is work, in their order.
+fn list_ready(core: &Core) -> ArrayVec<u32, MOST_EVENTS>
+    ensures { AreReady core.now.sizes core.now.zones (event_count (length core.now.zones)) (map (event_of (length core.now.zones)) result.items) }
+{
+    let mut ready = ArrayVec::new();
+    let zones = core.zone_count();
+    for k in 0..event_count(zones) {
+        if core.ready(event_of(zones, k)) {
+            ready.push(k);
+        }
+    }
+    ready
+}
+
+// The event that a turn takes, if there is work for any.
+fn choose(core: &Core, state: u64) -> Option<Event>
+    ensures { MatchOption result (AreReady core.now.sizes core.now.zones (event_count (length core.now.zones)) []) (λ event. IsTurn core.now.sizes core.now.zones state event) }
+{
+    let ready = list_ready(core);
+    let count = ready.len() as u64;
+    if count == 0 {
+        return None;
+    }
+    let place = number_in(next_state(state)) % count;
+    let k = ready.as_slice()[place as usize];
+    Some(event_of(core.zone_count(), k))
+}
