@@ -53,7 +53,7 @@ driven_leads tells honest sizes state state' events old new before after drives 
     plays_lead tells honest sizes events old new before after (driven_plays tells honest sizes state state' events old new before after drives)
 
 -- what is played until a core is done is a first part of the events
-abbrev pub PlaysPart : Bool → Sizes → List Event → List Zone → List Zone → Seen → Seen → Type 0
+abbrev pub PlaysPart : Bool → Bool → Sizes → List Event → List Zone → List Zone → Seen → Seen → Type 0
 PlaysPart tells honest sizes events old new before after =
     (played left : List Event) × (events ≡ played ++ left) × Plays tells honest sizes played old new before after
 
