@@ -11,8 +11,10 @@ pub mod RunWordLaws
 pub mod AskedLaws
 pub mod StreamLaws
 pub mod ScriptLaws
+pub mod DiscardLaws
 pub mod ScriptRows
 pub mod WholeRows
 pub mod AnswerRoomRows
+pub mod DiscardRows
 pub mod WorkloadLaws
 pub mod WorkloadRows

@@ -1,12 +1,12 @@
 -- What a script that is read byte by byte becomes with the next byte.
-use Rattle.std.specs.Prelude.{ℕ, ◌≡◌, ◌≢◌, ◌<◌, ◌≤◌, ◌+◌, ◌||◌, nat_lt, Bool, true, false, List, [], ◌∷◌, ◌++◌, length, Result, Ok, Err, refl}
+use Rattle.std.specs.Prelude.{ℕ, ◌≡◌, ◌≢◌, ◌<◌, ◌≤◌, ◌+◌, ◌||◌, nat_lt, Bool, true, false, List, [], ◌∷◌, ◌++◌, length, Option, Result, Ok, Err, refl}
 use Rattle.std.specs.List.{onto_first}
 use Rattle.std.proofs.Common.{sym, ◌∙◌, ap, subst, arith, inl, inr}
 use Rattle.std.proofs.lemmas.Bool.Decides.{eqb_tells, nat_tests}
 use Rattle.std.proofs.lemmas.List.{append_assoc, append-nil, length-append}
 use Rattle.vdo_model.specs.Scripts.{Script}
 use Rattle.stream_text.specs.WholeScript.{lines_with_ends, text_of, after_text, is_too_long, after_line, go_on, script_from}
-use Rattle.stream_text.specs.ReadingBytes.{goes_on_from, refusal_said, IsReadingBytes, IsAdded, RefusesScript, StopsLine}
+use Rattle.stream_text.specs.ReadingBytes.{goes_on_from, refusal_said, IsReadingBytes, RefusesScript, StopsLine}
 use Rattle.stream_text.specs.declared.refusal.ReadRequests.{ReadRequests}
 use Rattle.stream_text.specs.declared.adding.LineStop.{LineStop}
 use Rattle.stream_text.specs.declared.adding.LineStop.TheVariants as stop
@@ -19,12 +19,12 @@ ends-other : (byte : ℕ) (rest : List ℕ) → byte ≢ 10 → lines_with_ends 
 ends-other byte rest ne = elim (eqb_tells byte 10) [ inl same ↦ absurd (ne same.1) | inr other ↦ rw other.0 ]
 
 -- a line that ends
-ends-ended : (line rest : List ℕ) → OneLine line → lines_with_ends (line ++ 10 ∷ rest) ≡ (line ++ 10 ∷ []) ∷ lines_with_ends rest
+pub ends-ended : (line rest : List ℕ) → OneLine line → lines_with_ends (line ++ 10 ∷ rest) ≡ (line ++ 10 ∷ []) ∷ lines_with_ends rest
 ends-ended [] rest one = refl
 ends-ended (byte ∷ line) rest one = ends-other byte (line ++ 10 ∷ rest) one.0 ∙ ap (onto_first byte) (ends-ended line rest one.1)
 
 -- a last line that doesn't end
-ends-last : (byte : ℕ) (line : List ℕ) → OneLine (byte ∷ line) → lines_with_ends (byte ∷ line) ≡ (byte ∷ line) ∷ []
+pub ends-last : (byte : ℕ) (line : List ℕ) → OneLine (byte ∷ line) → lines_with_ends (byte ∷ line) ≡ (byte ∷ line) ∷ []
 ends-last byte [] one = ends-other byte [] one.0
 ends-last byte (next ∷ line) one = ends-other byte (next ∷ line) one.0 ∙ ap (onto_first byte) (ends-last next line one.1)
 
@@ -58,11 +58,11 @@ first_has (first ∷ line) byte rest one =
 text-other : (byte : ℕ) (rest : List ℕ) → byte ≢ 10 → text_of (byte ∷ rest) ≡ byte ∷ text_of rest
 text-other byte rest ne = elim (eqb_tells byte 10) [ inl same ↦ absurd (ne same.1) | inr other ↦ rw other.0 refl ]
 
-text-whole : (line : List ℕ) → OneLine line → text_of line ≡ line
+pub text-whole : (line : List ℕ) → OneLine line → text_of line ≡ line
 text-whole [] one = refl
 text-whole (byte ∷ line) one = text-other byte line one.0 ∙ ap (λ (t : List ℕ). byte ∷ t) (text-whole line one.1)
 
-text-ended : (line : List ℕ) → OneLine line → text_of (line ++ 10 ∷ []) ≡ line
+pub text-ended : (line : List ℕ) → OneLine line → text_of (line ++ 10 ∷ []) ≡ line
 text-ended [] one = refl
 text-ended (byte ∷ line) one = text-other byte (line ++ 10 ∷ []) one.0 ∙ ap (λ (t : List ℕ). byte ∷ t) (text-ended line one.1)
 
@@ -159,24 +159,11 @@ long-script number before script line byte rest one long =
     ∙ refused number before script ((line ++ byte ∷ []) ++ first.more) first.lines
     (after-long_script before script ((line ++ byte ∷ []) ++ first.more) (omega (arith, size)))
 
--- what is kept as a line ends
-pub sound-line : (count number before count' : ℕ) (script new : Script) (line : List ℕ) (after : Result Script LineFault)
-    → IsReadingBytes count number before script line → before + length line < 134217728 → length new ≡ 16 → IsAdded after new count'
-    → IsReadingBytes count' (number + 1) (before + (length line + 1)) new []
-sound-line count number before count' script new line after is room rows added = record {
-  rows = rows;
-  counted = added.counted;
-  few = added.few;
-  short = omega arith;
-  one_line = tt;
-  within = omega (arith, room);
-  numbered = omega (arith, is.numbered);
-}
-
 -- what is kept as a line gets longer
-pub sound-byte : (count number before : ℕ) (script : Script) (line : List ℕ) (byte : ℕ) → IsReadingBytes count number before script line
-    → before + length line < 134217728 → length line < 32768 → byte ≢ 10 → IsReadingBytes count number before script (line ++ byte ∷ [])
-sound-byte count number before script line byte is room short ne = record {
+pub sound-byte : (count number before : ℕ) (found : Option ℕ) (script : Script) (line : List ℕ) (byte : ℕ)
+    → IsReadingBytes count number before found script line → before + length line < 134217728 → length line < 32768 → byte ≢ 10
+    → IsReadingBytes count number before found script (line ++ byte ∷ [])
+sound-byte count number before found script line byte is room short ne = record {
   rows = is.rows;
   counted = is.counted;
   few = is.few;
@@ -184,6 +171,8 @@ sound-byte count number before script line byte is room short ne = record {
   one_line = longer line is.one_line;
   within = omega (arith, length-append line (byte ∷ []), room);
   numbered = is.numbered;
+  writes = is.writes;
+  plain = is.plain;
 }
   where
     longer : (line : List ℕ) → OneLine line → OneLine (line ++ byte ∷ [])

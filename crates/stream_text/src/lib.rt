@@ -25,4 +25,4 @@ pub use fault::{ReadScript, ScriptFault};
 pub use indexed::{AnswerRoom, put_indexed_answers};
 pub use reading::read_script;
 pub use refusal::{LineFault, ReadRequests, ScriptRefusal};
-pub use whole::read_requests;
+pub use whole::{ScriptRequests, read_requests};

@@ -1,8 +1,8 @@
-ghost use Rattle.std.specs.Prelude.{◌≡◌, ◌≢◌, ◌≤◌, ◌<◌, ◌+◌, ◌++◌, ◌∷◌, [], ℕ, List, length, Ok, IsTrue, IfOk, IfErr, OnOk, IsErrOf};
+ghost use Rattle.std.specs.Prelude.{◌≡◌, ◌≢◌, ◌≤◌, ◌<◌, ◌+◌, ◌++◌, ◌∷◌, [], ℕ, List, length, None, Ok, IsTrue, IfOk, IfErr, OnOk, IsErrOf};
 ghost use Rattle.disk_model.specs.Causes.{Rose};
 ghost use Rattle.stream_text.specs.StreamRows.{no_requests};
-ghost use Rattle.stream_text.specs.WholeScript.{whole_script};
-ghost use Rattle.stream_text.specs.ReadingBytes.{goes_on_from, refusal_said, IsReadingBytes, IsWholeScript, RefusesScript};
+ghost use Rattle.stream_text.specs.WholeScript.{first_discard, whole_script};
+ghost use Rattle.stream_text.specs.ReadingBytes.{discard_by, goes_on_from, refusal_said, said_from, EachRequest, IsPlainRequest, IsReadingBytes, IsWholeScript, RefusesScript};
 
 use crate::adding::{LineStop, add_line};
 use crate::refusal::{LineFault, ReadRequests, ScriptRefusal};
@@ -18,12 +18,22 @@ const LONGEST_LINE: usize = 32768;
 /// How many bytes a script may have.
 const LONGEST_SCRIPT: u64 = 134_217_728;
 
-/// A script that is read in part: the streams so far with the number of their requests, the number of the line that is
-/// being read, the bytes before it, and its bytes so far.
+/// The requests of a script, and where its first discard stands.
+#[derive(Drop)]
+pub struct ScriptRequests {
+    /// The requests of 16 streams.
+    pub requests: Requests,
+    /// The number, from 1, of the first line that asks for discards, if one does.
+    pub first_discard: Option<u64>,
+}
+
+/// A script that is read in part: the streams so far with the number of their requests, the line of the first discard so
+/// far, the number of the line that is being read, the bytes before it, and its bytes so far.
 #[derive(Drop)]
 struct ReadingBytes {
     streams: Streams,
     count: u64,
+    first_discard: Option<u64>,
     number: u64,
     before: u64,
     line: ArrayVec<u8, LONGEST_LINE>,
@@ -44,15 +54,26 @@ fn stopped(number: u64, stop: LineStop) -> ReadRequests
     }
 }
 
+// The line of the first discard, where it may be this line.
+fn earlier_discard(found: Option<u64>, number: u64, asks: bool) -> Option<u64>
+    ensures { result ≡ discard_by found number asks }
+{
+    match found {
+        Some(line) => Some(line),
+        None if asks => Some(number),
+        None => None,
+    }
+}
+
 impl ReadingBytes {
     // The line that was read is whole, and its newline was taken.
     fn end_line(&mut self) -> Result<(), ReadRequests>
-        requires sound { IsReadingBytes self.old.count self.old.number self.old.before self.old.streams self.old.line.items }
+        requires sound { IsReadingBytes self.old.count self.old.number self.old.before self.old.first_discard self.old.streams self.old.line.items }
         requires room { self.old.before + length self.old.line.items < 134217728 }
-        ensures sound { OnOk result (IsReadingBytes self.new.count self.new.number self.new.before self.new.streams self.new.line.items) }
+        ensures sound { OnOk result (IsReadingBytes self.new.count self.new.number self.new.before self.new.first_discard self.new.streams self.new.line.items) }
         ensures ok { OnOk result ((rest : List ℕ) →
-            goes_on_from self.old.number self.old.before self.old.streams self.old.line.items (10 ∷ rest)
-            ≡ goes_on_from self.new.number self.new.before self.new.streams self.new.line.items rest) }
+            said_from self.old.number self.old.before self.old.first_discard self.old.streams self.old.line.items (10 ∷ rest)
+            ≡ said_from self.new.number self.new.before self.new.first_discard self.new.streams self.new.line.items rest) }
         ensures taken { OnOk result (self.new.before + length self.new.line.items ≡ self.old.before + length self.old.line.items + 1) }
         ensures refused { IfErr result (λ fault. (rest : List ℕ) →
             RefusesScript fault (goes_on_from self.old.number self.old.before self.old.streams self.old.line.items (10 ∷ rest))) }
@@ -60,8 +81,13 @@ impl ReadingBytes {
     {
         match add_line(&mut self.streams, self.count, &self.line) {
             Err(stop) => Err(stopped(self.number, stop)),
-            Ok(count) => {
-                self.count = count;
+            Ok(added) => {
+                self.count = added.count;
+                self.first_discard = earlier_discard(
+                    self.first_discard,
+                    self.number,
+                    added.discards,
+                );
                 self.before += self.line.len() as u64 + 1;
                 self.number += 1;
                 self.line.clear();
@@ -72,11 +98,11 @@ impl ReadingBytes {
 
     // The next byte of the script.
     fn add(&mut self, byte: u8) -> Result<(), ReadRequests>
-        requires { IsReadingBytes self.old.count self.old.number self.old.before self.old.streams self.old.line.items }
-        ensures sound { OnOk result (IsReadingBytes self.new.count self.new.number self.new.before self.new.streams self.new.line.items) }
+        requires { IsReadingBytes self.old.count self.old.number self.old.before self.old.first_discard self.old.streams self.old.line.items }
+        ensures sound { OnOk result (IsReadingBytes self.new.count self.new.number self.new.before self.new.first_discard self.new.streams self.new.line.items) }
         ensures ok { OnOk result ((rest : List ℕ) →
-            goes_on_from self.old.number self.old.before self.old.streams self.old.line.items (byte ∷ rest)
-            ≡ goes_on_from self.new.number self.new.before self.new.streams self.new.line.items rest) }
+            said_from self.old.number self.old.before self.old.first_discard self.old.streams self.old.line.items (byte ∷ rest)
+            ≡ said_from self.new.number self.new.before self.new.first_discard self.new.streams self.new.line.items rest) }
         ensures taken { OnOk result (self.new.before + length self.new.line.items ≡ self.old.before + length self.old.line.items + 1) }
         ensures refused { IfErr result (λ fault. (rest : List ℕ) →
             RefusesScript fault (goes_on_from self.old.number self.old.before self.old.streams self.old.line.items (byte ∷ rest))) }
@@ -97,11 +123,11 @@ impl ReadingBytes {
 
     // The next bytes of the script.
     fn feed(&mut self, bytes: &[u8]) -> Result<(), ReadRequests>
-        requires { IsReadingBytes self.old.count self.old.number self.old.before self.old.streams self.old.line.items }
-        ensures sound { OnOk result (IsReadingBytes self.new.count self.new.number self.new.before self.new.streams self.new.line.items) }
+        requires { IsReadingBytes self.old.count self.old.number self.old.before self.old.first_discard self.old.streams self.old.line.items }
+        ensures sound { OnOk result (IsReadingBytes self.new.count self.new.number self.new.before self.new.first_discard self.new.streams self.new.line.items) }
         ensures ok { OnOk result ((rest : List ℕ) →
-            goes_on_from self.old.number self.old.before self.old.streams self.old.line.items (bytes.now ++ rest)
-            ≡ goes_on_from self.new.number self.new.before self.new.streams self.new.line.items rest) }
+            said_from self.old.number self.old.before self.old.first_discard self.old.streams self.old.line.items (bytes.now ++ rest)
+            ≡ said_from self.new.number self.new.before self.new.first_discard self.new.streams self.new.line.items rest) }
         ensures taken { OnOk result (self.new.before + length self.new.line.items ≡ self.old.before + length self.old.line.items + length bytes.now) }
         ensures refused { IfErr result (λ fault. (rest : List ℕ) →
             RefusesScript fault (goes_on_from self.old.number self.old.before self.old.streams self.old.line.items (bytes.now ++ rest))) }
@@ -115,11 +141,11 @@ impl ReadingBytes {
 
     // The bytes of the source until its end.
     fn feed_all<S: Source>(&mut self, source: &mut S) -> Result<(), ReadRequests>
-        requires { IsReadingBytes self.old.count self.old.number self.old.before self.old.streams self.old.line.items }
-        ensures sound { OnOk result (IsReadingBytes self.new.count self.new.number self.new.before self.new.streams self.new.line.items) }
+        requires { IsReadingBytes self.old.count self.old.number self.old.before self.old.first_discard self.old.streams self.old.line.items }
+        ensures sound { OnOk result (IsReadingBytes self.new.count self.new.number self.new.before self.new.first_discard self.new.streams self.new.line.items) }
         ensures ok { IsTrue S.tells → OnOk result (
-            goes_on_from self.old.number self.old.before self.old.streams self.old.line.items (S.left source.old)
-            ≡ goes_on_from self.new.number self.new.before self.new.streams self.new.line.items []) }
+            said_from self.old.number self.old.before self.old.first_discard self.old.streams self.old.line.items (S.left source.old)
+            ≡ said_from self.new.number self.new.before self.new.first_discard self.new.streams self.new.line.items []) }
         ensures whole { IsTrue S.tells → OnOk result (S.left source.new ≡ []) }
         ensures refused { IsTrue S.tells → IfErr result (λ fault.
             RefusesScript fault (goes_on_from self.old.number self.old.before self.old.streams self.old.line.items (S.left source.old))) }
@@ -139,33 +165,50 @@ impl ReadingBytes {
     }
 
     // The script has no more bytes.
-    fn end(mut self) -> Result<Requests, ReadRequests>
-        requires { IsReadingBytes self.count self.number self.before self.streams self.line.items }
-        ensures ok { IfOk result (λ script. goes_on_from self.number self.before self.streams self.line.items [] ≡ Ok script) }
-        ensures shape { IfOk result IsWholeScript }
+    fn end(mut self) -> Result<ScriptRequests, ReadRequests>
+        requires { IsReadingBytes self.count self.number self.before self.first_discard self.streams self.line.items }
+        ensures ok { IfOk result (λ script.
+            said_from self.number self.before self.first_discard self.streams self.line.items [] ≡ (Ok script.requests, script.first_discard)) }
+        ensures shape { IfOk result (λ script. IsWholeScript script.requests) }
+        ensures served { IfOk result (λ script. script.first_discard ≡ None → EachRequest IsPlainRequest script.requests) }
         ensures refused { IfErr result (λ fault. RefusesScript fault (goes_on_from self.number self.before self.streams self.line.items [])) }
         ensures no_fault { IfErr result (λ fault. fault ≢ ReadRequests.Read) }
     {
         if self.line.is_empty() {
-            return Ok(self.streams.into_requests());
+            return Ok(ScriptRequests {
+                requests: self.streams.into_requests(),
+                first_discard: self.first_discard,
+            });
         }
         match add_line(&mut self.streams, self.count, &self.line) {
             Err(stop) => Err(stopped(self.number, stop)),
-            Ok(_) => Ok(self.streams.into_requests()),
+            Ok(added) => {
+                let discard = earlier_discard(self.first_discard, self.number, added.discards);
+                Ok(ScriptRequests {
+                    requests: self.streams.into_requests(),
+                    first_discard: discard,
+                })
+            }
         }
     }
 }
 
 /// Reads the requests of a script, in pieces of any size, until the source's end or the first line with a fault. They come
-/// as 16 streams, of which each may have none.
+/// as 16 streams, of which each may have none, with the line of the first discard, where there is one.
 ///
 /// It fails with `Script` where a line has a fault, with `Read` where the source failed, and with `Memory` where memory
 /// runs out. The memory that it takes is the requests' alone.
-pub fn read_requests<S: Source>(alloc: Global, source: &mut S) -> Result<Requests, ReadRequests>
+pub fn read_requests<S: Source>(
+    alloc: Global,
+    source: &mut S,
+) -> Result<ScriptRequests, ReadRequests>
     // The script is what all the bytes say, and the source was read to its end.
-    ensures script { IsTrue S.tells → IfOk result (λ script. (whole_script (S.left source.old) ≡ Ok script) × (S.left source.new ≡ [])) }
+    ensures script { IsTrue S.tells → IfOk result (λ script. (whole_script (S.left source.old) ≡ Ok script.requests)
+        × (script.first_discard ≡ first_discard (S.left source.old)) × (S.left source.new ≡ [])) }
     // Whatever the source tells, no other requests come.
-    ensures shape { IfOk result IsWholeScript }
+    ensures shape { IfOk result (λ script. IsWholeScript script.requests) }
+    // Whatever the source tells, where no line is named no request is a discard, and each write has a whole block.
+    ensures served { IfOk result (λ script. script.first_discard ≡ None → EachRequest IsPlainRequest script.requests) }
     // The line that is named is the first with a fault, and its fault the first that it has.
     ensures refused { IsTrue S.tells → IfErr result (λ fault. RefusesScript fault (whole_script (S.left source.old))) }
     ensures read { IsErrOf result ReadRequests.Read → Rose (S.faults source.old) (S.faults source.new) }
@@ -177,6 +220,7 @@ pub fn read_requests<S: Source>(alloc: Global, source: &mut S) -> Result<Request
     let mut reading = ReadingBytes {
         streams,
         count: 0,
+        first_discard: None,
         number: 1,
         before: 0,
         line: ArrayVec::new(),

@@ -1,6 +1,6 @@
 //! The reader of scripts and a plain slow one say the same of scripts of a fixed sequence of numbers.
 use crate::numbers::{Numbers, change, script};
-use crate::slow::{Wanted, slow_script};
+use crate::slow::{Wanted, slow_first_discard, slow_script};
 use blk_base::{Lba, Request};
 use disk_model::MemSource;
 use std::alloc::{AllocError, Global};
@@ -63,7 +63,9 @@ pub fn both_say(alloc: Global, text: &[u8]) -> Result<Option<Option<LineFault>>,
     let read = read_requests(alloc, &mut source);
     let slow = slow_script(alloc, text)?;
     match (&read, &slow) {
-        (Ok(requests), Ok(wanted)) if agree(requests, wanted) => Ok(Some(None)),
+        (Ok(script), Ok(wanted))
+            if agree(&script.requests, wanted)
+                && script.first_discard == slow_first_discard(text) => { Ok(Some(None)) }
         (Err(ReadRequests::Script(refusal)), Err((line, fault)))
             if refusal.line == *line && refusal.fault == *fault => { Ok(Some(Some(*fault))) }
         _ => Ok(None),

@@ -259,3 +259,14 @@ pub fn slow_script(alloc: Global, text: &[u8]) -> Result<SlowScript, AllocError>
     }
     Ok(Ok(script))
 }
+
+/// The number, from 1, of the first line of a script without a fault that asks for discards.
+pub fn slow_first_discard(text: &[u8]) -> Option<u64> {
+    for number in 0..pieces(text, b'\n') {
+        let line = piece(text, b'\n', number);
+        if !line.starts_with(b"#") && is_discard(line) {
+            return Some((number as u64).saturating_add(1));
+        }
+    }
+    None
+}

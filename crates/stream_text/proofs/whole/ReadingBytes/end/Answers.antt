@@ -1,9 +1,10 @@
-use Rattle.std.proofs.Common.{◌≢◌, sym, ◌∙◌, ap, subst}
-use Rattle.std.specs.Prelude.{ℕ, List, [], Ok}
+use Rattle.std.proofs.Common.{◌≢◌, subst}
+use Rattle.std.specs.Prelude.{ℕ, List, []}
 use Rattle.stream_text.specs.WholeScript.{after_text}
 use Rattle.stream_text.specs.ReadingBytes.{StopsLine}
 use Rattle.stream_text.proofs.ReadingLaws.{not_empty}
-use Rattle.stream_text.proofs.ScriptLaws.{served-last, stops-last}
+use Rattle.stream_text.proofs.ScriptLaws.{stops-last}
+use Rattle.stream_text.proofs.DiscardLaws.{said-last, whole-last, plain-last}
 use Rattle.stream_text.proofs.whole.ReadingBytes.end.Goals as goal
 
 pub returns-in-Err-clause-refused : goal.returns-in-Err-clause-refused
@@ -17,6 +18,18 @@ pub returns-in-Ok-clause-ok : goal.returns-in-Ok-clause-ok
 returns-in-Ok-clause-ok c =
     let self = c.args.self in
     let some : self.line.items ≢ [] = λ e. not_empty self.line.items c.is_empty.result c.is_empty.ensures c.if-is_empty.false e in
-    served-last self.number self.before self.streams c.add_line.new.streams self.line.items c.requires.one_line some c.requires.short c.requires.within
-    (ap (after_text self.streams) (sym c.deref.ensures.0) ∙ c.in-Ok.ensures.ok.same)
-    ∙ ap Ok (sym c.into_requests-in-Ok.ensures)
+    said-last self.number self.before self.first_discard c.earlier_discard-discard.result self.streams c.add_line.new.streams c.into_requests-in-Ok.result
+    self.line.items c.deref.result.now c.in-Ok.added.discards c.requires.one_line some c.requires.short c.requires.within c.deref.ensures.0 c.in-Ok.ensures.ok.same
+    c.in-Ok.ensures.discards c.earlier_discard-discard.ensures c.into_requests-in-Ok.ensures
+
+pub returns-in-Ok-clause-shape : goal.returns-in-Ok-clause-shape
+returns-in-Ok-clause-shape c =
+    whole-last c.in-Ok.added.count c.args.self.streams c.add_line.new.streams c.into_requests-in-Ok.result c.deref.result.now c.requires.writes
+    c.add_line.ensures.rows c.in-Ok.ensures.ok c.into_requests-in-Ok.ensures
+
+pub returns-in-Ok-clause-served : goal.returns-in-Ok-clause-served
+returns-in-Ok-clause-served c =
+    let self = c.args.self in
+    plain-last self.number self.first_discard c.earlier_discard-discard.result self.streams c.add_line.new.streams c.into_requests-in-Ok.result
+    c.deref.result.now c.in-Ok.added.discards c.requires.plain c.in-Ok.ensures.ok.same c.in-Ok.ensures.discards c.earlier_discard-discard.ensures
+    c.into_requests-in-Ok.ensures
