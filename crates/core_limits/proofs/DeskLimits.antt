@@ -1,23 +1,16 @@
 -- How long a desk log gets: each request of the script is begun once at most, and answered once at most.
 use Rattle.std.proofs.Common.{◌≡◌, ℕ, true, ◌+◌, ◌*◌, ◌<◌, ◌≤◌, IsNone, IsSome, Some, List, [], ◌∷◌, length, get_or, refl, ap, inl, inr, arith}
 use Rattle.std.proofs.lemmas.Option.{slice_get_within}
-use Rattle.core_laws.proofs.Common.{AllByRecursion, DeskLine, Fails, Flushes, IsDeskLog, IsNextLine, Says, Script, Trace, Writer, answer_of, begun, cases_lt, eqb_tells, get_or_past, is_answer, is_begin, lines, marks, request_at, same_tells, some_of, total}
+use Rattle.core_laws.proofs.Common.{AllByRecursion, DeskLine, Fails, Flushes, IsDeskLog, IsNextLine, Says, Script, Trace, Writer, answer_of, begun, eqb_tells, is_answer, is_begin, lines, marks, request_at, same_tells, some_of, total}
 use Rattle.vdo_model.specs.declared.report.DeskLine.TheVariants.{Begin, Answer}
 use Rattle.core_model.specs.Limits.{requests_in}
 use Rattle.core_limits.proofs.StreamSums.{Apart, Inside, named, names_few, over, over_le, over_more, over_none, over_script}
-use Rattle.core_limits.proofs.Rooms.{all_begun, under_way}
+use Rattle.core_limits.proofs.Rooms.{all_begun, stream_there, under_way}
 use Rattle.core_laws.proofs.trace.Growth.{begun_more}
 
 -- how many requests a stream of a script has
 abbrev pub requests_of : Script → ℕ → ℕ
 requests_of script stream = length (get_or script stream [])
-
--- a stream with a request is one of the script
-stream_there : (script : Script) (stream : ℕ) → 0 < requests_of script stream → stream < length script
-stream_there script stream some = elim (cases_lt stream (length script)) [
-  | inl below ↦ below
-  | inr past ↦ let none = ap (λ (xs : List _). length xs) (get_or_past script stream [] past) in absurd (omega (arith, some, none))
-]
 
 -- a request of the script stands within its stream
 pub asked_inside : (script : Script) (w : Writer) → IsSome (request_at script w) → Inside (length script) (requests_of script) w

@@ -1,6 +1,7 @@
 -- In a legal core no lane and no list of a zone has more than its share.
-use Rattle.std.proofs.Common.{◌≡◌, ℕ, zero, suc, ◌+◌, ◌*◌, ◌<◌, ◌≤◌, Bool, true, false, cond, IsSome, Some, List, [], ◌∷◌, length, slice_get, get_or, refl, ap, ◌∙◌, subst, inl, inr, arith}
-use Rattle.core_laws.proofs.Common.{DataOk, DeskLine, IsDeskLog, Item, Script, Session, Token, Zone, ZoneData, answered, begun, desk_zone, device_zone, eqb_tells, given, in_log, is_answer, is_begin, is_word, kept_by, lines, notice_token, notified_by, notified_zones, queued, room_token, total, total-get, total_alone, weight}
+use Rattle.std.proofs.Common.{◌≡◌, ℕ, zero, suc, ◌+◌, ◌*◌, ◌<◌, ◌≤◌, Bool, true, false, cond, Some, List, [], ◌∷◌, length, slice_get, get_or, refl, ap, ◌∙◌, subst, inl, inr, arith}
+use Rattle.core_laws.proofs.Common.{DataOk, DeskLine, IsDeskLog, Item, Script, Session, Token, Zone, ZoneData, answered, begun, desk_zone, device_zone, eqb_tells, given, in_log, is_answer, is_begin, is_word, kept_by, lines, notice_token, notified_by, notified_zones, queued, room_token, some_of, total, total-get, total_alone, weight}
+use Rattle.std.proofs.lemmas.Option.{slice_get_within}
 use Rattle.vdo_model.specs.declared.report.DeskLine.TheVariants.{Begin, Answer}
 use Rattle.core_model.specs.declared.items.Item.TheVariants as item
 use Rattle.core_model.specs.declared.zones.ZoneData.TheVariants as at
@@ -23,19 +24,22 @@ stream_bound depth script (Answer w a ∷ older) stream right = elim (eqb_tells 
   | inr other ↦ rw other.0 (stream_bound depth script older stream right.1)
 ]
 
-some_stream : (script : Script) (stream number : ℕ) → IsSome (slice_get (get_or script stream []) number) → stream < length script
-some_stream [] stream number some = absurd cc
-some_stream (requests ∷ script) zero number some = omega arith
-some_stream (requests ∷ script) (suc stream) number some = let rest = some_stream script stream number some in omega (arith, rest)
+-- a stream with a request is one of the script
+pub stream_there : (script : Script) (stream : ℕ) → 0 < length (get_or script stream []) → stream < length script
+stream_there [] stream some = absurd (omega (arith, some))
+stream_there (requests ∷ script) zero some = omega arith
+stream_there (requests ∷ script) (suc stream) some = let rest = stream_there script stream some in omega (arith, rest)
 
 -- what is begun, and what is answered, over all streams
 pub all_begun : (depth : ℕ) (script : Script) (desk : List DeskLine) → IsDeskLog depth script desk → total is_begin desk ≤ over (length script) (λ i. begun i desk)
 all_begun depth script [] right = omega arith
 all_begun depth script (Begin w ∷ older) right =
     let rest = all_begun depth script older right.1 in
+    let asked = some_of _ right.0.1 in
+    let below = slice_get_within (get_or script w.stream []) w.number asked.0 asked.1 in
     elim (over_more (length script) w.stream (λ i. begun i older)) [
       | inl one ↦ omega (arith, rest, one.1)
-      | inr none ↦ absurd (omega (arith, none.0, some_stream script w.stream w.number right.0.1))
+      | inr none ↦ let there = stream_there script w.stream (omega (arith, below)) in absurd (omega (arith, none.0, there))
     ]
 all_begun depth script (Answer w a ∷ older) right = let rest = all_begun depth script older right.1 in omega (arith, rest)
 

@@ -23,7 +23,6 @@ module _ (s : Session) (core : Core) (session : IsSession s) (legal : Legal s co
         retired = retired_within s core legal n z had session l keeps;
         slots = slots_within s core legal n z had session l keeps;
       }
-  data_within (at.Physical p) keeps = tt
   data_within (at.Journal j) keeps =
       let waiting = waiting_within s core session legal n z had in
       let waits = ap (λ (d : ZoneData). length (kept_by d)) keeps in
@@ -33,6 +32,7 @@ module _ (s : Session) (core : Core) (session : IsSession s) (legal : Legal s co
         committed = committed_within s core legal n z had session j keeps;
       }
   data_within (at.Device d) keeps = calls_within s core legal n z had d keeps
+  data_within other keeps = tt
 
   pub zone_within : IsWithin z
   zone_within = record { inbox = inbox_within s core session legal n z had; outboxes = lanes_within s core session legal n z had; own = data_within z.keeps refl }

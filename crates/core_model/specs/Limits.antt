@@ -52,9 +52,9 @@ IsDeviceWithin steps d = d.calls ≤ steps
 abbrev pub IsDataWithin : ℕ → ZoneData → Type 0
 IsDataWithin steps (at.Desk desk) = IsDeskWithin desk
 IsDataWithin steps (at.Logical l) = IsLogicalWithin steps l
-IsDataWithin steps (at.Physical p) = Unit {0}
 IsDataWithin steps (at.Journal j) = IsJournalWithin j
 IsDataWithin steps (at.Device d) = IsDeviceWithin steps d
+IsDataWithin steps other = Unit {0}
 
 -- A zone keeps within its room.
 pub record IsWithin (z : Zone) : Type 0 where

@@ -5,15 +5,6 @@ use Rattle.blk_base.specs.declared.place.ZoneId.{ZoneId}
 use Rattle.blk_base.specs.declared.place.ZoneId.TheVariants as id
 use Rattle.core_model.specs.declared.sizes.Sizes.{Sizes}
 
--- a core has this zone: as many logical zones as its sizes say, one physical zone, and none of the other kinds as yet
-abbrev pub IsZone : Sizes → ZoneId → Type 0
-IsZone sizes id.Desk = Unit {0}
-IsZone sizes (id.Logical n) = n < sizes.zones
-IsZone sizes (id.Physical n) = n < 1
-IsZone sizes id.Journal = Unit {0}
-IsZone sizes id.Device = Unit {0}
-IsZone sizes other = ⊥
-
 abbrev pub zone_count : Sizes → ℕ
 zone_count sizes = 4 + sizes.zones
 
@@ -25,6 +16,13 @@ zone_number sizes (id.Physical n) = 1 + sizes.zones + n
 zone_number sizes id.Journal = 2 + sizes.zones
 zone_number sizes id.Device = 3 + sizes.zones
 zone_number sizes other = zone_count sizes
+
+-- a core has this zone: as many logical zones as its sizes say, one physical zone, and of the other kinds those that have a
+-- number below the count
+abbrev pub IsZone : Sizes → ZoneId → Type 0
+IsZone sizes (id.Logical n) = n < sizes.zones
+IsZone sizes (id.Physical n) = n < 1
+IsZone sizes other = zone_number sizes other < zone_count sizes
 
 abbrev pub desk_zone : ℕ
 desk_zone = 0

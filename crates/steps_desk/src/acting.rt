@@ -23,6 +23,6 @@ pub fn act(sizes: &Sizes, desk: &mut Desk, item: Item, posts: &mut Posts) -> Res
             hear_stop(desk, posts);
             Ok(())
         }
-        Item::Block(_) => Err(Stray),
+        _ => Err(Stray),
     }
 }

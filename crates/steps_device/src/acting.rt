@@ -34,6 +34,6 @@ pub fn act<D: Disk>(
     match item {
         Item::Request(vio) => call_device(sizes, zone, vio, disk, posts),
         Item::Block(block) => work_block(sizes, zone, block, disk, posts),
-        Item::StopNotice => Err(Stray),
+        _ => Err(Stray),
     }
 }

@@ -28,6 +28,6 @@ pub fn act(
             hear_stop(zone, posts);
             Ok(())
         }
-        Item::Block(_) => Err(Stray),
+        _ => Err(Stray),
     }
 }

@@ -26,6 +26,6 @@ pub fn act(
             hear_stop(zone, posts);
             Ok(())
         }
-        Item::Block(_) => Err(Stray),
+        _ => Err(Stray),
     }
 }

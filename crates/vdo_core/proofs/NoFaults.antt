@@ -34,10 +34,7 @@ session_sized s session = record {
 
 served_by : (s : Session) (t : Trace) (n : ℕ) (d : ZoneData) → IsSession s → DataOk s t n d → IsServedBy s.sizes d
 served_by s t n (at.Desk desk) session own = subst (λ (script : Script). IsLimited s.sizes script) (sym own.sound.requests) session.limits
-served_by s t n (at.Logical l) session own = tt
-served_by s t n (at.Physical p) session own = tt
-served_by s t n (at.Journal j) session own = tt
-served_by s t n (at.Device d) session own = tt
+served_by s t n other session own = tt
 
 -- a zone of a legal core can step
 pub can_step : (s : Session) (core : Core) (n : ℕ) (z : Zone) → IsSession s → Legal s core → slice_get core.zones n ≡ Some z → CanStep s.sizes z
@@ -67,10 +64,7 @@ begins_with_room s t n (at.Desk desk) session own right ((w, next), crowded) =
   where
     few : (streams depth begun answered : ℕ) → streams ≤ 16 → depth ≤ 16 → begun < streams * depth + answered → begun < 16 * 16 + answered
     few streams depth begun answered s d under = (let most = mul-le streams depth 16 16 s d in omega (arith, under, most))
-begins_with_room s t n (at.Logical l) session own right crowded = crowded
-begins_with_room s t n (at.Physical p) session own right crowded = crowded
-begins_with_room s t n (at.Journal j) session own right crowded = crowded
-begins_with_room s t n (at.Device d) session own right crowded = crowded
+begins_with_room s t n other session own right crowded = crowded
 
 pub none_fails : (s : Session) (core : Core) (n : ℕ) (z : Zone) (f : StepFault) → IsSession s → Legal s core → slice_get core.zones n ≡ Some z → MayFault s.sizes z f → ⊥
 none_fails s core n z fault.Exhausted session legal had (inl cannot) = cannot (can_step s core n z session legal had)

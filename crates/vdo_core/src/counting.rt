@@ -73,9 +73,9 @@ fn is_data_within(steps: u64, keeps: &ZoneData) -> bool
     match keeps {
         ZoneData::Desk(desk) => desk.is_within(),
         ZoneData::Logical(zone) => is_logical_within(steps, zone),
-        ZoneData::Physical(_) => true,
         ZoneData::Journal(zone) => is_journal_within(zone),
         ZoneData::Device(zone) => zone.calls <= steps,
+        _ => true,
     }
 }
 
@@ -85,8 +85,7 @@ fn serves(sizes: &Sizes, keeps: &ZoneData) -> bool
 {
     match keeps {
         ZoneData::Desk(desk) => is_served_by(sizes, desk),
-        ZoneData::Logical(_) | ZoneData::Physical(_) | ZoneData::Journal(_) | ZoneData::Device(_) =>
-            true,
+        _ => true,
     }
 }
 

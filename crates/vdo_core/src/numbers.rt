@@ -53,6 +53,6 @@ pub(crate) fn zone_number(sizes: &Sizes, zone: ZoneId) -> u64
         ZoneId::Physical(index) => 1 + logical + u64::from(index),
         ZoneId::Journal => 2 + logical,
         ZoneId::Device => 3 + logical,
-        ZoneId::Hash(_) | ZoneId::Index => 4 + logical,
+        _ => u64::from(zone_count(sizes)),
     }
 }

@@ -30,8 +30,7 @@ fn begin(sizes: &Sizes, keeps: &mut ZoneData, posts: &mut Posts) -> Result<bool,
 {
     match keeps {
         ZoneData::Desk(desk) => begin_next(sizes, desk, posts),
-        ZoneData::Logical(_) | ZoneData::Physical(_) | ZoneData::Journal(_) | ZoneData::Device(_) =>
-            Ok(false),
+        _ => Ok(false),
     }
 }
 

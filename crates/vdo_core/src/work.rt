@@ -24,8 +24,7 @@ fn begins(sizes: &Sizes, keeps: &ZoneData) -> bool
 {
     match keeps {
         ZoneData::Desk(desk) => may_begin(sizes, desk),
-        ZoneData::Logical(_) | ZoneData::Physical(_) | ZoneData::Journal(_) | ZoneData::Device(_) =>
-            false,
+        _ => false,
     }
 }
 
@@ -65,8 +64,7 @@ pub fn is_done(zones: &Zones) -> bool
     };
     match &zone.keeps {
         ZoneData::Desk(desk) => is_full(desk),
-        ZoneData::Logical(_) | ZoneData::Physical(_) | ZoneData::Journal(_) | ZoneData::Device(_) =>
-            false,
+        _ => false,
     }
 }
 

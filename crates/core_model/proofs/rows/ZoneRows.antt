@@ -22,7 +22,7 @@ use Rattle.core_model.proofs.rows.WorkedTraces.{block, first, sizes}
 
 -- the desk, two logical zones, one physical zone, the journal and the device are there, and have the numbers from 0 to 5
 are_zones : IsZone sizes id.Desk × IsZone sizes (id.Logical 0) × IsZone sizes (id.Logical 1) × IsZone sizes (id.Physical 0) × IsZone sizes id.Journal × IsZone sizes id.Device
-are_zones = (tt, omega arith, omega arith, omega arith, tt, tt)
+are_zones = (omega arith, omega arith, omega arith, omega arith, omega arith, omega arith)
 
 abbrev numbers : List ZoneId → List ℕ
 numbers [] = []
@@ -40,7 +40,7 @@ no_physical_zone : IsZone sizes (id.Physical 1) → ⊥
 no_physical_zone is = absurd (omega (arith, is))
 
 no_others : (IsZone sizes (id.Hash 0) → ⊥) × (IsZone sizes id.Index → ⊥) × (zone_number sizes (id.Hash 0) ≡ zone_count sizes) × (zone_number sizes id.Index ≡ zone_count sizes)
-no_others = (λ is. is, λ is. is, refl, refl)
+no_others = (λ is. absurd (omega (arith, is)), λ is. absurd (omega (arith, is)), refl, refl)
 
 -- the device notifies all but the desk and itself
 are_notified : (notified sizes ≡ id.Journal ∷ id.Physical 0 ∷ id.Logical 1 ∷ id.Logical 0 ∷ []) × (length (notified sizes) ≡ notified_zones sizes)
