@@ -1,4 +1,5 @@
--- What the zones of a small core have of its report, and the requests that are found: each clause met, and broken alone.
+-- What the zones of a small core have of its report, and the requests that are found: each clause is met, and is broken
+-- alone.
 use Rattle.std.proofs.Common.{ℕ, zero, suc, ◌≡◌, false, Some, None, List, [], ◌∷◌, replicate, slice_get, sym, ap, ◌∙◌, refl, arith}
 use Rattle.std.proofs.lemmas.List.{length-replicate}
 use Rattle.std.proofs.lemmas.Option.{same_Some}

@@ -12,9 +12,10 @@ use crate::room::ReportRoom;
 use core_model::Zone;
 use vdo_model::RunReport;
 
-/// The report of a core that is done: its requests, desk log and marks are moved out of the desk, its places are those of
-/// the zones, one zone's behind the other's, and its histories have an entry for each write that has a place. It asks for
-/// no memory; its time is linear in the requests, for each of the 16 streams.
+/// The report of a core that is done: its requests, desk log and marks are moved out of the desk, its places are those
+/// of the zones, one zone's behind the other's, and its histories have an entry for each write that has a place. It asks
+/// for no memory; its time is linear in the requests, for each of the 16 streams. Of a core that isn't legal, or isn't
+/// done, it gives some report.
 pub fn report(zones: Vec<Zone>, room: ReportRoom) -> RunReport
     ensures { (s : Session) (t : Trace) → IsSession s → Legal s (record { zones = zones.items; trace = t }) → AllAnswered s.script (lines t)
         → IsRoomFor room s.script → result ≡ report_of s t }

@@ -7,8 +7,8 @@ use std::alloc::{AllocError, Global};
 use std::marker::Model;
 use vdo_model::{HistoryEntry, Placed, Requests};
 
-/// Room for the report of a session, taken when its core begins: for the places and histories of as many requests as there
-/// may be, and to note where each answer stands. A contract sees for how many requests of each stream it is.
+/// Room for the report of a session, taken when its core begins: for the places and histories of as many requests as
+/// there may be, and to note where each answer stands. A contract sees for how many requests of each stream it is.
 #[derive(Drop)]
 pub struct ReportRoom {
     pub(crate) places: Register<Placed, REQUEST_ROOM>,
