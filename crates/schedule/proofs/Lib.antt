@@ -1,2 +1,2 @@
-mod TurnLaws
+pub mod TurnLaws
 mod TurnRows
