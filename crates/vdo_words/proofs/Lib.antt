@@ -1,4 +1,11 @@
 pub mod NumberLaws
 pub mod ReadingLaws
+pub mod RowLaws
+pub mod WordLaws
+pub mod WalkLaws
+pub mod CommandLaws
+pub mod ReachLaws
+pub mod FindingLaws
 pub mod OptionRows
 pub mod CommandRows
+pub mod MatchingRows

@@ -6,6 +6,8 @@
 
 mod commands;
 mod given;
+mod line;
+mod matching;
 mod naming;
 mod options;
 mod reading;

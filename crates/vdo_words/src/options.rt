@@ -4,6 +4,7 @@ ghost use Rattle.vdo_words.specs.Given.{given, find as first_of};
 ghost use Rattle.vdo_words.specs.Options.{spelling, greatest, is_given, number_of, number_in, number_or};
 
 use crate::given::find;
+use crate::line::Line;
 use crate::naming::OptionName;
 
 fn is_digits(text: &str) -> bool
@@ -42,24 +43,24 @@ pub(crate) fn is_given(name: OptionName, words: &[String]) -> bool
     find(name.spelling(), words).is_some()
 }
 
-/// The number that the words give for this option.
-fn value_given(name: OptionName, words: &[String]) -> Option<u64>
-    ensures { result ≡ number_in name (first_of (spelling name) (given (map string_bytes words.now))) }
+/// The number that a line gives for this option.
+fn number_given(name: OptionName, line: &Line<'_>) -> Option<u64>
+    ensures { result ≡ number_in name (first_of (spelling name) line.now) }
 {
-    number_of(name, find(name.spelling(), words)?.value?)
+    number_of(name, line.value(name)?)
 }
 
-/// The number that the words give for this option, else its default.
-pub(crate) fn wide(name: OptionName, default: u64, words: &[String]) -> u64
-    ensures { result ≡ number_or default name (given (map string_bytes words.now)) }
+/// The number that a line gives for this option, else its default.
+pub(crate) fn wide(name: OptionName, default: u64, line: &Line<'_>) -> u64
+    ensures { result ≡ number_or default name line.now }
 {
-    value_given(name, words).unwrap_or(default)
+    number_given(name, line).unwrap_or(default)
 }
 
 /// The same of an option whose range ends at 32 bits.
-pub(crate) fn number(name: OptionName, default: u32, words: &[String]) -> u32
+pub(crate) fn number(name: OptionName, default: u32, line: &Line<'_>) -> u32
     requires { greatest name ≤ 4294967295 }
-    ensures { result ≡ number_or default name (given (map string_bytes words.now)) }
+    ensures { result ≡ number_or default name line.now }
 {
-    wide(name, u64::from(default), words) as u32
+    wide(name, u64::from(default), line) as u32
 }

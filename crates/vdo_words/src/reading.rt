@@ -8,9 +8,11 @@ ghost use Rattle.vdo_words.specs.Commands.{bare_command, command_named, core_of,
 use crate::commands::{
     Command, CoreOptions, CrashOptions, Drive, FormatOptions, RunOptions, Usage, WorkloadOptions,
 };
+use crate::line::Line;
 use crate::naming::OptionName;
 use crate::options::{is_given, number, wide};
 use crate::rules::are_right;
+use std::alloc::Global;
 
 const FORMAT: [OptionName; 8] = [
     OptionName::Logical,
@@ -56,53 +58,55 @@ const WORKLOAD: [OptionName; 9] = [
     OptionName::Streams,
 ];
 
-fn format(words: &[String]) -> Option<FormatOptions>
+fn format(alloc: Global, words: &[String]) -> Option<FormatOptions>
     ensures { result ≡ format_of (given (map string_bytes words.now)) }
 {
     if !are_right(&FORMAT, words) {
         return None;
     }
+    let line = Line::new(alloc, &FORMAT, words);
     Some(FormatOptions {
-        logical: number(OptionName::Logical, 1000, words),
-        slabs: number(OptionName::Slabs, 1, words),
-        slab_blocks: number(OptionName::SlabBlocks, 64, words),
-        journal: number(OptionName::Journal, 8, words),
-        index: number(OptionName::Index, 16, words),
-        slab_journal: number(OptionName::SlabJournal, 4, words),
-        height: number(OptionName::Height, 2, words),
-        nonce: wide(OptionName::Nonce, 1, words),
+        logical: number(OptionName::Logical, 1000, &line),
+        slabs: number(OptionName::Slabs, 1, &line),
+        slab_blocks: number(OptionName::SlabBlocks, 64, &line),
+        journal: number(OptionName::Journal, 8, &line),
+        index: number(OptionName::Index, 16, &line),
+        slab_journal: number(OptionName::SlabJournal, 4, &line),
+        height: number(OptionName::Height, 2, &line),
+        nonce: wide(OptionName::Nonce, 1, &line),
     })
 }
 
-fn core(words: &[String]) -> CoreOptions
-    ensures { result ≡ core_of (given (map string_bytes words.now)) }
+fn core(line: &Line<'_>) -> CoreOptions
+    ensures { result ≡ core_of line.now }
 {
     CoreOptions {
-        depth: number(OptionName::Depth, 1, words),
-        logical_zones: number(OptionName::LogicalZones, 1, words),
-        physical_zones: number(OptionName::PhysicalZones, 1, words),
-        hash_zones: number(OptionName::HashZones, 1, words),
-        cache: number(OptionName::Cache, 16, words),
+        depth: number(OptionName::Depth, 1, line),
+        logical_zones: number(OptionName::LogicalZones, 1, line),
+        physical_zones: number(OptionName::PhysicalZones, 1, line),
+        hash_zones: number(OptionName::HashZones, 1, line),
+        cache: number(OptionName::Cache, 16, line),
     }
 }
 
-fn schedule(words: &[String]) -> u64
-    ensures { result ≡ number_or 0 Schedule (given (map string_bytes words.now)) }
+fn schedule(line: &Line<'_>) -> u64
+    ensures { result ≡ number_or 0 Schedule line.now }
 {
-    wide(OptionName::Schedule, 0, words)
+    wide(OptionName::Schedule, 0, line)
 }
 
-fn drive(words: &[String]) -> Drive
-    ensures { result ≡ drive_of (given (map string_bytes words.now)) }
+fn drive(words: &[String], line: &Line<'_>) -> Drive
+    requires { line.now ≡ given (map string_bytes words.now) }
+    ensures { result ≡ drive_of line.now }
 {
     if is_given(OptionName::Threads, words) {
         Drive::Threads
     } else {
-        Drive::Schedule(schedule(words))
+        Drive::Schedule(schedule(line))
     }
 }
 
-fn run(words: &[String]) -> Option<RunOptions>
+fn run(alloc: Global, words: &[String]) -> Option<RunOptions>
     ensures { result ≡ run_of (given (map string_bytes words.now)) }
 {
     if !are_right(&RUN, words)
@@ -110,13 +114,14 @@ fn run(words: &[String]) -> Option<RunOptions>
     {
         return None;
     }
+    let line = Line::new(alloc, &RUN, words);
     Some(RunOptions {
-        drive: drive(words),
-        core: core(words),
+        drive: drive(words, &line),
+        core: core(&line),
     })
 }
 
-fn crash(words: &[String]) -> Option<CrashOptions>
+fn crash(alloc: Global, words: &[String]) -> Option<CrashOptions>
     ensures { result ≡ crash_of (given (map string_bytes words.now)) }
 {
     if !are_right(&CRASH, words)
@@ -125,41 +130,43 @@ fn crash(words: &[String]) -> Option<CrashOptions>
     {
         return None;
     }
+    let line = Line::new(alloc, &CRASH, words);
     Some(CrashOptions {
-        schedule: schedule(words),
-        core: core(words),
-        after: wide(OptionName::After, 0, words),
-        image: wide(OptionName::Image, 0, words),
+        schedule: schedule(&line),
+        core: core(&line),
+        after: wide(OptionName::After, 0, &line),
+        image: wide(OptionName::Image, 0, &line),
     })
 }
 
-fn workload(words: &[String]) -> Option<WorkloadOptions>
+fn workload(alloc: Global, words: &[String]) -> Option<WorkloadOptions>
     ensures { result ≡ workload_of (given (map string_bytes words.now)) }
 {
     if !are_right(&WORKLOAD, words) {
         return None;
     }
+    let line = Line::new(alloc, &WORKLOAD, words);
     Some(WorkloadOptions {
-        schedule: schedule(words),
-        core: core(words),
-        seed: wide(OptionName::Seed, 0, words),
-        requests: number(OptionName::Requests, 1000, words),
-        streams: number(OptionName::Streams, 4, words),
+        schedule: schedule(&line),
+        core: core(&line),
+        seed: wide(OptionName::Seed, 0, &line),
+        requests: number(OptionName::Requests, 1000, &line),
+        streams: number(OptionName::Streams, 4, &line),
     })
 }
 
 // The command of this name with these options.
-fn named(name: &str, words: &[String]) -> Option<Command>
+fn named(alloc: Global, name: &str, words: &[String]) -> Option<Command>
     ensures { result ≡ command_named name.now (given (map string_bytes words.now)) }
 {
     match name {
-        "format" => Some(Command::Format(format(words)?)),
-        "run" => Some(Command::Run(run(words)?)),
+        "format" => Some(Command::Format(format(alloc, words)?)),
+        "run" => Some(Command::Run(run(alloc, words)?)),
         "recover" => bare(Command::Recover, words),
         "audit" => bare(Command::Audit, words),
         "status" => bare(Command::Status, words),
-        "crash" => Some(Command::Crash(crash(words)?)),
-        "workload" => Some(Command::Workload(workload(words)?)),
+        "crash" => Some(Command::Crash(crash(alloc, words)?)),
+        "workload" => Some(Command::Workload(workload(alloc, words)?)),
         _ => None,
     }
 }
@@ -175,13 +182,13 @@ fn bare(command: Command, words: &[String]) -> Option<Command>
 ///
 /// They are refused where there is no word, where the first is no command's name, where an option isn't the command's,
 /// stands twice, or has no value or one that isn't 1 to 20 decimal digits within its range, where `--threads` has a value
-/// or stands beside `--schedule`, and where `crash` lacks `--after` or `--image`.
-pub fn read_command(words: &[String]) -> Result<Command, Usage>
+/// or stands beside `--schedule`, and where `crash` lacks `--after` or `--image`. Want of memory changes no answer.
+pub fn read_command(alloc: Global, words: &[String]) -> Result<Command, Usage>
     ensures exact { result ≡ read (map string_bytes words.now) }
     ensures within { IfOk result IsCommandWithin }
 {
     let [name, rest @ ..] = words else {
         return Err(Usage);
     };
-    named(name.as_str(), rest).ok_or(Usage)
+    named(alloc, name.as_str(), rest).ok_or(Usage)
 }

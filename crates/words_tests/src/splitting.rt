@@ -10,5 +10,5 @@ pub fn read(alloc: Global, line: &str) -> Result<Result<Command, Usage>, AllocEr
             words.push(String::from_str(alloc, word)?)?;
         }
     }
-    Ok(read_command(words.as_slice()))
+    Ok(read_command(alloc, words.as_slice()))
 }
