@@ -8,7 +8,7 @@ use Rattle.vdo_model.specs.declared.report.Placed.{Placed}
 use Rattle.stream_text.specs.Texts.{writer}
 use Rattle.stream_text.specs.Notes.{IsNewestAnswer, NotesAnswer, NotesAnswers, NotesPlaces, HasRoomFor}
 
--- request 0 is begun, answered Stopped and answered Ok; request 1 has no answer
+-- the first request is begun, answered Stopped and answered Ok; the second has no answer
 abbrev lines : List DeskLine
 lines = Begin (writer 3 0) ∷ Answer (writer 3 0) reply.Stopped ∷ Answer (writer 3 0) reply.Ok ∷ []
 
