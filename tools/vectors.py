@@ -8,6 +8,7 @@ import sys
 from collections.abc import Iterator
 from pathlib import Path
 
+import answers
 import journal
 import layout
 import map_page
@@ -22,7 +23,7 @@ CRATES = Path(__file__).resolve().parent.parent / "crates"
 
 
 def vectors() -> Iterator[Vector]:
-    for module in (layout, superblock, journal, map_page, slab, names, picks):
+    for module in (layout, superblock, journal, map_page, slab, names, picks, answers):
         yield from module.vectors()
 
 

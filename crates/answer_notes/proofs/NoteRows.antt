@@ -6,7 +6,7 @@ use Rattle.vdo_model.specs.declared.report.DeskLine.TheVariants.{Begin, Answer}
 use Rattle.vdo_model.specs.declared.report.Placed.{Placed}
 use Rattle.answer_notes.specs.Notes.{IsNewestAnswer, NotesAnswer, NotesAnswers, NotesPlaces, writer}
 
--- request 0 is begun, answered Stopped and answered Ok; request 1 has no answer
+-- the first request is begun, answered Stopped and answered Ok; the second has no answer
 abbrev lines : List DeskLine
 lines = Begin (writer 3 0) ∷ Answer (writer 3 0) reply.Stopped ∷ Answer (writer 3 0) reply.Ok ∷ []
 

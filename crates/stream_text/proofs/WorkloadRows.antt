@@ -52,7 +52,7 @@ state_of_next = refl
 pub workload_empty : workload_of 0 2 1000 0 ≡ replicate 16 []
 workload_empty = refl
 
--- request 1 is of stream 1
+-- the second is of stream 1
 pub workload_dealt : workload_of 0 2 1000 2
     ≡ (Discard (record { 0 = 424 }) ∷ []) ∷ (Write (record { 0 = 236 }) (filled_block 13) false ∷ []) ∷ replicate 14 []
 workload_dealt = refl

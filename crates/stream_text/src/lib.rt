@@ -25,4 +25,5 @@ pub use fault::{ReadScript, ScriptFault};
 pub use indexed::{AnswerRoom, put_indexed_answers};
 pub use reading::read_script;
 pub use refusal::{LineFault, ReadRequests, ScriptRefusal};
+pub use runs::put_runs;
 pub use whole::{ScriptRequests, read_requests};

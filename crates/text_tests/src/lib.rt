@@ -7,6 +7,8 @@ mod agreeing;
 #[cfg(test)]
 mod indexed;
 #[cfg(test)]
+mod large;
+#[cfg(test)]
 mod numbers;
 #[cfg(test)]
 mod refused;

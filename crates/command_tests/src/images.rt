@@ -1,0 +1,153 @@
+//! What the commands print that look at an image: `format`, `recover`, `audit` and `status`.
+use blk_base::Pbn;
+use command_text::{
+    Audit, Difference, Formatted, Mode, Recovery, Space, Status, put_audit, put_formatted,
+    put_recovery, put_status,
+};
+use disk_model::{Failed, MemSink};
+use std::test::Fail;
+
+const IMAGE: Formatted = Formatted {
+    blocks: 154,
+    slabs: 1,
+    slab_blocks: 64,
+    logical: 1000,
+};
+
+const SPACE: Space = Space { used: 2, total: 64 };
+
+#[test]
+fn one_slab_is_formatted(rt: HostRuntime) -> Result<(), Fail> {
+    let mut out = MemSink::new(rt.alloc(), 1000)?;
+    let put = put_formatted(&IMAGE, &mut out);
+    assert_eq!(rt;
+        (put, out.bytes()),
+        (
+            Ok(()),
+            b"formatted 154 blocks, 1 slab of 64, logical 1000\n".as_slice()
+        )
+    );
+    Ok(())
+}
+
+#[test]
+fn two_slabs_are_formatted(rt: HostRuntime) -> Result<(), Fail> {
+    let mut out = MemSink::new(rt.alloc(), 30)?;
+    let image = Formatted {
+        blocks: 223,
+        slabs: 2,
+        ..IMAGE
+    };
+    let put = put_formatted(&image, &mut out);
+    assert_eq!(rt;
+        (put, out.bytes()),
+        (Err(Failed), b"formatted 223 blocks, 2 slabs ".as_slice())
+    );
+    Ok(())
+}
+
+#[test]
+fn recoveries_are_told(rt: HostRuntime) -> Result<(), Fail> {
+    let mut out = MemSink::new(rt.alloc(), 1000)?;
+    put_recovery(Recovery::Clean, &mut out)?;
+    put_recovery(Recovery::Entries(30), &mut out)?;
+    assert_eq!(rt; out.bytes(), b"clean\nrecovered 30 entries\n".as_slice());
+    Ok(())
+}
+
+#[test]
+fn an_audit_is_clean(rt: HostRuntime) -> Result<(), Fail> {
+    let mut out = MemSink::new(rt.alloc(), 1000)?;
+    let audit = Audit {
+        differences: &[],
+        space: SPACE,
+    };
+    let put = put_audit(&audit, &mut out);
+    assert_eq!(rt;
+        (put, out.bytes()),
+        (Ok(()), b"audit clean, used 2 of 64\n".as_slice())
+    );
+    Ok(())
+}
+
+const DIFFERENCES: [Difference; 2] = [
+    Difference {
+        at: Pbn(86),
+        stored: 2,
+        mapped: 1,
+    },
+    Difference {
+        at: Pbn(4294967295),
+        stored: 254,
+        mapped: 18446744073709551615,
+    },
+];
+
+#[test]
+fn an_audit_differs(rt: HostRuntime) -> Result<(), Fail> {
+    let mut out = MemSink::new(rt.alloc(), 1000)?;
+    let audit = Audit {
+        differences: &DIFFERENCES,
+        space: SPACE,
+    };
+    let put = put_audit(&audit, &mut out);
+    assert_eq!(rt;
+        (put, out.bytes()),
+        (
+            Ok(()),
+            b"block 86 stored 2 mapped 1
+block 4294967295 stored 254 mapped 18446744073709551615
+audit differs 2
+"
+                .as_slice()
+        )
+    );
+    Ok(())
+}
+
+#[test]
+fn a_clean_image_is_shown(rt: HostRuntime) -> Result<(), Fail> {
+    let mut out = MemSink::new(rt.alloc(), 1000)?;
+    let status = Status {
+        mode: Mode::Clean,
+        chapters: 0,
+        space: Space { used: 0, total: 64 },
+        logical: 1000,
+    };
+    let put = put_status(&status, &mut out);
+    assert_eq!(rt;
+        (put, out.bytes()),
+        (
+            Ok(()),
+            b"mode clean
+recovery none
+index 0 chapters
+compression refused
+used 0 of 64
+logical 1000
+"
+                .as_slice()
+        )
+    );
+    Ok(())
+}
+
+#[test]
+fn an_unclean_image_is_shown(rt: HostRuntime) -> Result<(), Fail> {
+    let mut out = MemSink::new(rt.alloc(), 50)?;
+    let status = Status {
+        mode: Mode::Unclean { entries: 30 },
+        chapters: 1,
+        space: SPACE,
+        logical: 1000,
+    };
+    let put = put_status(&status, &mut out);
+    assert_eq!(rt;
+        (put, out.bytes()),
+        (
+            Err(Failed),
+            b"mode unclean\nrecovery 30 entries\nindex 1 chapters\n".as_slice()
+        )
+    );
+    Ok(())
+}

@@ -1,0 +1,7 @@
+//! Tests of what each command prints.
+#![tactic(auto)]
+
+#[cfg(test)]
+mod images;
+#[cfg(test)]
+mod sessions;

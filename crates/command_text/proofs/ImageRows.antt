@@ -1,0 +1,111 @@
+-- What is printed of images: for each definition two cases, computed.
+use Rattle.std.specs.Prelude.{◌≡◌, List, [], ◌∷◌, codes, Some, None, refl}
+use Rattle.command_text.proofs.Numerals.{numerals}
+use Rattle.command_text.specs.declared.audits.Audit.{Audit}
+use Rattle.command_text.specs.declared.audits.Difference.{Difference}
+use Rattle.command_text.specs.declared.parts.Space.{Space}
+use Rattle.command_text.specs.declared.parts.Recovery.TheVariants.{Clean, Entries}
+use Rattle.command_text.specs.declared.parts.DamagedPlace.TheVariants.{Page, Count}
+use Rattle.command_text.specs.declared.statuses.Mode.TheVariants as mode
+use Rattle.command_text.specs.Parts.{recovered_text, recovery_text, space_pieces, space_text, damaged_text, damage_text}
+use Rattle.command_text.specs.Formats.{slabs_text, formatted_text}
+use Rattle.command_text.specs.Audits.{difference_text, verdict_text, audit_text}
+use Rattle.command_text.specs.Statuses.{mode_text, sizes_text, status_text}
+
+abbrev pub fresh : Space
+fresh = record { used = 0; total = 64 }
+
+abbrev pub some_used : Space
+some_used = record { used = 2; total = 64 }
+
+pub recovered_some : recovered_text (Some 30) ≡ codes "recovered 30 entries\n"
+recovered_some = simp numerals refl
+
+pub recovered_none : recovered_text None ≡ []
+recovered_none = refl
+
+pub recovery_clean : recovery_text Clean ≡ codes "clean\n"
+recovery_clean = refl
+
+-- a recovery of no entries isn't that of a clean image
+pub recovery_empty : recovery_text (Entries 0) ≡ codes "recovered 0 entries\n"
+recovery_empty = simp numerals refl
+
+pub space_in_pieces : space_pieces some_used ≡ codes "used " ∷ codes "2" ∷ codes " of " ∷ codes "64" ∷ codes "\n" ∷ []
+space_in_pieces = simp numerals refl
+
+pub space_some : space_text some_used ≡ codes "used 2 of 64\n"
+space_some = simp numerals refl
+
+pub space_none : space_text fresh ≡ codes "used 0 of 64\n"
+space_none = simp numerals refl
+
+pub damaged_page : damaged_text (codes "page ") (record { 0 = 85 }) ≡ codes "damage: page 85\n"
+damaged_page = simp numerals refl
+
+pub damage_of_page : damage_text (Some (Page (record { 0 = 85 }))) ≡ codes "damage: page 85\n"
+damage_of_page = simp numerals refl
+
+pub damage_of_count : damage_text (Some (Count (record { 0 = 86 }))) ≡ codes "damage: count 86\n"
+damage_of_count = simp numerals refl
+
+pub damage_none : damage_text None ≡ []
+damage_none = refl
+
+pub one_slab : slabs_text 1 ≡ codes " slab of "
+one_slab = refl
+
+pub two_slabs : slabs_text 2 ≡ codes " slabs of "
+two_slabs = refl
+
+pub formatted_one : formatted_text (record { blocks = 154; slabs = 1; slab_blocks = 64; logical = 1000 })
+    ≡ codes "formatted 154 blocks, 1 slab of 64, logical 1000\n"
+formatted_one = simp numerals refl
+
+pub formatted_two : formatted_text (record { blocks = 223; slabs = 2; slab_blocks = 64; logical = 2000 })
+    ≡ codes "formatted 223 blocks, 2 slabs of 64, logical 2000\n"
+formatted_two = simp numerals refl
+
+abbrev pub stray : Difference
+stray = record { at = record { 0 = 86 }; stored = 2; mapped = 1 }
+
+pub difference_of_two : difference_text stray ≡ codes "block 86 stored 2 mapped 1\n"
+difference_of_two = simp numerals refl
+
+pub difference_of_none : difference_text (record { at = record { 0 = 87 }; stored = 0; mapped = 300 }) ≡ codes "block 87 stored 0 mapped 300\n"
+difference_of_none = simp numerals refl
+
+pub verdict_clean : verdict_text [] some_used ≡ codes "audit clean, used 2 of 64\n"
+verdict_clean = simp numerals refl
+
+pub verdict_differs : verdict_text (stray ∷ stray ∷ []) some_used ≡ codes "audit differs 2\n"
+verdict_differs = simp numerals refl
+
+abbrev pub audit_with : List Difference → Audit
+audit_with differences = record { differences = record { ref_ptr = (0, 0); now = differences }; space = some_used }
+
+pub audit_clean : audit_text (audit_with []) ≡ codes "audit clean, used 2 of 64\n"
+audit_clean = simp numerals refl
+
+pub audit_differs : audit_text (audit_with (stray ∷ [])) ≡ codes "block 86 stored 2 mapped 1\naudit differs 1\n"
+audit_differs = simp numerals refl
+
+pub mode_clean : mode_text mode.Clean ≡ codes "mode clean\nrecovery none\n"
+mode_clean = refl
+
+pub mode_unclean : mode_text (mode.Unclean 0) ≡ codes "mode unclean\nrecovery 0 entries\n"
+mode_unclean = simp numerals refl
+
+pub sizes_fresh : sizes_text 0 fresh 1000 ≡ codes "index 0 chapters\ncompression refused\nused 0 of 64\nlogical 1000\n"
+sizes_fresh = simp numerals refl
+
+pub sizes_used : sizes_text 1 some_used 2000 ≡ codes "index 1 chapters\ncompression refused\nused 2 of 64\nlogical 2000\n"
+sizes_used = simp numerals refl
+
+pub status_clean : status_text (record { mode = mode.Clean; chapters = 0; space = fresh; logical = 1000 })
+    ≡ codes "mode clean\nrecovery none\nindex 0 chapters\ncompression refused\nused 0 of 64\nlogical 1000\n"
+status_clean = simp numerals refl
+
+pub status_unclean : status_text (record { mode = mode.Unclean 30; chapters = 1; space = some_used; logical = 1000 })
+    ≡ codes "mode unclean\nrecovery 30 entries\nindex 1 chapters\ncompression refused\nused 2 of 64\nlogical 1000\n"
+status_unclean = simp numerals refl

@@ -1,0 +1,5 @@
+pub mod ImageRows
+pub mod LineLaws
+pub mod Numerals
+pub mod SessionRows
+pub mod TallyLaws

@@ -1,0 +1,10 @@
+pub mod Pieces
+pub mod Parts
+pub mod Formats
+pub mod Audits
+pub mod Statuses
+pub mod Runs
+pub mod Tallies
+pub mod Workloads
+pub mod Crashes
+pub mod Sectors

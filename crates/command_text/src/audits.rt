@@ -1,0 +1,83 @@
+ghost use Rattle.std.specs.Prelude.{◌≡◌, ◌++◌, IsTrue, OnOk, OnErr};
+ghost use Rattle.disk_model.specs.Causes.{HasCause};
+ghost use Rattle.stream_text.specs.Puts.{PutsPart};
+ghost use Rattle.command_text.specs.Audits.{difference_text, verdict_text, audit_text};
+
+use crate::parts::Space;
+use crate::pieces::{Line, Piece, put_lines};
+use blk_base::Pbn;
+use disk_model::{Failed, Sink};
+
+/// A data block whose stored count isn't the number of its mappings.
+#[derive(Clone, Copy, Debug, PartialEq, Eq)]
+pub struct Difference {
+    pub at: Pbn,
+    pub stored: u32,
+    pub mapped: u64,
+}
+
+impl Line for Difference {
+    ghost text = { difference_text };
+
+    fn put_to<K: Sink>(&self, out: &mut K) -> Result<(), Failed> {
+        put_lines(
+            &[
+                Piece::Word(b"block "),
+                Piece::U32(self.at.0),
+                Piece::Word(b" stored "),
+                Piece::U32(self.stored),
+                Piece::Word(b" mapped "),
+                Piece::U64(self.mapped),
+                Piece::Word(b"\n"),
+            ],
+            out,
+        )
+    }
+}
+
+/// What an audit found: each data block that differs, and how much of the space is used.
+#[derive(Clone, Copy, Debug)]
+pub struct Audit<'a> {
+    pub differences: &'a [Difference],
+    pub space: Space,
+}
+
+fn put_verdict<K: Sink>(differences: &[Difference], space: Space, out: &mut K) -> Result<(), Failed>
+    ensures ok { IsTrue K.tells → OnOk result (K.holds out.new ≡ K.holds out.old ++ verdict_text differences.now space) }
+    ensures err { IsTrue K.tells → OnErr result (PutsPart (K.holds out.old) (K.holds out.new) (verdict_text differences.now space)) }
+    ensures cause { HasCause (K.faults out.old) (K.faults out.new) result }
+{
+    if differences.is_empty() {
+        put_lines(
+            &[
+                Piece::Word(b"audit clean, "),
+                Piece::Word(b"used "),
+                Piece::U32(space.used),
+                Piece::Word(b" of "),
+                Piece::U32(space.total),
+                Piece::Word(b"\n"),
+            ],
+            out,
+        )
+    } else {
+        put_lines(
+            &[
+                Piece::Word(b"audit differs "),
+                Piece::Usize(differences.len()),
+                Piece::Word(b"\n"),
+            ],
+            out,
+        )
+    }
+}
+
+/// Puts a line `block 86 stored 2 mapped 1` for each block that differs, and then `audit differs 1`; or, where none does,
+/// `audit clean, used 2 of 64`. It fails where the sink fails; then a first part of the text was put.
+pub fn put_audit<K: Sink>(audit: &Audit<'_>, out: &mut K) -> Result<(), Failed>
+    ensures ok { IsTrue K.tells → OnOk result (K.holds out.new ≡ K.holds out.old ++ audit_text audit.now) }
+    ensures err { IsTrue K.tells → OnErr result (PutsPart (K.holds out.old) (K.holds out.new) (audit_text audit.now)) }
+    ensures cause { HasCause (K.faults out.old) (K.faults out.new) result }
+{
+    put_lines(audit.differences, out)?;
+    put_verdict(audit.differences, audit.space, out)
+}

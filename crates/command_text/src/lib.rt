@@ -1,0 +1,23 @@
+//! What each command prints: from the results of a command, as plain values, to lines that are put to a sink.
+#![tactic(auto)]
+
+mod audits;
+mod crashes;
+mod formats;
+mod parts;
+mod pieces;
+mod runs;
+mod sectors;
+mod statuses;
+mod tallies;
+mod workloads;
+
+pub use audits::{Audit, Difference, put_audit};
+pub use crashes::{AddressValue, Crash, CrashStop, put_crash, put_crash_stop};
+pub use formats::{Formatted, put_formatted};
+pub use parts::{DamagedPlace, Recovery, Space, put_recovery};
+pub use runs::{RunNotes, put_run};
+pub use sectors::{SectorAnswer, SectorAsked, SectorLine, put_sector_lines, put_sectors};
+pub use statuses::{Mode, Status, put_status};
+pub use tallies::Tally;
+pub use workloads::{Summary, put_summary};

@@ -1,0 +1,111 @@
+ghost use Rattle.std.specs.Prelude.{◌≡◌, ◌++◌, IsTrue, OnOk, OnErr};
+ghost use Rattle.disk_model.specs.Causes.{HasCause};
+ghost use Rattle.stream_text.specs.Puts.{PutsPart};
+ghost use Rattle.command_text.specs.Parts.{recovery_text, recovered_text, space_text, damaged_text, damage_text};
+
+use crate::pieces::{Piece, put_lines};
+use blk_base::Pbn;
+use disk_model::{Failed, Sink};
+
+/// How many data blocks have a reference, and how many there are.
+#[derive(Clone, Copy, Debug, PartialEq, Eq)]
+pub struct Space {
+    pub used: u32,
+    pub total: u32,
+}
+
+/// What a recovery found.
+#[derive(Clone, Copy, Debug, PartialEq, Eq)]
+pub enum Recovery {
+    /// The image was clean, and nothing was written.
+    Clean,
+    /// So many entries of the journal were recovered.
+    Entries(u32),
+}
+
+/// What a session found that isn't as a run leaves it.
+#[derive(Clone, Copy, Debug, PartialEq, Eq)]
+pub enum DamagedPlace {
+    /// The page of the block map in this block.
+    Page(Pbn),
+    /// The reference count of this block.
+    Count(Pbn),
+}
+
+/// Puts `clean`, or `recovered 30 entries`. It fails where the sink fails; then a first part of the line was put.
+pub fn put_recovery<K: Sink>(recovery: Recovery, out: &mut K) -> Result<(), Failed>
+    ensures ok { IsTrue K.tells → OnOk result (K.holds out.new ≡ K.holds out.old ++ recovery_text recovery) }
+    ensures err { IsTrue K.tells → OnErr result (PutsPart (K.holds out.old) (K.holds out.new) (recovery_text recovery)) }
+    ensures cause { HasCause (K.faults out.old) (K.faults out.new) result }
+{
+    match recovery {
+        Recovery::Clean => out.put(b"clean\n"),
+        Recovery::Entries(entries) => put_recovered(Some(entries), out),
+    }
+}
+
+/// Puts `recovered 30 entries`, and nothing where nothing was recovered.
+pub(crate) fn put_recovered<K: Sink>(entries: Option<u32>, out: &mut K) -> Result<(), Failed>
+    ensures ok { IsTrue K.tells → OnOk result (K.holds out.new ≡ K.holds out.old ++ recovered_text entries) }
+    ensures err { IsTrue K.tells → OnErr result (PutsPart (K.holds out.old) (K.holds out.new) (recovered_text entries)) }
+    ensures cause { HasCause (K.faults out.old) (K.faults out.new) result }
+{
+    match entries {
+        Some(count) => put_lines(
+            &[
+                Piece::Word(b"recovered "),
+                Piece::U32(count),
+                Piece::Word(b" entries\n"),
+            ],
+            out,
+        ),
+        None => Ok(()),
+    }
+}
+
+/// Puts `used 2 of 64`.
+pub(crate) fn put_space<K: Sink>(space: Space, out: &mut K) -> Result<(), Failed>
+    ensures ok { IsTrue K.tells → OnOk result (K.holds out.new ≡ K.holds out.old ++ space_text space) }
+    ensures err { IsTrue K.tells → OnErr result (PutsPart (K.holds out.old) (K.holds out.new) (space_text space)) }
+    ensures cause { HasCause (K.faults out.old) (K.faults out.new) result }
+{
+    put_lines(
+        &[
+            Piece::Word(b"used "),
+            Piece::U32(space.used),
+            Piece::Word(b" of "),
+            Piece::U32(space.total),
+            Piece::Word(b"\n"),
+        ],
+        out,
+    )
+}
+
+fn put_damaged<K: Sink>(place: &[u8], at: Pbn, out: &mut K) -> Result<(), Failed>
+    ensures ok { IsTrue K.tells → OnOk result (K.holds out.new ≡ K.holds out.old ++ damaged_text place.now at) }
+    ensures err { IsTrue K.tells → OnErr result (PutsPart (K.holds out.old) (K.holds out.new) (damaged_text place.now at)) }
+    ensures cause { HasCause (K.faults out.old) (K.faults out.new) result }
+{
+    put_lines(
+        &[
+            Piece::Word(b"damage: "),
+            Piece::Word(place),
+            Piece::U32(at.0),
+            Piece::Word(b"\n"),
+        ],
+        out,
+    )
+}
+
+/// Puts `damage: page 85` or `damage: count 86`, and nothing where there is no damage.
+pub(crate) fn put_damage<K: Sink>(damage: Option<DamagedPlace>, out: &mut K) -> Result<(), Failed>
+    ensures ok { IsTrue K.tells → OnOk result (K.holds out.new ≡ K.holds out.old ++ damage_text damage) }
+    ensures err { IsTrue K.tells → OnErr result (PutsPart (K.holds out.old) (K.holds out.new) (damage_text damage)) }
+    ensures cause { HasCause (K.faults out.old) (K.faults out.new) result }
+{
+    match damage {
+        Some(DamagedPlace::Page(at)) => put_damaged(b"page ", at, out),
+        Some(DamagedPlace::Count(at)) => put_damaged(b"count ", at, out),
+        None => Ok(()),
+    }
+}
