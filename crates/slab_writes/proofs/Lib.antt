@@ -1,0 +1,3 @@
+pub mod SectorLaws
+pub mod CallLaws
+pub mod DurableLaws

@@ -1,5 +1,5 @@
 -- Calls on what is to be written of a slab, the newest first, and which updates they took and made durable.
-use Rattle.std.specs.Prelude.{ℕ, ◌≡◌, ◌+◌, ◌/◌, ◌<◌, ◌⊎◌, List, [], ◌∷◌, ◌++◌, length, Contains}
+use Rattle.std.specs.Prelude.{ℕ, ◌≡◌, ◌+◌, ◌/◌, ◌<◌, ◌⊎◌, List, [], ◌∷◌, ◌++◌, Contains}
 use Rattle.blk_base.specs.Counters.{sector_of_offset}
 use Rattle.blk_base.specs.declared.geometry.Geometry.{Geometry}
 use Rattle.dirty_pages.specs.Marks.{IsBeingWritten, marks_at}

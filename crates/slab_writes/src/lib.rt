@@ -8,10 +8,13 @@
 #![tactic(auto)]
 
 mod forms;
+mod laws;
 mod raising;
-// mod laws;
 mod writes;
 
 pub use forms::{Need, SlabPart, SlabWork};
-// pub use laws::{a_journal_block_has_updates_of_the_slab, a_reference_block_has_its_updates, every_update_below_the_low_point_is_durable};
+pub use laws::{
+    a_journal_block_has_updates_of_the_slab, a_reference_block_has_its_updates,
+    every_update_below_the_low_point_is_durable,
+};
 pub use writes::SlabWrites;

@@ -186,7 +186,12 @@ impl SlabWrites {
         let sectors = self.layout.sectors_per_slab();
         let block = block as u32;
         let first = 8 * block;
-        raise_commits(&mut self.journal, &self.blocks, first, (first + 8).min(sectors));
+        raise_commits(
+            &mut self.journal,
+            &self.blocks,
+            first,
+            (first + 8).min(sectors),
+        );
         self.blocks.written(block);
     }
 }
