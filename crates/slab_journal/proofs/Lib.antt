@@ -1,1 +1,3 @@
+pub mod UnsettledRows
+pub mod LowLaws
 pub mod SlabLaws

@@ -3,8 +3,8 @@ use Rattle.std.specs.Prelude.{ℕ, ◌≡◌, ◌+◌, ◌-◌, ◌%◌, ◌<◌
 use Rattle.std.proofs.Common.{arith, sym, subst, ap, ◌∙◌, inl, inr, get_or, set}
 use Rattle.std.proofs.lemmas.Bool.{cases_eq}
 use Rattle.std.proofs.lemmas.Nat.{mod_below}
-use Rattle.std.proofs.lemmas.List.{length-set, length-replicate, get_or_default, get_or-set_other}
-use Rattle.std.proofs.lemmas.List.Elements.{All-nil, All-head, All-weaker, All-replicate, All-push, All-set, All-contains, Contains-append_left}
+use Rattle.std.proofs.lemmas.List.{length-set, length-replicate, get_or_default, get_or-set_same, get_or-set_other}
+use Rattle.std.proofs.lemmas.List.Elements.{All-nil, All-head, All-tail, All-weaker, All-replicate, All-push, All-set, All-contains, Contains-append_left}
 use Rattle.std.proofs.lemmas.List.Quantifiers.{any-set}
 use Rattle.blk_base.specs.Regions.{slab_start_of}
 use Rattle.blk_base.specs.Limits.{IsGeometry}
@@ -14,7 +14,8 @@ use Rattle.slab_codec.specs.Grammar.{HoldsEntry}
 use Rattle.blk_base.specs.Counters.{sectors_per_slab}
 use Rattle.slab_codec.specs.declared.forms.SlabEntry.{SlabEntry}
 use Rattle.slab_journal.specs.Slab.{Slab, opening, IsOfSlab, IsCovered, Keeps, MayOverwrite, next_slot, next_block}
-use Rattle.slab_journal.specs.Kept.{AreOfSlab, IsKept, first_of}
+use Rattle.slab_journal.specs.Kept.{AreOfSlab, IsBefore, IsKept, first_of}
+use Rattle.slab_journal.specs.Unsettled.{IsRising, sealed_block}
 
 -- opening
 
@@ -33,6 +34,8 @@ kept_opening geometry slab sizes inside =
       taken = All-nil (λ (e : SlabEntry). e.point.0 ≤ 511);
       rising = All-nil (λ (e : SlabEntry). 511 ≤ e.point.0);
       blocks = All-replicate (AreOfSlab (opening geometry slab)) geometry.slab_journal [] (All-nil (HoldsEntry geometry.slab_blocks));
+      in_order = tt;
+      sealed = λ writing. absurd (omega (arith, writing));
     }
 
 -- the fields of a new journal, from what made them
@@ -57,6 +60,19 @@ rising_added (x ∷ xs) e last taken above rising =
     let first = All-head (λ (f : SlabEntry). f.point.0 ≤ last) x xs taken in
     All-push (λ (f : SlabEntry). x.point.0 ≤ f.point.0) (x ∷ xs) e rising (omega (arith, first, above))
 
+in_order_added : (es : List SlabEntry) (e : SlabEntry) (last : ℕ) → All (λ f. f.point.0 ≤ last) es → last < e.point.0 → IsRising es → IsRising (es ++ e ∷ [])
+in_order_added [] e last taken above rising = (All-nil (λ (f : SlabEntry). e.point.0 ≤ f.point.0), tt)
+in_order_added (x ∷ xs) e last taken above rising =
+    let first = All-head (λ (f : SlabEntry). f.point.0 ≤ last) x xs taken in
+    let rest = All-tail (λ (f : SlabEntry). f.point.0 ≤ last) x xs taken in (
+      All-push (λ (f : SlabEntry). x.point.0 ≤ f.point.0) xs e rising.0 (omega (arith, first, above)),
+      in_order_added xs e last rest above rising.1,
+    )
+
+first_later : (es : List SlabEntry) (e : SlabEntry) (last : ℕ) → last < e.point.0 → first_of es last ≤ first_of (es ++ e ∷ []) e.point.0
+first_later [] e last above = omega (arith, above)
+first_later (x ∷ xs) e last above = omega arith
+
 pub kept_added : (log : Slab) (e : SlabEntry) → IsKept log → HoldsEntry log.geometry.slab_blocks e → log.last.0 < e.point.0
     → IsKept (record log { filling = log.filling ++ e ∷ []; last = e.point })
 kept_added log e kept held above =
@@ -74,6 +90,15 @@ kept_added log e kept held above =
           (All-weaker (λ (f : SlabEntry). f.point.0 ≤ log.last.0) (λ (f : SlabEntry). f.point.0 ≤ e.point.0) (λ f below. omega (arith, below, above)) log.filling kept.taken) (omega arith);
       rising = rising_added log.filling e log.last.0 kept.taken above kept.rising;
       blocks = kept.blocks;
+      in_order = in_order_added log.filling e log.last.0 kept.taken above kept.in_order;
+      sealed = λ writing.
+          let before = kept.sealed writing in
+          let later = first_later log.filling e log.last.0 above in
+          record {
+            rising = before.rising;
+            below = All-weaker (λ (f : SlabEntry). f.point.0 ≤ first_of log.filling log.last.0) (λ (f : SlabEntry). f.point.0 ≤ first_of (log.filling ++ e ∷ []) e.point.0)
+                (λ f below. omega (arith, below, later)) (sealed_block log) before.below;
+          };
     }
 
 pub keeps_added : (log : Slab) (more : List SlabEntry) (last : Point) → Keeps log (record log { filling = log.filling ++ more; last = last })
@@ -109,6 +134,13 @@ kept_sealed log kept waits written =
       taken = All-nil (λ (e : SlabEntry). e.point.0 ≤ log.last.0);
       rising = All-nil (λ (e : SlabEntry). log.last.0 ≤ e.point.0);
       blocks = All-set (AreOfSlab log) log.slots (next_slot log) log.filling kept.filling kept.blocks;
+      in_order = tt;
+      sealed = λ writing.
+          let now : log.durable ≡ log.sequence = omega (arith, written, kept.durable.0) in
+          let stands : sealed_block (sealed log) ≡ log.filling
+          = ap (λ (n : ℕ). get_or (set log.slots (next_slot log) log.filling) (n % log.geometry.slab_journal) []) now
+          ∙ get_or-set_same log.slots (next_slot log) log.filling [] (slot_inside log kept) in
+          subst (λ (es : List SlabEntry). IsBefore (sealed log) es) (sym stands) (record { rising = kept.in_order; below = kept.taken });
     }
 
 pub keeps_sealed : (log : Slab) → IsKept log → MayOverwrite log → Keeps log (sealed log)

@@ -1,3 +1,4 @@
 pub mod Slab
+pub mod Unsettled
 pub mod Kept
 pub mod Viewed

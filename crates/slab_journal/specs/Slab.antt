@@ -51,9 +51,13 @@ pub record IsFirst (entries : List SlabEntry) (point : Point) : Type 0 where
   pub least : All (λ entry. point.0 ≤ entry.point.0) entries
   pub there : Any (λ entry. entry.point ≡ point) entries
 
--- the update is at or below the durable commit point of its sector: the counters on the device include it
+-- the durable commit point of the update's sector
+abbrev pub commit_of : Geometry → List Point → SlabEntry → Point
+commit_of g commits entry = slice_index_or commits (sector_of_offset g entry.offset) (record { 0 = 0 })
+
+-- the update is at or below it: the counters on the device include it
 abbrev pub IsCovered : Geometry → List Point → SlabEntry → Type 0
-IsCovered g commits entry = entry.point.0 ≤ (slice_index_or commits (sector_of_offset g entry.offset) (record { 0 = 0 })).0
+IsCovered g commits entry = entry.point.0 ≤ (commit_of g commits entry).0
 
 -- the slot of the block being filled, and the updates of the block that stands there
 abbrev pub next_slot : Slab → ℕ

@@ -3,9 +3,10 @@ ghost use Rattle.blk_base.specs.Limits.{IsGeometry};
 ghost use Rattle.blk_base.specs.Points.{raised};
 ghost use Rattle.slab_codec.specs.Grammar.{HoldsBlock};
 ghost use Rattle.slab_journal.specs.Slab.{opening, entry_of, IsOfSlab, IsFirst, MayOverwrite, IsWriting, Keeps, Seals};
+ghost use Rattle.slab_journal.specs.Unsettled.{IsLowPoint, NoneUnsettled};
 
 use crate::Full;
-use crate::covering::are_covered;
+use crate::covering::{are_covered, first_uncovered};
 use crate::entries::{Updates, copy_of, slab_entry};
 use blk_base::{Geometry, Layout, Point, Update, raise, repeated, repeated_with};
 use slab_codec::{SlabEntries, SlabJournalBlock};
@@ -159,5 +160,22 @@ impl SlabJournal {
         ensures kept { Keeps self.old self.new }
     {
         raise(&mut self.commits, sector as usize, point);
+    }
+
+    /// The least point of the updates that aren't durable: they are in a sealed block that isn't, or in the one being
+    /// filled, and above the durable commit point of their sector. `None` exactly where each is durable. It looks through
+    /// these two blocks up to the first such update, and no further.
+    pub fn low_point(&self) -> Option<Point>
+        ensures some { IfSome result (IsLowPoint self.now) }
+        ensures none { IfNone result (NoneUnsettled self.now) }
+    {
+        if self.durable < self.sequence {
+            let slot = (self.durable % u64::from(self.layout.geometry.slab_journal)) as usize;
+            let sealed = self.slots[slot].as_slice();
+            if let Some(point) = first_uncovered(&self.layout, sealed, &self.commits) {
+                return Some(point);
+            }
+        }
+        first_uncovered(&self.layout, self.filling.as_slice(), &self.commits)
     }
 }

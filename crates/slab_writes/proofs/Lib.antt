@@ -1,0 +1,4 @@
+pub mod SectorLaws
+pub mod CallLaws
+pub mod DurableLaws
+pub mod Rows

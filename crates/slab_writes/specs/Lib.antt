@@ -1,0 +1,4 @@
+pub mod Writes
+pub mod Due
+pub mod Calls
+pub mod Viewed
