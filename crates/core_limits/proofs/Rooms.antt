@@ -77,8 +77,7 @@ split_sum t (z ∷ zones) = omega (arith, split_sum t zones)
 counted : (items : List Item) → length items ≤ total room_token.item items + total is_word items
 counted [] = omega arith
 counted (item.Request v ∷ items) = omega (arith, counted items)
-counted (item.Block b ∷ items) = omega (arith, counted items)
-counted (item.StopNotice ∷ items) = omega (arith, counted items)
+counted (other ∷ items) = omega (arith, counted items)
 
 lane_of : (f : Item → ℕ) (lanes : List (List Item)) (i : ℕ) (lane : List Item) → slice_get lanes i ≡ Some lane → total f lane ≤ total (total f) lanes
 lane_of f lanes i lane had = total-get (total f) lanes i lane had
