@@ -55,9 +55,7 @@ module _ (s : Session) (t : Trace) where
       let number = own.number_is in
       let none = reach.below (omega (arith, number)) in
       record { next = m; reaches = record { below = λ h. omega (arith, number, none); past = λ h. omega (arith, number, none, h) }; listed = refl }
-  reaches_on i m (at.Physical p) own reach = let number = own.number_is in stays i m (at.Physical p) (omega (arith, number)) reach refl
-  reaches_on i m (at.Journal j) own reach = let number = own.number_is in stays i m (at.Journal j) (omega (arith, number)) reach refl
-  reaches_on i m (at.Device d) own reach = let number = own.number_is in stays i m (at.Device d) (omega (arith, number)) reach refl
+  reaches_on i m other own reach = let number = own.number_is in stays i m other (omega (arith, number)) reach refl
 
   -- the zones from this number on: their places behind those of the zones before them
   listed_from : (i m last : ℕ) (zones : List Zone) → ((k : ℕ) (z : Zone) → slice_get zones k ≡ Some z → DataOk s t (i + k) z.keeps) → Reaches i m → Reaches (i + length zones) last

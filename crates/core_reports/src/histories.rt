@@ -82,20 +82,16 @@ pub(crate) fn list_histories(
     let Some(zone) = zones.first() else {
         return;
     };
-    match &zone.keeps {
-        ZoneData::Desk(desk) => {
-            let lines = desk.lines();
-            note_streams(lines, notes);
-            add_entries(
-                desk.requests(),
-                lines,
-                notes,
-                entries(zones),
-                places,
-                histories,
-            );
-        }
-        ZoneData::Logical(_) | ZoneData::Physical(_) | ZoneData::Journal(_) | ZoneData::Device(_) =>
-            {}
+    if let ZoneData::Desk(desk) = &zone.keeps {
+        let lines = desk.lines();
+        note_streams(lines, notes);
+        add_entries(
+            desk.requests(),
+            lines,
+            notes,
+            entries(zones),
+            places,
+            histories,
+        );
     }
 }

@@ -24,9 +24,7 @@ fn drawn(zone: &Zone) -> &[Placed]
 {
     match &zone.keeps {
         ZoneData::Logical(logical) => logical.places.as_slice(),
-        ZoneData::Desk(_) | ZoneData::Physical(_) | ZoneData::Journal(_) | ZoneData::Device(_) => {
-            &[]
-        }
+        _ => &[],
     }
 }
 

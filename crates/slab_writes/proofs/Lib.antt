@@ -1,4 +1,5 @@
 pub mod SectorLaws
 pub mod CallLaws
 pub mod DurableLaws
+pub mod OutLaws
 pub mod Rows

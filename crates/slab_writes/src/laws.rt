@@ -10,7 +10,10 @@ ghost use Rattle.slab_codec.specs.declared.forms.SlabEntry.{SlabEntry};
 ghost use Rattle.slab_codec.specs.declared.forms.SlabJournalBlock.{SlabJournalBlock};
 ghost use Rattle.slab_journal.specs.Slab.{Slab, Seals};
 ghost use Rattle.slab_journal.specs.Unsettled.{IsLowPoint, NoneUnsettled};
-ghost use Rattle.slab_writes.specs.Writes.{Writes, opening};
+ghost use Rattle.slab_writes.specs.declared.forms.Need.{Need};
+ghost use Rattle.slab_writes.specs.declared.forms.SlabWork.{SlabWork};
+ghost use Rattle.slab_writes.specs.Due.{IsDue};
+ghost use Rattle.slab_writes.specs.Writes.{Writes, IsOut, opening};
 ghost use Rattle.slab_writes.specs.Calls.{Call, LeadTo, IsDurable, updates_of};
 
 /// Over every list of calls from an opened image on, a journal block that is handed out has updates of these calls alone.
@@ -39,4 +42,9 @@ pub fn every_update_below_the_low_point_is_durable()
     ensures none { (g : Geometry) (slab : ℕ) (commits : List Point) (calls : List Call) (new : Writes) (entry : SlabEntry)
         → IsGeometry g → length (points_of g slab commits) ≡ sectors_per_slab g → LeadTo (opening g slab commits) calls new
         → AreRising g (points_of g slab commits) (updates_of calls) → Contains (updates_of calls) entry → NoneUnsettled new.journal → IsDurable g calls entry }
+{}
+
+/// A block that is handed out is being written until that is reported.
+pub fn a_block_is_out_once_it_is_handed_out()
+    ensures { (need : Need) (old new : Writes) (counters bytes : List ℕ) (work : SlabWork) → IsDue need old new counters bytes work → IsOut new work }
 {}

@@ -1,0 +1,30 @@
+-- A block that is handed out is being written until that is reported.
+use Rattle.std.specs.Prelude.{ℕ, ◌≡◌, ◌+◌, ◌<◌, List}
+use Rattle.std.proofs.Common.{sym, ◌∙◌, ap, subst, arith, inl, inr, get_or-set_same}
+use Rattle.dirty_pages.specs.declared.marks.Marks.{Marks}
+use Rattle.dirty_pages.specs.Marks.{clean, handed_out, marks_at}
+use Rattle.slab_journal.specs.Slab.{Slab}
+use Rattle.slab_writes.specs.Due.{IsDue}
+use Rattle.slab_writes.specs.Writes.{Writes, IsOut, IsOutAs}
+use Rattle.slab_writes.specs.declared.forms.Need.{Need}
+use Rattle.slab_writes.specs.declared.forms.SlabPart.{SlabPart}
+use Rattle.slab_writes.specs.declared.forms.SlabPart.TheVariants as part
+use Rattle.slab_writes.specs.declared.forms.SlabWork.{SlabWork}
+use Rattle.slab_writes.proofs.SectorLaws.{due_inside}
+
+pub due_is_out : (need : Need) (old new : Writes) (counters bytes : List ℕ) (work : SlabWork) → IsDue need old new counters bytes work → IsOut new work
+due_is_out need old new counters bytes work (inl journal) =
+    let did = journal.1 in
+    let seals = did.seals in
+    let sequence = ap (λ (j : Slab). j.sequence) seals.follows in
+    let durable = ap (λ (j : Slab). j.durable) seals.follows in
+    let out : IsOutAs part.Journal work.number new = (omega (arith, sequence, durable, seals.none_writing), did.number ∙ sym seals.none_writing ∙ sym durable) in
+    subst (λ (kind : SlabPart). IsOutAs kind work.number new) (sym did.part) out
+due_is_out need old new counters bytes work (inr reference) =
+    let did = reference.1 in
+    let first = did.hands_out.first in
+    let inside = due_inside old.blocks.blocks work.number first.first first.due in
+    let now : marks_at new.blocks.blocks work.number ≡ handed_out (marks_at old.blocks.blocks work.number)
+    = ap (λ (ms : List Marks). marks_at ms work.number) first.after ∙ get_or-set_same old.blocks.blocks work.number (handed_out (marks_at old.blocks.blocks work.number)) clean inside in
+    let out : IsOutAs part.References work.number new = record { first = first.first; is = ap (λ (m : Marks). m.writing) now ∙ first.due.dirty } in
+    subst (λ (kind : SlabPart). IsOutAs kind work.number new) (sym did.part) out
