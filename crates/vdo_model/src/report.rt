@@ -39,7 +39,7 @@ pub struct HistoryEntry {
 #[derive(Clone, Copy, Debug, PartialEq, Eq)]
 pub struct FlushMark {
     pub request: Writer,
-    /// How many calls of the device had succeeded in the run when that flush returned, itself among them.
+    /// How many calls of the device had succeeded in the session when that flush returned, itself among them.
     pub calls: u64,
 }
 
