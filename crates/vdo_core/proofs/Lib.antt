@@ -5,6 +5,7 @@ pub mod PlayLaws
 mod StartLaws
 mod StrayLaws
 mod ZoneLaws
+mod CoreRows
 mod LaneLaws
 mod NoFaults
 pub mod SessionLaws

@@ -1,0 +1,191 @@
+-- Rows that pin what a core is and begins with, when it is done, and what there is to move and room for: for each clause a
+-- small case that it accepts, and one that breaks it alone.
+use Rattle.std.proofs.Common.{ℕ, ◌≡◌, ◌≤◌, ◌-◌, ◌*◌, ◌^◌, Bool, true, false, List, [], ◌∷◌, length, replicate, Some, None, slice_get, refl, ap, sym, ◌∙◌, subst, arith}
+use Rattle.std.proofs.lemmas.List.{length-replicate}
+use Rattle.blk_base.specs.declared.geometry.Geometry.{Geometry}
+use Rattle.blk_base.specs.declared.journal_entry.Entry.{Entry}
+use Rattle.blk_base.specs.declared.journal_entry.Entry.TheVariants.{Remap}
+use Rattle.blk_base.specs.declared.place.Lba.{Lba}
+use Rattle.blk_base.specs.declared.place.Mapping.{Mapping}
+use Rattle.blk_base.specs.declared.place.Mapping.TheVariants.{Unmapped, Zero, At}
+use Rattle.blk_base.specs.declared.place.Pbn.{Pbn}
+use Rattle.blk_base.specs.declared.request.Request.{Request}
+use Rattle.blk_base.specs.declared.request.Request.TheVariants as request
+use Rattle.vdo_model.specs.Scripts.{Script}
+use Rattle.vdo_model.specs.declared.report.DeskLine.{DeskLine}
+use Rattle.core_model.specs.DeskData.{Desk}
+use Rattle.core_model.specs.declared.items.Item.{Item}
+use Rattle.core_model.specs.declared.items.Item.TheVariants.{StopNotice}
+use Rattle.core_model.specs.declared.sizes.Sizes.{Sizes}
+use Rattle.core_model.specs.declared.zones.Zone.{Zone}
+use Rattle.core_model.specs.declared.zones.ZoneData.{ZoneData}
+use Rattle.core_model.specs.declared.zones.ZoneData.TheVariants as at
+use Rattle.core_model.specs.Limits.{HasRoomToBegin, IsWithin}
+use Rattle.core_model.specs.SessionLimits.{requests_in}
+use Rattle.core_model.specs.Steps.{MayBegin}
+use Rattle.vdo_core.specs.Causes.{BeginsCrowded, CanStep, IsServedBy, IsSized}
+use Rattle.vdo_core.specs.Cores.{CanBegin}
+use Rattle.vdo_core.specs.Done.{IsDone}
+use Rattle.vdo_core.specs.FreeBlocks.{free_of}
+use Rattle.vdo_core.specs.Lanes.{HasRoomFor}
+use Rattle.vdo_core.specs.Moves.{MovesSome, has_items}
+
+-- the data blocks that no entry names: those of an image with two slabs of two data blocks each
+abbrev small : Geometry
+small = record { height = 2; nonce = 1; logical = 10; slabs = 2; slab_blocks = 2; journal = 8; index = 4; slab_journal = 2 }
+
+abbrev block : ℕ → Pbn
+block b = record { 0 = b }
+
+abbrev maps : Mapping → Entry
+maps new = Remap (record { 0 = 5 }) Unmapped new
+
+all_free : free_of small [] ≡ block 73 ∷ block 74 ∷ block 78 ∷ block 79 ∷ []
+all_free = refl
+
+one_taken : free_of small (maps (At (block 74)) ∷ maps Zero ∷ maps Unmapped ∷ []) ≡ block 73 ∷ block 78 ∷ block 79 ∷ []
+one_taken = refl
+
+-- a block that an older entry names is taken too
+older_taken : free_of small (maps (At (block 78)) ∷ maps (At (block 73)) ∷ []) ≡ block 74 ∷ block 79 ∷ []
+older_taken = refl
+
+-- IsDone: the desk stands first, and has two lines for each request
+module _ (lines : List DeskLine) (outboxes : List (List Item)) where
+  abbrev desk_zone : Script → List DeskLine → Zone
+  desk_zone script log = record {
+    number = 0;
+    steps = 0;
+    keeps = at.Desk (record { requests = script; log = log; marks = []; notices = 0; parked = [] });
+    inbox = [];
+    outboxes = outboxes;
+  }
+
+  done-of_no_request : IsDone (desk_zone [] [] ∷ [])
+  done-of_no_request = record { zone = desk_zone [] []; desk = _; had = refl; keeps = refl; full = refl }
+
+  done-with_two_lines : length lines ≡ 2 → IsDone (desk_zone ((request.Flush ∷ []) ∷ []) lines ∷ [])
+  done-with_two_lines two = record { zone = desk_zone ((request.Flush ∷ []) ∷ []) lines; desk = _; had = refl; keeps = refl; full = two }
+
+  done-not_with_fewer : IsDone (desk_zone ((request.Flush ∷ []) ∷ []) [] ∷ []) → ⊥
+  done-not_with_fewer done =
+      let zone : desk_zone ((request.Flush ∷ []) ∷ []) [] ≡ done.zone = let had = done.had in cc in
+      let desk : at.Desk (record { requests = (request.Flush ∷ []) ∷ []; log = []; marks = []; notices = 0; parked = [] }) ≡ at.Desk done.desk = ap (λ (z : Zone). z.keeps) zone ∙ done.keeps in
+      let kept : record { requests = (request.Flush ∷ []) ∷ []; log = []; marks = []; notices = 0; parked = [] } ≡ done.desk = cc in
+      let full = done.full in
+      absurd (omega (arith, ap (λ (d : Desk). length d.log) kept, ap (λ (d : Desk). 2 * requests_in d.requests) kept, full))
+
+  done-not_of_no_zone : IsDone [] → ⊥
+  done-not_of_no_zone done = let had = done.had in absurd cc
+
+-- MovesSome: what one zone posted to another one that is there
+abbrev zone_with : ℕ → List (List Item) → Zone
+zone_with number outboxes = record {
+  number = number;
+  steps = 0;
+  keeps = at.Device (record { stopped = false; calls = 0 });
+  inbox = [];
+  outboxes = outboxes;
+}
+
+abbrev two_zones : List Zone
+two_zones = zone_with 0 ([] ∷ (StopNotice ∷ []) ∷ []) ∷ zone_with 1 ([] ∷ [] ∷ []) ∷ []
+
+moves-posted : MovesSome two_zones 0 1
+moves-posted = record {
+  source = zone_with 0 ([] ∷ (StopNotice ∷ []) ∷ []);
+  target = zone_with 1 ([] ∷ [] ∷ []);
+  apart = λ same. omega (arith, same);
+  had_source = refl;
+  had_target = refl;
+  posted = refl;
+}
+
+moves-not_to_itself : MovesSome two_zones 1 1 → ⊥
+moves-not_to_itself some = some.apart refl
+
+moves-not_to_no_zone : MovesSome two_zones 0 2 → ⊥
+moves-not_to_no_zone some = let had = some.had_target in absurd cc
+
+moves-not_from_no_zone : MovesSome two_zones 2 1 → ⊥
+moves-not_from_no_zone some = let had = some.had_source in absurd cc
+
+moves-not_nothing : MovesSome two_zones 1 0 → ⊥
+moves-not_nothing some = none some.source some.had_source some.posted
+  where
+    none : (z : Zone) → slice_get two_zones 1 ≡ Some z → has_items (slice_get z.outboxes 0) ≡ true → ⊥
+    none z had posted =
+        let same : zone_with 1 ([] ∷ [] ∷ []) ≡ z = cc in
+        let empty : has_items (slice_get (zone_with 1 ([] ∷ [] ∷ [])).outboxes 0) ≡ true = subst (λ (zone : Zone). has_items (slice_get zone.outboxes 0) ≡ true) (sym same) posted in
+        absurd cc
+
+-- HasRoomFor: up to the room of a lane, in the inbox and in each outbox
+room-up_to_the_last : (z : Zone) → HasRoomFor 1 (record z { inbox = replicate 539 StopNotice; outboxes = replicate 539 StopNotice ∷ [] })
+room-up_to_the_last z = let count = length-replicate 539 StopNotice in record { inbox = omega (arith, count); outboxes = (omega (arith, count), tt) }
+
+room-not_past_it : (z : Zone) → HasRoomFor 1 (record z { inbox = replicate 540 StopNotice; outboxes = [] }) → ⊥
+room-not_past_it z room = let count = length-replicate 540 StopNotice in omega (arith, count, room.inbox)
+
+room-not_past_it_in_an_outbox : (z : Zone) → HasRoomFor 1 (record z { inbox = []; outboxes = [] ∷ replicate 540 StopNotice ∷ [] }) → ⊥
+room-not_past_it_in_an_outbox z room = let count = length-replicate 540 StopNotice in omega (arith, count, room.outboxes.1.0)
+
+-- IsSized: one logical zone at least, four at most, and sequences that are numbers of their type
+module _ (g : Geometry) where
+  abbrev sizes : ℕ → ℕ → Sizes
+  sizes start zones = record { geometry = g; start = start; opened = 0; zones = zones; depth = 1 }
+
+  sized : IsSized (sizes 1 4)
+  sized = record { zones = omega arith; few = omega arith; sequences = omega arith }
+
+  sized-not_without_a_zone : IsSized (sizes 1 0) → ⊥
+  sized-not_without_a_zone is = omega (arith, is.zones)
+
+  sized-not_with_five : IsSized (sizes 1 5) → ⊥
+  sized-not_with_five is = omega (arith, is.few)
+
+  sized-not_past_the_numbers : IsSized (sizes (2 ^ 64 - 1024) 1) → ⊥
+  sized-not_past_the_numbers is = omega (arith, is.sequences)
+
+  -- CanStep: that, the script of its desk, and its room
+  module _ (z : Zone) (served : IsServedBy (sizes 1 4) z.keeps) (within : IsWithin z) where
+    can_step : CanStep (sizes 1 4) z
+    can_step = record { sized = sized; served = served; within = within }
+
+    can_step-not_unsized : CanStep (sizes 1 0) z → ⊥
+    can_step-not_unsized can = omega (arith, can.sized.zones)
+
+  can_step-not_of_a_larger_script : (script : Script) (z : Zone) (d : Desk) → z.keeps ≡ at.Desk d → d.requests ≡ script → 17 ≤ length script → CanStep (sizes 1 4) z → ⊥
+  can_step-not_of_a_larger_script script z d keeps is many can =
+      let limited = subst (λ (kept : ZoneData). IsServedBy (sizes 1 4) kept) keeps can.served in
+      omega (arith, limited.streams, many, ap (λ (s : Script). length s) is)
+
+  can_step-not_past_its_room : (z : Zone) → 263 ≤ length z.inbox → CanStep (sizes 1 4) z → ⊥
+  can_step-not_past_its_room z many can = omega (arith, can.within.inbox, many)
+
+  -- BeginsCrowded: a stream of the desk may begin a request, and there is no room for it
+  module _ (d : Desk) where
+    crowded : MayBegin (sizes 1 4) (at.Desk d) → (HasRoomToBegin d → ⊥) → BeginsCrowded (sizes 1 4) (at.Desk d)
+    crowded may none = (may, none)
+
+    crowded-not_with_room : HasRoomToBegin d → BeginsCrowded (sizes 1 4) (at.Desk d) → ⊥
+    crowded-not_with_room room crowd = crowd.1 room
+
+    crowded-not_of_a_device : (stopped : Bool) (calls : ℕ) → BeginsCrowded (sizes 1 4) (at.Device (record { stopped = stopped; calls = calls })) → ⊥
+    crowded-not_of_a_device stopped calls crowd = crowd
+
+  -- CanBegin: over the blocks of a journal, with a script that is served and within the limits
+  module _ (journal : List (List ℕ)) (window : List Entry) (at : Lba) where
+    begins-not_without_a_zone : (script : Script) → CanBegin (sizes 1 0) script window → ⊥
+    begins-not_without_a_zone script can = omega (arith, can.zones)
+
+    begins-not_at_sequence_0 : (script : Script) → CanBegin (sizes 0 1) script window → ⊥
+    begins-not_at_sequence_0 script can = omega (arith, can.start.0)
+
+    begins-not_with_a_discard : CanBegin (sizes 1 1) ((request.Discard at ∷ []) ∷ []) window → ⊥
+    begins-not_with_a_discard can = can.served.0.0
+
+    begins-not_with_17_streams : CanBegin (sizes 1 1) (replicate 17 []) window → ⊥
+    begins-not_with_17_streams can = omega (arith, can.limits.streams)
+
+    begins-not_with_more_entries : (script : Script) (entry : Entry) → CanBegin (sizes 1 1) script (entry ∷ window) → ⊥
+    begins-not_with_more_entries script entry can = let count = can.opened in omega (arith, count)
