@@ -23,6 +23,13 @@ impl From<AllocError> for Obstacle {
     }
 }
 
+// The one thing that can fail in making a sink.
+impl From<io::Error> for Obstacle {
+    fn from(_error: io::Error) -> Obstacle {
+        Obstacle::Memory
+    }
+}
+
 /// The words behind the program's name; `run` where there are none.
 fn words(rt: &HostRuntime) -> Result<Words, Obstacle> {
     let arguments = match env::args(rt) {
@@ -50,21 +57,27 @@ fn device(rt: &HostRuntime) -> Result<MemDisk, AllocError> {
 }
 
 /// What a run takes.
-struct Outside {
+struct Outside<'r> {
     words: Words,
     device: MemDisk,
     source: StdSource,
-    sink: StdSink,
+    sink: StdSink<'r>,
 }
 
 /// The words, a device with a fresh image, and the standard streams.
-fn prepare(rt: &HostRuntime) -> Result<Outside, Obstacle> {
+fn prepare(rt: &HostRuntime) -> Result<Outside<'_>, Obstacle> {
     Ok(Outside {
         words: words(rt)?,
         device: device(rt)?,
         source: StdSource::new(rt.clone()?),
-        sink: StdSink::new(rt.clone()?),
+        sink: StdSink::new(rt)?,
     })
+}
+
+/// The status of the program where a run ended with this one, and the last of its output was written or not: a sink that
+/// failed comes before `Full`, and behind all else.
+fn status_at_end(status: u8, written: bool) -> u8 {
+    if !written && status <= 1 { 7 } else { status }
 }
 
 fn main(rt: HostRuntime) -> ExitCode {
@@ -78,7 +91,8 @@ fn main(rt: HostRuntime) -> ExitCode {
             },
         ) => {
             let ended = run(&rt, &words, device, &mut source, &mut sink, &OpenGate);
-            return ExitCode::from(ended.status);
+            let finished = sink.finish();
+            return ExitCode::from(status_at_end(ended.status, finished.is_ok()));
         }
         Err(Obstacle::Usage) => ("usage", 2),
         Err(Obstacle::Memory) => ("no memory", 5),

@@ -311,6 +311,6 @@ played tells honest source_tells number state head entries script sizes first la
     (session tells honest head window script first last made before after can begins_so leads done called)
     (legal tells honest head window script first last made before after can begins_so leads done called) done in (
       subst (λ (r : RunReport). Plays tells honest source_tells number r start after left rest) (sym report_is)
-      (plays tells honest head window script first last made before after can begins_so leads done called start opened untouched source_tells number state events left rest stays drives script_is whole),
+          (plays tells honest head window script first last made before after can begins_so leads done called start opened untouched source_tells number state events left rest stays drives script_is whole),
       ap (λ (r : RunReport). r.requests) report_is,
     )

@@ -2,7 +2,7 @@ ghost use Rattle.std.specs.Prelude.{◌≡◌, [], IsTrue};
 
 use disk_model::{Failed, Sink, Source};
 use std::io;
-use std::io::{Read, Write};
+use std::io::{BufWriter, Printer, Read, Write};
 
 /// Standard input. It tells nothing of its bytes.
 #[derive(Drop)]
@@ -38,21 +38,31 @@ impl Source for StdSource {
     }
 }
 
-/// Standard output. It tells nothing of its bytes.
+/// Standard output. It collects what is put, and writes it 8,192 bytes at a time; what is left is written by `finish`. A
+/// failure is told by the call in which a write failed. It tells nothing of its bytes.
 #[derive(Drop)]
-pub struct StdSink {
-    rt: HostRuntime,
+pub struct StdSink<'r> {
+    out: BufWriter<Printer<'r, HostRuntime>>,
     faults: u64,
 }
 
-impl StdSink {
-    /// Standard output, before the first put.
-    pub fn new(rt: HostRuntime) -> StdSink {
-        StdSink { rt, faults: 0 }
+impl<'r> StdSink<'r> {
+    /// Standard output, before the first put. It fails where no memory is found to collect in.
+    pub fn new(rt: &'r HostRuntime) -> io::Result<StdSink<'r>> {
+        let out = BufWriter::new(rt.alloc(), io::writer(rt))?;
+        Ok(StdSink { out, faults: 0 })
+    }
+
+    /// Writes what was put and isn't written yet.
+    pub fn finish(&mut self) -> Result<(), Failed> {
+        match self.out.flush() {
+            Ok(()) => Ok(()),
+            Err(_) => Err(Failed),
+        }
     }
 }
 
-impl Sink for StdSink {
+impl<'r> Sink for StdSink<'r> {
     ghost use Rattle.std.specs.Prelude.{[], false};
 
     ghost tells = { false };
@@ -62,7 +72,7 @@ impl Sink for StdSink {
     ghost faults = { λ s. s.faults };
 
     fn put(&mut self, bytes: &[u8]) -> Result<(), Failed> {
-        match io::writer(&self.rt).write_all(bytes) {
+        match self.out.write_all(bytes) {
             Ok(()) => Ok(()),
             Err(_) => {
                 self.faults = self.faults.saturating_add(1);
