@@ -57,10 +57,6 @@ fn seals_none(journal: &mut SlabJournal) -> bool
     }
 }
 
-fn low_point(journal: &SlabJournal) -> Option<u64> {
-    Some(journal.low_point()?.0)
-}
-
 // Seals the block, and tells it durable.
 fn write(journal: &mut SlabJournal) -> Option<Written>
     requires small { (journal.old.geometry ≡ SMALL) × (journal.old.slab ≡ 0) }
@@ -70,9 +66,8 @@ fn write(journal: &mut SlabJournal) -> Option<Written>
 {
     let block = journal.seal()?;
     let seals_none = seals_none(journal);
-    let low = low_point(journal);
     journal.durable(block.sequence);
-    Some((told(&block), seals_none, low))
+    Some((told(&block), seals_none))
 }
 
 // What waits in the block being filled: how many updates, and the first point.
@@ -127,10 +122,10 @@ fn a_slot_waits_for_its_sectors(rt: HostRuntime) -> Result<(), Fail> {
     let covered = cover_first_block(&mut journal);
     let written = [
         None,
-        Some(((1, 2, 1025, 1007), true, Some(512))),
-        Some(((2, 1, 514, 999), true, Some(514))),
+        Some(((1, 2, 1025, 1007), true)),
+        Some(((2, 1, 514, 999), true)),
     ];
-    let written_then = [None, Some(((3, 1, 600, 0), true, Some(600)))];
+    let written_then = [None, Some(((3, 1, 600, 0), true))];
     let waiting = [(0, None), (2, Some(Point(512)))];
     let wanted = (
         ([true; 4], written, waiting),
@@ -214,8 +209,7 @@ fn count_alike(
             .wrapping_mul(6364136223846793005)
             .wrapping_add(1442695040888963407);
         let alike = step(journal, plain, met, 512 + turn * 250, number >> 33)?;
-        let low = low_point(journal);
-        if !alike || journal.may_overwrite() != plain.may_overwrite() || low != plain.low_point() {
+        if !alike || journal.may_overwrite() != plain.may_overwrite() {
             return Ok(turn);
         }
     }

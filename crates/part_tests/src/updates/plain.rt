@@ -7,8 +7,8 @@ const PER_BLOCK: usize = 320;
 const PER_SECTOR: u32 = 504;
 
 /// What is told of a block that was written: its sequence, the number of its updates and the sums of their points and
-/// offsets; and whether no other could be sealed meanwhile, and the low point.
-pub(crate) type Written = ((u64, usize, u64, u64), bool, Option<u64>);
+/// offsets; and whether no other could be sealed meanwhile.
+pub(crate) type Written = ((u64, usize, u64, u64), bool);
 
 /// A slab's journal as the list of all its updates, which every call looks through.
 #[derive(Drop)]
@@ -106,21 +106,8 @@ impl PlainJournal {
     pub(crate) fn write(&mut self) -> Option<Written> {
         let sealed = self.seal()?;
         let seals_none = self.seal().is_none();
-        let low = self.low_point();
         self.durable = sealed.0.saturating_add(1);
-        Some((sealed, seals_none, low))
-    }
-
-    /// The least point of the updates that are neither in a durable block nor covered.
-    pub(crate) fn low_point(&self) -> Option<u64> {
-        let mut low: Option<u64> = None;
-        for one in &self.updates {
-            let is_durable = one.sequence < self.durable || one.point <= self.commit(one);
-            if !is_durable {
-                low = Some(cmp::min(one.point, low.unwrap_or(u64::MAX)));
-            }
-        }
-        low
+        Some((sealed, seals_none))
     }
 
     pub(crate) fn reference_durable(&mut self, sector: usize, point: u64) {
