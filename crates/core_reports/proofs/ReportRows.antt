@@ -127,7 +127,7 @@ desk_is_none is = only_desk is.number is.zone is.journal is.had is.keeps
 two_journals : HasEntered (of_first ∷ []) (of_journal (of_first ∷ []) ∷ of_journal [] ∷ []) → ⊥
 two_journals is = absurd (let none = is.each 1 (of_journal []) _ refl refl in cc)
 
--- notes: request 0 of stream 0 is answered by line 1
+-- notes: the first request of stream 0 is answered by line 1
 abbrev answered : Writer → List DeskLine
 answered w = Answer w reply.Stopped ∷ Begin w ∷ []
 
