@@ -1,2 +1,3 @@
 pub mod rows
 pub mod ListForms
+pub mod CountLaws

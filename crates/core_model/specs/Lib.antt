@@ -1,6 +1,7 @@
 pub mod SessionLimits
 pub mod DeskLines
 pub mod DeskData
+pub mod DeskCounts
 pub mod Zones
 pub mod Phases
 pub mod Trace

@@ -1,11 +1,13 @@
 ghost use Rattle.std.specs.Prelude.{◌↔◌, IsTrue, ◌≡◌, ◌+◌, ◌*◌, ◌-◌, ◌^◌, ◌<◌, ◌≤◌, [], ◌∷◌, ◌++◌, IfOk, IfSome, IfNone, length, reverse, vec_len, vec_capacity};
 ghost use Rattle.blk_base.specs.declared.request.Answer.TheVariants.{Ok as Done};
+ghost use Rattle.vdo_model.specs.DeskLog.{answered, begun};
 ghost use Rattle.vdo_model.specs.declared.report.DeskLine.TheVariants.{Answer as Answered, Begin};
 ghost use Rattle.core_model.specs.DeskRows.{mark_of_vio};
 ghost use Rattle.core_model.specs.Limits.{HasRoomToBegin, IsDeskWithin};
 ghost use Rattle.core_model.specs.SessionLimits.{most_requests, most_streams, most_under_way, requests_in};
 ghost use Rattle.plain_laws.specs.Sums.{total};
 
+use crate::counts::StreamCounts;
 use crate::scripts::count_requests;
 use crate::{
     Asks, BoxedVio, Fifo, LANE_ROOM, MOST_ITEMS, MOST_NOTICES, MOST_UNDER_WAY, Phase, Vio,
@@ -22,6 +24,9 @@ pub struct Desk {
     // How many requests there are.
     count: usize,
     lines: Vec<DeskLine>,
+    // How many requests of each stream are begun, and how many are answered.
+    begun: StreamCounts,
+    answered: StreamCounts,
     marks: Vec<FlushMark>,
     notices: u32,
     parked: Fifo<BoxedVio, LANE_ROOM>,
@@ -32,6 +37,7 @@ impl Model for Desk {
     ghost use Rattle.std.specs.Prelude.{◌≡◌, ◌+◌, ◌*◌, ◌≤◌, reverse, vec_capacity, vec_len};
     ghost use Rattle.core_model.specs.DeskData.{Desk as DeskData};
     ghost use Rattle.core_model.specs.SessionLimits.{most_requests, most_under_way, requests_in};
+    ghost use Rattle.core_model.specs.DeskCounts.{CountAnswered, CountBegun};
     ghost use Rattle.core_model.specs.DeskLines.{AreBegunFirst, is_answer, is_begin};
     ghost use Rattle.plain_laws.specs.Sums.{total};
 
@@ -49,6 +55,8 @@ impl Model for Desk {
       counted : d.count ≡ requests_in d.requests;
       few : d.count ≤ most_requests;
       lines_room : 2 * requests_in d.requests + 2 ≤ vec_capacity d.lines;
+      begun : CountBegun d.begun (reverse d.lines.items);
+      answered : CountAnswered d.answered (reverse d.lines.items);
       marks_room : requests_in d.requests + 1 ≤ vec_capacity d.marks;
       few_spare : vec_len d.spare ≤ most_under_way;
       spare_room : most_under_way ≤ vec_capacity d.spare;
@@ -114,6 +122,8 @@ impl Desk {
             requests,
             count,
             lines,
+            begun: StreamCounts::new(),
+            answered: StreamCounts::new(),
             marks,
             notices: 0,
             parked,
@@ -140,6 +150,22 @@ impl Desk {
         ensures { self.now.log ≡ reverse result.now }
     {
         &self.lines
+    }
+
+    /// How many requests of a stream are begun.
+    pub fn begun(&self, stream: u8) -> u32
+        requires { stream < most_streams }
+        ensures { result ≡ begun stream self.now.log }
+    {
+        self.begun.of(stream)
+    }
+
+    /// How many requests of a stream are answered.
+    pub fn answered(&self, stream: u8) -> u32
+        requires { stream < most_streams }
+        ensures { result ≡ answered stream self.now.log }
+    {
+        self.answered.of(stream)
     }
 
     /// How many zones have passed on the stop notice.
@@ -171,6 +197,7 @@ impl Desk {
         let mut boxed = self.spare.pop()?;
         let request = vio.request;
         boxed.put(vio);
+        self.begun.raise(request.stream);
         self.lines.push_reserved(DeskLine::Begin { request });
         Some(boxed)
     }
@@ -180,6 +207,8 @@ impl Desk {
         requires { length self.old.log ≤ 2 * requests_in self.old.requests }
         ensures { self.new ≡ record self.old { log = Answered request answer ∷ Begin request ∷ self.old.log } }
     {
+        self.begun.raise(request.stream);
+        self.answered.raise(request.stream);
         self.lines.push_reserved(DeskLine::Begin { request });
         self.lines
             .push_reserved(DeskLine::Answer { request, answer });
@@ -191,6 +220,7 @@ impl Desk {
         ensures { self.new ≡ record self.old { log = Answered vio.request answer ∷ self.old.log } }
     {
         let request = vio.get().request;
+        self.answered.raise(request.stream);
         self.lines
             .push_reserved(DeskLine::Answer { request, answer });
         if self.spare.len() < MOST_UNDER_WAY {

@@ -3,6 +3,7 @@
 #![tactic(auto)]
 
 mod boxed;
+mod counts;
 mod desk;
 mod fifo;
 mod items;

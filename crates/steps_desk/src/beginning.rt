@@ -1,4 +1,4 @@
-ghost use Rattle.std.specs.Prelude.{◌≡◌, ◌<◌, ◌≤◌, ◌+◌, ◌∷◌, [], ℕ, IfOk, IfErr, OnOk, IsTrue, IfSome, IfNone, false};
+ghost use Rattle.std.specs.Prelude.{◌≡◌, ◌<◌, ◌≤◌, ◌+◌, ◌∷◌, [], ℕ, IfOk, IfErr, OnOk, IsTrue, IfSome, IfNone, false, length};
 ghost use Rattle.vdo_model.specs.DeskLog.{IsNextLine};
 ghost use Rattle.vdo_model.specs.declared.report.DeskLine.TheVariants as line;
 ghost use Rattle.core_model.specs.declared.items.Item.TheVariants as item;
@@ -13,7 +13,6 @@ ghost use Rattle.step_parts.specs.Acts.{ActsAlone};
 ghost use Rattle.steps_desk.specs.Begins.{BeginsNone, CanBegin};
 
 use crate::answering::is_notified;
-use crate::lines::{answered, begun};
 use blk_base::{Answer, Block, Lba, Mapping, PAGE_SLOTS, Pbn, Request, TREES, Writer, ZoneId};
 use core_model::{Asks, Desk, Item, Phase, Sizes, Vio};
 use step_parts::{Posts, StepFault};
@@ -113,20 +112,22 @@ fn first_zone(vio: &Vio) -> ZoneId
 
 // The number of the next request of a stream, where it may be begun.
 fn next_of(sizes: &Sizes, desk: &Desk, stream: u8) -> Option<u32>
-    requires { CanBegin sizes.now desk.now }
+    requires can { CanBegin sizes.now desk.now }
+    requires stream { stream < length desk.now.requests }
     ensures may { IfSome result (λ number.
         IsNextLine sizes.now.depth desk.now.requests (line.Begin (record { stream = stream; number = number })) desk.now.log) }
     ensures none { IfNone result (
         (number : ℕ) → IsNextLine sizes.now.depth desk.now.requests (line.Begin (record { stream = stream; number = number })) desk.now.log → ⊥) }
 {
-    let lines = desk.lines();
-    let next = begun(stream, lines);
-    let done = answered(stream, lines);
+    let next = desk.begun(stream);
+    let done = desk.answered(stream);
     let requests = desk.requests().stream(stream);
-    if next >= requests.len() || next as u64 >= done as u64 + u64::from(sizes.depth) {
+    if next as usize >= requests.len()
+        || u64::from(next) >= u64::from(done) + u64::from(sizes.depth)
+    {
         return None;
     }
-    Some(next as u32)
+    Some(next)
 }
 
 // The next request of the lowest stream that may begin one.

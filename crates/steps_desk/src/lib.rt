@@ -4,7 +4,6 @@
 mod acting;
 mod answering;
 mod beginning;
-mod lines;
 
 pub use acting::act;
 pub use beginning::{begin_next, may_begin};

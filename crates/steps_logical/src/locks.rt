@@ -27,15 +27,14 @@ pub(crate) fn is_held(at: Lba, held: &[Lock]) -> bool
     found
 }
 
-/// The last write of an address, the oldest write first.
+/// The last write of an address, the oldest write first: it is looked for from the newest back.
 pub(crate) fn latest(slots: &[Logged], at: Lba) -> Option<Logged>
     ensures { result ≡ newest (of_address at.0 (reverse slots.now)) }
 {
-    let mut latest = None;
-    for slot in slots {
+    for slot in slots.iter().rev() {
         if slot.at == at {
-            latest = Some(*slot);
+            return Some(*slot);
         }
     }
-    latest
+    None
 }

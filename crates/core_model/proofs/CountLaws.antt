@@ -1,0 +1,79 @@
+-- What the desk counts goes on with its log.
+use Rattle.std.proofs.Common.{ℕ, ◌≡◌, ◌+◌, ◌<◌, ◌≤◌, ◌==◌, ◌⊎◌, List, [], ◌∷◌, ◌++◌, length, reverse, get_or, set, arith, cond, if◌then◌else◌, true, false, inl, inr, refl, subst, ap, sym, ◌∙◌}
+use Rattle.std.proofs.lemmas.Bool.Decides.{eqb_tells}
+use Rattle.std.proofs.lemmas.Bool.{cases_lt}
+use Rattle.std.proofs.lemmas.List.{get_or_past, get_or-set_other, get_or-set_same, length-reverse, length-set, reverse-append}
+use Rattle.blk_base.specs.declared.request.Answer.{Answer as Reply}
+use Rattle.blk_base.specs.declared.request.Writer.{Writer}
+use Rattle.core_model.specs.DeskCounts.{CountAnswered, CountBegun, CountEach}
+use Rattle.core_model.specs.SessionLimits.{most_streams}
+use Rattle.vdo_model.specs.DeskLog.{begun, answered}
+use Rattle.vdo_model.specs.declared.report.DeskLine.{DeskLine}
+use Rattle.vdo_model.specs.declared.report.DeskLine.TheVariants.{Begin, Answer}
+
+-- one more of a stream
+abbrev raised : List ℕ → ℕ → List ℕ
+raised counts w = set counts w (get_or counts w 0 + 1)
+
+-- one stream's number is raised by one
+counts_one : (count : ℕ → ℕ) (counts : List ℕ) (w : ℕ) → CountEach count counts
+    → CountEach (λ stream. cond (w == stream) (count stream + 1) (count stream)) (raised counts w)
+counts_one count counts w (long, each) =
+    let same_length : length (raised counts w) ≡ most_streams = length-set counts w _ ∙ long in (
+      same_length,
+      λ stream below. elim (eqb_tells w stream) [
+        | inl same ↦ rw same.0 (
+          let inside : w < length counts = omega (arith, same.1, long, below) in
+          ap (λ (n : ℕ). get_or (raised counts w) n 0) (sym same.1) ∙ get_or-set_same counts w (get_or counts w 0 + 1) 0 inside
+          ∙ ap (λ (n : ℕ). get_or counts n 0 + 1) same.1 ∙ ap (λ (n : ℕ). n + 1) (each stream below)
+        )
+        | inr other ↦ rw other.0 (get_or-set_other counts w stream (get_or counts w 0 + 1) 0 (λ is. other.1 (sym is)) ∙ each stream below)
+      ],
+    )
+
+-- a line of the list behind the others is the newest of the log
+newest : (lines : List DeskLine) (line : DeskLine) → line ∷ reverse lines ≡ reverse (lines ++ line ∷ [])
+newest lines line = sym (reverse-append lines (line ∷ []))
+
+-- a request is begun
+pub begins : (counts : List ℕ) (lines : List DeskLine) (w : Writer) → CountBegun counts (reverse lines)
+    → CountBegun (raised counts w.stream) (reverse (lines ++ Begin w ∷ []))
+begins counts lines w right = subst (λ (log : List DeskLine). CountBegun (raised counts w.stream) log) (newest lines (Begin w)) (counts_one (λ stream. begun stream (reverse lines)) counts w.stream right)
+
+pub begins_none_answered : (counts : List ℕ) (lines : List DeskLine) (w : Writer) → CountAnswered counts (reverse lines)
+    → CountAnswered counts (reverse (lines ++ Begin w ∷ []))
+begins_none_answered counts lines w right = subst (λ (log : List DeskLine). CountAnswered counts log) (newest lines (Begin w)) right
+
+-- a request is answered
+pub answers : (counts : List ℕ) (lines : List DeskLine) (w : Writer) (a : Reply) → CountAnswered counts (reverse lines)
+    → CountAnswered (raised counts w.stream) (reverse (lines ++ Answer w a ∷ []))
+answers counts lines w a right = subst (λ (log : List DeskLine). CountAnswered (raised counts w.stream) log) (newest lines (Answer w a)) (counts_one (λ stream. answered stream (reverse lines)) counts w.stream right)
+
+pub answers_none_begun : (counts : List ℕ) (lines : List DeskLine) (w : Writer) (a : Reply) → CountBegun counts (reverse lines)
+    → CountBegun counts (reverse (lines ++ Answer w a ∷ []))
+answers_none_begun counts lines w a right = subst (λ (log : List DeskLine). CountBegun counts log) (newest lines (Answer w a)) right
+
+-- no more lines speak of a stream than there are
+few_lines : (stream : ℕ) (log : List DeskLine) → begun stream log + answered stream log ≤ length log
+few_lines stream [] = omega arith
+few_lines stream (Begin w ∷ older) =
+    let rest : begun stream older + answered stream older ≤ length older = few_lines stream older in
+    elim (eqb_tells w.stream stream) [ inl same ↦ rw same.0 (omega (arith, rest)) | inr other ↦ rw other.0 (omega (arith, rest)) ]
+few_lines stream (Answer w a ∷ older) =
+    let rest : begun stream older + answered stream older ≤ length older = few_lines stream older in
+    elim (eqb_tells w.stream stream) [ inl same ↦ rw same.0 (omega (arith, rest)) | inr other ↦ rw other.0 (omega (arith, rest)) ]
+
+-- each number is at most that of the lines, also behind the last stream
+few_each : (count : ℕ → ℕ) (counts : List ℕ) (w most : ℕ) → CountEach count counts → ((stream : ℕ) → count stream ≤ most) → get_or counts w 0 ≤ most
+few_each count counts w most (long, each) few = elim (cases_lt w most_streams) [
+  | inl below ↦ rw (each w below) (few w)
+  | inr past ↦ rw (get_or_past counts w 0 (omega (arith, past, long))) (omega arith)
+]
+
+pub few_begun : (counts : List ℕ) (lines : List DeskLine) (w : ℕ) → CountBegun counts (reverse lines) → get_or counts w 0 ≤ length lines
+few_begun counts lines w right = few_each (λ stream. begun stream (reverse lines)) counts w (length lines) right (λ stream.
+  let few = few_lines stream (reverse lines) in let long = length-reverse lines in omega (arith, few, long))
+
+pub few_answered : (counts : List ℕ) (lines : List DeskLine) (w : ℕ) → CountAnswered counts (reverse lines) → get_or counts w 0 ≤ length lines
+few_answered counts lines w right = few_each (λ stream. answered stream (reverse lines)) counts w (length lines) right (λ stream.
+  let few = few_lines stream (reverse lines) in let long = length-reverse lines in omega (arith, few, long))

@@ -1,0 +1,23 @@
+use Rattle.std.proofs.Common.{rules, arith, length, ◌≡◌, ◌≤◌, ◌+◌, List, reverse}
+use Rattle.std.proofs.lemmas.Grind.{common_steps}
+use Rattle.core_model.proofs.CountLaws.{answers, answers_none_begun, begins, begins_none_answered, few_answered, few_begun}
+use Rattle.core_model.proofs.desk.Desk.answer_at_once.Goals as goal
+
+pub raise-requires : goal.raise-requires
+raise-requires c = let few = few_begun c.self.inside.begun c.self.inside.lines.items c.args.request.stream c.self.invariant.begun in grind (arith, common_steps)
+
+pub raise-requires-2 : goal.raise-requires-2
+raise-requires-2 c = let few = few_answered c.self.inside.answered c.self.inside.lines.items c.args.request.stream c.self.invariant.answered in grind (arith, common_steps)
+
+pub invariant_of-self : goal.invariant_of-self
+invariant_of-self c = record {
+  counted = search rules;
+  few = search rules;
+  lines_room = search rules;
+  begun = let now = answers_none_begun _ c.push_reserved.new.self.items c.args.request c.args.answer (rw c.push_reserved.ensures.items (begins _ c.self.inside.lines.items c.args.request c.self.invariant.begun)) in rw (c.raise.ensures, c.push_reserved-2.ensures.items) now;
+  answered = let now = answers _ c.push_reserved.new.self.items c.args.request c.args.answer (rw c.push_reserved.ensures.items (begins_none_answered _ c.self.inside.lines.items c.args.request c.self.invariant.answered)) in rw (c.raise-2.ensures, c.push_reserved-2.ensures.items) now;
+  marks_room = search rules;
+  few_spare = search rules;
+  spare_room = search rules;
+  spare = grind (arith, common_steps);
+}

@@ -1,0 +1,20 @@
+use Rattle.std.proofs.Common.{rules, arith, length, ◌≡◌, ◌≤◌, ◌+◌, List, reverse}
+use Rattle.std.proofs.lemmas.Grind.{common_steps}
+use Rattle.core_model.proofs.CountLaws.{answers, answers_none_begun, begins, begins_none_answered, few_answered, few_begun}
+use Rattle.core_model.proofs.desk.Desk.begin.Goals as goal
+
+pub raise-requires : goal.raise-requires
+raise-requires c = let few = few_begun c.self.inside.begun c.self.inside.lines.items c.args.vio.request.stream c.self.invariant.begun in grind (arith, common_steps)
+
+pub invariant_of-self-2 : goal.invariant_of-self-2
+invariant_of-self-2 c = record {
+  counted = search rules;
+  few = search rules;
+  lines_room = search rules;
+  begun = let now = begins _ c.self.inside.lines.items c.args.vio.request c.self.invariant.begun in rw (c.raise.ensures, c.push_reserved.ensures.items) now;
+  answered = let now = begins_none_answered _ c.self.inside.lines.items c.args.vio.request c.self.invariant.answered in rw c.push_reserved.ensures.items now;
+  marks_room = search rules;
+  few_spare = search rules;
+  spare_room = search rules;
+  spare = grind (arith, common_steps);
+}

@@ -1,6 +1,0 @@
-use Rattle.std.proofs.Common.{◌≡◌, ◌≤◌, take, reverse}
-use Rattle.vdo_model.specs.DeskLog.{begun}
-use Rattle.steps_desk.proofs.lines.begun.Given as goal
-
-abbrev pub invariant-loop-line : goal.invariant-loop-line
-invariant-loop-line l = (l.count ≡ begun l.stream (reverse (take l.line-index l.lines))) × (l.count ≤ l.line-index)
