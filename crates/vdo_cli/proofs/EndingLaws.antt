@@ -5,7 +5,7 @@ use Rattle.disk_model.specs.Seen.{Seen}
 use Rattle.vdo_model.specs.declared.report.RunReport.{RunReport}
 use Rattle.vdo_cli.specs.declared.fault.Fault.{Fault}
 use Rattle.vdo_cli.specs.declared.fault.Fault.TheVariants as fault
-use Rattle.vdo_cli.specs.Endings.{PlayFails}
+use Rattle.vdo_cli.specs.Endings.{FailsOpened, PlayFails, ScriptFails}
 use Rattle.vdo_cli.specs.Openings.{OpeningFails}
 use Rattle.vdo_cli.specs.Runs.{Setting, Outside, NotBegun, PlayedOut, EndsSo}
 
@@ -16,6 +16,7 @@ served_ends s words before after status report None served = served
 served_ends s words before after status report (Some fault.Sink) served = served
 served_ends s words before after status report (Some fault.Usage) served = absurd served.closes
 served_ends s words before after status report (Some (fault.Script why)) served = absurd served.closes
+served_ends s words before after status report (Some (fault.Later line)) served = absurd served.closes
 served_ends s words before after status report (Some fault.Device) served = absurd served.closes
 served_ends s words before after status report (Some (fault.Image why)) served = absurd served.closes
 served_ends s words before after status report (Some fault.Memory) served = absurd served.closes
@@ -27,6 +28,7 @@ pub not_begun_ends : (s : Setting) (words : List (List ℕ)) (before after : Out
 not_begun_ends s words before after status report fault.Usage begun = absurd begun.cause
 not_begun_ends s words before after status report fault.Sink begun = absurd begun.cause
 not_begun_ends s words before after status report (fault.Script why) begun = begun
+not_begun_ends s words before after status report (fault.Later line) begun = begun
 not_begun_ends s words before after status report fault.Device begun = begun
 not_begun_ends s words before after status report (fault.Image why) begun = begun
 not_begun_ends s words before after status report fault.Memory begun = begun
@@ -40,6 +42,7 @@ not_opened tells honest source_tells before after left faults faults' (fault.Ima
 not_opened tells honest source_tells before after left faults faults' fault.Memory fails = tt
 not_opened tells honest source_tells before after left faults faults' fault.Usage fails = absurd fails
 not_opened tells honest source_tells before after left faults faults' (fault.Script script) fails = absurd fails
+not_opened tells honest source_tells before after left faults faults' (fault.Later line) fails = absurd fails
 not_opened tells honest source_tells before after left faults faults' fault.Read fails = absurd fails
 not_opened tells honest source_tells before after left faults faults' fault.Sink fails = absurd fails
 
@@ -47,3 +50,16 @@ not_opened tells honest source_tells before after left faults faults' fault.Sink
 pub passed_on : {T E : Type 0} (result : Result T E) (P : E → Type 0) (why : E) → IsErrAnd result (λ e. e ≡ why) → P why → IfErr result P
 passed_on (Ok x) P why is holds = tt
 passed_on (Err e) P why is holds = rw is holds
+
+-- where an image was opened, and the script can't be served
+pub not_served : (tells honest source_tells : Bool) (before after : Seen) (left : List ℕ) (faults faults' : ℕ) (why : Fault)
+    → ((Cause : Type 0) → Cause → FailsOpened tells honest before after Cause) → ScriptFails source_tells left faults faults' why
+    → PlayFails tells honest source_tells before after left faults faults' why
+not_served tells honest source_tells before after left faults faults' fault.Device opened fails = absurd fails
+not_served tells honest source_tells before after left faults faults' (fault.Image why) opened fails = absurd fails
+not_served tells honest source_tells before after left faults faults' fault.Memory opened fails = tt
+not_served tells honest source_tells before after left faults faults' fault.Usage opened fails = absurd fails
+not_served tells honest source_tells before after left faults faults' (fault.Script refusal) opened fails = opened _ fails
+not_served tells honest source_tells before after left faults faults' (fault.Later line) opened fails = opened _ fails
+not_served tells honest source_tells before after left faults faults' fault.Read opened fails = opened _ fails
+not_served tells honest source_tells before after left faults faults' fault.Sink opened fails = absurd fails

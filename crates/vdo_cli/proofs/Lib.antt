@@ -1,13 +1,8 @@
-pub mod WordLaws
 pub mod OpeningLaws
-pub mod WindowLaws
 pub mod WorkedRows
 pub mod StopLaws
+pub mod SessionLaws
+pub mod ScriptLaws
 pub mod OneLaws
-pub mod PlayPins
-pub mod RunPins
-pub mod SessionPins
-pub mod TextPins
-pub mod ValuePins
 pub mod EndingLaws
 pub mod OnwardLaws

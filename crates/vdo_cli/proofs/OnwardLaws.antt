@@ -5,7 +5,7 @@ use Rattle.disk_model.specs.Seen.{Seen}
 use Rattle.disk_model.specs.Since.{IsUntouched}
 use Rattle.disk_model.proofs.SeenLaws.{stays_on}
 use Rattle.vdo_model.specs.declared.report.RunReport.{RunReport}
-use Rattle.vdo_model.specs.FlushMarks.{calls_of}
+use Rattle.core_model.specs.Trace.{calls}
 use Rattle.vdo_cli.specs.declared.fault.Fault.{Fault}
 use Rattle.vdo_cli.specs.declared.fault.Fault.TheVariants as fault
 use Rattle.vdo_cli.specs.Onward.{GoesOn}
@@ -22,7 +22,12 @@ served : (s : Setting) (words : List (List ℕ)) (before after : Outside) (statu
     → PlayedOut s words before after status report ended → GoesOn s.device_tells before.device after.device
 served s words before after status report ended ends = record {
   stays = ends.session.stays;
-  calls = λ told. let happens = ends.session.happens told in (calls_of happens.moments, happens.calls);
+  calls = λ told.
+      let happens = ends.session.happens told in
+      let since = calls ends.session.trace in (
+        since ++ happens.earlier,
+        happens.calls ∙ ap (λ (log : List Call). since ++ log) happens.earlier_is ∙ sym (append_assoc since happens.earlier before.device.log),
+      );
 }
 
 same_device : (tells : Bool) (before after : Seen) → after ≡ before → GoesOn tells before after
@@ -35,6 +40,7 @@ run_goes_on s words before after status report None ends = served s words before
 run_goes_on s words before after status report (Some fault.Sink) ends = served s words before after status report (Some fault.Sink) ends
 run_goes_on s words before after status report (Some fault.Usage) ends = same_device s.device_tells before.device after.device ends.device
 run_goes_on s words before after status report (Some (fault.Script why)) ends = not_begun s words before after status report (fault.Script why) ends
+run_goes_on s words before after status report (Some (fault.Later line)) ends = not_begun s words before after status report (fault.Later line) ends
 run_goes_on s words before after status report (Some fault.Device) ends = not_begun s words before after status report fault.Device ends
 run_goes_on s words before after status report (Some (fault.Image why)) ends = not_begun s words before after status report (fault.Image why) ends
 run_goes_on s words before after status report (Some fault.Memory) ends = not_begun s words before after status report fault.Memory ends

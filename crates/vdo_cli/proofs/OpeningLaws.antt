@@ -45,6 +45,7 @@ module _ (tells honest : Bool) (before middle now : Seen) (head : Super) (first 
   journal_fails (fault.Image why) fails = absurd fails
   journal_fails fault.Usage fails = absurd fails
   journal_fails (fault.Script why) fails = absurd fails
+  journal_fails (fault.Later line) fails = absurd fails
   journal_fails fault.Read fails = absurd fails
   journal_fails fault.Sink fails = absurd fails
 

@@ -1,5 +1,5 @@
 -- How a run ends, and why.
-use Rattle.std.specs.Prelude.{ℕ, ◌≡◌, ◌+◌, Bool, IsTrue, List, [], ◌∷◌, Ok, Err}
+use Rattle.std.specs.Prelude.{ℕ, ◌≡◌, Bool, IsTrue, List, [], Some, None, Ok, Err}
 use Rattle.blk_base.specs.declared.geometry.Super.{Super}
 use Rattle.blk_base.specs.declared.journal_entry.Entry.{Entry}
 use Rattle.disk_model.specs.Causes.{Rose}
@@ -7,55 +7,73 @@ use Rattle.disk_model.specs.Images.{HasOneImage}
 use Rattle.disk_model.specs.Log.{Blocks}
 use Rattle.disk_model.specs.Seen.{Seen, Stays}
 use Rattle.image_layout.specs.Window.{value_of}
-use Rattle.serial_engine.specs.Served.{ground}
-use Rattle.serial_engine.specs.Sessions.{IsSession}
-use Rattle.stream_text.specs.declared.fault.ScriptFault.TheVariants as script
-use Rattle.stream_text.specs.Grammar.{script_of}
+use Rattle.core_model.specs.Trace.{Trace, moments}
+use Rattle.stream_text.specs.WholeScript.{first_discard, whole_script}
 use Rattle.vdo_model.specs.declared.report.RunReport.{RunReport}
 use Rattle.vdo_model.specs.RightReads.{ReadsRight}
-use Rattle.vdo_model.specs.Scripts.{stream_of}
+use Rattle.vdo_model.specs.Scripts.{Script}
 use Rattle.vdo_cli.specs.declared.fault.Fault.{Fault}
 use Rattle.vdo_cli.specs.declared.fault.Fault.TheVariants as fault
 use Rattle.vdo_cli.specs.Openings.{IsOpened, OpeningFails}
+use Rattle.vdo_cli.specs.Sessions.{IsDriven, IsReported}
 use Rattle.vdo_cli.specs.Stops.{Happens}
 
 -- what a session did, from the superblock on
-pub record Plays (tells honest source_tells : Bool) (report : RunReport) (before after : Seen) (left rest : List ℕ) : Type 0 where
+pub record Plays (tells honest source_tells : Bool) (schedule : ℕ) (report : RunReport) (before after : Seen) (left rest : List ℕ) : Type 0 where
   -- the superblock and the window that were read, and what the device was then
   pub head : Super
   pub window : List Entry
   pub opened : Seen
   pub is_opened : IsOpened tells honest before opened head window
   -- the requests are those of the script, which was read to its end
-  pub one_stream : report.requests ≡ stream_of report.requests 0 ∷ []
-  pub script_is : IsTrue source_tells → script_of head.geometry.logical left ≡ Ok (stream_of report.requests 0)
+  pub script_is : IsTrue source_tells → (whole_script left ≡ Ok report.requests) × (first_discard left ≡ None)
   pub to_its_end : IsTrue source_tells → rest ≡ []
-  -- each request was served from then on; one read of the superblock, and one of each block of the journal, had succeeded
-  pub served : IsSession (ground head.geometry head.start before.opening tells honest) window (1 + head.geometry.journal) report opened after
+  -- a core served them by the schedule from then on
+  pub trace : Trace
+  pub driven : IsDriven tells honest schedule head window report.requests trace opened after
+  pub reported : IsReported head window report trace opened after
   pub stays : Stays before after
   -- before the first write of an address in the session, a read of it gives its value in the image that was opened
   pub reads_right : IsTrue tells → IsTrue honest → (image : Blocks) → HasOneImage before.opening before.log image
       → ReadsRight (value_of image window) report.requests report.desk report.places report.histories
   -- flush marks, and what a stop leaves
-  pub happens : IsTrue tells → Happens head (ground head.geometry head.start before.opening tells honest) window (1 + head.geometry.journal) report before opened after served
+  pub happens : IsTrue tells → Happens honest head window (moments trace) report before opened after
 
--- an image was opened, and P says of its superblock why no session was begun
-pub record FailsOpened (tells honest : Bool) (before after : Seen) (P : Super → Type 0) : Type 0 where
+-- an image was opened, and no session was begun for this cause
+pub record FailsOpened (tells honest : Bool) (before after : Seen) (Cause : Type 0) : Type 0 where
   pub head : Super
   pub window : List Entry
   pub is_opened : IsOpened tells honest before after head window
-  pub cause : P head
+  pub cause : Cause
+
+-- why a script can't be served
+abbrev pub ScriptFails : Bool → List ℕ → ℕ → ℕ → Fault → Type 0
+-- this line is the first with a fault
+ScriptFails tells left faults faults' (fault.Script refusal) = IsTrue tells → whole_script left ≡ Err refusal
+-- no line has a fault, and this one is the first that asks for what isn't served yet
+ScriptFails tells left faults faults' (fault.Later line) =
+    IsTrue tells → ((script : Script) × (whole_script left ≡ Ok script)) × (first_discard left ≡ Some line)
+-- the source failed
+ScriptFails tells left faults faults' fault.Read = Rose faults faults'
+-- memory ran out
+ScriptFails tells left faults faults' fault.Memory = Unit {0}
+ScriptFails tells left faults faults' fault.Usage = ⊥
+ScriptFails tells left faults faults' fault.Device = ⊥
+ScriptFails tells left faults faults' (fault.Image why) = ⊥
+ScriptFails tells left faults faults' fault.Sink = ⊥
 
 -- why no session was begun
 abbrev pub PlayFails : Bool → Bool → Bool → Seen → Seen → List ℕ → ℕ → ℕ → Fault → Type 0
 -- the device has no image that can be opened, or a read of it failed
 PlayFails tells honest source_tells before after left faults faults' fault.Device = OpeningFails tells honest before after fault.Device
 PlayFails tells honest source_tells before after left faults faults' (fault.Image why) = OpeningFails tells honest before after (fault.Image why)
--- this line of the script is the first that is refused
-PlayFails tells honest source_tells before after left faults faults' (fault.Script (script.Later line)) =
-    FailsOpened tells honest before after (λ head. IsTrue source_tells → script_of head.geometry.logical left ≡ Err line)
--- the source failed
-PlayFails tells honest source_tells before after left faults faults' fault.Read = FailsOpened tells honest before after (λ head. Rose faults faults')
+-- an image was opened, and the script can't be served
+PlayFails tells honest source_tells before after left faults faults' (fault.Script refusal) =
+    FailsOpened tells honest before after (ScriptFails source_tells left faults faults' (fault.Script refusal))
+PlayFails tells honest source_tells before after left faults faults' (fault.Later line) =
+    FailsOpened tells honest before after (ScriptFails source_tells left faults faults' (fault.Later line))
+PlayFails tells honest source_tells before after left faults faults' fault.Read =
+    FailsOpened tells honest before after (ScriptFails source_tells left faults faults' fault.Read)
 -- memory ran out
 PlayFails tells honest source_tells before after left faults faults' fault.Memory = Unit {0}
 PlayFails tells honest source_tells before after left faults faults' fault.Usage = ⊥

@@ -1,5 +1,6 @@
 pub mod Commands
 pub mod Openings
+pub mod Sessions
 pub mod Stops
 pub mod Endings
 pub mod Texts

@@ -60,6 +60,7 @@ JournalFails tells honest slots before now fault.Memory = Unit {0}
 JournalFails tells honest slots before now (fault.Image why) = ⊥
 JournalFails tells honest slots before now fault.Usage = ⊥
 JournalFails tells honest slots before now (fault.Script why) = ⊥
+JournalFails tells honest slots before now (fault.Later line) = ⊥
 JournalFails tells honest slots before now fault.Read = ⊥
 JournalFails tells honest slots before now fault.Sink = ⊥
 
@@ -71,5 +72,6 @@ OpeningFails tells honest before now (fault.Image (image.Window sequence)) = Has
 OpeningFails tells honest before now fault.Memory = Unit {0}
 OpeningFails tells honest before now fault.Usage = ⊥
 OpeningFails tells honest before now (fault.Script why) = ⊥
+OpeningFails tells honest before now (fault.Later line) = ⊥
 OpeningFails tells honest before now fault.Read = ⊥
 OpeningFails tells honest before now fault.Sink = ⊥

@@ -1,5 +1,5 @@
 -- What a run promises, by how it ended.
-use Rattle.std.specs.Prelude.{ℕ, ◌≡◌, ◌≢◌, ◌⊎◌, ◌++◌, Bool, false, IsTrue, List, [], Option, Some, None, MatchBool}
+use Rattle.std.specs.Prelude.{ℕ, ◌≡◌, ◌⊎◌, ◌++◌, Bool, false, IsTrue, List, [], Option, Some, None, MatchBool}
 use Rattle.disk_model.specs.Causes.{Rose}
 use Rattle.disk_model.specs.Seen.{Seen}
 use Rattle.disk_model.specs.Since.{IsUntouched}
@@ -8,7 +8,7 @@ use Rattle.stream_text.specs.Texts.{answers_text}
 use Rattle.vdo_model.specs.declared.report.RunReport.{RunReport}
 use Rattle.vdo_cli.specs.declared.fault.Fault.{Fault}
 use Rattle.vdo_cli.specs.declared.fault.Fault.TheVariants as fault
-use Rattle.vdo_cli.specs.Commands.{run_words}
+use Rattle.vdo_cli.specs.Commands.{schedule_of}
 use Rattle.vdo_cli.specs.Endings.{Plays, PlayFails}
 use Rattle.vdo_cli.specs.Texts.{fault_text, fault_status, some_lost, desk_status}
 
@@ -63,6 +63,7 @@ Closes tells report status (Some fault.Sink) held faults held' faults' =
     × (IsTrue tells → PutsPart held held' (answers_text report.requests report.desk report.places))
 Closes tells report status (Some fault.Usage) held faults held' faults' = ⊥
 Closes tells report status (Some (fault.Script why)) held faults held' faults' = ⊥
+Closes tells report status (Some (fault.Later line)) held faults held' faults' = ⊥
 Closes tells report status (Some fault.Device) held faults held' faults' = ⊥
 Closes tells report status (Some (fault.Image why)) held faults held' faults' = ⊥
 Closes tells report status (Some fault.Memory) held faults held' faults' = ⊥
@@ -70,20 +71,22 @@ Closes tells report status (Some fault.Read) held faults held' faults' = ⊥
 
 -- no session was begun: the cause is the fault's, and nothing was written since
 pub record NotBegun (s : Setting) (words : List (List ℕ)) (before after : Outside) (status : ℕ) (report : RunReport) (why : Fault) : Type 0 where
-  pub words_are : words ≡ run_words
+  pub schedule : ℕ
+  pub words_are : schedule_of words ≡ Some schedule
   pub cause : PlayFails s.device_tells s.device_honest s.source_tells before.device after.device before.left before.source_faults after.source_faults why
   pub untouched : IsUntouched s.device_tells before.device after.device
   pub refuses : Refuses s.sink_tells why status report before.held before.sink_faults after.held after.sink_faults
 
 -- a session was served to its end, and its answers were put
 pub record PlayedOut (s : Setting) (words : List (List ℕ)) (before after : Outside) (status : ℕ) (report : RunReport) (ended : Option Fault) : Type 0 where
-  pub words_are : words ≡ run_words
-  pub session : Plays s.device_tells s.device_honest s.source_tells report before.device after.device before.left after.left
+  pub schedule : ℕ
+  pub words_are : schedule_of words ≡ Some schedule
+  pub session : Plays s.device_tells s.device_honest s.source_tells schedule report before.device after.device before.left after.left
   pub closes : Closes s.sink_tells report status ended before.held before.sink_faults after.held after.sink_faults
 
 -- the words are no command: nothing else was looked at
 pub record IsUsage (s : Setting) (words : List (List ℕ)) (before after : Outside) (status : ℕ) (report : RunReport) : Type 0 where
-  pub words_are : words ≢ run_words
+  pub words_are : schedule_of words ≡ None
   pub device : after.device ≡ before.device
   pub left : after.left ≡ before.left
   pub refuses : Refuses s.sink_tells fault.Usage status report before.held before.sink_faults after.held after.sink_faults
@@ -94,6 +97,7 @@ EndsSo s words before after status report None = PlayedOut s words before after 
 EndsSo s words before after status report (Some fault.Sink) = PlayedOut s words before after status report (Some fault.Sink)
 EndsSo s words before after status report (Some fault.Usage) = IsUsage s words before after status report
 EndsSo s words before after status report (Some (fault.Script why)) = NotBegun s words before after status report (fault.Script why)
+EndsSo s words before after status report (Some (fault.Later line)) = NotBegun s words before after status report (fault.Later line)
 EndsSo s words before after status report (Some fault.Device) = NotBegun s words before after status report fault.Device
 EndsSo s words before after status report (Some (fault.Image why)) = NotBegun s words before after status report (fault.Image why)
 EndsSo s words before after status report (Some fault.Memory) = NotBegun s words before after status report fault.Memory

@@ -6,8 +6,8 @@ use Rattle.blk_base.specs.declared.request.Answer.TheVariants as reply
 use Rattle.image_layout.specs.declared.fault.ImageFault.TheVariants as image
 use Rattle.image_layout.specs.declared.fault.SuperFault.{SuperFault}
 use Rattle.image_layout.specs.Faults.{super_fault_text}
-use Rattle.stream_text.specs.declared.fault.ScriptFault.{ScriptFault}
-use Rattle.stream_text.specs.declared.fault.ScriptFault.TheVariants as script
+use Rattle.stream_text.specs.declared.refusal.LineFault.{LineFault}
+use Rattle.stream_text.specs.declared.refusal.LineFault.TheVariants as line_fault
 use Rattle.vdo_model.specs.declared.report.DeskLine.{DeskLine}
 use Rattle.vdo_model.specs.declared.report.DeskLine.TheVariants.{Begin, Answer}
 use Rattle.vdo_cli.specs.declared.fault.Fault.{Fault}
@@ -21,18 +21,25 @@ super_fault_line why = codes "bad image: " ++ super_fault_text why ++ codes "\n"
 abbrev pub window_fault_line : ℕ → List ℕ
 window_fault_line sequence = codes "bad image: " ++ (codes "window " ++ decimal sequence) ++ codes "\n"
 
--- the number of the line that is refused
-abbrev pub line_of : ScriptFault → ℕ
-line_of (script.Later line) = line
+-- what is wrong with a line
+abbrev pub line_fault_text : LineFault → List ℕ
+line_fault_text line_fault.TooLong = codes "too long"
+line_fault_text line_fault.Word = codes "word"
+line_fault_text line_fault.Number = codes "number"
+line_fault_text line_fault.Stream = codes "stream"
+line_fault_text line_fault.Range = codes "range"
+line_fault_text line_fault.BlockLength = codes "block length"
+line_fault_text line_fault.TooMany = codes "too many"
 
 -- the line of a script that is refused
-abbrev pub script_fault_line : ScriptFault → List ℕ
-script_fault_line why = codes "script line " ++ decimal (line_of why) ++ codes ": later\n"
+abbrev pub script_fault_line : ℕ → List ℕ → List ℕ
+script_fault_line line why = codes "script line " ++ decimal line ++ (codes ": " ++ why ++ codes "\n")
 
 -- the line of a fault
 abbrev pub fault_text : Fault → List ℕ
 fault_text fault.Usage = codes "usage\n"
-fault_text (fault.Script why) = script_fault_line why
+fault_text (fault.Script why) = script_fault_line why.line (line_fault_text why.fault)
+fault_text (fault.Later line) = script_fault_line line (codes "later")
 fault_text fault.Device = codes "device fault\n"
 fault_text (fault.Image (image.Super why)) = super_fault_line why
 fault_text (fault.Image (image.Window sequence)) = window_fault_line sequence
@@ -44,6 +51,7 @@ fault_text fault.Sink = []
 abbrev pub fault_status : Fault → ℕ
 fault_status fault.Usage = 2
 fault_status (fault.Script why) = 2
+fault_status (fault.Later line) = 2
 fault_status fault.Device = 3
 fault_status (fault.Image why) = 4
 fault_status fault.Memory = 5

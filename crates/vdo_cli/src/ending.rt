@@ -1,13 +1,13 @@
-ghost use Rattle.std.specs.Prelude.{◌≡◌, ◌++◌, IsTrue, OnOk, OnErr, reverse};
+ghost use Rattle.std.specs.Prelude.{◌≡◌, ◌++◌, IsTrue, OnOk, OnErr, codes, decimal, reverse};
 ghost use Rattle.disk_model.specs.Causes.{HasCause};
 ghost use Rattle.stream_text.specs.Puts.{PutsPart};
-ghost use Rattle.vdo_cli.specs.Texts.{fault_text, fault_status, super_fault_line, window_fault_line, script_fault_line, line_of, lost_line, full_line, some_lost, some_full};
+ghost use Rattle.vdo_cli.specs.Texts.{fault_text, fault_status, super_fault_line, window_fault_line, line_fault_text, lost_line, full_line, some_lost, some_full};
 
 use crate::Fault;
 use blk_base::Answer;
 use disk_model::{Failed, Sink};
 use image_layout::{ImageFault, SuperFault};
-use stream_text::ScriptFault;
+use stream_text::LineFault;
 use vdo_model::DeskLine;
 
 // Puts three pieces of a text.
@@ -62,27 +62,33 @@ fn put_window_fault<K: Sink>(sequence: u64, out: &mut K) -> Result<(), Failed>
     )
 }
 
-// The number of the line that is refused.
-fn refused_line(fault: ScriptFault) -> u64
-    ensures { result ≡ line_of fault }
+// What the line of a script's fault ends with.
+fn script_fault_end(fault: LineFault) -> &'static [u8]
+    ensures { result.now ≡ codes ": " ++ line_fault_text fault ++ codes "\n" }
 {
     match fault {
-        ScriptFault::Later { line } => line,
+        LineFault::TooLong => b": too long\n",
+        LineFault::Word => b": word\n",
+        LineFault::Number => b": number\n",
+        LineFault::Stream => b": stream\n",
+        LineFault::Range => b": range\n",
+        LineFault::BlockLength => b": block length\n",
+        LineFault::TooMany => b": too many\n",
     }
 }
 
-// Puts the line of a script that is refused.
-fn put_script_fault<K: Sink>(fault: ScriptFault, out: &mut K) -> Result<(), Failed>
-    ensures ok { IsTrue K.tells → OnOk result (K.holds out.new ≡ K.holds out.old ++ script_fault_line fault) }
-    ensures err { IsTrue K.tells → OnErr result (PutsPart (K.holds out.old) (K.holds out.new) (script_fault_line fault)) }
+// Puts the line of a script that is refused at this line.
+fn put_script_line<K: Sink>(line: u64, end: &[u8], out: &mut K) -> Result<(), Failed>
+    ensures ok { IsTrue K.tells → OnOk result (K.holds out.new ≡ K.holds out.old ++ (codes "script line " ++ decimal line ++ end.now)) }
+    ensures err { IsTrue K.tells → OnErr result (PutsPart (K.holds out.old) (K.holds out.new) (codes "script line " ++ decimal line ++ end.now)) }
     ensures cause { HasCause (K.faults out.old) (K.faults out.new) result }
 {
     let mut buffer = itoa::Buffer::new();
     put_three(
         out,
         b"script line ",
-        buffer.format(refused_line(fault)).as_bytes(),
-        b": later\n",
+        buffer.format(line).as_bytes(),
+        end,
     )
 }
 
@@ -93,7 +99,8 @@ pub fn put_fault<K: Sink>(fault: &Fault, out: &mut K) -> Result<(), Failed>
     ensures cause { HasCause (K.faults out.old) (K.faults out.new) result }
 {
     let line: &[u8] = match fault {
-        Fault::Script(why) => return put_script_fault(*why, out),
+        Fault::Script(why) => return put_script_line(why.line, script_fault_end(why.fault), out),
+        Fault::Later { line } => return put_script_line(*line, b": later\n", out),
         Fault::Image(ImageFault::Super(why)) => return put_super_fault(*why, out),
         Fault::Image(ImageFault::Window { sequence }) => return put_window_fault(*sequence, out),
         Fault::Usage => b"usage\n",
@@ -110,7 +117,7 @@ pub(crate) fn status_of(fault: &Fault) -> u8
     ensures { result ≡ fault_status fault.now }
 {
     match fault {
-        Fault::Usage | Fault::Script(_) => 2,
+        Fault::Usage | Fault::Script(_) | Fault::Later { .. } => 2,
         Fault::Device => 3,
         Fault::Image(_) => 4,
         Fault::Memory => 5,

@@ -1,5 +1,5 @@
 use image_layout::ImageFault;
-use stream_text::ScriptFault;
+use stream_text::ScriptRefusal;
 use thiserror::Error;
 
 /// Why a run ended with a status other than 0, 1 and, after requests were served, 3.
@@ -8,9 +8,12 @@ pub enum Fault {
     /// The words are no command. Status 2.
     #[error("usage")]
     Usage,
-    /// A line of the script is refused. Status 2.
+    /// A line of the script has a fault. Status 2.
     #[error("{0}")]
-    Script(ScriptFault),
+    Script(ScriptRefusal),
+    /// A line of the script asks for what isn't served yet: a discard. Status 2.
+    #[error("script line {line}: later")]
+    Later { line: u64 },
     /// A read of the device failed before the script was read. Status 3.
     #[error("device fault")]
     Device,

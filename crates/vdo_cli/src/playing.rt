@@ -1,38 +1,81 @@
-ghost use Rattle.std.specs.Prelude.{◌≡◌, ◌≤◌, IfOk, IfErr};
+ghost use Rattle.std.specs.List.{AllByRecursion};
+ghost use Rattle.std.specs.Prelude.{◌≡◌, ◌≤◌, [], None, Ok, IfOk, IfErr, IsTrue};
+ghost use Rattle.core_model.specs.Sessions.{IsServed};
 ghost use Rattle.disk_model.specs.Since.{IsUntouched};
-ghost use Rattle.vdo_cli.specs.Endings.{Plays, PlayFails};
+ghost use Rattle.stream_text.specs.AnswerRooms.{HasRoomFor};
+ghost use Rattle.stream_text.specs.ReadingBytes.{IsWholeScript};
+ghost use Rattle.stream_text.specs.WholeScript.{first_discard, whole_script};
+ghost use Rattle.vdo_cli.specs.Endings.{Plays, PlayFails, ScriptFails};
 
 use crate::Fault;
 use crate::opening::{Opened, open};
 use disk_model::{Disk, Source};
-use serial_engine::serve_requests;
+use schedule::{Schedule, drive};
 use std::alloc::Global;
-use stream_text::{ReadScript, read_script};
-use vdo_model::RunReport;
+use std::sync::Wait;
+use stream_text::{AnswerRoom, ReadRequests, read_requests};
+use vdo_core::{Core, Setup};
+use vdo_model::{Requests, RunReport};
 
-/// Reads the superblock, the window and the script, and serves the script's requests.
-pub(crate) fn play<D: Disk, S: Source>(
+/// A core of the program: one logical zone, and one request of each stream is under way at most.
+const SETUP: Setup = Setup {
+    logical_zones: 1,
+    depth: 1,
+};
+
+/// What a session left: its report, and room to put its answers.
+#[derive(Drop)]
+pub(crate) struct Played {
+    pub(crate) report: RunReport,
+    pub(crate) room: AnswerRoom,
+}
+
+// Reads the requests of the script, all of which are served.
+fn read_script<S: Source>(alloc: Global, script: &mut S) -> Result<Requests, Fault>
+    ensures script { IsTrue S.tells → IfOk result (λ requests. (whole_script (S.left script.old) ≡ Ok requests) × (first_discard (S.left script.old) ≡ None) × (S.left script.new ≡ [])) }
+    ensures shape { IfOk result IsWholeScript }
+    ensures served { IfOk result (λ requests. AllByRecursion (AllByRecursion IsServed) requests) }
+    ensures fault { IfErr result (ScriptFails S.tells (S.left script.old) (S.faults script.old) (S.faults script.new)) }
+    ensures later { S.faults script.old ≤ S.faults script.new }
+{
+    match read_requests(alloc, script) {
+        Ok(read) => match read.first_discard {
+            Some(line) => Err(Fault::Later { line }),
+            None => Ok(read.requests),
+        },
+        Err(ReadRequests::Script(refusal)) => Err(Fault::Script(refusal)),
+        Err(ReadRequests::Read) => Err(Fault::Read),
+        Err(ReadRequests::Memory) => Err(Fault::Memory),
+    }
+}
+
+/// Reads the superblock, the window and the script, and serves the script's requests by the schedule of this number.
+pub(crate) fn play<R: Wait, D: Disk, S: Source>(
+    rt: &R,
     alloc: Global,
+    number: u64,
     device: &mut D,
     script: &mut S,
-) -> Result<RunReport, Fault>
-    ensures session { IfOk result (λ report. Plays D.tells D.honest S.tells report
+) -> Result<Played, Fault>
+    ensures session { IfOk result (λ played. Plays D.tells D.honest S.tells number played.report
         (D.seen device.old) (D.seen device.new) (S.left script.old) (S.left script.new)) }
+    ensures room { IfOk result (λ played. HasRoomFor played.room played.report.requests) }
     ensures fault { IfErr result (PlayFails D.tells D.honest S.tells
         (D.seen device.old) (D.seen device.new) (S.left script.old) (S.faults script.old) (S.faults script.new)) }
     ensures untouched { IfErr result (λ fault. IsUntouched D.tells (D.seen device.old) (D.seen device.new)) }
     ensures later { S.faults script.old ≤ S.faults script.new }
 {
     let Opened { head, window } = open(alloc, device)?;
-    let requests = match read_script(alloc, script, head.geometry.logical) {
-        Ok(requests) => requests,
-        Err(ReadScript::Script(fault)) => return Err(Fault::Script(fault)),
-        Err(ReadScript::Read) => return Err(Fault::Read),
-        Err(ReadScript::Memory) => return Err(Fault::Memory),
+    let requests = read_script(alloc, script)?;
+    let Ok(room) = AnswerRoom::with_room_for(alloc, &requests) else {
+        return Err(Fault::Memory);
     };
-    let made = 1 + u64::from(head.geometry.journal);
-    match serve_requests(alloc, &head, window, made, requests, device) {
-        Ok(report) => Ok(report),
-        Err(_) => Err(Fault::Memory),
-    }
+    let Ok(mut core) = Core::begin(alloc, &SETUP, &head, &window, requests) else {
+        return Err(Fault::Memory);
+    };
+    drive(rt, &mut core, &mut Schedule::from_number(number), device);
+    Ok(Played {
+        report: core.report(),
+        room,
+    })
 }

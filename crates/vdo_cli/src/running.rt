@@ -1,14 +1,15 @@
 ghost use Rattle.std.specs.Prelude.{◌≡◌, Some, None, IsTrue};
+ghost use Rattle.stream_text.specs.AnswerRooms.{HasRoomFor};
 ghost use Rattle.vdo_cli.specs.Runs.{EndsSo, Closes, Refuses, no_report, outside, setting};
 
 use crate::ending::{has_full, has_lost, put_fault, status_of};
-use crate::playing::play;
+use crate::playing::{Played, play};
 use crate::{Fault, Words};
 use disk_model::{Disk, Sink, Source, ZoneGate};
 use std::alloc::Global;
 use std::sync::Wait;
 use std::thread::Threads;
-use stream_text::put_answers;
+use stream_text::{AnswerRoom, put_indexed_answers};
 use vdo_model::{Requests, Rows, RunReport};
 
 /// A run that ended: its status, why no other one, what became of the requests, and the device.
@@ -51,14 +52,21 @@ fn refuse<D: Disk, K: Sink>(alloc: Global, fault: Fault, device: D, out: &mut K)
 }
 
 // Puts the answers of a session.
-fn close<D: Disk, K: Sink>(report: RunReport, device: D, out: &mut K) -> Ended<D>
+fn close<D: Disk, K: Sink>(
+    report: RunReport,
+    room: AnswerRoom,
+    device: D,
+    out: &mut K,
+) -> Ended<D>
+    requires { HasRoomFor room report.requests }
     ensures device { result.device ≡ device }
     ensures report { result.report ≡ report }
     ensures closes { Closes K.tells report result.status result.fault (K.holds out.old) (K.faults out.old) (K.holds out.new) (K.faults out.new) }
 {
     let lost = has_lost(report.desk.as_slice());
     let full = has_full(report.desk.as_slice());
-    let put = put_answers(&report.requests, &report, out);
+    let mut room = room;
+    let put = put_indexed_answers(&report.requests, &report, &mut room, out);
     let (status, fault) = match put {
         _ if lost => (3, None),
         Err(_) => (7, Some(Fault::Sink)),
@@ -72,9 +80,10 @@ fn close<D: Disk, K: Sink>(report: RunReport, device: D, out: &mut K) -> Ended<D
     }
 }
 
-/// Does what the words say. The only command is `run`: the requests of the script are served on the device's image, one
-/// after the other, and their answers are put to `out`, one line for each. What earlier runs wrote is there again: it
-/// is read from the window of the recovery journal.
+/// Does what the words say. The only command is `run`, or `run --schedule N`: the requests of the script, each stream's in
+/// its order, are served on the device's image by the zones of a core, whose steps and moves come in the order of the
+/// schedule N (0 where none is given). Their answers are put to `out`, one line for each. What earlier runs wrote is there
+/// again: it is read from the window of the recovery journal.
 ///
 /// A stop before or within any call of the device leaves an image that can be opened again. In it each address has the
 /// value of one of its writes: of none older than the last one that was answered before a flush was begun which was
@@ -84,7 +93,7 @@ fn close<D: Disk, K: Sink>(report: RunReport, device: D, out: &mut K) -> Ended<D
 /// |---|---|
 /// | 0 | each request was answered Ok, or with bytes |
 /// | 1 | a request was answered Full: all journal blocks or all data blocks were used |
-/// | 2 | the words are no command (`Usage`), or a line of the script is refused (`Script`) |
+/// | 2 | the words are no command that is served (`Usage`), a line of the script has a fault (`Script`), or asks for a discard (`Later`) |
 /// | 3 | the device failed: before the script was read (`Device`), or a request was answered Stopped or with a read fault |
 /// | 4 | the device has no image, or a block of its window isn't as a run leaves it (`Image`) |
 /// | 5 | memory ran out before the first request was served (`Memory`) |
@@ -105,13 +114,12 @@ pub fn run<R: Threads + Wait + Sync, D: Disk + Send + Drop, S: Source, K: Sink, 
         result.status result.report result.fault }
 {
     let alloc = words.allocator();
-    let is_run = words.is_run();
-    if !is_run {
+    let Some(schedule) = words.schedule() else {
         return refuse(alloc, Fault::Usage, device, out);
-    }
+    };
     let mut device = device;
-    match play(alloc, &mut device, script) {
-        Ok(report) => close(report, device, out),
+    match play(rt, alloc, schedule, &mut device, script) {
+        Ok(Played { report, room }) => close(report, room, device, out),
         Err(fault) => refuse(alloc, fault, device, out),
     }
 }

@@ -1,8 +1,34 @@
-ghost use Rattle.std.specs.Prelude.{◌≡◌, ◌++◌, ◌∷◌, [], ◌↔◌, IsTrue, OnOk, OnErr};
-ghost use Rattle.vdo_cli.specs.Commands.{run_words};
+ghost use Rattle.std.specs.Prelude.{◌≡◌, ◌++◌, ◌∷◌, [], OnOk, OnErr};
+ghost use Rattle.vdo_cli.specs.Commands as commands;
+ghost use Rattle.vdo_cli.specs.Commands.{schedule_of};
 
 use std::alloc::{AllocError, Global};
 use std::marker::Model;
+use vdo_words::{Command, CoreOptions, Drive, read_command};
+
+// Whether the options of a core are those that it has without any.
+fn are_default(options: &CoreOptions) -> bool
+    ensures { result ≡ commands.are_default options.now }
+{
+    options.depth == 1
+        && options.logical_zones == 1
+        && options.physical_zones == 1
+        && options.hash_zones == 1
+        && options.cache == 16
+}
+
+// The number of a schedule by which a command is served.
+fn schedule_in(command: Option<Command>) -> Option<u64>
+    ensures { result ≡ commands.schedule_in command }
+{
+    match command {
+        Some(Command::Run(options)) if are_default(&options.core) => match options.drive {
+            Drive::Schedule(number) => Some(number),
+            Drive::Threads => None,
+        },
+        _ => None,
+    }
+}
 
 /// The words of a command line, behind the program's name.
 #[derive(Drop)]
@@ -43,13 +69,11 @@ impl Words {
         *self.texts.allocator()
     }
 
-    // Whether the only word is the command `run`.
-    pub(crate) fn is_run(&self) -> bool
-        ensures { IsTrue result ↔ (self.now ≡ run_words) }
+    // The number of the schedule by which the words run a script; `None` where they are nothing that is served.
+    pub(crate) fn schedule(&self) -> Option<u64>
+        ensures { result ≡ schedule_of self.now }
     {
-        match self.texts.as_slice() {
-            [word] => word.as_str() == "run",
-            _ => false,
-        }
+        let command = read_command(&self.texts).ok();
+        schedule_in(command)
     }
 }

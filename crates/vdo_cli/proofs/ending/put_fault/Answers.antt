@@ -31,10 +31,13 @@ pub returns-clause-cause : goal.returns-clause-cause
 returns-clause-cause g c = c.put.ensures.cause
 
 pub returns-in-Script-clause-ok : goal.returns-in-Script-clause-ok
-returns-in-Script-clause-ok g c tells = rw c.in-Script.is (c.put_script_fault.ensures.ok tells)
+returns-in-Script-clause-ok g c tells = rw c.in-Script.is (rw c.script_fault_end.ensures at (c.put_script_line.ensures.ok tells))
 
 pub returns-in-Script-clause-err : goal.returns-in-Script-clause-err
-returns-in-Script-clause-err g c tells = rw c.in-Script.is (c.put_script_fault.ensures.err tells)
+returns-in-Script-clause-err g c tells = rw c.in-Script.is (rw c.script_fault_end.ensures at (c.put_script_line.ensures.err tells))
 
 pub returns-in-Script-clause-cause : goal.returns-in-Script-clause-cause
-returns-in-Script-clause-cause g c = c.put_script_fault.ensures.cause
+returns-in-Script-clause-cause g c = c.put_script_line.ensures.cause
+
+pub returns-in-Later-clause-err : goal.returns-in-Later-clause-err
+returns-in-Later-clause-err g c tells = rw c.in-Later.is (c.put_script_line-in-Later.ensures.err tells)

@@ -1,34 +1,37 @@
-use Rattle.std.proofs.Common.{◌≡◌, [], ◌∷◌, refl, ◌∙◌, rules}
-use Rattle.disk_model.proofs.SeenLaws.{stays_on}
-use Rattle.disk_model.proofs.SinceLaws.{image_since}
-use Rattle.vdo_model.specs.Scripts.{stream_of}
-use Rattle.vdo_cli.proofs.StopLaws.{happens}
-use Rattle.vdo_cli.proofs.WindowLaws.{written_name_data}
+use Rattle.std.proofs.Common.{◌≡◌, ℕ, length, reverse, subst, sym}
+use Rattle.std.proofs.lemmas.List.{length-reverse}
+use Rattle.stream_text.specs.AnswerRooms.{HasRoomFor}
+use Rattle.vdo_core.specs.Cores.{CanBegin, sizes_of}
+use Rattle.vdo_model.specs.Scripts.{Script}
+use Rattle.vdo_cli.specs.Commands.{run_setup}
+use Rattle.vdo_cli.specs.Endings.{Plays}
+use Rattle.vdo_cli.proofs.ScriptLaws.{can_begin}
+use Rattle.vdo_cli.proofs.SessionLaws.{played}
 use Rattle.vdo_cli.proofs.playing.play.Goals as goal
 
-pub serve_requests-requires-clause-names : goal.serve_requests-requires-clause-names
-serve_requests-requires-clause-names g c =
-    let opened = c.in_ok-head.ensures.opened in
-    written_name_data c.in_ok-head.field-0.head.geometry c.in_ok-head.field-0.head.start opened.journal _ opened.is_window.written
+pub begin-requires : goal.begin-requires
+begin-requires g c =
+    let entries = c.in_ok-head.field-0.window.items in
+    let head = c.in_ok-head.field-0.head in
+    let can = can_begin g.D.Disk.tells g.D.Disk.honest (g.D.Disk.seen c.args.device.now) (g.D.Disk.seen c.open.new.device) head (reverse entries) c.in_ok-requests.requests
+    c.in_ok-head.ensures.opened c.in_ok-requests.ensures.shape c.in_ok-requests.ensures.served in
+    rw c.deref.ensures.value (subst (λ (n : ℕ). CanBegin (sizes_of run_setup head n) c.in_ok-requests.requests (reverse entries)) (length-reverse entries) can)
 
-pub returns-in-Ok-serve_requests-clause-session : goal.returns-in-Ok-serve_requests-clause-session
-returns-in-Ok-serve_requests-clause-session g c =
+-- what was played, and of which requests
+both : (g : _) (c : goal.After-drop-window-2 g)
+    → Plays g.D.Disk.tells g.D.Disk.honest g.S.Source.tells c.args.number c.report.result (g.D.Disk.seen c.args.device.now) (g.D.Disk.seen c.drive.new.device) (g.S.Source.left c.args.script.now)
+    (g.S.Source.left c.read_script.new.script) × (c.report.result.requests ≡ c.in_ok-requests.requests)
+both g c =
     let disk = g.D.Disk in
-    let shape = c.in-Ok.ensures.shape in
-    let all : c.in-Ok-serve_requests.report.requests ≡ stream_of c.in-Ok.requests 0 ∷ [] = c.in-Ok-serve_requests.ensures.report ∙ rw shape.1 refl in
-    let opened = c.in_ok-head.ensures.opened in
-    let untouched = c.open.ensures.untouched in
-    let served = rw (untouched.stays.opening, c.from-made.ensures) at c.in-Ok-serve_requests.ensures.session in
-    record {
-      head = c.in_ok-head.field-0.head;
-      window = _;
-      opened = disk.seen c.open.new.device;
-      is_opened = opened;
-      one_stream = search rules;
-      script_is = search rules;
-      to_its_end = search rules;
-      served = served;
-      stays = stays_on _ _ _ untouched.stays c.serve_requests.ensures.stays;
-      reads_right = λ tells honest image one. served.reads_right tells honest image (image_since _ _ _ image (untouched.reads tells) one);
-      happens = λ tells. happens _ _ _ _ _ _ (disk.seen c.args.device.now) _ _ served tells opened refl;
-    }
+    let script = c.in_ok-requests.ensures.script in
+    played disk.tells disk.honest g.S.Source.tells c.args.number c.drive.new.schedule c.in_ok-head.field-0.head c.in_ok-head.field-0.window.items c.in_ok-requests.requests c.in-Ok-begin.core.sizes
+    c.in-Ok-begin.core.zones c.drive.new.core.zones (disk.seen c.args.device.now) (disk.seen c.open.new.device) (disk.seen c.drive.new.device) _ _ c.report.result
+    c.in_ok-head.ensures.opened c.open.ensures.untouched c.in_ok-requests.ensures.shape c.in_ok-requests.ensures.served
+    (rw c.deref.ensures.value at c.in-Ok-begin.ensures.sizes) (rw c.deref.ensures.value at c.in-Ok-begin.ensures.first) (rw c.from_number.ensures at c.drive.ensures.drives)
+    c.drive.ensures.done c.drive.ensures.stays (λ told. let is = script told in (is.0, is.1)) (λ told. (script told).2) c.report.ensures
+
+pub returns-clause-session : goal.returns-clause-session
+returns-clause-session g c = (both g c).0
+
+pub returns-clause-room : goal.returns-clause-room
+returns-clause-room g c = subst (λ (script : Script). HasRoomFor c.in-Ok.room script) (sym (both g c).1) c.in-Ok.ensures

@@ -1,0 +1,316 @@
+-- What a session did, from what its core, its schedule and its report say.
+use Rattle.std.proofs.Common.{ℕ, zero, suc, ◌≡◌, ◌≤◌, ◌<◌, ◌+◌, ◌++◌, Bool, true, false, IsTrue, List, [], ◌∷◌, length, reverse, Some, None, Ok, refl, sym, ◌∙◌, ap, subst, arith, inl, inr}
+use Rattle.std.proofs.lemmas.Bool.{cases_Bool}
+use Rattle.std.proofs.lemmas.List.{append-nil, length-reverse}
+use Rattle.std.specs.List.{AllByRecursion}
+use Rattle.blk_base.specs.Regions.{needed_blocks}
+use Rattle.blk_base.specs.declared.geometry.Super.{Super}
+use Rattle.blk_base.specs.declared.journal_entry.Entry.{Entry}
+use Rattle.blk_base.specs.declared.request.Answer.{Answer as Reply}
+use Rattle.blk_base.specs.declared.request.Answer.TheVariants as reply
+use Rattle.blk_base.specs.declared.request.Request.{Request}
+use Rattle.blk_base.specs.declared.request.Request.TheVariants as request
+use Rattle.blk_base.specs.declared.request.Writer.{Writer}
+use Rattle.disk_model.specs.Causes.{Rose}
+use Rattle.disk_model.specs.declared.call.Call.{Call}
+use Rattle.disk_model.specs.declared.call.Call.TheVariants.{Flush, Read, Write}
+use Rattle.disk_model.specs.Images.{HasOneImage, IsImage}
+use Rattle.disk_model.specs.Log.{Blocks}
+use Rattle.disk_model.specs.Seen.{Seen, Stays}
+use Rattle.disk_model.specs.Since.{IsUntouched, OnlyReads}
+use Rattle.disk_model.proofs.OneImageLaws.{one_image-unique}
+use Rattle.disk_model.proofs.SeenLaws.{stays_on}
+use Rattle.disk_model.proofs.SinceLaws.{image_since}
+use Rattle.image_layout.specs.Opened.{super_of_image}
+use Rattle.image_layout.specs.Window.{IsWindow, journal_of, value_of}
+use Rattle.image_layout.proofs.WindowLaws.{written_few}
+use Rattle.core_model.specs.declared.sizes.Sizes.{Sizes}
+use Rattle.core_model.specs.declared.zones.Zone.{Zone}
+use Rattle.core_model.specs.Legal.{Legal}
+use Rattle.core_model.specs.Reports.{progress_of, report_of}
+use Rattle.core_model.specs.RightTraces.{HasCause, MayAnswer, MayFollow, RightTrace, StopsAtFailure}
+use Rattle.core_model.specs.Sessions.{Session, IsSession, IsServed, HasHonestReads}
+use Rattle.core_model.specs.Start.{IsFirst}
+use Rattle.core_model.specs.Steps.{Leads}
+use Rattle.core_model.specs.Trace.{Aborts, Calls, Commits, Draws, Enters, Fails, Flushes, Gives, Happening, Says, Sets, Takes, Trace, calls, has_read_fault, has_stopped, lines, moments}
+use Rattle.core_laws.proofs.kept.FirstState.{legal_first}
+use Rattle.core_laws.proofs.trace.AbortsOfTrace.{stops_at_failure}
+use Rattle.core_laws.proofs.trace.MarksOfTrace.{marks_right}
+use Rattle.core_laws.proofs.trace.ReportOfTrace.{report_reads_right, report_stops_right, run_right}
+use Rattle.core_laws.proofs.kept.LegalMoves.{legal_leads}
+use Rattle.step_parts.specs.DeviceLog.{GivesSettled, HasCalled, RoseBy, failed_calls}
+use Rattle.vdo_core.specs.Cores.{CanBegin, sizes_of}
+use Rattle.vdo_core.specs.FreeBlocks.{free_of}
+use Rattle.vdo_core.specs.Plays.{core_with}
+use Rattle.vdo_core.specs.Done.{IsDone}
+use Rattle.vdo_core.proofs.DoneLaws.{answered_when_done}
+use Rattle.vdo_core.proofs.SessionLaws.{imagined, is_of, is_session}
+use Rattle.vdo_core.proofs.FreeLaws.{free_distinct, free_fresh}
+use Rattle.vdo_model.specs.DeskLog.{AllAnswered, answer_of}
+use Rattle.vdo_model.specs.RightReads.{ReadsRight}
+use Rattle.vdo_model.specs.RightRuns.{RunRight}
+use Rattle.vdo_model.proofs.NameLaws.{same_tells}
+use Rattle.vdo_model.specs.Scripts.{Script, request_at}
+use Rattle.vdo_model.specs.declared.report.DeskLine.{DeskLine}
+use Rattle.vdo_model.specs.declared.report.DeskLine.TheVariants as line
+use Rattle.vdo_model.specs.declared.report.RunReport.{RunReport}
+use Rattle.vdo_model.specs.Stops.{RightAfterStops}
+use Rattle.vdo_cli.specs.Sessions.{HasFault, IsOver, IsReported, run_sizes}
+use Rattle.schedule.specs.Turns.{Drives}
+use Rattle.schedule.proofs.TurnLaws.{driven_leads}
+use Rattle.vdo_core.specs.Starts.{IsOf}
+use Rattle.stream_text.specs.ReadingBytes.{IsWholeScript}
+use Rattle.vdo_cli.specs.Commands.{run_setup}
+use Rattle.vdo_cli.proofs.ScriptLaws.{can_begin}
+use Rattle.vdo_core.specs.declared.events.Event.{Event}
+use Rattle.stream_text.specs.WholeScript.{first_discard, whole_script}
+use Rattle.vdo_cli.specs.Endings.{Plays}
+use Rattle.vdo_cli.specs.Openings.{IsOpened}
+use Rattle.vdo_cli.specs.Stops.{Happens, OpensWith}
+use Rattle.vdo_cli.proofs.OpeningLaws.{opened_window, says_head}
+use Rattle.vdo_cli.proofs.StopLaws.{same_super, some_blocks}
+
+-- what happened before a happening, of a right trace
+right_at : (s : Session) (newer older : Trace) (h : Happening) → RightTrace s (newer ++ h ∷ older) → MayFollow s h older
+right_at s [] older h right = right.0
+right_at s (other ∷ newer) older h right = right_at s newer older h right.2
+
+-- a stop, and a read fault, is a call that failed
+stopped_failed : (t : Trace) → has_stopped t ≡ true → 1 ≤ failed_calls t
+stopped_failed [] stopped = absurd cc
+stopped_failed (Fails w c kept ∷ t) stopped = omega arith
+stopped_failed (other ∷ t) stopped = stopped_failed t stopped
+
+fault_failed : (t : Trace) (w : Writer) → has_read_fault t w ≡ true → 1 ≤ failed_calls t
+fault_failed [] w fault = absurd cc
+fault_failed (Fails v c kept ∷ t) w fault = omega arith
+fault_failed (other ∷ t) w fault = fault_failed t w fault
+
+failed_behind : (newer older : Trace) → failed_calls older ≤ failed_calls (newer ++ older)
+failed_behind [] older = omega arith
+failed_behind (Fails w c kept ∷ t) older = let rest = failed_behind t older in omega (arith, rest)
+failed_behind (other ∷ t) older = failed_behind t older
+
+-- reads that gave what was settled are honest
+honest_reads : (s : Session) (t : Trace) → GivesSettled s.blocks s.before t → HasHonestReads s t
+honest_reads s [] given = tt
+honest_reads s (Calls (Read at bytes true) ∷ t) given = (given.0, given.1, honest_reads s t given.2)
+honest_reads s (other ∷ t) given = honest_reads s t given
+
+-- why a request may be answered so is a call that failed, where only that explains its answer
+cause_failed : (s : Session) (t : Trace) (w : Writer) (r : Request) (a : Reply) → MayAnswer s t w r a → HasFault a → 1 ≤ failed_calls t
+cause_failed s t w (request.Read at) reply.Stopped cause lost = stopped_failed t cause.0
+cause_failed s t w (request.Read at) reply.ReadFault cause lost = fault_failed t w cause.1
+cause_failed s t w (request.Write at bytes fua) reply.Stopped (inl cause) lost = stopped_failed t cause.0
+cause_failed s t w (request.Write at bytes fua) reply.Stopped (inr (below, at_once)) lost = stopped_failed t at_once.stopped
+cause_failed s t w (request.Write at bytes fua) reply.ReadFault cause lost = absurd cause
+cause_failed s t w (request.Discard at) reply.Stopped cause lost = absurd cause
+cause_failed s t w (request.Discard at) reply.ReadFault cause lost = absurd cause
+cause_failed s t w request.Flush reply.Stopped cause lost = stopped_failed t cause
+cause_failed s t w request.Flush reply.ReadFault cause lost = absurd cause
+cause_failed s t w r reply.Ok cause lost = absurd lost
+cause_failed s t w r (reply.Bytes bytes) cause lost = absurd lost
+cause_failed s t w r reply.Range cause lost = absurd lost
+cause_failed s t w r reply.NoSpace cause lost = absurd lost
+cause_failed s t w r reply.Full cause lost = absurd lost
+cause_failed s t w r reply.Damaged cause lost = absurd lost
+
+-- so where one is answered so, a call had failed
+answered_failed : (s : Session) (t : Trace) (w : Writer) (r : Request) (a : Reply) → RightTrace s t → request_at s.script w ≡ Some r → answer_of (lines t) w ≡ Some a → HasFault a → 1 ≤ failed_calls t
+answered_failed s [] w r a right asked is lost = absurd cc
+answered_failed s (Says (line.Begin v) ∷ t) w r a right asked is lost = answered_failed s t w r a right.2 asked is lost
+answered_failed s (Says (line.Answer v b) ∷ t) w r a right asked is lost = elim (same_tells v w) [
+  | inl same ↦
+      let answers : b ≡ a = cc (is, same.0) in
+      cause_failed s t w r a (rw (← same.1, ← answers) (right.0.1 r (rw same.1 asked))) lost
+  | inr other ↦ let older : answer_of (lines t) w ≡ Some a = cc (is, other.0) in answered_failed s t w r a right.2 asked older lost
+]
+answered_failed s (Flushes mark ∷ t) w r a right asked is lost = elim (same_tells mark.request w) [
+  | inl same ↦ let answers : reply.Ok ≡ a = cc (is, same.0) in absurd (rw (← answers) at lost)
+  | inr other ↦ let older : answer_of (lines t) w ≡ Some a = cc (is, other.0) in answered_failed s t w r a right.2 asked older lost
+]
+answered_failed s (Fails v c kept ∷ t) w r a right asked is lost = omega arith
+answered_failed s (Draws p ∷ t) w r a right asked is lost = answered_failed s t w r a right.2 asked is lost
+answered_failed s (Enters e ∷ t) w r a right asked is lost = answered_failed s t w r a right.2 asked is lost
+answered_failed s (Commits e ∷ t) w r a right asked is lost = answered_failed s t w r a right.2 asked is lost
+answered_failed s (Sets e ∷ t) w r a right asked is lost = answered_failed s t w r a right.2 asked is lost
+answered_failed s (Gives g ∷ t) w r a right asked is lost = answered_failed s t w r a right.2 asked is lost
+answered_failed s (Takes v x ∷ t) w r a right asked is lost = answered_failed s t w r a right.2 asked is lost
+answered_failed s (Aborts e ∷ t) w r a right asked is lost = answered_failed s t w r a right.2 asked is lost
+answered_failed s (Calls c ∷ t) w r a right asked is lost = answered_failed s t w r a right.2 asked is lost
+
+rose : (n before now : ℕ) → 1 ≤ n → RoseBy n before now → Rose before now
+rose n before now some by = omega (arith, some, by)
+
+-- of calls that are reads the older ones are
+reads_behind : (newer older : List Call) → OnlyReads (newer ++ older) → OnlyReads older
+reads_behind [] older reads = reads
+reads_behind (Read at bytes ok ∷ newer) older reads = reads_behind newer older reads
+reads_behind (Write at bytes ok ∷ newer) older reads = absurd reads
+reads_behind (Flush ok ∷ newer) older reads = absurd reads
+
+-- A core that began over what was read, and came to its end.
+module _ (tells honest : Bool) (head : Super) (window : List Entry) (script : Script) (first last : List Zone) (trace : Trace) (before after : Seen)
+    (can : CanBegin (run_sizes head window) script window) (begins : (s : Session) → IsOver head window script s → IsFirst s (core_with first []))
+    (leads : Leads (run_sizes head window) (core_with first []) (core_with last trace)) (done : IsDone last) (called : HasCalled tells honest before after trace) where
+  -- it is legal, of each session over that
+  legal_over : (s : Session) → IsSession s → IsOver head window script s → Legal s (core_with last trace)
+  legal_over s session over =
+      legal_leads s (core_with first []) (core_with last trace) session (subst (λ (sizes : Sizes). Leads sizes (core_with first []) (core_with last trace)) (sym over.sizes_is) leads)
+      (legal_first s (core_with first []) (begins s over) session)
+
+  abbrev over : Session
+  over = imagined (run_sizes head window) script window can
+
+  pub session : IsSession over
+  session = is_session (run_sizes head window) script window can
+
+  pub legal : Legal over (core_with last trace)
+  legal = legal_over over session (is_of (run_sizes head window) script window can)
+
+  pub answered : AllAnswered script (lines trace)
+  answered = answered_when_done over (core_with last trace) legal done
+
+  -- of which it can tell
+  abbrev pub report : RunReport
+  report = report_of over trace
+
+  reported : IsReported head window report trace before after
+  reported = record {
+    session = over;
+    is_over = is_of (run_sizes head window) script window can;
+    report_is = refl;
+    run_right = run_right over trace session legal.right answered;
+    causes = λ newer older w r a is asked. (right_at over newer older (Says (line.Answer w a)) (subst (RightTrace over) is legal.right)).1 r asked;
+    faults = λ w r a asked is lost. rose (failed_calls trace) before.faults after.faults (answered_failed over trace w r a legal.right asked is lost) called.faults;
+    stops = stops_at_failure over trace legal.right;
+  }
+
+  -- of an honest device, over the one image that there was
+  module _ (image : Blocks) (told : IsTrue tells) (fair : IsTrue honest) (room : needed_blocks head.geometry ≤ length before.opening)
+      (one : HasOneImage before.opening before.log image) (is_window : IsWindow head.geometry head.start (journal_of head.geometry image) window) where
+    abbrev real : Session
+    real = record {
+      sizes = run_sizes head window;
+      script = script;
+      blocks = before.opening;
+      before = before.log;
+      image = image;
+      window = window;
+      free = free_of head.geometry window;
+    }
+
+    real_session : IsSession real
+    real_session = record {
+      sizes = can.geometry;
+      start = can.start;
+      zones = can.zones;
+      limits = can.limits;
+      room = room;
+      served = can.served;
+      one_image = one;
+      is_window = is_window;
+      opened = refl;
+      few = written_few head.geometry head.start (journal_of head.geometry image) window (omega (arith, can.geometry.journal.0)) is_window.written;
+      free = free_fresh head.geometry can.geometry real refl;
+      distinct = free_distinct head.geometry can.geometry window;
+    }
+
+    real_legal : Legal real (core_with last trace)
+    real_legal = legal_over real real_session (record { sizes_is = refl; script_is = refl; window_is = refl; free_is = refl })
+
+    reads_of_image : ReadsRight (value_of image window) report.requests report.desk report.places report.histories
+    reads_of_image = report_reads_right real trace real_session real_legal.right (real_legal.gives_right (honest_reads real trace (called.given told fair)))
+
+    stops_of_image : super_of_image image ≡ Ok head → RightAfterStops (OpensWith head) before.opening before.log head.geometry.logical (value_of image window) report (calls trace)
+    stops_of_image says later prefix calls_are other is =
+        let (values, shows, right) = report_stops_right real trace real_session real_legal.right later prefix calls_are other is in
+        let size : length other ≡ length image = is.size ∙ sym one.size in (
+          values,
+          record { superblock = same_super image other (some_blocks image head says) size shows.0 ∙ says; has_values = shows.1 },
+          right,
+        )
+
+  -- what was read before it, and what a stop within these reads leaves
+  module _ (start : Seen) (opened : IsOpened tells honest start before head window) (untouched : IsUntouched tells start before) where
+    -- the device has the blocks of the image
+    has_blocks : IsTrue tells → needed_blocks head.geometry ≤ length before.opening
+    has_blocks told = rw untouched.stays.opening (let count = opened.read.read.told told in omega (arith, opened.read.is_head.room, count))
+
+    happens : IsTrue tells → Happens honest head window (moments trace) report start before after
+    happens told =
+        let (earlier, earlier_is, reads) = untouched.reads told in
+        let of_start : (image : Blocks) → HasOneImage start.opening start.log image → HasOneImage before.opening before.log image =
+        (λ (image : Blocks) (one : HasOneImage start.opening start.log image). rw untouched.stays.opening (image_since start.opening start.log before.log image (untouched.reads told) one)) in
+        record {
+          earlier = earlier;
+          earlier_is = earlier_is;
+          only_reads = reads;
+          stops_early = λ later prefix parts image other one is.
+              one_image-unique start.opening (prefix ++ start.log) image other
+              (image_since start.opening start.log (prefix ++ start.log) image (prefix, refl, reads_behind later prefix (subst OnlyReads parts reads)) one) is;
+          lines = refl;
+          calls = called.log told;
+          flushes = marks_right over trace session legal.right;
+          stops = λ fair image one. rw (← untouched.stays.opening) (stops_of_image image told fair (has_blocks told) (of_start image one) (opened_window tells honest start before image told fair one head window opened)
+              (says_head tells honest start before image told fair one head opened.journal opened.read));
+        }
+
+    pub plays : (source_tells : Bool) (schedule state : ℕ) (events : List Event) (left rest : List ℕ) → Stays before after
+        → Drives tells honest (run_sizes head window) schedule state events first last before after
+        → (IsTrue source_tells → (whole_script left ≡ Ok script) × (first_discard left ≡ None)) → (IsTrue source_tells → rest ≡ [])
+        → Plays tells honest source_tells schedule report start after left rest
+    plays source_tells schedule state events left rest stays drives script_is whole = record {
+      head = head;
+      window = window;
+      opened = before;
+      is_opened = opened;
+      script_is = script_is;
+      to_its_end = whole;
+      trace = trace;
+      driven = record {
+        first = first;
+        last = last;
+        begins = begins;
+        events = events;
+        state = state;
+        drives = drives;
+        done = done;
+        leads = leads;
+        called = called;
+      };
+      reported = reported;
+      stays = stays_on start before after untouched.stays stays;
+      reads_right = λ told fair image one.
+          reads_of_image image told fair (has_blocks told) (rw untouched.stays.opening (image_since start.opening start.log before.log image (untouched.reads told) one))
+          (opened_window tells honest start before image told fair one head window opened);
+      happens = happens;
+    }
+
+-- what a core did that began with what was read, was driven to its end, and told its report
+pub played : (tells honest source_tells : Bool) (number state : ℕ) (head : Super) (entries : List Entry) (script : Script) (sizes : Sizes) (first last : List Zone) (start before after : Seen) (left rest : List ℕ)
+    (report : RunReport) → IsOpened tells honest start before head (reverse entries) → IsUntouched tells start before → IsWholeScript script → AllByRecursion (AllByRecursion IsServed) script
+    → sizes ≡ sizes_of run_setup head (length entries)
+    → ((s : Session) → IsOf s sizes script (reverse entries) (free_of head.geometry (reverse entries)) → IsFirst s (core_with first []))
+    → ((events : List Event) × Drives tells honest sizes number state events first last before after) → IsDone last → Stays before after
+    → (IsTrue source_tells → (whole_script left ≡ Ok script) × (first_discard left ≡ None)) → (IsTrue source_tells → rest ≡ [])
+    → ((s : Session) (t : Trace) → IsSession s → Legal s (core_with last t) → IsDone last → report ≡ report_of s t)
+    → Plays tells honest source_tells number report start after left rest × (report.requests ≡ script)
+played tells honest source_tells number state head entries script sizes first last start before after left rest report opened untouched shape served sizes_are begins driven done stays script_is whole says =
+    let window = reverse entries in
+    let sized : sizes ≡ run_sizes head window = sizes_are ∙ ap (λ (n : ℕ). sizes_of run_setup head n) (sym (length-reverse entries)) in
+    let can = can_begin tells honest start before head window script opened shape served in
+    let begins_so = (λ (s : Session) (over : IsOver head window script s). begins s (rw sized over)) in
+    let (events, drives_so) = driven in
+    let drives : Drives tells honest (run_sizes head window) number state events first last before after =
+    subst (λ (z : Sizes). Drives tells honest z number state events first last before after) sized drives_so in
+    let (made, leads_on, called) = driven_leads tells honest (run_sizes head window) number state events first last before after drives in
+    let leads : Leads (run_sizes head window) (core_with first []) (core_with last made) =
+    subst (λ (t : Trace). Leads (run_sizes head window) (core_with first []) (core_with last t)) (append-nil made) (leads_on []) in
+    let report_is = says (over tells honest head window script first last made before after can begins_so leads done called) made
+    (session tells honest head window script first last made before after can begins_so leads done called)
+    (legal tells honest head window script first last made before after can begins_so leads done called) done in (
+      subst (λ (r : RunReport). Plays tells honest source_tells number r start after left rest) (sym report_is)
+      (plays tells honest head window script first last made before after can begins_so leads done called start opened untouched source_tells number state events left rest stays drives script_is whole),
+      ap (λ (r : RunReport). r.requests) report_is,
+    )
