@@ -73,7 +73,7 @@ impl Words {
     pub(crate) fn schedule(&self) -> Option<u64>
         ensures { result ≡ schedule_of self.now }
     {
-        let command = read_command(&self.texts).ok();
+        let command = read_command(self.allocator(), &self.texts).ok();
         schedule_in(command)
     }
 }
