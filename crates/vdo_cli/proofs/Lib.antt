@@ -10,3 +10,7 @@ pub mod CommandPins
 pub mod TextPins
 pub mod PlayPins
 pub mod RunPins
+pub mod EmptyScript
+pub mod SessionPins
+pub mod DrivenPins
+pub mod ValuePins

@@ -14,11 +14,11 @@ use Rattle.vdo_cli.specs.Endings.{Plays}
 use Rattle.vdo_cli.specs.Runs.{Setting, Outside, EndsSo, PutsOrFails, no_report, outside, setting}
 use Rattle.vdo_cli.specs.Texts.{some_lost, desk_status}
 use Rattle.std.specs.Prelude.{MatchBool}
-use Rattle.vdo_cli.proofs.CommandPins.{no_word, no_word_is_none, run_by_0, run_is_served, run_words, seven_words, run_by_7}
+use Rattle.vdo_cli.proofs.CommandPins.{no_word, no_word_is_none, run_by_0, run_is_served, run_words}
 use Rattle.vdo_cli.proofs.PlayPins.{device, at}
 
 -- all of the outside tells
-abbrev telling : Setting
+abbrev pub telling : Setting
 telling = setting true false true true
 
 abbrev pub Ends : List (List ℕ) → Outside → Outside → ℕ → RunReport → Option Fault → Type 0

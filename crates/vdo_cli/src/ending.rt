@@ -84,12 +84,7 @@ fn put_script_line<K: Sink>(line: u64, end: &[u8], out: &mut K) -> Result<(), Fa
     ensures cause { HasCause (K.faults out.old) (K.faults out.new) result }
 {
     let mut buffer = itoa::Buffer::new();
-    put_three(
-        out,
-        b"script line ",
-        buffer.format(line).as_bytes(),
-        end,
-    )
+    put_three(out, b"script line ", buffer.format(line).as_bytes(), end)
 }
 
 /// Puts the line of a fault. Where the sink is the fault, nothing is put.

@@ -52,12 +52,7 @@ fn refuse<D: Disk, K: Sink>(alloc: Global, fault: Fault, device: D, out: &mut K)
 }
 
 // Puts the answers of a session.
-fn close<D: Disk, K: Sink>(
-    report: RunReport,
-    room: AnswerRoom,
-    device: D,
-    out: &mut K,
-) -> Ended<D>
+fn close<D: Disk, K: Sink>(report: RunReport, room: AnswerRoom, device: D, out: &mut K) -> Ended<D>
     requires { HasRoomFor room report.requests }
     ensures device { result.device ≡ device }
     ensures report { result.report ≡ report }
