@@ -6,3 +6,11 @@ pub mod ScriptLaws
 pub mod OneLaws
 pub mod EndingLaws
 pub mod OnwardLaws
+pub mod CommandPins
+pub mod TextPins
+pub mod PlayPins
+pub mod RunPins
+pub mod EmptyScript
+pub mod SessionPins
+pub mod DrivenPins
+pub mod ValuePins

@@ -1,6 +1,5 @@
 -- What a session did, from what its core, its schedule and its report say.
-use Rattle.std.proofs.Common.{ℕ, zero, suc, ◌≡◌, ◌≤◌, ◌<◌, ◌+◌, ◌++◌, Bool, true, false, IsTrue, List, [], ◌∷◌, length, reverse, Some, None, Ok, refl, sym, ◌∙◌, ap, subst, arith, inl, inr}
-use Rattle.std.proofs.lemmas.Bool.{cases_Bool}
+use Rattle.std.proofs.Common.{ℕ, ◌≡◌, ◌≤◌, ◌++◌, Bool, true, IsTrue, List, [], ◌∷◌, length, reverse, Some, None, Ok, refl, sym, ◌∙◌, ap, subst, arith, inl, inr}
 use Rattle.std.proofs.lemmas.List.{append-nil, length-reverse}
 use Rattle.std.specs.List.{AllByRecursion}
 use Rattle.blk_base.specs.Regions.{needed_blocks}
@@ -14,7 +13,7 @@ use Rattle.blk_base.specs.declared.request.Writer.{Writer}
 use Rattle.disk_model.specs.Causes.{Rose}
 use Rattle.disk_model.specs.declared.call.Call.{Call}
 use Rattle.disk_model.specs.declared.call.Call.TheVariants.{Flush, Read, Write}
-use Rattle.disk_model.specs.Images.{HasOneImage, IsImage}
+use Rattle.disk_model.specs.Images.{HasOneImage}
 use Rattle.disk_model.specs.Log.{Blocks}
 use Rattle.disk_model.specs.Seen.{Seen, Stays}
 use Rattle.disk_model.specs.Since.{IsUntouched, OnlyReads}
@@ -27,8 +26,8 @@ use Rattle.image_layout.proofs.WindowLaws.{written_few}
 use Rattle.core_model.specs.declared.sizes.Sizes.{Sizes}
 use Rattle.core_model.specs.declared.zones.Zone.{Zone}
 use Rattle.core_model.specs.Legal.{Legal}
-use Rattle.core_model.specs.Reports.{progress_of, report_of}
-use Rattle.core_model.specs.RightTraces.{HasCause, MayAnswer, MayFollow, RightTrace, StopsAtFailure}
+use Rattle.core_model.specs.Reports.{report_of}
+use Rattle.core_model.specs.RightTraces.{MayAnswer, MayFollow, RightTrace}
 use Rattle.core_model.specs.Sessions.{Session, IsSession, IsServed, HasHonestReads}
 use Rattle.core_model.specs.Start.{IsFirst}
 use Rattle.core_model.specs.Steps.{Leads}
@@ -48,10 +47,8 @@ use Rattle.vdo_core.proofs.SessionLaws.{imagined, is_of, is_session}
 use Rattle.vdo_core.proofs.FreeLaws.{free_distinct, free_fresh}
 use Rattle.vdo_model.specs.DeskLog.{AllAnswered, answer_of}
 use Rattle.vdo_model.specs.RightReads.{ReadsRight}
-use Rattle.vdo_model.specs.RightRuns.{RunRight}
 use Rattle.vdo_model.proofs.NameLaws.{same_tells}
 use Rattle.vdo_model.specs.Scripts.{Script, request_at}
-use Rattle.vdo_model.specs.declared.report.DeskLine.{DeskLine}
 use Rattle.vdo_model.specs.declared.report.DeskLine.TheVariants as line
 use Rattle.vdo_model.specs.declared.report.RunReport.{RunReport}
 use Rattle.vdo_model.specs.Stops.{RightAfterStops}
@@ -175,7 +172,7 @@ module _ (tells honest : Bool) (head : Super) (window : List Entry) (script : Sc
   abbrev pub report : RunReport
   report = report_of over trace
 
-  reported : IsReported head window report trace before after
+  pub reported : IsReported head window report trace before after
   reported = record {
     session = over;
     is_over = is_of (run_sizes head window) script window can;
@@ -237,7 +234,7 @@ module _ (tells honest : Bool) (head : Super) (window : List Entry) (script : Sc
     has_blocks : IsTrue tells → needed_blocks head.geometry ≤ length before.opening
     has_blocks told = rw untouched.stays.opening (let count = opened.read.read.told told in omega (arith, opened.read.is_head.room, count))
 
-    happens : IsTrue tells → Happens honest head window (moments trace) report start before after
+    pub happens : IsTrue tells → Happens honest head window (moments trace) report start before after
     happens told =
         let (earlier, earlier_is, reads) = untouched.reads told in
         let of_start : (image : Blocks) → HasOneImage start.opening start.log image → HasOneImage before.opening before.log image =

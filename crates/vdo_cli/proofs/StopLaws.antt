@@ -1,5 +1,5 @@
 -- The superblock of an image, from its first block.
-use Rattle.std.proofs.Common.{ℕ, ◌≡◌, ◌<◌, List, [], ◌∷◌, length, Ok, refl, arith}
+use Rattle.std.proofs.Common.{◌≡◌, ◌<◌, [], ◌∷◌, length, Ok, refl, arith}
 use Rattle.blk_base.specs.declared.geometry.Super.{Super}
 use Rattle.disk_model.specs.Log.{Blocks, block_at}
 use Rattle.image_layout.specs.Opened.{super_of_image}

@@ -1,4 +1,4 @@
-use Rattle.std.proofs.Common.{◌≡◌, ℕ, length, reverse, subst, sym}
+use Rattle.std.proofs.Common.{◌≡◌, ℕ, reverse, subst, sym}
 use Rattle.std.proofs.lemmas.List.{length-reverse}
 use Rattle.stream_text.specs.AnswerRooms.{HasRoomFor}
 use Rattle.vdo_core.specs.Cores.{CanBegin, sizes_of}

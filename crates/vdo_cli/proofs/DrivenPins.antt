@@ -1,0 +1,164 @@
+-- Rows that pin how a core served a session (`IsDriven`), what its report tells (`IsReported`), and what happened to the
+-- device on the way (`Happens`). Those that are accepted are of the session of a script that asks for nothing.
+use Rattle.std.proofs.Common.{ℕ, ◌≡◌, ◌≢◌, ◌<◌, ◌++◌, Bool, true, false, List, [], ◌∷◌, length, replicate, Some, None, IsSome, refl, sym, ◌∙◌, ap, subst, arith}
+use Rattle.blk_base.specs.declared.geometry.Super.{Super}
+use Rattle.blk_base.specs.declared.journal_entry.Entry.{Entry}
+use Rattle.blk_base.specs.declared.place.Pbn.{Pbn}
+use Rattle.blk_base.specs.declared.request.Answer.TheVariants as reply
+use Rattle.blk_base.specs.declared.request.Request.TheVariants as request
+use Rattle.blk_base.specs.declared.request.Writer.{Writer}
+use Rattle.disk_model.specs.declared.call.Call.{Call}
+use Rattle.disk_model.specs.declared.call.Call.TheVariants.{Read, Write, Flush}
+use Rattle.disk_model.specs.Images.{HasOneImage, IsImage}
+use Rattle.disk_model.specs.Log.{Blocks}
+use Rattle.disk_model.specs.Seen.{Seen}
+use Rattle.disk_model.specs.Since.{OnlyReads}
+use Rattle.core_model.specs.declared.sizes.Sizes.{Sizes}
+use Rattle.core_model.specs.Sessions.{Session}
+use Rattle.core_model.specs.Trace.{Calls, Fails, Says, Trace, lines}
+use Rattle.schedule.specs.Turns.{Drives}
+use Rattle.stream_text.specs.StreamRows.{no_requests}
+use Rattle.vdo_core.specs.Cores.{CanBegin}
+use Rattle.vdo_core.specs.Done.{IsDone}
+use Rattle.vdo_core.specs.FreeBlocks.{free_of}
+use Rattle.vdo_core.specs.declared.events.Event.{Event}
+use Rattle.vdo_model.specs.DeskLog.{answer_of}
+use Rattle.vdo_model.specs.FlushMarks.{Moment, Desk, Device, lines_of}
+use Rattle.vdo_model.specs.Scripts.{Script, request_at}
+use Rattle.vdo_model.specs.declared.report.DeskLine.TheVariants.{Begin, Answer}
+use Rattle.vdo_model.specs.declared.report.RunReport.{RunReport}
+use Rattle.vdo_model.proofs.Example.{address, of_a}
+use Rattle.vdo_cli.specs.Openings.{IsOpened}
+use Rattle.vdo_cli.specs.Sessions.{IsDriven, IsReported, run_sizes}
+use Rattle.vdo_cli.specs.Stops.{Happens}
+use Rattle.vdo_cli.proofs.EmptyScript.{empty_driven, empty_happens, empty_report, empty_reported}
+use Rattle.vdo_cli.proofs.PlayPins.{at, device}
+use Rattle.vdo_cli.proofs.SessionLaws.{answered}
+
+-- Accepted: of an image that was opened, all three parts of the session of no request.
+module _ (schedule : ℕ) (head : Super) (window : List Entry) (before opened : Seen) (is_opened : IsOpened true true before opened head window) where
+  driven-empty : IsDriven true true schedule head window no_requests [] opened opened
+  driven-empty = empty_driven true true schedule head window before opened is_opened
+
+  reported-empty : IsReported head window empty_report [] opened opened
+  reported-empty = empty_reported true true schedule head window before opened is_opened
+
+  happens-empty : Happens true head window [] empty_report before opened opened
+  happens-empty = empty_happens true true schedule head window before opened is_opened refl
+
+-- IsDriven. By schedule 7 over some image.
+module _ (head : Super) (window : List Entry) (script : Script) (trace : Trace) (before after : Seen) (driven : IsDriven true false 7 head window script trace before after) where
+  abbrev some_session : Session
+  some_session = record { sizes = run_sizes head window; script = script; blocks = []; before = []; image = []; window = window; free = free_of head.geometry window }
+
+  -- the first core is one of the session: it has zones
+  driven-not_from_no_zone : driven.first ≡ [] → ⊥
+  driven-not_from_no_zone none = let first = driven.begins some_session (record { sizes_is = refl; script_is = refl; window_is = refl; free_is = refl }) in omega (arith, first.count, ap length none)
+
+  -- the turns begin with the number of this schedule; without any the core stays as it is; and a core that is done takes none
+  abbrev Led : List Event → Type 0
+  Led events = Drives true false (run_sizes head window) 7 driven.state events driven.first driven.last before after
+
+  driven-not_by_schedule_8 : driven.events ≡ [] → driven.state ≡ 8 → ⊥
+  driven-not_by_schedule_8 none is = let led : Led [] = subst Led none driven.drives in omega (arith, led.0, is)
+
+  driven-not_without_a_turn : driven.events ≡ [] → driven.last ≢ driven.first → ⊥
+  driven-not_without_a_turn none differ = let led : Led [] = subst Led none driven.drives in differ led.1
+
+  driven-not_beyond_the_end : (e : Event) (events : List Event) → driven.events ≡ e ∷ events → IsDone driven.first → ⊥
+  driven-not_beyond_the_end e events some done = let led : Led (e ∷ events) = subst Led some driven.drives in led.2 done
+
+  -- the last core is done, and so every request is answered by what happened on the way
+  driven-not_to_no_zone : driven.last ≡ [] → ⊥
+  driven-not_to_no_zone none = let had = driven.done.had in let nothing : None ≡ Some driven.done.zone = rw none at had in absurd cc
+
+  driven-not_without_an_answer : CanBegin (run_sizes head window) script window → (w : Writer) → IsSome (request_at script w) → answer_of (lines trace) w ≡ None → ⊥
+  driven-not_without_an_answer can w asked none =
+      let all = answered true false head window script driven.first driven.last trace before after can driven.begins driven.leads driven.done driven.called in
+      let has : IsSome (answer_of (lines trace) w) = all w asked in
+      absurd (let unanswered = rw none at has in cc)
+
+-- the device has the calls that happened, and no other
+driven-not_called_besides : (head : Super) (window : List Entry) (script : Script) (opening : Blocks) → IsDriven true false 7 head window script [] (device opening [] 0 0) (device opening (Flush true ∷ []) 0 0) → ⊥
+driven-not_called_besides head window script opening driven = let size = ap length (driven.called.log refl) in omega (arith, size)
+
+-- IsReported. The session is that of this image, with one logical zone
+reported-not_of_two_zones : (head : Super) (window : List Entry) (report : RunReport) (trace : Trace) (before after : Seen) (reported : IsReported head window report trace before after)
+    → reported.session.sizes.zones ≡ 2 → ⊥
+reported-not_of_two_zones head window report trace before after reported two = omega (arith, two, ap (λ (sizes : Sizes). sizes.zones) reported.is_over.sizes_is)
+
+-- the report has the places that were drawn, here none
+abbrev placed_report : RunReport
+placed_report = record empty_report { places = record { request = of_a 0; zone = 0; place = 0 } ∷ [] }
+
+reported-not_with_other_places : (head : Super) (window : List Entry) (before after : Seen) → IsReported head window placed_report [] before after → ⊥
+reported-not_with_other_places head window before after reported =
+    let places = ap (λ (report : RunReport). length report.places) reported.report_is in
+    let zones = ap (λ (sizes : Sizes). sizes.zones) reported.is_over.sizes_is in
+    let none = rw zones at places in
+    omega (arith, none)
+
+-- nothing is begun that wasn't asked
+abbrev begun_report : RunReport
+begun_report = record empty_report { desk = Begin (of_a 0) ∷ [] }
+
+reported-not_another_desk : (head : Super) (window : List Entry) (trace : Trace) (before after : Seen) → IsReported head window begun_report trace before after → ⊥
+reported-not_another_desk head window trace before after reported = absurd (let asked = reported.run_right.desk_log.0.1 in cc)
+
+-- an answer has its cause: a read of address 1 isn't beyond a logical size of 2
+abbrev read_report : RunReport
+read_report = record empty_report { requests = (request.Read (address 1) ∷ []) ∷ replicate 15 []; desk = Answer (of_a 0) reply.Range ∷ Begin (of_a 0) ∷ [] }
+
+reported-not_beyond : (head : Super) (window : List Entry) (before after : Seen) → 1 < head.geometry.logical
+    → IsReported head window read_report (Says (Answer (of_a 0) reply.Range) ∷ Says (Begin (of_a 0)) ∷ []) before after → ⊥
+reported-not_beyond head window before after below reported =
+    let beyond = reported.causes [] (Says (Begin (of_a 0)) ∷ []) (of_a 0) (request.Read (address 1)) reply.Range refl refl in
+    let logical = ap (λ (sizes : Sizes). sizes.geometry.logical) reported.is_over.sizes_is in
+    omega (arith, below, beyond, logical)
+
+-- a read that failed made the device's count rise
+abbrev fault_report : RunReport
+fault_report = record read_report { desk = Answer (of_a 0) reply.ReadFault ∷ Begin (of_a 0) ∷ [] }
+
+reported-not_without_rise : (head : Super) (window : List Entry) (trace : Trace) (opening : Blocks) (log log' : List Call) → IsReported head window fault_report trace (device opening log 0 0) (device opening log' 0 0) → ⊥
+reported-not_without_rise head window trace opening log log' reported = let rose = reported.faults (of_a 0) (request.Read (address 1)) reply.ReadFault refl refl tt in omega (arith, rose)
+
+-- no write follows a flush that failed
+reported-not_written_after : (head : Super) (window : List Entry) (report : RunReport) (before after : Seen) (w : Writer) (x : Pbn) (bytes : List ℕ) (kept : Bool)
+    → IsReported head window report (Calls (Write x bytes true) ∷ Fails w (Flush false) kept ∷ []) before after → ⊥
+reported-not_written_after head window report before after w x bytes kept reported = absurd (let goes_on = reported.stops.0 refl in cc)
+
+-- Happens. Before the session the device was only read,
+happens-not_written_before : (head : Super) (window : List Entry) (moments : List Moment) (report : RunReport) (after : Seen) (opening : Blocks) (bytes : List ℕ)
+    → Happens true head window moments report (device opening [] 0 0) (device opening (Write (at 0) bytes true ∷ []) 0 0) after → ⊥
+happens-not_written_before head window moments report after opening bytes happens = written happens.earlier happens.earlier_is happens.only_reads
+  where
+    written : (calls : List Call) → Write (at 0) bytes true ∷ [] ≡ calls ++ [] → OnlyReads calls → ⊥
+    written [] is reads = absurd cc
+    written (Read place given ok ∷ calls) is reads = absurd cc
+    written (Write place given ok ∷ calls) is reads = reads
+    written (Flush ok ∷ calls) is reads = reads
+
+module _ (head : Super) (window : List Entry) (moments : List Moment) (report : RunReport) (before opened after : Seen) (happens : Happens true head window moments report before opened after) where
+  -- and a stop then leaves the image that was there,
+  happens-not_another_image : (image other : Blocks) → HasOneImage before.opening before.log image → IsImage before.opening opened.log other → other ≢ image → ⊥
+  happens-not_another_image image other one is differ =
+      differ (happens.stops_early [] happens.earlier refl image other one (subst (λ (log : List Call). IsImage before.opening log other) happens.earlier_is is))
+
+  -- the moments have the lines of the desk log, and the calls of the device
+  happens-not_another_line : moments ≡ [] → report.desk ≡ Begin (of_a 0) ∷ [] → ⊥
+  happens-not_another_line none begun = let size = ap (λ (ms : List Moment). length (lines_of ms)) (sym none) ∙ ap length (happens.lines ∙ begun) in omega (arith, size)
+
+happens-not_called_besides : (head : Super) (window : List Entry) (before : Seen) (opening : Blocks)
+    → Happens true head window [] empty_report before (device opening [] 0 0) (device opening (Flush true ∷ []) 0 0) → ⊥
+happens-not_called_besides head window before opening happens = let size = ap length happens.calls in omega (arith, size)
+
+-- a flush that was answered Ok has its mark
+abbrev flushing : List Moment
+flushing = Desk (Answer (of_a 0) reply.Ok) ∷ Device (Flush true) ∷ Desk (Begin (of_a 0)) ∷ []
+
+abbrev unmarked_report : RunReport
+unmarked_report = record empty_report { requests = (request.Flush ∷ []) ∷ replicate 15 []; desk = lines_of flushing }
+
+happens-not_without_its_mark : (head : Super) (window : List Entry) (before opened after : Seen) → Happens true head window flushing unmarked_report before opened after → ⊥
+happens-not_without_its_mark head window before opened after happens = absurd (let has = happens.flushes.all (of_a 0) refl refl in cc)

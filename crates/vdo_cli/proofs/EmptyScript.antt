@@ -1,0 +1,145 @@
+-- The session of a script that asks for nothing: over each image that was opened a core begins, is done at once, and tells
+-- an empty report. So there is a session that was served, and the rows beside this file speak of it.
+use Rattle.std.proofs.Common.{ℕ, zero, suc, ◌≡◌, Bool, false, IsTrue, List, [], ◌∷◌, None, Ok, refl, sym, ap, subst, arith}
+use Rattle.std.proofs.lemmas.Option.{same_Some}
+use Rattle.std.specs.List.{AllByRecursion}
+use Rattle.blk_base.specs.declared.geometry.Super.{Super}
+use Rattle.blk_base.specs.declared.journal_entry.Entry.{Entry}
+use Rattle.blk_base.specs.declared.request.Request.{Request}
+use Rattle.core_model.specs.declared.sizes.Sizes.{Sizes}
+use Rattle.core_model.specs.declared.zones.Zone.{Zone}
+use Rattle.core_model.specs.declared.zones.ZoneData.{ZoneData}
+use Rattle.core_model.specs.declared.zones.ZoneData.TheVariants as at
+use Rattle.core_model.specs.Sessions.{IsServed, Session}
+use Rattle.core_model.specs.Start.{IsFirst, IsFirstData, IsFirstZone}
+use Rattle.core_model.specs.Steps.{rests}
+use Rattle.disk_model.specs.Seen.{Seen}
+use Rattle.disk_model.proofs.SinceLaws.{were_only_read}
+use Rattle.plain_laws.specs.Sums.{Each}
+use Rattle.step_parts.specs.DeviceLog.{HasCalled}
+use Rattle.stream_text.specs.ReadingBytes.{HasWholeBlock}
+use Rattle.stream_text.specs.StreamRows.{no_requests}
+use Rattle.stream_text.specs.WholeScript.{first_discard, whole_script}
+use Rattle.vdo_core.specs.Cores.{CanBegin}
+use Rattle.vdo_core.specs.Done.{IsDone}
+use Rattle.vdo_core.specs.FreeBlocks.{free_of}
+use Rattle.vdo_core.specs.Plays.{core_with}
+use Rattle.vdo_model.specs.Scripts.{Script}
+use Rattle.vdo_model.specs.declared.report.RunReport.{RunReport}
+use Rattle.vdo_cli.specs.Endings.{Plays}
+use Rattle.vdo_cli.specs.Openings.{IsOpened}
+use Rattle.vdo_cli.specs.Sessions.{IsDriven, IsOver, IsReported, run_sizes}
+use Rattle.vdo_cli.specs.Stops.{Happens}
+use Rattle.vdo_cli.proofs.ScriptLaws.{can_begin}
+use Rattle.vdo_cli.proofs.SessionLaws.{happens, plays, reported}
+
+-- a report of no request
+abbrev pub empty_report : RunReport
+empty_report = record { requests = no_requests; desk = []; marks = []; places = []; histories = [] }
+
+-- The first core over an image with this superblock and window, with this script.
+module _ (head : Super) (window : List Entry) (script : Script) where
+  abbrev pub first_zone : ℕ → ZoneData → Zone
+  first_zone number keeps = record { number = number; steps = 0; keeps = keeps; inbox = []; outboxes = [] ∷ [] ∷ [] ∷ [] ∷ [] ∷ [] }
+
+  abbrev pub first_zones : List Zone
+  first_zones =
+      first_zone 0 (at.Desk (record { requests = script; log = []; marks = []; notices = 0; parked = [] }))
+      ∷ first_zone 1 (at.Logical (record { zone = 0; notified = false; next = 0; places = []; held = []; waiting = []; retired = []; window = window; slots = [] }))
+      ∷ first_zone 2 (at.Physical (record { notified = false; free = free_of head.geometry window }))
+      ∷ first_zone 3 (at.Journal (record { notified = false; busy = false; broken = false; waiting = []; entered = []; committed = [] }))
+      ∷ first_zone 4 (at.Device (record { stopped = false; calls = 0 }))
+      ∷ []
+
+  module _ (s : Session) (over : IsOver head window script s) where
+    zones_are : s.sizes.zones ≡ 1
+    zones_are = ap (λ (sizes : Sizes). sizes.zones) over.sizes_is
+
+    begun : (number : ℕ) (keeps : ZoneData) → IsFirstData s number keeps → IsFirstZone s number (first_zone number keeps)
+    begun number keeps own = record { number_is = refl; steps = refl; lanes = omega (arith, zones_are); inbox = refl; outboxes = (refl, (refl, (refl, (refl, (refl, tt))))); own = own }
+
+    each : Each (IsFirstZone s) first_zones
+    each zero zone is = subst (IsFirstZone s 0) (same_Some _ _ is) (begun 0 _ (record { number_is = refl; requests = sym over.script_is; log = refl; marks = refl; notices = refl; parked = refl }))
+    each (suc zero) zone is = subst (IsFirstZone s 1) (same_Some _ _ is) (begun 1 _ (record {
+      number_is = refl;
+      among = omega (arith, zones_are);
+      notified = refl;
+      next = refl;
+      places = refl;
+      held = refl;
+      waiting = refl;
+      retired = refl;
+      window = sym over.window_is;
+      slots = refl;
+    }))
+    each (suc (suc zero)) zone is = subst (IsFirstZone s 2) (same_Some _ _ is) (begun 2 _ (record { number_is = omega (arith, zones_are); notified = refl; free = sym over.free_is }))
+    each (suc (suc (suc zero))) zone is = subst (IsFirstZone s 3) (same_Some _ _ is) (begun 3 _ (record {
+      number_is = omega (arith, zones_are);
+      notified = refl;
+      busy = refl;
+      broken = refl;
+      waiting = refl;
+      entered = refl;
+      committed = refl;
+    }))
+    each (suc (suc (suc (suc zero)))) zone is = subst (IsFirstZone s 4) (same_Some _ _ is) (begun 4 _ (record { number_is = omega (arith, zones_are); stopped = refl; calls = refl }))
+    each (suc (suc (suc (suc (suc i))))) zone is = absurd cc
+
+    pub first_begins : IsFirst s (core_with first_zones [])
+    first_begins = record { count = omega (arith, zones_are); each = each; trace_is = refl }
+
+-- of a script without requests it is done, and the device isn't called
+pub first_done : (head : Super) (window : List Entry) → IsDone (first_zones head window no_requests)
+first_done head window = record { zone = _; desk = _; had = refl; keeps = refl; full = refl }
+
+pub not_called : (tells honest : Bool) (seen : Seen) → HasCalled tells honest seen seen []
+not_called tells honest seen = record {
+  stays = record { opening = refl; size = refl };
+  log = λ told. refl;
+  given = λ told fair. tt;
+  faults = omega arith;
+  unkept = omega arith;
+  idle = λ none. refl;
+}
+
+-- whatever holds of each request holds of none
+no_request : (P : Request → Type 0) → AllByRecursion (AllByRecursion P) no_requests
+no_request P = (tt, (tt, (tt, (tt, (tt, (tt, (tt, (tt, (tt, (tt, (tt, (tt, (tt, (tt, (tt, (tt, tt))))))))))))))))
+
+-- Over an image that was opened.
+module _ (tells honest : Bool) (schedule : ℕ) (head : Super) (window : List Entry) (before opened : Seen) (is_opened : IsOpened tells honest before opened head window) where
+  can : CanBegin (run_sizes head window) no_requests window
+  can = can_begin tells honest before opened head window no_requests is_opened (record { rows = refl; few = omega arith; writes = no_request HasWholeBlock }) (no_request IsServed)
+
+  -- a core begins and is done, tells an empty report, and calls no device
+  pub empty_driven : IsDriven tells honest schedule head window no_requests [] opened opened
+  empty_driven = record {
+    first = first_zones head window no_requests;
+    last = first_zones head window no_requests;
+    begins = first_begins head window no_requests;
+    events = [];
+    state = schedule;
+    drives = (refl, refl, refl);
+    done = first_done head window;
+    leads = rests;
+    called = not_called tells honest opened;
+  }
+
+  pub empty_reported : IsReported head window empty_report [] opened opened
+  empty_reported =
+      reported tells honest head window no_requests (first_zones head window no_requests) (first_zones head window no_requests) [] opened opened can
+      (first_begins head window no_requests) rests (first_done head window) (not_called tells honest opened)
+
+  pub empty_happens : IsTrue tells → Happens honest head window [] empty_report before opened opened
+  empty_happens =
+      happens tells honest head window no_requests (first_zones head window no_requests) (first_zones head window no_requests) [] opened opened can
+      (first_begins head window no_requests) rests (first_done head window) (not_called tells honest opened) before is_opened
+      (were_only_read tells honest 0 before opened _ is_opened.read.read)
+
+  pub empty_plays : (source_tells : Bool) (left rest : List ℕ) → (IsTrue source_tells → (whole_script left ≡ Ok no_requests) × (first_discard left ≡ None)) → (IsTrue source_tells → rest ≡ [])
+      → Plays tells honest source_tells schedule empty_report before opened left rest
+  empty_plays source_tells left rest script_is whole =
+      plays tells honest head window no_requests (first_zones head window no_requests) (first_zones head window no_requests) [] opened opened can
+      (first_begins head window no_requests) rests (first_done head window) (not_called tells honest opened) before is_opened
+      (were_only_read tells honest 0 before opened _ is_opened.read.read) source_tells schedule schedule [] left rest
+      (record { opening = refl; size = refl }) (refl, refl, refl) script_is whole

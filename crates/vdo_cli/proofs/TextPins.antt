@@ -1,0 +1,133 @@
+-- The texts and the statuses of a run, computed: of each fault its line and its status, and of a desk log the session's.
+use Rattle.std.proofs.Common.{ℕ, ◌≡◌, ◌++◌, true, false, List, [], ◌∷◌, codes, refl}
+use Rattle.std.specs.Prelude.{decimal}
+use Rattle.blk_base.specs.declared.request.Answer.TheVariants as reply
+use Rattle.image_layout.specs.declared.fault.ImageFault.TheVariants as image
+use Rattle.image_layout.specs.declared.fault.SuperFault.{SuperFault}
+use Rattle.image_layout.specs.declared.fault.SuperFault.TheVariants.{NotAnImage, Version}
+use Rattle.stream_text.specs.declared.refusal.LineFault.TheVariants as line_fault
+use Rattle.vdo_model.specs.declared.report.DeskLine.TheVariants.{Begin, Answer}
+use Rattle.vdo_model.proofs.Example.{of_a, of_b, full_lines, desk}
+use Rattle.vdo_cli.specs.declared.fault.Fault.TheVariants as fault
+use Rattle.vdo_cli.specs.Texts.{fault_text, fault_status, line_fault_text, is_lost, is_full, some_lost, some_full, desk_status}
+
+-- line_fault_text: of all kinds
+line_faults : (line_fault_text line_fault.TooLong ≡ codes "too long")
+    × (line_fault_text line_fault.Word ≡ codes "word")
+    × (line_fault_text line_fault.Number ≡ codes "number")
+    × (line_fault_text line_fault.Stream ≡ codes "stream")
+    × (line_fault_text line_fault.Range ≡ codes "range")
+    × (line_fault_text line_fault.BlockLength ≡ codes "block length")
+    × (line_fault_text line_fault.TooMany ≡ codes "too many")
+line_faults = (refl, refl, refl, refl, refl, refl, refl)
+
+-- fault_text: the line of each fault; the sink's has none
+usage_line : fault_text fault.Usage ≡ codes "usage\n"
+usage_line = refl
+
+too_long_line : fault_text (fault.Script (record { line = 3; fault = line_fault.TooLong })) ≡ codes "script line " ++ decimal 3 ++ codes ": too long\n"
+too_long_line = refl
+
+word_line : fault_text (fault.Script (record { line = 3; fault = line_fault.Word })) ≡ codes "script line " ++ decimal 3 ++ codes ": word\n"
+word_line = refl
+
+number_line : fault_text (fault.Script (record { line = 3; fault = line_fault.Number })) ≡ codes "script line " ++ decimal 3 ++ codes ": number\n"
+number_line = refl
+
+stream_line : fault_text (fault.Script (record { line = 3; fault = line_fault.Stream })) ≡ codes "script line " ++ decimal 3 ++ codes ": stream\n"
+stream_line = refl
+
+range_line : fault_text (fault.Script (record { line = 3; fault = line_fault.Range })) ≡ codes "script line " ++ decimal 3 ++ codes ": range\n"
+range_line = refl
+
+block_length_line : fault_text (fault.Script (record { line = 3; fault = line_fault.BlockLength })) ≡ codes "script line " ++ decimal 3 ++ codes ": block length\n"
+block_length_line = refl
+
+too_many_line : fault_text (fault.Script (record { line = 3; fault = line_fault.TooMany })) ≡ codes "script line " ++ decimal 3 ++ codes ": too many\n"
+too_many_line = refl
+
+later_line : fault_text (fault.Later 12) ≡ codes "script line " ++ decimal 12 ++ codes ": later\n"
+later_line = refl
+
+device_line : fault_text fault.Device ≡ codes "device fault\n"
+device_line = refl
+
+no_image_line : fault_text (fault.Image (image.Super NotAnImage)) ≡ codes "bad image: not an image\n"
+no_image_line = refl
+
+version_line : fault_text (fault.Image (image.Super (Version 7))) ≡ codes "bad image: " ++ (codes "version " ++ decimal 7) ++ codes "\n"
+version_line = refl
+
+window_line : fault_text (fault.Image (image.Window 12)) ≡ codes "bad image: " ++ (codes "window " ++ decimal 12) ++ codes "\n"
+window_line = refl
+
+memory_line : fault_text fault.Memory ≡ codes "no memory\n"
+memory_line = refl
+
+read_line : fault_text fault.Read ≡ codes "read fault\n"
+read_line = refl
+
+sink_line : fault_text fault.Sink ≡ []
+sink_line = refl
+
+-- fault_status: by the kind of the fault
+usage_status : fault_status fault.Usage ≡ 2
+usage_status = refl
+
+script_status : fault_status (fault.Script (record { line = 3; fault = line_fault.Range })) ≡ 2
+script_status = refl
+
+later_status : fault_status (fault.Later 3) ≡ 2
+later_status = refl
+
+device_status : fault_status fault.Device ≡ 3
+device_status = refl
+
+super_status : (why : SuperFault) → fault_status (fault.Image (image.Super why)) ≡ 4
+super_status why = refl
+
+window_status : fault_status (fault.Image (image.Window 12)) ≡ 4
+window_status = refl
+
+memory_status : fault_status fault.Memory ≡ 5
+memory_status = refl
+
+read_status : fault_status fault.Read ≡ 7
+read_status = refl
+
+sink_status : fault_status fault.Sink ≡ 7
+sink_status = refl
+
+-- is_lost, is_full: of all answers
+lost_answers : (b : List ℕ)
+    → (is_lost reply.Stopped ≡ true) × (is_lost reply.ReadFault ≡ true) × (is_lost reply.Ok ≡ false) × (is_lost (reply.Bytes b) ≡ false)
+    × (is_lost reply.Range ≡ false) × (is_lost reply.NoSpace ≡ false) × (is_lost reply.Full ≡ false) × (is_lost reply.Damaged ≡ false)
+lost_answers b = (refl, refl, refl, refl, refl, refl, refl, refl)
+
+full_answers : (b : List ℕ)
+    → (is_full reply.Full ≡ true) × (is_full reply.Stopped ≡ false) × (is_full reply.ReadFault ≡ false) × (is_full reply.Ok ≡ false)
+    × (is_full (reply.Bytes b) ≡ false) × (is_full reply.Range ≡ false) × (is_full reply.NoSpace ≡ false) × (is_full reply.Damaged ≡ false)
+full_answers b = (refl, refl, refl, refl, refl, refl, refl, refl)
+
+-- some_lost, some_full: any line of the log, the newest or not
+older_lost : some_lost (Begin (of_b 0) ∷ Answer (of_a 0) reply.Stopped ∷ Begin (of_a 0) ∷ []) ≡ true
+older_lost = refl
+
+older_full : some_full (Begin (of_b 0) ∷ full_lines) ≡ true
+older_full = refl
+
+-- desk_status: 3 goes before 1, and 1 before 0
+all_right : desk_status desk ≡ 0
+all_right = refl
+
+nothing_asked : desk_status [] ≡ 0
+nothing_asked = refl
+
+full_status : desk_status full_lines ≡ 1
+full_status = refl
+
+lost_status : desk_status (Answer (of_b 0) reply.ReadFault ∷ desk) ≡ 3
+lost_status = refl
+
+lost_and_full_status : desk_status (Answer (of_b 0) reply.Stopped ∷ full_lines) ≡ 3
+lost_and_full_status = refl
