@@ -1,5 +1,5 @@
 -- What the desk counts goes on with its log.
-use Rattle.std.proofs.Common.{ℕ, ◌≡◌, ◌+◌, ◌<◌, ◌≤◌, ◌==◌, ◌⊎◌, List, [], ◌∷◌, ◌++◌, length, reverse, get_or, set, arith, cond, if◌then◌else◌, true, false, inl, inr, refl, subst, ap, sym, ◌∙◌}
+use Rattle.std.proofs.Common.{ℕ, ◌≡◌, ◌+◌, ◌<◌, ◌≤◌, ◌==◌, List, [], ◌∷◌, ◌++◌, length, reverse, get_or, set, arith, cond, inl, inr, subst, ap, sym, ◌∙◌}
 use Rattle.std.proofs.lemmas.Bool.Decides.{eqb_tells}
 use Rattle.std.proofs.lemmas.Bool.{cases_lt}
 use Rattle.std.proofs.lemmas.List.{get_or_past, get_or-set_other, get_or-set_same, length-reverse, length-set, reverse-append}
@@ -23,10 +23,10 @@ counts_one count counts w (long, each) =
       same_length,
       λ stream below. elim (eqb_tells w stream) [
         | inl same ↦ rw same.0 (
-          let inside : w < length counts = omega (arith, same.1, long, below) in
-          ap (λ (n : ℕ). get_or (raised counts w) n 0) (sym same.1) ∙ get_or-set_same counts w (get_or counts w 0 + 1) 0 inside
-          ∙ ap (λ (n : ℕ). get_or counts n 0 + 1) same.1 ∙ ap (λ (n : ℕ). n + 1) (each stream below)
-        )
+            let inside : w < length counts = omega (arith, same.1, long, below) in
+            ap (λ (n : ℕ). get_or (raised counts w) n 0) (sym same.1) ∙ get_or-set_same counts w (get_or counts w 0 + 1) 0 inside
+            ∙ ap (λ (n : ℕ). get_or counts n 0 + 1) same.1 ∙ ap (λ (n : ℕ). n + 1) (each stream below)
+            )
         | inr other ↦ rw other.0 (get_or-set_other counts w stream (get_or counts w 0 + 1) 0 (λ is. other.1 (sym is)) ∙ each stream below)
       ],
     )
@@ -72,8 +72,8 @@ few_each count counts w most (long, each) few = elim (cases_lt w most_streams) [
 
 pub few_begun : (counts : List ℕ) (lines : List DeskLine) (w : ℕ) → CountBegun counts (reverse lines) → get_or counts w 0 ≤ length lines
 few_begun counts lines w right = few_each (λ stream. begun stream (reverse lines)) counts w (length lines) right (λ stream.
-  let few = few_lines stream (reverse lines) in let long = length-reverse lines in omega (arith, few, long))
+    let few = few_lines stream (reverse lines) in let long = length-reverse lines in omega (arith, few, long))
 
 pub few_answered : (counts : List ℕ) (lines : List DeskLine) (w : ℕ) → CountAnswered counts (reverse lines) → get_or counts w 0 ≤ length lines
 few_answered counts lines w right = few_each (λ stream. answered stream (reverse lines)) counts w (length lines) right (λ stream.
-  let few = few_lines stream (reverse lines) in let long = length-reverse lines in omega (arith, few, long))
+    let few = few_lines stream (reverse lines) in let long = length-reverse lines in omega (arith, few, long))

@@ -7,3 +7,4 @@ pub mod StreamRows
 pub mod ViewRows
 pub mod LimitRows
 pub mod ZoneLimitRows
+pub mod CountRows

@@ -196,8 +196,8 @@ impl Desk {
         }
         let mut boxed = self.spare.pop()?;
         let request = vio.request;
+        self.begun.raise(vio.request.stream);
         boxed.put(vio);
-        self.begun.raise(request.stream);
         self.lines.push_reserved(DeskLine::Begin { request });
         Some(boxed)
     }

@@ -1,6 +1,6 @@
-use Rattle.std.proofs.Common.{rules, arith, length, ◌≡◌, ◌≤◌, ◌+◌, List, reverse}
+use Rattle.std.proofs.Common.{arith}
 use Rattle.std.proofs.lemmas.Grind.{common_steps}
-use Rattle.core_model.proofs.CountLaws.{answers, answers_none_begun, begins, begins_none_answered, few_answered, few_begun}
+use Rattle.core_model.proofs.CountLaws.{few_answered}
 use Rattle.core_model.proofs.desk.Desk.answer.Goals as goal
 
 pub raise-requires : goal.raise-requires

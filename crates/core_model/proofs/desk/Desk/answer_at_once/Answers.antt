@@ -1,4 +1,4 @@
-use Rattle.std.proofs.Common.{rules, arith, length, ◌≡◌, ◌≤◌, ◌+◌, List, reverse}
+use Rattle.std.proofs.Common.{rules, arith}
 use Rattle.std.proofs.lemmas.Grind.{common_steps}
 use Rattle.core_model.proofs.CountLaws.{answers, answers_none_begun, begins, begins_none_answered, few_answered, few_begun}
 use Rattle.core_model.proofs.desk.Desk.answer_at_once.Goals as goal
