@@ -1,13 +1,13 @@
 ghost use Rattle.std.specs.Prelude.{◌≡◌, ◌++◌, IsTrue, OnOk, OnErr};
 ghost use Rattle.disk_model.specs.Causes.{HasCause};
-ghost use Rattle.stream_text.specs.Notes.{HasRoomFor};
+ghost use Rattle.stream_text.specs.AnswerRooms.{HasRoomFor};
 ghost use Rattle.stream_text.specs.Puts.{PutsPart};
 ghost use Rattle.stream_text.specs.Texts.{answers_text};
 ghost use Rattle.command_text.specs.Runs.{ending_text, run_text};
 
 use crate::parts::{DamagedPlace, Space, put_damage, put_recovered, put_space};
 use disk_model::{Failed, Sink};
-use stream_text::{AnswerRoom, put_indexed_answers};
+use stream_text::{AnswerRoom, put_answers};
 use vdo_model::{Requests, RunReport};
 
 /// What a run prints beside its answers.
@@ -42,11 +42,11 @@ fn put_answers_and_ending<K: Sink>(
         (answers_text requests.now report.now.desk report.now.places ++ ending_text notes.now)) }
     ensures cause { HasCause (K.faults out.old) (K.faults out.new) result }
 {
-    put_indexed_answers(requests, report, room, out)?;
+    put_answers(requests, report, room, out)?;
     put_ending(notes, out)
 }
 
-/// Puts `recovered 30 entries` where the image wasn't clean, the line of each answered request as `put_indexed_answers` does,
+/// Puts `recovered 30 entries` where the image wasn't clean, the line of each answered request as `put_answers` does,
 /// `damage: page 85` or `damage: count 86` where there is damage, and `used 2 of 64`. It takes no memory. It fails where the
 /// sink fails; then a first part of the text was put.
 pub fn put_run<K: Sink>(

@@ -6,7 +6,7 @@ use std::process::Abort;
 use std::sync::Wait;
 use std::test::Fail;
 use std::thread::Threads;
-use stream_text::ScriptFault;
+use stream_text::{LineFault, ScriptRefusal};
 use vdo_cli::{Ended, Fault, Words, put_fault, run};
 
 // A device with a fresh image of the default sizes.
@@ -546,8 +546,11 @@ fn is_put(alloc: Global, fault: &Fault, line: &str) -> Result<bool, AllocError> 
 const FAULT_LINES: [(Fault, &str); 9] = [
     (Fault::Usage, "usage\n"),
     (
-        Fault::Script(ScriptFault::Later { line: 3 }),
-        "script line 3: later\n",
+        Fault::Script(ScriptRefusal {
+            line: 3,
+            fault: LineFault::Range,
+        }),
+        "script line 3: range\n",
     ),
     (Fault::Device, "device fault\n"),
     (

@@ -2,8 +2,7 @@
 use Rattle.std.specs.Prelude.{ℕ, ◌≡◌, ◌==◌, Bool, true, false, List, [], ◌∷◌, Err, if◌then◌else◌, refl}
 use Rattle.std.specs.List.{onto_first}
 use Rattle.std.proofs.Common.{◌∙◌, ap}
-use Rattle.stream_text.specs.Lines.{words_of}
-use Rattle.stream_text.specs.LineGrammar.{asked_of_words, asked_of_line}
+use Rattle.stream_text.specs.LineGrammar.{asked_of_words, words_of, asked_of_line}
 use Rattle.stream_text.specs.declared.refusal.LineFault.TheVariants.{Word}
 
 five : (one two three four : List ℕ) (byte : ℕ) (words : List (List ℕ)) → asked_of_words (one ∷ two ∷ three ∷ four ∷ onto_first byte words) ≡ Err Word

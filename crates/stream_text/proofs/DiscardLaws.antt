@@ -8,10 +8,9 @@ use Rattle.std.proofs.lemmas.List.{append-nil}
 use Rattle.blk_base.specs.declared.request.Request.{Request}
 use Rattle.blk_base.specs.declared.request.Request.TheVariants.{Read, Write, Discard, Flush}
 use Rattle.vdo_model.specs.Scripts.{Script}
-use Rattle.stream_text.specs.Lines.{words_of}
 use Rattle.stream_text.specs.LineFaults.{both}
 use Rattle.stream_text.specs.LineWords.{stream_number, address_number, count_number, extent_of, bytes_of_parts, block_of_bytes}
-use Rattle.stream_text.specs.LineGrammar.{stream_asked, flush_asked, read_asked, write_asked, discard_asked, asked_of_words, asked_of_line}
+use Rattle.stream_text.specs.LineGrammar.{stream_asked, flush_asked, read_asked, write_asked, discard_asked, asked_of_words, words_of, asked_of_line}
 use Rattle.stream_text.specs.StreamRows.{count_of, discards, requests_of, with_asked, with_requests}
 use Rattle.stream_text.specs.WholeScript.{lines_with_ends, is_passed_over, after_text, are_discards, asks_discard, first_discard_from}
 use Rattle.stream_text.specs.ReadingBytes.{discard_by, discard_from, goes_on_from, said_from, HasWholeBlock, IsPlainRequest, EachRequest, IsAdded, IsReadingBytes, IsWholeScript}

@@ -1,7 +1,4 @@
 pub mod LineLaws
-pub mod ReadingLaws
-pub mod ServableLaws
-pub mod WordLaws
 pub mod PutLaws
 pub mod RunLaws
 pub mod TextLaws

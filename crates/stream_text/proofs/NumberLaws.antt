@@ -1,5 +1,5 @@
 -- The parts of a text between separators, and the number that digits write, told up to a greatest one.
-use Rattle.std.specs.Prelude.{ℕ, ◌≡◌, ◌≢◌, ◌<◌, ◌+◌, ◌*◌, ◌-◌, ◌==◌, zero, suc, min, nat_lt, Bool, true, false, List, [], ◌∷◌, length, take, drop, get_or, Option, Some, None, if◌then◌else◌, refl}
+use Rattle.std.specs.Prelude.{ℕ, ◌≡◌, ◌≢◌, ◌<◌, ◌≤◌, ◌+◌, ◌*◌, ◌-◌, ◌==◌, zero, suc, min, nat_lt, Bool, true, false, List, [], ◌∷◌, length, take, drop, get_or, Option, Some, None, if◌then◌else◌, refl}
 use Rattle.std.specs.List.{slice_split, onto_first}
 use Rattle.std.specs.Char.{digit_value, is_ascii_digit}
 use Rattle.std.specs.Str.{all_ascii_digits}
@@ -8,7 +8,6 @@ use Rattle.std.proofs.Common.{◌∙◌, ap, arith, inl, inr}
 use Rattle.std.proofs.lemmas.Bool.{cases_lt}
 use Rattle.std.proofs.lemmas.Bool.Decides.{eqb_tells, nat_tests}
 use Rattle.stream_text.specs.LineWords.{number_of, least_number}
-use Rattle.stream_text.proofs.WordLaws.{value_grows}
 
 -- the parts of a text
 abbrev pub parts_of : ℕ → List ℕ → List (List ℕ)
@@ -49,6 +48,10 @@ number-start most [] some = absurd (omega arith)
 number-start most (byte ∷ word) some =
     let first : nat_lt 0 (length (byte ∷ word)) ≡ true = grind (arith, nat_tests) in
     rw first (told most (byte ∷ word) (digits_value_after 10 0 (byte ∷ word)) (all_ascii_digits (byte ∷ word)))
+
+value_grows : (value : ℕ) (digits : List ℕ) → value ≤ digits_value_after 10 value digits
+value_grows value [] = omega arith
+value_grows value (byte ∷ digits) = omega (arith, value_grows (value * 10 + digit_value byte) digits)
 
 capped : (most value : ℕ) (digits : List ℕ) → min (digits_value_after 10 value digits) most ≡ min (digits_value_after 10 (min value most) digits) most
 capped most value digits =

@@ -6,10 +6,9 @@ use Rattle.std.proofs.lemmas.Bool.{cases_Bool}
 use Rattle.std.proofs.lemmas.Bool.Decides.{nat_tests}
 use Rattle.std.proofs.lemmas.List.{append_assoc, append-nil}
 use Rattle.hex.specs.Hex.{decode_sized}
-use Rattle.stream_text.specs.Grammar.{first_byte}
 use Rattle.stream_text.specs.Runs.{Run}
 use Rattle.stream_text.specs.LineFaults.{rank, first_of, both}
-use Rattle.stream_text.specs.LineWords.{run_number, run_of, run_of_pieces, run_of_part, run_before, bytes_of_parts}
+use Rattle.stream_text.specs.LineWords.{first_byte, run_number, run_of, run_of_pieces, run_of_part, run_before, bytes_of_parts}
 use Rattle.stream_text.specs.RunParts.{behind, bytes_of_run, HoldsBytes}
 use Rattle.stream_text.specs.declared.refusal.LineFault.{LineFault}
 use Rattle.stream_text.specs.declared.refusal.LineFault.TheVariants.{Word}

@@ -1,8 +1,7 @@
 -- The requests of a seed: for each rule a number or a request that it gives.
 use Rattle.std.specs.Prelude.{ℕ, ◌≡◌, false, [], ◌∷◌, replicate, refl}
 use Rattle.blk_base.specs.declared.request.Request.TheVariants.{Read, Write, Discard, Flush}
-use Rattle.stream_text.specs.Grammar.{filled_block}
-use Rattle.stream_text.specs.Workloads.{next_state, number_of_state, drawn_write, drawn_kind, drawn_block, drawn_request, state_before, workload_of}
+use Rattle.stream_text.specs.Workloads.{next_state, number_of_state, filled_block, drawn_write, drawn_kind, drawn_block, drawn_request, state_before, workload_of}
 
 pub state_next : next_state 0 ≡ 1442695040888963407
 state_next = refl

@@ -1,7 +1,7 @@
 -- What a line asks for.
-use Rattle.std.specs.Prelude.{ℕ, false, List, [], ◌∷◌, codes, bytes_eq, Result, Ok, Err, if◌then◌else◌}
+use Rattle.std.specs.Prelude.{ℕ, ◌==◌, false, List, [], ◌∷◌, codes, bytes_eq, Result, Ok, Err, if◌then◌else◌}
+use Rattle.std.specs.List.{slice_split}
 use Rattle.blk_base.specs.declared.request.Request.TheVariants.{Read, Write, Flush}
-use Rattle.stream_text.specs.Lines.{words_of}
 use Rattle.stream_text.specs.LineFaults.{both}
 use Rattle.stream_text.specs.LineWords.{stream_number, address_number, count_number, extent_of, block_of_word}
 use Rattle.stream_text.specs.declared.refusal.LineFault.{LineFault}
@@ -34,6 +34,10 @@ asked_of_words (stream ∷ command ∷ address ∷ last ∷ []) =
     if bytes_eq command (codes "write") then write_asked (both (stream_number stream) (both (address_number address) (block_of_word last))) else
     (if bytes_eq command (codes "discard") then discard_asked (both (stream_number stream) (extent_of (both (address_number address) (count_number last)))) else Err Word)
 asked_of_words words = Err Word
+
+-- the words: what stands between single spaces
+abbrev pub words_of : List ℕ → List (List ℕ)
+words_of line = slice_split (λ byte. byte == 32) line
 
 -- what a line asks for
 abbrev pub asked_of_line : List ℕ → Result Asked LineFault

@@ -4,7 +4,7 @@ use Rattle.std.specs.List.{slice_split}
 use Rattle.std.specs.Str.{all_ascii_digits}
 use Rattle.std.specs.Str.Parse.{digits_value}
 use Rattle.hex.specs.Hex.{decode_sized}
-use Rattle.stream_text.specs.Grammar.{first_byte}
+use Rattle.hex.specs.declared.error.FromHexError.{FromHexError}
 use Rattle.stream_text.specs.Runs.{Run}
 use Rattle.stream_text.specs.LineFaults.{both}
 use Rattle.stream_text.specs.declared.refusal.LineFault.{LineFault}
@@ -40,6 +40,12 @@ run_number word = within 1 4096 Range (number_of word)
 abbrev pub extent_of : Result (ℕ × ℕ) LineFault → Result (ℕ × ℕ) LineFault
 extent_of (Ok (at, count)) = if nat_le (at + count - 1) 4294967295 then Ok (at, at + count - 1) else Err Range
 extent_of (Err fault) = Err fault
+
+-- the byte that was decoded
+abbrev pub first_byte : Result (List ℕ) FromHexError → Option ℕ
+first_byte (Ok []) = None
+first_byte (Ok (byte ∷ bytes)) = Some byte
+first_byte (Err e) = None
 
 -- a run: its form is judged before its length
 abbrev pub run_of : Result ℕ LineFault → Option ℕ → Result Run LineFault

@@ -9,8 +9,8 @@ use Rattle.stream_text.specs.StreamRows.{count_of}
 use Rattle.stream_text.specs.WholeScript.{lines_with_ends, script_from, first_discard_from}
 use Rattle.stream_text.specs.declared.refusal.LineFault.{LineFault}
 use Rattle.stream_text.specs.declared.refusal.ScriptRefusal.{ScriptRefusal}
-use Rattle.stream_text.specs.declared.refusal.ReadRequests.{ReadRequests}
-use Rattle.stream_text.specs.declared.refusal.ReadRequests.TheVariants as read
+use Rattle.stream_text.specs.declared.refusal.ReadScript.{ReadScript}
+use Rattle.stream_text.specs.declared.refusal.ReadScript.TheVariants as read
 use Rattle.stream_text.specs.declared.adding.LineStop.{LineStop}
 use Rattle.stream_text.specs.declared.adding.LineStop.TheVariants as stop
 
@@ -61,7 +61,7 @@ pub record IsReadingBytes (count number before : ℕ) (found : Option ℕ) (scri
   pub plain : found ≡ None → EachRequest IsPlainRequest script
 
 -- what a refusal says of the script
-abbrev pub RefusesScript : ReadRequests → Result Script ScriptRefusal → Type 0
+abbrev pub RefusesScript : ReadScript → Result Script ScriptRefusal → Type 0
 RefusesScript (read.Script refusal) script = script ≡ Err refusal
 RefusesScript read.Read script = Unit {0}
 RefusesScript read.Memory script = Unit {0}
@@ -78,7 +78,7 @@ pub record IsAdded (after : Result Script LineFault) (new : Script) (count : ℕ
   pub few : count ≤ 65536
 
 -- what is said of a line that adds nothing
-abbrev pub refusal_said : ℕ → LineStop → ReadRequests
+abbrev pub refusal_said : ℕ → LineStop → ReadScript
 refusal_said number (stop.Fault fault) = read.Script (record { line = number; fault = fault })
 refusal_said number stop.Memory = read.Memory
 

@@ -4,7 +4,6 @@ use Rattle.blk_base.specs.declared.request.Request.{Request}
 use Rattle.blk_base.specs.declared.request.Request.TheVariants.{Read, Write, Discard, Flush}
 use Rattle.vdo_model.specs.Scripts.{Script}
 use Rattle.stream_text.specs.declared.drawing.Drawn.{Drawn}
-use Rattle.stream_text.specs.Grammar.{filled_block}
 use Rattle.stream_text.specs.StreamRows.{no_requests, with_requests}
 
 -- the state behind this one
@@ -14,6 +13,10 @@ next_state x = (x * 6364136223846793005 + 1442695040888963407) % 184467440737095
 -- the number that a state gives
 abbrev pub number_of_state : ℕ → ℕ
 number_of_state x = x / 8589934592
+
+-- the block that a byte fills
+unfoldable pub filled_block : ℕ → List ℕ
+filled_block byte = replicate 4096 byte
 
 -- a write of a block of one byte, which is drawn last
 abbrev pub drawn_write : ℕ → ℕ → Drawn

@@ -1,152 +1,98 @@
-ghost use Rattle.std.specs.Prelude.{◌≡◌, ◌++◌, Some, reverse, codes, decimal, IsTrue, OnOk, OnErr};
+ghost use Rattle.std.specs.Prelude.{◌≡◌, ◌<◌, ◌≤◌, ◌++◌, None, length, get_or, reverse, IfOk, IsTrue, OnOk, OnErr};
 ghost use Rattle.disk_model.specs.Causes.{HasCause};
 ghost use Rattle.vdo_model.specs.DeskLog.{answer_of};
 ghost use Rattle.vdo_model.specs.Places.{place_of};
+ghost use Rattle.answer_notes.specs.Notes.{NotesAnswer, NotesAnswers, NotesPlaces};
+ghost use Rattle.stream_text.specs.AnswerRooms.{HasRoomFor};
 ghost use Rattle.stream_text.specs.Puts.{PutsPart};
-ghost use Rattle.stream_text.specs.Texts.{request_text, answer_text, place_text, line_text, stream_text, answers_text, writer};
+ghost use Rattle.stream_text.specs.Texts.{line_text, stream_text, answers_text, writer};
 
-use crate::puts::put_all;
-use crate::runs::put_runs;
-use crate::search::{find_answer, find_place};
-use blk_base::{Answer, Lba, Request};
+use crate::lines::put_line;
+use answer_notes::{note_answers, note_places};
+use blk_base::Request;
 use disk_model::{Failed, Sink};
+use std::alloc::{AllocError, Global};
+use std::marker::Model;
 use vdo_model::{DeskLine, Placed, Requests, RunReport};
 
-fn put_command<K: Sink>(command: &[u8], at: Lba, out: &mut K) -> Result<(), Failed>
-    ensures ok { IsTrue K.tells → OnOk result (K.holds out.new ≡ K.holds out.old ++ (command.now ++ decimal at.0 ++ codes " ")) }
-    ensures err { IsTrue K.tells → OnErr result (PutsPart (K.holds out.old) (K.holds out.new) (command.now ++ decimal at.0 ++ codes " ")) }
-    ensures cause { HasCause (K.faults out.old) (K.faults out.new) result }
-{
-    let mut address = itoa::Buffer::new();
-    let pieces = [command, address.format(at.0).as_bytes(), b" "];
-    put_all(&pieces, out)
+/// Room to note where the answers and the places of one stream stand. A contract sees for how many requests it is.
+#[derive(Drop)]
+pub struct AnswerRoom {
+    answers: Vec<Option<usize>>,
+    places: Vec<Option<Placed>>,
 }
 
-// Puts what was asked for, and a space.
-fn put_request<K: Sink>(request: &Request, out: &mut K) -> Result<(), Failed>
-    ensures ok { IsTrue K.tells → OnOk result (K.holds out.new ≡ K.holds out.old ++ (request_text request.now ++ codes " ")) }
-    ensures err { IsTrue K.tells → OnErr result (PutsPart (K.holds out.old) (K.holds out.new) (request_text request.now ++ codes " ")) }
-    ensures cause { HasCause (K.faults out.old) (K.faults out.new) result }
+impl Model for AnswerRoom {
+    ghost use Rattle.std.specs.Prelude.{ℕ, length, min};
+
+    ghost Value = { ℕ };
+
+    ghost view = { λ r. min (length r.answers.items) (length r.places.items) };
+}
+
+// How many requests the longest stream has.
+fn longest_stream(requests: &Requests) -> usize
+    ensures { HasRoomFor result requests.now }
 {
-    match request {
-        Request::Read(at) => put_command(b"read ", *at, out),
-        Request::Write { at, .. } => put_command(b"write ", *at, out),
-        Request::Discard(at) => put_command(b"discard ", *at, out),
-        Request::Flush => out.put(b"flush "),
+    let mut longest = 0;
+    for stream in 0..16_u8 {
+        longest = longest.max(requests.stream(stream).len());
+    }
+    longest
+}
+
+impl AnswerRoom {
+    /// Room for the longest stream. It fails where memory runs out.
+    pub fn with_room_for(alloc: Global, requests: &Requests) -> Result<AnswerRoom, AllocError>
+        ensures { IfOk result (λ room. HasRoomFor room requests.now) }
+    {
+        let longest = longest_stream(requests);
+        let answers = vec![in alloc; None; longest]?;
+        let places = vec![in alloc; None; longest]?;
+        Ok(AnswerRoom { answers, places })
     }
 }
 
-fn put_answer<K: Sink>(answer: &Answer, out: &mut K) -> Result<(), Failed>
-    ensures ok { IsTrue K.tells → OnOk result (K.holds out.new ≡ K.holds out.old ++ answer_text answer.now) }
-    ensures err { IsTrue K.tells → OnErr result (PutsPart (K.holds out.old) (K.holds out.new) (answer_text answer.now)) }
-    ensures cause { HasCause (K.faults out.old) (K.faults out.new) result }
-{
-    let word: &[u8] = match answer {
-        Answer::Bytes(block) => return put_runs(&block.bytes, out),
-        Answer::Ok => b"ok",
-        Answer::Range => b"range",
-        Answer::NoSpace => b"no space",
-        Answer::Full => b"full",
-        Answer::ReadFault => b"read fault",
-        Answer::Stopped => b"stopped",
-        Answer::Damaged => b"damaged",
-    };
-    out.put(word)
-}
-
-fn put_placed<K: Sink>(placed: Placed, out: &mut K) -> Result<(), Failed>
-    ensures ok { IsTrue K.tells → OnOk result (K.holds out.new ≡ K.holds out.old ++ (place_text (Some placed) ++ codes "\n")) }
-    ensures err { IsTrue K.tells → OnErr result (PutsPart (K.holds out.old) (K.holds out.new) (place_text (Some placed) ++ codes "\n")) }
-    ensures cause { HasCause (K.faults out.old) (K.faults out.new) result }
-{
-    let mut zone = itoa::Buffer::new();
-    let mut place = itoa::Buffer::new();
-    let pieces: [&[u8]; 5] = [
-        b" z",
-        zone.format(placed.zone).as_bytes(),
-        b":",
-        place.format(placed.place).as_bytes(),
-        b"\n",
-    ];
-    put_all(&pieces, out)
-}
-
-// Puts the place, and the end of the line.
-fn put_ending<K: Sink>(place: Option<Placed>, out: &mut K) -> Result<(), Failed>
-    ensures ok { IsTrue K.tells → OnOk result (K.holds out.new ≡ K.holds out.old ++ (place_text place ++ codes "\n")) }
-    ensures err { IsTrue K.tells → OnErr result (PutsPart (K.holds out.old) (K.holds out.new) (place_text place ++ codes "\n")) }
-    ensures cause { HasCause (K.faults out.old) (K.faults out.new) result }
-{
-    match place {
-        Some(placed) => put_placed(placed, out),
-        None => out.put(b"\n"),
-    }
-}
-
-fn put_name<K: Sink>(stream: u8, number: usize, out: &mut K) -> Result<(), Failed>
-    ensures ok { IsTrue K.tells → OnOk result (K.holds out.new ≡ K.holds out.old ++ (decimal stream ++ codes " " ++ decimal number ++ codes " ")) }
-    ensures err { IsTrue K.tells → OnErr result (PutsPart (K.holds out.old) (K.holds out.new) (decimal stream ++ codes " " ++ decimal number ++ codes " ")) }
-    ensures cause { HasCause (K.faults out.old) (K.faults out.new) result }
-{
-    let mut row = itoa::Buffer::new();
-    let mut column = itoa::Buffer::new();
-    let pieces = [
-        row.format(stream).as_bytes(),
-        b" ",
-        column.format(number).as_bytes(),
-        b" ",
-    ];
-    put_all(&pieces, out)
-}
-
-pub(crate) fn put_line<K: Sink>(
-    stream: u8,
-    number: usize,
-    request: &Request,
-    answer: &Answer,
+// Puts the line of a request whose answer was noted.
+fn put_noted<K: Sink>(
+    desk: &[DeskLine],
+    noted: Option<usize>,
     place: Option<Placed>,
-    out: &mut K,
-) -> Result<(), Failed>
-    ensures ok { IsTrue K.tells → OnOk result (K.holds out.new
-        ≡ K.holds out.old ++ line_text (writer stream number) request.now (Some answer.now) place) }
-    ensures err { IsTrue K.tells → OnErr result (PutsPart (K.holds out.old) (K.holds out.new)
-        (line_text (writer stream number) request.now (Some answer.now) place)) }
-    ensures cause { HasCause (K.faults out.old) (K.faults out.new) result }
-{
-    put_name(stream, number, out)?;
-    put_request(request, out)?;
-    put_answer(answer, out)?;
-    put_ending(place, out)
-}
-
-fn put_answered<K: Sink>(
-    desk: &[DeskLine],
-    places: &[Placed],
     stream: u8,
     number: usize,
     request: &Request,
     out: &mut K,
 ) -> Result<(), Failed>
-    ensures ok { IsTrue K.tells → OnOk result (K.holds out.new ≡ K.holds out.old ++ line_text (writer stream number) request.now
-        (answer_of (reverse desk.now) (writer stream number)) (place_of (reverse places.now) (writer stream number))) }
-    ensures err { IsTrue K.tells → OnErr result (PutsPart (K.holds out.old) (K.holds out.new) (line_text (writer stream number) request.now
-        (answer_of (reverse desk.now) (writer stream number)) (place_of (reverse places.now) (writer stream number)))) }
+    requires { NotesAnswer desk.now (reverse desk.now) (writer stream number) noted }
+    ensures ok { IsTrue K.tells → OnOk result (K.holds out.new
+        ≡ K.holds out.old ++ line_text (writer stream number) request.now (answer_of (reverse desk.now) (writer stream number)) place) }
+    ensures err { IsTrue K.tells → OnErr result (PutsPart (K.holds out.old) (K.holds out.new)
+        (line_text (writer stream number) request.now (answer_of (reverse desk.now) (writer stream number)) place)) }
     ensures cause { HasCause (K.faults out.old) (K.faults out.new) result }
 {
-    let place = find_place(places, stream, number);
-    match find_answer(desk, stream, number) {
-        Some(answer) => put_line(stream, number, request, answer, place, out),
-        None => Ok(()),
+    let Some(at) = noted else {
+        return Ok(());
+    };
+    match &desk[at] {
+        DeskLine::Answer { answer, .. } => put_line(stream, number, request, answer, place, out),
+        DeskLine::Begin { .. } => unreachable!(),
     }
 }
 
-fn put_stream<K: Sink>(
+// Puts the lines of a stream, whose answers and places were noted.
+fn put_noted_stream<K: Sink>(
     desk: &[DeskLine],
     places: &[Placed],
+    answers: &[Option<usize>],
+    placed: &[Option<Placed>],
     stream: u8,
     requests: &[Request],
     out: &mut K,
 ) -> Result<(), Failed>
+    requires room { length requests.now ≤ length answers.now }
+    requires room_placed { length requests.now ≤ length placed.now }
+    requires answers { NotesAnswers desk.now (reverse desk.now) stream answers.now }
+    requires places { NotesPlaces (reverse places.now) stream placed.now }
     ensures ok { IsTrue K.tells → OnOk result (K.holds out.new
         ≡ K.holds out.old ++ stream_text (reverse desk.now) (reverse places.now) stream 0 requests.now) }
     ensures err { IsTrue K.tells → OnErr result (PutsPart (K.holds out.old) (K.holds out.new)
@@ -154,18 +100,56 @@ fn put_stream<K: Sink>(
     ensures cause { HasCause (K.faults out.old) (K.faults out.new) result }
 {
     for (number, request) in requests.iter().enumerate() {
-        put_answered(desk, places, stream, number, request, out)?;
+        let noted = answers[number];
+        let place = placed[number];
+        put_noted(desk, noted, place, stream, number, request, out)?;
     }
     Ok(())
 }
 
-/// Puts the line of each answered request, stream after stream, in the order of the requests. It fails where the sink
-/// fails; then a first part of the text was put.
+// Notes where the answers and places of a stream stand, and puts its lines.
+fn put_stream<K: Sink>(
+    desk: &[DeskLine],
+    places: &[Placed],
+    stream: u8,
+    requests: &[Request],
+    room: &mut AnswerRoom,
+    out: &mut K,
+) -> Result<(), Failed>
+    requires { length requests.now ≤ room.old }
+    ensures ok { IsTrue K.tells → OnOk result (K.holds out.new
+        ≡ K.holds out.old ++ stream_text (reverse desk.now) (reverse places.now) stream 0 requests.now) }
+    ensures err { IsTrue K.tells → OnErr result (PutsPart (K.holds out.old) (K.holds out.new)
+        (stream_text (reverse desk.now) (reverse places.now) stream 0 requests.now)) }
+    ensures cause { HasCause (K.faults out.old) (K.faults out.new) result }
+    ensures room { room.new ≡ room.old }
+{
+    if requests.is_empty() {
+        return Ok(());
+    }
+    note_answers(desk, stream, &mut room.answers);
+    note_places(places, stream, &mut room.places);
+    put_noted_stream(
+        desk,
+        places,
+        &room.answers,
+        &room.places,
+        stream,
+        requests,
+        out,
+    )
+}
+
+/// Puts the line of each answered request, stream after stream, in the order of the requests. It takes no memory, and its
+/// time is linear in the requests, in the lines of the desk log and in the places. It fails where the sink fails; then a
+/// first part of the text was put.
 pub fn put_answers<K: Sink>(
     requests: &Requests,
     report: &RunReport,
+    room: &mut AnswerRoom,
     out: &mut K,
 ) -> Result<(), Failed>
+    requires { HasRoomFor room.old requests.now }
     ensures ok { IsTrue K.tells → OnOk result (K.holds out.new
         ≡ K.holds out.old ++ answers_text requests.now report.now.desk report.now.places) }
     ensures err { IsTrue K.tells → OnErr result (PutsPart (K.holds out.old) (K.holds out.new)
@@ -175,7 +159,7 @@ pub fn put_answers<K: Sink>(
     let desk = report.desk.as_slice();
     let places = report.places.as_slice();
     for stream in 0..16_u8 {
-        put_stream(desk, places, stream, requests.stream(stream), out)?;
+        put_stream(desk, places, stream, requests.stream(stream), room, out)?;
     }
     Ok(())
 }

@@ -4,9 +4,9 @@ ghost use Rattle.stream_text.specs.LineFaults.{both as both_of};
 ghost use Rattle.stream_text.specs.LineGrammar.{write_asked, discard_asked, asked_of_words, asked_of_line, stream_asked};
 
 use crate::blocks::block_of;
+use crate::cuts::cut;
 use crate::numbers::{both, number_within};
 use crate::refusal::LineFault;
-use crate::words::cut_word;
 use blk_base::{Lba, Request};
 
 /// What a line asks for.
@@ -110,19 +110,19 @@ pub(crate) fn asked_of(line: &[u8]) -> Result<Asked, LineFault>
     ensures asked { result ≡ asked_of_line line.now }
     ensures stream { IfOk result (λ asked. stream_asked asked < 16) }
 {
-    let (stream, rest) = cut_word(line);
+    let (stream, rest) = cut(b' ', line);
     let Some(rest) = rest else {
         return Err(LineFault::Word);
     };
-    let (command, rest) = cut_word(rest);
+    let (command, rest) = cut(b' ', rest);
     let Some(rest) = rest else {
         return of_two(stream, command);
     };
-    let (address, rest) = cut_word(rest);
+    let (address, rest) = cut(b' ', rest);
     let Some(rest) = rest else {
         return of_three(stream, command, address);
     };
-    let (last, rest) = cut_word(rest);
+    let (last, rest) = cut(b' ', rest);
     match rest {
         Some(_) => Err(LineFault::Word),
         None => of_four(stream, command, address, last),

@@ -2,8 +2,7 @@ ghost use Rattle.std.specs.Prelude.{ℕ, ◌≡◌, ◌<◌, ◌≤◌, ◌+◌,
 ghost use Rattle.std.specs.List.{slice_split};
 ghost use Rattle.stream_text.specs.declared.refusal.LineFault.{LineFault as Fault};
 ghost use Rattle.hex.specs.Hex.{decode_sized};
-ghost use Rattle.stream_text.specs.Grammar.{first_byte};
-ghost use Rattle.stream_text.specs.LineWords.{run_of_pieces, run_of_part, bytes_of_parts, block_of_word};
+ghost use Rattle.stream_text.specs.LineWords.{first_byte, run_of_pieces, run_of_part, bytes_of_parts, block_of_word};
 ghost use Rattle.stream_text.specs.RunParts.{run_said, behind, bytes_of_run, HoldsBytes};
 
 use crate::cuts::cut;

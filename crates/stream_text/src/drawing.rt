@@ -1,9 +1,8 @@
 ghost use Rattle.std.specs.Prelude.{◌≡◌, ◌<◌, ◌≤◌, IfOk};
-ghost use Rattle.stream_text.specs.Workloads.{next_state, number_of_state, drawn_block, drawn_kind, drawn_request, workload_of};
+ghost use Rattle.stream_text.specs.Workloads.{next_state, number_of_state, filled_block, drawn_block, drawn_kind, drawn_request, workload_of};
 
 use crate::streams::Streams;
-use crate::words::filled;
-use blk_base::{Lba, Request};
+use blk_base::{Block, Lba, Request};
 use std::alloc::{AllocError, Global};
 use vdo_model::Requests;
 
@@ -27,6 +26,16 @@ fn number(state: u64) -> u32
     ensures { result ≡ number_of_state state }
 {
     (state >> 33) as u32
+}
+
+// The block that a byte fills.
+#[tactic(auto, unfolding(crate::specs::Workloads::filled_block))]
+fn filled(byte: u8) -> Block
+    ensures { result ≡ filled_block byte }
+{
+    Block {
+        bytes: [byte; 4096],
+    }
 }
 
 // A request of this kind, 0 to 7.

@@ -1,107 +1,136 @@
-ghost use Rattle.std.specs.Prelude.{◌≡◌, ◌≢◌, ◌≤◌, ◌+◌, ◌++◌, ◌∷◌, [], ℕ, List, length, Ok, IsTrue, IfOk, IfErr, OnOk, IsErrOf};
-ghost use Rattle.blk_base.specs.declared.request.Request.{Request};
+ghost use Rattle.std.specs.Prelude.{◌≡◌, ◌≢◌, ◌≤◌, ◌<◌, ◌+◌, ◌++◌, ◌∷◌, [], ℕ, List, length, None, Ok, IsTrue, IfOk, IfErr, OnOk, IsErrOf};
 ghost use Rattle.disk_model.specs.Causes.{Rose};
-ghost use Rattle.stream_text.specs.Grammar.{script_of, IsServableScript};
-ghost use Rattle.stream_text.specs.Reading.{goes_on, progress, IsReading, Refuses};
-ghost use Rattle.stream_text.specs.Facts.{reading-prop};
+ghost use Rattle.stream_text.specs.StreamRows.{no_requests};
+ghost use Rattle.stream_text.specs.WholeScript.{first_discard, whole_script};
+ghost use Rattle.stream_text.specs.ReadingBytes.{discard_by, goes_on_from, refusal_said, said_from, EachRequest, IsPlainRequest, IsReadingBytes, IsWholeScript, RefusesScript};
 
-use crate::words::{LONGEST_LINE, request_of};
-use crate::{ReadScript, ScriptFault};
+use crate::adding::{LineStop, add_line};
+use crate::refusal::{LineFault, ReadScript, ScriptRefusal};
+use crate::streams::Streams;
 use arrayvec::ArrayVec;
-use blk_base::Request;
 use disk_model::Source;
 use std::alloc::Global;
 use vdo_model::Requests;
 
-/// How many requests a script may have.
-const MOST_REQUESTS: usize = 1024;
+/// How many bytes a line may have, without its newline.
+const LONGEST_LINE: usize = 32768;
 
-/// A script that is read in part.
+/// How many bytes a script may have.
+const LONGEST_SCRIPT: u64 = 134_217_728;
+
+/// The requests of a script, and where its first discard stands.
 #[derive(Drop)]
-struct Reading {
-    logical: u32,
-    requests: Vec<Request>,
-    line: ArrayVec<u8, LONGEST_LINE>,
-    ghost sound: { IsReading logical requests.items line.items } by { reading-prop logical requests.items line.items },
+pub struct ScriptRequests {
+    /// The requests of 16 streams.
+    pub requests: Requests,
+    /// The number, from 1, of the first line that asks for discards, if one does.
+    pub first_discard: Option<u64>,
 }
 
-impl Reading {
-    fn begin(alloc: Global, logical: u32) -> Reading
-        ensures requests { result.requests.items ≡ [] }
-        ensures line { result.line.items ≡ [] }
-        ensures logical { result.logical ≡ logical }
-    {
-        Reading {
-            logical,
-            requests: Vec::new(alloc),
-            line: ArrayVec::new(),
+/// A script that is read in part: the streams so far with the number of their requests, the line of the first discard so
+/// far, the number of the line that is being read, the bytes before it, and its bytes so far.
+#[derive(Drop)]
+struct ReadingBytes {
+    streams: Streams,
+    count: u64,
+    first_discard: Option<u64>,
+    number: u64,
+    before: u64,
+    line: ArrayVec<u8, LONGEST_LINE>,
+}
+
+// What is said of a line that adds nothing.
+fn stopped(number: u64, stop: LineStop) -> ReadScript
+    ensures { result ≡ refusal_said number stop }
+{
+    match stop {
+        LineStop::Memory => ReadScript::Memory,
+        LineStop::Fault(fault) => {
+            ReadScript::Script(ScriptRefusal {
+                line: number,
+                fault,
+            })
         }
     }
+}
 
-    /// The line that is being read is refused.
-    fn refusal(&self) -> ReadScript
-        ensures { result ≡ ReadScript.Script (ScriptFault.Later (length self.now.requests.items + 1)) }
-    {
-        ReadScript::Script(ScriptFault::Later {
-            line: self.requests.len() as u64 + 1,
-        })
+// The line of the first discard, where it may be this line.
+fn earlier_discard(found: Option<u64>, number: u64, asks: bool) -> Option<u64>
+    ensures { result ≡ discard_by found number asks }
+{
+    match found {
+        Some(line) => Some(line),
+        None if asks => Some(number),
+        None => None,
     }
+}
 
-    /// The line that was read is whole.
+impl ReadingBytes {
+    // The line that was read is whole, and its newline was taken.
     fn end_line(&mut self) -> Result<(), ReadScript>
-        ensures logical { self.new.logical ≡ self.old.logical }
+        requires sound { IsReadingBytes self.old.count self.old.number self.old.before self.old.first_discard self.old.streams self.old.line.items }
+        requires room { self.old.before + length self.old.line.items < 134217728 }
+        ensures sound { OnOk result (IsReadingBytes self.new.count self.new.number self.new.before self.new.first_discard self.new.streams self.new.line.items) }
         ensures ok { OnOk result ((rest : List ℕ) →
-            goes_on self.old.logical self.old.requests.items self.old.line.items (10 ∷ rest)
-            ≡ goes_on self.new.logical self.new.requests.items self.new.line.items rest) }
-        ensures line { OnOk result (self.new.line.items ≡ []) }
-        ensures more { OnOk result (length self.new.requests.items ≡ length self.old.requests.items + 1) }
+            said_from self.old.number self.old.before self.old.first_discard self.old.streams self.old.line.items (10 ∷ rest)
+            ≡ said_from self.new.number self.new.before self.new.first_discard self.new.streams self.new.line.items rest) }
+        ensures taken { OnOk result (self.new.before + length self.new.line.items ≡ self.old.before + length self.old.line.items + 1) }
         ensures refused { IfErr result (λ fault. (rest : List ℕ) →
-            Refuses fault (goes_on self.old.logical self.old.requests.items self.old.line.items (10 ∷ rest))) }
+            RefusesScript fault (goes_on_from self.old.number self.old.before self.old.streams self.old.line.items (10 ∷ rest))) }
         ensures no_fault { IfErr result (λ fault. fault ≢ ReadScript.Read) }
     {
-        if self.requests.len() >= MOST_REQUESTS {
-            return Err(self.refusal());
+        match add_line(&mut self.streams, self.count, &self.line) {
+            Err(stop) => Err(stopped(self.number, stop)),
+            Ok(added) => {
+                self.count = added.count;
+                self.first_discard = earlier_discard(
+                    self.first_discard,
+                    self.number,
+                    added.discards,
+                );
+                self.before += self.line.len() as u64 + 1;
+                self.number += 1;
+                self.line.clear();
+                Ok(())
+            }
         }
-        let Some(request) = request_of(self.logical, &self.line) else {
-            return Err(self.refusal());
-        };
-        let Ok(()) = self.requests.push(request) else {
-            return Err(ReadScript::Memory);
-        };
-        self.line.clear();
-        Ok(())
     }
 
-    /// The next byte of the script.
+    // The next byte of the script.
     fn add(&mut self, byte: u8) -> Result<(), ReadScript>
-        ensures logical { self.new.logical ≡ self.old.logical }
+        requires { IsReadingBytes self.old.count self.old.number self.old.before self.old.first_discard self.old.streams self.old.line.items }
+        ensures sound { OnOk result (IsReadingBytes self.new.count self.new.number self.new.before self.new.first_discard self.new.streams self.new.line.items) }
         ensures ok { OnOk result ((rest : List ℕ) →
-            goes_on self.old.logical self.old.requests.items self.old.line.items (byte ∷ rest)
-            ≡ goes_on self.new.logical self.new.requests.items self.new.line.items rest) }
-        ensures progress { OnOk result (progress self.old.requests.items self.old.line.items + 1 ≤ progress self.new.requests.items self.new.line.items) }
+            said_from self.old.number self.old.before self.old.first_discard self.old.streams self.old.line.items (byte ∷ rest)
+            ≡ said_from self.new.number self.new.before self.new.first_discard self.new.streams self.new.line.items rest) }
+        ensures taken { OnOk result (self.new.before + length self.new.line.items ≡ self.old.before + length self.old.line.items + 1) }
         ensures refused { IfErr result (λ fault. (rest : List ℕ) →
-            Refuses fault (goes_on self.old.logical self.old.requests.items self.old.line.items (byte ∷ rest))) }
+            RefusesScript fault (goes_on_from self.old.number self.old.before self.old.streams self.old.line.items (byte ∷ rest))) }
         ensures no_fault { IfErr result (λ fault. fault ≢ ReadScript.Read) }
     {
+        if self.before + self.line.len() as u64 >= LONGEST_SCRIPT {
+            return Err(stopped(self.number, LineStop::Fault(LineFault::TooLong)));
+        }
         if byte == b'\n' {
             return self.end_line();
         }
         if self.line.is_full() {
-            return Err(self.refusal());
+            return Err(stopped(self.number, LineStop::Fault(LineFault::TooLong)));
         }
         self.line.push(byte);
         Ok(())
     }
 
-    /// The next bytes of the script.
+    // The next bytes of the script.
     fn feed(&mut self, bytes: &[u8]) -> Result<(), ReadScript>
-        ensures logical { self.new.logical ≡ self.old.logical }
+        requires { IsReadingBytes self.old.count self.old.number self.old.before self.old.first_discard self.old.streams self.old.line.items }
+        ensures sound { OnOk result (IsReadingBytes self.new.count self.new.number self.new.before self.new.first_discard self.new.streams self.new.line.items) }
         ensures ok { OnOk result ((rest : List ℕ) →
-            goes_on self.old.logical self.old.requests.items self.old.line.items (bytes.now ++ rest)
-            ≡ goes_on self.new.logical self.new.requests.items self.new.line.items rest) }
-        ensures progress { OnOk result (progress self.old.requests.items self.old.line.items + length bytes.now ≤ progress self.new.requests.items self.new.line.items) }
+            said_from self.old.number self.old.before self.old.first_discard self.old.streams self.old.line.items (bytes.now ++ rest)
+            ≡ said_from self.new.number self.new.before self.new.first_discard self.new.streams self.new.line.items rest) }
+        ensures taken { OnOk result (self.new.before + length self.new.line.items ≡ self.old.before + length self.old.line.items + length bytes.now) }
         ensures refused { IfErr result (λ fault. (rest : List ℕ) →
-            Refuses fault (goes_on self.old.logical self.old.requests.items self.old.line.items (bytes.now ++ rest))) }
+            RefusesScript fault (goes_on_from self.old.number self.old.before self.old.streams self.old.line.items (bytes.now ++ rest))) }
         ensures no_fault { IfErr result (λ fault. fault ≢ ReadScript.Read) }
     {
         for byte in bytes {
@@ -110,15 +139,16 @@ impl Reading {
         Ok(())
     }
 
-    /// The bytes of the source until its end.
+    // The bytes of the source until its end.
     fn feed_all<S: Source>(&mut self, source: &mut S) -> Result<(), ReadScript>
-        ensures logical { self.new.logical ≡ self.old.logical }
+        requires { IsReadingBytes self.old.count self.old.number self.old.before self.old.first_discard self.old.streams self.old.line.items }
+        ensures sound { OnOk result (IsReadingBytes self.new.count self.new.number self.new.before self.new.first_discard self.new.streams self.new.line.items) }
         ensures ok { IsTrue S.tells → OnOk result (
-            goes_on self.old.logical self.old.requests.items self.old.line.items (S.left source.old)
-            ≡ goes_on self.new.logical self.new.requests.items self.new.line.items []) }
+            said_from self.old.number self.old.before self.old.first_discard self.old.streams self.old.line.items (S.left source.old)
+            ≡ said_from self.new.number self.new.before self.new.first_discard self.new.streams self.new.line.items []) }
         ensures whole { IsTrue S.tells → OnOk result (S.left source.new ≡ []) }
         ensures refused { IsTrue S.tells → IfErr result (λ fault.
-            Refuses fault (goes_on self.old.logical self.old.requests.items self.old.line.items (S.left source.old))) }
+            RefusesScript fault (goes_on_from self.old.number self.old.before self.old.streams self.old.line.items (S.left source.old))) }
         ensures read { IsErrOf result ReadScript.Read → Rose (S.faults source.old) (S.faults source.new) }
         ensures later { S.faults source.old ≤ S.faults source.new }
     {
@@ -134,45 +164,64 @@ impl Reading {
         }
     }
 
-    /// The script has no more bytes.
-    fn end(mut self) -> Result<Vec<Request>, ReadScript>
-        ensures ok { IfOk result (λ row. goes_on self.logical self.requests.items self.line.items [] ≡ Ok row.items) }
-        ensures servable { IfOk result (λ row. IsServableScript self.logical (row.items ∷ [])) }
-        ensures refused { IfErr result (λ fault. Refuses fault (goes_on self.logical self.requests.items self.line.items [])) }
+    // The script has no more bytes.
+    fn end(mut self) -> Result<ScriptRequests, ReadScript>
+        requires { IsReadingBytes self.count self.number self.before self.first_discard self.streams self.line.items }
+        ensures ok { IfOk result (λ script.
+            said_from self.number self.before self.first_discard self.streams self.line.items [] ≡ (Ok script.requests, script.first_discard)) }
+        ensures shape { IfOk result (λ script. IsWholeScript script.requests) }
+        ensures served { IfOk result (λ script. script.first_discard ≡ None → EachRequest IsPlainRequest script.requests) }
+        ensures refused { IfErr result (λ fault. RefusesScript fault (goes_on_from self.number self.before self.streams self.line.items [])) }
         ensures no_fault { IfErr result (λ fault. fault ≢ ReadScript.Read) }
     {
         if self.line.is_empty() {
-            return Ok(self.requests);
+            return Ok(ScriptRequests {
+                requests: self.streams.into_requests(),
+                first_discard: self.first_discard,
+            });
         }
-        self.end_line()?;
-        Ok(self.requests)
+        match add_line(&mut self.streams, self.count, &self.line) {
+            Err(stop) => Err(stopped(self.number, stop)),
+            Ok(added) => {
+                let discard = earlier_discard(self.first_discard, self.number, added.discards);
+                Ok(ScriptRequests {
+                    requests: self.streams.into_requests(),
+                    first_discard: discard,
+                })
+            }
+        }
     }
 }
 
-/// Reads a script, in pieces of any size, until the source's end or the first line that is refused.
+/// Reads the requests of a script, in pieces of any size, until the source's end or the first line with a fault. They come
+/// as 16 streams, of which each may have none, with the line of the first discard, where there is one.
 ///
-/// A script may have 1,024 lines of 64 bytes. It fails with `Script` at the first line that is no request of this
-/// version, with `Read` where the source failed, and with `Memory` where memory runs out.
-pub fn read_script<S: Source>(
-    alloc: Global,
-    source: &mut S,
-    logical: u32,
-) -> Result<Requests, ReadScript>
+/// It fails with `Script` where a line has a fault, with `Read` where the source failed, and with `Memory` where memory
+/// runs out. The memory that it takes is the requests' alone.
+pub fn read_script<S: Source>(alloc: Global, source: &mut S) -> Result<ScriptRequests, ReadScript>
     // The script is what all the bytes say, and the source was read to its end.
-    ensures script { IsTrue S.tells → IfOk result (λ script. (row : List Request)
-        × (script_of logical (S.left source.old) ≡ Ok row) × (script ≡ row ∷ []) × (S.left source.new ≡ [])) }
+    ensures script { IsTrue S.tells → IfOk result (λ script. (whole_script (S.left source.old) ≡ Ok script.requests)
+        × (script.first_discard ≡ first_discard (S.left source.old)) × (S.left source.new ≡ [])) }
     // Whatever the source tells, no other requests come.
-    ensures shape { IfOk result (IsServableScript logical) }
-    // A line that is named is the first that is refused.
-    ensures refused { IsTrue S.tells → IfErr result (λ fault. Refuses fault (script_of logical (S.left source.old))) }
+    ensures shape { IfOk result (λ script. IsWholeScript script.requests) }
+    // Whatever the source tells, where no line is named no request is a discard, and each write has a whole block.
+    ensures served { IfOk result (λ script. script.first_discard ≡ None → EachRequest IsPlainRequest script.requests) }
+    // The line that is named is the first with a fault, and its fault the first that it has.
+    ensures refused { IsTrue S.tells → IfErr result (λ fault. RefusesScript fault (whole_script (S.left source.old))) }
     ensures read { IsErrOf result ReadScript.Read → Rose (S.faults source.old) (S.faults source.new) }
     ensures later { S.faults source.old ≤ S.faults source.new }
 {
-    let mut reading = Reading::begin(alloc, logical);
+    let Ok(streams) = Streams::new(alloc) else {
+        return Err(ReadScript::Memory);
+    };
+    let mut reading = ReadingBytes {
+        streams,
+        count: 0,
+        first_discard: None,
+        number: 1,
+        before: 0,
+        line: ArrayVec::new(),
+    };
     reading.feed_all(source)?;
-    let row = reading.end()?;
-    match Requests::of_stream(alloc, row) {
-        Ok(requests) => Ok(requests),
-        Err(_) => Err(ReadScript::Memory),
-    }
+    reading.end()
 }

@@ -36,7 +36,7 @@ pub struct ScriptRefusal {
 
 /// Why the requests of a script could not be read.
 #[derive(Clone, Copy, Debug, PartialEq, Eq, Error)]
-pub enum ReadRequests {
+pub enum ReadScript {
     /// The script is refused.
     #[error("{0}")]
     Script(ScriptRefusal),

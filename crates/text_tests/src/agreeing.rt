@@ -5,7 +5,7 @@ use blk_base::{Lba, Request};
 use disk_model::MemSource;
 use std::alloc::{AllocError, Global};
 use std::test::Fail;
-use stream_text::{LineFault, ReadRequests, read_requests};
+use stream_text::{LineFault, ReadScript, read_script};
 use vdo_model::Requests;
 
 /// What a discard of so many asks for with this number, from 0; another request stays as it is.
@@ -60,13 +60,13 @@ fn agree(requests: &Requests, wanted: &[Wanted]) -> bool {
 /// What both readers say of a script: no fault, or the fault of the line that is refused. None where they don't agree.
 pub fn both_say(alloc: Global, text: &[u8]) -> Result<Option<Option<LineFault>>, AllocError> {
     let mut source = MemSource::new(Vec::from_slice(alloc, text)?, None);
-    let read = read_requests(alloc, &mut source);
+    let read = read_script(alloc, &mut source);
     let slow = slow_script(alloc, text)?;
     match (&read, &slow) {
         (Ok(script), Ok(wanted))
             if agree(&script.requests, wanted)
                 && script.first_discard == slow_first_discard(text) => { Ok(Some(None)) }
-        (Err(ReadRequests::Script(refusal)), Err((line, fault)))
+        (Err(ReadScript::Script(refusal)), Err((line, fault)))
             if refusal.line == *line && refusal.fault == *fault => { Ok(Some(Some(*fault))) }
         _ => Ok(None),
     }

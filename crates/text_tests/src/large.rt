@@ -3,7 +3,7 @@ use blk_base::{Answer, Block, Writer};
 use disk_model::{Failed, MemSource, Sink};
 use std::alloc::{AllocError, Global};
 use std::test::Fail;
-use stream_text::{AnswerRoom, LineFault, ReadRequests, put_indexed_answers, read_requests};
+use stream_text::{AnswerRoom, LineFault, ReadScript, put_answers, read_script};
 use vdo_model::{DeskLine, Placed, Requests, Rows, RunReport};
 
 /// A sink that keeps how often bytes were put, how many in all, and their sum, each times its place from 1 on.
@@ -109,17 +109,17 @@ fn report(alloc: Global, lines: u32, requests: Requests) -> Result<RunReport, Al
 /// How often the answers' lines of such a script are put, how many bytes they have, and the weight of these.
 fn put(alloc: Global, lines: u32) -> Result<Option<(u64, u64, u64)>, AllocError> {
     let mut source = MemSource::new(script(alloc, lines)?, None);
-    let Ok(requests) = read_requests(alloc, &mut source) else {
+    let Ok(script) = read_script(alloc, &mut source) else {
         return Ok(None);
     };
-    let report = report(alloc, lines, requests)?;
+    let report = report(alloc, lines, script.requests)?;
     let mut room = AnswerRoom::with_room_for(alloc, &report.requests)?;
     let mut out = CountingSink {
         puts: 0,
         bytes: 0,
         weight: 0,
     };
-    let put = put_indexed_answers(&report.requests, &report, &mut room, &mut out);
+    let put = put_answers(&report.requests, &report, &mut room, &mut out);
     Ok(put.ok().map(|()| (out.puts, out.bytes, out.weight)))
 }
 
@@ -144,8 +144,8 @@ fn answers_of_65536_requests_are_put(rt: HostRuntime) -> Result<(), Fail> {
 #[test]
 fn a_request_more_is_refused(rt: HostRuntime) -> Result<(), Fail> {
     let mut source = MemSource::new(script(rt.alloc(), 65537)?, None);
-    let refused = match read_requests(rt.alloc(), &mut source) {
-        Err(ReadRequests::Script(refusal)) => Some((refusal.line, refusal.fault)),
+    let refused = match read_script(rt.alloc(), &mut source) {
+        Err(ReadScript::Script(refusal)) => Some((refusal.line, refusal.fault)),
         _ => None,
     };
     assert_eq!(rt; refused, Some((65537, LineFault::TooMany)));

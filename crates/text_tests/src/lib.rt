@@ -5,7 +5,7 @@
 #[cfg(test)]
 mod agreeing;
 #[cfg(test)]
-mod indexed;
+mod answers;
 #[cfg(test)]
 mod large;
 #[cfg(test)]
@@ -19,4 +19,6 @@ mod shared;
 #[cfg(test)]
 mod slow;
 #[cfg(test)]
-mod texts;
+mod sources;
+#[cfg(test)]
+mod streams;

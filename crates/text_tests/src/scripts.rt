@@ -5,7 +5,7 @@ use blk_base::Request;
 use disk_model::MemSource;
 use std::alloc::{AllocError, Global};
 use std::test::Fail;
-use stream_text::{LineFault, ReadRequests, ScriptRefusal, read_requests, workload};
+use stream_text::{LineFault, ReadScript, ScriptRefusal, read_script, workload};
 use vdo_model::Requests;
 
 /// What became of a script: the stream, kind, address, first and last byte of its last request that is found stream after
@@ -24,7 +24,7 @@ fn told_request(request: &Request) -> (u8, u32, u8, u8) {
 /// What becomes of a script; none where memory runs out.
 pub fn read(alloc: Global, text: &[u8]) -> Result<Option<Told>, AllocError> {
     let mut source = MemSource::new(Vec::from_slice(alloc, text)?, None);
-    match read_requests(alloc, &mut source) {
+    match read_script(alloc, &mut source) {
         Ok(script) => {
             let mut told = (0, b'-', 0, 0, 0, 0_usize);
             for stream in 0..16_u8 {
@@ -35,7 +35,7 @@ pub fn read(alloc: Global, text: &[u8]) -> Result<Option<Told>, AllocError> {
             }
             Ok(Some(Ok(told)))
         }
-        Err(ReadRequests::Script(refusal)) => Ok(Some(Err((refusal.line, refusal.fault)))),
+        Err(ReadScript::Script(refusal)) => Ok(Some(Err((refusal.line, refusal.fault)))),
         Err(_) => Ok(None),
     }
 }
@@ -89,7 +89,7 @@ fn scripts_are_served(rt: HostRuntime) -> Result<(), Fail> {
 /// Where the first discard of a script stands; none of either where the script isn't read.
 fn discard_of(alloc: Global, text: &[u8]) -> Result<Option<Option<u64>>, AllocError> {
     let mut source = MemSource::new(Vec::from_slice(alloc, text)?, None);
-    match read_requests(alloc, &mut source) {
+    match read_script(alloc, &mut source) {
         Ok(script) => Ok(Some(script.first_discard)),
         Err(_) => Ok(None),
     }
@@ -119,8 +119,8 @@ fn the_first_discard_is_named(rt: HostRuntime) -> Result<(), Fail> {
     Ok(())
 }
 
-fn refusal(line: u64, fault: LineFault) -> ReadRequests {
-    ReadRequests::Script(ScriptRefusal { line, fault })
+fn refusal(line: u64, fault: LineFault) -> ReadScript {
+    ReadScript::Script(ScriptRefusal { line, fault })
 }
 
 #[test]
@@ -136,8 +136,8 @@ fn refusals_are_printed(rt: HostRuntime) {
             "script line 6: block length",
         ),
         (refusal(7, LineFault::TooMany), "script line 7: too many"),
-        (ReadRequests::Read, "read fault"),
-        (ReadRequests::Memory, "no memory"),
+        (ReadScript::Read, "read fault"),
+        (ReadScript::Memory, "no memory"),
     ];
     assert_eq!(rt; not_shown(&rt, &texts), None);
 }

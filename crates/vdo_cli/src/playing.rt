@@ -13,7 +13,7 @@ use disk_model::{Disk, Source};
 use schedule::{Schedule, drive};
 use std::alloc::Global;
 use std::sync::Wait;
-use stream_text::{AnswerRoom, ReadRequests, read_requests};
+use stream_text::{AnswerRoom, ReadScript, read_script};
 use vdo_core::{Core, Setup};
 use vdo_model::{Requests, RunReport};
 
@@ -31,21 +31,21 @@ pub(crate) struct Played {
 }
 
 // Reads the requests of the script, all of which are served.
-fn read_script<S: Source>(alloc: Global, script: &mut S) -> Result<Requests, Fault>
+fn read_served<S: Source>(alloc: Global, script: &mut S) -> Result<Requests, Fault>
     ensures script { IsTrue S.tells → IfOk result (λ requests. (whole_script (S.left script.old) ≡ Ok requests) × (first_discard (S.left script.old) ≡ None) × (S.left script.new ≡ [])) }
     ensures shape { IfOk result IsWholeScript }
     ensures served { IfOk result (λ requests. AllByRecursion (AllByRecursion IsServed) requests) }
     ensures fault { IfErr result (ScriptFails S.tells (S.left script.old) (S.faults script.old) (S.faults script.new)) }
     ensures later { S.faults script.old ≤ S.faults script.new }
 {
-    match read_requests(alloc, script) {
+    match read_script(alloc, script) {
         Ok(read) => match read.first_discard {
             Some(line) => Err(Fault::Later { line }),
             None => Ok(read.requests),
         },
-        Err(ReadRequests::Script(refusal)) => Err(Fault::Script(refusal)),
-        Err(ReadRequests::Read) => Err(Fault::Read),
-        Err(ReadRequests::Memory) => Err(Fault::Memory),
+        Err(ReadScript::Script(refusal)) => Err(Fault::Script(refusal)),
+        Err(ReadScript::Read) => Err(Fault::Read),
+        Err(ReadScript::Memory) => Err(Fault::Memory),
     }
 }
 
@@ -66,7 +66,7 @@ pub(crate) fn play<R: Wait, D: Disk, S: Source>(
     ensures later { S.faults script.old ≤ S.faults script.new }
 {
     let Opened { head, window } = open(alloc, device)?;
-    let requests = read_script(alloc, script)?;
+    let requests = read_served(alloc, script)?;
     let Ok(room) = AnswerRoom::with_room_for(alloc, &requests) else {
         return Err(Fault::Memory);
     };

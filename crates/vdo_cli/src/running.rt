@@ -9,7 +9,7 @@ use disk_model::{Disk, Sink, Source, ZoneGate};
 use std::alloc::Global;
 use std::sync::Wait;
 use std::thread::Threads;
-use stream_text::{AnswerRoom, put_indexed_answers};
+use stream_text::{AnswerRoom, put_answers};
 use vdo_model::{Requests, Rows, RunReport};
 
 /// A run that ended: its status, why no other one, what became of the requests, and the device.
@@ -61,7 +61,7 @@ fn close<D: Disk, K: Sink>(report: RunReport, room: AnswerRoom, device: D, out: 
     let lost = has_lost(report.desk.as_slice());
     let full = has_full(report.desk.as_slice());
     let mut room = room;
-    let put = put_indexed_answers(&report.requests, &report, &mut room, out);
+    let put = put_answers(&report.requests, &report, &mut room, out);
     let (status, fault) = match put {
         _ if lost => (3, None),
         Err(_) => (7, Some(Fault::Sink)),

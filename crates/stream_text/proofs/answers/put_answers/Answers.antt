@@ -10,6 +10,7 @@ pub loop-stream-init : goal.loop-stream-init
 loop-stream-init g c = record {
   held = λ tells. sym (ap (λ t. g.K.Sink.holds c.args.out.now ++ t)
       (streams_text-none c.args.requests.now c.args.report.now.desk c.args.report.now.places) ∙ append-nil _);
+  room = refl;
   later = omega arith;
 }
 
@@ -40,5 +41,6 @@ loop-stream-preserved g c =
     record {
       held = λ tells. both_pieces _ _ _ _ _ (c.loop-stream.invariant.held tells) (rw text at (c.in_ok-put_stream.ensures.ok tells))
           ∙ ap (λ t. g.K.Sink.holds c.args.out.now ++ t) (sym (streams_text-next requests desk places stream));
+      room = c.put_stream.ensures.room ∙ c.loop-stream.invariant.room;
       later = search rules;
     }

@@ -1,0 +1,16 @@
+use Rattle.std.proofs.Common.{◌≡◌, ◌≤◌, ◌+◌, ◌-◌, length}
+use Rattle.std.specs.Prelude.{IsTrue}
+use Rattle.stream_text.specs.ReadingBytes.{said_from, IsReadingBytes}
+use Rattle.stream_text.proofs.reading.ReadingBytes.feed_all.Given as goal
+
+abbrev pub invariant-pieces : goal.invariant-pieces
+invariant-pieces g l = record {
+  sound : IsReadingBytes l.self.count l.self.number l.self.before l.self.first_discard l.self.streams l.self.line.items;
+  same : IsTrue g.S.Source.tells
+      → said_from l.initial.self.number l.initial.self.before l.initial.self.first_discard l.initial.self.streams l.initial.self.line.items (g.S.Source.left l.initial.source)
+      ≡ said_from l.self.number l.self.before l.self.first_discard l.self.streams l.self.line.items (g.S.Source.left l.source);
+  later : g.S.Source.faults l.initial.source ≤ g.S.Source.faults l.source;
+}
+
+abbrev pub decreases-pieces : goal.decreases-pieces
+decreases-pieces g l = 134217729 - (l.self.before + length l.self.line.items)
