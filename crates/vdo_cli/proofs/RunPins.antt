@@ -1,5 +1,5 @@
 -- Rows that pin how a run ends (`EndsSo`): for each part some that it accepts, and some that break this part alone.
-use Rattle.std.proofs.Common.{ℕ, zero, suc, ◌≡◌, ◌++◌, Bool, true, false, IsTrue, List, [], ◌∷◌, length, take, Option, Some, None, codes, refl, ap, inl, inr, arith}
+use Rattle.std.proofs.Common.{ℕ, zero, suc, ◌≡◌, ◌++◌, Bool, true, false, IsTrue, List, [], ◌∷◌, length, take, Option, Some, None, codes, refl, ap, inl, inr, arith, length-append}
 use Rattle.disk_model.specs.declared.call.Call.{Call}
 use Rattle.disk_model.specs.declared.call.Call.TheVariants.{Read, Write, Flush}
 use Rattle.disk_model.specs.Seen.{Seen}
@@ -11,6 +11,7 @@ use Rattle.image_layout.specs.declared.fault.SuperFault.TheVariants.{NotAnImage}
 use Rattle.vdo_cli.specs.declared.fault.Fault.{Fault}
 use Rattle.vdo_cli.specs.declared.fault.Fault.TheVariants as fault
 use Rattle.vdo_cli.specs.Endings.{Plays}
+use Rattle.vdo_cli.specs.Onward.{GoesOn}
 use Rattle.vdo_cli.specs.Runs.{Setting, Outside, EndsSo, PutsOrFails, no_report, outside, setting}
 use Rattle.vdo_cli.specs.Texts.{some_lost, desk_status}
 use Rattle.std.specs.Prelude.{MatchBool}
@@ -176,3 +177,15 @@ sink-not_without_rise ends = omega (arith, ends.closes.2)
 
 sink-not_another_status : Ends run_words begins (with [] [] [] 1) 0 no_report (Some fault.Sink) → ⊥
 sink-not_another_status ends = omega (arith, ends.closes.0)
+
+-- A device goes on over a run: it has more calls; and not fewer ones, nor another size
+goes_on-called : GoesOn true (device ([] ∷ []) [] 0 0) (device ([] ∷ []) (Flush true ∷ []) 0 0)
+goes_on-called = record { stays = record { opening = refl; size = refl }; calls = λ told. (Flush true ∷ [], refl) }
+
+goes_on-not_fewer_calls : GoesOn true (device ([] ∷ []) (Flush true ∷ []) 0 0) (device ([] ∷ []) [] 0 0) → ⊥
+goes_on-not_fewer_calls goes =
+    let (calls, is) = goes.calls refl in
+    omega (arith, ap length is, length-append calls (Flush true ∷ []))
+
+goes_on-not_of_another_size : GoesOn true (device ([] ∷ []) [] 0 0) (device [] [] 0 0) → ⊥
+goes_on-not_of_another_size goes = omega (arith, goes.stays.size)
