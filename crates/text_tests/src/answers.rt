@@ -141,7 +141,8 @@ fn written(alloc: Global, text: &[u8]) -> Result<Block, AllocError> {
     let mut source = MemSource::new(Vec::from_slice(alloc, text)?, None);
     if let Ok(script) = read_script(alloc, &mut source) {
         if let Some(Request::Write { block: found, .. }) = script.requests.stream(0).first() {
-            block.bytes = found.bytes;
+            let bytes = found.bytes;
+            block.bytes = bytes;
         }
     }
     Ok(block)
