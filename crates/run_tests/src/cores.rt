@@ -15,6 +15,7 @@ use vdo_model::{DeskLine, Placed, Requests};
 pub(crate) enum Unplayed {
     Memory,
     TooLarge,
+    Device,
     Step(StepFault),
 }
 
@@ -60,7 +61,8 @@ pub(crate) fn sizes(zones: u8, depth: u32) -> Sizes
     }
 }
 
-fn push<T: Drop>(items: &mut Vec<T>, item: T) -> Result<(), AllocError>
+// One more item.
+pub(crate) fn push<T: Drop>(items: &mut Vec<T>, item: T) -> Result<(), AllocError>
     ensures { OnOk result (items.new.items ≡ items.old.items ++ item ∷ []) }
 {
     match items.push(item) {
@@ -95,7 +97,7 @@ fn requests(alloc: Global, asks: &[Ask]) -> Result<Vec<Request>, AllocError>
     Ok(requests)
 }
 
-fn script(alloc: Global, streams: &[&[Ask]]) -> Result<Requests, AllocError>
+pub(crate) fn script(alloc: Global, streams: &[&[Ask]]) -> Result<Requests, AllocError>
     ensures { IfOk result (AllByRecursion (AllByRecursion IsServed)) }
 {
     let mut script = Vec::new(alloc);

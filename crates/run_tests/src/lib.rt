@@ -5,11 +5,19 @@
 #[cfg(test)]
 mod cores;
 #[cfg(test)]
+mod judging;
+#[cfg(test)]
 mod one_stream;
 #[cfg(test)]
 mod runs;
 #[cfg(test)]
+mod sessions;
+#[cfg(test)]
 mod stops;
+#[cfg(test)]
+mod tables;
+#[cfg(test)]
+mod turns;
 #[cfg(test)]
 mod two_streams;
 #[cfg(test)]

@@ -8,6 +8,7 @@ use std::test::Fail;
 use std::thread::Threads;
 use stream_text::{LineFault, ScriptRefusal};
 use vdo_cli::{Ended, Fault, Words, put_fault, run};
+use vdo_model::RunReport;
 
 // A device with a fresh image of the default sizes.
 pub(crate) fn fresh(alloc: Global) -> Result<MemDisk, AllocError> {
@@ -87,6 +88,22 @@ fn run_in<R: Threads + Wait + Sync>(rt: &R, outside: Outside, device: MemDisk) -
         status,
         sink,
     }
+}
+
+/// What a run of a script reports.
+pub(crate) fn reports<R: Threads + Wait + Sync>(
+    rt: &R,
+    alloc: Global,
+    device: MemDisk,
+    script: &[u8],
+) -> Result<RunReport, AllocError> {
+    let Outside {
+        words,
+        mut source,
+        mut sink,
+    } = outside_of(alloc, &["run"], script, None, 40_000)?;
+    let Ended { report, .. } = run(rt, &words, device, &mut source, &mut sink, &OpenGate);
+    Ok(report)
 }
 
 pub(crate) fn run_on<R: Threads + Wait + Sync>(
@@ -323,12 +340,12 @@ const FAILED_WRITES: [Case; 2] = [
             Calls::Any,
         ),
     ),
-    // The write of a journal block fails, and the old value stays.
+    // The write of a journal block fails: a stop may show either value, and a read of this address gives neither.
     (
         Device::Failing(CallKind::Write, 3),
         b"0 write 5 4096*61\n0 write 5 4096*62\n0 read 5\n",
         (
-            b"0 0 write 5 ok z0:0\n0 1 write 5 stopped z0:1\n0 2 read 5 4096*61 z0:2\n",
+            b"0 0 write 5 ok z0:0\n0 1 write 5 stopped z0:1\n0 2 read 5 stopped z0:2\n",
             3,
             Calls::Any,
         ),
@@ -382,19 +399,112 @@ const LINE_1: End = (b"script line 1: later\n", 2, Calls::Any);
 
 const LINE_2: End = (b"script line 2: later\n", 2, Calls::Any);
 
-const REFUSED_LINES: [Case; 3] = [
+const REFUSED_LINES: [Case; 4] = [
     (Device::Fresh, b"0 discard 5 1\n", LINE_1),
-    (Device::Fresh, b"0 read 5\n0 read 1000\n", LINE_2),
+    (Device::Fresh, b"# once\n3 discard 1000 2\n", LINE_2),
+    // A fault of a later line comes before a discard.
     (
         Device::Fresh,
-        b"0 read 0000000000000000000000000000000000000000000000000000000005\n",
-        LINE_1,
+        b"0 discard 5 1\n0 read 5\n16 read 5\n",
+        (b"script line 3: stream\n", 2, Calls::Count(9)),
+    ),
+    (
+        Device::Fresh,
+        b"0 write 5 4095*61\n",
+        (b"script line 1: block length\n", 2, Calls::Count(9)),
     ),
 ];
 
 #[test]
 fn lines_that_are_refused(rt: HostRuntime) -> Result<(), Fail> {
     each_is_right(&rt, rt.alloc(), &REFUSED_LINES)
+}
+
+// Lines that are served: an address that isn't below the logical size, a number with many digits, and several runs.
+const SERVED_LINES: [Case; 3] = [
+    (
+        Device::Fresh,
+        b"0 read 5\n0 read 1000\n0 write 4294967295 4096*61\n",
+        (
+            b"0 0 read 5 4096*00 z0:0\n0 1 read 1000 range\n0 2 write 4294967295 range\n",
+            0,
+            Calls::Any,
+        ),
+    ),
+    (
+        Device::Fresh,
+        b"0 read 0000000000000000000000000000000000000000000000000000000005\n",
+        (b"0 0 read 5 4096*00 z0:0\n", 0, Calls::Any),
+    ),
+    (
+        Device::Fresh,
+        b"0 write 7 1*0A+1*0a+4094*ff\n0 read 7\n",
+        (
+            b"0 0 write 7 ok z0:0\n0 1 read 7 2*0a+4094*ff z0:1\n",
+            0,
+            Calls::Any,
+        ),
+    ),
+];
+
+#[test]
+fn lines_that_are_served(rt: HostRuntime) -> Result<(), Fail> {
+    each_is_right(&rt, rt.alloc(), &SERVED_LINES)
+}
+
+// The words of a run by the schedule of a number.
+fn by_schedule(alloc: Global, number: u32) -> Result<Words, AllocError> {
+    let mut words = words_of(alloc, &["run", "--schedule"])?;
+    words.push(format!(in alloc; "{number}")?.as_str())?;
+    Ok(words)
+}
+
+// How the run of a script by the schedule of a number ends.
+fn end_by_schedule<R: Threads + Wait + Sync>(
+    rt: &R,
+    alloc: Global,
+    number: u32,
+    (device, script, end): Case,
+) -> Result<Outcome, AllocError> {
+    let outside = Outside {
+        words: by_schedule(alloc, number)?,
+        source: MemSource::new(script.to_vec(alloc)?, None),
+        sink: MemSink::new(alloc, 2000)?,
+    };
+    end_of_run(rt, alloc, device, outside, end)
+}
+
+// The same lines by every schedule.
+const BY_EVERY_SCHEDULE: [Case; 2] = [
+    (
+        Device::Fresh,
+        b"0 write 5 4096*61\n0 read 5\n",
+        (
+            b"0 0 write 5 ok z0:0\n0 1 read 5 4096*61 z0:1\n",
+            0,
+            Calls::Any,
+        ),
+    ),
+    (
+        Device::Fresh,
+        b"0 write 5 4096*61\n1 read 1000\n",
+        (
+            b"0 0 write 5 ok z0:0\n1 0 read 1000 range\n",
+            0,
+            Calls::Any,
+        ),
+    ),
+];
+
+#[test]
+fn schedules(rt: HostRuntime) -> Result<(), Fail> {
+    for &case in &BY_EVERY_SCHEDULE {
+        for number in 0..100 {
+            let end = end_by_schedule(&rt, rt.alloc(), number, case)?;
+            assert_eq!(rt; (number, end), (number, all_right(0)));
+        }
+    }
+    Ok(())
 }
 
 // A script of so many flushes.
@@ -407,11 +517,11 @@ fn flushes(alloc: Global, count: u64) -> Result<Vec<u8>, AllocError> {
 }
 
 // The superblock and the journal are read, and nothing is written.
-const TOO_MANY: End = (b"script line 1025: later\n", 2, Calls::Count(9));
+const TOO_MANY: End = (b"script line 65537: too many\n", 2, Calls::Count(9));
 
 #[test]
 fn a_request_too_many(rt: HostRuntime) -> Result<(), Fail> {
-    let script = flushes(rt.alloc(), 1025)?;
+    let script = flushes(rt.alloc(), 65_537)?;
     let end = end_of_script(&rt, rt.alloc(), Device::Fresh, script.as_slice(), TOO_MANY)?;
     assert_eq!(rt; end, all_right(2));
     Ok(())
@@ -514,12 +624,16 @@ fn end_of_words<R: Threads + Wait + Sync>(
     )
 }
 
-const NO_COMMANDS: [&[&str]; 5] = [
+const NO_COMMANDS: [&[&str]; 9] = [
     &[],
     &["runs"],
     &["run", "run"],
     &["format"],
     &["run", "--threads"],
+    &["run", "--schedule"],
+    &["run", "--schedule", "x"],
+    &["run", "--schedule", "18446744073709551616"],
+    &["run", "--depth", "2"],
 ];
 
 #[test]
@@ -543,15 +657,16 @@ fn is_put(alloc: Global, fault: &Fault, line: &str) -> Result<bool, AllocError> 
     Ok(put && sink.bytes() == line.as_bytes())
 }
 
-const FAULT_LINES: [(Fault, &str); 9] = [
+const FAULT_LINES: [(Fault, &str); 10] = [
     (Fault::Usage, "usage\n"),
     (
         Fault::Script(ScriptRefusal {
-            line: 3,
-            fault: LineFault::Range,
+            line: 65_537,
+            fault: LineFault::TooMany,
         }),
-        "script line 3: range\n",
+        "script line 65537: too many\n",
     ),
+    (Fault::Later { line: 3 }, "script line 3: later\n"),
     (Fault::Device, "device fault\n"),
     (
         Fault::Image(ImageFault::Super(SuperFault::NotAnImage)),

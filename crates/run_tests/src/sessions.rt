@@ -1,0 +1,157 @@
+ghost use Rattle.std.specs.Prelude.{◌≡◌, ◌≤◌, ◌<◌, IfOk, length, vec_len};
+ghost use Rattle.std.specs.List.{AllByRecursion};
+ghost use Rattle.blk_base.specs.Limits.{IsGeometry};
+ghost use Rattle.blk_base.specs.Regions.{needed_blocks};
+ghost use Rattle.core_model.specs.Sessions.{IsServed};
+ghost use Rattle.steps_device.specs.DeviceCalls.{Fits};
+
+use crate::cores::{Ask, Unplayed, script};
+use blk_base::{Block, Geometry, Layout, Pbn, Super};
+use core_model::is_limited;
+use disk_model::{Disk, FaultAt, MemDisk};
+use image_layout::{first_image, read_window};
+use schedule::{Schedule, drive};
+use std::alloc::{AllocError, Global};
+use std::sync::Wait;
+use vdo_core::{Core, Setup};
+use vdo_model::{Requests, RunReport};
+
+/// Requests, and the core that serves them.
+#[derive(Clone, Copy)]
+pub(crate) struct Plan {
+    pub(crate) setup: Setup,
+    pub(crate) streams: &'static [&'static [Ask]],
+}
+
+/// What goes wrong with a device.
+#[derive(Clone, Copy)]
+pub(crate) enum Trouble {
+    Nothing,
+    /// This call fails.
+    Fault(FaultAt),
+    /// All calls fail behind so many.
+    Cut(u64),
+}
+
+const HEAD: Super = Super {
+    geometry: Geometry::DEFAULT,
+    clean: false,
+    start: 1,
+};
+
+/// How many calls read the superblock and the journal, or the journal alone.
+pub(crate) const JOURNAL_READS: u64 = 8;
+
+/// A device with a fresh image, with which this goes wrong.
+pub(crate) fn troubled(alloc: Global, trouble: Trouble) -> Result<MemDisk, AllocError> {
+    let layout = Layout::of(&Geometry::DEFAULT);
+    let blocks = first_image(alloc, &Geometry::DEFAULT, &layout)?;
+    let mut plan = Vec::new(alloc);
+    if let Trouble::Fault(fault) = trouble {
+        plan.push(fault)?;
+    }
+    let mut device = MemDisk::from_blocks(alloc, blocks)?;
+    match trouble {
+        Trouble::Nothing => {}
+        Trouble::Fault(_) => device.set_faults(plan),
+        Trouble::Cut(passes) => device.set_fuse(passes),
+    }
+    Ok(device)
+}
+
+// A block of the device.
+fn read_block<D: Disk>(device: &mut D, at: Pbn) -> Result<Block, Unplayed>
+    requires { at.0 < (D.seen device.old).size }
+    ensures whole { IfOk result (λ block. length block ≡ 4096) }
+    ensures size { (D.seen device.new).size ≡ (D.seen device.old).size }
+{
+    let mut block = Block::zero();
+    let Ok(()) = device.read(at, &mut block) else {
+        return Err(Unplayed::Device);
+    };
+    // Looked at for the proof alone: a block has 4096 bytes.
+    let _bytes = &block.bytes;
+    Ok(block)
+}
+
+// One more item.
+fn push_block(blocks: &mut Vec<Block>, block: Block) -> Result<(), Unplayed>
+    requires { length block ≡ 4096 }
+    ensures whole { IfOk result (λ done. AllByRecursion (λ b. length b ≡ 4096) blocks.old.items → AllByRecursion (λ b. length b ≡ 4096) blocks.new.items) }
+{
+    match blocks.push(block) {
+        Ok(()) => Ok(()),
+        Err(_) => Err(Unplayed::Memory),
+    }
+}
+
+// The blocks of the journal.
+fn read_journal<D: Disk>(alloc: Global, device: &mut D) -> Result<Vec<Block>, Unplayed>
+    requires { needed_blocks Geometry.DEFAULT ≤ (D.seen device.old).size }
+    ensures whole { IfOk result (λ journal. AllByRecursion (λ block. length block ≡ 4096) journal.items) }
+    ensures size { (D.seen device.new).size ≡ (D.seen device.old).size }
+{
+    let layout = Layout::of(&Geometry::DEFAULT);
+    let mut journal = Vec::new(alloc);
+    for slot in 0..JOURNAL_READS {
+        let block = read_block(device, layout.journal_slot(slot))?;
+        push_block(&mut journal, block)?;
+    }
+    Ok(journal)
+}
+
+// A core over an image with this journal, if it may be as large.
+fn begin(
+    alloc: Global,
+    setup: &Setup,
+    journal: &[Block],
+    requests: Requests,
+) -> Result<Core, Unplayed>
+    requires whole { AllByRecursion (λ block. length block ≡ 4096) journal.now }
+    requires served { AllByRecursion (AllByRecursion IsServed) requests }
+    ensures { IfOk result (λ core. core.sizes.geometry ≡ Geometry.DEFAULT) }
+{
+    let small = journal.len() == 8
+        && 0 < setup.logical_zones
+        && setup.logical_zones <= 4
+        && setup.depth <= 16;
+    if !small || !is_limited(&requests) {
+        return Err(Unplayed::TooLarge);
+    }
+    let Ok(window) = read_window(alloc, journal, &HEAD) else {
+        return Err(Unplayed::TooLarge);
+    };
+    match Core::begin(alloc, setup, &HEAD, &window, requests) {
+        Ok(core) => Ok(core),
+        Err(_) => Err(Unplayed::Memory),
+    }
+}
+
+/// A core over the image on a device.
+pub(crate) fn open_core<D: Disk>(
+    alloc: Global,
+    plan: &Plan,
+    device: &mut D,
+) -> Result<Core, Unplayed>
+    ensures { IfOk result (λ core. Fits core.sizes (D.seen device.new)) }
+{
+    if device.blocks() < Layout::of(&Geometry::DEFAULT).needed() {
+        return Err(Unplayed::TooLarge);
+    }
+    let journal = read_journal(alloc, device)?;
+    let requests = script(alloc, plan.streams)?;
+    begin(alloc, &plan.setup, &journal, requests)
+}
+
+/// The report of a session by the schedule of a number.
+pub(crate) fn driven<R: Wait, D: Disk>(
+    rt: &R,
+    alloc: Global,
+    plan: &Plan,
+    number: u64,
+    device: &mut D,
+) -> Result<RunReport, Unplayed> {
+    let mut core = open_core(alloc, plan, device)?;
+    drive(rt, &mut core, &mut Schedule::from_number(number), device);
+    Ok(core.report())
+}
