@@ -76,9 +76,13 @@ fn is_settled(report: &RunReport, request: Writer) -> bool {
 // The byte that a request writes at an address, if it is a write of it.
 fn written(report: &RunReport, request: Writer, at: Lba) -> Option<u8> {
     match request_of(report, request) {
-        Some(Request::Write {
-            at: there, block, ..
-        }) if there.0 == at.0 => byte_of(block),
+        Some(
+            Request::Write {
+                at: there,
+                block,
+                ..
+            },
+        ) if there.0 == at.0 => byte_of(block),
         _ => None,
     }
 }

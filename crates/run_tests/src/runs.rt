@@ -488,11 +488,7 @@ const BY_EVERY_SCHEDULE: [Case; 2] = [
     (
         Device::Fresh,
         b"0 write 5 4096*61\n1 read 1000\n",
-        (
-            b"0 0 write 5 ok z0:0\n1 0 read 1000 range\n",
-            0,
-            Calls::Any,
-        ),
+        (b"0 0 write 5 ok z0:0\n1 0 read 1000 range\n", 0, Calls::Any),
     ),
 ];
 

@@ -19,19 +19,9 @@ const PLANS: [Plan; 3] = [
             depth: 1,
         },
         streams: &[
-            &[
-                Ask::Write(5, 1),
-                Ask::Read(5),
-                Ask::Flush,
-                Ask::Read(900),
-            ],
+            &[Ask::Write(5, 1), Ask::Read(5), Ask::Flush, Ask::Read(900)],
             &[Ask::Write(5, 2), Ask::Write(900, 3), Ask::Read(5)],
-            &[
-                Ask::Read(5),
-                Ask::Write(900, 4),
-                Ask::Flush,
-                Ask::Read(900),
-            ],
+            &[Ask::Read(5), Ask::Write(900, 4), Ask::Flush, Ask::Read(900)],
             &[
                 Ask::Write(6, 5),
                 Ask::Read(6),

@@ -213,11 +213,7 @@ fn events_that_are_given(rt: HostRuntime) -> Result<(), Fail> {
 
 // How often `ready` and `step` differ where all events are tried one after another until the core is done, and how many
 // there was work for.
-fn count_differences<D: Disk>(
-    core: &mut Core,
-    events: &[Event],
-    device: &mut D,
-) -> (u32, u32)
+fn count_differences<D: Disk>(core: &mut Core, events: &[Event], device: &mut D) -> (u32, u32)
     requires { Fits core.old.sizes (D.seen device.old) }
     ensures { Fits core.new.sizes (D.seen device.new) }
 {
