@@ -1,0 +1,101 @@
+use crate::reading::reads;
+use blk_base::{Block, Pbn};
+use disk_model::{Disk, Failed};
+use file_disk::open_disk;
+use std::fs::{File, OpenFile};
+use std::io;
+use std::test::Fail;
+
+// A block of which each byte has another value than its neighbours, and which no other number gives.
+fn block_of(number: u8) -> Block {
+    let mut block = Block::zero();
+    for i in 0..4096_usize {
+        block.bytes[i] = ((i % 256) as u8).wrapping_mul(7).wrapping_add(number);
+    }
+    block
+}
+
+// How many bytes a file has.
+fn length_of(file: &File) -> io::Result<u64> {
+    Ok(OpenFile::metadata(file)?.len())
+}
+
+/// What was found wrong.
+#[derive(Debug, PartialEq, Eq, Clone, Copy)]
+enum Wrong {
+    System,
+    Call,
+    Behind,
+    Bytes,
+    Length(u64),
+    Faults,
+}
+
+impl From<io::Error> for Wrong {
+    fn from(_error: io::Error) -> Wrong {
+        Wrong::System
+    }
+}
+
+impl From<Failed> for Wrong {
+    fn from(_failed: Failed) -> Wrong {
+        Wrong::Call
+    }
+}
+
+const PATH: &str = "image";
+
+// A file that wasn't there gets its blocks 2 and 0, and reads as zeros behind its end.
+fn write_some(rt: &HostRuntime) -> Result<(), Wrong> {
+    let mut disk = open_disk(rt, PATH, 4)?;
+    if !reads(&mut disk, 3, &Block::zero()) {
+        return Err(Wrong::Behind);
+    }
+    disk.write(Pbn(2), &block_of(2))?;
+    disk.write(Pbn(0), &block_of(1))?;
+    disk.flush()?;
+    if disk.blocks() != 4 || disk.faults() != 0 {
+        return Err(Wrong::Faults);
+    }
+    let file = disk.into_file();
+    let length = length_of(&file)?;
+    if length != 3 * 4096 {
+        return Err(Wrong::Length(length));
+    }
+    Ok(())
+}
+
+// Opened again it has these blocks, zeros between them, and grows to its last block.
+fn find_them(rt: &HostRuntime) -> Result<(), Wrong> {
+    let mut disk = open_disk(rt, PATH, 4)?;
+    let found = [
+        reads(&mut disk, 0, &block_of(1)),
+        reads(&mut disk, 1, &Block::zero()),
+        reads(&mut disk, 2, &block_of(2)),
+        reads(&mut disk, 3, &Block::zero()),
+    ];
+    if found != [true; 4] {
+        return Err(Wrong::Bytes);
+    }
+    disk.write(Pbn(3), &block_of(3))?;
+    disk.flush()?;
+    let file = disk.into_file();
+    let length = length_of(&file)?;
+    if length != 4 * 4096 {
+        return Err(Wrong::Length(length));
+    }
+    Ok(())
+}
+
+#[test]
+fn a_file_keeps_its_blocks(rt: HostRuntime) -> Result<(), Fail> {
+    assert_eq!(rt; write_some(&rt), Ok(()));
+    assert_eq!(rt; find_them(&rt), Ok(()));
+    Ok(())
+}
+
+#[test]
+fn a_folder_is_no_device(rt: HostRuntime) -> Result<(), Fail> {
+    assert_eq!(rt; open_disk(&rt, ".", 4).is_err(), true);
+    Ok(())
+}
