@@ -1,7 +1,11 @@
-pub mod PlaceLaws
-pub mod SlabLaws
-pub mod ZoneLaws
 pub mod OpeningLaws
-pub mod CallLaws
-pub mod ClaimLaws
-pub mod Rows
+pub mod DueLaws
+pub mod LowLaws
+pub mod ShapeLaws
+pub mod KeptLaws
+pub mod SizeLaws
+pub mod SlabCallLaws
+pub mod CounterLaws
+pub mod RisingLaws
+pub mod WrittenLaws
+pub mod ZoneLaws
