@@ -9,3 +9,4 @@ pub mod CounterLaws
 pub mod RisingLaws
 pub mod WrittenLaws
 pub mod ZoneLaws
+pub mod OutLaws

@@ -1,4 +1,4 @@
-ghost use Rattle.std.specs.Prelude.{ℕ, ◌≡◌, ◌*◌, ◌/◌, ◌%◌, ◌<◌, ◌≤◌, List, length, take, drop, Contains};
+ghost use Rattle.std.specs.Prelude.{ℕ, ◌≡◌, ◌*◌, ◌/◌, ◌%◌, ◌<◌, ◌⊎◌, List, length, take, drop, Contains};
 ghost use Rattle.blk_base.specs.Counters.{sectors_per_slab};
 ghost use Rattle.blk_base.specs.Limits.{IsGeometry};
 ghost use Rattle.blk_base.specs.declared.geometry.Geometry.{Geometry};
@@ -37,14 +37,21 @@ pub fn every_receipt_is_right()
         → IsRight (counted_of calls) receipt }
 {}
 
-/// What `due` hands out and what is reported as durable are calls of such a list, and a block that is handed out is being
-/// written until it is reported.
+/// What `due` hands out and what is reported as durable are calls of such a list.
 pub fn written_blocks_are_calls()
     ensures due { (need : Need) (old new : WholeZone) (bytes : List ℕ) (work : SlabWork) → IsWhole old → IsDueIn need old new bytes work
         → (call : writes.Call) × HandsOut call bytes work × Does (Written work.slab call) old new }
     ensures durable { (old new : WholeZone) (work : SlabWork) → IsOutIn old work → SettlesIn old new work
         → (call : writes.Call) × Reports call work × Does (Written work.slab call) old new }
-    ensures out { (need : Need) (old new : WholeZone) (bytes : List ℕ) (work : SlabWork) → IsWhole old → IsDueIn need old new bytes work → IsOutIn new work }
+{}
+
+/// A block that is handed out wasn't being written before, and is from then on until its write is reported, whatever is called
+/// in between.
+pub fn a_block_is_out_until_it_is_reported()
+    ensures handed { (need : Need) (old new : WholeZone) (bytes : List ℕ) (work : SlabWork) → IsWhole old → IsDueIn need old new bytes work
+        → (¬ IsOutIn old work) × IsOutIn new work }
+    ensures kept { (call : Call) (old new : WholeZone) (work : SlabWork) → IsWhole old → IsOutIn old work → Does call old new
+        → IsOutIn new work ⊎ ((report : writes.Call) × (call ≡ Written work.slab report) × Reports report work) }
 {}
 
 /// Over every list of calls from an opened zone on, a journal block that is due has updates alone that these calls took of its

@@ -1,4 +1,4 @@
-use Rattle.slab_zone.proofs.WrittenLaws.{due_does, is_out, settle_does}
+use Rattle.slab_zone.proofs.WrittenLaws.{due_does, settle_does}
 use Rattle.slab_zone.proofs.laws.written_blocks_are_calls.Goals as goal
 
 pub returns-clause-due : goal.returns-clause-due
@@ -6,6 +6,3 @@ returns-clause-due c = due_does
 
 pub returns-clause-durable : goal.returns-clause-durable
 returns-clause-durable c = settle_does
-
-pub returns-clause-out : goal.returns-clause-out
-returns-clause-out c = is_out
