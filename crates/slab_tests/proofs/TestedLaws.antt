@@ -4,8 +4,8 @@ use Rattle.std.specs.List.{remove}
 use Rattle.std.proofs.Common.{sym, subst, get_or}
 use Rattle.slab_counts.specs.declared.tickets.Ticket.{Ticket}
 use Rattle.slab_tickets.specs.declared.forms.Withdrawn.{Withdrawn}
-use Rattle.slab_zone.specs.Zone.{Zone}
-use Rattle.slab_zone.specs.Asking.{WithdrawsFrom}
+use Rattle.zone_counts.specs.Zone.{Zone}
+use Rattle.zone_counts.specs.Asking.{WithdrawsFrom}
 use Rattle.slab_tests.specs.Out.{no_ticket}
 use Rattle.slab_tests.specs.Tested.{IsSecond}
 use Rattle.slab_tests.proofs.OutLaws.{out_withdrawn}

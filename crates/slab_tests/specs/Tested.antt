@@ -3,7 +3,7 @@ use Rattle.std.specs.Prelude.{ℕ, ◌≡◌, List}
 use Rattle.blk_base.specs.declared.geometry.Geometry.{Geometry}
 use Rattle.slab_counts.specs.declared.tickets.Ticket.{Ticket}
 use Rattle.slab_tests.specs.Out.{AreOut}
-use Rattle.slab_zone.specs.Zone.{Zone}
+use Rattle.zone_counts.specs.Zone.{Zone}
 
 -- eight slabs of 16 blocks
 abbrev pub two_zones : Geometry

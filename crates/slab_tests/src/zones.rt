@@ -1,6 +1,6 @@
 ghost use Rattle.std.specs.Prelude.{◌≡◌, ◌≤◌, ◌<◌, IsTrue, IfOk, OnOk};
 ghost use Rattle.blk_base.specs.Points.{half_of};
-ghost use Rattle.slab_zone.specs.Zone.{IsOf, IsOfZone, IsClaimedIn};
+ghost use Rattle.zone_counts.specs.Zone.{IsOf, IsOfZone, IsClaimedIn};
 ghost use Rattle.slab_tests.specs.Tested.{IsSecond, two_zones};
 
 use crate::images::{TWO_ZONES, image_of_two_zones};
@@ -8,9 +8,9 @@ use crate::plain_zone::{PlainAsked, PlainZone};
 use crate::tickets::{self, ASKER, Clock, worth_of};
 use blk_base::{Layout, Pbn, Point, Update};
 use slab_counts::{Claim, Refusal, Stray, Ticket};
-use slab_zone::{Asked, SlabZone};
 use std::alloc::{AllocError, Global};
 use std::test::Fail;
+use zone_counts::{Asked, ZoneCounts};
 
 // What a test holds of a zone: claims, tickets, and the blocks of the spent claims whose increment it owes.
 #[derive(Drop)]
@@ -46,11 +46,11 @@ impl Met {
 }
 
 // The second of two zones, in its first step, of which nothing is held.
-fn first_step(alloc: Global) -> Result<(SlabZone, Held), AllocError>
+fn first_step(alloc: Global) -> Result<(ZoneCounts, Held), AllocError>
     ensures { IfOk result (λ opened. IsSecond opened.0 opened.1.tickets.items opened.1.clock.issued opened.1.clock.step) }
 {
     let opened = image_of_two_zones(alloc)?;
-    let mut zone = SlabZone::new(alloc, 1, 2, 1, &opened)?;
+    let mut zone = ZoneCounts::new(alloc, 1, 2, 1, &opened)?;
     zone.begin_step(1);
     let held = Held {
         claims: Vec::new(alloc),
@@ -72,7 +72,7 @@ fn is_mine(at: Pbn) -> bool
 }
 
 // Whether it is a block of the zone, to which nothing is mapped, and on which there is a claim.
-fn is_claimed(zone: &SlabZone, held: &Held, at: Pbn) -> bool
+fn is_claimed(zone: &ZoneCounts, held: &Held, at: Pbn) -> bool
     requires { IsSecond zone.now held.now.tickets.items held.now.clock.issued held.now.clock.step }
     ensures { IsTrue result → IsClaimedIn zone.now at }
 {
@@ -80,7 +80,7 @@ fn is_claimed(zone: &SlabZone, held: &Held, at: Pbn) -> bool
 }
 
 // Begins a step.
-fn begin(zone: &mut SlabZone, plain: &mut PlainZone, held: &mut Held, number: u64) -> bool
+fn begin(zone: &mut ZoneCounts, plain: &mut PlainZone, held: &mut Held, number: u64) -> bool
     requires { IsSecond zone.old held.old.tickets.items held.old.clock.issued held.old.clock.step }
     ensures { IsSecond zone.new held.new.tickets.items held.new.clock.issued held.new.clock.step }
 {
@@ -95,7 +95,7 @@ fn begin(zone: &mut SlabZone, plain: &mut PlainZone, held: &mut Held, number: u6
 
 // Asks for a block, and tells whether both gave the same one, or the same ticket.
 fn ask(
-    zone: &mut SlabZone,
+    zone: &mut ZoneCounts,
     plain: &mut PlainZone,
     held: &mut Held,
     met: &mut Met,
@@ -125,7 +125,7 @@ fn ask(
 
 // Withdraws one of the tickets that are held, and tells whether both say that it is worth the same, and a receipt is right.
 fn withdraw(
-    zone: &mut SlabZone,
+    zone: &mut ZoneCounts,
     plain: &mut PlainZone,
     held: &mut Held,
     met: &mut Met,
@@ -146,7 +146,7 @@ fn withdraw(
 }
 
 // Shares a block; the claim is let go, and stays counted.
-fn share(zone: &mut SlabZone, plain: &mut PlainZone, held: &Held, met: &mut Met, at: u32) -> bool
+fn share(zone: &mut ZoneCounts, plain: &mut PlainZone, held: &Held, met: &mut Met, at: u32) -> bool
     requires { IsSecond zone.old held.now.tickets.items held.now.clock.issued held.now.clock.step }
     ensures { IsSecond zone.new held.now.tickets.items held.now.clock.issued held.now.clock.step }
 {
@@ -161,7 +161,7 @@ fn share(zone: &mut SlabZone, plain: &mut PlainZone, held: &Held, met: &mut Met,
 }
 
 // Extends the claim that came last.
-fn extend(zone: &mut SlabZone, plain: &mut PlainZone, held: &mut Held) -> Result<bool, AllocError>
+fn extend(zone: &mut ZoneCounts, plain: &mut PlainZone, held: &mut Held) -> Result<bool, AllocError>
     requires { IsSecond zone.old held.old.tickets.items held.old.clock.issued held.old.clock.step }
     ensures { OnOk result (IsSecond zone.new held.new.tickets.items held.new.clock.issued held.new.clock.step) }
 {
@@ -185,7 +185,7 @@ fn extend(zone: &mut SlabZone, plain: &mut PlainZone, held: &mut Held) -> Result
 }
 
 // Drops the claim that came last.
-fn drop_claim(zone: &mut SlabZone, plain: &mut PlainZone, held: &mut Held) -> bool
+fn drop_claim(zone: &mut ZoneCounts, plain: &mut PlainZone, held: &mut Held) -> bool
     requires { IsSecond zone.old held.old.tickets.items held.old.clock.issued held.old.clock.step }
     ensures { IsSecond zone.new held.new.tickets.items held.new.clock.issued held.new.clock.step }
 {
@@ -200,7 +200,7 @@ fn drop_claim(zone: &mut SlabZone, plain: &mut PlainZone, held: &mut Held) -> bo
 }
 
 // Spends the claim that came last.
-fn spend(zone: &mut SlabZone, held: &mut Held) -> Result<bool, AllocError>
+fn spend(zone: &mut ZoneCounts, held: &mut Held) -> Result<bool, AllocError>
     requires { IsSecond zone.old held.old.tickets.items held.old.clock.issued held.old.clock.step }
     ensures { OnOk result (IsSecond zone.new held.new.tickets.items held.new.clock.issued held.new.clock.step) }
 {
@@ -216,7 +216,7 @@ fn spend(zone: &mut SlabZone, held: &mut Held) -> Result<bool, AllocError>
 
 // Spends the claim that came last, for a tree page.
 fn spend_page(
-    zone: &mut SlabZone,
+    zone: &mut ZoneCounts,
     plain: &mut PlainZone,
     held: &mut Held,
 ) -> Result<bool, AllocError>
@@ -246,7 +246,7 @@ fn told(answer: Result<(), Stray>, wanted: Result<(), u32>, met: &mut Met) -> bo
 
 // Takes the increment of a block, or a decrement.
 fn apply(
-    zone: &mut SlabZone,
+    zone: &mut ZoneCounts,
     plain: &mut PlainZone,
     held: &Held,
     met: &mut Met,
@@ -272,7 +272,7 @@ fn apply(
 }
 
 // Whether both say the same of a block.
-fn look(zone: &SlabZone, plain: &PlainZone, held: &Held, at: Pbn) -> bool
+fn look(zone: &ZoneCounts, plain: &PlainZone, held: &Held, at: Pbn) -> bool
     requires { IsSecond zone.now held.now.tickets.items held.now.clock.issued held.now.clock.step }
 {
     is_mine(at) && (u32::from(zone.count(at)), zone.is_free(at)) == plain.look(at.0)
@@ -287,7 +287,7 @@ fn block_at(place: u32) -> Pbn
 
 // One call, which a number chooses, of both.
 fn step(
-    zone: &mut SlabZone,
+    zone: &mut ZoneCounts,
     plain: &mut PlainZone,
     held: &mut Held,
     met: &mut Met,
@@ -323,7 +323,7 @@ fn step(
 
 // How many of 600 calls both make alike before the first that they don't.
 fn count_alike(
-    zone: &mut SlabZone,
+    zone: &mut ZoneCounts,
     plain: &mut PlainZone,
     held: &mut Held,
     met: &mut Met,

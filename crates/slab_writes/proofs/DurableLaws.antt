@@ -17,7 +17,7 @@ use Rattle.reference_blocks.specs.Updates.{AreRising}
 use Rattle.slab_codec.specs.declared.forms.SlabEntry.{SlabEntry}
 use Rattle.slab_codec.specs.declared.forms.SlabJournalBlock.{SlabJournalBlock}
 use Rattle.slab_journal.specs.Slab.{Slab, next_slot, IsCovered, IsWriting}
-use Rattle.slab_journal.specs.Unsettled.{sealed_block, IsWaiting, IsLowPoint, NoneUnsettled}
+use Rattle.slab_journal.specs.Unsettled.{sealed_block, IsWaiting, IsUnsettled, IsLowPoint, NoneUnsettled}
 use Rattle.slab_journal.specs.Slab as journals
 use Rattle.slab_writes.specs.Writes.{Writes, opening, Raises}
 use Rattle.slab_writes.specs.Calls.{Call, Taken, JournalOut, ReferenceOut, JournalDurable, ReferenceDurable, LeadTo, IsInJournal, IsInReference, IsDurable, updates_of}
@@ -369,17 +369,19 @@ durable_or_unsettled g points calls log x is taken unsettled = elim (is.stays x 
   ]
 ]
 
+-- an update that isn't unsettled is durable
+pub settled_is_durable : (g : Geometry) (slab : ℕ) (commits : List Point) (calls : List Call) (new : Writes) (x : SlabEntry) → IsGeometry g → length (points_of g slab commits) ≡ sectors_per_slab g
+    → LeadTo (opening g slab commits) calls new → AreRising g (points_of g slab commits) (updates_of calls) → Contains (updates_of calls) x → ¬ IsUnsettled new.journal x → IsDurable g calls x
+settled_is_durable g slab commits calls new x sizes size lead rising taken settled =
+    let log = (known g slab commits calls new sizes size lead rising).journal in
+    durable_or_unsettled g (points_of g slab commits) calls new.journal x log taken (λ uncovered waits.
+    absurd (settled (waits, subst (λ (h : Geometry). ¬ IsCovered h new.journal.commits x) (sym log.geometry) uncovered)))
+
 pub below_low : (g : Geometry) (slab : ℕ) (commits : List Point) (calls : List Call) (new : Writes) (x : SlabEntry) (low : Point) → IsGeometry g → length (points_of g slab commits) ≡ sectors_per_slab g
     → LeadTo (opening g slab commits) calls new → AreRising g (points_of g slab commits) (updates_of calls) → Contains (updates_of calls) x → IsLowPoint new.journal low → x.point.0 < low.0 → IsDurable g calls x
 below_low g slab commits calls new x low sizes size lead rising taken is below =
-    let log = (known g slab commits calls new sizes size lead rising).journal in
-    durable_or_unsettled g (points_of g slab commits) calls new.journal x log taken (λ uncovered waits.
-    let here = subst (λ (h : Geometry). ¬ IsCovered h new.journal.commits x) (sym log.geometry) uncovered in
-    absurd (omega (arith, below, is.least x (waits, here))))
+    settled_is_durable g slab commits calls new x sizes size lead rising taken (λ unsettled. omega (arith, below, is.least x unsettled))
 
 pub none_left : (g : Geometry) (slab : ℕ) (commits : List Point) (calls : List Call) (new : Writes) (x : SlabEntry) → IsGeometry g → length (points_of g slab commits) ≡ sectors_per_slab g
     → LeadTo (opening g slab commits) calls new → AreRising g (points_of g slab commits) (updates_of calls) → Contains (updates_of calls) x → NoneUnsettled new.journal → IsDurable g calls x
-none_left g slab commits calls new x sizes size lead rising taken none =
-    let log = (known g slab commits calls new sizes size lead rising).journal in
-    durable_or_unsettled g (points_of g slab commits) calls new.journal x log taken (λ uncovered waits.
-    absurd (none x (waits, subst (λ (h : Geometry). ¬ IsCovered h new.journal.commits x) (sym log.geometry) uncovered)))
+none_left g slab commits calls new x sizes size lead rising taken none = settled_is_durable g slab commits calls new x sizes size lead rising taken (none x)

@@ -1,5 +1,5 @@
 -- A block that is handed out is being written until that is reported.
-use Rattle.std.specs.Prelude.{ℕ, ◌≡◌, ◌+◌, ◌<◌, List}
+use Rattle.std.specs.Prelude.{ℕ, ◌≡◌, List}
 use Rattle.std.proofs.Common.{sym, ◌∙◌, ap, subst, arith, inl, inr, get_or-set_same}
 use Rattle.dirty_pages.specs.declared.marks.Marks.{Marks}
 use Rattle.dirty_pages.specs.Marks.{clean, handed_out, marks_at}

@@ -1,74 +1,48 @@
--- The slabs of a zone, as an image is opened.
-use Rattle.std.specs.Prelude.{ℕ, ◌≡◌, ◌+◌, ◌-◌, ◌*◌, ◌/◌, ◌%◌, ◌<◌, ◌≤◌, List, [], ◌∷◌, ◌++◌, length, position, not}
-use Rattle.std.proofs.Common.{length-append}
-use Rattle.slab_tickets.specs.Tickets.{is_served}
-use Rattle.std.proofs.Common.{sym, ◌∙◌, ap, subst, arith, inl, inr}
-use Rattle.std.proofs.lemmas.Bool.{cases_eq, cases_lt}
+-- What is to be written of the slabs of a zone, as an image is opened.
+use Rattle.std.specs.Prelude.{ℕ, ◌≡◌, ◌+◌, ◌*◌, List, [], ◌∷◌, ◌++◌, length}
+use Rattle.std.proofs.Common.{sym, ◌∙◌, ap, arith, inl, inr, length-append}
+use Rattle.std.proofs.lemmas.Bool.{cases_lt}
 use Rattle.std.proofs.lemmas.List.{get_or_append_left}
 use Rattle.std.proofs.Math.Seq.{get_or-append_seam}
-use Rattle.blk_base.specs.Limits.{IsGeometry}
 use Rattle.blk_base.specs.declared.geometry.Geometry.{Geometry}
-use Rattle.blk_base.specs.declared.place.Pbn.{Pbn}
-use Rattle.slab_counts.specs.Counts.{Counts, IsOpening}
-use Rattle.slab_counts.specs.Kept.{IsWithin}
-use Rattle.slab_tickets.specs.Tickets.{Desk, empty_desk}
-use Rattle.slab_zone.specs.Zone.{IsZone, AreOpened, nowhere, slab_at, slabs_of_zone}
-
--- there are few zones
-few : (P : ℕ → Type 0) (zones : ℕ) → 0 < zones → zones ≤ 4 → P 1 → P 2 → P 3 → P 4 → P zones
-few P zones some most one two three four =
-    elim (cases_eq zones 1) [
-      | inl is ↦ subst P (sym is) one
-      | inr not_one ↦ elim (cases_eq zones 2) [
-        | inl is ↦ subst P (sym is) two
-        | inr not_two ↦ elim (cases_eq zones 3) [
-          | inl is ↦ subst P (sym is) three
-          | inr not_three ↦ subst P (let is : 4 ≡ zones = omega (arith, some, most, not_one, not_two, not_three) in is) four
-        ]
-      ]
-    ]
-
-pub slab_inside : (slabs zone zones k : ℕ) → zones ≤ 4 → zone < zones → k < (slabs + zones - 1 - zone) / zones → k * zones + zone < slabs
-slab_inside slabs zone zones k most =
-    λ below. few (λ n. zone < n → k < (slabs + n - 1 - zone) / n → k * n + zone < slabs) zones (omega (arith, below)) most (λ b i. omega arith) (λ b i. omega arith) (λ b i. omega arith) (λ b i. omega arith) below
-
-pub slab_counted : (slabs zone zones n : ℕ) → zones ≤ 4 → zone < zones → n < slabs → n % zones ≡ zone → n / zones < (slabs + zones - 1 - zone) / zones
-slab_counted slabs zone zones n most below =
-    few (λ m. zone < m → n < slabs → n % m ≡ zone → n / m < (slabs + m - 1 - zone) / m) zones (omega (arith, below)) most
-    (λ b i o. omega arith) (λ b i o. omega arith) (λ b i o. omega arith) (λ b i o. omega arith) below
+use Rattle.blk_base.specs.declared.point.Point.{Point}
+use Rattle.slab_writes.specs.Writes.{Writes, opening}
+use Rattle.zone_counts.specs.Zone.{IsZone, slabs_of_zone}
+use Rattle.slab_zone.specs.Whole.{WholeZone, IsWhole, AreOpenedWrites, nothing, writes_at}
 
 -- one more slab was opened
-pub opened_more : (g : Geometry) (zone zones : ℕ) (all : List ℕ) (pages : List Pbn) (count : ℕ) (slabs : List Counts) (c : Counts) → AreOpened g zone zones all pages count slabs
-    → IsOpening g (count * zones + zone) all pages c → IsWithin c → AreOpened g zone zones all pages (count + 1) (slabs ++ c ∷ [])
-opened_more g zone zones all pages count slabs c are is within = record {
-  length_is = omega (arith, are.length_is, length-append {A = Counts} slabs (c ∷ []));
+pub opened_more : (g : Geometry) (zone zones : ℕ) (commits : List Point) (count : ℕ) (writes : List Writes) (w : Writes) → AreOpenedWrites g zone zones commits count writes
+    → w ≡ opening g (count * zones + zone) commits → AreOpenedWrites g zone zones commits (count + 1) (writes ++ w ∷ [])
+opened_more g zone zones commits count writes w are is = record {
+  many = omega (arith, are.many, length-append {A = Writes} writes (w ∷ []));
   each = λ k below. elim (cases_lt k count) [
     | inl early ↦
-        let same : slab_at (slabs ++ c ∷ []) k ≡ slab_at slabs k = get_or_append_left slabs (c ∷ []) nowhere k (omega (arith, early, are.length_is)) in
-        let old = are.each k early in
-        (subst (λ (x : Counts). IsOpening g (k * zones + zone) all pages x) (sym same) old.0, subst (λ (x : Counts). IsWithin x) (sym same) old.1)
+        let same : writes_at (writes ++ w ∷ []) k ≡ writes_at writes k = get_or_append_left writes (w ∷ []) nothing k (omega (arith, early, are.many)) in
+        same ∙ are.each k early
     | inr past ↦
         let last : k ≡ count = omega (arith, below, past) in
-        let place : count ≡ length slabs = sym are.length_is in
-        let same : slab_at (slabs ++ c ∷ []) k ≡ c = ap (λ (n : ℕ). slab_at (slabs ++ c ∷ []) n) (last ∙ place) ∙ get_or-append_seam slabs c [] nowhere in (
-          subst (λ (x : Counts). IsOpening g (k * zones + zone) all pages x) (sym same) (subst (λ (n : ℕ). IsOpening g (n * zones + zone) all pages c) (sym last) is),
-          subst (λ (x : Counts). IsWithin x) (sym same) within,
-        )
+        let place : count ≡ length writes = sym are.many in
+        ap (λ (n : ℕ). writes_at (writes ++ w ∷ []) n) (last ∙ place) ∙ get_or-append_seam writes w [] nothing ∙ is ∙ ap (λ (n : ℕ). opening g (n * zones + zone) commits) (sym last)
   ];
 }
 
-pub opened_none : (g : Geometry) (zone zones : ℕ) (all : List ℕ) (pages : List Pbn) (slabs : List Counts) → slabs ≡ [] → AreOpened g zone zones all pages 0 slabs
-opened_none g zone zones all pages slabs none = record { length_is = ap (λ (xs : List Counts). length xs) none; each = λ k below. absurd (omega (arith, below)) }
+pub opened_none : (g : Geometry) (zone zones : ℕ) (commits : List Point) (writes : List Writes) → writes ≡ [] → AreOpenedWrites g zone zones commits 0 writes
+opened_none g zone zones commits writes none = record { many = ap (λ (ws : List Writes). length ws) none; each = λ k below. absurd (omega (arith, below)) }
 
-pub opened_zone : (g : Geometry) (zone zones room : ℕ) (all : List ℕ) (pages : List Pbn) (slabs : List Counts) (desk : Desk) → IsGeometry g → zones ≤ 4 → zone < zones
-    → AreOpened g zone zones all pages (slabs_of_zone g zone zones) slabs → desk ≡ empty_desk zone room → IsZone (record { geometry = g; zone = zone; zones = zones; slabs = slabs; desk = desk })
-opened_zone g zone zones room all pages slabs desk sizes most below are is = record {
-  slabs = record {
-    sizes = sizes;
-    number = below;
-    all = λ n inside own. omega (arith, slab_counted g.slabs zone zones n most below inside own, are.length_is);
-    each = λ k inside. let one = are.each k (omega (arith, inside, are.length_is)) in (one.0.slab, one.0.geometry, one.1);
+pub opened_whole : (g : Geometry) (zone zones room : ℕ) (all : List ℕ) (commits : List Point) (z : WholeZone) → IsZone z.counts → z.counts.geometry ≡ g → z.counts.zone ≡ zone → z.counts.zones ≡ zones
+    → length z.counts.slabs ≡ slabs_of_zone g zone zones → AreOpenedWrites g zone zones commits (slabs_of_zone g zone zones) z.writes → IsWhole z
+opened_whole g zone zones room all commits z is same number many count opened = record {
+  counts = is;
+  writes = record {
+    many = opened.many ∙ sym count;
+    each = λ k below.
+        let one = opened.each k (omega (arith, below, count)) in
+        let here : k * zones + zone ≡ k * z.counts.zones + z.counts.zone
+        = ap (λ (n : ℕ). k * n + zone) (sym many) ∙ ap (λ (n : ℕ). k * z.counts.zones + n) (sym number) in
+        record {
+          journal = ap (λ (w : Writes). w.journal.geometry) one ∙ sym same;
+          slab = ap (λ (w : Writes). w.journal.slab) one ∙ here;
+          blocks = ap (λ (w : Writes). w.blocks.geometry) one ∙ sym same;
+        };
   };
-  desk = ap (λ (d : Desk). d.zone) is;
-  settled = inl (ap (λ (d : Desk). position (λ w. not (is_served w)) d.out) is);
 }

@@ -1,182 +1,162 @@
--- What the calls of a zone keep.
-use Rattle.std.specs.Prelude.{ℕ, ◌≡◌, ◌≢◌, ◌+◌, ◌*◌, ◌<◌, min, List, length, Option, None, Some, Bool, false, not, All, position, ◌==◌}
-use Rattle.std.specs.List.{remove}
-use Rattle.std.proofs.Common.{sym, ◌∙◌, ap, subst, arith, inl, inr, refl, get_or, set, get_or-set_same, get_or-set_other}
-use Rattle.std.proofs.lemmas.Bool.{cases_eq, false≢true}
-use Rattle.std.proofs.lemmas.List.Quantifiers.{position-Some}
-use Rattle.std.proofs.lemmas.List.{length-set, get_or_default}
+-- What a zone hands out after its calls, what is durable, and that its receipts are right.
+use Rattle.std.specs.Prelude.{ℕ, ◌≡◌, ◌*◌, ◌/◌, ◌%◌, ◌<◌, List, [], length, take, drop, Contains}
+use Rattle.std.proofs.Common.{sym, ◌∙◌, ap, subst, arith, inl, inr, refl}
+use Rattle.blk_base.specs.Counters.{sectors_per_slab}
+use Rattle.blk_base.specs.Limits.{IsGeometry}
 use Rattle.blk_base.specs.declared.geometry.Geometry.{Geometry}
 use Rattle.blk_base.specs.declared.place.Pbn.{Pbn}
-use Rattle.slab_counts.specs.Counts.{Counts, IsOfSlab, IsFree, HasNoFree, ClaimsFree}
-use Rattle.slab_counts.specs.Kept.{IsWithin}
-use Rattle.slab_counts.specs.Calls.{FreeClaimed}
-use Rattle.plain_laws.proofs.FirstLaws.{find-nowhere, find-none, remove-position, All-but_first}
+use Rattle.blk_base.specs.declared.point.Point.{Point}
+use Rattle.reference_blocks.specs.References.{HandsOutBlock, points_of, sectors_of}
+use Rattle.reference_blocks.specs.Updates.{AreRising, counters_after, up_to}
+use Rattle.slab_codec.specs.Reference.{reference_bytes}
+use Rattle.slab_codec.specs.Spelling.{block_bytes}
+use Rattle.slab_codec.specs.declared.forms.SlabEntry.{SlabEntry}
+use Rattle.slab_codec.specs.declared.forms.SlabJournalBlock.{SlabJournalBlock}
 use Rattle.slab_counts.specs.declared.tickets.Ticket.{Ticket}
-use Rattle.slab_tickets.specs.declared.forms.Waiting.{Waiting}
-use Rattle.slab_tickets.specs.declared.forms.Withdrawn.{Withdrawn}
-use Rattle.slab_tickets.specs.Tickets.{Desk, Withdraws, is_served}
-use Rattle.slab_zone.specs.Zone.{Zone, IsZone, nowhere, slab_at, AreSlabs, NoneBefore, NoneFree, ClaimsLowest, Serves, IsSettled}
-use Rattle.slab_zone.proofs.SlabLaws.{IsStill, IsBusier, still, none_left}
+use Rattle.slab_counts.specs.declared.tickets.Receipt.{Receipt}
+use Rattle.slab_journal.specs.Unsettled.{IsUnsettled}
+use Rattle.slab_tickets.specs.Tickets.{empty_desk}
+use Rattle.slab_tickets.specs.declared.forms.Withdrawn.TheVariants.{Nothing}
+use Rattle.slab_writes.specs.Calls as writes
+use Rattle.slab_writes.specs.Due.{IsDue}
+use Rattle.slab_writes.specs.Writes.{Writes, opening}
+use Rattle.slab_writes.specs.declared.forms.Need.{Need}
+use Rattle.slab_writes.specs.declared.forms.SlabPart.TheVariants as part
+use Rattle.slab_writes.specs.declared.forms.SlabWork.{SlabWork}
+use Rattle.slab_writes.proofs.CallLaws.{filling_taken, reference_says}
+use Rattle.slab_writes.proofs.DurableLaws.{settled_is_durable}
+use Rattle.zone_counts.specs.Asking.{WithdrawsFrom}
+use Rattle.zone_counts.specs.Calls.{IsRight}
+use Rattle.zone_counts.specs.Zone.{slab_at}
+use Rattle.zone_counts.proofs.CallLaws.{zone_receipt}
+use Rattle.slab_zone.specs.Whole.{WholeZone, IsWhole, IsOpeningWhole, writes_at}
+use Rattle.slab_zone.specs.Writing.{IsDueIn, IsLowPointIn, NoneUnsettledIn}
+use Rattle.slab_zone.specs.Calls.{Call, LeadTo, AreAbove, IsDurableIn, calls_of, counted_of, updates_in}
+use Rattle.slab_zone.proofs.SizeLaws.{HasSizes, counted_lead, sizes_after, number_again, calls_whole}
+use Rattle.slab_zone.proofs.SlabCallLaws.{slab_lead, stands}
+use Rattle.slab_zone.proofs.CounterLaws.{counters_are}
+use Rattle.slab_zone.proofs.RisingLaws.{are_rising, points_many}
+use Rattle.slab_zone.proofs.WrittenLaws.{place, below, own}
 
-module _ (slabs : List Counts) (k : ℕ) (c : Counts) (inside : k < length slabs) where
-  here : slab_at (set slabs k c) k ≡ c
-  here = get_or-set_same slabs k c nowhere inside
+pub whole_receipt : (first old new : WholeZone) (room : ℕ) (calls : List Call) (ticket : Ticket) (receipt : Receipt) → IsWhole first → first.counts.desk ≡ empty_desk first.counts.zone room → LeadTo first calls old
+    → WithdrawsFrom old.counts new.counts ticket (Nothing receipt) → IsRight (counted_of calls) receipt
+whole_receipt first old new room calls ticket receipt is opened lead did =
+    zone_receipt first.counts old.counts new.counts room (counted_of calls) ticket receipt is.counts opened (counted_lead first old calls lead) did
 
-  other : (j : ℕ) → j ≢ k → slab_at (set slabs k c) j ≡ slab_at slabs j
-  other j differs = get_or-set_other slabs k j c nowhere differs
+-- a due block, by what it is
+pub journal_due : (need : Need) (old new : Writes) (counters bytes : List ℕ) (work : SlabWork) → IsDue need old new counters bytes work → work.part ≡ part.Journal
+    → (entries : List SlabEntry) × (bytes ≡ block_bytes old.journal.geometry.nonce work.number work.slab entries) × (entries ≡ old.journal.filling)
+journal_due need old new counters bytes work (inl journal) is =
+    let did = journal.1 in
+    let says = did.seals.records in (
+      did.block.entries,
+      did.says ∙ ap (λ (b : SlabJournalBlock). block_bytes b.nonce b.sequence b.slab did.block.entries) says
+          ∙ ap (λ (n : ℕ). block_bytes old.journal.geometry.nonce n old.journal.slab did.block.entries) (sym did.number)
+          ∙ ap (λ (n : ℕ). block_bytes old.journal.geometry.nonce work.number n did.block.entries) (sym did.slab),
+      ap (λ (b : SlabJournalBlock). b.entries) says,
+    )
+journal_due need old new counters bytes work (inr reference) is = let no : part.References ≡ part.Journal = sym reference.1.part ∙ is in cc
 
-  pub slabs_set : (g : Geometry) (zone zones : ℕ) → AreSlabs g zone zones slabs → IsStill (slab_at slabs k) c → AreSlabs g zone zones (set slabs k c)
-  slabs_set g zone zones are is = record {
-    sizes = are.sizes;
-    number = are.number;
-    all = λ n below own. omega (arith, are.all n below own, length-set slabs k c);
-    each = λ j below.
-        let below' : j < length slabs = omega (arith, below, length-set slabs k c) in
-        let old = are.each j below' in
-        elim (cases_eq j k) [
-          | inl same ↦
-              let at_k = are.each k inside in
-              let now : slab_at (set slabs k c) j ≡ c = ap (λ (n : ℕ). slab_at (set slabs k c) n) same ∙ here in (
-                ap (λ (x : Counts). x.slab) now ∙ is.slab ∙ at_k.0 ∙ ap (λ (n : ℕ). n * zones + zone) (sym same),
-                ap (λ (x : Counts). x.geometry) now ∙ is.geometry ∙ at_k.1,
-                subst (λ (x : Counts). IsWithin x) (sym now) is.within,
-              )
-          | inr differs ↦
-              let now = other j differs in
-              (ap (λ (x : Counts). x.slab) now ∙ old.0, ap (λ (x : Counts). x.geometry) now ∙ old.1, subst (λ (x : Counts). IsWithin x) (sym now) old.2)
-        ];
-  }
+pub reference_due : (need : Need) (old new : Writes) (counters bytes : List ℕ) (work : SlabWork) → IsDue need old new counters bytes work → work.part ≡ part.References
+    → HandsOutBlock old.blocks new.blocks counters bytes work.number
+reference_due need old new counters bytes work (inl journal) is = let no : part.Journal ≡ part.References = sym journal.1.part ∙ is in cc
+reference_due need old new counters bytes work (inr reference) is = reference.1.hands_out
 
-  pub before_set : (mark : ℕ) → NoneBefore slabs mark → NoneBefore (set slabs k c) (min mark k)
-  before_set mark none j below =
-      let differs : j ≢ k = λ same. omega (arith, below, same) in
-      subst (λ (x : Counts). HasNoFree x) (sym (other j differs)) (none j (omega (arith, below)))
+module _ (g : Geometry) (zone zones room : ℕ) (all : List ℕ) (commits : List Point) (tree_pages : List Pbn) (first : WholeZone) (opened : IsOpeningWhole g zone zones room all commits tree_pages first) (is : IsWhole first) where
+  has : HasSizes g zone zones first.counts
+  has = record { geometry = opened.counts.geometry; zone = opened.counts.zone; zones = opened.counts.zones }
 
-  pub before_kept : (mark : ℕ) → (HasNoFree (slab_at slabs k) → HasNoFree c) → NoneBefore slabs mark → NoneBefore (set slabs k c) mark
-  before_kept mark keeps none j below = elim (cases_eq j k) [
-    | inl same ↦
-        subst (λ (x : Counts). HasNoFree x) (sym (ap (λ (n : ℕ). slab_at (set slabs k c) n) same ∙ here))
-        (keeps (subst (λ (n : ℕ). HasNoFree (slab_at slabs n)) same (none j below)))
-    | inr differs ↦ subst (λ (x : Counts). HasNoFree x) (sym (other j differs)) (none j below)
-  ]
+  sizes : IsGeometry g
+  sizes = subst (λ (h : Geometry). IsGeometry h) opened.counts.geometry is.counts.slabs.sizes
 
-  pub free_kept : (HasNoFree (slab_at slabs k) → HasNoFree c) → NoneFree slabs → NoneFree (set slabs k c)
-  free_kept keeps none j below =
-      let below' : j < length slabs = omega (arith, below, length-set slabs k c) in
-      elim (cases_eq j k) [
-        | inl same ↦
-            subst (λ (x : Counts). HasNoFree x) (sym (ap (λ (n : ℕ). slab_at (set slabs k c) n) same ∙ here))
-            (keeps (subst (λ (n : ℕ). HasNoFree (slab_at slabs n)) same (none j below')))
-        | inr differs ↦ subst (λ (x : Counts). HasNoFree x) (sym (other j differs)) (none j below')
-      ]
+  module _ (n : ℕ) (inside : n < g.slabs) (mine : n % zones ≡ zone) where
+    counted : n / zones < length first.writes
+    counted = stands g zone zones first has is n inside mine first [] refl
 
-  pub settled_kept : (desk : Desk) → (HasNoFree (slab_at slabs k) → HasNoFree c) → IsSettled slabs desk → IsSettled (set slabs k c) desk
-  settled_kept desk keeps settled = elim settled [ inl served ↦ inl served | inr none ↦ inr (free_kept keeps none) ]
+    opens : writes_at first.writes (n / zones) ≡ opening g n commits
+    opens =
+        opened.writes.each (n / zones) (omega (arith, counted, opened.writes.many)) ∙ ap (λ (m : ℕ). opening g m commits) (number_again n zone zones mine)
 
-  -- the slab's one free block goes to the oldest ticket that waits
-  pub settled_again : (desk : Desk) (slabs' : List Counts) (desk' : Desk) (at : Pbn) → IsWithin c → (HasNoFree (slab_at slabs k) → (b : Pbn) → IsOfSlab c b → IsFree c b → b.0 ≡ at.0)
-      → IsSettled slabs desk → Serves (set slabs k c) desk slabs' desk' → IsSettled slabs' desk'
-  settled_again desk slabs' desk' at within only settled (inl (quiet, same, same')) = rw (same, same') quiet
-  settled_again desk slabs' desk' at within only (inl served) (inr serves) = let is = serves.gives.oldest in cc
-  settled_again desk slabs' desk' at within only (inr none) (inr serves) =
-      let claims = serves.claims in
-      let mid = set slabs k c in
-      let p = claims.place in
-      let inside_p : p < length slabs = omega (arith, claims.inside, length-set slabs k c) in
-      let at_k : p ≡ k = elim (cases_eq p k) [
-        | inl same ↦ same
-        | inr differs ↦ absurd (subst (λ (x : Counts). HasNoFree x) (sym (other p differs)) (none p inside_p) serves.block claims.claims.of_slab claims.claims.free)
-      ] in
-      let found : ClaimsFree c claims.slab serves.block
-      = subst (λ (x : Counts). ClaimsFree x claims.slab serves.block) (ap (λ (n : ℕ). slab_at mid n) at_k ∙ here) claims.claims in
-      let left = none_left c claims.slab at serves.block within (only (none k inside)) found in
-      inr (subst (λ (xs : List Counts). NoneFree xs) (sym claims.after) (λ j below.
-      elim (cases_eq j p) [
-        | inl same ↦
-            subst (λ (x : Counts). HasNoFree x) (sym (ap (λ (n : ℕ). slab_at (set mid p claims.slab) n) same ∙ get_or-set_same mid p claims.slab nowhere claims.inside)) left
-        | inr differs ↦
-            let below' : j < length slabs = omega (arith, below, length-set mid p claims.slab, length-set slabs k c) in
-            let not_k : j ≢ k = λ same. differs (omega (arith, same, at_k)) in
-            subst (λ (x : Counts). HasNoFree x) (sym (get_or-set_other mid p j claims.slab nowhere differs ∙ other j not_k)) (none j below')
-      ]))
+    counters : (slab_at first.counts.slabs (n / zones)).counters ≡ take g.slab_blocks (drop (n * g.slab_blocks) all)
+    counters =
+        let there : n / zones < length first.counts.slabs = omega (arith, counted, is.writes.many) in
+        (opened.counts.slabs.each (n / zones) (omega (arith, there, opened.counts.slabs.length_is))).0.counters
+        ∙ ap (λ (m : ℕ). take g.slab_blocks (drop (m * g.slab_blocks) all)) (number_again n zone zones mine)
 
-pub slabs_claimed : (g : Geometry) (zone zones : ℕ) (slabs slabs' : List Counts) (at : Pbn) → AreSlabs g zone zones slabs → ClaimsLowest slabs slabs' at → AreSlabs g zone zones slabs'
-slabs_claimed g zone zones slabs slabs' at are claims =
-    subst (λ (xs : List Counts). AreSlabs g zone zones xs) (sym claims.after)
-    (slabs_set slabs claims.place claims.slab claims.inside g zone zones are (still (FreeClaimed at) _ claims.slab (are.each claims.place claims.inside).2 claims.claims))
+    pub leads : (z : WholeZone) (calls : List Call) → LeadTo first calls z → writes.LeadTo (opening g n commits) (calls_of g n calls) (writes_at z.writes (n / zones))
+    leads z calls lead =
+        subst (λ (w : Writes). writes.LeadTo w (calls_of g n calls) (writes_at z.writes (n / zones))) opens (slab_lead g zone zones first has is n inside mine z calls lead)
 
-pub slabs_served : (g : Geometry) (zone zones : ℕ) (slabs : List Counts) (desk : Desk) (slabs' : List Counts) (desk' : Desk) → AreSlabs g zone zones slabs → Serves slabs desk slabs' desk' → AreSlabs g zone zones slabs'
-slabs_served g zone zones slabs desk slabs' desk' are (inl (quiet, same, same')) = rw same are
-slabs_served g zone zones slabs desk slabs' desk' are (inr serves) = slabs_claimed g zone zones slabs slabs' serves.block are serves.claims
+    pub rising : (z : WholeZone) (calls : List Call) → LeadTo first calls z → AreAbove g (points_of g n commits) (updates_in g n calls) → AreRising g (points_of g n commits) (updates_in g n calls)
+    rising z calls lead above = are_rising g (points_of g n commits) (opening g n commits) (calls_of g n calls) (writes_at z.writes (n / zones)) (leads z calls lead) above
 
-pub desk_served : (slabs : List Counts) (desk : Desk) (slabs' : List Counts) (desk' : Desk) → Serves slabs desk slabs' desk' → desk'.zone ≡ desk.zone
-desk_served slabs desk slabs' desk' (inl (quiet, same, same')) = ap (λ (d : Desk). d.zone) same'
-desk_served slabs desk slabs' desk' (inr serves) = ap (λ (d : Desk). d.zone) serves.gives.after
+    pub counters_now : (z : WholeZone) (calls : List Call) → LeadTo first calls z
+        → (slab_at z.counts.slabs (n / zones)).counters ≡ counters_after (take g.slab_blocks (drop (n * g.slab_blocks) all)) (updates_in g n calls)
+    counters_now z calls lead =
+        counters_are g zone zones first has is n inside mine z calls lead ∙ ap (λ (cs : List ℕ). counters_after cs (updates_in g n calls)) counters
 
--- what is kept of a zone where one slab got busier: the old slab is as it was read
-module _ (z : Zone) (mark k : ℕ) (s c : Counts) (is : IsZone z) (below : NoneBefore z.slabs mark) (inside : k < length z.slabs) (read : s ≡ get_or z.slabs k s) where
-  pub read_as : s ≡ slab_at z.slabs k
-  read_as = read ∙ get_or_default z.slabs k s nowhere inside
+    -- an update that isn't unsettled is durable
+    pub durable : (z : WholeZone) (calls : List Call) (entry : SlabEntry) → length commits ≡ g.slabs * sectors_per_slab g → LeadTo first calls z → AreAbove g (points_of g n commits) (updates_in g n calls)
+        → Contains (updates_in g n calls) entry → ¬ IsUnsettled (writes_at z.writes (n / zones)).journal entry → IsDurableIn g n calls entry
+    durable z calls entry many lead above there settled =
+        settled_is_durable g n commits (calls_of g n calls) (writes_at z.writes (n / zones)) entry sizes (points_many g n commits many inside) (leads z calls lead) (rising z calls lead above) there settled
 
-  pub within_read : IsWithin s
-  within_read = subst (λ (x : Counts). IsWithin x) (sym read_as) (is.slabs.each k inside).2
+  -- the slab of a due block is of the zone
+  module _ (need : Need) (old new : WholeZone) (calls : List Call) (bytes : List ℕ) (work : SlabWork) (lead : LeadTo first calls old) (did : IsDueIn need old new bytes work) where
+    whole : IsWhole old
+    whole = calls_whole first old calls is lead
 
-  pub busier : IsBusier s c → IsZone (record z { slabs = set z.slabs k c }) × NoneBefore (set z.slabs k c) mark
-  busier change =
-      let change' : IsBusier (slab_at z.slabs k) c = subst (λ (x : Counts). IsBusier x c) read_as change in (
-        record {
-          slabs = slabs_set z.slabs k c inside z.geometry z.zone z.zones is.slabs change'.still;
-          desk = is.desk;
-          settled = settled_kept z.slabs k c inside z.desk change'.keeps is.settled;
-        },
-        before_kept z.slabs k c inside mark change'.keeps below,
-      )
+    now : HasSizes g zone zones old.counts
+    now = sizes_after g zone zones first old calls has lead
 
-  -- and where a block may have become free, and the oldest ticket was served
-  pub served : (slabs' : List Counts) (desk' : Desk) (at : Pbn) → IsStill s c → (HasNoFree s → (b : Pbn) → IsOfSlab c b → IsFree c b → b.0 ≡ at.0)
-      → Serves (set z.slabs k c) z.desk slabs' desk' → IsZone (record z { slabs = slabs'; desk = desk' })
-  served slabs' desk' at change only serves = record {
-    slabs = slabs_served z.geometry z.zone z.zones (set z.slabs k c) z.desk slabs' desk'
-        (slabs_set z.slabs k c inside z.geometry z.zone z.zones is.slabs (subst (λ (x : Counts). IsStill x c) read_as change)) serves;
-    desk = desk_served (set z.slabs k c) z.desk slabs' desk' serves ∙ is.desk;
-    settled = settled_again z.slabs k c inside z.desk slabs' desk' at change.within
-        (subst (λ (x : Counts). HasNoFree x → (b : Pbn) → IsOfSlab c b → IsFree c b → b.0 ≡ at.0) read_as only) is.settled serves;
-  }
+    due_below : work.slab < g.slabs
+    due_below = omega (arith, below need old new bytes work whole did, ap (λ (h : Geometry). h.slabs) now.geometry)
 
--- a block was claimed at once
-pub settled_claimed : (slabs slabs' : List Counts) (desk : Desk) (at : Pbn) → IsSettled slabs desk → ClaimsLowest slabs slabs' at → IsSettled slabs' desk
-settled_claimed slabs slabs' desk at (inl quiet) claims = inl quiet
-settled_claimed slabs slabs' desk at (inr none) claims = absurd (none claims.place claims.inside at claims.claims.of_slab claims.claims.free)
+    due_own : work.slab % zones ≡ zone
+    due_own = ap (λ (p : ℕ). work.slab % p) (sym now.zones) ∙ own need old new bytes work whole did ∙ now.zone
 
-pub zone_claimed : (z : Zone) (slabs' : List Counts) (at : Pbn) → IsZone z → ClaimsLowest z.slabs slabs' at → IsZone (record z { slabs = slabs' })
-zone_claimed z slabs' at is claims = record {
-  slabs = slabs_claimed z.geometry z.zone z.zones z.slabs slabs' at is.slabs claims;
-  desk = is.desk;
-  settled = settled_claimed z.slabs slabs' z.desk at is.settled claims;
-}
+    due_place : did.due.place ≡ work.slab / zones
+    due_place = sym (place need old new bytes work whole did) ∙ ap (λ (p : ℕ). work.slab / p) now.zones
 
--- a ticket was withdrawn
-none_of : (ws : List Waiting) (o : Option ℕ) → All (λ w. not (is_served w) ≡ false) ws → position (λ w. not (is_served w)) ws ≡ o → o ≡ None
-none_of ws None all is = refl
-none_of ws (Some i) all is =
-    let any : Waiting = record { number = 0; asked = 0; writer = record { stream = 0; number = 0 }; block = None } in
-    let found = position-Some (λ (w : Waiting). not (is_served w)) ws i any is in
-    absurd (false≢true (sym (all i any found.0) ∙ found.1))
+    abbrev w : Writes
+    w = writes_at old.writes (work.slab / zones)
 
-none_from : (ws : List Waiting) → All (λ w. not (is_served w) ≡ false) ws → position (λ w. not (is_served w)) ws ≡ None
-none_from ws all = none_of ws (position (λ w. not (is_served w)) ws) all refl
+    is_due : IsDue need w did.due.slab (slab_at old.counts.slabs (work.slab / zones)).counters bytes work
+    is_due = subst (λ (j : ℕ). IsDue need (writes_at old.writes j) did.due.slab (slab_at old.counts.slabs j).counters bytes work) due_place did.due.due
 
-pub zone_withdrawn : (z : Zone) (desk' : Desk) (ticket : Ticket) (result : Withdrawn) → IsZone z → Withdraws z.desk desk' ticket result → IsZone (record z { desk = desk' })
-zone_withdrawn z desk' ticket result is did = record {
-  slabs = is.slabs;
-  desk = ap (λ (d : Desk). d.zone) did.after ∙ is.desk;
-  settled = elim is.settled [
-    | inl quiet ↦
-        let test : Waiting → Bool = λ w. not (is_served w) in
-        let served = find-none test z.desk.out (find-nowhere test z.desk.out quiet) in
-        let left = subst (λ (ws : List Waiting). All (λ w. not (is_served w) ≡ false) ws) (sym (remove-position (λ (w : Waiting). w.number == ticket.number) z.desk.out did.place did.here))
-        (All-but_first (λ (w : Waiting). w.number == ticket.number) (λ w. not (is_served w) ≡ false) z.desk.out served) in
-        inl (ap (λ (d : Desk). position (λ w. not (is_served w)) d.out) did.after ∙ none_from (remove z.desk.out did.place) left)
-    | inr none ↦ inr none
-  ];
-}
+    pub journal_taken : work.part ≡ part.Journal
+        → (entries : List SlabEntry) × (bytes ≡ block_bytes g.nonce work.number work.slab entries) × ((entry : SlabEntry) → Contains entries entry → Contains (updates_in g work.slab calls) entry)
+    journal_taken kind =
+        let one = journal_due need w did.due.slab _ bytes work is_due kind in
+        let there = whole.writes.each did.due.place (omega (arith, did.due.inside, whole.writes.many)) in
+        let nonce : w.journal.geometry.nonce ≡ g.nonce
+        = ap (λ (j : ℕ). (writes_at old.writes j).journal.geometry.nonce) (sym due_place) ∙ ap (λ (h : Geometry). h.nonce) (there.journal ∙ now.geometry) in (
+          one.0,
+          one.1 ∙ ap (λ (n : ℕ). block_bytes n work.number work.slab one.0) nonce,
+          (λ entry inside.
+              filling_taken g work.slab commits (calls_of g work.slab calls) w entry (leads work.slab due_below due_own old calls lead)
+              (subst (λ (es : List SlabEntry). Contains es entry) one.2 inside)),
+        )
+
+    pub reference_updates : work.part ≡ part.References → length commits ≡ g.slabs * sectors_per_slab g → AreAbove g (points_of g work.slab commits) (updates_in g work.slab calls)
+        → bytes
+        ≡ reference_bytes
+        (sectors_of g w.blocks.applied (counters_after (take g.slab_blocks (drop (work.slab * g.slab_blocks) all)) (up_to g w.blocks.applied (updates_in g work.slab calls))) work.number)
+    reference_updates kind many above =
+        let hands = reference_due need w did.due.slab _ bytes work is_due kind in
+        let hands' = subst (λ (cs : List ℕ). HandsOutBlock w.blocks did.due.slab.blocks cs bytes work.number) (counters_now work.slab due_below due_own old calls lead) hands in
+        reference_says g work.slab commits (take g.slab_blocks (drop (work.slab * g.slab_blocks) all)) (calls_of g work.slab calls) w did.due.slab bytes work.number
+        (points_many g work.slab commits many due_below) (leads work.slab due_below due_own old calls lead) (rising work.slab due_below due_own old calls lead above) hands'
+
+  -- below the low point of the zone
+  module _ (z : WholeZone) (calls : List Call) (n : ℕ) (entry : SlabEntry) (many : length commits ≡ g.slabs * sectors_per_slab g) (lead : LeadTo first calls z) (inside : n < g.slabs) (mine : n % zones ≡ zone)
+      (above : AreAbove g (points_of g n commits) (updates_in g n calls)) (there : Contains (updates_in g n calls) entry) where
+    pub low_durable : (low : Point) → IsLowPointIn z low → entry.point.0 < low.0 → IsDurableIn g n calls entry
+    low_durable low lowest less =
+        durable n inside mine z calls entry many lead above there
+        (λ unsettled. absurd (omega (arith, less, lowest.least (n / zones) entry (stands g zone zones first has is n inside mine z calls lead) unsettled)))
+
+    pub none_durable : NoneUnsettledIn z → IsDurableIn g n calls entry
+    none_durable none =
+        durable n inside mine z calls entry many lead above there
+        (λ unsettled. none (n / zones) (stands g zone zones first has is n inside mine z calls lead) entry unsettled)

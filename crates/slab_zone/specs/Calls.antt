@@ -1,59 +1,101 @@
--- Lists of calls of a zone, and the last step at whose end it had a free block.
-use Rattle.std.specs.Prelude.{ℕ, ◌≡◌, Bool, true, false, List, [], ◌∷◌, Option, None, Some}
-use Rattle.blk_base.specs.declared.place.Pbn.{Pbn}
-use Rattle.blk_base.specs.declared.point.Half.{Half}
-use Rattle.blk_base.specs.declared.request.Writer.{Writer}
-use Rattle.slab_counts.specs.Counts.{Counts, HasRoom, Takes, claimed, unclaimed, with_page}
-use Rattle.slab_counts.specs.declared.tickets.Ticket.{Ticket}
-use Rattle.slab_counts.specs.declared.tickets.Receipt.{Receipt}
-use Rattle.slab_tickets.specs.Tickets.{HasRoom as HasTicket, IsBelow, begun}
-use Rattle.slab_tickets.specs.declared.forms.Withdrawn.{Withdrawn}
-use Rattle.slab_zone.specs.Zone.{Zone, IsOfZone, IsClaimedIn, NoneFree, Changes, slab_of, with_slab}
-use Rattle.slab_zone.specs.Asking.{Asks, WithdrawsFrom, SharesIn}
-use Rattle.slab_zone.specs.declared.forms.Asked.{Asked}
+-- Lists of calls of a zone, the newest first, and those of them that are on one slab's counters or writes.
+use Rattle.std.specs.Prelude.{ℕ, ◌≡◌, ◌-◌, ◌/◌, ◌%◌, ◌<◌, ◌==◌, if◌then◌else◌, List, [], ◌∷◌, All, slice_set}
+use Rattle.blk_base.specs.Counters.{sector_of_offset}
+use Rattle.blk_base.specs.Points.{half_of}
+use Rattle.blk_base.specs.Regions.{slab_start_of}
+use Rattle.blk_base.specs.declared.geometry.Geometry.{Geometry}
+use Rattle.blk_base.specs.declared.journal_entry.Update.{Update}
+use Rattle.blk_base.specs.declared.point.Point.{Point}
+use Rattle.reference_blocks.specs.References.{point_at}
+use Rattle.slab_codec.specs.Spelling.{block_bytes}
+use Rattle.slab_codec.specs.declared.forms.SlabEntry.{SlabEntry}
+use Rattle.slab_counts.specs.Counts.{Counts}
+use Rattle.slab_writes.specs.Calls as writes
+use Rattle.slab_writes.specs.Writes.{Writes}
+use Rattle.slab_writes.specs.declared.forms.SlabPart.TheVariants as part
+use Rattle.slab_writes.specs.declared.forms.SlabWork.{SlabWork}
+use Rattle.zone_counts.specs.Calls as counts
+use Rattle.zone_counts.specs.Zone.{IsOfZone, slab_at, slab_number}
+use Rattle.slab_zone.specs.Whole.{WholeZone, writes_at}
+use Rattle.slab_zone.specs.Writing.{RisesIn, TakesUpdate}
 
--- a call by what it answered; a step begins after one that ended with a free block, or without one
+-- a call by what it did: one on the counts, or an update that is taken, with the slab's counts by then, or of the slab
+-- with this number in the image a block is handed out, or its write is durable
 pub data Call : Type 0 where
-  Begins : Bool → ℕ → Call
-  Asks' : Writer → Asked → Call
-  Withdraws' : Ticket → Withdrawn → Call
-  Shares' : Pbn → Call
-  Extends : Pbn → Call
-  Drops : Pbn → Call
-  SpendsPage : Pbn → Call
-  Applies : Half → Pbn → Counts → Call
-  Refused : Call
+  Counted : counts.Call → Call
+  Taken : Update → Counts → Call
+  Written : ℕ → writes.Call → Call
+
+-- a call on the counts takes no update
+abbrev pub TakesNone : counts.Call → Type 0
+TakesNone (counts.Applies half at slab) = ⊥
+TakesNone other = Unit {0}
+
+-- a reference block is handed out with these counters; no update is taken
+abbrev pub HandsOutWith : List ℕ → writes.Call → Type 0
+HandsOutWith counters (writes.Taken entry) = ⊥
+HandsOutWith counters (writes.ReferenceOut given bytes block) = given ≡ counters
+HandsOutWith counters other = Unit {0}
+
+-- of a slab of the zone a block is handed out, with the counters as they are, or its write is durable
+pub record WritesSlab (old new : WholeZone) (number : ℕ) (call : writes.Call) : Type 0 where
+  pub inside : number < old.counts.geometry.slabs
+  pub own : number % old.counts.zones ≡ old.counts.zone
+  pub counters : HandsOutWith (slab_at old.counts.slabs (number / old.counts.zones)).counters call
+  pub slab : Writes
+  pub does : writes.Does call (writes_at old.writes (number / old.counts.zones)) slab
+  pub after : new ≡ record old { writes = slice_set old.writes (number / old.counts.zones) slab }
 
 -- what a call does, as its contract says
-abbrev pub Does : Call → Zone → Zone → Type 0
-Does (Begins free step) old new = IsBelow old.desk.step step × (free ≡ true → ¬ NoneFree old.slabs) × (free ≡ false → NoneFree old.slabs)
-    × (new ≡ record old { desk = begun free step old.desk })
-Does (Asks' writer answer) old new = HasTicket old.desk × Asks old new writer answer
-Does (Withdraws' ticket result) old new = WithdrawsFrom old new ticket result
-Does (Shares' at) old new = SharesIn old new at
-Does (Extends at) old new = IsClaimedIn old at × HasRoom (slab_of old at) at × (new ≡ with_slab old at (claimed (slab_of old at) at))
-Does (Drops at) old new = IsClaimedIn old at × Changes old new at (unclaimed (slab_of old at) at)
-Does (SpendsPage at) old new = IsClaimedIn old at × (new ≡ with_slab old at (with_page (slab_of old at) at))
-Does (Applies half at counts) old new = IsOfZone old at × Takes half (slab_of old at) counts at × Changes old new at counts
-Does Refused old new = new ≡ old
+abbrev pub Does : Call → WholeZone → WholeZone → Type 0
+Does (Counted call) old new = TakesNone call × counts.Does call old.counts new.counts × (new.writes ≡ old.writes)
+Does (Taken update slab) old new = IsOfZone old.counts update.at × RisesIn old update × TakesUpdate old new update slab
+Does (Written number call) old new = WritesSlab old new number call
 
 -- these calls, the newest first, lead from the one to the other
-abbrev pub LeadTo : Zone → List Call → Zone → Type 0
+abbrev pub LeadTo : WholeZone → List Call → WholeZone → Type 0
 LeadTo old [] new = new ≡ old
-LeadTo old (call ∷ calls) new = (before : Zone) × LeadTo old calls before × Does call before new
+LeadTo old (call ∷ calls) new = (before : WholeZone) × LeadTo old calls before × Does call before new
 
--- the step under way after these calls
-abbrev pub step_of : List Call → Option ℕ
-step_of [] = None
-step_of (Begins free step ∷ calls) = Some step
-step_of (other ∷ calls) = step_of calls
+-- those on the counts
+abbrev pub counted_of : List Call → List counts.Call
+counted_of [] = []
+counted_of (Counted call ∷ calls) = call ∷ counted_of calls
+counted_of (Taken update slab ∷ calls) = counts.Applies (half_of update.point.0) update.at slab ∷ counted_of calls
+counted_of (Written number call ∷ calls) = counted_of calls
 
--- the last step at whose end the zone had a free block
-abbrev pub last_free_of : List Call → Option ℕ
-last_free_of [] = None
-last_free_of (Begins true step ∷ calls) = step_of calls
-last_free_of (other ∷ calls) = last_free_of calls
+-- an update by its block's offset in its slab
+abbrev pub entry_in : Geometry → Update → SlabEntry
+entry_in g update = record { point = update.point; offset = update.at.0 - slab_start_of g (slab_number g update.at) }
 
--- a receipt is right after these calls: no step from the one that asked on ended with a free block
-abbrev pub IsRight : List Call → Receipt → Type 0
-IsRight calls receipt = IsBelow (last_free_of calls) receipt.asked
+-- those on what is to be written of the slab with this number in the image
+abbrev pub calls_of : Geometry → ℕ → List Call → List writes.Call
+calls_of g number [] = []
+calls_of g number (Counted call ∷ calls) = calls_of g number calls
+calls_of g number (Taken update slab ∷ calls) =
+    if slab_number g update.at == number then writes.Taken (entry_in g update) ∷ calls_of g number calls else calls_of g number calls
+calls_of g number (Written other call ∷ calls) = if other == number then call ∷ calls_of g number calls else calls_of g number calls
+
+-- the updates that it took, and whether one of them is durable
+abbrev pub updates_in : Geometry → ℕ → List Call → List SlabEntry
+updates_in g number calls = writes.updates_of (calls_of g number calls)
+
+abbrev pub IsDurableIn : Geometry → ℕ → List Call → SlabEntry → Type 0
+IsDurableIn g number calls entry = writes.IsDurable g (calls_of g number calls) entry
+
+-- each is above the point with which its sector was opened
+abbrev pub AreAbove : Geometry → List Point → List SlabEntry → Type 0
+AreAbove g opened entries = All (λ entry. (point_at opened (sector_of_offset g entry.offset)).0 < entry.point.0) entries
+
+-- the call hands out this work with these bytes
+abbrev pub HandsOut : writes.Call → List ℕ → SlabWork → Type 0
+HandsOut (writes.JournalOut block) bytes work =
+    (work.part ≡ part.Journal) × (work.number ≡ block.sequence) × (bytes ≡ block_bytes block.nonce block.sequence block.slab block.entries)
+HandsOut (writes.ReferenceOut counters said block) bytes work = (work.part ≡ part.References) × (work.number ≡ block) × (bytes ≡ said)
+HandsOut other bytes work = ⊥
+
+-- the call reports this work as durable
+abbrev pub Reports : writes.Call → SlabWork → Type 0
+Reports (writes.JournalDurable sequence) work = (work.part ≡ part.Journal) × (work.number ≡ sequence)
+Reports (writes.ReferenceDurable block) work = (work.part ≡ part.References) × (work.number ≡ block)
+Reports other work = ⊥

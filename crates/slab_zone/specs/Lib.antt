@@ -1,4 +1,5 @@
-pub mod Zone
-pub mod Asking
+pub mod Lesser
+pub mod Whole
+pub mod Writing
 pub mod Calls
 pub mod Viewed

@@ -1,11 +1,9 @@
--- The fields of a zone as what is known of its slabs and tickets.
-use Rattle.slab_zone.specs.Zone.{Zone, IsZone, NoneBefore}
+-- The fields of a zone as what is known of its slabs.
+use Rattle.slab_zone.specs.Whole.{WholeZone, IsWhole}
 use Rattle.slab_zone.specs.declared.zone.SlabZone.TheInside.{Inside}
 
-abbrev pub zone_of : Inside → Zone
-zone_of s = record { geometry = s.layout.geometry; zone = s.zone; zones = s.zones; slabs = s.slabs.items; desk = s.tickets }
+abbrev pub whole_of : Inside → WholeZone
+whole_of s = record { counts = s.counts; writes = s.writes.items }
 
--- no slab before the mark has a free block
-pub record IsKept (s : Inside) : Type 0 where
-  pub is : IsZone (zone_of s)
-  pub below : NoneBefore s.slabs.items s.mark
+abbrev pub IsKept : Inside → Type 0
+IsKept s = IsWhole (whole_of s)

@@ -1,30 +1,93 @@
-ghost use Rattle.std.specs.Prelude.{ℕ, List, ◌≡◌};
+ghost use Rattle.std.specs.Prelude.{ℕ, ◌≡◌, ◌*◌, ◌/◌, ◌%◌, ◌<◌, ◌⊎◌, List, length, take, drop, Contains};
+ghost use Rattle.blk_base.specs.Counters.{sectors_per_slab};
+ghost use Rattle.blk_base.specs.Limits.{IsGeometry};
+ghost use Rattle.blk_base.specs.declared.geometry.Geometry.{Geometry};
+ghost use Rattle.blk_base.specs.declared.place.Pbn.{Pbn};
+ghost use Rattle.blk_base.specs.declared.point.Point.{Point};
+ghost use Rattle.reference_blocks.specs.References.{points_of, sectors_of};
+ghost use Rattle.reference_blocks.specs.Updates.{counters_after, up_to};
+ghost use Rattle.slab_codec.specs.Reference.{reference_bytes};
+ghost use Rattle.slab_codec.specs.Spelling.{block_bytes};
+ghost use Rattle.slab_codec.specs.declared.forms.SlabEntry.{SlabEntry};
 ghost use Rattle.slab_counts.specs.declared.tickets.Ticket.{Ticket};
 ghost use Rattle.slab_counts.specs.declared.tickets.Receipt.{Receipt};
 ghost use Rattle.slab_tickets.specs.Tickets.{empty_desk};
 ghost use Rattle.slab_tickets.specs.declared.forms.Withdrawn.TheVariants.{Nothing};
-ghost use Rattle.slab_zone.specs.Zone.{Zone, IsZone, IsClaimedIn, slab_of, with_slab};
-ghost use Rattle.slab_zone.specs.Asking.{GivesBlock, SharesIn, WithdrawsFrom};
-ghost use Rattle.slab_counts.specs.Counts.{claimed};
-ghost use Rattle.blk_base.specs.declared.place.Pbn.{Pbn};
-ghost use Rattle.slab_zone.specs.Calls.{Call, LeadTo, IsRight};
+ghost use Rattle.slab_writes.specs.Calls as writes;
+ghost use Rattle.slab_writes.specs.declared.forms.Need.{Need};
+ghost use Rattle.slab_writes.specs.declared.forms.SlabPart.TheVariants.{Journal, References};
+ghost use Rattle.slab_writes.specs.declared.forms.SlabWork.{SlabWork};
+ghost use Rattle.zone_counts.specs.Asking.{WithdrawsFrom};
+ghost use Rattle.zone_counts.specs.Calls.{IsRight};
+ghost use Rattle.slab_zone.specs.Whole.{WholeZone, IsWhole, IsOpeningWhole, writes_at};
+ghost use Rattle.slab_zone.specs.Writing.{IsDueIn, IsOutIn, SettlesIn, IsLowPointIn, NoneUnsettledIn};
+ghost use Rattle.slab_zone.specs.Calls.{Call, Written, Does, LeadTo, HandsOut, Reports, AreAbove, IsDurableIn, counted_of, updates_in};
 
-/// Over every list of calls a zone stays as it must be: each slab has the numbers of its blocks, within the limit, and where a
-/// ticket waits no block is free.
+/// Over every list of calls a zone stays as it must be: each slab has the numbers of its blocks, within the limit, and its own
+/// journal and reference blocks; where a ticket waits no block is free.
 pub fn zones_stay_settled()
-    ensures { (old new : Zone) (calls : List Call) → IsZone old → LeadTo old calls new → IsZone new }
+    ensures { (old new : WholeZone) (calls : List Call) → IsWhole old → LeadTo old calls new → IsWhole new }
 {}
 
 /// Over every list of calls from an opened zone on, every receipt that a withdrawal gives is right: no step from the one that
 /// asked on ended with a free block in this zone.
 pub fn every_receipt_is_right()
-    ensures { (first old new : Zone) (room : ℕ) (calls : List Call) (ticket : Ticket) (receipt : Receipt) → IsZone first
-        → first.desk ≡ empty_desk first.zone room → LeadTo first calls old → WithdrawsFrom old new ticket (Nothing receipt) → IsRight calls receipt }
+    ensures { (first old : WholeZone) (new : WholeZone) (room : ℕ) (calls : List Call) (ticket : Ticket) (receipt : Receipt) → IsWhole first
+        → first.counts.desk ≡ empty_desk first.counts.zone room → LeadTo first calls old → WithdrawsFrom old.counts new.counts ticket (Nothing receipt)
+        → IsRight (counted_of calls) receipt }
 {}
 
-/// A claim that a zone gives, asked for, shared or extended, is on a block of the zone, and is counted there.
-pub fn a_claim_is_of_its_zone()
-    ensures given { (old new : Zone) (block : Pbn) → IsZone old → GivesBlock old new block → IsClaimedIn new block }
-    ensures shared { (old new : Zone) (at : Pbn) → IsZone old → SharesIn old new at → IsClaimedIn new at }
-    ensures extended { (old new : Zone) (at : Pbn) → IsZone old → IsClaimedIn old at → new ≡ with_slab old at (claimed (slab_of old at) at) → IsClaimedIn new at }
+/// What `due` hands out and what is reported as durable are calls of such a list.
+pub fn written_blocks_are_calls()
+    ensures due { (need : Need) (old new : WholeZone) (bytes : List ℕ) (work : SlabWork) → IsWhole old → IsDueIn need old new bytes work
+        → (call : writes.Call) × HandsOut call bytes work × Does (Written work.slab call) old new }
+    ensures durable { (old new : WholeZone) (work : SlabWork) → IsOutIn old work → SettlesIn old new work
+        → (call : writes.Call) × Reports call work × Does (Written work.slab call) old new }
+{}
+
+/// A block that is handed out wasn't being written before, and is from then on until its write is reported, whatever is called
+/// in between.
+pub fn a_block_is_out_until_it_is_reported()
+    ensures handed { (need : Need) (old new : WholeZone) (bytes : List ℕ) (work : SlabWork) → IsWhole old → IsDueIn need old new bytes work
+        → (¬ IsOutIn old work) × IsOutIn new work }
+    ensures kept { (call : Call) (old new : WholeZone) (work : SlabWork) → IsWhole old → IsOutIn old work → Does call old new
+        → IsOutIn new work ⊎ ((report : writes.Call) × (call ≡ Written work.slab report) × Reports report work) }
+{}
+
+/// Over every list of calls from an opened zone on, a journal block that is due has updates alone that these calls took of its
+/// slab.
+pub fn a_journal_block_has_updates_taken_here()
+    ensures { (g : Geometry) (zone zones room : ℕ) (all : List ℕ) (commits : List Point) (tree_pages : List Pbn) (first old new : WholeZone) (calls : List Call)
+        (need : Need) (bytes : List ℕ) (work : SlabWork) → IsOpeningWhole g zone zones room all commits tree_pages first → IsWhole first → LeadTo first calls old
+        → IsDueIn need old new bytes work → work.part ≡ Journal
+        → (entries : List SlabEntry) × (bytes ≡ block_bytes g.nonce work.number work.slab entries)
+        × ((entry : SlabEntry) → Contains entries entry → Contains (updates_in g work.slab calls) entry) }
+{}
+
+/// Over every list of calls from an opened zone on, where the opening commit points of its slab are below the updates taken, a
+/// reference block that is due has in each sector the opening counters with exactly the updates of these calls that aren't
+/// above its commit point.
+pub fn a_reference_block_has_its_updates()
+    ensures { (g : Geometry) (zone zones room : ℕ) (all : List ℕ) (commits : List Point) (tree_pages : List Pbn) (first old new : WholeZone) (calls : List Call)
+        (need : Need) (bytes : List ℕ) (work : SlabWork) → IsOpeningWhole g zone zones room all commits tree_pages first → IsWhole first
+        → length commits ≡ g.slabs * sectors_per_slab g → LeadTo first calls old → IsDueIn need old new bytes work → work.part ≡ References
+        → AreAbove g (points_of g work.slab commits) (updates_in g work.slab calls)
+        → let opened = take g.slab_blocks (drop (work.slab * g.slab_blocks) all) in
+        let points = (writes_at old.writes (work.slab / zones)).blocks.applied in
+        bytes ≡ reference_bytes (sectors_of g points (counters_after opened (up_to g points (updates_in g work.slab calls))) work.number) }
+{}
+
+/// Over every list of calls from an opened zone on, where the opening commit points of a slab are below the updates taken, each
+/// update of the slab that is below the low point of the zone is durable, and each one where there is no low point.
+pub fn every_update_below_the_low_point_is_durable()
+    ensures some { (g : Geometry) (zone zones room : ℕ) (all : List ℕ) (commits : List Point) (tree_pages : List Pbn) (first new : WholeZone) (calls : List Call)
+        (slab : ℕ) (entry : SlabEntry) (low : Point) → IsOpeningWhole g zone zones room all commits tree_pages first → IsWhole first
+        → length commits ≡ g.slabs * sectors_per_slab g → LeadTo first calls new → slab < g.slabs → slab % zones ≡ zone
+        → AreAbove g (points_of g slab commits) (updates_in g slab calls) → Contains (updates_in g slab calls) entry
+        → IsLowPointIn new low → entry.point.0 < low.0 → IsDurableIn g slab calls entry }
+    ensures none { (g : Geometry) (zone zones room : ℕ) (all : List ℕ) (commits : List Point) (tree_pages : List Pbn) (first new : WholeZone) (calls : List Call)
+        (slab : ℕ) (entry : SlabEntry) → IsOpeningWhole g zone zones room all commits tree_pages first → IsWhole first
+        → length commits ≡ g.slabs * sectors_per_slab g → LeadTo first calls new → slab < g.slabs → slab % zones ≡ zone
+        → AreAbove g (points_of g slab commits) (updates_in g slab calls) → Contains (updates_in g slab calls) entry
+        → NoneUnsettledIn new → IsDurableIn g slab calls entry }
 {}

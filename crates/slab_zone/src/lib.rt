@@ -1,19 +1,25 @@
-//! The slabs of one physical zone: their counters and claims, and the tickets of those who found no free block.
+//! The slabs of one physical zone: their counters and claims, the tickets of those who found no free block, and what of each
+//! slab is to be written.
 //!
 //! Slab n of the image belongs to the zone n mod P, of P physical zones. A request that asks gets the zone's lowest free block,
-//! or a ticket where none is free. A block that becomes free goes to the oldest ticket without one.
+//! or a ticket where none is free. A block that becomes free goes to the oldest ticket without one. An update that is taken
+//! counts at once. It waits in the journal of its slab, and makes the reference block with its counter dirty; it is durable
+//! once one of the two is.
 //!
 //! All room is taken in the constructor: no later call can be refused for memory.
 #![tactic(auto)]
 
-mod forms;
 mod laws;
 mod opening;
-mod places;
-mod search;
+mod writing;
 mod zone;
 
-pub use forms::Asked;
-pub use laws::{a_claim_is_of_its_zone, every_receipt_is_right, zones_stay_settled};
+pub use laws::{
+    a_block_is_out_until_it_is_reported, a_journal_block_has_updates_taken_here,
+    a_reference_block_has_its_updates, every_receipt_is_right,
+    every_update_below_the_low_point_is_durable, written_blocks_are_calls, zones_stay_settled,
+};
 pub use slab_tickets::Withdrawn;
+pub use slab_writes::{Need, SlabPart, SlabWork};
 pub use zone::SlabZone;
+pub use zone_counts::{Asked, a_claim_is_of_its_zone};

@@ -1,53 +1,51 @@
-ghost use Rattle.std.specs.Prelude.{◌≡◌, ◌<◌, ◌≤◌, ◌*◌, ◌↔◌, ℕ, All, length, Bool, true, false, IsTrue, IfErr, IfOk, OnOk, OnErr};
-ghost use Rattle.blk_base.specs.Counters.{limit_of};
+ghost use Rattle.std.specs.Prelude.{◌≡◌, ◌<◌, ◌≤◌, ◌*◌, ◌↔◌, ℕ, All, length, Bool, true, false, IsTrue, IfErr, IfOk, IfSome, IfNone, OnOk, OnErr};
+ghost use Rattle.blk_base.specs.Counters.{limit_of, sectors_per_slab};
 ghost use Rattle.blk_base.specs.Limits.{IsGeometry};
 ghost use Rattle.blk_base.specs.Points.{half_of};
-ghost use Rattle.slab_counts.specs.Counts.{Counts, IsFree, HasRoom, Takes, IsStray, counter_of, claimed, unclaimed, with_page};
+ghost use Rattle.slab_counts.specs.Counts.{Counts, IsFree, HasRoom, IsStray, counter_of, claimed, unclaimed, with_page};
 ghost use Rattle.slab_counts.specs.declared.refusals.Refusal.TheVariants.{Full};
 ghost use Rattle.slab_tickets.specs.Tickets.{IsNow, IsBelow, IsOutAt, begun, HasRoom as HasTicket};
-ghost use Rattle.slab_zone.specs.Zone.{IsZone, IsOfZone, IsClaimedIn, IsOpeningZone, NoneFree, Changes, slab_of, with_slab};
-ghost use Rattle.slab_zone.specs.Asking.{Asks, WithdrawsFrom, SharesIn, IsRefusedIn};
+ghost use Rattle.zone_counts.specs.Zone.{IsOfZone, IsClaimedIn, NoneFree, Changes, slab_of, used_in, with_slab};
+ghost use Rattle.zone_counts.specs.Asking.{Asks, WithdrawsFrom, SharesIn, IsRefusedIn};
+ghost use Rattle.slab_zone.specs.Whole.{IsOpeningWhole, IsWhole};
+ghost use Rattle.slab_zone.specs.Writing.{HasRoomAt, RisesIn, TakesUpdate, IsDueIn, NoneDueIn, IsOutIn, SettlesIn, IsLowPointIn, NoneUnsettledIn};
 
-use crate::Asked;
-use crate::opening::opening_slabs;
-use crate::places::{find_slab, place_of};
-use crate::search::{claim_lowest, has_free, serve};
-use blk_base::{Layout, Opened, Pbn, Update, Writer};
-use slab_counts::{Claim, Refusal, SlabCounts, Stray, Ticket};
-use slab_tickets::{Tickets, Withdrawn};
+use crate::opening::opening_writes;
+use crate::writing::{first_due, least_low_point};
+use blk_base::{Block, Opened, Pbn, Point, Update, Writer};
+use slab_counts::{Claim, Refusal, Stray, Ticket};
+use slab_tickets::Withdrawn;
+use slab_writes::{Need, SlabWork, SlabWrites};
 use std::alloc::{AllocError, Global};
 use std::marker::Model;
+use zone_counts::{Asked, ZoneCounts};
 
 /// The slabs of a physical zone, and the tickets that are out there.
 #[derive(Drop)]
 pub struct SlabZone {
-    layout: Layout,
-    // The number of this zone, and of how many.
-    zone: u32,
-    zones: u32,
-    // The slabs of the zone, in their order.
-    slabs: Vec<SlabCounts>,
-    // Where a free block is looked for first: no slab before it has one.
-    mark: usize,
-    tickets: Tickets,
+    // The counters, claims and tickets.
+    counts: ZoneCounts,
+    // For each slab of the zone, in their order, what of it is to be written.
+    writes: Vec<SlabWrites>,
 }
 
 impl Model for SlabZone {
-    ghost use Rattle.slab_zone.specs.Zone.{Zone};
+    ghost use Rattle.slab_zone.specs.Whole.{WholeZone};
 
-    ghost Value = { Zone };
+    ghost Value = { WholeZone };
 
-    ghost use Rattle.slab_zone.specs.Viewed.{zone_of, IsKept};
+    ghost use Rattle.slab_zone.specs.Viewed.{whole_of, IsKept};
 
-    ghost view = { zone_of };
+    ghost view = { whole_of };
 
     ghost invariant = { IsKept };
 }
 
 impl SlabZone {
-    /// The zone with this number, of so many, as an image is opened; no ticket is out, and there is room for 32 of them for
-    /// each request that a stream may have under way (`depth`, 1 to 16). `opened` has the counter of each data block, at most
-    /// the limit of the image. Takes the room for all slabs of the zone.
+    /// The zone with this number, of so many, as an image is opened: no ticket is out, nothing is to be written, and there is
+    /// room for 32 tickets for each request that a stream may have under way (`depth`, 1 to 16). `opened` has the counter of
+    /// each data block, at most the limit of the image, and a commit point for each sector of counters. Takes the room for
+    /// all slabs of the zone.
     pub fn new(
         alloc: Global,
         zone: u32,
@@ -61,171 +59,185 @@ impl SlabZone {
         requires depth { depth ≤ 16 }
         requires counters { length opened.now.counters.items ≡ opened.now.head.geometry.slabs * opened.now.head.geometry.slab_blocks }
         requires limit { All (λ counter. counter ≤ limit_of opened.now.head.geometry) opened.now.counters.items }
-        ensures opening { IfOk result (IsOpeningZone opened.now.head.geometry zone zones (32 * depth) opened.now.counters.items opened.now.tree_pages.items) }
-        ensures right { IfOk result IsZone }
+        requires commits { length opened.now.commits.items ≡ opened.now.head.geometry.slabs * sectors_per_slab opened.now.head.geometry }
+        ensures opening { IfOk result (IsOpeningWhole opened.now.head.geometry zone zones (32 * depth) opened.now.counters.items opened.now.commits.items opened.now.tree_pages.items) }
+        ensures right { IfOk result IsWhole }
     {
-        let layout = Layout::of(&opened.head.geometry);
-        let slabs = opening_slabs(alloc, zone, zones, opened)?;
-        let tickets = Tickets::new(alloc, zone, 32 * depth)?;
-        Ok(SlabZone {
-            layout,
-            zone,
-            zones,
-            slabs,
-            mark: 0,
-            tickets,
-        })
+        let counts = ZoneCounts::new(alloc, zone, zones, depth, opened)?;
+        let writes = opening_writes(alloc, zone, zones, opened)?;
+        Ok(SlabZone { counts, writes })
     }
 
     /// A step of the zone begins, with a number above that of the one before.
     pub fn begin_step(&mut self, step: u64)
-        requires { IsBelow self.old.desk.step step }
-        ensures { (free : Bool) × (free ≡ true → ¬ NoneFree self.old.slabs) × (free ≡ false → NoneFree self.old.slabs)
-            × (self.new ≡ record self.old { desk = begun free step self.old.desk }) }
+        requires { IsBelow self.old.counts.desk.step step }
+        ensures begins { (free : Bool) × (free ≡ true → ¬ NoneFree self.old.counts.slabs) × (free ≡ false → NoneFree self.old.counts.slabs)
+            × (self.new.counts ≡ record self.old.counts { desk = begun free step self.old.counts.desk }) }
+        ensures writes { self.new.writes ≡ self.old.writes }
     {
-        let is_free = has_free(&mut self.slabs, &mut self.mark);
-        self.tickets.begin_step(step, is_free);
+        self.counts.begin_step(step);
     }
 
     /// Asks for a block: it gives the zone's lowest free block, claimed, and a ticket exactly where none is free. A step was
     /// begun, and there is room for a ticket.
     pub fn ask(&mut self, writer: Writer) -> Asked
-        requires room { HasTicket self.old.desk }
-        requires begun { (step : ℕ) × IsNow self.old.desk step }
-        ensures { Asks self.old self.new writer result }
+        requires room { HasTicket self.old.counts.desk }
+        requires begun { (step : ℕ) × IsNow self.old.counts.desk step }
+        ensures asks { Asks self.old.counts self.new.counts writer result }
+        ensures writes { self.new.writes ≡ self.old.writes }
     {
-        match claim_lowest(&mut self.slabs, &mut self.mark) {
-            Some(claim) => Asked::Block(claim),
-            None => Asked::Ticket(self.tickets.issue(writer)),
-        }
+        self.counts.ask(writer)
     }
 
     /// Withdraws a ticket that is out: it is worth the block that went to it, and a receipt exactly where none did.
     pub fn withdraw(&mut self, ticket: Ticket) -> Withdrawn
-        requires out { (place : ℕ) × IsOutAt self.old.desk ticket place }
-        requires begun { (step : ℕ) × IsNow self.old.desk step }
-        ensures { WithdrawsFrom self.old self.new ticket result }
+        requires out { (place : ℕ) × IsOutAt self.old.counts.desk ticket place }
+        requires begun { (step : ℕ) × IsNow self.old.counts.desk step }
+        ensures withdraws { WithdrawsFrom self.old.counts self.new.counts ticket result }
+        ensures writes { self.new.writes ≡ self.old.writes }
     {
-        self.tickets.withdraw(ticket)
+        self.counts.withdraw(ticket)
     }
 
     /// Claims a block that something is mapped to, for one more mapping. It is refused exactly where it has a tree page or is
     /// no data block of this zone (`NotData`), nothing is mapped to it (`NotLive`), or its counter and claims are together at
     /// the limit (`Full`), in this order.
     pub fn claim_share(&mut self, at: Pbn) -> Result<Claim, Refusal>
-        ensures shared { OnOk result (SharesIn self.old self.new at) }
+        ensures shared { OnOk result (SharesIn self.old.counts self.new.counts at) }
         ensures claim { IfOk result (λ claim. claim ≡ at) }
-        ensures refused { IfErr result (λ refusal. IsRefusedIn refusal self.old at) }
+        ensures refused { IfErr result (λ refusal. IsRefusedIn refusal self.old.counts at) }
         ensures same { OnErr result (self.new ≡ self.old) }
+        ensures writes { self.new.writes ≡ self.old.writes }
     {
-        let Some(place) = find_slab(&self.layout, self.zone, self.zones, &self.slabs, at) else {
-            return Err(Refusal::NotData);
-        };
-        let slab = &mut self.slabs[place];
-        slab.claim_share(at)
+        self.counts.claim_share(at)
     }
 
     /// One more claim on the block of a claim of this zone. It is refused as `Full` alone, exactly where the counter and the
     /// claims are together at the limit.
     pub fn extend(&mut self, claim: &Claim) -> Result<Claim, Refusal>
-        requires { IsClaimedIn self.old claim.now }
-        ensures room { OnOk result (HasRoom (slab_of self.old claim.now) claim.now) }
-        ensures extended { OnOk result (self.new ≡ with_slab self.old claim.now (claimed (slab_of self.old claim.now) claim.now)) }
+        requires { IsClaimedIn self.old.counts claim.now }
+        ensures room { OnOk result (HasRoom (slab_of self.old.counts claim.now) claim.now) }
+        ensures extended { OnOk result (self.new.counts ≡ with_slab self.old.counts claim.now (claimed (slab_of self.old.counts claim.now) claim.now)) }
         ensures claim { IfOk result (λ more. more ≡ claim.now) }
-        ensures refused { IfErr result (λ refusal. (refusal ≡ Full) × (¬ HasRoom (slab_of self.old claim.now) claim.now)) }
+        ensures refused { IfErr result (λ refusal. (refusal ≡ Full) × (¬ HasRoom (slab_of self.old.counts claim.now) claim.now)) }
         ensures same { OnErr result (self.new ≡ self.old) }
+        ensures writes { self.new.writes ≡ self.old.writes }
     {
-        let place = place_of(
-            &self.layout,
-            self.zone,
-            self.zones,
-            &self.slabs,
-            claim.block(),
-        );
-        let slab = &mut self.slabs[place];
-        slab.extend(claim)
+        self.counts.extend(claim)
     }
 
     /// The claim, of a block of this zone, is no longer needed. If the block becomes free, it goes to the oldest ticket
     /// without one.
     pub fn drop_claim(&mut self, claim: Claim)
-        requires { IsClaimedIn self.old claim }
-        ensures { Changes self.old self.new claim (unclaimed (slab_of self.old claim) claim) }
+        requires { IsClaimedIn self.old.counts claim }
+        ensures drops { Changes self.old.counts self.new.counts claim (unclaimed (slab_of self.old.counts claim) claim) }
+        ensures writes { self.new.writes ≡ self.old.writes }
     {
-        let place = place_of(
-            &self.layout,
-            self.zone,
-            self.zones,
-            &self.slabs,
-            claim.block(),
-        );
-        let slab = &mut self.slabs[place];
-        slab.drop_claim(claim);
-        self.mark = self.mark.min(place);
-        serve(&mut self.slabs, &mut self.mark, &mut self.tickets);
+        self.counts.drop_claim(claim);
     }
 
     /// The claim becomes the increment that will come: it stays counted until then. It gives the block.
     pub fn spend(&mut self, claim: Claim) -> Pbn
-        requires { IsClaimedIn self.old claim }
+        requires { IsClaimedIn self.old.counts claim }
         ensures block { result ≡ claim }
         ensures same { self.new ≡ self.old }
     {
-        claim.block()
+        self.counts.spend(claim)
     }
 
     /// Spends the claim for a block that becomes a tree page: from now on nobody shares it.
     pub fn spend_page(&mut self, claim: Claim) -> Pbn
-        requires { IsClaimedIn self.old claim }
+        requires { IsClaimedIn self.old.counts claim }
         ensures block { result ≡ claim }
-        ensures page { self.new ≡ with_slab self.old claim (with_page (slab_of self.old claim) claim) }
+        ensures page { self.new.counts ≡ with_slab self.old.counts claim (with_page (slab_of self.old.counts claim) claim) }
+        ensures writes { self.new.writes ≡ self.old.writes }
     {
-        let place = place_of(
-            &self.layout,
-            self.zone,
-            self.zones,
-            &self.slabs,
-            claim.block(),
-        );
-        let slab = &mut self.slabs[place];
-        slab.spend_page(claim)
+        self.counts.spend_page(claim)
     }
 
-    /// Takes an update of a block of this zone. It is refused, with the counter, exactly where a decrement finds 0, or an
-    /// increment finds the limit or no claim. If the block becomes free, it goes to the oldest ticket without one.
+    /// Whether the slab of a block of this zone takes one more update: exactly where the block being filled in its journal
+    /// has fewer than 320.
+    pub fn has_room(&self, at: Pbn) -> bool
+        requires { IsOfZone self.now.counts at }
+        ensures { IsTrue result ↔ HasRoomAt self.now at }
+    {
+        let place = self.counts.place(at);
+        let slab = &self.writes[place];
+        slab.has_room()
+    }
+
+    /// Takes an update of a block of this zone, whose slab has room for it; its point is above those of the slab's updates
+    /// before. It is refused, with the counter, exactly where a decrement finds 0, or an increment finds the limit or no
+    /// claim. If the block becomes free, it goes to the oldest ticket without one. The update is to be written.
     pub fn apply(&mut self, update: &Update) -> Result<(), Stray>
-        requires { IsOfZone self.old update.now.at }
-        ensures taken { OnOk result ((slab : Counts) × Takes (half_of update.now.point.0) (slab_of self.old update.now.at) slab update.now.at
-            × Changes self.old self.new update.now.at slab) }
-        ensures stray { OnErr result (IsStray (half_of update.now.point.0) (slab_of self.old update.now.at) update.now.at) }
-        ensures count { IfErr result (λ stray. stray.count ≡ counter_of (slab_of self.old update.now.at) update.now.at) }
+        requires own { IsOfZone self.old.counts update.now.at }
+        requires room { HasRoomAt self.old update.now.at }
+        requires rises { RisesIn self.old update.now }
+        ensures taken { OnOk result ((slab : Counts) × TakesUpdate self.old self.new update.now slab) }
+        ensures stray { OnErr result (IsStray (half_of update.now.point.0) (slab_of self.old.counts update.now.at) update.now.at) }
+        ensures count { IfErr result (λ stray. stray.count ≡ counter_of (slab_of self.old.counts update.now.at) update.now.at) }
         ensures same { OnErr result (self.new ≡ self.old) }
     {
-        let place = place_of(&self.layout, self.zone, self.zones, &self.slabs, update.at);
-        let slab = &mut self.slabs[place];
-        slab.apply(update)?;
-        self.mark = self.mark.min(place);
-        serve(&mut self.slabs, &mut self.mark, &mut self.tickets);
+        let place = self.counts.place(update.at);
+        self.counts.apply(update)?;
+        let slab = &mut self.writes[place];
+        slab.take(update);
         Ok(())
+    }
+
+    /// Hands out a block that the need is for, with what it is to say; `None` exactly where each such block of the zone is
+    /// being written. It is the full block of a slab's journal (`Full`), or one that holds updates (`Head`), or where its slot
+    /// can't be overwritten the reference block of its slab that was dirtied first, or any dirty reference block (`All`).
+    /// While a sealed block of a slab's journal isn't durable, the next one counts as being written.
+    pub fn due(&mut self, need: Need, into: &mut Block) -> Option<SlabWork>
+        ensures some { IfSome result (IsDueIn need self.old self.new into.new) }
+        ensures none { IfNone result (NoneDueIn need self.old) }
+        ensures same { IfNone result (self.new ≡ self.old) }
+    {
+        first_due(&mut self.writes, &self.counts, need, into)
+    }
+
+    /// The write of a block that was handed out is durable: a flush covers it.
+    pub fn durable(&mut self, work: SlabWork)
+        requires { IsOutIn self.old work }
+        ensures { SettlesIn self.old self.new work }
+    {
+        let place = self.counts.place_of_slab(work.slab);
+        let slab = &mut self.writes[place];
+        slab.durable(work);
+    }
+
+    /// The least point of the updates that were taken here and aren't durable; `None` exactly where each is.
+    pub fn low_point(&self) -> Option<Point>
+        ensures some { IfSome result (IsLowPointIn self.now) }
+        ensures none { IfNone result (NoneUnsettledIn self.now) }
+    {
+        least_low_point(&self.writes)
+    }
+
+    /// How many data blocks of the zone have a counter above 0. It goes through all counters.
+    pub fn used(&self) -> u32
+        ensures used { result ≡ used_in self.now.counts.slabs }
+        ensures right { IsWhole self.now }
+    {
+        self.counts.used()
     }
 
     /// Whether nothing is mapped to the block of this zone, and nobody has a claim on it.
     pub fn is_free(&self, at: Pbn) -> bool
-        requires { IsOfZone self.now at }
-        ensures free { IsTrue result ↔ IsFree (slab_of self.now at) at }
-        ensures right { IsZone self.now }
+        requires { IsOfZone self.now.counts at }
+        ensures free { IsTrue result ↔ IsFree (slab_of self.now.counts at) at }
+        ensures right { IsWhole self.now }
     {
-        let place = place_of(&self.layout, self.zone, self.zones, &self.slabs, at);
-        self.slabs[place].is_free(at)
+        self.counts.is_free(at)
     }
 
     /// The counter of a block of this zone.
     pub fn count(&self, at: Pbn) -> u16
-        requires { IsOfZone self.now at }
-        ensures count { result ≡ counter_of (slab_of self.now at) at }
-        ensures right { IsZone self.now }
+        requires { IsOfZone self.now.counts at }
+        ensures count { result ≡ counter_of (slab_of self.now.counts at) at }
+        ensures right { IsWhole self.now }
     {
-        let place = place_of(&self.layout, self.zone, self.zones, &self.slabs, at);
-        self.slabs[place].count(at)
+        self.counts.count(at)
     }
 }

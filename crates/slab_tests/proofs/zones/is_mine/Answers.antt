@@ -1,8 +1,8 @@
 use Rattle.std.proofs.Common.{◌∙◌, ap, subst, ℕ, ◌%◌}
 use Rattle.std.proofs.lemmas.Bool.{eqb-true}
 use Rattle.blk_base.specs.declared.geometry.Geometry.{Geometry}
-use Rattle.slab_zone.specs.Zone.{IsOf}
-use Rattle.slab_zone.proofs.PlaceLaws.{number_is}
+use Rattle.zone_counts.specs.Zone.{IsOf}
+use Rattle.zone_counts.proofs.PlaceLaws.{number_is}
 use Rattle.slab_tests.proofs.zones.is_mine.Goals as goal
 
 pub returns-in-Some : goal.returns-in-Some

@@ -1,51 +1,25 @@
-use Rattle.std.proofs.Common.{◌<◌, List, length, sym, subst, refl}
+use Rattle.std.proofs.Common.{subst, sym, arith}
 use Rattle.blk_base.specs.Points.{half_of}
-use Rattle.slab_counts.specs.Counts.{Counts, IsOfSlab, Takes}
-use Rattle.slab_counts.specs.Calls.{Applied}
-use Rattle.slab_zone.specs.Viewed.{zone_of}
-use Rattle.slab_zone.specs.Zone.{slab_at}
-use Rattle.slab_zone.proofs.PlaceLaws.{slab_now, changes_now}
-use Rattle.slab_zone.proofs.SlabLaws.{still, only_applied}
-use Rattle.slab_zone.proofs.ZoneLaws.{read_as, within_read, served}
+use Rattle.zone_counts.specs.Calls.{Applies}
+use Rattle.zone_counts.specs.Zone.{IsOfZone}
+use Rattle.slab_zone.specs.Viewed.{whole_of}
+use Rattle.slab_zone.specs.Whole.{WholeZone}
+use Rattle.slab_zone.proofs.ShapeLaws.{call_keeps}
+use Rattle.slab_zone.proofs.KeptLaws.{block_of_slab, taken_keeps}
 use Rattle.slab_zone.proofs.zone.SlabZone.apply.Goals as goal
+
+pub take-requires-clause-place : goal.take-requires-clause-place
+take-requires-clause-place c =
+    let z = whole_of c.self.inside in
+    let own = subst (λ (x : WholeZone). IsOfZone x.counts c.args.update.now.at) (sym c.self.view_is) c.requires.own in
+    block_of_slab z c.args.update.now.at c.place-place.result c.index_mut-slab.result.now c.self.invariant own c.place-place.ensures.place c.index_mut-slab.ensures.value
 
 pub invariant_of-self-2 : goal.invariant_of-self-2
 invariant_of-self-2 c =
-    let z = zone_of c.self.inside in
-    let k = c.place_of-place.result in
-    let s = c.index_mut-slab.result.now in
-    let now = c.apply.new.self in
+    let z = whole_of c.self.inside in
     let at = c.args.update.now.at in
-    let half = half_of c.args.update.now.point.0 in
-    let is = c.self.invariant.is in
-    let below = c.self.invariant.below in
-    let read = c.index_mut-slab.ensures.value in
-    let inside = subst (λ (xs : List Counts). k < length xs) c.deref.ensures.value c.place_of-place.ensures.inside in
-    let within = within_read z c.self.inside.mark k s now is below inside read in
-    let at_place = read_as z c.self.inside.mark k s now is below inside read in
-    let here : IsOfSlab s at
-    = subst (λ (x : Counts). IsOfSlab x at) (sym at_place) (subst (λ (xs : List Counts). IsOfSlab (slab_at xs k) at) c.deref.ensures.value c.place_of-place.ensures.slab) in
-    record {
-      is = served z c.self.inside.mark k s now is below inside read c.serve.new.slabs.items c.serve.new.tickets at
-          (still (Applied half at) s now within (here, c.in_ok-apply.ensures.taken)) (only_applied half s now at within here c.in_ok-apply.ensures.taken) c.serve.ensures.serves;
-      below = c.serve.ensures.below;
-    }
-
-pub returns-clause-taken : goal.returns-clause-taken
-returns-clause-taken c =
-    let z = zone_of c.self.inside in
-    let k = c.place_of-place.result in
-    let s = c.index_mut-slab.result.now in
-    let now = c.apply.new.self in
-    let at = c.args.update.now.at in
-    let half = half_of c.args.update.now.point.0 in
-    let is = c.self.invariant.is in
-    let below = c.self.invariant.below in
-    let read = c.index_mut-slab.ensures.value in
-    let inside = subst (λ (xs : List Counts). k < length xs) c.deref.ensures.value c.place_of-place.ensures.inside in
-    let at_place = read_as z c.self.inside.mark k s now is below inside read in
-    let slab = slab_now z c.args.self.now c.self.view_is k s at at refl c.place_of-place.ensures.place at_place in (
-      now,
-      subst (λ (x : Counts). Takes half x now at) slab c.in_ok-apply.ensures.taken,
-      changes_now z c.args.self.now c.self.view_is k s at at refl c.place_of-place.ensures.place at_place now c.serve.new.slabs.items c.serve.new.tickets c.serve.ensures.serves,
-    )
+    let own = subst (λ (x : WholeZone). IsOfZone x.counts at) (sym c.self.view_is) c.requires.own in
+    let did = c.in_ok-apply.ensures.taken in
+    let counted = call_keeps (Applies (half_of c.args.update.now.point.0) at did.0) z c.apply.new.self c.self.invariant (own, did.1, did.2) in
+    taken_keeps (record { counts = c.apply.new.self; writes = z.writes }) c.place-place.result c.index_mut-slab.result.now c.take.new.self c.args.update.now counted
+    (omega (arith, c.place-place.ensures.inside, c.self.invariant.writes.many)) c.index_mut-slab.ensures.value c.take.ensures

@@ -1,9 +1,12 @@
-use Rattle.slab_zone.specs.Viewed.{zone_of}
-use Rattle.slab_zone.proofs.ZoneLaws.{zone_claimed}
+use Rattle.zone_counts.specs.Calls.{Asks'}
+use Rattle.slab_tickets.specs.Tickets.{HasRoom}
+use Rattle.std.proofs.Common.{subst, sym}
+use Rattle.slab_zone.specs.Viewed.{whole_of}
+use Rattle.slab_zone.specs.Whole.{WholeZone}
+use Rattle.slab_zone.proofs.ShapeLaws.{call_keeps}
 use Rattle.slab_zone.proofs.zone.SlabZone.ask.Goals as goal
 
 pub invariant_of-self : goal.invariant_of-self
-invariant_of-self c = record {
-  is = zone_claimed (zone_of c.self.inside) c.claim_lowest.new.slabs.items c.in-Some.claim c.self.invariant.is c.in-Some.ensures.some;
-  below = c.claim_lowest.ensures.below;
-}
+invariant_of-self c =
+    let room = subst (λ (z : WholeZone). HasRoom z.counts.desk) (sym c.self.view_is) c.requires.room in
+    call_keeps (Asks' c.args.writer c.ask.result) (whole_of c.self.inside) c.ask.new.self c.self.invariant (room, c.ask.ensures)

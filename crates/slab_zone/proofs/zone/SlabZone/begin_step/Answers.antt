@@ -1,17 +1,13 @@
-use Rattle.std.proofs.Common.{ap, sym, subst, ◌∙◌, List}
-use Rattle.slab_counts.specs.Counts.{Counts}
-use Rattle.slab_tickets.specs.Tickets.{Desk, begun}
-use Rattle.slab_zone.specs.Viewed.{zone_of}
-use Rattle.slab_zone.specs.Zone.{Zone, NoneFree}
+use Rattle.std.proofs.Common.{subst, sym}
+use Rattle.slab_tickets.specs.Tickets.{IsBelow}
+use Rattle.zone_counts.specs.Calls.{Begins}
+use Rattle.slab_zone.specs.Viewed.{whole_of}
+use Rattle.slab_zone.specs.Whole.{WholeZone}
+use Rattle.slab_zone.proofs.ShapeLaws.{call_keeps}
 use Rattle.slab_zone.proofs.zone.SlabZone.begin_step.Goals as goal
 
-pub returns : goal.returns
-returns c =
-    let z = zone_of c.self.inside in
-    let free = c.has_free-is_free.result in (
-      free,
-      (λ is none. c.has_free-is_free.ensures.yes is (subst (λ (x : Zone). NoneFree x.slabs) (sym c.self.view_is) none)),
-      (λ is. subst (λ (x : Zone). NoneFree x.slabs) c.self.view_is (c.has_free-is_free.ensures.no is)),
-      ap (λ (xs : List Counts). record z { slabs = xs; desk = c.begin_step.new.self }) c.has_free-is_free.ensures.same
-          ∙ ap (λ (d : Desk). record z { desk = d }) c.begin_step.ensures ∙ ap (λ (x : Zone). record x { desk = begun free c.args.step x.desk }) c.self.view_is,
-    )
+pub invariant_of-self : goal.invariant_of-self
+invariant_of-self c =
+    let below = subst (λ (z : WholeZone). IsBelow z.counts.desk.step c.args.step) (sym c.self.view_is) c.requires in
+    let did = c.begin_step.ensures in
+    call_keeps (Begins did.0 c.args.step) (whole_of c.self.inside) c.begin_step.new.self c.self.invariant (below, did.1, did.2, did.3)

@@ -1,24 +1,11 @@
-use Rattle.std.proofs.Common.{◌<◌, List, length, subst}
-use Rattle.slab_counts.specs.Counts.{Counts}
-use Rattle.slab_zone.specs.Viewed.{zone_of}
-use Rattle.slab_zone.proofs.PlaceLaws.{claimed_now}
-use Rattle.slab_zone.proofs.SlabLaws.{busier_extended}
-use Rattle.slab_zone.proofs.ZoneLaws.{read_as, within_read, busier}
+use Rattle.std.proofs.Common.{subst, sym}
+use Rattle.zone_counts.specs.Zone.{IsClaimedIn}
+use Rattle.slab_zone.specs.Viewed.{whole_of}
+use Rattle.slab_zone.specs.Whole.{WholeZone}
+use Rattle.slab_zone.proofs.ShapeLaws.{extended_keeps}
 use Rattle.slab_zone.proofs.zone.SlabZone.extend.Goals as goal
 
 pub invariant_of-self : goal.invariant_of-self
 invariant_of-self c =
-    let z = zone_of c.self.inside in
-    let k = c.place_of-place.result in
-    let s = c.index_mut-slab.result.now in
-    let now = c.extend.new.self in
-    let is = c.self.invariant.is in
-    let below = c.self.invariant.below in
-    let read = c.index_mut-slab.ensures.value in
-    let inside = subst (λ (xs : List Counts). k < length xs) c.deref.ensures.value c.place_of-place.ensures.inside in
-    let within = within_read z c.self.inside.mark k s now is below inside read in
-    let claimed = claimed_now z c.args.self.now c.self.view_is k s c.args.claim.now c.block.result c.block.ensures c.place_of-place.ensures.place
-    (read_as z c.self.inside.mark k s now is below inside read) c.deref.result.now c.deref.ensures.value c.place_of-place.ensures.slab c.requires in
-    let kept = busier z c.self.inside.mark k s now is below inside read
-    (busier_extended c.extend.result s now c.args.claim.now within claimed c.extend.ensures.room c.extend.ensures.extended c.extend.ensures.same) in
-    record { is = kept.0; below = kept.1 }
+    let there = subst (λ (z : WholeZone). IsClaimedIn z.counts c.args.claim.now) (sym c.self.view_is) c.requires in
+    extended_keeps c.extend.result (whole_of c.self.inside) c.extend.new.self c.args.claim.now c.self.invariant there c.extend.ensures.room c.extend.ensures.extended c.extend.ensures.same

@@ -1,0 +1,44 @@
+-- Of the slabs of a zone the first is found that has a block to write.
+use Rattle.std.specs.Prelude.{ℕ, ◌≡◌, ◌+◌, ◌<◌, false, List, length, Option, None, Some, IfSome, IfNone}
+use Rattle.std.specs.Option.{is_some}
+use Rattle.std.proofs.Common.{sym, ◌∙◌, ap, subst, arith, inl, inr, refl, get_or, set}
+use Rattle.std.proofs.lemmas.Bool.{cases_lt, false≢true}
+use Rattle.std.proofs.lemmas.List.{get_or_default}
+use Rattle.std.proofs.Math.Seq.{set-get_or}
+use Rattle.slab_counts.specs.Counts.{Counts}
+use Rattle.slab_writes.specs.Due.{IsDue, NoneDue}
+use Rattle.slab_writes.specs.Writes.{Writes}
+use Rattle.slab_writes.specs.declared.forms.Need.{Need}
+use Rattle.slab_writes.specs.declared.forms.SlabWork.{SlabWork}
+use Rattle.zone_counts.specs.Zone.{slab_at}
+use Rattle.slab_zone.specs.Whole.{nothing, writes_at}
+use Rattle.slab_zone.specs.Writing.{IsDueAmong, NoneDueBefore}
+
+-- what is to be written of a slab, as it was read
+pub read_as : (writes : List Writes) (k : ℕ) (s : Writes) → k < length writes → s ≡ get_or writes k s → s ≡ writes_at writes k
+read_as writes k s inside read = read ∙ get_or_default writes k s nothing inside
+
+pub due_here : (need : Need) (slabs : List Counts) (old : List Writes) (k : ℕ) (s new : Writes) (counters bytes : List ℕ) (found : Option SlabWork) → k < length old → s ≡ get_or old k s
+    → counters ≡ (slab_at slabs k).counters → IfSome found (λ work. IsDue need s new counters bytes work) → IfSome found (λ work. IsDueAmong need slabs old (set old k new) bytes work)
+due_here need slabs old k s new counters bytes None inside read are due = due
+due_here need slabs old k s new counters bytes (Some work) inside read are due = record {
+  place = k;
+  inside = inside;
+  slab = new;
+  due = subst (λ (cs : List ℕ). IsDue need (writes_at old k) new cs bytes work) are (subst (λ (w : Writes). IsDue need w new counters bytes work) (read_as old k s inside read) due);
+  after = refl;
+}
+
+-- there it is as it was, and has none
+pub still_here : (old : List Writes) (k : ℕ) (s new : Writes) (found : Option SlabWork) → is_some found ≡ false → k < length old → s ≡ get_or old k s → IfNone found (new ≡ s)
+    → set old k new ≡ old
+still_here old k s new None none inside read same = ap (λ (w : Writes). set old k w) (same ∙ read_as old k s inside read) ∙ set-get_or old k nothing
+still_here old k s new (Some work) none inside read same = absurd (false≢true (sym none))
+
+pub none_here : (need : Need) (old : List Writes) (k : ℕ) (s : Writes) (found : Option SlabWork) → is_some found ≡ false → k < length old → s ≡ get_or old k s → IfNone found (NoneDue need s)
+    → NoneDueBefore need old k → NoneDueBefore need old (k + 1)
+none_here need old k s (Some work) none inside read here before = absurd (false≢true (sym none))
+none_here need old k s None none inside read here before = λ j below. elim (cases_lt j k) [
+  | inl early ↦ before j early
+  | inr past ↦ subst (λ (n : ℕ). NoneDue need (writes_at old n)) (let is : k ≡ j = omega (arith, below, past) in is) (subst (λ (w : Writes). NoneDue need w) (read_as old k s inside read) here)
+]

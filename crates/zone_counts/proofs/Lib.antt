@@ -1,0 +1,8 @@
+pub mod PlaceLaws
+pub mod SlabLaws
+pub mod ZoneLaws
+pub mod OpeningLaws
+pub mod CallLaws
+pub mod ClaimLaws
+pub mod Rows
+pub mod UsedLaws

@@ -1,0 +1,5 @@
+use Rattle.zone_counts.proofs.CallLaws.{calls_keep}
+use Rattle.zone_counts.proofs.laws.zones_stay_settled.Goals as goal
+
+pub returns : goal.returns
+returns c = calls_keep

@@ -1,0 +1,59 @@
+-- Lists of calls of a zone, and the last step at whose end it had a free block.
+use Rattle.std.specs.Prelude.{ℕ, ◌≡◌, Bool, true, false, List, [], ◌∷◌, Option, None, Some}
+use Rattle.blk_base.specs.declared.place.Pbn.{Pbn}
+use Rattle.blk_base.specs.declared.point.Half.{Half}
+use Rattle.blk_base.specs.declared.request.Writer.{Writer}
+use Rattle.slab_counts.specs.Counts.{Counts, HasRoom, Takes, claimed, unclaimed, with_page}
+use Rattle.slab_counts.specs.declared.tickets.Ticket.{Ticket}
+use Rattle.slab_counts.specs.declared.tickets.Receipt.{Receipt}
+use Rattle.slab_tickets.specs.Tickets.{HasRoom as HasTicket, IsBelow, begun}
+use Rattle.slab_tickets.specs.declared.forms.Withdrawn.{Withdrawn}
+use Rattle.zone_counts.specs.Zone.{Zone, IsOfZone, IsClaimedIn, NoneFree, Changes, slab_of, with_slab}
+use Rattle.zone_counts.specs.Asking.{Asks, WithdrawsFrom, SharesIn}
+use Rattle.zone_counts.specs.declared.forms.Asked.{Asked}
+
+-- a call by what it answered; a step begins after one that ended with a free block, or without one
+pub data Call : Type 0 where
+  Begins : Bool → ℕ → Call
+  Asks' : Writer → Asked → Call
+  Withdraws' : Ticket → Withdrawn → Call
+  Shares' : Pbn → Call
+  Extends : Pbn → Call
+  Drops : Pbn → Call
+  SpendsPage : Pbn → Call
+  Applies : Half → Pbn → Counts → Call
+  Refused : Call
+
+-- what a call does, as its contract says
+abbrev pub Does : Call → Zone → Zone → Type 0
+Does (Begins free step) old new = IsBelow old.desk.step step × (free ≡ true → ¬ NoneFree old.slabs) × (free ≡ false → NoneFree old.slabs)
+    × (new ≡ record old { desk = begun free step old.desk })
+Does (Asks' writer answer) old new = HasTicket old.desk × Asks old new writer answer
+Does (Withdraws' ticket result) old new = WithdrawsFrom old new ticket result
+Does (Shares' at) old new = SharesIn old new at
+Does (Extends at) old new = IsClaimedIn old at × HasRoom (slab_of old at) at × (new ≡ with_slab old at (claimed (slab_of old at) at))
+Does (Drops at) old new = IsClaimedIn old at × Changes old new at (unclaimed (slab_of old at) at)
+Does (SpendsPage at) old new = IsClaimedIn old at × (new ≡ with_slab old at (with_page (slab_of old at) at))
+Does (Applies half at counts) old new = IsOfZone old at × Takes half (slab_of old at) counts at × Changes old new at counts
+Does Refused old new = new ≡ old
+
+-- these calls, the newest first, lead from the one to the other
+abbrev pub LeadTo : Zone → List Call → Zone → Type 0
+LeadTo old [] new = new ≡ old
+LeadTo old (call ∷ calls) new = (before : Zone) × LeadTo old calls before × Does call before new
+
+-- the step under way after these calls
+abbrev pub step_of : List Call → Option ℕ
+step_of [] = None
+step_of (Begins free step ∷ calls) = Some step
+step_of (other ∷ calls) = step_of calls
+
+-- the last step at whose end the zone had a free block
+abbrev pub last_free_of : List Call → Option ℕ
+last_free_of [] = None
+last_free_of (Begins true step ∷ calls) = step_of calls
+last_free_of (other ∷ calls) = last_free_of calls
+
+-- a receipt is right after these calls: no step from the one that asked on ended with a free block
+abbrev pub IsRight : List Call → Receipt → Type 0
+IsRight calls receipt = IsBelow (last_free_of calls) receipt.asked

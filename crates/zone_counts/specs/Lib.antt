@@ -1,0 +1,4 @@
+pub mod Zone
+pub mod Asking
+pub mod Calls
+pub mod Viewed

@@ -1,0 +1,20 @@
+//! The slabs of one physical zone: their counters and claims, and the tickets of those who found no free block.
+//!
+//! Slab n of the image belongs to the zone n mod P, of P physical zones. A request that asks gets the zone's lowest free block,
+//! or a ticket where none is free. A block that becomes free goes to the oldest ticket without one.
+//!
+//! All room is taken in the constructor: no later call can be refused for memory.
+#![tactic(auto)]
+
+mod forms;
+mod laws;
+mod opening;
+mod places;
+mod search;
+mod used;
+mod zone;
+
+pub use forms::Asked;
+pub use laws::{a_claim_is_of_its_zone, every_receipt_is_right, zones_stay_settled};
+pub use slab_tickets::Withdrawn;
+pub use zone::ZoneCounts;
