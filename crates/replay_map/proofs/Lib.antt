@@ -1,0 +1,4 @@
+pub mod ChangeLaws
+pub mod PageLaws
+pub mod LinkLaws
+pub mod Rows

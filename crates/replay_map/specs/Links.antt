@@ -1,0 +1,33 @@
+-- The pages to which a page leads.
+use Rattle.std.specs.Prelude.{ℕ, ◌≡◌, ◌+◌, ◌-◌, ◌*◌, ◌<◌, ◌↔◌, List, [], ◌∷◌, Some, Contains, slice_index_or}
+use Rattle.blk_base.specs.declared.place.Mapping.{Mapping}
+use Rattle.blk_base.specs.declared.place.Mapping.TheVariants.{Unmapped, Zero, At}
+use Rattle.blk_base.specs.declared.place.PageId.{PageId}
+use Rattle.blk_base.specs.declared.place.Pbn.{Pbn}
+use Rattle.blk_base.specs.declared.sizes.TheConstants.{PAGE_SLOTS}
+use Rattle.image_model.specs.Maps.{Image, page_at}
+use Rattle.image_model.specs.Pages.{above}
+use Rattle.replay_map.specs.declared.links.Link.{Link}
+
+-- the linked pages of an image that are just below this one, each with its block
+abbrev pub AreLinks : Image → PageId → List Link → Type 0
+AreLinks image page links = (below : PageId) (at : Pbn)
+    → Contains links (record { page = below; at = at }) ↔ ((above below ≡ page) × (page_at image below ≡ Some at))
+
+-- By the page's mappings.
+
+-- the page to which a slot leads, of a page that is no leaf
+abbrev pub page_below : PageId → ℕ → PageId
+page_below page slot = record { tree = page.tree; level = page.level - 1; index = page.index * PAGE_SLOTS + slot }
+
+-- the link of a slot, if it has one
+abbrev pub link_of : PageId → ℕ → Mapping → List Link
+link_of page slot Unmapped = []
+link_of page slot Zero = []
+link_of page slot (At block) = record { page = page_below page slot; at = block } ∷ []
+
+-- these are the links of the first slots
+abbrev pub AreOfSlots : PageId → List Mapping → ℕ → List Link → Type 0
+AreOfSlots page mappings count links = (below : PageId) (at : Pbn)
+    → Contains links (record { page = below; at = at })
+    ↔ ((slot : ℕ) × (slot < count) × (below ≡ page_below page slot) × (slice_index_or mappings slot Unmapped ≡ At at))

@@ -1,0 +1,88 @@
+ghost use Rattle.std.specs.Prelude.{◌≡◌, ◌<◌, ℕ, IfOk, IfErr, OnOk};
+ghost use Rattle.std.specs.Bool.{OnTrue, OnFalse};
+ghost use Rattle.blk_base.specs.Limits.{IsGeometry};
+ghost use Rattle.blk_base.specs.declared.sizes.TheConstants.{PAGE_SLOTS};
+ghost use Rattle.image_model.specs.Faults.{HasFault};
+ghost use Rattle.image_model.specs.Maps.{Image};
+ghost use Rattle.page_codec.specs.Grammar.{HasHead};
+ghost use Rattle.replay_map.specs.Pages.{AreSaid, HasSlotFault, IsReadAs, IsRefused, SaysSlot, Stands};
+
+use crate::Changes;
+use blk_base::{Block, Mapping, Mappings, PAGE_SLOTS};
+use page_codec::{PageFault, PageHead, slot};
+
+/// Reads the page of this block, with what the changes put into its slots. `into` has then what each slot says in the
+/// image that has this block and this window.
+///
+/// `Header` where the block doesn't begin as this page does; else the fault of the least slot that is refused, of those
+/// that no change replaces. Then `into` has any mappings.
+pub fn read_page(
+    block: &Block,
+    want: &PageHead,
+    changes: &Changes,
+    into: &mut Mappings,
+) -> Result<(), PageFault>
+    requires geometry { IsGeometry want.now.geometry }
+    ensures ok { OnOk result ((image : Image) → Stands image want.now block.now changes.now → IsReadAs image want.now into.new) }
+    ensures fault { IfErr result (λ fault. (image : Image) → Stands image want.now block.now changes.now
+        → HasFault image want.now.page want.now.at fault) }
+{
+    // Looked at for the proof alone: its level is a number of one byte.
+    let _level = want.page.level;
+    match read_slots(block, want, changes, into) {
+        Ok(()) => Ok(()),
+        Err(fault) => Err(fault),
+    }
+}
+
+// The same by the block and the changes alone.
+fn read_slots(
+    block: &Block,
+    want: &PageHead,
+    changes: &Changes,
+    into: &mut Mappings,
+) -> Result<(), PageFault>
+    requires geometry { IsGeometry want.now.geometry }
+    ensures head { OnOk result (HasHead want.now block.now) }
+    ensures ok { OnOk result (AreSaid want.now block.now changes.now PAGE_SLOTS into.new) }
+    ensures fault { IfErr result (IsRefused want.now block.now changes.now) }
+{
+    if !has_head(block, want) {
+        return Err(PageFault::Header);
+    }
+    for slot in 0..PAGE_SLOTS {
+        let mapping = read_slot(block, want, changes, slot)?;
+        into.set(slot, mapping);
+    }
+    Ok(())
+}
+
+// Whether the block begins as this page does.
+fn has_head(block: &Block, want: &PageHead) -> bool
+    requires { IsGeometry want.now.geometry }
+    ensures yes { OnTrue result (HasHead want.now block.now) }
+    ensures no { OnFalse result (HasHead want.now block.now → ⊥) }
+{
+    match slot(block, want, 0) {
+        Err(PageFault::Header) => false,
+        _ => true,
+    }
+}
+
+// What a slot says.
+fn read_slot(
+    block: &Block,
+    want: &PageHead,
+    changes: &Changes,
+    number: u16,
+) -> Result<Mapping, PageFault>
+    requires geometry { IsGeometry want.now.geometry }
+    requires inside { number < PAGE_SLOTS }
+    ensures ok { IfOk result (SaysSlot want.now block.now changes.now number) }
+    ensures fault { IfErr result (HasSlotFault want.now block.now changes.now number) }
+{
+    match changes.get(want.page, number) {
+        Some(mapping) => Ok(mapping),
+        None => slot(block, want, number),
+    }
+}
