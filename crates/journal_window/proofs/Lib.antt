@@ -1,0 +1,6 @@
+pub mod NewestLaws
+pub mod ReplayLaws
+pub mod PageLaws
+pub mod AnswerLaws
+pub mod ReadWindowLaws
+pub mod Rows

@@ -1,0 +1,103 @@
+-- What was read of the journal of an honest device on which nothing is pending is that of its one image.
+use Rattle.std.proofs.Common.{ℕ, ◌≡◌, ◌+◌, ◌<◌, ◌≤◌, ◌++◌, Bool, false, IsTrue, List, [], ◌∷◌, length, take, drop, reverse, Result, Ok, refl, sym, ◌∙◌, ap, subst, inr, arith}
+use Rattle.std.proofs.Math.Seq.{take-suc}
+use Rattle.std.proofs.lemmas.Grind.{reverse_onto}
+use Rattle.std.proofs.lemmas.List.{get_or-drop, length-drop, length-reverse, reverse-reverse}
+use Rattle.blk_base.specs.Regions.{needed_blocks}
+use Rattle.blk_base.specs.Sectors.{zero_block}
+use Rattle.blk_base.specs.declared.geometry.Geometry.{Geometry}
+use Rattle.blk_base.specs.declared.geometry.Super.{Super}
+use Rattle.disk_model.proofs.ImageLaws.{settled_are_contents, block_of_mix}
+use Rattle.disk_model.specs.Images.{HasOneImage}
+use Rattle.disk_model.specs.Log.{Blocks, block_at, settled}
+use Rattle.disk_model.specs.Seen.{Seen}
+use Rattle.disk_model.specs.Since.{AreGiven}
+use Rattle.image_layout.specs.Opened.{super_of_image}
+use Rattle.image_layout.specs.Window.{journal_of}
+use Rattle.image_layout.specs.declared.fault.SuperFault.{SuperFault}
+use Rattle.image_model.specs.Faults.{IsAtEnd, IsImageFault}
+use Rattle.image_model.specs.Sound.{Opens}
+use Rattle.image_model.specs.Windows.{IsLast, IsWindow, IsFaulty}
+use Rattle.image_model.specs.declared.fault.ImageFault.{ImageFault}
+use Rattle.image_model.specs.declared.fault.ImageFault.TheVariants.{Super as Superblock, Window, Page, Counter, SharedPage, Counts, Device, Unclean, Memory}
+use Rattle.journal_window.specs.Reads.{IsJournalRead, IsWindowRead, Fails}
+use Rattle.journal_window.specs.States.{WindowState}
+use Rattle.journal_window.specs.Windows.{IsUsedUp}
+
+-- blocks that were read from a place on
+given_from : (tells honest : Bool) (from : ℕ) (before : Seen) (blocks : List (List ℕ)) (image : Blocks) → IsTrue tells → IsTrue honest → AreGiven tells honest from before blocks
+    → from + length blocks ≤ length before.opening → HasOneImage before.opening before.log image → reverse blocks ≡ take (length blocks) (drop from image)
+given_from tells honest from before [] image told fair given room one = refl
+given_from tells honest from before (bytes ∷ older) image told fair (whole, mix, given) room one =
+    let n = length older in
+    let size = one.size in
+    let below : from + n < length before.opening = omega (arith, room) in
+    let here : bytes ≡ block_at image (from + n) =
+    block_of_mix (settled before.opening before.log (from + n)) (block_at image (from + n)) bytes (one.whole (from + n) below) whole (mix told fair)
+    (settled_are_contents _ before.opening before.log (from + n) (one.only (from + n) below)) in
+    let before_it : reverse older ≡ take n (drop from image) = given_from tells honest from before older image told fair given (omega (arith, room)) one in
+    let left = length-drop from image in
+    reverse_onto older bytes [] ∙ ap (λ (front : Blocks). front ++ (bytes ∷ [])) before_it
+    ∙ ap (λ (block : List ℕ). take n (drop from image) ++ (block ∷ [])) (here ∙ sym (get_or-drop from image n zero_block))
+    ∙ sym (take-suc (drop from image) n zero_block (omega (arith, below, size, left)))
+
+one_head : (a b : Super) → ◌≡◌ {A = Result Super SuperFault} (Ok a) (Ok b) → a ≡ b
+one_head a b same = cc
+
+module _ (tells honest : Bool) (before now : Seen) (image : Blocks) (told : IsTrue tells) (fair : IsTrue honest) (one : HasOneImage before.opening before.log image) where
+  -- the blocks of the journal
+  journal_shown : (g : Geometry) (journal : Blocks) → needed_blocks g ≤ before.size → IsJournalRead tells honest before now g journal → journal ≡ journal_of g image
+  journal_shown g journal room read =
+      let count = read.count in
+      let size = length-reverse journal in
+      let opening = read.read.told told in
+      sym (reverse-reverse journal) ∙ given_from tells honest 1 before (reverse journal) image told fair read.read.given (omega (arith, count, size, opening, room)) one
+      ∙ ap (λ (n : ℕ). take n (drop 1 image)) (size ∙ count)
+
+  module _ (head : Super) (room : needed_blocks head.geometry ≤ before.size) (accepted : super_of_image image ≡ Ok head) where
+    pub window_shown : (window : WindowState) → IsWindowRead tells honest before now head window → Opens image head window.last window.entries
+    window_shown window (journal, read, is) = record {
+      accepted = accepted;
+      sequences = is.sequences;
+      is_window = subst (λ (blocks : Blocks). IsWindow head.geometry head.start blocks window.last window.entries) (journal_shown head.geometry journal room read) is.is_window;
+    }
+
+    -- the sequences of the image are used up where those of the blocks are, and the other way round
+    at_end : (journal : Blocks) → journal ≡ journal_of head.geometry image → IsUsedUp head journal → IsAtEnd image
+    at_end journal same used = record {
+      head = head;
+      accepted = accepted;
+      unclean = used.unclean;
+      last = used.last;
+      is_last = subst (λ (blocks : Blocks). IsLast head.geometry head.start blocks used.last) same used.is_last;
+      past = used.past;
+    }
+
+    used_up : (journal : Blocks) → journal ≡ journal_of head.geometry image → IsAtEnd image → IsUsedUp head journal
+    used_up journal same ended =
+        let here : ended.head ≡ head = one_head ended.head head (sym ended.accepted ∙ accepted) in
+        record {
+          unclean = subst (λ (h : Super). h.clean ≡ false) here ended.unclean;
+          last = ended.last;
+          is_last = subst (λ (blocks : Blocks). IsLast head.geometry head.start blocks ended.last) (sym same)
+              (subst (λ (h : Super). IsLast h.geometry h.start (journal_of h.geometry image) ended.last) here ended.is_last);
+          past = ended.past;
+        }
+
+    pub fault_shown : (why : ImageFault) → Fails tells honest before now head why → IsImageFault image why
+    fault_shown (Superblock fault) (journal, read, refused) = inr (refused.0, at_end journal (journal_shown head.geometry journal room read) refused.1)
+    fault_shown (Window sequence) (journal, read, refused) =
+        let same = journal_shown head.geometry journal room read in
+        record {
+          head = head;
+          accepted = accepted;
+          sequences = λ ended. refused.0 (used_up journal same ended);
+          faulty = subst (λ (blocks : Blocks). IsFaulty head.geometry head.start blocks sequence) same refused.1;
+        }
+    fault_shown Device fails = tt
+    fault_shown Memory fails = tt
+    fault_shown (Page at fault) fails = absurd fails
+    fault_shown (Counter at point) fails = absurd fails
+    fault_shown (SharedPage at) fails = absurd fails
+    fault_shown (Counts at stored mapped) fails = absurd fails
+    fault_shown Unclean fails = absurd fails

@@ -1,0 +1,5 @@
+pub mod States
+pub mod Newest
+pub mod Replays
+pub mod Windows
+pub mod Reads

@@ -1,0 +1,62 @@
+ghost use Rattle.std.specs.Prelude.{◌≡◌, ◌≤◌, ◌<◌, ◌^◌, ℕ, IfOk, IfErr};
+ghost use Rattle.blk_base.specs.Limits.{IsGeometry};
+ghost use Rattle.blk_base.specs.Regions.{needed_blocks};
+ghost use Rattle.disk_model.specs.Since.{IsUntouched};
+ghost use Rattle.journal_window.specs.Reads.{IsJournalRead, IsWindowRead, JournalFails, Fails};
+
+use crate::{JournalWindow, window_of};
+use blk_base::{Block, Layout, Super};
+use disk_model::Disk;
+use image_model::ImageFault;
+use std::alloc::Global;
+
+/// Reads the window of an image's recovery journal: one read of each of the journal's blocks, in the order of their
+/// slots, and nothing else. `head` is the image's superblock, and the device has the blocks that its sizes need.
+///
+/// Refused as `window_of` says; with `Device` where a read failed; and with `Memory` only for want of memory, which is
+/// taken for the journal's blocks and the window's entries.
+pub fn read_window<D: Disk>(
+    alloc: Global,
+    head: &Super,
+    device: &mut D,
+) -> Result<JournalWindow, ImageFault>
+    requires sizes { IsGeometry head.now.geometry }
+    requires some { 1 ≤ head.now.start }
+    requires below { head.now.start < 2 ^ 54 }
+    requires room { needed_blocks head.now.geometry ≤ (D.seen device.old).size }
+    ensures window { IfOk result (IsWindowRead D.tells D.honest (D.seen device.old) (D.seen device.new) head.now) }
+    ensures fault { IfErr result (Fails D.tells D.honest (D.seen device.old) (D.seen device.new) head.now) }
+    ensures untouched { IsUntouched D.tells (D.seen device.old) (D.seen device.new) }
+{
+    let layout = Layout::of(&head.geometry);
+    let journal = read_journal(alloc, device, &layout)?;
+    window_of(alloc, head, journal.as_slice())
+}
+
+// Reads the blocks of the recovery journal.
+fn read_journal<D: Disk>(
+    alloc: Global,
+    device: &mut D,
+    layout: &Layout,
+) -> Result<Vec<Block>, ImageFault>
+    requires room { needed_blocks layout.now.geometry ≤ (D.seen device.old).size }
+    ensures read { IfOk result (λ journal. IsJournalRead D.tells D.honest (D.seen device.old) (D.seen device.new) layout.now.geometry journal.items) }
+    ensures fault { IfErr result (JournalFails D.tells D.honest (D.seen device.old) (D.seen device.new) layout.now.geometry) }
+    ensures untouched { IsUntouched D.tells (D.seen device.old) (D.seen device.new) }
+{
+    // Asked for the proof alone: a device that tells has as many opening blocks.
+    let _blocks = device.blocks();
+    let mut journal = Vec::new(alloc);
+    for slot in 0..u64::from(layout.geometry.journal) {
+        let mut block = Block::zero();
+        let Ok(()) = device.read(layout.journal_slot(slot), &mut block) else {
+            return Err(ImageFault::Device);
+        };
+        // Looked at for the proof alone: a block has 4096 bytes.
+        let _bytes = &block.bytes;
+        let Ok(()) = journal.push(block) else {
+            return Err(ImageFault::Memory);
+        };
+    }
+    Ok(journal)
+}
