@@ -1,0 +1,7 @@
+pub mod PointLaws
+pub mod PartLaws
+pub mod NumberLaws
+pub mod WindowLaws
+pub mod SortLaws
+pub mod AppliedLaws
+pub mod Rows

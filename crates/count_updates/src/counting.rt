@@ -1,0 +1,149 @@
+ghost use Rattle.std.specs.Prelude.{◌≡◌, ◌+◌, ◌*◌, ◌<◌, ◌≤◌, ℕ, List, ◌∷◌, Ok, Err, IfOk, IfErr, IfSome, IfNone, OnOk, length, get_or, take, drop};
+ghost use Rattle.blk_base.specs.declared.journal_entry.Update.{Update};
+ghost use Rattle.image_model.specs.Counts.{block_of_data, count_after};
+ghost use Rattle.image_model.specs.Sound.{IsDataPlace};
+ghost use Rattle.count_updates.specs.Counted.{AreCounted, AreCountedUpTo, IsCountedAt, IsCountRefusal};
+ghost use Rattle.count_updates.specs.Listed.{AreInOrder, IsCounted, IsPassed};
+ghost use Rattle.count_updates.specs.Numbers.{all_blocks, all_sectors};
+
+use crate::{CountFault, Found};
+use blk_base::{DataPlace, Half, Layout, Pbn, Point, Update};
+use std::alloc::Global;
+
+/// The count of each data block, slab after slab: its counter, and then its updates above the commit point of its
+/// counter's sector, each once, in the order of their points. It goes through the updates once.
+pub fn counts_of(alloc: Global, layout: &Layout, found: &Found) -> Result<Vec<u16>, CountFault>
+    requires counters { length found.now.counters.items ≡ all_blocks layout.now.geometry }
+    requires commits { length found.now.commits.items ≡ all_sectors layout.now.geometry }
+    requires order { AreInOrder found.now.updates.items }
+    ensures counts { IfOk result (λ counts. AreCounted layout.now.geometry found.now.counters.items found.now.commits.items found.now.updates.items counts.items) }
+    ensures refused { IfErr result (IsCountRefusal layout.now.geometry found.now.counters.items found.now.commits.items found.now.updates.items) }
+{
+    let Ok(mut counts) = Vec::with_capacity(alloc, found.counters.len()) else {
+        return Err(CountFault::Memory);
+    };
+    let mut passed = 0;
+    for slab in 0..layout.geometry.slabs {
+        passed = count_slab(layout, slab, found, passed, &mut counts)?;
+    }
+    Ok(counts)
+}
+
+// Adds the counts of a slab; the updates before `passed` are of earlier slabs. How many are of this one and of those
+// before it.
+fn count_slab(
+    layout: &Layout,
+    slab: u32,
+    found: &Found,
+    passed: usize,
+    counts: &mut Vec<u16>,
+) -> Result<usize, CountFault>
+    requires inside { slab < layout.now.geometry.slabs }
+    requires counters { length found.now.counters.items ≡ all_blocks layout.now.geometry }
+    requires commits { length found.now.commits.items ≡ all_sectors layout.now.geometry }
+    requires order { AreInOrder found.now.updates.items }
+    requires before { IsPassed found.now.updates.items passed (block_of_data layout.now.geometry (record { slab = slab; offset = 0 })).0 }
+    requires counted { AreCountedUpTo layout.now.geometry found.now.counters.items found.now.commits.items found.now.updates.items slab 0 counts.old.items }
+    ensures passed { IfOk result (λ after. (block : ℕ) → (block_of_data layout.now.geometry (record { slab = slab; offset = layout.now.geometry.slab_blocks })).0 ≤ block
+        → IsPassed found.now.updates.items after block) }
+    ensures counted { OnOk result (AreCountedUpTo layout.now.geometry found.now.counters.items found.now.commits.items found.now.updates.items (slab + 1) 0 counts.new.items) }
+    ensures refused { IfErr result (IsCountRefusal layout.now.geometry found.now.counters.items found.now.commits.items found.now.updates.items) }
+{
+    let all = found.updates.as_slice();
+    let mut next = passed;
+    for offset in 0..layout.geometry.slab_blocks {
+        let at = layout.data_block(slab, offset);
+        let end = end_of_block(all, next, at);
+        let place = DataPlace { slab, offset };
+        match count_of(layout, place, found, &all[next..end]) {
+            Ok(count) => {
+                let Ok(()) = counts.push(count) else {
+                    return Err(CountFault::Memory);
+                };
+            }
+            Err(point) => return Err(CountFault::Counter { at, point }),
+        }
+        next = end;
+    }
+    Ok(next)
+}
+
+// The end of the updates of blocks up to this one, from a place on.
+fn end_of_block(updates: &[Update], from: usize, at: Pbn) -> usize
+    requires { from ≤ length updates.now }
+    ensures within { (from ≤ result) × (result ≤ length updates.now) }
+    ensures passed { (k : ℕ) (d : Update) → from ≤ k → k < result → (get_or updates.now k d).at.0 ≤ at.0 }
+    ensures ended { (d : Update) → result < length updates.now → at.0 < (get_or updates.now result d).at.0 }
+{
+    for i in from..updates.len() {
+        if updates[i].at.0 > at.0 {
+            return i;
+        }
+    }
+    updates.len()
+}
+
+// The count of a data block; `updates` has all of its updates, and may have others.
+fn count_of(
+    layout: &Layout,
+    place: DataPlace,
+    found: &Found,
+    updates: &[Update],
+) -> Result<u16, Point>
+    requires inside { IsDataPlace layout.now.geometry place }
+    requires counters { length found.now.counters.items ≡ all_blocks layout.now.geometry }
+    requires commits { length found.now.commits.items ≡ all_sectors layout.now.geometry }
+    requires order { AreInOrder updates.now }
+    ensures counted { IfOk result (λ count. IsCountedAt layout.now.geometry found.now.counters.items found.now.commits.items updates.now place (Ok count)) }
+    ensures left { IfErr result (λ point. IsCountedAt layout.now.geometry found.now.counters.items found.now.commits.items updates.now place (Err point.0)) }
+{
+    let at = layout.data_block(place.slab, place.offset);
+    let sector = place.slab * layout.sectors_per_slab() + layout.sector_of_offset(place.offset);
+    let block = place.slab * layout.geometry.slab_blocks + place.offset;
+    let commit = found.commits[sector as usize];
+    let counter = found.counters[block as usize];
+    count_from(layout.limit(), at, commit, counter, updates)
+}
+
+// The same from its counter and the commit point.
+fn count_from(
+    limit: u16,
+    at: Pbn,
+    commit: Point,
+    counter: u8,
+    updates: &[Update],
+) -> Result<u16, Point>
+    requires small { limit < 1000 }
+    requires order { AreInOrder updates.now }
+    ensures counted { IfOk result (λ count. IsCounted limit updates.now at.0 commit.0 counter (Ok count)) }
+    ensures left { IfErr result (λ point. IsCounted limit updates.now at.0 commit.0 counter (Err point.0)) }
+{
+    let mut count = u16::from(counter);
+    if count > limit {
+        return Err(commit);
+    }
+    let mut applied = commit;
+    for update in updates {
+        if update.at.0 == at.0 && update.point.0 > applied.0 {
+            applied = update.point;
+            match count_with(limit, count, applied) {
+                Some(next) => count = next,
+                None => return Err(applied),
+            }
+        }
+    }
+    Ok(count)
+}
+
+// The count with one update more; none where it leaves its range.
+fn count_with(limit: u16, count: u16, point: Point) -> Option<u16>
+    requires small { limit < 1000 }
+    ensures some { IfSome result (λ next. (later : List ℕ) → count_after limit count (point.0 ∷ later) ≡ count_after limit next later) }
+    ensures none { IfNone result ((later : List ℕ) → count_after limit count (point.0 ∷ later) ≡ Err point.0) }
+{
+    match point.half() {
+        Half::Increment if count < limit => Some(count + 1),
+        Half::Decrement if count > 0 => Some(count - 1),
+        _ => None,
+    }
+}

@@ -1,0 +1,15 @@
+//! The counts of an image's data blocks, from their counters and from updates that the counters don't include yet.
+//!
+//! All here is over plain lists: the counters and the commit points of their sectors, slab after slab, and one list of
+//! updates, which may name an update more than once. What is asked for grows with these lists.
+#![tactic(auto)]
+
+mod applying;
+mod collecting;
+mod counting;
+mod forms;
+
+pub use applying::applied_points;
+pub use collecting::{put_in_order, updates_of_window};
+pub use counting::counts_of;
+pub use forms::{CountFault, Found};

@@ -1,0 +1,12 @@
+//! The stored counts of a whole image: of each data block what its counter, the slabs' journals and the window of the
+//! recovery journal say together.
+//!
+//! What is asked for grows with the image: for each data block three bytes, for each sector of counters 40, and 16 for
+//! each update that the journals hold.
+#![tactic(auto)]
+
+mod forms;
+mod recovering;
+
+pub use forms::{RecoveredCounts, SectorPoints};
+pub use recovering::counts_with;

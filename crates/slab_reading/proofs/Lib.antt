@@ -1,0 +1,3 @@
+pub mod SectorLaws
+pub mod TakeLaws
+pub mod FoundLaws

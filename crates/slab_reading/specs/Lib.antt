@@ -1,0 +1,3 @@
+pub mod Slabs
+pub mod Reads
+pub mod Found

@@ -1,0 +1,52 @@
+ghost use Rattle.std.specs.Prelude.{◌≡◌, ◌≤◌, ◌<◌, IfOk, IfErr};
+ghost use Rattle.blk_base.specs.Regions.{needed_blocks};
+ghost use Rattle.disk_model.specs.Since.{IsUntouched};
+ghost use Rattle.slab_reading.specs.Reads.{IsSlabRead, SlabFails};
+ghost use Rattle.slab_reading.specs.Slabs.{blocks_per_slab};
+
+use blk_base::{Block, Layout, Pbn};
+use disk_model::Disk;
+use image_model::ImageFault;
+use std::alloc::Global;
+
+/// How many sectors a block has.
+const SECTORS: u32 = 8;
+
+// How many blocks say what there is to know of a slab's counts: its reference blocks, and those of its journal.
+fn blocks_per_slab(layout: &Layout) -> u32
+    ensures count { result ≡ blocks_per_slab layout.now.geometry }
+    ensures small { result < 1000 }
+{
+    layout.sectors_per_slab().div_ceil(SECTORS) + layout.geometry.slab_journal
+}
+
+/// Reads these blocks of a slab, one after the other.
+pub(crate) fn read_slab<D: Disk>(
+    alloc: Global,
+    device: &mut D,
+    layout: &Layout,
+    slab: u32,
+) -> Result<Vec<Block>, ImageFault>
+    requires inside { slab < layout.now.geometry.slabs }
+    requires room { needed_blocks layout.now.geometry ≤ (D.seen device.old).size }
+    ensures read { IfOk result (λ read. IsSlabRead D.tells D.honest layout.now.geometry slab (D.seen device.old) (D.seen device.new) read.items) }
+    ensures fault { IfErr result (SlabFails D.tells D.honest layout.now.geometry slab (D.seen device.old) (D.seen device.new)) }
+    ensures untouched { IsUntouched D.tells (D.seen device.old) (D.seen device.new) }
+{
+    // Asked for the proof alone: a device that tells has as many opening blocks.
+    let _blocks = device.blocks();
+    let first = layout.reference_block(slab, 0);
+    let mut read = Vec::new(alloc);
+    for i in 0..blocks_per_slab(layout) {
+        let mut block = Block::zero();
+        let Ok(()) = device.read(Pbn(first.0 + i), &mut block) else {
+            return Err(ImageFault::Device);
+        };
+        // Looked at for the proof alone: a block has 4096 bytes.
+        let _bytes = &block.bytes;
+        let Ok(()) = read.push(block) else {
+            return Err(ImageFault::Memory);
+        };
+    }
+    Ok(read)
+}
