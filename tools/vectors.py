@@ -9,6 +9,7 @@ from collections.abc import Iterator
 from pathlib import Path
 
 import answers
+import chapters
 import journal
 import layout
 import map_page
@@ -23,7 +24,7 @@ CRATES = Path(__file__).resolve().parent.parent / "crates"
 
 
 def vectors() -> Iterator[Vector]:
-    for module in (layout, superblock, journal, map_page, slab, names, picks, answers):
+    for module in (layout, superblock, journal, map_page, slab, names, picks, answers, chapters):
         yield from module.vectors()
 
 

@@ -1,0 +1,5 @@
+pub mod Books
+pub mod Advices
+pub mod Orders
+pub mod Kept
+pub mod Answers

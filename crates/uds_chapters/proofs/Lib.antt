@@ -1,0 +1,6 @@
+pub mod NameLaws
+pub mod RecordLaws
+pub mod PageLaws
+pub mod FindLaws
+mod ChapterRows
+mod PageRows

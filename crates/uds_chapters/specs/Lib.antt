@@ -1,0 +1,5 @@
+pub mod Names
+pub mod Chapters
+pub mod Pages
+pub mod Finds
+pub mod Places

@@ -1,0 +1,12 @@
+//! Whether a block that the index named is shared: only where it was read, and has exactly the bytes that are written.
+#![tactic(auto)]
+
+mod deciding;
+mod judged;
+mod laws;
+mod verdict;
+
+pub use deciding::{decide, judge};
+pub use judged::Judged;
+pub use laws::what_is_decided_is_one;
+pub use verdict::Verdict;
