@@ -8,3 +8,4 @@ pub mod ZeroLaws
 pub mod CountRows
 pub mod SoundRows
 pub mod FaultRows
+pub mod EmptyLaws
