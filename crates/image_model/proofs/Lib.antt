@@ -9,3 +9,4 @@ pub mod CountRows
 pub mod SoundRows
 pub mod FaultRows
 pub mod EmptyLaws
+pub mod FaultLaws
