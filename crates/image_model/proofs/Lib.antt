@@ -10,3 +10,4 @@ pub mod SoundRows
 pub mod FaultRows
 pub mod EmptyLaws
 pub mod FaultLaws
+pub mod WholeRows

@@ -64,9 +64,9 @@ fn bytes_at(device: &mut MemDisk, at: u32) -> [u8; 4096] {
 }
 
 // The root of a tree without mappings.
-fn root_page(layout: &Layout, tree: u32) -> [u8; 4096] {
+fn root_page(layout: &Layout, tree: u8) -> [u8; 4096] {
     let page = PageId {
-        tree: tree as u8,
+        tree,
         level: if layout.geometry.height == 3 { 2 } else { 1 },
         index: 0,
     };
@@ -75,7 +75,7 @@ fn root_page(layout: &Layout, tree: u32) -> [u8; 4096] {
         page,
         at: Pbn(
             1u32.saturating_add(layout.geometry.journal)
-                .saturating_add(tree),
+                .saturating_add(u32::from(tree)),
         ),
     };
     let mappings = Mappings::new();
@@ -90,7 +90,7 @@ fn wanted_bytes(layout: &Layout, at: u32) -> [u8; 4096] {
     if layout.is_data_block(Pbn(at)) || layout.needed() <= at {
         FILL
     } else if 1 <= behind && behind <= u32::from(TREES) {
-        root_page(layout, behind - 1)
+        root_page(layout, (behind - 1) as u8)
     } else {
         [0; 4096]
     }
