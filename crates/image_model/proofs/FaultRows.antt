@@ -26,7 +26,7 @@ use Rattle.image_model.proofs.ZeroLaws.{no_slab_sector, of_eight}
 use Rattle.blk_base.specs.declared.journal_entry.Entry.TheVariants.{NewPage}
 
 -- zeros are no page
-zeros_unheaded : HasHead (head_of (with_root zero_block []) root (pbn 9)) zero_block → ⊥
+pub zeros_unheaded : HasHead (head_of (with_root zero_block []) root (pbn 9)) zero_block → ⊥
 unfolding zero_block head_bytes
 zeros_unheaded same = let first : 0 ≡ 86 = ap (λ (bytes : List ℕ). get_or bytes 0 0) same in omega (arith, first)
 

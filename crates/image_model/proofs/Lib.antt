@@ -8,3 +8,6 @@ pub mod ZeroLaws
 pub mod CountRows
 pub mod SoundRows
 pub mod FaultRows
+pub mod EmptyLaws
+pub mod FaultLaws
+pub mod WholeRows

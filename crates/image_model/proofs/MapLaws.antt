@@ -32,7 +32,7 @@ slot_says_its_mapping head block slot m is =
     (ap (λ (n : ℕ). number_at 4 n block) (sym place) ∙ target_at (36 + 5 * slot) block m held is.spelled)
     ∙ with_its_fields m held
 
-guarded : (b c : Bool) (o : Option Pbn) (at : Pbn) → (if b && c then o else None) ≡ Some at → (b ≡ true) × (c ≡ true) × (o ≡ Some at)
+pub guarded : (b c : Bool) (o : Option Pbn) (at : Pbn) → (if b && c then o else None) ≡ Some at → (b ≡ true) × (c ≡ true) × (o ≡ Some at)
 guarded true true o at is = (refl, refl, is)
 guarded true false o at is = absurd (cc is)
 guarded false c o at is = absurd (cc is)

@@ -4,3 +4,4 @@ pub mod Maps
 pub mod Counts
 pub mod Sound
 pub mod Faults
+pub mod Empty

@@ -7,4 +7,7 @@ mod fault;
 mod laws;
 
 pub use fault::ImageFault;
-pub use laws::{a_block_has_one_count, a_journal_has_one_window};
+pub use laws::{
+    a_block_has_one_count, a_journal_has_one_window, a_sound_image_has_no_fault,
+    an_empty_image_is_sound,
+};

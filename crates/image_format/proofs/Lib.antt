@@ -1,0 +1,4 @@
+pub mod RunLaws
+pub mod StopLaws
+pub mod AfterLaws
+pub mod FormatLaws

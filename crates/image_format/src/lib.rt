@@ -1,0 +1,10 @@
+//! Makes an empty image on a device, so that a stop at any moment leaves the device as it was, or no image, or an empty
+//! one.
+#![tactic(auto)]
+
+mod calls;
+mod fault;
+mod formatting;
+
+pub use fault::FormatFault;
+pub use formatting::format;
