@@ -1,3 +1,4 @@
 pub mod rows
 pub mod ListForms
+pub mod SlotLaws
 pub mod CountLaws

@@ -8,3 +8,4 @@ pub mod ViewRows
 pub mod LimitRows
 pub mod ZoneLimitRows
 pub mod CountRows
+pub mod SlotRows

@@ -5,6 +5,7 @@ pub mod DeskCounts
 pub mod Zones
 pub mod Phases
 pub mod Trace
+pub mod SlotOrder
 pub mod Vios
 pub mod DeskRows
 pub mod LogicalRows

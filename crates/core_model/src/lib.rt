@@ -12,6 +12,7 @@ mod outboxes;
 mod register;
 mod scripts;
 mod sizes;
+mod slots;
 mod supply;
 mod zones;
 
@@ -27,5 +28,6 @@ pub use outboxes::{Lane, Outboxes};
 pub use register::Register;
 pub use scripts::is_limited;
 pub use sizes::Sizes;
+pub use slots::Slots;
 pub use supply::Supply;
 pub use zones::{DeviceZone, JournalZone, Lock, Logged, LogicalZone, PhysicalZone, Zone, ZoneData};

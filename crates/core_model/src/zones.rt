@@ -1,5 +1,6 @@
 use crate::{
-    BLOCK_ROOM, BoxedVio, Desk, Fifo, LANE_ROOM, Lane, Outboxes, REQUEST_ROOM, Register, Supply,
+    BLOCK_ROOM, BoxedVio, Desk, Fifo, LANE_ROOM, Lane, Outboxes, REQUEST_ROOM, Register, Slots,
+    Supply,
 };
 use blk_base::{Entry, Lba, Mapping, Pbn, Writer};
 use vdo_model::{Placed, Rows};
@@ -41,7 +42,7 @@ pub struct LogicalZone {
     /// The entries of the journal when the session began: where an address is mapped that isn't set since.
     pub window: Rows<Entry>,
     /// The slots that were set since, with whoever set them.
-    pub slots: Register<Logged, BLOCK_ROOM>,
+    pub slots: Slots,
 }
 
 /// The data blocks.

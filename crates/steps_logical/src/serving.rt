@@ -11,7 +11,7 @@ ghost use Rattle.core_model.specs.Vios.{Post};
 ghost use Rattle.core_model.specs.Vios as vios;
 ghost use Rattle.step_parts.specs.Causes.{NoRule};
 
-use crate::locks::{is_among, is_held, latest};
+use crate::locks::{is_among, is_held};
 use crate::waiting::{stop_all, take_first};
 use blk_base::{Answer, Block, Lba, Mapping, ZoneId};
 use core_model::{Asks, BoxedVio, Item, Lock, LogicalZone, Phase, Sizes};
@@ -63,7 +63,7 @@ fn look(zone: &LogicalZone, vio: BoxedVio) -> BoxedVio
     ensures { result ≡ rows.looked zone.now vio }
 {
     let at = vio.get().at;
-    let latest = latest(zone.slots.as_slice(), at);
+    let latest = zone.slots.latest(at);
     let old = match latest {
         Some(write) => Mapping::At(write.block),
         None => mapping_at(zone.window.as_slice(), at),

@@ -5,7 +5,7 @@ ghost use Rattle.core_model.specs.Sessions.{Session};
 ghost use Rattle.core_model.specs.Start.{IsFirstData};
 
 use blk_base::Entry;
-use core_model::{Fifo, LogicalZone, Register};
+use core_model::{Fifo, LogicalZone, Register, Slots};
 use std::alloc::{AllocError, Global};
 use vdo_model::Rows;
 
@@ -18,7 +18,7 @@ pub fn first(alloc: Global, zone: u8, window: Rows<Entry>) -> Result<LogicalZone
     let held = Register::new(alloc)?;
     let waiting = Fifo::new(alloc)?;
     let retired = Register::new(alloc)?;
-    let slots = Register::new(alloc)?;
+    let slots = Slots::new(alloc)?;
     Ok(LogicalZone {
         zone,
         notified: false,
