@@ -22,7 +22,7 @@ use Rattle.zone_counts.specs.Calls as counts
 use Rattle.zone_counts.specs.Zone.{Zone}
 use Rattle.slab_zone.specs.Lesser.{IsLesser}
 use Rattle.slab_zone.specs.Whole.{WholeZone, AreOfSlab, AreOfZone, AreOpenedWrites, writes_at}
-use Rattle.slab_zone.specs.Writing.{HasRoomAt, RisesIn, TakesUpdate, IsDueAmong, NoneDueBefore, IsOutIn, SettlesIn, IsLowPointBefore, NoneUnsettledBefore}
+use Rattle.slab_zone.specs.Writing.{HasRoomAt, RisesIn, TakesUpdate, IsDueAmong, IsDueIn, NoneDueBefore, IsOutIn, SettlesIn, IsLowPointBefore, NoneUnsettledBefore}
 use Rattle.slab_zone.specs.Calls.{Call, Counted, Taken, Written, TakesNone, HandsOutWith, WritesSlab, AreAbove, HandsOut, Reports, calls_of, counted_of, updates_in}
 
 -- four slabs of 16 data blocks each, which begin at 85, 104, 123 and 142; the second of two zones has 104 and 142
@@ -168,6 +168,14 @@ module _ (need : Need) (now : Writes) (bytes : List ℕ) (work : SlabWork) where
 
   one_of_them_is_due : ¬ NoneDue need (opened 3) → ¬ NoneDueBefore need both 2
   one_of_them_is_due due all = due (all 1 (omega arith))
+
+-- IsDueIn
+module _ (need : Need) (new : List Writes) (bytes : List ℕ) (work : SlabWork) (due : IsDueAmong need zone.slabs both new bytes work) where
+  due_in_the_zone : IsDueIn need first (record first { writes = new }) bytes work
+  due_in_the_zone = record { due = due; same = refl }
+
+  becomes_another_zone : ¬ IsDueIn need first (record { counts = record zone { zone = 0 }; writes = new }) bytes work
+  becomes_another_zone is = let no : 0 ≡ 1 = ap (λ (z : WholeZone). z.counts.zone) is.same in omega (arith, no)
 
 -- IsOutIn, SettlesIn: the journal block of slab 1
 abbrev sealed : Writes
