@@ -7,7 +7,7 @@ use Rattle.dirty_pages.specs.declared.marks.Marks.{Marks}
 use Rattle.dirty_pages.proofs.PageLists.{at_set}
 use Rattle.dirty_pages.proofs.MarkLaws.{due_inside}
 use Rattle.reference_blocks.specs.References.{References, HandsOutBlock}
-use Rattle.slab_tests.specs.Away.{AreAway}
+use Rattle.reference_tests.specs.Away.{AreAway}
 
 -- a block that is handed out is being written
 pub away_handed_out : (old new : References) (away : List Bool) (counters bytes : List ℕ) (block : ℕ) → AreAway old away → HandsOutBlock old new counters bytes block → AreAway new (set away block true)

@@ -1,5 +1,5 @@
 ghost use Rattle.std.specs.Prelude.{◌≡◌, ◌<◌, true, false, replicate, slice_set, IfOk, OnOk, length};
-ghost use Rattle.slab_tests.specs.Away.{AreAway};
+ghost use Rattle.reference_tests.specs.Away.{AreAway};
 
 use crate::plain_references::{PlainReferences, count, opening_counter};
 use blk_base::{Block, Geometry, Opened, Point, Super, repeated};

@@ -1,4 +1,4 @@
-pub mod AwayLaws
 pub mod HeldLaws
 pub mod OutLaws
 pub mod TestedLaws
+pub mod WritingLaws

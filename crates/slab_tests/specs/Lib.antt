@@ -1,4 +1,3 @@
-pub mod Away
 pub mod Held
 pub mod Out
 pub mod Tested

@@ -1,8 +1,10 @@
 -- The zone of the tests, and what a test holds of it.
-use Rattle.std.specs.Prelude.{ℕ, ◌≡◌, List}
+use Rattle.std.specs.Prelude.{ℕ, ◌≡◌, ◌≤◌, List}
 use Rattle.blk_base.specs.declared.geometry.Geometry.{Geometry}
 use Rattle.slab_counts.specs.declared.tickets.Ticket.{Ticket}
 use Rattle.slab_tests.specs.Out.{AreOut}
+use Rattle.slab_writes.specs.Writes.{Writes}
+use Rattle.slab_zone.specs.Whole.{writes_at}
 use Rattle.zone_counts.specs.Zone.{Zone}
 
 -- eight slabs of 16 blocks
@@ -15,3 +17,7 @@ pub record IsSecond (z : Zone) (tickets : List Ticket) (issued step : ℕ) : Typ
   pub zone : z.zone ≡ 1
   pub zones : z.zones ≡ 2
   pub out : AreOut z.desk tickets issued step
+
+-- no update of these slabs has a point above this one
+abbrev pub AreUpTo : List Writes → ℕ → Type 0
+AreUpTo writes last = (k : ℕ) → (writes_at writes k).journal.last.0 ≤ last

@@ -67,6 +67,7 @@ pub(crate) fn image_of_two_zones(alloc: Global) -> Result<Opened, AllocError>
     ensures sizes { IfOk result (λ opened. opened.head.geometry ≡ two_zones) }
     ensures counters { IfOk result (λ opened. length opened.counters.items ≡ 128) }
     ensures limit { IfOk result (λ opened. All (λ counter. counter ≤ 254) opened.counters.items) }
+    ensures commits { IfOk result (λ opened. length opened.commits.items ≡ 8) }
 {
     let counters = counters_in_two_zones(alloc)?;
     Ok(Opened {

@@ -8,14 +8,14 @@ mod images;
 #[cfg(test)]
 mod plain_counts;
 #[cfg(test)]
-mod plain_references;
-#[cfg(test)]
 mod plain_tickets;
+#[cfg(test)]
+mod plain_writes;
 #[cfg(test)]
 mod plain_zone;
 #[cfg(test)]
-mod references;
-#[cfg(test)]
 mod tickets;
+#[cfg(test)]
+mod writing;
 #[cfg(test)]
 mod zones;

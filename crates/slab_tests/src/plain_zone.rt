@@ -1,13 +1,17 @@
 use crate::plain_counts::PlainCounts;
 use crate::plain_tickets::{PlainTickets, Worth};
+use crate::plain_writes::PlainWrites;
+use blk_base::Block;
 use slab_counts::Refusal;
+use slab_zone::{Need, SlabPart, SlabWork};
 use std::alloc::{AllocError, Global};
 
-/// The blocks and tickets of a zone.
+/// The blocks and tickets of a zone, and what of it is to be written.
 #[derive(Drop)]
 pub(crate) struct PlainZone {
     counts: PlainCounts,
     tickets: PlainTickets,
+    writes: PlainWrites,
 }
 
 /// What one who asks gets: a block, or a ticket with its number and the step.
@@ -23,6 +27,7 @@ impl PlainZone {
         PlainZone {
             counts: PlainCounts::opened(106, 16, 42),
             tickets: PlainTickets::new(alloc),
+            writes: PlainWrites::new(alloc),
         }
     }
 
@@ -64,6 +69,7 @@ impl PlainZone {
         self.serve();
     }
 
+    /// The counter where the update doesn't fit.
     pub(crate) fn increment(&mut self, at: u32) -> Result<(), u32> {
         self.counts.increment(at)
     }
@@ -72,6 +78,38 @@ impl PlainZone {
         self.counts.decrement(at)?;
         self.serve();
         Ok(())
+    }
+
+    /// An update was taken.
+    pub(crate) fn take(&mut self, at: u32, point: u64) -> Result<(), AllocError> {
+        self.writes.take(at, point)
+    }
+
+    /// Hands out a block: the place of its slab, its part, and its number there.
+    pub(crate) fn due(&mut self, need: Need) -> Option<(u32, SlabPart, u64)> {
+        self.writes.due(need)
+    }
+
+    /// Whether the block that was handed out is that of the plain body, and says what it is to say.
+    pub(crate) fn is_right(
+        &self,
+        wanted: Option<(u32, SlabPart, u64)>,
+        work: &SlabWork,
+        block: &Block,
+    ) -> bool {
+        match wanted {
+            Some(wanted) => self.writes.is_right(wanted, work, block, &self.counts),
+            None => false,
+        }
+    }
+
+    pub(crate) fn durable(&mut self, work: &SlabWork) {
+        self.writes.durable(work);
+    }
+
+    /// The least point of what isn't durable, and how many blocks are used.
+    pub(crate) fn sums(&self) -> (Option<u64>, u32) {
+        (self.writes.low_point(), self.counts.used())
     }
 
     pub(crate) fn look(&self, at: u32) -> (u32, bool) {

@@ -1,33 +1,39 @@
 ghost use Rattle.std.specs.Prelude.{◌≡◌, ◌≤◌, ◌<◌, IsTrue, IfOk, OnOk};
-ghost use Rattle.blk_base.specs.Points.{half_of};
 ghost use Rattle.zone_counts.specs.Zone.{IsOf, IsOfZone, IsClaimedIn};
-ghost use Rattle.slab_tests.specs.Tested.{IsSecond, two_zones};
+ghost use Rattle.slab_tests.specs.Tested.{AreUpTo, IsSecond, two_zones};
 
 use crate::images::{TWO_ZONES, image_of_two_zones};
 use crate::plain_zone::{PlainAsked, PlainZone};
 use crate::tickets::{self, ASKER, Clock, worth_of};
-use blk_base::{Layout, Pbn, Point, Update};
-use slab_counts::{Claim, Refusal, Stray, Ticket};
+use crate::writing::{self, MetWrites};
+use blk_base::{Layout, Pbn};
+use slab_counts::{Claim, Refusal, Ticket};
+use slab_zone::{Asked, Need, SlabZone};
 use std::alloc::{AllocError, Global};
 use std::test::Fail;
-use zone_counts::{Asked, ZoneCounts};
+
+// The block of a claim that was given.
+fn block_of(claim: Result<Claim, Refusal>) -> Result<u32, Refusal> {
+    Ok(claim?.block().0)
+}
 
 // What a test holds of a zone: claims, tickets, and the blocks of the spent claims whose increment it owes.
 #[derive(Drop)]
-struct Held {
+pub(crate) struct Held {
     claims: Vec<Claim>,
-    tickets: Vec<Ticket>,
-    owed: Vec<Pbn>,
-    clock: Clock,
+    pub(crate) tickets: Vec<Ticket>,
+    pub(crate) owed: Vec<Pbn>,
+    pub(crate) clock: Clock,
 }
 
 // How often a long run met what makes it worth running.
 #[derive(Clone, Copy)]
-struct Met {
+pub(crate) struct Met {
     tickets: u32,
     worth: tickets::Met,
     refusals: u32,
-    strays: u32,
+    pub(crate) strays: u32,
+    pub(crate) writes: MetWrites,
 }
 
 impl Met {
@@ -37,6 +43,7 @@ impl Met {
             worth: tickets::Met::nothing(),
             refusals: 0,
             strays: 0,
+            writes: MetWrites::nothing(),
         }
     }
 
@@ -46,11 +53,12 @@ impl Met {
 }
 
 // The second of two zones, in its first step, of which nothing is held.
-fn first_step(alloc: Global) -> Result<(ZoneCounts, Held), AllocError>
-    ensures { IfOk result (λ opened. IsSecond opened.0 opened.1.tickets.items opened.1.clock.issued opened.1.clock.step) }
+fn first_step(alloc: Global) -> Result<(SlabZone, Held), AllocError>
+    ensures second { IfOk result (λ opened. IsSecond opened.0.counts opened.1.tickets.items opened.1.clock.issued opened.1.clock.step) }
+    ensures last { IfOk result (λ opened. AreUpTo opened.0.writes 1000) }
 {
     let opened = image_of_two_zones(alloc)?;
-    let mut zone = ZoneCounts::new(alloc, 1, 2, 1, &opened)?;
+    let mut zone = SlabZone::new(alloc, 1, 2, 1, &opened)?;
     zone.begin_step(1);
     let held = Held {
         claims: Vec::new(alloc),
@@ -62,7 +70,7 @@ fn first_step(alloc: Global) -> Result<(ZoneCounts, Held), AllocError>
 }
 
 // Whether it is a data block of the second of two zones.
-fn is_mine(at: Pbn) -> bool
+pub(crate) fn is_mine(at: Pbn) -> bool
     ensures { IsTrue result → IsOf two_zones 1 2 at }
 {
     match Layout::of(&TWO_ZONES).place(at) {
@@ -72,17 +80,18 @@ fn is_mine(at: Pbn) -> bool
 }
 
 // Whether it is a block of the zone, to which nothing is mapped, and on which there is a claim.
-fn is_claimed(zone: &ZoneCounts, held: &Held, at: Pbn) -> bool
-    requires { IsSecond zone.now held.now.tickets.items held.now.clock.issued held.now.clock.step }
-    ensures { IsTrue result → IsClaimedIn zone.now at }
+fn is_claimed(zone: &SlabZone, held: &Held, at: Pbn) -> bool
+    requires { IsSecond zone.now.counts held.now.tickets.items held.now.clock.issued held.now.clock.step }
+    ensures { IsTrue result → IsClaimedIn zone.now.counts at }
 {
     is_mine(at) && zone.count(at) == 0 && !zone.is_free(at)
 }
 
 // Begins a step.
-fn begin(zone: &mut ZoneCounts, plain: &mut PlainZone, held: &mut Held, number: u64) -> bool
-    requires { IsSecond zone.old held.old.tickets.items held.old.clock.issued held.old.clock.step }
-    ensures { IsSecond zone.new held.new.tickets.items held.new.clock.issued held.new.clock.step }
+fn begin(zone: &mut SlabZone, plain: &mut PlainZone, held: &mut Held, number: u64) -> bool
+    requires { IsSecond zone.old.counts held.old.tickets.items held.old.clock.issued held.old.clock.step }
+    ensures second { IsSecond zone.new.counts held.new.tickets.items held.new.clock.issued held.new.clock.step }
+    ensures writes { zone.new.writes ≡ zone.old.writes }
 {
     if held.clock.step > 100_000 {
         return true;
@@ -95,13 +104,14 @@ fn begin(zone: &mut ZoneCounts, plain: &mut PlainZone, held: &mut Held, number: 
 
 // Asks for a block, and tells whether both gave the same one, or the same ticket.
 fn ask(
-    zone: &mut ZoneCounts,
+    zone: &mut SlabZone,
     plain: &mut PlainZone,
     held: &mut Held,
     met: &mut Met,
 ) -> Result<bool, AllocError>
-    requires { IsSecond zone.old held.old.tickets.items held.old.clock.issued held.old.clock.step }
-    ensures { OnOk result (IsSecond zone.new held.new.tickets.items held.new.clock.issued held.new.clock.step) }
+    requires { IsSecond zone.old.counts held.old.tickets.items held.old.clock.issued held.old.clock.step }
+    ensures second { OnOk result (IsSecond zone.new.counts held.new.tickets.items held.new.clock.issued held.new.clock.step) }
+    ensures writes { zone.new.writes ≡ zone.old.writes }
 {
     if held.tickets.len() >= 32 || held.clock.issued >= 1000 {
         return Ok(true);
@@ -125,14 +135,15 @@ fn ask(
 
 // Withdraws one of the tickets that are held, and tells whether both say that it is worth the same, and a receipt is right.
 fn withdraw(
-    zone: &mut ZoneCounts,
+    zone: &mut SlabZone,
     plain: &mut PlainZone,
     held: &mut Held,
     met: &mut Met,
     place: usize,
 ) -> bool
-    requires { IsSecond zone.old held.old.tickets.items held.old.clock.issued held.old.clock.step }
-    ensures { IsSecond zone.new held.new.tickets.items held.new.clock.issued held.new.clock.step }
+    requires { IsSecond zone.old.counts held.old.tickets.items held.old.clock.issued held.old.clock.step }
+    ensures second { IsSecond zone.new.counts held.new.tickets.items held.new.clock.issued held.new.clock.step }
+    ensures writes { zone.new.writes ≡ zone.old.writes }
 {
     let count = held.tickets.len();
     if count == 0 {
@@ -146,9 +157,10 @@ fn withdraw(
 }
 
 // Shares a block; the claim is let go, and stays counted.
-fn share(zone: &mut ZoneCounts, plain: &mut PlainZone, held: &Held, met: &mut Met, at: u32) -> bool
-    requires { IsSecond zone.old held.now.tickets.items held.now.clock.issued held.now.clock.step }
-    ensures { IsSecond zone.new held.now.tickets.items held.now.clock.issued held.now.clock.step }
+fn share(zone: &mut SlabZone, plain: &mut PlainZone, held: &Held, met: &mut Met, at: u32) -> bool
+    requires { IsSecond zone.old.counts held.now.tickets.items held.now.clock.issued held.now.clock.step }
+    ensures second { IsSecond zone.new.counts held.now.tickets.items held.now.clock.issued held.now.clock.step }
+    ensures writes { zone.new.writes ≡ zone.old.writes }
 {
     let wanted = plain.claim_share(at);
     match zone.claim_share(Pbn(at)) {
@@ -161,9 +173,10 @@ fn share(zone: &mut ZoneCounts, plain: &mut PlainZone, held: &Held, met: &mut Me
 }
 
 // Extends the claim that came last.
-fn extend(zone: &mut ZoneCounts, plain: &mut PlainZone, held: &mut Held) -> Result<bool, AllocError>
-    requires { IsSecond zone.old held.old.tickets.items held.old.clock.issued held.old.clock.step }
-    ensures { OnOk result (IsSecond zone.new held.new.tickets.items held.new.clock.issued held.new.clock.step) }
+fn extend(zone: &mut SlabZone, plain: &mut PlainZone, held: &mut Held) -> Result<bool, AllocError>
+    requires { IsSecond zone.old.counts held.old.tickets.items held.old.clock.issued held.old.clock.step }
+    ensures second { OnOk result (IsSecond zone.new.counts held.new.tickets.items held.new.clock.issued held.new.clock.step) }
+    ensures writes { zone.new.writes ≡ zone.old.writes }
 {
     let Some(claim) = held.claims.pop() else {
         return Ok(true);
@@ -185,9 +198,10 @@ fn extend(zone: &mut ZoneCounts, plain: &mut PlainZone, held: &mut Held) -> Resu
 }
 
 // Drops the claim that came last.
-fn drop_claim(zone: &mut ZoneCounts, plain: &mut PlainZone, held: &mut Held) -> bool
-    requires { IsSecond zone.old held.old.tickets.items held.old.clock.issued held.old.clock.step }
-    ensures { IsSecond zone.new held.new.tickets.items held.new.clock.issued held.new.clock.step }
+fn drop_claim(zone: &mut SlabZone, plain: &mut PlainZone, held: &mut Held) -> bool
+    requires { IsSecond zone.old.counts held.old.tickets.items held.old.clock.issued held.old.clock.step }
+    ensures second { IsSecond zone.new.counts held.new.tickets.items held.new.clock.issued held.new.clock.step }
+    ensures writes { zone.new.writes ≡ zone.old.writes }
 {
     let Some(claim) = held.claims.pop() else {
         return true;
@@ -200,9 +214,10 @@ fn drop_claim(zone: &mut ZoneCounts, plain: &mut PlainZone, held: &mut Held) -> 
 }
 
 // Spends the claim that came last.
-fn spend(zone: &mut ZoneCounts, held: &mut Held) -> Result<bool, AllocError>
-    requires { IsSecond zone.old held.old.tickets.items held.old.clock.issued held.old.clock.step }
-    ensures { OnOk result (IsSecond zone.new held.new.tickets.items held.new.clock.issued held.new.clock.step) }
+fn spend(zone: &mut SlabZone, held: &mut Held) -> Result<bool, AllocError>
+    requires { IsSecond zone.old.counts held.old.tickets.items held.old.clock.issued held.old.clock.step }
+    ensures second { OnOk result (IsSecond zone.new.counts held.new.tickets.items held.new.clock.issued held.new.clock.step) }
+    ensures writes { zone.new.writes ≡ zone.old.writes }
 {
     let Some(claim) = held.claims.pop() else {
         return Ok(true);
@@ -216,12 +231,13 @@ fn spend(zone: &mut ZoneCounts, held: &mut Held) -> Result<bool, AllocError>
 
 // Spends the claim that came last, for a tree page.
 fn spend_page(
-    zone: &mut ZoneCounts,
+    zone: &mut SlabZone,
     plain: &mut PlainZone,
     held: &mut Held,
 ) -> Result<bool, AllocError>
-    requires { IsSecond zone.old held.old.tickets.items held.old.clock.issued held.old.clock.step }
-    ensures { OnOk result (IsSecond zone.new held.new.tickets.items held.new.clock.issued held.new.clock.step) }
+    requires { IsSecond zone.old.counts held.old.tickets.items held.old.clock.issued held.old.clock.step }
+    ensures second { OnOk result (IsSecond zone.new.counts held.new.tickets.items held.new.clock.issued held.new.clock.step) }
+    ensures writes { zone.new.writes ≡ zone.old.writes }
 {
     let Some(claim) = held.claims.pop() else {
         return Ok(true);
@@ -234,108 +250,66 @@ fn spend_page(
     Ok(true)
 }
 
-// Whether both took the update, or found the same counter.
-fn told(answer: Result<(), Stray>, wanted: Result<(), u32>, met: &mut Met) -> bool {
-    met.strays = met.strays.saturating_add(u32::from(wanted.is_err()));
-    match (answer, wanted) {
-        (Ok(()), Ok(())) => true,
-        (Err(stray), Err(count)) => u32::from(stray.count) == count,
-        _ => false,
-    }
-}
-
-// Takes the increment of a block, or a decrement.
-fn apply(
-    zone: &mut ZoneCounts,
-    plain: &mut PlainZone,
-    held: &Held,
-    met: &mut Met,
-    at: Pbn,
-    is_increment: bool,
-) -> bool
-    requires { IsSecond zone.old held.now.tickets.items held.now.clock.issued held.now.clock.step }
-    ensures { IsSecond zone.new held.now.tickets.items held.now.clock.issued held.now.clock.step }
-{
-    if !is_mine(at) {
-        return false;
-    }
-    let (point, wanted) = if is_increment {
-        (1024, plain.increment(at.0))
-    } else {
-        (1025, plain.decrement(at.0))
-    };
-    let answer = zone.apply(&Update {
-        at,
-        point: Point(point),
-    });
-    told(answer, wanted, met)
-}
-
 // Whether both say the same of a block.
-fn look(zone: &ZoneCounts, plain: &PlainZone, held: &Held, at: Pbn) -> bool
-    requires { IsSecond zone.now held.now.tickets.items held.now.clock.issued held.now.clock.step }
+fn look(zone: &SlabZone, plain: &PlainZone, held: &Held, at: Pbn) -> bool
+    requires { IsSecond zone.now.counts held.now.tickets.items held.now.clock.issued held.now.clock.step }
 {
     is_mine(at) && (u32::from(zone.count(at)), zone.is_free(at)) == plain.look(at.0)
 }
 
 // The place of a block of the zone.
-fn block_at(place: u32) -> Pbn
+pub(crate) fn block_at(place: u32) -> Pbn
     requires { place < 64 }
 {
     Pbn(106 + place / 16 * 42 + place % 16)
 }
 
-// One call, which a number chooses, of both.
+// One call on the counts, which a number chooses, of both.
 fn step(
-    zone: &mut ZoneCounts,
+    zone: &mut SlabZone,
     plain: &mut PlainZone,
     held: &mut Held,
     met: &mut Met,
     number: u64,
 ) -> Result<bool, AllocError>
-    requires { IsSecond zone.old held.old.tickets.items held.old.clock.issued held.old.clock.step }
-    ensures { OnOk result (IsSecond zone.new held.new.tickets.items held.new.clock.issued held.new.clock.step) }
+    requires { IsSecond zone.old.counts held.old.tickets.items held.old.clock.issued held.old.clock.step }
+    ensures second { OnOk result (IsSecond zone.new.counts held.new.tickets.items held.new.clock.issued held.new.clock.step) }
+    ensures writes { zone.new.writes ≡ zone.old.writes }
 {
     let rest = number / 16;
     match number % 16 {
-        0..=4 => ask(zone, plain, held, met),
-        5 | 6 => Ok(withdraw(zone, plain, held, met, rest as usize)),
-        7 => Ok(share(zone, plain, held, met, 104 + (rest % 10) as u32)),
-        8 => extend(zone, plain, held),
-        9 | 10 => Ok(drop_claim(zone, plain, held)),
+        0..=5 => ask(zone, plain, held, met),
+        6 | 7 => Ok(withdraw(zone, plain, held, met, rest as usize)),
+        8 => Ok(share(zone, plain, held, met, 104 + (rest % 10) as u32)),
+        9 => extend(zone, plain, held),
+        10 => Ok(drop_claim(zone, plain, held)),
         11 if rest % 4 == 0 => spend_page(zone, plain, held),
-        11 | 12 => spend(zone, held),
-        13 => match held.owed.pop() {
-            Some(at) => Ok(apply(zone, plain, held, met, at, true)),
-            None => Ok(true),
-        },
-        14 => Ok(begin(zone, plain, held, rest)),
-        _ => Ok(apply(
-            zone,
-            plain,
-            held,
-            met,
-            block_at((rest % 64) as u32),
-            rest % 3 == 0,
-        )),
+        11..=14 => spend(zone, held),
+        _ => Ok(begin(zone, plain, held, rest)),
     }
 }
 
 // How many of 600 calls both make alike before the first that they don't.
 fn count_alike(
-    zone: &mut ZoneCounts,
+    zone: &mut SlabZone,
     plain: &mut PlainZone,
     held: &mut Held,
     met: &mut Met,
 ) -> Result<u64, AllocError>
-    requires { IsSecond zone.old held.old.tickets.items held.old.clock.issued held.old.clock.step }
+    requires second { IsSecond zone.old.counts held.old.tickets.items held.old.clock.issued held.old.clock.step }
+    requires last { AreUpTo zone.old.writes 1000 }
 {
     let mut number = 1_u64;
+    let mut last = 1000_u64;
     for turn in 0..600_u64 {
         number = number
             .wrapping_mul(6364136223846793005)
             .wrapping_add(1442695040888963407);
-        let alike = step(zone, plain, held, met, number >> 33)?;
+        let alike = if number >> 62 > 0 {
+            step(zone, plain, held, met, number >> 33)?
+        } else {
+            writing::step(zone, plain, held, met, &mut last, number >> 33)?
+        };
         let at = block_at((number >> 40) as u32 % 64);
         if !alike || !look(zone, plain, held, at) {
             return Ok(turn);
@@ -351,6 +325,66 @@ fn as_the_plain_zone(rt: HostRuntime) -> Result<(), Fail> {
     plain.begin(1);
     let mut met = Met::nothing();
     let alike = count_alike(&mut zone, &mut plain, &mut held, &mut met);
-    assert_eq!(rt; (alike, met.all()), (Ok(600), (66, (9, 26), 24, 21)));
+    assert_eq!(rt; (alike, met.all()), (Ok(600), (70, (6, 34), 9, 24)));
+    assert_eq!(rt; met.writes.all(), (24, 11, 19));
+    Ok(())
+}
+
+// How many of 330 updates of one slab are taken before its journal has no room.
+fn fill(
+    zone: &mut SlabZone,
+    plain: &mut PlainZone,
+    held: &Held,
+    met: &mut Met,
+    last: &mut u64,
+) -> Result<u32, AllocError>
+    requires second { IsSecond zone.old.counts held.now.tickets.items held.now.clock.issued held.now.clock.step }
+    requires last { AreUpTo zone.old.writes last.old }
+    ensures { OnOk result (AreUpTo zone.new.writes last.new) }
+{
+    for turn in 0..330_u32 {
+        let at = Pbn(107 + turn % 2);
+        if !writing::apply(zone, plain, held, met, last, at, false)? {
+            return Ok(turn);
+        }
+    }
+    Ok(330)
+}
+
+// The journal block of a slab is due once it is full, and the slab has room again once it is sealed.
+#[test]
+fn a_full_block_is_due(rt: HostRuntime) -> Result<(), Fail> {
+    let (mut zone, held) = first_step(rt.alloc())?;
+    let mut plain = PlainZone::opened(rt.alloc());
+    let mut met = Met::nothing();
+    let mut last = 1000_u64;
+    let filled = fill(&mut zone, &mut plain, &held, &mut met, &mut last)?;
+    let is_right = writing::write(&mut zone, &mut plain, &mut met, Need::Full, last);
+    let again = writing::write(&mut zone, &mut plain, &mut met, Need::Full, last);
+    assert_eq!(rt;
+        (filled, is_right, again, met.writes.all()),
+        (320, true, true, (1, 0, 1))
+    );
+    Ok(())
+}
+
+// What a zone refuses to share: a block as high as can be, a free one, one with a tree page, and one of another zone.
+#[test]
+fn what_a_zone_does_not_share(rt: HostRuntime) -> Result<(), Fail> {
+    let opened = image_of_two_zones(rt.alloc())?;
+    let mut zone = SlabZone::new(rt.alloc(), 1, 2, 1, &opened)?;
+    let full = block_of(zone.claim_share(Pbn(107)));
+    let free = block_of(zone.claim_share(Pbn(120)));
+    let page = block_of(zone.claim_share(Pbn(106)));
+    let other = block_of(zone.claim_share(Pbn(85)));
+    let shared = block_of(zone.claim_share(Pbn(111)));
+    let wanted = [
+        Err(Refusal::Full),
+        Err(Refusal::NotLive),
+        Err(Refusal::NotData),
+        Err(Refusal::NotData),
+        Ok(111),
+    ];
+    assert_eq!(rt; [full, free, page, other, shared], wanted);
     Ok(())
 }

@@ -10,3 +10,4 @@ pub mod RisingLaws
 pub mod WrittenLaws
 pub mod ZoneLaws
 pub mod OutLaws
+pub mod Rows

@@ -1,5 +1,5 @@
 -- A block that is handed out wasn't being written, and is until its write is reported.
-use Rattle.std.specs.Prelude.{ℕ, ◌≡◌, ◌≢◌, ◌+◌, ◌*◌, ◌/◌, ◌%◌, ◌<◌, ◌⊎◌, List, length, Option, None, Some}
+use Rattle.std.specs.Prelude.{ℕ, ◌≡◌, ◌+◌, ◌*◌, ◌/◌, ◌%◌, ◌<◌, ◌⊎◌, List, length, Some}
 use Rattle.std.proofs.Common.{sym, ◌∙◌, ap, subst, arith, inl, inr, refl, set, get_or-set_same, get_or-set_other}
 use Rattle.std.proofs.lemmas.Bool.{cases_eq}
 use Rattle.std.proofs.lemmas.Option.{none-some}
@@ -18,7 +18,7 @@ use Rattle.slab_writes.specs.declared.forms.Need.{Need}
 use Rattle.slab_writes.specs.declared.forms.SlabPart.{SlabPart}
 use Rattle.slab_writes.specs.declared.forms.SlabPart.TheVariants as part
 use Rattle.slab_writes.specs.declared.forms.SlabWork.{SlabWork}
-use Rattle.zone_counts.specs.Zone.{Zone, place_of}
+use Rattle.zone_counts.specs.Zone.{place_of}
 use Rattle.zone_counts.specs.Calls as counts
 use Rattle.blk_base.specs.Points.{half_of}
 use Rattle.slab_zone.specs.Whole.{WholeZone, IsWhole, nothing, writes_at, writes_of}

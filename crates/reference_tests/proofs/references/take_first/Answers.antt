@@ -1,7 +1,7 @@
 use Rattle.std.proofs.Common.{subst, sym, List, Bool}
-use Rattle.slab_tests.specs.Away.{AreAway}
-use Rattle.slab_tests.proofs.AwayLaws.{away_handed_out}
-use Rattle.slab_tests.proofs.references.take_first.Goals as goal
+use Rattle.reference_tests.specs.Away.{AreAway}
+use Rattle.reference_tests.proofs.AwayLaws.{away_handed_out}
+use Rattle.reference_tests.proofs.references.take_first.Goals as goal
 
 pub returns : goal.returns
 returns c =
