@@ -6,6 +6,10 @@ mod faults;
 #[cfg(test)]
 mod fuses;
 #[cfg(test)]
+mod maps;
+#[cfg(test)]
 mod picks;
 #[cfg(test)]
 mod plans;
+#[cfg(test)]
+mod windows;
