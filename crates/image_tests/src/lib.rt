@@ -8,6 +8,10 @@ mod formats;
 #[cfg(test)]
 mod fuses;
 #[cfg(test)]
+mod maps;
+#[cfg(test)]
 mod picks;
 #[cfg(test)]
 mod plans;
+#[cfg(test)]
+mod windows;
