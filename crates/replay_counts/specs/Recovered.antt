@@ -1,7 +1,8 @@
 -- What the counts of an image are.
-use Rattle.std.specs.Prelude.{ℕ, ◌≡◌, ◌+◌, ◌*◌, ◌<◌, Bool, List, length, get_or, slice_index, Ok}
+use Rattle.std.specs.Prelude.{ℕ, ◌≡◌, ◌⊎◌, ◌+◌, ◌*◌, ◌<◌, Bool, List, length, get_or, slice_index, Ok}
 use Rattle.blk_base.specs.Counters.{sectors_per_slab, sector_of_offset}
 use Rattle.blk_base.specs.declared.geometry.Geometry.{Geometry}
+use Rattle.blk_base.specs.declared.geometry.Super.{Super as Superblock}
 use Rattle.blk_base.specs.declared.journal_entry.CommittedEntry.{CommittedEntry}
 use Rattle.blk_base.specs.declared.layout.DataPlace.{DataPlace}
 use Rattle.blk_base.specs.declared.journal_entry.Update.{Update}
@@ -17,6 +18,8 @@ use Rattle.image_model.specs.Maps.{Image}
 use Rattle.image_model.specs.Sound.{IsDataPlace}
 use Rattle.image_model.specs.declared.fault.ImageFault.{ImageFault}
 use Rattle.image_model.specs.declared.fault.ImageFault.TheVariants.{Super, Window, Page, Counter, SharedPage, Counts, Device, Unclean, Memory}
+use Rattle.journal_window.specs.Reads.{IsWindowRead, Fails}
+use Rattle.journal_window.specs.States.{WindowState}
 use Rattle.replay_counts.specs.declared.forms.SectorPoints.{SectorPoints}
 use Rattle.slab_reading.specs.Reads.{SlabsRead, ReadFailed, read_of}
 use Rattle.slab_reading.specs.Slabs.{first_of_slab, blocks_per_slab}
@@ -88,3 +91,15 @@ pub record IsCountedFrom (g : Geometry) (counters : List ℕ) (commits : List Po
   pub applied : List Point
   pub are_applied : AreApplied g updates commits applied
   pub paired : ArePaired commits applied sectors
+
+-- The window was read, and then the slabs, and each image that has what was read has these counts.
+abbrev pub AreCountsOf : Bool → Bool → Superblock → Seen → Seen → List ℕ → List SectorPoints → Type 0
+AreCountsOf tells honest head before now counts sectors =
+    (middle : Seen) × (window : WindowState) × IsWindowRead tells honest before middle head window
+    × AreCountsRead tells honest head.geometry window.entries middle now counts sectors
+
+-- why there are none: there is no window, or it was read and then there are no counts
+abbrev pub CountingFails : Bool → Bool → Superblock → Seen → Seen → ImageFault → Type 0
+CountingFails tells honest head before now why =
+    Fails tells honest before now head why
+    ⊎ ((middle : Seen) × (window : WindowState) × IsWindowRead tells honest before middle head window × CountsFail tells honest head.geometry window.entries middle now why)

@@ -7,6 +7,8 @@
 
 mod forms;
 mod recovering;
+mod window;
 
 pub use forms::{RecoveredCounts, SectorPoints};
 pub use recovering::counts_with;
+pub use window::counts;

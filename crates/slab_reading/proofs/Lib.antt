@@ -1,3 +1,4 @@
 pub mod SectorLaws
 pub mod TakeLaws
 pub mod FoundLaws
+pub mod Rows
