@@ -33,9 +33,9 @@ pub use Rattle.core_model.specs.declared.sizes.Sizes.{Sizes}
 pub use Rattle.core_model.specs.DeskData.{Desk}
 pub use Rattle.core_model.specs.declared.zones.DeviceZone.{DeviceZone}
 pub use Rattle.core_model.specs.declared.zones.JournalZone.{JournalZone}
-pub use Rattle.core_model.specs.declared.zones.Lock.{Lock}
+pub use Rattle.core_model.specs.LogicalData.{Lock}
 pub use Rattle.core_model.specs.declared.zones.Logged.{Logged}
-pub use Rattle.core_model.specs.declared.zones.LogicalZone.{LogicalZone}
+pub use Rattle.core_model.specs.LogicalData.{LogicalZone}
 pub use Rattle.core_model.specs.declared.zones.PhysicalZone.{PhysicalZone}
 pub use Rattle.core_model.specs.declared.zones.Zone.{Zone}
 pub use Rattle.core_model.specs.declared.zones.ZoneData.{ZoneData}

@@ -18,7 +18,7 @@ ghost use Rattle.vdo_model.specs.ZoneOrder.{places_in};
 ghost use Rattle.core_model.specs.declared.zones.ZoneData.TheVariants.{Desk, Device, Logical};
 ghost use Rattle.core_model.specs.DeskData.{Desk as DeskData};
 ghost use Rattle.core_model.specs.declared.zones.DeviceZone.{DeviceZone};
-ghost use Rattle.core_model.specs.declared.zones.LogicalZone.{LogicalZone};
+ghost use Rattle.core_model.specs.LogicalData.{LogicalZone};
 ghost use Rattle.core_model.specs.declared.zones.Zone.{Zone};
 ghost use Rattle.core_model.specs.declared.zones.ZoneData.{ZoneData};
 ghost use Rattle.core_model.specs.declared.items.Item.{Item};

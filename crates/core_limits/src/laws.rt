@@ -12,7 +12,7 @@ ghost use Rattle.core_model.specs.declared.zones.ZoneData.TheVariants.{Desk, Dev
 ghost use Rattle.core_model.specs.DeskData.{Desk as DeskData};
 ghost use Rattle.core_model.specs.declared.zones.DeviceZone.{DeviceZone};
 ghost use Rattle.core_model.specs.declared.zones.JournalZone.{JournalZone};
-ghost use Rattle.core_model.specs.declared.zones.LogicalZone.{LogicalZone};
+ghost use Rattle.core_model.specs.LogicalData.{LogicalZone};
 ghost use Rattle.core_model.specs.declared.zones.Zone.{Zone};
 ghost use Rattle.core_model.specs.declared.items.Item.{Item};
 ghost use Rattle.core_model.specs.Legal.{Legal, share};

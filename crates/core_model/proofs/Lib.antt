@@ -1,4 +1,5 @@
 pub mod rows
 pub mod ListForms
 pub mod SlotLaws
+pub mod LockLaws
 pub mod CountLaws

@@ -6,7 +6,7 @@ use Rattle.std.proofs.lemmas.Option.{same_Some}
 use Rattle.core_model.specs.LogicalRows.{without}
 use Rattle.core_model.specs.Steps.{posted}
 use Rattle.core_model.specs.declared.items.Item.{Item}
-use Rattle.core_model.specs.declared.zones.Lock.{Lock}
+use Rattle.core_model.specs.LogicalData.{Lock}
 use Rattle.plain_laws.specs.Sums.{total}
 
 -- an item behind those of one list

@@ -9,3 +9,4 @@ pub mod LimitRows
 pub mod ZoneLimitRows
 pub mod CountRows
 pub mod SlotRows
+pub mod WaiterRows

@@ -5,10 +5,12 @@ pub mod DeskCounts
 pub mod Zones
 pub mod Phases
 pub mod Trace
+pub mod LogicalData
 pub mod SlotOrder
 pub mod Vios
 pub mod DeskRows
 pub mod LogicalRows
+pub mod Waiters
 pub mod JournalRows
 pub mod DeviceRows
 pub mod Steps

@@ -8,6 +8,7 @@ mod desk;
 mod fifo;
 mod items;
 mod limits;
+mod logical;
 mod outboxes;
 mod register;
 mod scripts;
@@ -21,13 +22,14 @@ pub use desk::{Desk, DeskRows};
 pub use fifo::Fifo;
 pub use items::{Asks, Item, Phase, SealedBlock, Stage, Vio};
 pub use limits::{
-    BLOCK_ROOM, LANE_ROOM, MOST_BLOCKS, MOST_DEPTH, MOST_ITEMS, MOST_NOTICES, MOST_REQUESTS,
-    MOST_STREAMS, MOST_UNDER_WAY, MOST_ZONES, POST_ROOM, REQUEST_ROOM,
+    BLOCK_ROOM, LANE_ROOM, LOCK_ROOM, MOST_BLOCKS, MOST_DEPTH, MOST_ITEMS, MOST_NOTICES,
+    MOST_REQUESTS, MOST_STREAMS, MOST_UNDER_WAY, MOST_ZONES, POST_ROOM, REQUEST_ROOM,
 };
+pub use logical::LogicalZone;
 pub use outboxes::{Lane, Outboxes};
 pub use register::Register;
 pub use scripts::is_limited;
 pub use sizes::Sizes;
 pub use slots::Slots;
 pub use supply::Supply;
-pub use zones::{DeviceZone, JournalZone, Lock, Logged, LogicalZone, PhysicalZone, Zone, ZoneData};
+pub use zones::{DeviceZone, JournalZone, Logged, PhysicalZone, Zone, ZoneData};

@@ -33,3 +33,6 @@ pub const BLOCK_ROOM: usize = MOST_BLOCKS + 1;
 
 /// The room of a list with an item for each request.
 pub const REQUEST_ROOM: usize = MOST_REQUESTS + 1;
+
+/// How many requests may hold a lock or wait for one, and one more.
+pub const LOCK_ROOM: u32 = 2 * MOST_ITEMS as u32 + 1;

@@ -1,8 +1,5 @@
-ghost use Rattle.std.specs.Prelude.{◌≡◌, ◌==◌, ◌<◌, ◌≤◌, [], ◌∷◌, IfOk, filter, length, not, reverse, vec_capacity};
-ghost use Rattle.core_model.specs.LogicalRows.{without};
+ghost use Rattle.std.specs.Prelude.{◌≡◌, ◌<◌, [], ◌∷◌, IfOk, length, reverse};
 
-use crate::Lock;
-use blk_base::Lba;
 use std::alloc::{AllocError, Global};
 use std::marker::Model;
 use vdo_model::Rows;
@@ -62,21 +59,4 @@ impl<T: Drop, const ROOM: usize> Register<T, ROOM> {
     {
         Rows::from_vec(self.rows)
     }
-}
-
-impl<const ROOM: usize> Register<Lock, ROOM> {
-    /// Leaves out the locks of an address.
-    pub fn leave_out(&mut self, at: Lba)
-        ensures { self.new ≡ without at.0 self.old }
-    {
-        retain_others(&mut self.rows, at);
-    }
-}
-
-// Leaves out the locks of an address.
-fn retain_others(locks: &mut Vec<Lock>, at: Lba)
-    ensures items { locks.new.items ≡ filter (λ lock. not (lock.at.0 == at.0)) locks.old.items }
-    ensures capacity { vec_capacity locks.new ≡ vec_capacity locks.old }
-{
-    locks.retain(|lock| lock.at != at);
 }

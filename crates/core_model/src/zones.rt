@@ -1,9 +1,7 @@
 use crate::{
-    BLOCK_ROOM, BoxedVio, Desk, Fifo, LANE_ROOM, Lane, Outboxes, REQUEST_ROOM, Register, Slots,
-    Supply,
+    BLOCK_ROOM, BoxedVio, Desk, Fifo, LANE_ROOM, Lane, LogicalZone, Outboxes, Register, Supply,
 };
-use blk_base::{Entry, Lba, Mapping, Pbn, Writer};
-use vdo_model::{Placed, Rows};
+use blk_base::{Lba, Mapping, Pbn, Writer};
 
 /// A write whose journal entry was handed in.
 #[derive(Clone, Copy)]
@@ -14,35 +12,6 @@ pub struct Logged {
     pub place: u64,
     pub old: Mapping,
     pub block: Pbn,
-}
-
-/// The lock of an address, with the place of its holder.
-#[derive(Clone, Copy)]
-pub struct Lock {
-    pub at: Lba,
-    pub place: u64,
-}
-
-/// The addresses of some trees: their places, locks and slots.
-#[derive(Drop)]
-pub struct LogicalZone {
-    /// The number of the zone among the logical ones.
-    pub zone: u8,
-    /// The stop notice has come.
-    pub notified: bool,
-    /// The place that is drawn next.
-    pub next: u64,
-    pub places: Register<Placed, REQUEST_ROOM>,
-    /// The locks that are held, one for each address at most.
-    pub held: Register<Lock, LANE_ROOM>,
-    /// Who waits for a lock, in the order of their places.
-    pub waiting: Fifo<BoxedVio, LANE_ROOM>,
-    /// The addresses of aborted writes whose entry was handed in: their locks are never released.
-    pub retired: Register<Lba, BLOCK_ROOM>,
-    /// The entries of the journal when the session began: where an address is mapped that isn't set since.
-    pub window: Rows<Entry>,
-    /// The slots that were set since, with whoever set them.
-    pub slots: Slots,
 }
 
 /// The data blocks.

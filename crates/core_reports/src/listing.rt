@@ -23,7 +23,7 @@ fn drawn(zone: &Zone) -> &[Placed]
     ensures { places_at zone.now.keeps ≡ reverse result.now }
 {
     match &zone.keeps {
-        ZoneData::Logical(logical) => logical.places.as_slice(),
+        ZoneData::Logical(logical) => logical.places(),
         _ => &[],
     }
 }

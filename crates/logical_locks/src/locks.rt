@@ -1,4 +1,4 @@
-ghost use Rattle.std.specs.Prelude.{◌≡◌, ◌≤◌, ◌==◌, ℕ, position, vec_len, vec_capacity, IfOk, IfSome, IfNone};
+ghost use Rattle.std.specs.Prelude.{◌≡◌, ◌≤◌, ◌==◌, ℕ, length, position, vec_len, vec_capacity, IfOk, IfSome, IfNone};
 ghost use Rattle.logical_locks.specs.Holders.{nobody, HasRoom, Takes, Waits, HoldsNext, Frees, is_held, without};
 
 use crate::{Lock, Waiter};
@@ -50,6 +50,27 @@ impl<V: Drop> Locks<V> {
             held: Vec::with_capacity(alloc, room as usize)?,
             waiting: Vec::with_capacity(alloc, room as usize)?,
         })
+    }
+
+    /// The place that is drawn next.
+    pub fn next(&self) -> u64
+        ensures { result ≡ self.now.next }
+    {
+        self.next
+    }
+
+    /// How many addresses are held.
+    pub fn held(&self) -> usize
+        ensures { result ≡ length self.now.held }
+    {
+        self.held.len()
+    }
+
+    /// How many values wait, for any address.
+    pub fn waiting(&self) -> usize
+        ensures { result ≡ length self.now.waiting }
+    {
+        self.waiting.len()
     }
 
     /// Asks for an address. It gives the place, which rises with each call, and the value back exactly where the address

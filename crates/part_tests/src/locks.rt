@@ -30,6 +30,7 @@ fn release_thrice(locks: &mut Locks<char>, at: Lba) -> [Option<char>; 3] {
 fn first_come_first_served(rt: HostRuntime) -> Result<(), Fail> {
     let mut locks = Locks::new(rt.alloc(), 5)?;
     let asked = ask_all(&mut locks);
+    let counts = (locks.next(), locks.held(), locks.waiting());
     let of_one = release_thrice(&mut locks, ONE);
     let of_other = release_thrice(&mut locks, OTHER);
     locks_stay_in_order::<char>();
@@ -41,6 +42,9 @@ fn first_come_first_served(rt: HostRuntime) -> Result<(), Fail> {
         (4, None),
     ];
     let next = [[Some('b'), Some('e'), None], [Some('d'), None, None]];
-    assert_eq!(rt; (asked, [of_one, of_other]), (places, next));
+    assert_eq!(rt;
+        (asked, counts, [of_one, of_other]),
+        (places, (5, 2, 3), next)
+    );
     Ok(())
 }

@@ -239,7 +239,7 @@ pub(crate) fn places(zones: &[Zone]) -> &[Placed] {
                 ..
             },
             ..
-        ] => logical.places.as_slice(),
+        ] => logical.places(),
         _ => &[],
     }
 }

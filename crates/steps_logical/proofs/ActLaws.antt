@@ -5,7 +5,7 @@ use Rattle.core_model.specs.declared.items.Item.TheVariants as item
 use Rattle.core_model.specs.declared.items.Vio.{Vio}
 use Rattle.core_model.specs.declared.sizes.Sizes.{Sizes}
 use Rattle.core_model.specs.declared.zones.ZoneData.TheVariants as at
-use Rattle.core_model.specs.declared.zones.LogicalZone.{LogicalZone}
+use Rattle.core_model.specs.LogicalData.{LogicalZone}
 use Rattle.core_model.specs.LogicalRows.{LogicalServes}
 use Rattle.core_model.specs.LogicalRows.LogicalServes.{arrives_retired, arrives_free, arrives_held, settles, gives, aborts, aborts_entered}
 use Rattle.core_model.specs.Steps.{Act}

@@ -4,7 +4,7 @@ use Rattle.core_model.specs.declared.items.Phase.{Phase}
 use Rattle.core_model.specs.declared.items.Phase.TheVariants as phase
 use Rattle.core_model.specs.declared.items.Vio.{Vio}
 use Rattle.core_model.specs.declared.sizes.Sizes.{Sizes}
-use Rattle.core_model.specs.declared.zones.LogicalZone.{LogicalZone}
+use Rattle.core_model.specs.LogicalData.{LogicalZone}
 use Rattle.core_model.specs.LogicalRows.{LogicalServes, is_among, is_held, placed, goes_on, granted, with_slot}
 use Rattle.core_model.specs.LogicalRows as logical
 use Rattle.core_model.specs.Trace.{Trace}

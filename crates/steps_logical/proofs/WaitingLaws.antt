@@ -1,12 +1,20 @@
 -- Those that wait for an address, and the first of them.
-use Rattle.std.proofs.Common.{ℕ, ◌≡◌, ◌<◌, ◌≤◌, ◌+◌, ◌==◌, true, false, None, Some, List, [], ◌∷◌, get_or, slice_get, drop, length, refl, ap, sym, ◌∙◌, arith, inl, inr}
-use Rattle.std.proofs.lemmas.List.{drop_more}
-use Rattle.std.proofs.lemmas.Option.{gets, same_Some}
+use Rattle.std.proofs.Common.{ℕ, ◌≡◌, ◌+◌, false, Option, None, Some, List, [], ◌∷◌, length, refl, ap, sym, ◌∙◌, arith, inl, inr}
+use Rattle.std.proofs.lemmas.Bool.{eq-eqb}
+use Rattle.std.proofs.lemmas.Option.{same_Some}
+use Rattle.blk_base.specs.declared.place.Mapping.{Mapping}
+use Rattle.blk_base.specs.declared.place.Mapping.TheVariants.{Unmapped, Zero, At}
 use Rattle.std.proofs.lemmas.Bool.Decides.{eqb_tells}
-use Rattle.core_model.specs.LogicalRows.{first_for, but_first_for, all_for, none_for, passed_to, released, without}
+use Rattle.core_model.specs.LogicalRows.{all_for, but_first_for, drawn_by, first_for, goes_on, is_held, lock_of, looked, mapping_at, next_for, none_for, passed_to, placed, read_next, released, without}
+use Rattle.core_model.specs.Vios.{Post, turned}
+use Rattle.core_model.specs.Waiters.{IsFree}
+use Rattle.core_model.specs.declared.items.Asks.{Asks}
+use Rattle.core_model.specs.declared.items.Asks.TheVariants.{Read, Write, Flush}
+use Rattle.core_model.specs.declared.items.Phase.{Phase}
+use Rattle.core_model.specs.declared.items.Phase.TheVariants as phase
 use Rattle.core_model.specs.declared.items.Vio.{Vio}
-use Rattle.core_model.specs.declared.zones.Lock.{Lock}
-use Rattle.core_model.specs.declared.zones.LogicalZone.{LogicalZone}
+use Rattle.core_model.specs.LogicalData.{Lock, LogicalZone}
+use Rattle.core_model.specs.declared.sizes.Sizes.{Sizes}
 
 -- where nobody waits for it, all wait for others
 pub nobody : (a : ℕ) (vs : List Vio) → first_for a vs ≡ None → (all_for a vs ≡ []) × (none_for a vs ≡ vs) × (but_first_for a vs ≡ vs)
@@ -43,35 +51,59 @@ fewer_wait a (w ∷ vs) v some = elim (eqb_tells w.at.0 a) [
   | inr there ↦ let rest = fewer_wait a vs v (rw there.0 at some) in rw there.0 (omega (arith, rest))
 ]
 
--- the one at an index, and those behind it
-at_index : (vs : List Vio) (k : ℕ) (v : Vio) → slice_get vs k ≡ Some v → drop k vs ≡ v ∷ drop (k + 1) vs
-at_index vs k v got =
-    let below : k < length vs = grind (arith, gets) in
-    let is : get_or vs k v ≡ v = grind (arith, gets) in
-    drop_more vs k v below ∙ ap (λ (u : Vio). u ∷ drop (k + 1) vs) is
+-- where a request goes that has its lock doesn't depend on its phase, nor on who else has one
+read_any_phase : (sizes : Sizes) (l : LogicalZone) (v : Vio) (q : Phase) (m : Mapping) → read_next sizes l (looked l (turned q v)) m ≡ read_next sizes l (looked l v) m
+read_any_phase sizes l v q (At x) = refl
+read_any_phase sizes l v q Unmapped = refl
+read_any_phase sizes l v q Zero = refl
 
--- one that waits for another address is passed, in front of the others
-module _ (a : ℕ) (vs : List Vio) (k : ℕ) (v : Vio) (got : slice_get vs k ≡ Some v) (other : v.at.0 == a ≡ false) where
-  pub passed_first : first_for a (drop k vs) ≡ first_for a (drop (k + 1) vs)
-  passed_first = ap (first_for a) (at_index vs k v got) ∙ rw other refl
+any_phase : (sizes : Sizes) (l : LogicalZone) (v : Vio) (q : Phase) (a : Asks) → next_for sizes l (turned q v) a ≡ next_for sizes l v a
+any_phase sizes l v q Read = ap (λ (p : Post). Some p) (read_any_phase sizes l v q (mapping_at l v.at.0))
+any_phase sizes l v q Write = refl
+any_phase sizes l v q Flush = refl
 
-  pub passed_rest : but_first_for a (drop k vs) ≡ v ∷ but_first_for a (drop (k + 1) vs)
-  passed_rest = ap (but_first_for a) (at_index vs k v got) ∙ rw other refl
+pub goes_as_holder : (sizes : Sizes) (l : LogicalZone) (v : Vio) → goes_on sizes (record (drawn_by l v) { held = lock_of (placed l v) ∷ l.held }) (turned phase.Wait (placed l v)) ≡ goes_on sizes l (placed l v)
+goes_as_holder sizes l v = any_phase sizes l (placed l v) phase.Wait v.asks
 
--- one that waits for the address is the first
-module _ (a : ℕ) (vs : List Vio) (k : ℕ) (v : Vio) (got : slice_get vs k ≡ Some v) (same : v.at.0 == a ≡ true) where
-  pub found_first : first_for a (drop k vs) ≡ Some v
-  found_first = ap (first_for a) (at_index vs k v got) ∙ rw same refl
+-- The zone while those that wait for an address come out, and when all have.
+abbrev pub emptied : ℕ → LogicalZone → LogicalZone
+emptied a l = record l { held = without a l.held; waiting = none_for a l.waiting }
 
-  pub found_rest : but_first_for a (drop k vs) ≡ drop (k + 1) vs
-  found_rest = ap (but_first_for a) (at_index vs k v got) ∙ rw same refl
+without_twice : (a : ℕ) (held : List Lock) → without a (without a held) ≡ without a held
+without_twice a [] = refl
+without_twice a (lock ∷ held) = elim (eqb_tells lock.at.0 a) [
+  | inl gone ↦ rw gone.0 (without_twice a held)
+  | inr stays ↦ rw (stays.0, stays.0) (ap (λ (ls : List Lock). lock ∷ ls) (without_twice a held))
+]
 
--- the lock is free, and nobody waits for it
-pub freed : (a : ℕ) (l : LogicalZone) → first_for a l.waiting ≡ None → record l { held = without a l.held; waiting = but_first_for a l.waiting } ≡ released a l
-freed a l none = ap (λ (ws : List Vio). record l { held = without a l.held; waiting = ws }) (nobody a l.waiting none).2 ∙ ap (passed_to a l) (sym none)
+first_at : (a : ℕ) (vs : List Vio) (v : Vio) → first_for a vs ≡ Some v → v.at.0 ≡ a
+first_at a [] v some = absurd cc
+first_at a (w ∷ vs) v some = elim (eqb_tells w.at.0 a) [
+  | inl here ↦ let same : w ≡ v = same_Some w v (rw here.0 at some) in sym (ap (λ (u : Vio). u.at.0) same) ∙ here.1
+  | inr there ↦ first_at a vs v (rw there.0 at some)
+]
 
-pub length_without : (a : ℕ) (held : List Lock) → length (without a held) ≤ length held
-length_without a [] = omega arith
-length_without a (lock ∷ held) =
-    let rest = length_without a held in
-    elim (eqb_tells lock.at.0 a) [ inl same ↦ rw same.0 (omega (arith, rest)) | inr other ↦ rw other.0 (omega (arith, rest)) ]
+pub next_emptied : (a : ℕ) (l : LogicalZone) (v : Vio) → first_for a l.waiting ≡ Some v → emptied a (released a l) ≡ emptied a l
+next_emptied a l v first =
+    ap (λ (o : Option Vio). emptied a (passed_to a l o)) first
+    ∙ ap (λ (ls : List Lock). record l { held = ls; waiting = none_for a (but_first_for a l.waiting) }) (rw (eq-eqb v.at.0 a (first_at a l.waiting v first)) (without_twice a l.held))
+    ∙ ap (λ (vs : List Vio). record l { held = without a l.held; waiting = vs }) (sym (rest_waits a l.waiting v first))
+
+pub next_waiting : (a : ℕ) (l : LogicalZone) (v : Vio) → first_for a l.waiting ≡ Some v → (released a l).waiting ≡ but_first_for a l.waiting
+next_waiting a l v first = ap (λ (o : Option Vio). (passed_to a l o).waiting) first
+
+pub last_emptied : (a : ℕ) (l : LogicalZone) → first_for a l.waiting ≡ None → released a l ≡ emptied a l
+last_emptied a l none =
+    ap (passed_to a l) none ∙ ap (λ (vs : List Vio). record l { held = without a l.held; waiting = vs }) (sym (nobody a l.waiting none).1)
+
+-- then nobody holds the address, and nobody waits for it
+gone_without : (a : ℕ) (held : List Lock) → is_held a (without a held) ≡ false
+gone_without a [] = refl
+gone_without a (lock ∷ held) = elim (eqb_tells lock.at.0 a) [ inl gone ↦ rw gone.0 (gone_without a held) | inr stays ↦ rw (stays.0, stays.0) (gone_without a held) ]
+
+none_waits : (a : ℕ) (vs : List Vio) → first_for a (none_for a vs) ≡ None
+none_waits a [] = refl
+none_waits a (v ∷ vs) = elim (eqb_tells v.at.0 a) [ inl gone ↦ rw gone.0 (none_waits a vs) | inr stays ↦ rw (stays.0, stays.0) (none_waits a vs) ]
+
+pub emptied_free : (a : ℕ) (l : LogicalZone) → IsFree (emptied a l).held (emptied a l).waiting a
+emptied_free a l = record { unheld = gone_without a l.held; unawaited = none_waits a l.waiting }

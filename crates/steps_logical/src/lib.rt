@@ -3,7 +3,6 @@
 #![tactic(auto)]
 
 mod acting;
-mod locks;
 mod serving;
 mod starting;
 mod waiting;

@@ -1,39 +1,20 @@
-ghost use Rattle.std.specs.Prelude.{◌≡◌, ◌-◌, ◌<◌, ◌≤◌, ◌^◌, List, [], ◌∷◌, ◌++◌, IfOk, OnOk, OnErr, None, Some, true, length};
+ghost use Rattle.std.specs.Prelude.{◌≡◌, ◌-◌, ◌<◌, ◌≤◌, ◌^◌, List, [], ◌∷◌, ◌++◌, OnOk, OnErr, None, Some, true, length};
 ghost use Rattle.blk_base.specs.Sectors.{zero_block};
 ghost use Rattle.blk_base.specs.declared.place.ZoneId.TheVariants as id;
 ghost use Rattle.core_model.specs.declared.items.Item.TheVariants as item;
 ghost use Rattle.core_model.specs.declared.items.Phase.TheVariants as phase;
 ghost use Rattle.core_model.specs.Limits.{IsLogicalWithin};
 ghost use Rattle.core_model.specs.LogicalRows as rows;
-ghost use Rattle.core_model.specs.SessionLimits.{most_items};
 ghost use Rattle.core_model.specs.Trace.{Trace, Aborts, Draws, Gives, Sets};
 ghost use Rattle.core_model.specs.Vios.{Post};
 ghost use Rattle.core_model.specs.Vios as vios;
 ghost use Rattle.step_parts.specs.Causes.{NoRule};
 
-use crate::locks::{is_among, is_held};
-use crate::waiting::{stop_all, take_first};
+use crate::waiting::stop_all;
 use blk_base::{Answer, Block, Lba, Mapping, ZoneId};
-use core_model::{Asks, BoxedVio, Item, Lock, LogicalZone, Phase, Sizes};
+use core_model::{Asks, BoxedVio, Item, LogicalZone, Phase, Sizes};
 use image_layout::mapping_at;
 use step_parts::{Posts, Stray};
-use vdo_model::Placed;
-
-// The request with the zone's next place, which is drawn.
-fn draw(zone: &mut LogicalZone, vio: BoxedVio) -> BoxedVio
-    requires { IsLogicalWithin (2 ^ 64 - 2) zone.old }
-    ensures zone { zone.new ≡ rows.drawn_by zone.old vio }
-    ensures vio { result ≡ rows.placed zone.old vio }
-{
-    let place = zone.next;
-    zone.places.push(Placed {
-        request: vio.get().request,
-        zone: u32::from(zone.zone),
-        place,
-    });
-    zone.next += 1;
-    vio.draw(place)
-}
 
 // The bytes of an address that is mapped to no block.
 fn zeros(vio: BoxedVio) -> BoxedVio
@@ -53,7 +34,10 @@ fn read_next(sizes: &Sizes, zone: &LogicalZone, vio: BoxedVio, mapping: Mapping)
         }
         Mapping::Unmapped | Mapping::Zero => {
             let loaded = zeros(vio);
-            (ZoneId::Logical(u32::from(zone.zone)), Item::Request(loaded))
+            (
+                ZoneId::Logical(u32::from(zone.zone())),
+                Item::Request(loaded),
+            )
         }
     }
 }
@@ -63,10 +47,10 @@ fn look(zone: &LogicalZone, vio: BoxedVio) -> BoxedVio
     ensures { result ≡ rows.looked zone.now vio }
 {
     let at = vio.get().at;
-    let latest = zone.slots.latest(at);
+    let latest = zone.latest(at);
     let old = match latest {
         Some(write) => Mapping::At(write.block),
-        None => mapping_at(zone.window.as_slice(), at),
+        None => mapping_at(zone.window(), at),
     };
     vio.look(old, latest)
 }
@@ -90,47 +74,19 @@ fn goes_on(sizes: &Sizes, zone: &LogicalZone, vio: BoxedVio) -> Option<(ZoneId, 
 
 // The lock of an address goes to the first that waits for it, or is released.
 fn release(sizes: &Sizes, zone: &mut LogicalZone, at: Lba, posts: &mut Posts) -> Result<(), Stray>
-    requires held { length zone.old.held ≤ most_items }
-    requires few { length posts.old ≤ 1 }
+    requires { length posts.old ≤ 1 }
     ensures zone { OnOk result (zone.new ≡ rows.released at.0 zone.old) }
     ensures posts { OnOk result ((more : List Post) × (rows.granted sizes.now at.0 zone.old ≡ Some more) × (posts.new ≡ posts.old ++ more)) }
     ensures err { OnErr result (rows.granted sizes.now at.0 zone.old ≡ None) }
 {
-    let first = take_first(at, &mut zone.waiting);
-    zone.held.leave_out(at);
-    match first {
-        None => Ok(()),
-        Some(vio) => {
-            let place = vio.get().place;
-            zone.held.push(Lock {
-                at: vio.get().at,
-                place,
-            });
-            let Some((to, item)) = goes_on(sizes, zone, vio) else {
-                return Err(Stray);
-            };
-            posts.push(to, item);
-            Ok(())
-        }
-    }
-}
-
-// A request takes the lock of its address, which nobody holds.
-fn take_lock(sizes: &Sizes, zone: &mut LogicalZone, vio: BoxedVio) -> Result<(ZoneId, Item), Stray>
-    requires { length zone.old.held ≤ most_items }
-    ensures zone { zone.new ≡ record zone.old { held = rows.lock_of vio ∷ zone.old.held } }
-    ensures post { IfOk result (λ post. rows.goes_on sizes.now zone.old vio ≡ Some post) }
-    ensures err { OnErr result (rows.goes_on sizes.now zone.old vio ≡ None) }
-{
-    let place = vio.get().place;
-    zone.held.push(Lock {
-        at: vio.get().at,
-        place,
-    });
-    match goes_on(sizes, zone, vio) {
-        Some(post) => Ok(post),
-        None => Err(Stray),
-    }
+    let Some(vio) = zone.release(at) else {
+        return Ok(());
+    };
+    let Some((to, item)) = goes_on(sizes, zone, vio) else {
+        return Err(Stray);
+    };
+    posts.push(to, item);
+    Ok(())
 }
 
 // A request draws its place, and takes the lock of its address or waits for it.
@@ -146,18 +102,17 @@ fn arrive(
     ensures ok { OnOk result (rows.LogicalServes sizes.now zone.old vio zone.new (Draws (rows.place_of_vio zone.old vio) ∷ []) posts.new) }
     ensures err { OnErr result (NoRule (rows.LogicalServes sizes.now zone.old vio)) }
 {
-    let at = vio.get().at;
-    let drawn = draw(zone, vio);
-    if is_among(at, zone.retired.as_slice()) {
-        let stopped = drawn.end(Phase::Reply, Answer::Stopped);
+    if zone.is_retired(vio.get().at) {
+        let stopped = zone.draw(vio).end(Phase::Reply, Answer::Stopped);
         posts.first(ZoneId::Desk, Item::Request(stopped));
         return Ok(());
     }
-    if is_held(at, zone.held.as_slice()) {
-        zone.waiting.push(drawn.turn(Phase::Wait));
+    let Some(holder) = zone.ask(vio) else {
         return Ok(());
-    }
-    let (to, item) = take_lock(sizes, zone, drawn)?;
+    };
+    let Some((to, item)) = goes_on(sizes, zone, holder) else {
+        return Err(Stray);
+    };
     posts.first(to, item);
     Ok(())
 }
@@ -176,7 +131,7 @@ fn settle(
     ensures err { OnErr result (NoRule (rows.LogicalServes sizes.now zone.old vio)) }
 {
     let at = vio.get().at;
-    zone.slots.push(vio.logged());
+    zone.set(vio.logged());
     posts.first(
         ZoneId::Desk,
         Item::Request(vio.end(Phase::Reply, Answer::Ok)),
@@ -234,9 +189,8 @@ fn abort_entered(sizes: &Sizes, zone: &mut LogicalZone, vio: BoxedVio, posts: &m
 {
     let at = vio.get().at;
     posts.first(ZoneId::Desk, Item::Request(vio.turn(Phase::Reply)));
-    stop_all(at, &mut zone.waiting, posts);
-    zone.held.leave_out(at);
-    zone.retired.push(at);
+    stop_all(zone, at, posts);
+    zone.retire(at);
 }
 
 /// One phase of a request in a logical zone.
@@ -271,6 +225,6 @@ pub(crate) fn hear_stop(zone: &mut LogicalZone, posts: &mut Posts)
     ensures zone { zone.new ≡ record zone.old { notified = true } }
     ensures posts { posts.new ≡ (id.Desk, item.StopNotice) ∷ [] }
 {
-    zone.notified = true;
+    zone.notify();
     posts.first(ZoneId::Desk, Item::StopNotice);
 }

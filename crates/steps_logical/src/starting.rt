@@ -5,7 +5,7 @@ ghost use Rattle.core_model.specs.Sessions.{Session};
 ghost use Rattle.core_model.specs.Start.{IsFirstData};
 
 use blk_base::Entry;
-use core_model::{Fifo, LogicalZone, Register, Slots};
+use core_model::LogicalZone;
 use std::alloc::{AllocError, Global};
 use vdo_model::Rows;
 
@@ -14,20 +14,5 @@ use vdo_model::Rows;
 pub fn first(alloc: Global, zone: u8, window: Rows<Entry>) -> Result<LogicalZone, AllocError>
     ensures { IfOk result (λ first. (s : Session) → s.window ≡ window → zone < s.sizes.zones → IsFirstData s (logical_zone zone) (at.Logical first)) }
 {
-    let places = Register::new(alloc)?;
-    let held = Register::new(alloc)?;
-    let waiting = Fifo::new(alloc)?;
-    let retired = Register::new(alloc)?;
-    let slots = Slots::new(alloc)?;
-    Ok(LogicalZone {
-        zone,
-        notified: false,
-        next: 0,
-        places,
-        held,
-        waiting,
-        retired,
-        window,
-        slots,
-    })
+    LogicalZone::new(alloc, zone, window)
 }

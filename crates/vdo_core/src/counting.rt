@@ -1,12 +1,12 @@
 ghost use Rattle.std.specs.Prelude.{◌≡◌, ◌+◌, ◌^◌, ◌<◌, ◌≤◌, ◌↔◌, IsTrue, true, false};
-ghost use Rattle.core_model.specs.Limits.{IsDataWithin, IsJournalWithin, IsLogicalWithin, IsWithin};
+ghost use Rattle.core_model.specs.Limits.{IsDataWithin, IsJournalWithin, IsWithin};
 ghost use Rattle.core_model.specs.SessionLimits.{IsLimited, most_blocks};
 ghost use Rattle.core_model.specs.Steps.{step_limit};
 ghost use Rattle.vdo_core.specs.Causes.{CanStep, IsServedBy, IsSized};
 
 use core_model::{
-    Desk, JournalZone, LogicalZone, MOST_BLOCKS, MOST_DEPTH, MOST_ITEMS, MOST_REQUESTS,
-    MOST_STREAMS, MOST_ZONES, Sizes, Zone, ZoneData,
+    Desk, JournalZone, MOST_BLOCKS, MOST_DEPTH, MOST_ITEMS, MOST_REQUESTS, MOST_STREAMS,
+    MOST_ZONES, Sizes, Zone, ZoneData,
 };
 
 /// Whether a zone may step once more: it made fewer than 2^64 - 1 steps.
@@ -45,18 +45,6 @@ fn is_served_by(sizes: &Sizes, desk: &Desk) -> bool
         && usize::from(sizes.zones) <= MOST_ZONES
 }
 
-// Whether a logical zone keeps within its room.
-fn is_logical_within(steps: u64, zone: &LogicalZone) -> bool
-    ensures { IsTrue result ↔ IsLogicalWithin steps zone.now }
-{
-    zone.next <= steps
-        && zone.places.len() <= MOST_REQUESTS
-        && zone.held.len() <= MOST_ITEMS
-        && zone.waiting.len() <= MOST_ITEMS
-        && zone.retired.len() <= MOST_BLOCKS
-        && zone.slots.len() <= MOST_BLOCKS
-}
-
 // Whether the journal keeps within its room.
 fn is_journal_within(zone: &JournalZone) -> bool
     ensures { IsTrue result ↔ IsJournalWithin zone.now }
@@ -72,7 +60,7 @@ fn is_data_within(steps: u64, keeps: &ZoneData) -> bool
 {
     match keeps {
         ZoneData::Desk(desk) => desk.is_within(),
-        ZoneData::Logical(zone) => is_logical_within(steps, zone),
+        ZoneData::Logical(zone) => zone.is_within(steps),
         ZoneData::Journal(zone) => is_journal_within(zone),
         ZoneData::Device(zone) => zone.calls <= steps,
         _ => true,

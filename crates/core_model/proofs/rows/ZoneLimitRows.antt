@@ -8,8 +8,7 @@ use Rattle.core_model.specs.declared.items.Phase.TheVariants as phase
 use Rattle.core_model.specs.declared.items.Vio.{Vio}
 use Rattle.core_model.specs.declared.zones.DeviceZone.{DeviceZone}
 use Rattle.core_model.specs.declared.zones.JournalZone.{JournalZone}
-use Rattle.core_model.specs.declared.zones.Lock.{Lock}
-use Rattle.core_model.specs.declared.zones.LogicalZone.{LogicalZone}
+use Rattle.core_model.specs.LogicalData.{Lock, LogicalZone}
 use Rattle.core_model.specs.declared.zones.Zone.{Zone}
 use Rattle.core_model.specs.declared.zones.ZoneData.TheVariants as at
 use Rattle.core_model.specs.Limits.{IsJournalWithin, IsLogicalWithin, IsWithin}

@@ -1,6 +1,6 @@
 use Rattle.std.proofs.Common.{◌≡◌, take, reverse}
 use Rattle.core_model.specs.LogicalRows.{is_among}
-use Rattle.steps_logical.proofs.locks.is_among.Given as goal
+use Rattle.core_model.proofs.logical.is_among.Given as goal
 
 abbrev pub invariant-loop-other : goal.invariant-loop-other
 invariant-loop-other l = l.found ≡ is_among l.at.0 (reverse (take l.other-index l.retired))

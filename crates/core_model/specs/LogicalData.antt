@@ -1,0 +1,23 @@
+-- What a logical zone keeps, as contracts see it.
+use Rattle.std.specs.Prelude.{ℕ, Bool, List}
+use Rattle.blk_base.specs.declared.journal_entry.Entry.{Entry}
+use Rattle.blk_base.specs.declared.place.Lba.{Lba}
+pub use Rattle.logical_locks.specs.declared.lock.Lock.{Lock}
+use Rattle.vdo_model.specs.declared.report.Placed.{Placed}
+use Rattle.core_model.specs.declared.items.Vio.{Vio}
+use Rattle.core_model.specs.declared.zones.Logged.{Logged}
+
+-- Its number among the logical zones, whether the stop notice has come, the place that is drawn next and those that were;
+-- the locks that are held, one for each address at most, and who waits for one, in the order of their places; the addresses
+-- of aborted writes whose entry was handed in: their locks are never released; where an address is mapped that isn't set in
+-- the session, and the slots that are.
+pub record LogicalZone : Type 0 where
+  pub zone : ℕ
+  pub notified : Bool
+  pub next : ℕ
+  pub places : List Placed
+  pub held : List Lock
+  pub waiting : List Vio
+  pub retired : List Lba
+  pub window : List Entry
+  pub slots : List Logged

@@ -1,0 +1,250 @@
+ghost use Rattle.std.specs.Prelude.{◌↔◌, IsTrue, ◌≡◌, ◌+◌, ◌-◌, ◌^◌, ◌<◌, ◌≤◌, [], ◌∷◌, ◌++◌, IfOk, IfSome, IfNone, None, true, false, length, reverse};
+ghost use Rattle.logical_locks.specs.Holders.{HasRoom};
+ghost use Rattle.core_model.specs.Limits.{IsLogicalWithin, IsShort};
+ghost use Rattle.core_model.specs.LogicalRows as rows;
+ghost use Rattle.core_model.specs.SessionLimits.{most_blocks};
+ghost use Rattle.core_model.specs.Waiters.{AreOwn, IsFree, vios};
+ghost use Rattle.core_model.specs.Vios.{turned};
+ghost use Rattle.core_model.specs.declared.items.Phase.TheVariants as phase;
+
+use crate::{
+    BLOCK_ROOM, BoxedVio, LOCK_ROOM, Logged, MOST_BLOCKS, MOST_ITEMS, MOST_REQUESTS, Phase,
+    REQUEST_ROOM, Register, Slots,
+};
+use blk_base::{Entry, Lba};
+use logical_locks::Locks;
+use std::alloc::{AllocError, Global};
+use std::marker::Model;
+use vdo_model::{Placed, Rows};
+
+/// The addresses of some trees: their places, locks and slots.
+#[derive(Drop)]
+pub struct LogicalZone {
+    // Its number among the logical zones.
+    zone: u8,
+    // The stop notice has come.
+    notified: bool,
+    places: Register<Placed, REQUEST_ROOM>,
+    locks: Locks<BoxedVio>,
+    // The addresses whose locks are never released. The parts hold none of these: that no request gets one is seen here.
+    retired: Register<Lba, BLOCK_ROOM>,
+    // The entries of the journal when the session began.
+    window: Rows<Entry>,
+    slots: Slots,
+}
+
+impl Model for LogicalZone {
+    ghost use Rattle.std.specs.Prelude.{◌≡◌, ◌+◌, ◌*◌, reverse};
+    ghost use Rattle.core_model.specs.LogicalData.{LogicalZone as LogicalData};
+    ghost use Rattle.core_model.specs.SessionLimits.{most_items};
+    ghost use Rattle.core_model.specs.Waiters.{AreFree, AreOwn, vios};
+
+    ghost Value = { LogicalData };
+
+    ghost view = { λ l. record {
+      zone = l.zone;
+      notified = l.notified;
+      next = l.locks.next;
+      places = l.places;
+      held = reverse l.locks.held;
+      waiting = vios l.locks.waiting;
+      retired = l.retired;
+      window = l.window;
+      slots = l.slots;
+    } };
+
+    ghost invariant = { λ l. record {
+      room : l.locks.room ≡ 2 * most_items + 1;
+      own : AreOwn l.locks.waiting;
+      free : AreFree (reverse l.locks.held) (vios l.locks.waiting) l.retired;
+    } };
+}
+
+impl LogicalZone {
+    /// A logical zone at the start of a session, by its number among the logical ones: it drew nothing and has set nothing,
+    /// and knows these entries of the window. All its room is taken here.
+    pub fn new(alloc: Global, zone: u8, window: Rows<Entry>) -> Result<LogicalZone, AllocError>
+        ensures { IfOk result (λ logical. logical ≡ record {
+          zone = zone;
+          notified = false;
+          next = 0;
+          places = [];
+          held = [];
+          waiting = [];
+          retired = [];
+          window = window;
+          slots = [];
+        }) }
+    {
+        let places = Register::new(alloc)?;
+        let locks = Locks::new(alloc, LOCK_ROOM)?;
+        let retired = Register::new(alloc)?;
+        let slots = Slots::new(alloc)?;
+        Ok(LogicalZone {
+            zone,
+            notified: false,
+            places,
+            locks,
+            retired,
+            window,
+            slots,
+        })
+    }
+
+    /// Its number among the logical zones.
+    pub fn zone(&self) -> u8
+        ensures { result ≡ self.now.zone }
+    {
+        self.zone
+    }
+
+    /// The places that it drew, the oldest first.
+    pub fn places(&self) -> &[Placed]
+        ensures { self.now.places ≡ reverse result.now }
+    {
+        self.places.as_slice()
+    }
+
+    /// The entries of the journal when the session began, the oldest first.
+    pub fn window(&self) -> &[Entry]
+        ensures { self.now.window ≡ reverse result.now }
+    {
+        self.window.as_slice()
+    }
+
+    /// The last write that set the slot of an address in this session.
+    pub fn latest(&self, at: Lba) -> Option<Logged>
+        ensures { result ≡ rows.latest_at self.now at.0 }
+    {
+        self.slots.latest(at)
+    }
+
+    /// Whether the lock of an address is never released.
+    pub fn is_retired(&self, at: Lba) -> bool
+        ensures { result ≡ rows.is_among at.0 self.now.retired }
+    {
+        is_among(at, self.retired.as_slice())
+    }
+
+    /// Whether it keeps within its room, after so many steps.
+    pub fn is_within(&self, steps: u64) -> bool
+        ensures { IsTrue result ↔ IsLogicalWithin steps self.now }
+    {
+        are_within(&self.locks, steps)
+            && self.places.len() <= MOST_REQUESTS
+            && self.retired.len() <= MOST_BLOCKS
+            && self.slots.len() <= MOST_BLOCKS
+    }
+
+    /// The stop notice has come.
+    pub fn notify(&mut self)
+        ensures { self.new ≡ record self.old { notified = true } }
+    {
+        self.notified = true;
+    }
+
+    /// A write sets the slot of its address.
+    pub fn set(&mut self, write: Logged)
+        requires { length self.old.slots ≤ most_blocks }
+        ensures { self.new ≡ record self.old { slots = write ∷ self.old.slots } }
+    {
+        self.slots.push(write);
+    }
+
+    /// A request draws its place, and takes no lock: that of its address is never released.
+    pub fn draw(&mut self, vio: BoxedVio) -> BoxedVio
+        requires within { IsLogicalWithin (2 ^ 64 - 2) self.old }
+        requires retired { rows.is_among vio.at.0 self.old.retired ≡ true }
+        ensures zone { self.new ≡ rows.drawn_by self.old vio }
+        ensures vio { result ≡ rows.placed self.old vio }
+    {
+        let at = vio.get().at;
+        let place = self.locks.next();
+        self.places.push(placed(self.zone, &vio, place));
+        draw_free(&mut self.locks, at, vio.draw(place))
+    }
+
+    /// A request draws its place, and asks for the lock of its address. It comes back exactly where nobody held it: now it
+    /// has it. Else it waits, behind all others.
+    pub fn ask(&mut self, vio: BoxedVio) -> Option<BoxedVio>
+        requires within { IsLogicalWithin (2 ^ 64 - 2) self.old }
+        requires alive { rows.is_among vio.at.0 self.old.retired ≡ false }
+        ensures taken { IfSome result (λ back. (back ≡ turned phase.Wait (rows.placed self.old vio)) × (rows.is_held vio.at.0 self.old.held ≡ false)
+            × (self.new ≡ record (rows.drawn_by self.old vio) { held = rows.lock_of (rows.placed self.old vio) ∷ self.old.held })) }
+        ensures waits { IfNone result ((rows.is_held vio.at.0 self.old.held ≡ true)
+            × (self.new ≡ record (rows.drawn_by self.old vio) { waiting = self.old.waiting ++ turned phase.Wait (rows.placed self.old vio) ∷ [] })) }
+    {
+        let at = vio.get().at;
+        let place = self.locks.next();
+        self.places.push(placed(self.zone, &vio, place));
+        self.locks.ask(at, vio.draw(place).turn(Phase::Wait)).1
+    }
+
+    /// The holder of an address lets its lock go. It goes to the first that waits for it, which comes out; where nobody
+    /// waits, it is free.
+    pub fn release(&mut self, at: Lba) -> Option<BoxedVio>
+        ensures next { result ≡ rows.first_for at.0 self.old.waiting }
+        ensures zone { self.new ≡ rows.released at.0 self.old }
+    {
+        self.locks.release(at)
+    }
+
+    /// The lock of an address that nobody holds and nobody waits for is never taken any more.
+    pub fn retire(&mut self, at: Lba)
+        requires room { length self.old.retired ≤ most_blocks }
+        requires free { IsFree self.old.held self.old.waiting at.0 }
+        ensures { self.new ≡ record self.old { retired = at ∷ self.old.retired } }
+    {
+        self.retired.push(at);
+    }
+}
+
+// Whether no more places were drawn than steps were made, and no more requests hold a lock or wait than may be.
+#[tactic(auto, using(crate::proofs::LockLaws::length_vios))]
+fn are_within(locks: &Locks<BoxedVio>, steps: u64) -> bool
+    ensures { IsTrue result ↔ (locks.now.next ≤ steps) × IsShort (reverse locks.now.held) × IsShort (vios locks.now.waiting) }
+{
+    locks.next() <= steps && locks.held() <= MOST_ITEMS && locks.waiting() <= MOST_ITEMS
+}
+
+// The place that a request draws.
+fn placed(zone: u8, vio: &BoxedVio, place: u64) -> Placed
+    ensures { result ≡ record { request = vio.now.request; zone = zone; place = place } }
+{
+    Placed {
+        request: vio.get().request,
+        zone: u32::from(zone),
+        place,
+    }
+}
+
+// A place is drawn for an address that nobody holds and nobody waits for: its lock is taken, and let go again.
+fn draw_free(locks: &mut Locks<BoxedVio>, at: Lba, vio: BoxedVio) -> BoxedVio
+    requires room { HasRoom locks.old }
+    requires own { AreOwn locks.old.waiting }
+    requires free { IsFree (reverse locks.old.held) (vios locks.old.waiting) at.0 }
+    ensures locks { locks.new ≡ record locks.old { next = locks.old.next + 1 } }
+    ensures vio { result ≡ vio }
+{
+    match locks.ask(at, vio).1 {
+        Some(back) => {
+            match locks.release(at) {
+                Some(_) => unreachable!(),
+                None => (),
+            }
+            back
+        }
+        None => unreachable!(),
+    }
+}
+
+// Whether an address is among these, the oldest of which stands first.
+fn is_among(at: Lba, retired: &[Lba]) -> bool
+    ensures { result ≡ rows.is_among at.0 (reverse retired.now) }
+{
+    let mut found = false;
+    for other in retired {
+        found = *other == at || found;
+    }
+    found
+}
