@@ -1,5 +1,5 @@
 -- What a page's slots say in an image.
-use Rattle.std.specs.Prelude.{ℕ, ◌≡◌, ◌+◌, ◌<◌, ◌^◌, List, Option, Some, None, IsSome, IsNone, slice_index_or, slice_set, length, Result, Ok, Err, IfErr}
+use Rattle.std.specs.Prelude.{ℕ, ◌≡◌, ◌+◌, ◌<◌, ◌^◌, List, Option, Some, None, IsSome, IsNone, slice_index_or, slice_set, length, Result, Ok, Err, IfErr, OnOk}
 use Rattle.std.specs.Result.{IsErrAnd}
 use Rattle.std.proofs.Common.{refl, sym, ◌∙◌, ap, subst, inl, inr, arith}
 use Rattle.std.proofs.lemmas.Bool.{cases_lt}
@@ -95,3 +95,16 @@ module _ (image : Image) (head : PageHead) (block : List ℕ) (changes : List (S
 pub passed_on : {T E : Type 0} (result : Result T E) (P : E → Type 0) (why : E) → IsErrAnd result (λ e. e ≡ why) → P why → IfErr result P
 passed_on (Ok x) P why is holds = tt
 passed_on (Err e) P why is holds = rw is holds
+
+-- what follows for a success, or for an error, follows for the result
+pub where_ok : {T E P Q : Type 0} (result : Result T E) → OnOk result P → (P → Q) → OnOk result Q
+where_ok (Ok x) holds follows = follows holds
+where_ok (Err e) holds follows = tt
+
+pub where_err : {T E : Type 0} {P Q : E → Type 0} (result : Result T E) → IfErr result P → ((e : E) → P e → Q e) → IfErr result Q
+where_err (Ok x) holds follows = tt
+where_err (Err e) holds follows = follows e holds
+
+pub both_ok : {T E : Type 0} (P Q : Type 0) (result : Result T E) → OnOk result P → OnOk result Q → OnOk result (P × Q)
+both_ok P Q (Ok x) first second = (first, second)
+both_ok P Q (Err e) first second = tt

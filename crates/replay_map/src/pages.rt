@@ -29,10 +29,7 @@ pub fn read_page(
 {
     // Looked at for the proof alone: its level is a number of one byte.
     let _level = want.page.level;
-    match read_slots(block, want, changes, into) {
-        Ok(()) => Ok(()),
-        Err(fault) => Err(fault),
-    }
+    read_slots(block, want, changes, into)
 }
 
 // The same by the block and the changes alone.
