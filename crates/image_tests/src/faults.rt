@@ -1,4 +1,5 @@
 use blk_base::{Pbn, Point};
+use image_format::FormatFault;
 use image_layout::{Field, LayoutFault, SuperFault};
 use image_model::ImageFault;
 use page_codec::PageFault;
@@ -19,6 +20,14 @@ const LAYOUT: [(LayoutFault, &str); 5] = [
         LayoutFault::TooLargeToCrash { has: 65_537 },
         "too large to crash",
     ),
+];
+
+const FORMAT: [(FormatFault, &str); 2] = [
+    (
+        FormatFault::Layout(LayoutFault::LogicalTooLarge),
+        "logical too large",
+    ),
+    (FormatFault::Device, "device fault"),
 ];
 
 const IMAGE: [(ImageFault, &str); 13] = [
@@ -91,5 +100,6 @@ fn not_shown<T: Display>(rt: &HostRuntime, rows: &[(T, &'static str)]) -> Option
 #[test]
 fn faults_are_printed(rt: HostRuntime) {
     assert_eq!(rt; not_shown(&rt, &LAYOUT), None);
+    assert_eq!(rt; not_shown(&rt, &FORMAT), None);
     assert_eq!(rt; not_shown(&rt, &IMAGE), None);
 }
