@@ -1,31 +1,32 @@
-ghost use Rattle.std.specs.Prelude.{◌≡◌, ◌+◌, ◌<◌, ◌≤◌, ◌↔◌, [], ◌∷◌, ◌++◌, IfOk, IfSome, IfNone, IsTrue, Some, length, slice_get, remove};
+ghost use Rattle.std.specs.Prelude.{◌≡◌, ◌+◌, ◌<◌, ◌≤◌, ◌↔◌, [], ◌∷◌, ◌++◌, IfOk, IfSome, IfNone, IsTrue, length};
 
 use std::alloc::{AllocError, Global};
 use std::marker::Model;
+use zone_queues::Lane;
 
 /// A list, first in, first out. Its room, for `ROOM` items, is taken when it is made: no item is ever refused.
 #[derive(Drop)]
-pub struct Fifo<T, const ROOM: usize> {
-    items: Vec<T>,
+pub struct Fifo<T, const ROOM: u32> {
+    items: Lane<T>,
 }
 
-impl<T, const ROOM: usize> Model for Fifo<T, ROOM> {
-    ghost use Rattle.std.specs.Prelude.{◌≤◌, List, vec_capacity, vec_len};
+impl<T, const ROOM: u32> Model for Fifo<T, ROOM> {
+    ghost use Rattle.std.specs.Prelude.{◌≤◌, ◌≡◌, List, length};
 
     ghost Value = { List T };
 
     ghost view = { λ f. f.items.items };
 
-    ghost invariant = { λ f. (vec_len f.items ≤ ROOM) × (ROOM ≤ vec_capacity f.items) };
+    ghost invariant = { λ f. (f.items.room ≡ ROOM) × (length f.items.items ≤ ROOM) };
 }
 
-impl<T: Drop, const ROOM: usize> Fifo<T, ROOM> {
+impl<T: Drop, const ROOM: u32> Fifo<T, ROOM> {
     /// The empty list.
     pub fn new(alloc: Global) -> Result<Fifo<T, ROOM>, AllocError>
         ensures { IfOk result (λ fifo. fifo ≡ []) }
     {
         Ok(Fifo {
-            items: Vec::with_capacity(alloc, ROOM)?,
+            items: Lane::new(alloc, ROOM)?,
         })
     }
 
@@ -34,7 +35,7 @@ impl<T: Drop, const ROOM: usize> Fifo<T, ROOM> {
         requires { length self.old < ROOM }
         ensures { self.new ≡ self.old ++ item ∷ [] }
     {
-        self.items.push_reserved(item);
+        self.items.post(item);
     }
 
     /// All items of another list, behind those that are here. The other list is empty then, and keeps its room.
@@ -43,9 +44,7 @@ impl<T: Drop, const ROOM: usize> Fifo<T, ROOM> {
         ensures added { self.new ≡ self.old ++ more.old }
         ensures emptied { more.new ≡ [] }
     {
-        let Ok(()) = self.items.append(&mut more.items) else {
-            unreachable!()
-        };
+        self.items.append(&mut more.items);
     }
 
     /// The item in front, which leaves the list.
@@ -53,19 +52,7 @@ impl<T: Drop, const ROOM: usize> Fifo<T, ROOM> {
         ensures some { IfSome result (λ item. self.old ≡ item ∷ self.new) }
         ensures none { IfNone result ((self.old ≡ []) × (self.new ≡ [])) }
     {
-        if self.items.is_empty() {
-            return None;
-        }
-        Some(self.items.remove(0))
-    }
-
-    /// The item at an index, which leaves the list.
-    pub fn take_at(&mut self, index: usize) -> T
-        requires { index < length self.old }
-        ensures item { slice_get self.old index ≡ Some result }
-        ensures rest { self.new ≡ remove self.old index }
-    {
-        self.items.remove(index)
+        self.items.take()
     }
 
     /// All items leave the list.
@@ -88,12 +75,5 @@ impl<T: Drop, const ROOM: usize> Fifo<T, ROOM> {
         ensures most { result ≤ ROOM }
     {
         self.items.len()
-    }
-
-    /// The items, from the front.
-    pub fn as_slice(&self) -> &[T]
-        ensures { result.now ≡ self.now }
-    {
-        &self.items
     }
 }

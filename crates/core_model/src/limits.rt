@@ -23,10 +23,10 @@ pub const MOST_ITEMS: usize = MOST_UNDER_WAY + MOST_NOTICES as usize;
 pub const MOST_BLOCKS: usize = 1_024;
 
 /// The room of the list of what one step posts: each request that the zone keeps, and a few items more.
-pub const POST_ROOM: usize = MOST_ITEMS + 16;
+pub const POST_ROOM: u32 = MOST_ITEMS as u32 + 16;
 
 /// The room of a lane: for all items that are under way, and then for what one step posts, or a move brings.
-pub const LANE_ROOM: usize = MOST_ITEMS + POST_ROOM;
+pub const LANE_ROOM: u32 = MOST_ITEMS as u32 + POST_ROOM;
 
 /// The room of a list with an item for each block of the journal, and one more.
 pub const BLOCK_ROOM: usize = MOST_BLOCKS + 1;

@@ -99,3 +99,24 @@ fn a_batch_changes_hands(rt: HostRuntime) -> Result<(), Fail> {
     assert_eq!(rt; handed_over, Ok(([false, true], taken, [true, false])));
     Ok(())
 }
+
+// How many items a list has with two, without them, and with one again.
+fn fill_and_clear(lane: &mut Lane<char>) -> [usize; 3]
+    requires { lane.old ≡ empty _ 2 }
+{
+    lane.post('a');
+    lane.post('b');
+    let filled = lane.len();
+    lane.clear();
+    let cleared = lane.len();
+    lane.post('c');
+    [filled, cleared, lane.len()]
+}
+
+// A list that was cleared has its room again.
+#[test]
+fn a_cleared_list_is_empty(rt: HostRuntime) -> Result<(), Fail> {
+    let mut lane = Lane::new(rt.alloc(), 2)?;
+    assert_eq!(rt; fill_and_clear(&mut lane), [2, 0, 1]);
+    Ok(())
+}

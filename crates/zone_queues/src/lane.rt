@@ -45,6 +45,13 @@ impl<V: Drop> Lane<V> {
         }
     }
 
+    /// How many items there are.
+    pub fn len(&self) -> usize
+        ensures { result ≡ length self.now.items }
+    {
+        self.items.len()
+    }
+
     /// Whether there is no item.
     pub fn is_empty(&self) -> bool
         ensures { IsTrue result ↔ (length self.now.items ≡ 0) }
@@ -66,6 +73,13 @@ impl<V: Drop> Lane<V> {
         ensures none { IfNone result ((self.old.items ≡ []) × (self.new ≡ self.old)) }
     {
         self.items.pop_front()
+    }
+
+    /// All items leave the list.
+    pub fn clear(&mut self)
+        ensures { self.new ≡ empty V self.old.room }
+    {
+        self.items.clear();
     }
 
     /// Adds all items of another list behind those here, in their order. The other list is empty then, and keeps its
