@@ -46,12 +46,12 @@ pub fn every_event_keeps_a_core_legal()
 /// what a rule posts goes to a zone: so nothing is ever stray.
 pub fn a_legal_core_goes_on()
     ensures rule { (s : Session) (core : Core) (n : ℕ) (z : Zone) (front : Item) (rest : List Item) → IsSession s → Legal s core
-        → slice_get core.zones n ≡ Some z → z.inbox ≡ front ∷ rest → HasAct s.sizes z.keeps (front ∷ []) }
+        → slice_get core.zones n ≡ Some z → z.ports.inbox ≡ front ∷ rest → HasAct s.sizes z.keeps (front ∷ []) }
     ensures begins { (s : Session) (core : Core) (n : ℕ) (z : Zone) → IsSession s → Legal s core
         → slice_get core.zones n ≡ Some z → MayBegin s.sizes z.keeps → HasAct s.sizes z.keeps [] }
     ensures lanes { (s : Session) (core : Core) (n : ℕ) (z : Zone) (front rest : List Item) (new : ZoneData) (made : Trace) (posts : List Post) → IsSession s → Legal s core
-        → slice_get core.zones n ≡ Some z → z.inbox ≡ front ++ rest → (front ≡ [] → rest ≡ []) → Act s.sizes z.keeps front new made posts
-        → AllByRecursion (λ (post : Post). zone_number s.sizes post.0 < length z.outboxes) posts }
+        → slice_get core.zones n ≡ Some z → z.ports.inbox ≡ front ++ rest → (front ≡ [] → rest ≡ []) → Act s.sizes z.keeps front new made posts
+        → AllByRecursion (λ (post : Post). zone_number s.sizes post.0 < length z.ports.outboxes) posts }
 {}
 
 /// What was begun and answered in a legal core is in order, and so are the places; the desk and the logical zones have

@@ -42,8 +42,8 @@ holders_most items = total_at_most holder_token.item room_token.item items (λ i
 
 zone_most : (z : Zone) → weight holder_token z ≤ carried room_token z
 zone_most z =
-    let inbox = holders_most z.inbox in
-    let lanes = total_at_most (total holder_token.item) (total room_token.item) z.outboxes (λ i lane e. holders_most lane) in
+    let inbox = holders_most z.ports.inbox in
+    let lanes = total_at_most (total holder_token.item) (total room_token.item) z.ports.outboxes (λ i lane e. holders_most lane) in
     let kept = holders_most (kept_items z.keeps) in
     omega (arith, inbox, lanes, kept)
 

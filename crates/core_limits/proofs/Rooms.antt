@@ -68,7 +68,7 @@ under_way depth script desk right =
 
 -- what a zone's lanes and lists weigh, apart from its own part
 abbrev pub carried : Token → Zone → ℕ
-carried t z = total t.item z.inbox + total (total t.item) z.outboxes + queued t.item z.keeps
+carried t z = total t.item z.ports.inbox + total (total t.item) z.ports.outboxes + queued t.item z.keeps
 
 split_sum : (t : Token) (zones : List Zone) → total (weight t) zones ≡ total (carried t) zones + total (λ z. t.own z.keeps) zones
 split_sum t [] = refl
@@ -128,26 +128,26 @@ module _ (s : Session) (core : Core) (legal : Legal s core) where
       let here = total-get (carried room_token) core.zones n z had in
       omega (arith, here, all_requests)
 
-  few_notices : (n : ℕ) (z : Zone) → slice_get core.zones n ≡ Some z → total is_word z.inbox + total (total is_word) z.outboxes ≤ notified_zones s.sizes
+  few_notices : (n : ℕ) (z : Zone) → slice_get core.zones n ≡ Some z → total is_word z.ports.inbox + total (total is_word) z.ports.outboxes ≤ notified_zones s.sizes
   few_notices n z had =
       let here = total-get (weight (notice_token s.sizes)) core.zones n z had in
       let balance = legal.stop_notices in
       omega (arith, here, balance, few_words)
 
-  pub inbox_room : (n : ℕ) (z : Zone) → slice_get core.zones n ≡ Some z → length z.inbox ≤ share s
+  pub inbox_room : (n : ℕ) (z : Zone) → slice_get core.zones n ≡ Some z → length z.ports.inbox ≤ share s
   inbox_room n z had =
       let a = few_requests n z had in
       let b = few_notices n z had in
-      let c = counted z.inbox in
+      let c = counted z.ports.inbox in
       omega (arith, a, b, c)
 
-  pub lane_room : (n : ℕ) (z : Zone) (to : ℕ) (lane : List Item) → slice_get core.zones n ≡ Some z → slice_get z.outboxes to ≡ Some lane → length lane ≤ share s
+  pub lane_room : (n : ℕ) (z : Zone) (to : ℕ) (lane : List Item) → slice_get core.zones n ≡ Some z → slice_get z.ports.outboxes to ≡ Some lane → length lane ≤ share s
   lane_room n z to lane had there =
       let a = few_requests n z had in
       let b = few_notices n z had in
       let c = counted lane in
-      let d = lane_of room_token.item z.outboxes to lane there in
-      let e = lane_of is_word z.outboxes to lane there in
+      let d = lane_of room_token.item z.ports.outboxes to lane there in
+      let e = lane_of is_word z.ports.outboxes to lane there in
       omega (arith, a, b, c, d, e)
 
   pub queue_room : (n : ℕ) (z : Zone) → slice_get core.zones n ≡ Some z → queued (λ it. 1) z.keeps ≤ share s

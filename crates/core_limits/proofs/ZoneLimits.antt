@@ -26,11 +26,11 @@ module _ (s : Session) (core : Core) (session : IsSession s) (legal : Legal s co
       omega (arith, product, session.limits.zones)
 
   module _ (n : ℕ) (z : Zone) (had : slice_get core.zones n ≡ Some z) where
-    pub inbox_within : IsShort z.inbox
+    pub inbox_within : IsShort z.ports.inbox
     inbox_within = let room = inbox_room s core legal n z had in omega (arith, few_items, room)
 
-    pub lanes_within : AllByRecursion (λ lane. IsShort lane) z.outboxes
-    lanes_within = every_at (λ (lane : List Item). IsShort lane) z.outboxes (λ to lane there. let room = lane_room s core legal n z to lane had there in omega (arith, few_items, room))
+    pub lanes_within : AllByRecursion (λ lane. IsShort lane) z.ports.outboxes
+    lanes_within = every_at (λ (lane : List Item). IsShort lane) z.ports.outboxes (λ to lane there. let room = lane_room s core legal n z to lane had there in omega (arith, few_items, room))
 
     pub waiting_within : IsShort (kept_by z.keeps)
     waiting_within =

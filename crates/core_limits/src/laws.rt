@@ -25,9 +25,9 @@ ghost use Rattle.core_model.specs.Trace.{calls, lines, places};
 /// In a legal core each lane and each list of requests that a zone keeps is within its share: as many as there may be
 /// requests under way, and stop notices.
 pub fn a_legal_core_has_room()
-    ensures inbox { (s : Session) (core : Core) (n : ℕ) (z : Zone) → Legal s core → slice_get core.zones n ≡ Some z → length z.inbox ≤ share s }
+    ensures inbox { (s : Session) (core : Core) (n : ℕ) (z : Zone) → Legal s core → slice_get core.zones n ≡ Some z → length z.ports.inbox ≤ share s }
     ensures lanes { (s : Session) (core : Core) (n : ℕ) (z : Zone) (to : ℕ) (lane : List Item) → Legal s core → slice_get core.zones n ≡ Some z
-        → slice_get z.outboxes to ≡ Some lane → length lane ≤ share s }
+        → slice_get z.ports.outboxes to ≡ Some lane → length lane ≤ share s }
     ensures kept { (s : Session) (core : Core) (n : ℕ) (z : Zone) → Legal s core → slice_get core.zones n ≡ Some z → queued (λ it. 1) z.keeps ≤ share s }
 {}
 
@@ -56,9 +56,9 @@ pub fn a_legal_core_is_within_limits()
         → z.keeps ≡ Desk desk → IsDeskWithin desk }
     ensures places { (s : Session) (core : Core) (n : ℕ) (z : Zone) (l : LogicalZone) → IsSession s → Legal s core → slice_get core.zones n ≡ Some z
         → z.keeps ≡ Logical l → length l.places ≤ most_requests }
-    ensures inbox { (s : Session) (core : Core) (n : ℕ) (z : Zone) → IsSession s → Legal s core → slice_get core.zones n ≡ Some z → IsShort z.inbox }
+    ensures inbox { (s : Session) (core : Core) (n : ℕ) (z : Zone) → IsSession s → Legal s core → slice_get core.zones n ≡ Some z → IsShort z.ports.inbox }
     ensures lanes { (s : Session) (core : Core) (n : ℕ) (z : Zone) → IsSession s → Legal s core → slice_get core.zones n ≡ Some z
-        → AllByRecursion (λ lane. IsShort lane) z.outboxes }
+        → AllByRecursion (λ lane. IsShort lane) z.ports.outboxes }
     ensures waiting { (s : Session) (core : Core) (n : ℕ) (z : Zone) → IsSession s → Legal s core → slice_get core.zones n ≡ Some z → IsShort (kept_by z.keeps) }
 {}
 

@@ -1,5 +1,6 @@
 pub mod rows
 pub mod ListForms
+pub mod PortLaws
 pub mod SlotLaws
 pub mod LockLaws
 pub mod CountLaws

@@ -8,5 +8,6 @@ pub mod ViewRows
 pub mod LimitRows
 pub mod ZoneLimitRows
 pub mod CountRows
+pub mod PortRows
 pub mod SlotRows
 pub mod WaiterRows

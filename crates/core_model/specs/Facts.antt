@@ -336,8 +336,8 @@ made_by other = 0
 -- a zone with its lanes
 pub record ZoneOk (s : Session) (t : Trace) (number : ℕ) (z : Zone) : Type 0 where
   pub number_is : z.number ≡ number
-  pub lanes : length z.outboxes ≡ zone_count s.sizes
-  pub inbox : AllByRecursion (ItemOk s t number) z.inbox
-  pub outboxes : Each (λ to. AllByRecursion (ItemOk s t to)) z.outboxes
+  pub lanes : length z.ports.outboxes ≡ zone_count s.sizes
+  pub inbox : AllByRecursion (ItemOk s t number) z.ports.inbox
+  pub outboxes : Each (λ to. AllByRecursion (ItemOk s t to)) z.ports.outboxes
   pub own : DataOk s t number z.keeps
   pub counted : made_by z.keeps ≤ z.steps

@@ -13,6 +13,7 @@ pub mod LogicalRows
 pub mod Waiters
 pub mod JournalRows
 pub mod DeviceRows
+pub mod PortsData
 pub mod Steps
 pub mod Tokens
 pub mod Sessions

@@ -58,6 +58,6 @@ IsDataWithin steps other = Unit {0}
 
 -- A zone keeps within its room.
 pub record IsWithin (z : Zone) : Type 0 where
-  pub inbox : IsShort z.inbox
-  pub outboxes : AllByRecursion (λ lane. IsShort lane) z.outboxes
+  pub inbox : IsShort z.ports.inbox
+  pub outboxes : AllByRecursion (λ lane. IsShort lane) z.ports.outboxes
   pub own : IsDataWithin z.steps z.keeps

@@ -67,9 +67,9 @@ IsFirstData s number (at.Device d) = IsFirstDevice s number d
 pub record IsFirstZone (s : Session) (number : ℕ) (z : Zone) : Type 0 where
   pub number_is : z.number ≡ number
   pub steps : z.steps ≡ 0
-  pub lanes : length z.outboxes ≡ zone_count s.sizes
-  pub inbox : z.inbox ≡ []
-  pub outboxes : AllByRecursion (λ lane. lane ≡ []) z.outboxes
+  pub lanes : length z.ports.outboxes ≡ zone_count s.sizes
+  pub inbox : z.ports.inbox ≡ []
+  pub outboxes : AllByRecursion (λ lane. lane ≡ []) z.ports.outboxes
   pub own : IsFirstData s number z.keeps
 
 pub record IsFirst (s : Session) (core : Core) : Type 0 where

@@ -58,10 +58,17 @@ posted to item [] = []
 posted zero item (lane ∷ lanes) = (lane ++ item ∷ []) ∷ lanes
 posted (suc to) item (lane ∷ lanes) = lane ∷ posted to item lanes
 
+-- a zone with other items in its inbox, or in its outboxes
+abbrev pub with_inbox : Zone → List Item → Zone
+with_inbox z items = record z { ports = record z.ports { inbox = items } }
+
+abbrev pub with_outboxes : Zone → List (List Item) → Zone
+with_outboxes z lanes = record z { ports = record z.ports { outboxes = lanes } }
+
 -- what a zone posts to itself goes to its own inbox
 abbrev pub sent_to : Bool → ℕ → Item → Zone → Zone
-sent_to true to item z = record z { inbox = z.inbox ++ item ∷ [] }
-sent_to false to item z = record z { outboxes = posted to item z.outboxes }
+sent_to true to item z = with_inbox z (z.ports.inbox ++ item ∷ [])
+sent_to false to item z = with_outboxes z (posted to item z.ports.outboxes)
 
 abbrev pub sent : Sizes → Post → Zone → Zone
 sent sizes post z = sent_to (nat_eq (zone_number sizes post.0) z.number) (zone_number sizes post.0) post.1 z
@@ -81,10 +88,10 @@ pub record ZoneStep (sizes : Sizes) (old new : Zone) (made : Trace) : Type 0 whe
   pub rest : List Item
   pub posts : List Post
   pub counts : old.steps < step_limit
-  pub taken : old.inbox ≡ front ++ rest
+  pub taken : old.ports.inbox ≡ front ++ rest
   pub in_turn : front ≡ [] → rest ≡ []
   pub act : Act sizes old.keeps front new.keeps made posts
-  pub lanes : new ≡ delivered sizes posts (record old { keeps = new.keeps; inbox = rest; steps = old.steps + 1 })
+  pub lanes : new ≡ delivered sizes posts (record old { keeps = new.keeps; ports = record old.ports { inbox = rest }; steps = old.steps + 1 })
 
 -- a stream may begin its next request, where the zone is the desk
 abbrev pub MayBegin : Sizes → ZoneData → Type 0
@@ -93,7 +100,7 @@ MayBegin sizes other = ⊥
 
 -- there is nothing for a zone to do: its inbox is empty, and no stream may begin a request
 pub record HasNothing (sizes : Sizes) (z : Zone) : Type 0 where
-  pub inbox : z.inbox ≡ []
+  pub inbox : z.ports.inbox ≡ []
   pub none_begins : MayBegin sizes z.keeps → ⊥
 
 -- A zone has no work: there is nothing to do, or it made all its steps.
@@ -126,9 +133,9 @@ pub record MoveOf (old new : Core) : Type 0 where
   pub apart : from ≢ to
   pub had_source : slice_get old.zones from ≡ Some source
   pub had_target : slice_get old.zones to ≡ Some target
-  pub outbox : slice_get source.outboxes to ≡ Some (part ++ left)
+  pub outbox : slice_get source.ports.outboxes to ≡ Some (part ++ left)
   pub has : new ≡ record {
-    zones = slice_set (slice_set old.zones from (record source { outboxes = slice_set source.outboxes to left })) to (record target { inbox = target.inbox ++ part });
+    zones = slice_set (slice_set old.zones from (with_outboxes source (slice_set source.ports.outboxes to left))) to (with_inbox target (target.ports.inbox ++ part));
     trace = old.trace;
   }
 

@@ -23,6 +23,6 @@ counted counts (it ∷ items) = counts it ++ counted counts items
 -- sends such items there.
 pub record Flows {X : Type 0} (stream : Stream X) (t : Trace) (zones : List Zone) : Type 0 where
   pub in_order : (receiver sender : Zone) (lane : List Item)
-      → slice_get zones stream.to ≡ Some receiver → slice_get zones stream.from ≡ Some sender → slice_get sender.outboxes stream.to ≡ Some lane
-      → stream.sent t ≡ stream.taken t ++ (counted stream.counts receiver.inbox ++ counted stream.counts lane)
-  pub alone : Each (λ n z. (n ≡ stream.from → ⊥) → (lane : List Item) → slice_get z.outboxes stream.to ≡ Some lane → counted stream.counts lane ≡ []) zones
+      → slice_get zones stream.to ≡ Some receiver → slice_get zones stream.from ≡ Some sender → slice_get sender.ports.outboxes stream.to ≡ Some lane
+      → stream.sent t ≡ stream.taken t ++ (counted stream.counts receiver.ports.inbox ++ counted stream.counts lane)
+  pub alone : Each (λ n z. (n ≡ stream.from → ⊥) → (lane : List Item) → slice_get z.ports.outboxes stream.to ≡ Some lane → counted stream.counts lane ≡ []) zones

@@ -44,7 +44,7 @@ abbrev pub queued : (Item → ℕ) → ZoneData → ℕ
 queued weigh d = total weigh (kept_items d)
 
 abbrev pub weight : Token → Zone → ℕ
-weight t z = total t.item z.inbox + total (total t.item) z.outboxes + (queued t.item z.keeps + t.own z.keeps)
+weight t z = total t.item z.ports.inbox + total (total t.item) z.ports.outboxes + (queued t.item z.keeps + t.own z.keeps)
 
 abbrev pub given : Token → Zone → ℕ
 given t z = t.gave z.keeps

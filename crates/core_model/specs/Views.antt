@@ -3,7 +3,7 @@ use Rattle.std.specs.Prelude.{ℕ, ◌≡◌, ◌≢◌, Some, List, [], ◌∷�
 use Rattle.std.specs.List.{AllByRecursion}
 use Rattle.core_model.specs.declared.items.Item.{Item}
 use Rattle.core_model.specs.declared.zones.Zone.{Zone}
-use Rattle.core_model.specs.Steps.{Core}
+use Rattle.core_model.specs.Steps.{Core, with_inbox, with_outboxes}
 use Rattle.core_model.specs.Trace.{Trace}
 
 -- what lies in the lanes goes before what is in the outboxes
@@ -14,7 +14,7 @@ behind (batch ∷ batches) (lane ∷ lanes) = (batch ++ lane) ∷ behind batches
 
 -- a zone with what lies in the lanes from it
 abbrev pub with_batches : List (List Item) → Zone → Zone
-with_batches batches z = record z { outboxes = behind batches z.outboxes }
+with_batches batches z = with_outboxes z (behind batches z.ports.outboxes)
 
 -- the zones that the views stand for, with what lies in the lanes from each
 abbrev pub zones_of : List Zone → List (List (List Item)) → List Zone
@@ -51,9 +51,9 @@ pub record PostsBatch (from to : ℕ) (views views' : List View) (lanes lanes' :
   pub sender : View
   pub batch : List Item
   pub had : slice_get views from ≡ Some sender
-  pub outbox : slice_get sender.zone.outboxes to ≡ Some batch
+  pub outbox : slice_get sender.zone.ports.outboxes to ≡ Some batch
   pub empty : LaneHolds lanes from to []
-  pub views_is : views' ≡ slice_set views from (record sender { zone = record sender.zone { outboxes = slice_set sender.zone.outboxes to [] } })
+  pub views_is : views' ≡ slice_set views from (record sender { zone = with_outboxes sender.zone (slice_set sender.zone.ports.outboxes to []) })
   pub lanes_is : lanes' ≡ with_batch lanes from empty.row to batch
 
 -- A zone receives a batch: it knows from then on what the lane holds.
@@ -73,10 +73,10 @@ pub record TakesBatch (from to : ℕ) (views views' : List View) (lanes lanes' :
   pub apart : from ≢ to
   pub had_sender : slice_get views from ≡ Some sender
   pub had_receiver : slice_get views to ≡ Some receiver
-  pub outbox : slice_get sender.zone.outboxes to ≡ Some left
+  pub outbox : slice_get sender.zone.ports.outboxes to ≡ Some left
   pub received : slice_get receiver.received from ≡ Some batch
   pub lane : LaneHolds lanes from to batch
-  pub views_is : views' ≡ slice_set views to (record receiver { zone = record receiver.zone { inbox = receiver.zone.inbox ++ batch }; received = slice_set receiver.received from [] })
+  pub views_is : views' ≡ slice_set views to (record receiver { zone = with_inbox receiver.zone (receiver.zone.ports.inbox ++ batch); received = slice_set receiver.received from [] })
   pub lanes_is : lanes' ≡ with_batch lanes from lane.row to []
 
 -- nothing lies in any lane

@@ -7,7 +7,7 @@ use zone_queues::Lane;
 /// A list, first in, first out. Its room, for `ROOM` items, is taken when it is made: no item is ever refused.
 #[derive(Drop)]
 pub struct Fifo<T, const ROOM: u32> {
-    items: Lane<T>,
+    pub(crate) items: Lane<T>,
 }
 
 impl<T, const ROOM: u32> Model for Fifo<T, ROOM> {

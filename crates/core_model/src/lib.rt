@@ -9,7 +9,7 @@ mod fifo;
 mod items;
 mod limits;
 mod logical;
-mod outboxes;
+mod ports;
 mod register;
 mod scripts;
 mod sizes;
@@ -26,7 +26,7 @@ pub use limits::{
     MOST_REQUESTS, MOST_STREAMS, MOST_UNDER_WAY, MOST_ZONES, POST_ROOM, REQUEST_ROOM,
 };
 pub use logical::LogicalZone;
-pub use outboxes::{Lane, Outboxes};
+pub use ports::{Lane, Ports};
 pub use register::Register;
 pub use scripts::is_limited;
 pub use sizes::Sizes;

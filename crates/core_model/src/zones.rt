@@ -1,6 +1,4 @@
-use crate::{
-    BLOCK_ROOM, BoxedVio, Desk, Fifo, LANE_ROOM, Lane, LogicalZone, Outboxes, Register, Supply,
-};
+use crate::{BLOCK_ROOM, BoxedVio, Desk, Fifo, LANE_ROOM, LogicalZone, Ports, Register, Supply};
 use blk_base::{Lba, Mapping, Pbn, Writer};
 
 /// A write whose journal entry was handed in.
@@ -58,12 +56,11 @@ pub enum ZoneData {
     Device(DeviceZone),
 }
 
-/// A zone: its number among all zones, how many steps it made, what it keeps, its inbox, and an outbox to each zone.
+/// A zone: its number among all zones, how many steps it made, what it keeps, and its ports.
 #[derive(Drop)]
 pub struct Zone {
     pub number: u32,
     pub steps: u64,
     pub keeps: ZoneData,
-    pub inbox: Lane,
-    pub outboxes: Outboxes,
+    pub ports: Ports,
 }

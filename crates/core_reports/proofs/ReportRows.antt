@@ -36,7 +36,7 @@ room_short : IsRoomFor (2 ∷ 1 ∷ []) ((Flush ∷ []) ∷ (Flush ∷ Flush ∷
 room_short is = absurd (let fits = is 1 (omega arith) in omega (arith, fits))
 
 abbrev zone : ℕ → ZoneData → Zone
-zone number keeps = record { number = number; steps = 0; keeps = keeps; inbox = []; outboxes = [] }
+zone number keeps = record { number = number; steps = 0; keeps = keeps; ports = record { inbox = []; outboxes = [] } }
 
 -- two places were drawn in the first logical zone, one in the second; one entry was handed in
 abbrev near : List Placed

@@ -64,13 +64,13 @@ fn from_zone_to_zone(rt: HostRuntime) -> Result<(), Fail> {
     Ok(())
 }
 
-// A batch of the sender goes to the receiver. To which zones the sender has posts, what the receiver takes, and whether the
-// batch is empty and the receiver has an item then.
+// A batch of the sender goes to the receiver. To which zones the sender has posts, how many outboxes it has and how many
+// items the receiver has then, what that takes, and whether the batch is empty and the receiver has an item in the end.
 fn hand_over(
     sender: &mut Ports<char>,
     receiver: &mut Ports<char>,
     alloc: Global,
-) -> Result<([bool; 2], [Option<char>; 4], [bool; 2]), AllocError>
+) -> Result<([bool; 2], [usize; 2], [Option<char>; 4], [bool; 2]), AllocError>
     requires sender { sender.old.outboxes ≡ empty _ 0 ∷ empty _ 2 ∷ [] }
     requires receiver { receiver.old.inbox ≡ empty _ 3 }
 {
@@ -80,13 +80,19 @@ fn hand_over(
     let posts = [sender.has_posts(0), sender.has_posts(1)];
     let mut batch = sender.exchange(1, Lane::new(alloc, 2)?);
     receiver.receive(&mut batch);
+    let counts = [sender.outboxes().len(), receiver.inbox().len()];
     let taken = [
         receiver.take(),
         receiver.take(),
         receiver.take(),
         receiver.take(),
     ];
-    Ok((posts, taken, [batch.is_empty(), receiver.has_item()]))
+    Ok((
+        posts,
+        counts,
+        taken,
+        [batch.is_empty(), receiver.has_item()],
+    ))
 }
 
 // A batch leaves in exchange for an empty list, and comes in at another zone.
@@ -96,7 +102,10 @@ fn a_batch_changes_hands(rt: HostRuntime) -> Result<(), Fail> {
     let mut receiver = Ports::new(rt.alloc(), 3, &[])?;
     let handed_over = hand_over(&mut sender, &mut receiver, rt.alloc());
     let taken = [Some('z'), Some('a'), Some('b'), None];
-    assert_eq!(rt; handed_over, Ok(([false, true], taken, [true, false])));
+    assert_eq!(rt;
+        handed_over,
+        Ok(([false, true], [2, 3], taken, [true, false]))
+    );
     Ok(())
 }
 

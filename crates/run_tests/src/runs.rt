@@ -624,7 +624,7 @@ const NO_COMMANDS: [&[&str]; 9] = [
     &[],
     &["runs"],
     &["run", "run"],
-    &["format"],
+    &["status"],
     &["run", "--threads"],
     &["run", "--schedule"],
     &["run", "--schedule", "x"],

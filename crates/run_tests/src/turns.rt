@@ -9,7 +9,7 @@ use schedule::play;
 use std::alloc::{AllocError, Global};
 use std::sync::Wait;
 use std::test::Fail;
-use vdo_core::{Core, CoreParts, Event, Setup, Stepped};
+use vdo_core::{Core, CoreZones, Event, Setup, Stepped};
 use vdo_model::{DeskLine, RunReport};
 
 const TWO_ZONES: Plan = Plan {
@@ -197,12 +197,12 @@ fn given_events(alloc: Global, number: u64) -> Result<[bool; 3], Unplayed> {
     Ok([early, late, digest(&core.report()) == wanted])
 }
 
-// A core from its parts.
+// A core from its zones.
 fn reborn(core: Core) -> Core
     ensures { result ≡ core }
 {
-    let CoreParts { sizes, zones, room } = core.into_parts();
-    Core::from_parts(CoreParts { sizes, zones, room })
+    let CoreZones { sizes, zones, room } = core.into_zones();
+    Core::from_zones(CoreZones { sizes, zones, room })
 }
 
 #[test]

@@ -44,10 +44,10 @@ abbrev one : List Item
 one = StopNotice ∷ []
 
 abbrev sender : ZoneData → List Item → Zone
-sender keeps outbox = record { number = 0; steps = 0; keeps = keeps; inbox = one; outboxes = [] ∷ outbox ∷ [] }
+sender keeps outbox = record { number = 0; steps = 0; keeps = keeps; ports = record { inbox = one; outboxes = [] ∷ outbox ∷ [] } }
 
 abbrev receiver : List Item → Zone
-receiver inbox = record { number = 1; steps = 0; keeps = physical []; inbox = inbox; outboxes = [] ∷ [] ∷ [] }
+receiver inbox = record { number = 1; steps = 0; keeps = physical []; ports = record { inbox = inbox; outboxes = [] ∷ [] ∷ [] } }
 
 -- before that item moves, and after
 abbrev zones : ZoneData → List Zone
@@ -90,7 +90,7 @@ module _ (sizes : Sizes) (keeps : ZoneData) where
 
   none_to_first : HasNoWork sizes (zones keeps) (event.Move 1 0)
   none_to_first source target apart had_source had_target =
-      ap (λ (z : Zone). has_items (slice_get z.outboxes 0)) (sym (same_Some _ _ had_source))
+      ap (λ (z : Zone). has_items (slice_get z.ports.outboxes 0)) (sym (same_Some _ _ had_source))
 
   -- AreReady: of no event none; of all those for which there is work, in their order
   abbrev both : List Event
@@ -134,7 +134,7 @@ module _ (sizes : Sizes) (keeps : ZoneData) where
   abbrev received : List Zone → ℕ
   received [] = 0
   received (a ∷ []) = 0
-  received (a ∷ b ∷ rest) = length b.inbox
+  received (a ∷ b ∷ rest) = length b.ports.inbox
 
   -- the move, and what it leaves
   plays : (tells honest : Bool) (seen : Seen) → PlaysOne tells honest sizes (event.Move 0 1) (zones keeps) (moved keeps) seen seen
@@ -156,8 +156,8 @@ module _ (sizes : Sizes) (keeps : ZoneData) where
   brings_one tells honest zones' before after (inl (moves, silent)) =
       let target : receiver [] ≡ moves.target = same_Some _ _ moves.had_target in
       let source : sender keeps one ≡ moves.source = same_Some _ _ moves.had_source in
-      let part : one ≡ moves.part = same_Some _ _ (subst (λ (z : Zone). slice_get z.outboxes 1 ≡ Some moves.part) (sym source) moves.outbox) in
-      ap received moves.has ∙ ap (λ (z : Zone). length (z.inbox ++ moves.part)) (sym target) ∙ ap length (sym part)
+      let part : one ≡ moves.part = same_Some _ _ (subst (λ (z : Zone). slice_get z.ports.outboxes 1 ≡ Some moves.part) (sym source) moves.outbox) in
+      ap received moves.has ∙ ap (λ (z : Zone). length (z.ports.inbox ++ moves.part)) (sym target) ∙ ap length (sym part)
   brings_one tells honest zones' before after (inr (none, same, silent)) = absurd (move_to_second none)
 
 module _ (tells honest : Bool) (sizes : Sizes) (seen : Seen) where

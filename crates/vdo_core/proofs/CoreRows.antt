@@ -1,6 +1,6 @@
 -- Rows that pin what a core is and begins with, when it is done, and what there is to move and room for: for each clause a
 -- small case that it accepts, and one that breaks it alone.
-use Rattle.std.proofs.Common.{ℕ, ◌≡◌, ◌≤◌, ◌-◌, ◌*◌, ◌^◌, Bool, true, false, List, [], ◌∷◌, length, replicate, Some, None, slice_get, refl, ap, sym, ◌∙◌, subst, arith}
+use Rattle.std.proofs.Common.{ℕ, ◌≡◌, ◌≤◌, ◌-◌, ◌*◌, ◌^◌, Bool, true, false, List, [], ◌∷◌, length, replicate, Some, slice_get, refl, ap, sym, ◌∙◌, subst, arith}
 use Rattle.std.proofs.lemmas.List.{length-replicate}
 use Rattle.blk_base.specs.declared.geometry.Geometry.{Geometry}
 use Rattle.blk_base.specs.declared.journal_entry.Entry.{Entry}
@@ -9,7 +9,6 @@ use Rattle.blk_base.specs.declared.place.Lba.{Lba}
 use Rattle.blk_base.specs.declared.place.Mapping.{Mapping}
 use Rattle.blk_base.specs.declared.place.Mapping.TheVariants.{Unmapped, Zero, At}
 use Rattle.blk_base.specs.declared.place.Pbn.{Pbn}
-use Rattle.blk_base.specs.declared.request.Request.{Request}
 use Rattle.blk_base.specs.declared.request.Request.TheVariants as request
 use Rattle.vdo_model.specs.Scripts.{Script}
 use Rattle.vdo_model.specs.declared.report.DeskLine.{DeskLine}
@@ -57,8 +56,7 @@ module _ (lines : List DeskLine) (outboxes : List (List Item)) where
     number = 0;
     steps = 0;
     keeps = at.Desk (record { requests = script; log = log; marks = []; notices = 0; parked = [] });
-    inbox = [];
-    outboxes = outboxes;
+    ports = record { inbox = []; outboxes = outboxes };
   }
 
   done-of_no_request : IsDone (desk_zone [] [] ∷ [])
@@ -84,8 +82,7 @@ zone_with number outboxes = record {
   number = number;
   steps = 0;
   keeps = at.Device (record { stopped = false; calls = 0 });
-  inbox = [];
-  outboxes = outboxes;
+  ports = record { inbox = []; outboxes = outboxes };
 }
 
 abbrev two_zones : List Zone
@@ -113,20 +110,20 @@ moves-not_from_no_zone some = let had = some.had_source in absurd cc
 moves-not_nothing : MovesSome two_zones 1 0 → ⊥
 moves-not_nothing some = none some.source some.had_source some.posted
   where
-    none : (z : Zone) → slice_get two_zones 1 ≡ Some z → has_items (slice_get z.outboxes 0) ≡ true → ⊥
+    none : (z : Zone) → slice_get two_zones 1 ≡ Some z → has_items (slice_get z.ports.outboxes 0) ≡ true → ⊥
     none z had posted =
         let same : zone_with 1 ([] ∷ [] ∷ []) ≡ z = cc in
-        let empty : has_items (slice_get (zone_with 1 ([] ∷ [] ∷ [])).outboxes 0) ≡ true = subst (λ (zone : Zone). has_items (slice_get zone.outboxes 0) ≡ true) (sym same) posted in
+        let empty : has_items (slice_get (zone_with 1 ([] ∷ [] ∷ [])).ports.outboxes 0) ≡ true = subst (λ (zone : Zone). has_items (slice_get zone.ports.outboxes 0) ≡ true) (sym same) posted in
         absurd cc
 
 -- HasRoomFor: up to the room of a lane, in the inbox and in each outbox
-room-up_to_the_last : (z : Zone) → HasRoomFor 1 (record z { inbox = replicate 539 StopNotice; outboxes = replicate 539 StopNotice ∷ [] })
+room-up_to_the_last : (z : Zone) → HasRoomFor 1 (record z { ports = record z.ports { inbox = replicate 539 StopNotice; outboxes = replicate 539 StopNotice ∷ [] } })
 room-up_to_the_last z = let count = length-replicate 539 StopNotice in record { inbox = omega (arith, count); outboxes = (omega (arith, count), tt) }
 
-room-not_past_it : (z : Zone) → HasRoomFor 1 (record z { inbox = replicate 540 StopNotice; outboxes = [] }) → ⊥
+room-not_past_it : (z : Zone) → HasRoomFor 1 (record z { ports = record z.ports { inbox = replicate 540 StopNotice; outboxes = [] } }) → ⊥
 room-not_past_it z room = let count = length-replicate 540 StopNotice in omega (arith, count, room.inbox)
 
-room-not_past_it_in_an_outbox : (z : Zone) → HasRoomFor 1 (record z { inbox = []; outboxes = [] ∷ replicate 540 StopNotice ∷ [] }) → ⊥
+room-not_past_it_in_an_outbox : (z : Zone) → HasRoomFor 1 (record z { ports = record z.ports { inbox = []; outboxes = [] ∷ replicate 540 StopNotice ∷ [] } }) → ⊥
 room-not_past_it_in_an_outbox z room = let count = length-replicate 540 StopNotice in omega (arith, count, room.outboxes.1.0)
 
 -- IsSized: one logical zone at least, four at most, and sequences that are numbers of their type
@@ -159,7 +156,7 @@ module _ (g : Geometry) where
       let limited = subst (λ (kept : ZoneData). IsServedBy (sizes 1 4) kept) keeps can.served in
       omega (arith, limited.streams, many, ap (λ (s : Script). length s) is)
 
-  can_step-not_past_its_room : (z : Zone) → 263 ≤ length z.inbox → CanStep (sizes 1 4) z → ⊥
+  can_step-not_past_its_room : (z : Zone) → 263 ≤ length z.ports.inbox → CanStep (sizes 1 4) z → ⊥
   can_step-not_past_its_room z many can = omega (arith, can.within.inbox, many)
 
   -- BeginsCrowded: a stream of the desk may begin a request, and there is no room for it

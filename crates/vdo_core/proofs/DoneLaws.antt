@@ -1,5 +1,5 @@
 -- A legal core is done where each request is answered, and only there.
-use Rattle.std.proofs.Common.{◌≡◌, ◌*◌, Some, List, length, slice_get, ap, subst, arith}
+use Rattle.std.proofs.Common.{◌≡◌, Some, List, length, slice_get, ap, subst, arith}
 use Rattle.core_limits.proofs.FullLogs.{answered_when_full, full_when_answered}
 use Rattle.core_laws.proofs.Common.{AllAnswered, DataOk, DeskLine, Script, Session, Zone, ZoneData, desk_zone, lines}
 use Rattle.core_laws.proofs.kept.ZoneKinds.{desk_sits}

@@ -6,6 +6,7 @@ mod StartLaws
 mod StrayLaws
 mod ZoneLaws
 mod CoreRows
+mod ToolRows
 mod LaneLaws
 mod NoFaults
 pub mod SessionLaws

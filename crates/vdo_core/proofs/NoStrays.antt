@@ -27,7 +27,7 @@ none_behind : (items : List Item) → take 1 items ≡ [] → drop 1 items ≡ [
 none_behind [] none = refl
 none_behind (it ∷ rest) none = absurd cc
 
-have_lanes : (sizes : Sizes) (z : Zone) (posts : List Post) → AllByRecursion (λ (post : Post). zone_number sizes post.0 < length z.outboxes) posts → AllByRecursion (HasLane sizes z) posts
+have_lanes : (sizes : Sizes) (z : Zone) (posts : List Post) → AllByRecursion (λ (post : Post). zone_number sizes post.0 < length z.ports.outboxes) posts → AllByRecursion (HasLane sizes z) posts
 have_lanes sizes z [] all = tt
 have_lanes sizes z (post ∷ posts) all = (inr all.0, have_lanes sizes z posts all.1)
 
@@ -41,4 +41,4 @@ pub none_stray : (s : Session) (core : Core) (n : ℕ) (z : Zone) → IsSession 
 none_stray s core n z session legal had (inl (front, rest, taken, none)) = let (new, made, posts, act) = has_rule s session core legal n z had front rest taken in none new made posts act
 none_stray s core n z session legal had (inr (inl (none, unserved))) = none_unserved s core.trace n z.keeps session (legal.each n z had).own unserved
 none_stray s core n z session legal had (inr (inr (new, made, posts, act, astray))) =
-    astray (have_lanes s.sizes z posts (has_lanes s session core legal n z had (take 1 z.inbox) (drop 1 z.inbox) new made posts (first_and_others z.inbox) (none_behind z.inbox) act))
+    astray (have_lanes s.sizes z posts (has_lanes s session core legal n z had (take 1 z.ports.inbox) (drop 1 z.ports.inbox) new made posts (first_and_others z.ports.inbox) (none_behind z.ports.inbox) act))

@@ -1,10 +1,12 @@
 -- The zones of a core at its start, one after another.
-use Rattle.std.proofs.Common.{◌≡◌, ℕ, ◌+◌, List, [], ◌∷◌, ◌++◌, length, sym, ap, subst, ◌∙◌, length-append, refl}
+use Rattle.std.proofs.Common.{◌≡◌, ℕ, zero, suc, ◌+◌, replicate, List, [], ◌∷◌, ◌++◌, length, sym, ap, subst, ◌∙◌, length-append, refl}
+use Rattle.std.proofs.lemmas.List.{length-replicate}
 use Rattle.std.specs.List.{AllByRecursion}
 use Rattle.core_model.specs.declared.items.Item.{Item}
 use Rattle.core_model.specs.declared.sizes.Sizes.{Sizes}
 use Rattle.core_model.specs.declared.zones.ZoneData.{ZoneData}
 use Rattle.core_model.specs.declared.zones.Zone.{Zone}
+use Rattle.core_model.specs.PortsData.{Ports}
 use Rattle.core_model.specs.Sessions.{Session}
 use Rattle.vdo_model.specs.Scripts.{Script}
 use Rattle.core_model.specs.DeskData.{Desk}
@@ -26,16 +28,20 @@ one_more s old new zone number is count first each =
 pub one_longer : (old new : List Zone) (zone : Zone) → new ≡ old ++ zone ∷ [] → length new ≡ length old + 1
 one_longer old new zone is = ap length is ∙ length-append old (zone ∷ [])
 
+all_empty : (n : ℕ) → AllByRecursion (λ (lane : List Item). lane ≡ []) (replicate n [])
+all_empty zero = tt
+all_empty (suc n) = (refl, all_empty n)
+
 -- a zone with empty lanes and the data that it begins with
-pub empty_first : (s : Session) (sizes : Sizes) (number count : ℕ) (keeps : ZoneData) (inbox : List Item) (lanes : List (List Item))
-    → s.sizes ≡ sizes → inbox ≡ [] → length lanes ≡ count → count ≡ zone_count sizes → AllByRecursion (λ lane. lane ≡ []) lanes → IsFirstData s number keeps
-    → IsFirstZone s number (record { number = number; steps = 0; keeps = keeps; inbox = inbox; outboxes = lanes })
-empty_first s sizes number count keeps inbox lanes is none counted counts empty first = record {
+pub empty_first : (s : Session) (sizes : Sizes) (number count : ℕ) (keeps : ZoneData) (ports : Ports)
+    → s.sizes ≡ sizes → ports ≡ record { inbox = []; outboxes = replicate count [] } → count ≡ zone_count sizes → IsFirstData s number keeps
+    → IsFirstZone s number (record { number = number; steps = 0; keeps = keeps; ports = ports })
+empty_first s sizes number count keeps ports is none counts first = record {
   number_is = refl;
   steps = refl;
-  lanes = counted ∙ counts ∙ ap zone_count (sym is);
-  inbox = none;
-  outboxes = empty;
+  lanes = ap (λ (p : Ports). length p.outboxes) none ∙ length-replicate {A = List Item} count [] ∙ counts ∙ ap zone_count (sym is);
+  inbox = ap (λ (p : Ports). p.inbox) none;
+  outboxes = subst (λ (p : Ports). AllByRecursion (λ lane. lane ≡ []) p.outboxes) (sym none) (all_empty count);
   own = first;
 }
 

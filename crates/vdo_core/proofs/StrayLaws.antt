@@ -1,10 +1,11 @@
 -- Why a step comes to no end, carried from the part that meets it to the step, and from the step to a list of events.
-use Rattle.std.proofs.Common.{◌≡◌, ℕ, Bool, true, false, List, [], ◌∷◌, length, take, refl, sym, subst, ◌∙◌, inl, inr}
+use Rattle.std.proofs.Common.{◌≡◌, ℕ, Bool, true, false, List, [], ◌∷◌, length, take, refl, sym, subst, ◌∙◌, arith, inl, inr}
 use Rattle.std.specs.List.{AllByRecursion}
 use Rattle.core_model.specs.declared.items.Item.{Item}
 use Rattle.core_model.specs.declared.sizes.Sizes.{Sizes}
 use Rattle.core_model.specs.declared.zones.Zone.{Zone}
 use Rattle.core_model.specs.declared.zones.ZoneData.{ZoneData}
+use Rattle.core_model.specs.PortsData.{Ports}
 use Rattle.core_model.specs.Steps.{Act, sent_to}
 use Rattle.core_model.specs.Trace.{Trace}
 use Rattle.core_model.specs.Vios.{Post}
@@ -19,9 +20,9 @@ sent_number : (own : Bool) (to : ℕ) (it : Item) (z : Zone) → (sent_to own to
 sent_number true to it z = refl
 sent_number false to it z = refl
 
-sent_lanes : (own : Bool) (to : ℕ) (it : Item) (z : Zone) → length (sent_to own to it z).outboxes ≡ length z.outboxes
+sent_lanes : (own : Bool) (to : ℕ) (it : Item) (z : Zone) → length (sent_to own to it z).ports.outboxes ≡ length z.ports.outboxes
 sent_lanes true to it z = refl
-sent_lanes false to it z = length-posted to it z.outboxes
+sent_lanes false to it z = length-posted to it z.ports.outboxes
 
 lane_stays : (sizes : Sizes) (own : Bool) (to : ℕ) (it : Item) (z : Zone) (p : Post) → HasLane sizes z p → HasLane sizes (sent_to own to it z) p
 lane_stays sizes own to it z p (inl same) = inl (same ∙ sym (sent_number own to it z))
@@ -33,16 +34,23 @@ lanes_stay sizes own to it z (p ∷ posts) all = (lane_stays sizes own to it z p
 
 -- no rule applies to the item in front
 pub act_may_fault : (sizes : Sizes) (z : Zone) (front : Item) (rest : List Item)
-    → z.inbox ≡ front ∷ rest → NoRule (Act sizes z.keeps (front ∷ [])) → MayFault sizes z fault.Stray
+    → z.ports.inbox ≡ front ∷ rest → NoRule (Act sizes z.keeps (front ∷ [])) → MayFault sizes z fault.Stray
 act_may_fault sizes z front rest taken why = inl (front, rest, taken, why)
 
 -- a request that may begin isn't served, or there is no room for it
-pub begin_may_fault : (sizes : Sizes) (z : Zone) (f : StepFault) → z.inbox ≡ [] → BeginsNone sizes z.keeps f → MayFault sizes z f
+pub begin_may_fault : (sizes : Sizes) (z : Zone) (f : StepFault) → z.ports.inbox ≡ [] → BeginsNone sizes z.keeps f → MayFault sizes z f
 begin_may_fault sizes z fault.Exhausted none why = inr why
 begin_may_fault sizes z fault.Stray none why = inr (inl (none, why))
 
+-- a zone with as many outboxes has the same lanes
+same_lanes : (sizes : Sizes) (z : Zone) (ports : Ports) (posts : List Post) → length ports.outboxes ≡ length z.ports.outboxes → AllByRecursion (HasLane sizes z) posts
+    → AllByRecursion (HasLane sizes (record z { ports = ports })) posts
+same_lanes sizes z ports [] same all = tt
+same_lanes sizes z ports (p ∷ posts) same all = (elim all.0 [ inl own ↦ inl own | inr below ↦ inr (omega (arith, same, below)) ], same_lanes sizes z ports posts same all.1)
+
 -- a rule posts to no zone
-pub posts_may_fault : (sizes : Sizes) (z : Zone) (front : List Item) (new : ZoneData) (made : Trace) (posts : List Post)
-    → take 1 z.inbox ≡ front → Act sizes z.keeps front new made posts → (AllByRecursion (HasLane sizes z) posts → ⊥) → MayFault sizes z fault.Stray
-posts_may_fault sizes z front new made posts taken act why =
-    inr (inr (new, made, posts, subst (λ (items : List Item). Act sizes z.keeps items new made posts) (sym taken) act, why))
+pub posts_may_fault : (sizes : Sizes) (z : Zone) (ports : Ports) (front : List Item) (new : ZoneData) (made : Trace) (posts : List Post)
+    → take 1 z.ports.inbox ≡ front → length ports.outboxes ≡ length z.ports.outboxes → Act sizes z.keeps front new made posts
+    → (AllByRecursion (HasLane sizes (record z { ports = ports })) posts → ⊥) → MayFault sizes z fault.Stray
+posts_may_fault sizes z ports front new made posts taken same act why =
+    inr (inr (new, made, posts, subst (λ (items : List Item). Act sizes z.keeps items new made posts) (sym taken) act, λ all. why (same_lanes sizes z ports posts same all)))

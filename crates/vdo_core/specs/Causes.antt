@@ -21,7 +21,7 @@ use Rattle.vdo_core.specs.Plays.{LeadsTo}
 
 -- a zone has a lane for a post
 abbrev pub HasLane : Sizes → Zone → Post → Type 0
-HasLane sizes z post = (zone_number sizes post.0 ≡ z.number) ⊎ (zone_number sizes post.0 < length z.outboxes)
+HasLane sizes z post = (zone_number sizes post.0 ≡ z.number) ⊎ (zone_number sizes post.0 < length z.ports.outboxes)
 
 -- the session is no larger than it may be: there is a logical zone, and the sequence of each block is a number of its type
 pub record IsSized (sizes : Sizes) : Type 0 where
@@ -51,7 +51,7 @@ GoesAstray sizes z front = (new : ZoneData) × (made : Trace) × (posts : List P
 
 -- no rule applies to the item in front of the inbox
 abbrev pub NoneApplies : Sizes → Zone → Type 0
-NoneApplies sizes z = (front : Item) × (rest : List Item) × (z.inbox ≡ front ∷ rest) × NoRule (Act sizes z.keeps (front ∷ []))
+NoneApplies sizes z = (front : Item) × (rest : List Item) × (z.ports.inbox ≡ front ∷ rest) × NoRule (Act sizes z.keeps (front ∷ []))
 
 -- a stream may begin a request that isn't served
 abbrev pub BeginsUnserved : Sizes → ZoneData → Type 0
@@ -65,7 +65,7 @@ BeginsNone sizes d fault.Stray = BeginsUnserved sizes d
 
 -- something is stray: an item, a request that may begin, or what a rule posts
 abbrev pub IsStray : Sizes → Zone → Type 0
-IsStray sizes z = NoneApplies sizes z ⊎ ((z.inbox ≡ []) × BeginsUnserved sizes z.keeps) ⊎ GoesAstray sizes z (take 1 z.inbox)
+IsStray sizes z = NoneApplies sizes z ⊎ ((z.ports.inbox ≡ []) × BeginsUnserved sizes z.keeps) ⊎ GoesAstray sizes z (take 1 z.ports.inbox)
 
 -- why a zone comes to no end of its step
 abbrev pub MayFault : Sizes → Zone → StepFault → Type 0

@@ -6,3 +6,4 @@ pub mod FreeBlocks
 pub mod Moves
 pub mod Plays
 pub mod Starts
+pub mod StepTools

@@ -4,7 +4,7 @@ use Rattle.disk_model.specs.Seen.{Seen}
 use Rattle.core_model.specs.declared.items.Item.{Item}
 use Rattle.core_model.specs.declared.sizes.Sizes.{Sizes}
 use Rattle.core_model.specs.declared.zones.Zone.{Zone}
-use Rattle.core_model.specs.Steps.{Core, IsIdle, ZoneStep, Leads}
+use Rattle.core_model.specs.Steps.{Core, IsIdle, ZoneStep, Leads, with_inbox, with_outboxes}
 use Rattle.core_model.specs.Trace.{Trace}
 use Rattle.step_parts.specs.DeviceLog.{HasCalled}
 use Rattle.vdo_core.specs.Moves.{MovesNothing}
@@ -34,8 +34,8 @@ pub record MovesAll (from to : ℕ) (old new : List Zone) : Type 0 where
   pub apart : from ≢ to
   pub had_source : slice_get old from ≡ Some source
   pub had_target : slice_get old to ≡ Some target
-  pub outbox : slice_get source.outboxes to ≡ Some part
-  pub has : new ≡ slice_set (slice_set old from (record source { outboxes = slice_set source.outboxes to [] })) to (record target { inbox = target.inbox ++ part })
+  pub outbox : slice_get source.ports.outboxes to ≡ Some part
+  pub has : new ≡ slice_set (slice_set old from (with_outboxes source (slice_set source.ports.outboxes to []))) to (with_inbox target (target.ports.inbox ++ part))
 
 -- there is no work for an event: no zone of its number can step, or there is nothing to move
 abbrev pub HasNoWork : Sizes → List Zone → Event → Type 0

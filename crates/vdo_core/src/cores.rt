@@ -45,9 +45,10 @@ pub struct Core {
     room: ReportRoom,
 }
 
-/// What a core is made of.
+/// The zones of a core, with what it needs beside them to be a core again.
 #[derive(Drop)]
-pub struct CoreParts {
+pub struct CoreZones {
+    /// What the zones know of the session.
     pub sizes: Sizes,
     /// The zones, by their numbers.
     pub zones: Zones,
@@ -154,28 +155,28 @@ impl Core {
         report(self.zones.into_vec(), self.room)
     }
 
-    /// What it is made of.
-    pub fn into_parts(self) -> CoreParts
+    /// Its zones.
+    pub fn into_zones(self) -> CoreZones
         ensures sizes { result.sizes ≡ self.sizes }
         ensures zones { result.zones ≡ self.zones }
         ensures whole { IsWhole result.sizes result.zones result.room }
     {
-        CoreParts {
+        CoreZones {
             sizes: self.sizes,
             zones: self.zones,
             room: self.room,
         }
     }
 
-    /// The core that is made of these parts, to which some events of a session lead.
-    pub fn from_parts(parts: CoreParts) -> Core
-        requires { IsWhole parts.sizes parts.zones parts.room }
-        ensures { result ≡ record { sizes = parts.sizes; zones = parts.zones } }
+    /// The core of these zones, to which some events of a session lead.
+    pub fn from_zones(core: CoreZones) -> Core
+        requires { IsWhole core.sizes core.zones core.room }
+        ensures { result ≡ record { sizes = core.sizes; zones = core.zones } }
     {
         Core {
-            sizes: parts.sizes,
-            zones: parts.zones,
-            room: parts.room,
+            sizes: core.sizes,
+            zones: core.zones,
+            room: core.room,
         }
     }
 }

@@ -81,9 +81,7 @@ fn serves(sizes: &Sizes, keeps: &ZoneData) -> bool
 pub(crate) fn is_within(zone: &Zone) -> bool
     ensures { IsTrue result ↔ IsWithin zone.now }
 {
-    zone.inbox.len() <= MOST_ITEMS
-        && zone.outboxes.are_short()
-        && is_data_within(zone.steps, &zone.keeps)
+    zone.ports.are_short() && is_data_within(zone.steps, &zone.keeps)
 }
 
 /// Whether a zone can step: the session is no larger than it may be, and the zone keeps within its room.

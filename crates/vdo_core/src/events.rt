@@ -9,7 +9,7 @@ ghost use Rattle.vdo_core.specs.Causes.{MayFaultAt, OneMayFault, MayFaultAfter};
 ghost use Rattle.vdo_core.specs.Plays.{StepsAt, HasNoWork, PlaysOne, Plays, LeadsTo};
 
 use crate::moving::move_items;
-use crate::stepping::step_zone;
+use crate::stepping::step_with;
 use crate::zones::Zones;
 use core_model::Sizes;
 use disk_model::Disk;
@@ -44,7 +44,7 @@ pub fn step<D: Disk>(
     let Some(zone) = zones.zones.get_mut(number as usize) else {
         return Ok(Stepped::Idle);
     };
-    Ok(step_zone(sizes, zone, &mut zones.posts, disk)?)
+    Ok(step_with(sizes, zone, &mut zones.posts, disk)?)
 }
 
 /// One event.

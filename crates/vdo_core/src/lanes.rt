@@ -17,14 +17,13 @@ fn send(sizes: &Sizes, zone: &mut Zone, to: ZoneId, item: Item) -> Result<(), St
 {
     let number = zone_number(sizes, to);
     if number == u64::from(zone.number) {
-        zone.inbox.push(item);
+        zone.ports.keep(item);
         return Ok(());
     }
-    let to = number as usize;
-    if to >= zone.outboxes.len() {
+    if number >= u64::from(zone.ports.count()) {
         return Err(Stray);
     }
-    zone.outboxes.post(to, item);
+    zone.ports.post(number as u32, item);
     Ok(())
 }
 

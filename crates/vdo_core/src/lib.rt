@@ -13,15 +13,17 @@ mod moving;
 mod numbers;
 mod starting;
 mod stepping;
+mod tools;
 mod work;
 mod zones;
 
-pub use cores::{Core, CoreParts, Setup};
+pub use cores::{Core, CoreZones, Setup};
 pub use events::{Event, play, step};
 pub use laws::{a_legal_core_is_done_when_all_are_answered, a_legal_core_never_fails};
 pub use moving::move_items;
 pub use starting::begin;
 pub use step_parts::{StepFault, Stepped};
 pub use stepping::step_zone;
+pub use tools::Tools;
 pub use work::{is_done, ready};
 pub use zones::Zones;

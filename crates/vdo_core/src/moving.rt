@@ -15,27 +15,27 @@ use core_model::{Lane, Zone};
 use step_parts::{StepFault, Stepped};
 
 // Whether an outbox has items.
-fn has_posted(zone: &Zone, to: usize) -> bool
-    ensures { result ≡ has_items (slice_get zone.now.outboxes to) }
+fn has_posted(zone: &Zone, to: u32) -> bool
+    ensures { result ≡ has_items (slice_get zone.now.ports.outboxes to) }
 {
-    to < zone.outboxes.len() && !zone.outboxes.is_empty(to)
+    to < zone.ports.count() && zone.ports.has_posts(to)
 }
 
 // The whole outbox of one zone becomes the tail of the inbox of another, by way of an empty batch.
-fn carry(zones: &mut Vec<Zone>, batch: &mut Lane, from: usize, to: usize)
+fn carry(zones: &mut Vec<Zone>, batch: &mut Lane, from: u32, to: u32)
     requires apart { from ≢ to }
     requires source { from < length zones.old.items }
     requires target { to < length zones.old.items }
-    requires outbox { (source : Zone) → slice_get zones.old.items from ≡ Some source → to < length source.outboxes }
-    requires sent { (source : Zone) (lane : List Item) → slice_get zones.old.items from ≡ Some source → slice_get source.outboxes to ≡ Some lane → IsShort lane }
-    requires there { (target : Zone) → slice_get zones.old.items to ≡ Some target → IsShort target.inbox }
+    requires outbox { (source : Zone) → slice_get zones.old.items from ≡ Some source → to < length source.ports.outboxes }
+    requires sent { (source : Zone) (lane : List Item) → slice_get zones.old.items from ≡ Some source → slice_get source.ports.outboxes to ≡ Some lane → IsShort lane }
+    requires there { (target : Zone) → slice_get zones.old.items to ≡ Some target → IsShort target.ports.inbox }
     requires none { batch.old ≡ [] }
     ensures { MovesAll from to zones.old.items zones.new.items }
 {
-    let source = &mut zones[from];
-    source.outboxes.exchange(to, batch);
-    let target = &mut zones[to];
-    target.inbox.append(batch);
+    let source = &mut zones[from as usize];
+    source.ports.exchange(to, batch);
+    let target = &mut zones[to as usize];
+    target.ports.receive(batch);
 }
 
 /// Whether one zone has posted something to another.
@@ -48,7 +48,7 @@ pub(crate) fn can_move(zones: &Zones, from: u32, to: u32) -> bool
     if source == target || source >= count || target >= count {
         return false;
     }
-    has_posted(&zones.zones[source], target)
+    has_posted(&zones.zones[source], to)
 }
 
 /// What one zone posted to another moves from the outbox to the tail of the inbox, all of it. It asks for no memory. It
@@ -71,6 +71,6 @@ pub fn move_items(zones: &mut Zones, from: u32, to: u32) -> Result<Stepped, Step
         return Err(StepFault::Exhausted);
     }
     zones.batch.clear();
-    carry(&mut zones.zones, &mut zones.batch, source, target);
+    carry(&mut zones.zones, &mut zones.batch, from, to);
     Ok(Stepped::Did)
 }

@@ -11,7 +11,7 @@ ghost use Rattle.vdo_core.specs.Starts.{IsOf};
 use crate::numbers::{DESK, device_zone, journal_zone, logical_zone, physical_zone, zone_count};
 use crate::zones::Zones;
 use blk_base::{Entry, Pbn};
-use core_model::{Desk, Fifo, Outboxes, Sizes, Zone, ZoneData};
+use core_model::{Desk, Ports, Sizes, Zone, ZoneData};
 use std::alloc::{AllocError, Global};
 use vdo_model::{Requests, Rows};
 
@@ -47,14 +47,12 @@ fn add(
     ensures first { OnOk result ((s : Session) → s.sizes ≡ sizes.now → IsFirstData s number keeps
         → Each (IsFirstZone s) zones.old.items → Each (IsFirstZone s) zones.new.items) }
 {
-    let inbox = Fifo::new(alloc)?;
-    let outboxes = Outboxes::new(alloc, zone_count(sizes))?;
+    let ports = Ports::new(alloc, zone_count(sizes))?;
     let zone = Zone {
         number,
         steps: 0,
         keeps,
-        inbox,
-        outboxes,
+        ports,
     };
     push(zones, zone)?;
     Ok(())

@@ -1,16 +1,18 @@
-ghost use Rattle.std.specs.Prelude.{ℕ, ◌≡◌, [], IfOk, IfErr, IsTrue, false};
-ghost use Rattle.disk_model.specs.Seen.{Stays};
+ghost use Rattle.std.specs.Prelude.{ℕ, Bool, ◌≡◌, ◌↔◌, [], IfOk, IfErr, IsTrue, false};
+ghost use Rattle.disk_model.specs.Seen.{Seen, Stays};
 ghost use Rattle.core_model.specs.Limits.{IsDataWithin};
-ghost use Rattle.core_model.specs.Steps.{IsIdle, MayBegin};
+ghost use Rattle.core_model.specs.Steps.{CallsDevice, IsIdle, MayBegin};
 ghost use Rattle.step_parts.specs.Acts.{ActsAlone};
 ghost use Rattle.step_parts.specs.declared.fault.Stepped.TheVariants.{Did, Idle};
 ghost use Rattle.steps_device.specs.DeviceCalls.{Fits};
 ghost use Rattle.vdo_core.specs.Causes.{BeginsNone, CanStep, IsServedBy, IsSized, MayFault};
 ghost use Rattle.vdo_core.specs.Plays.{ZoneSteps};
+ghost use Rattle.vdo_core.specs.StepTools.{AreToolsOf, OnDevice, Uses};
 
-use crate::acting::act;
+use crate::acting::{act, act_at_device};
 use crate::counting::{can_step, has_steps_left};
 use crate::lanes::deliver;
+use crate::tools::Tools;
 use core_model::{Sizes, Zone, ZoneData};
 use disk_model::Disk;
 use step_parts::{Posts, StepFault, Stepped};
@@ -34,19 +36,49 @@ fn begin(sizes: &Sizes, keeps: &mut ZoneData, posts: &mut Posts) -> Result<bool,
     }
 }
 
-/// One step of a zone: it takes the item in front of its inbox, or, where it is the desk and has none, begins the next
-/// request of the lowest stream that may begin one. It is idle exactly where there is neither, or it made 2^64 - 1 steps.
-/// Where the device tells, the calls that it made stand in its log; and its count of faults rose with each call that failed.
-/// What it posts goes by way of `posts`, which is empty before.
-///
-/// It asks for no memory. It fails with `Exhausted` where the session is larger than it may be or the zone is past its room,
-/// and with `Stray` where no rule applies to the item, a request isn't served, or what a rule posts goes to no zone.
-pub fn step_zone<D: Disk>(
+// One step of a zone that isn't the device's.
+fn step_alone(sizes: &Sizes, zone: &mut Zone, posts: &mut Posts) -> Result<Stepped, StepFault>
+    requires other { CallsDevice zone.old.keeps → ⊥ }
+    requires none { posts.old ≡ [] }
+    ensures did { IfOk result (λ stepped. stepped ≡ Did → (tells honest : Bool) (seen : Seen) → ZoneSteps tells honest sizes.now zone.old zone.new seen seen) }
+    ensures busy { IfOk result (λ stepped. stepped ≡ Did → IsIdle sizes.now zone.old → ⊥) }
+    ensures idle { IfOk result (λ stepped. stepped ≡ Idle → IsIdle sizes.now zone.old) }
+    ensures same { IfOk result (λ stepped. stepped ≡ Idle → zone.new ≡ zone.old) }
+    ensures err { IfErr result (MayFault sizes.now zone.old) }
+{
+    if !has_steps_left(zone) {
+        return Ok(Stepped::Idle);
+    }
+    if !can_step(sizes, zone) {
+        return Err(StepFault::Exhausted);
+    }
+    match zone.ports.take() {
+        Some(item) => {
+            act(sizes, &mut zone.keeps, item, posts)?;
+            zone.steps += 1;
+            deliver(sizes, zone, posts)?;
+            Ok(Stepped::Did)
+        }
+        None => {
+            let begun = begin(sizes, &mut zone.keeps, posts)?;
+            if !begun {
+                return Ok(Stepped::Idle);
+            }
+            zone.steps += 1;
+            deliver(sizes, zone, posts)?;
+            Ok(Stepped::Did)
+        }
+    }
+}
+
+// One step of the device's zone.
+fn step_device<D: Disk>(
     sizes: &Sizes,
     zone: &mut Zone,
     posts: &mut Posts,
     disk: &mut D,
 ) -> Result<Stepped, StepFault>
+    requires own { CallsDevice zone.old.keeps }
     requires fits { Fits sizes.now (D.seen disk.old) }
     requires none { posts.old ≡ [] }
     ensures stays { Stays (D.seen disk.old) (D.seen disk.new) }
@@ -63,21 +95,78 @@ pub fn step_zone<D: Disk>(
     if !can_step(sizes, zone) {
         return Err(StepFault::Exhausted);
     }
-    match zone.inbox.pop() {
+    match zone.ports.take() {
         Some(item) => {
-            act(sizes, &mut zone.keeps, item, disk, posts)?;
+            act_at_device(sizes, &mut zone.keeps, item, disk, posts)?;
             zone.steps += 1;
             deliver(sizes, zone, posts)?;
             Ok(Stepped::Did)
         }
-        None => {
-            let begun = begin(sizes, &mut zone.keeps, posts)?;
-            if !begun {
-                return Ok(Stepped::Idle);
-            }
-            zone.steps += 1;
-            deliver(sizes, zone, posts)?;
-            Ok(Stepped::Did)
-        }
+        None => Ok(Stepped::Idle),
     }
+}
+
+/// One step of a zone with its tools: it takes the item in front of its inbox, or, where it is the desk and has none, begins
+/// the next request of the lowest stream that may begin one. It is idle exactly where there is neither, or it made
+/// 2^64 - 1 steps. Where the device tells, the calls that it made stand in its log; and its count of faults rose with each
+/// call that failed. What it posts goes by way of `posts`, which is empty before.
+///
+/// It asks for no memory. It fails with `Exhausted` where the session is larger than it may be or the zone is past its room,
+/// and with `Stray` where no rule applies to the item, a request isn't served, or what a rule posts goes to no zone.
+pub fn step_zone<D: Disk>(
+    sizes: &Sizes,
+    zone: &mut Zone,
+    posts: &mut Posts,
+    tools: Tools<'_, D>,
+) -> Result<Stepped, StepFault>
+    requires tools { AreToolsOf zone.old.keeps tools }
+    requires fits { OnDevice (λ disk. Fits sizes.now (D.seen disk)) tools }
+    requires none { posts.old ≡ [] }
+    ensures stays { Uses D.seen Stays tools.entry tools.exit }
+    ensures did { IfOk result (λ stepped. stepped ≡ Did → Uses D.seen (ZoneSteps D.tells D.honest sizes.now zone.old zone.new) tools.entry tools.exit) }
+    ensures busy { IfOk result (λ stepped. stepped ≡ Did → IsIdle sizes.now zone.old → ⊥) }
+    ensures idle { IfOk result (λ stepped. stepped ≡ Idle → IsIdle sizes.now zone.old) }
+    ensures same { IfOk result (λ stepped. stepped ≡ Idle → zone.new ≡ zone.old) }
+    ensures silent { IfOk result (λ stepped. stepped ≡ Idle → Uses D.seen (λ before after. after ≡ before) tools.entry tools.exit) }
+    ensures err { IfErr result (MayFault sizes.now zone.old) }
+{
+    match tools {
+        Tools::Device(disk) => step_device(sizes, zone, posts, disk),
+        Tools::Other => step_alone(sizes, zone, posts),
+    }
+}
+
+// Whether a zone is the device's.
+fn is_device(zone: &Zone) -> bool
+    ensures { IsTrue result ↔ CallsDevice zone.now.keeps }
+{
+    match zone.keeps {
+        ZoneData::Device(_) => true,
+        _ => false,
+    }
+}
+
+/// One step of a zone, which is given the tool of its kind.
+pub(crate) fn step_with<'a, D: Disk>(
+    sizes: &Sizes,
+    zone: &mut Zone,
+    posts: &mut Posts,
+    disk: &'a mut D,
+) -> Result<Stepped, StepFault>
+    requires fits { Fits sizes.now (D.seen disk.old) }
+    requires none { posts.old ≡ [] }
+    ensures stays { Stays (D.seen disk.old) (D.seen disk.new) }
+    ensures did { IfOk result (λ stepped. stepped ≡ Did → ZoneSteps D.tells D.honest sizes.now zone.old zone.new (D.seen disk.old) (D.seen disk.new)) }
+    ensures busy { IfOk result (λ stepped. stepped ≡ Did → IsIdle sizes.now zone.old → ⊥) }
+    ensures idle { IfOk result (λ stepped. stepped ≡ Idle → IsIdle sizes.now zone.old) }
+    ensures same { IfOk result (λ stepped. stepped ≡ Idle → zone.new ≡ zone.old) }
+    ensures silent { IfOk result (λ stepped. stepped ≡ Idle → D.seen disk.new ≡ D.seen disk.old) }
+    ensures err { IfErr result (MayFault sizes.now zone.old) }
+{
+    if is_device(zone) {
+        let tools: Tools<'_, D> = Tools::Device(disk);
+        return step_zone(sizes, zone, posts, tools);
+    }
+    let tools: Tools<'a, D> = Tools::Other;
+    step_zone(sizes, zone, posts, tools)
 }

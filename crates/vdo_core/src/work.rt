@@ -40,7 +40,7 @@ fn has_work(sizes: &Sizes, zone: &Zone) -> Result<bool, StepFault>
     if !can_step(sizes, zone) {
         return Err(StepFault::Exhausted);
     }
-    if !zone.inbox.is_empty() {
+    if zone.ports.has_item() {
         return Ok(true);
     }
     Ok(begins(sizes, &zone.keeps))

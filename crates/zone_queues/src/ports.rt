@@ -36,6 +36,20 @@ impl<V: Drop> Ports<V> {
         })
     }
 
+    /// The inbox.
+    pub fn inbox(&self) -> &Lane<V>
+        ensures { result.now ≡ self.now.inbox }
+    {
+        &self.inbox
+    }
+
+    /// The outboxes, by the numbers of the zones that they go to.
+    pub fn outboxes(&self) -> &[Lane<V>]
+        ensures { result.now ≡ self.now.outboxes }
+    {
+        &self.outboxes
+    }
+
     /// Adds an item to the outbox to a zone.
     pub fn post(&mut self, to: u32, item: V)
         requires zone { to < length self.old.outboxes }

@@ -152,7 +152,7 @@ all_empty zero = tt
 all_empty (suc n) = (refl, all_empty n)
 
 abbrev empty_zone : ℕ → ZoneData → Zone
-empty_zone number keeps = record { number = number; steps = 0; keeps = keeps; inbox = []; outboxes = no_lanes }
+empty_zone number keeps = record { number = number; steps = 0; keeps = keeps; ports = record { inbox = []; outboxes = no_lanes } }
 
 abbrev logical : ℕ → LogicalZone
 logical zone = record { zone = zone; notified = false; next = 0; places = []; held = []; waiting = []; retired = []; window = []; slots = [] }

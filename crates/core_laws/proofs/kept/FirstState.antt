@@ -43,7 +43,7 @@ none_queued w s n other h = refl
 
 -- at the start a zone weighs what its data weighs
 bare_weight : (t : Token) (s : Session) (n : ℕ) (z : Zone) → IsFirstZone s n z → weight t z ≡ t.own z.keeps
-bare_weight t s n z f = omega (arith, ap (total t.item) f.inbox, no_lanes t.item z.outboxes f.outboxes, none_queued t.item s n z.keeps f.own)
+bare_weight t s n z f = omega (arith, ap (total t.item) f.inbox, no_lanes t.item z.ports.outboxes f.outboxes, none_queued t.item s n z.keeps f.own)
 
 module _ (s : Session) (zones : List Zone) (first : Each (IsFirstZone s) zones) where
   balanced_at_start : (t : Token) → ((n : ℕ) (d : ZoneData) → IsFirstData s n d → t.own d ≡ t.gave d) → Balanced t zones
@@ -171,7 +171,7 @@ module _ (s : Session) (session : IsSession s) where
     number_is = f.number_is;
     lanes = f.lanes;
     inbox = subst (λ (items : List Item). AllByRecursion (ItemOk s [] n) items) (sym f.inbox) tt;
-    outboxes = λ to lane e. subst (λ (items : List Item). AllByRecursion (ItemOk s [] to) items) (sym (every-get (λ lane. lane ≡ []) z.outboxes to lane f.outboxes e)) tt;
+    outboxes = λ to lane e. subst (λ (items : List Item). AllByRecursion (ItemOk s [] to) items) (sym (every-get (λ lane. lane ≡ []) z.ports.outboxes to lane f.outboxes e)) tt;
     own = data_at_start n z.keeps f.own;
     counted = omega (arith, none_made s n z.keeps f.own);
   }
@@ -180,9 +180,9 @@ module _ (s : Session) (session : IsSession s) where
   flows_at_start zones zone first = record {
     in_order = λ receiver sender lane hr hs hl.
         let inbox = (first (logical_zone zone) receiver hr).inbox in
-        let empty = every-get (λ lane. lane ≡ []) sender.outboxes (logical_zone zone) lane (first desk_zone sender hs).outboxes hl in
+        let empty = every-get (λ lane. lane ≡ []) sender.ports.outboxes (logical_zone zone) lane (first desk_zone sender hs).outboxes hl in
         sym (ap (λ (items : List Item). counted arrival items ++ counted arrival lane) inbox ∙ ap (counted arrival) empty);
-    alone = λ n z had ne lane hl. ap (counted arrival) (every-get (λ lane. lane ≡ []) z.outboxes (logical_zone zone) lane (first n z had).outboxes hl);
+    alone = λ n z had ne lane hl. ap (counted arrival) (every-get (λ lane. lane ≡ []) z.ports.outboxes (logical_zone zone) lane (first n z had).outboxes hl);
   }
 
   legal_zones : (zones : List Zone) → length zones ≡ zone_count s.sizes → Each (IsFirstZone s) zones → Legal s (record { zones = zones; trace = [] })

@@ -122,8 +122,8 @@ module _ (s : Session) (h : Happening) (t : Trace) where
   zone_on n z off spares ok = record {
     number_is = ok.number_is;
     lanes = ok.lanes;
-    inbox = items_on n z.inbox (part (λ k. total (token_of s.sizes k).item z.inbox) (λ k. omega arith)) ok.inbox;
-    outboxes = lanes_on z.outboxes (part (λ k. total (total (token_of s.sizes k).item) z.outboxes) (λ k. omega arith)) ok.outboxes;
+    inbox = items_on n z.ports.inbox (part (λ k. total (token_of s.sizes k).item z.ports.inbox) (λ k. omega arith)) ok.inbox;
+    outboxes = lanes_on z.ports.outboxes (part (λ k. total (total (token_of s.sizes k).item) z.ports.outboxes) (λ k. omega arith)) ok.outboxes;
     own = record {
       number_is = ok.own.number_is;
       lists = lists_kept z.keeps (λ is. off (ok.own.number_is ∙ is)) ok.own.lists;
@@ -141,12 +141,12 @@ module _ (s : Session) (h : Happening) (t : Trace) where
 -- Beside what a zone serves: the other zones, and the rest of its own lanes.
 pub record Sides (s : Session) (t : Trace) (zones : List Zone) (n : ℕ) (z : Zone) : Type 0 where
   pub others : Each (λ j y. (j ≡ n → ⊥) → ZoneOk s t j y) zones
-  pub inbox : AllByRecursion (ItemOk s t n) z.inbox
-  pub outboxes : Each (λ to. AllByRecursion (ItemOk s t to)) z.outboxes
+  pub inbox : AllByRecursion (ItemOk s t n) z.ports.inbox
+  pub outboxes : Each (λ to. AllByRecursion (ItemOk s t to)) z.ports.outboxes
 
 -- before anything happens
-pub sides_before : (s : Session) (t : Trace) (zones : List Zone) (n : ℕ) (z : Zone) (front rest : List Item) → Each (ZoneOk s t) zones → slice_get zones n ≡ Some z → z.inbox ≡ front ++ rest
-    → Sides s t zones n (record z { inbox = rest })
+pub sides_before : (s : Session) (t : Trace) (zones : List Zone) (n : ℕ) (z : Zone) (front rest : List Item) → Each (ZoneOk s t) zones → slice_get zones n ≡ Some z → z.ports.inbox ≡ front ++ rest
+    → Sides s t zones n (record z { ports = record z.ports { inbox = rest } })
 sides_before s t zones n z front rest each had taken =
     let ok = each n z had in
     record {
@@ -158,13 +158,13 @@ sides_before s t zones n z front rest each had taken =
 -- nobody beside has any of a token
 pub record HasNoneBeside (zones : List Zone) (n : ℕ) (z : Zone) (token : Token) : Type 0 where
   pub others : Each (λ j y. (j ≡ n → ⊥) → weight token y ≡ 0) zones
-  pub inbox : total token.item z.inbox ≡ 0
-  pub outboxes : total (total token.item) z.outboxes ≡ 0
+  pub inbox : total token.item z.ports.inbox ≡ 0
+  pub outboxes : total (total token.item) z.ports.outboxes ≡ 0
 
 -- One more happening, of which nobody beside has what it is about.
 pub sides_after : (s : Session) (t : Trace) (zones : List Zone) (n : ℕ) (z : Zone) (h : Happening) → Clears s n (λ k. HasNoneBeside zones n z (token_of s.sizes k)) h t → Sides s t zones n z → Sides s (h ∷ t) zones n z
 sides_after s t zones n z h clears sides = record {
   others = λ j y there ne. zone_on s h t j y (λ is. ne (is ∙ sym clears.zone)) (λ k. elim (mine_or_spared clears k) [ inl none ↦ inl (none.others j y there ne) | inr spared ↦ inr spared ]) (sides.others j y there ne);
-  inbox = items_on s h t n z.inbox (λ k. elim (mine_or_spared clears k) [ inl none ↦ inl none.inbox | inr spared ↦ inr spared ]) sides.inbox;
-  outboxes = lanes_on s h t z.outboxes (λ k. elim (mine_or_spared clears k) [ inl none ↦ inl none.outboxes | inr spared ↦ inr spared ]) sides.outboxes;
+  inbox = items_on s h t n z.ports.inbox (λ k. elim (mine_or_spared clears k) [ inl none ↦ inl none.inbox | inr spared ↦ inr spared ]) sides.inbox;
+  outboxes = lanes_on s h t z.ports.outboxes (λ k. elim (mine_or_spared clears k) [ inl none ↦ inl none.outboxes | inr spared ↦ inr spared ]) sides.outboxes;
 }

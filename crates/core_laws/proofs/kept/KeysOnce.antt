@@ -68,9 +68,9 @@ module _ (s : Session) (core : Core) (legal : Legal s core) where
       none_given j other k = refl
 
   -- at a zone, with what its act takes from its inbox
-  module _ (n : ℕ) (z : Zone) (had : slice_get core.zones n ≡ Some z) (front rest : List Item) (taken : z.inbox ≡ front ++ rest) where
+  module _ (n : ℕ) (z : Zone) (had : slice_get core.zones n ≡ Some z) (front rest : List Item) (taken : z.ports.inbox ≡ front ++ rest) where
     parts : (k : Key) → weight (token_of s.sizes k) z
-        ≡ total (token_of s.sizes k).item front + (line_of s k (kept_by z.keeps) + (token_of s.sizes k).own z.keeps) + (total (token_of s.sizes k).item rest + total (total (token_of s.sizes k).item) z.outboxes)
+        ≡ total (token_of s.sizes k).item front + (line_of s k (kept_by z.keeps) + (token_of s.sizes k).own z.keeps) + (total (token_of s.sizes k).item rest + total (total (token_of s.sizes k).item) z.ports.outboxes)
     parts k =
         let inbox = ap (total (token_of s.sizes k).item) taken in
         omega (arith, inbox, total-append (token_of s.sizes k).item front rest, items_total (token_of s.sizes k).item (kept_by z.keeps))
@@ -82,12 +82,12 @@ module _ (s : Session) (core : Core) (legal : Legal s core) where
     unborn_here w late = let here = total-get (weight (request_token w)) core.zones n z had in omega (arith, nobody w late, here, parts (OfRequest w))
 
     -- who has all of a key that there is at the front or beside its lanes
-    beside : (k : Key) → total (weight (token_of s.sizes k)) core.zones ≤ total (token_of s.sizes k).item front + (line_of s k (kept_by z.keeps) + (token_of s.sizes k).own z.keeps) → HasNoneBeside core.zones n (record z { inbox = rest }) (token_of s.sizes k)
+    beside : (k : Key) → total (weight (token_of s.sizes k)) core.zones ≤ total (token_of s.sizes k).item front + (line_of s k (kept_by z.keeps) + (token_of s.sizes k).own z.keeps) → HasNoneBeside core.zones n (record z { ports = record z.ports { inbox = rest } }) (token_of s.sizes k)
     beside k all =
         let here = total-get (weight (token_of s.sizes k)) core.zones n z had in
         record { others = nobody_else (weight (token_of s.sizes k)) core.zones n z had (omega (arith, all, parts k)); inbox = omega (arith, all, here, parts k); outboxes = omega (arith, all, here, parts k) }
 
-    pub none_beside : (k : Key) → Reached s core.trace z.keeps front k → HasNoneBeside core.zones n (record z { inbox = rest }) (token_of s.sizes k)
+    pub none_beside : (k : Key) → Reached s core.trace z.keeps front k → HasNoneBeside core.zones n (record z { ports = record z.ports { inbox = rest } }) (token_of s.sizes k)
     none_beside k (in_hand (weighed some)) = beside k (omega (arith, some, key_once k))
     none_beside k (in_line some) = beside k (omega (arith, some, key_once k))
     none_beside k (in_hand (unborn {w = w} late)) = beside (OfRequest w) (omega (arith, nobody w late))

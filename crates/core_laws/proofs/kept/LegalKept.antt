@@ -32,16 +32,16 @@ sent_ok s t n true to it z e k ok =
     record {
       number_is = ok.number_is;
       lanes = ok.lanes;
-      inbox = every-append (ItemOk s t n) z.inbox (it ∷ []) ok.inbox (subst (λ (m : ℕ). ItemOk s t m it) home k, tt);
+      inbox = every-append (ItemOk s t n) z.ports.inbox (it ∷ []) ok.inbox (subst (λ (m : ℕ). ItemOk s t m it) home k, tt);
       outboxes = ok.outboxes;
       own = ok.own;
       counted = ok.counted;
     }
 sent_ok s t n false to it z e k ok = record {
   number_is = ok.number_is;
-  lanes = length-posted to it z.outboxes ∙ ok.lanes;
+  lanes = length-posted to it z.ports.outboxes ∙ ok.lanes;
   inbox = ok.inbox;
-  outboxes = each-posted (ItemOk s t) to it z.outboxes ok.outboxes k;
+  outboxes = each-posted (ItemOk s t) to it z.ports.outboxes ok.outboxes k;
   own = ok.own;
   counted = ok.counted;
 }
@@ -54,9 +54,9 @@ delivered_ok s t n (p ∷ ps) z k ok =
 
 -- each post of an act has a lane
 pub goes : (s : Session) → IsSession s → (old : Core) (legal : Legal s old) (n : ℕ) (z : Zone) → slice_get old.zones n ≡ Some z → (front rest : List Item) (new : ZoneData) (made : Trace) (posts : List Post)
-    → z.inbox ≡ front ++ rest → Act s.sizes z.keeps front new made posts → Within s.sizes (length z.outboxes) posts
+    → z.ports.inbox ≡ front ++ rest → Act s.sizes z.keeps front new made posts → Within s.sizes (length z.ports.outboxes) posts
 goes s session old legal n z had front rest new made posts taken act =
-    every-map {P = PostOk s (made ++ old.trace)} {Q = λ (p : Post). zone_number s.sizes p.0 < length z.outboxes} (λ p k. subst (λ (m : ℕ). zone_number s.sizes p.0 < m) (sym (legal.each n z had).lanes) k.0)
+    every-map {P = PostOk s (made ++ old.trace)} {Q = λ (p : Post). zone_number s.sizes p.0 < length z.ports.outboxes} (λ p k. subst (λ (m : ℕ). zone_number s.sizes p.0 < m) (sym (legal.each n z had).lanes) k.0)
     posts (by_act act (known s session old legal n z had front rest taken)).posts_ok
 
 module _ (s : Session) (session : IsSession s) (old new : Core) (legal : Legal s old) (st : StepOf s.sizes old new) where
@@ -69,10 +69,10 @@ module _ (s : Session) (session : IsSession s) (old new : Core) (legal : Legal s
   stepped : ActKept s old.trace st.number st.zone.keeps st.step.front st.zone'.keeps st.made st.step.posts
   stepped = by_act st.step.act here
 
-  beside : Sides s t' old.zones st.number (record st.zone { inbox = st.step.rest })
+  beside : Sides s t' old.zones st.number (record st.zone { ports = record st.zone.ports { inbox = st.step.rest } })
   beside = sides s session old legal st.number st.zone st.had st.step.front st.step.rest st.step.taken st.made stepped.owns
 
-  lanes_there : Within s.sizes (length st.zone.outboxes) st.step.posts
+  lanes_there : Within s.sizes (length st.zone.ports.outboxes) st.step.posts
   lanes_there = goes s session old legal st.number st.zone st.had st.step.front st.step.rest st.zone'.keeps st.made st.step.posts st.step.taken st.step.act
 
   zone_ok : ZoneOk s old.trace st.number st.zone
@@ -83,7 +83,7 @@ module _ (s : Session) (session : IsSession s) (old new : Core) (legal : Legal s
 
   zone_ok' : ZoneOk s t' st.number st.zone'
   zone_ok' =
-      let served : Zone = record st.zone { keeps = st.zone'.keeps; inbox = st.step.rest; steps = st.zone.steps + 1 } in
+      let served : Zone = record st.zone { keeps = st.zone'.keeps; ports = record st.zone.ports { inbox = st.step.rest }; steps = st.zone.steps + 1 } in
       let first : ZoneOk s t' st.number served = record { number_is = zone_ok.number_is; lanes = zone_ok.lanes; inbox = beside.inbox; outboxes = beside.outboxes; own = stepped.own; counted = counted } in
       subst (λ (z : Zone). ZoneOk s t' st.number z) (sym st.step.lanes) (delivered_ok s t' st.number st.step.posts served stepped.posts_ok first)
 

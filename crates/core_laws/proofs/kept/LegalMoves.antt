@@ -11,10 +11,10 @@ use Rattle.core_laws.proofs.tokens.Lift.{balance_move, at_most_move}
 
 module _ (s : Session) (old new : Core) (m : MoveOf old new) (legal : Legal s old) where
   abbrev source' : Zone
-  source' = record m.source { outboxes = slice_set m.source.outboxes m.to m.left }
+  source' = record m.source { ports = record m.source.ports { outboxes = slice_set m.source.ports.outboxes m.to m.left } }
 
   abbrev target' : Zone
-  target' = record m.target { inbox = m.target.inbox ++ m.part }
+  target' = record m.target { ports = record m.target.ports { inbox = m.target.ports.inbox ++ m.part } }
 
   source_ok : ZoneOk s old.trace m.from m.source
   source_ok = legal.each m.from m.source m.had_source
@@ -28,9 +28,9 @@ module _ (s : Session) (old new : Core) (m : MoveOf old new) (legal : Legal s ol
   source_ok' : ZoneOk s old.trace m.from source'
   source_ok' = record {
     number_is = source_ok.number_is;
-    lanes = length-put m.source.outboxes m.to m.left ∙ source_ok.lanes;
+    lanes = length-put m.source.ports.outboxes m.to m.left ∙ source_ok.lanes;
     inbox = source_ok.inbox;
-    outboxes = Each-put {P = λ to. AllByRecursion (ItemOk s old.trace to)} {Q = λ to. AllByRecursion (ItemOk s old.trace to)} m.source.outboxes m.to (m.part ++ m.left) m.left m.outbox source_ok.outboxes (λ j x h. h) parts.1;
+    outboxes = Each-put {P = λ to. AllByRecursion (ItemOk s old.trace to)} {Q = λ to. AllByRecursion (ItemOk s old.trace to)} m.source.ports.outboxes m.to (m.part ++ m.left) m.left m.outbox source_ok.outboxes (λ j x h. h) parts.1;
     own = source_ok.own;
     counted = source_ok.counted;
   }
@@ -39,7 +39,7 @@ module _ (s : Session) (old new : Core) (m : MoveOf old new) (legal : Legal s ol
   target_ok' = record {
     number_is = target_ok.number_is;
     lanes = target_ok.lanes;
-    inbox = every-append (ItemOk s old.trace m.to) m.target.inbox m.part target_ok.inbox parts.0;
+    inbox = every-append (ItemOk s old.trace m.to) m.target.ports.inbox m.part target_ok.inbox parts.0;
     outboxes = target_ok.outboxes;
     own = target_ok.own;
     counted = target_ok.counted;

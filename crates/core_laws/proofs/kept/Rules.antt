@@ -219,7 +219,7 @@ module _ (s : Session) (session : IsSession s) (t : Trace) where
     item_rule item.StopNotice ok = by_kind d own ok.1
 
 module _ (s : Session) (session : IsSession s) (core : Core) (legal : Legal s core) (n : ℕ) (z : Zone) (had : slice_get core.zones n ≡ Some z) where
-  pub has_rule : (front : Item) (rest : List Item) → z.inbox ≡ front ∷ rest → HasAct s.sizes z.keeps (front ∷ [])
+  pub has_rule : (front : Item) (rest : List Item) → z.ports.inbox ≡ front ∷ rest → HasAct s.sizes z.keeps (front ∷ [])
   has_rule front rest taken =
       let ok = legal.each n z had in
       item_rule s session core.trace n z.keeps ok.own (subst (λ (k : ℕ). n < k) legal.count (slice_get_within core.zones n z had)) front
@@ -233,6 +233,6 @@ module _ (s : Session) (session : IsSession s) (core : Core) (legal : Legal s co
       by_kind other own begins = absurd begins
 
   -- the posts of an act are those of a step, and each of these has a lane
-  pub has_lanes : (front rest : List Item) (new : ZoneData) (made : Trace) (posts : List Post) → z.inbox ≡ front ++ rest → (front ≡ [] → rest ≡ []) → Act s.sizes z.keeps front new made posts
-      → AllByRecursion (λ (post : Post). zone_number s.sizes post.0 < length z.outboxes) posts
+  pub has_lanes : (front rest : List Item) (new : ZoneData) (made : Trace) (posts : List Post) → z.ports.inbox ≡ front ++ rest → (front ≡ [] → rest ≡ []) → Act s.sizes z.keeps front new made posts
+      → AllByRecursion (λ (post : Post). zone_number s.sizes post.0 < length z.ports.outboxes) posts
   has_lanes front rest new made posts taken turn = goes s session core legal n z had front rest new made posts taken

@@ -39,7 +39,7 @@ by_act steps.enters_notice known = journal_notified known
 by_act (steps.calls act) known = device_serves known _ _ _ act
 by_act (steps.works act) known = device_works known _ _ _ act
 
-module _ (s : Session) (session : IsSession s) (core : Core) (legal : Legal s core) (n : ℕ) (z : Zone) (had : slice_get core.zones n ≡ Some z) (front rest : List Item) (taken : z.inbox ≡ front ++ rest) where
+module _ (s : Session) (session : IsSession s) (core : Core) (legal : Legal s core) (n : ℕ) (z : Zone) (had : slice_get core.zones n ≡ Some z) (front rest : List Item) (taken : z.ports.inbox ≡ front ++ rest) where
   own_ok : (d : ZoneData) → z.keeps ≡ d → DataOk s core.trace n d
   own_ok d is = subst (λ (e : ZoneData). DataOk s core.trace n e) is (legal.each n z had).own
 
@@ -50,8 +50,8 @@ module _ (s : Session) (session : IsSession s) (core : Core) (legal : Legal s co
       let lanes = (legal.each desk_zone desk.zone desk.had).lanes in
       let k : DataOk s core.trace n (at.Logical old) = own_ok (at.Logical old) keeps in
       let place = k.number_is in let among = k.sound.among in
-      let lane = stood desk.zone.outboxes n (omega (arith, lanes, place, among)) in
-      let order = (legal.in_order old.zone among).in_order z desk.zone lane.it (subst (λ (i : ℕ). slice_get core.zones i ≡ Some z) place had) desk.had (subst (λ (i : ℕ). slice_get desk.zone.outboxes i ≡ Some lane.it) place lane.is) in
+      let lane = stood desk.zone.ports.outboxes n (omega (arith, lanes, place, among)) in
+      let order = (legal.in_order old.zone among).in_order z desk.zone lane.it (subst (λ (i : ℕ). slice_get core.zones i ≡ Some z) place had) desk.had (subst (λ (i : ℕ). slice_get desk.zone.ports.outboxes i ≡ Some lane.it) place lane.is) in
       let inbox = ap (counted arrival) (taken ∙ ap (λ (items : List Item). items ++ rest) is) ∙ first v.phase arrives in
       arrives_in_turn s core.trace old.zone v.request (counted arrival rest ++ counted arrival lane.it) legal.right
       (order ∙ ap (λ (us : List Writer). drew_in old.zone (places core.trace) ++ (us ++ counted arrival lane.it)) inbox)
@@ -63,7 +63,7 @@ module _ (s : Session) (session : IsSession s) (core : Core) (legal : Legal s co
   unnamed d v keeps is takes =
       let here = (own_ok (at.Device d) keeps).number_is in
       let some = ap (total (block_token v.block.0).item) is in
-      block_unnamed s core legal n (record z { inbox = rest }) v.block.0 (none_beside s core legal n z had front rest taken (OfBlock v.block.0) (in_hand (weighed (omega (arith, some, claim_one v takes))))) (λ same. omega (arith, same, here))
+      block_unnamed s core legal n (record z { ports = record z.ports { inbox = rest } }) v.block.0 (none_beside s core legal n z had front rest taken (OfBlock v.block.0) (in_hand (weighed (omega (arith, some, claim_one v takes))))) (λ same. omega (arith, same, here))
 
   pub known : Known s core.trace n z.keeps front
   known = record {
@@ -79,6 +79,6 @@ module _ (s : Session) (session : IsSession s) (core : Core) (legal : Legal s co
   }
 
   -- what happens is its own, so everybody else keeps their facts
-  pub sides : (made : Trace) → Owns s core.trace n z.keeps front made → Sides s (made ++ core.trace) core.zones n (record z { inbox = rest })
+  pub sides : (made : Trace) → Owns s core.trace n z.keeps front made → Sides s (made ++ core.trace) core.zones n (record z { ports = record z.ports { inbox = rest } })
   sides [] owns = sides_before s core.trace core.zones n z front rest legal.each had taken
-  sides (h ∷ made) owns = sides_after s (made ++ core.trace) core.zones n (record z { inbox = rest }) h (clears_with (none_beside s core legal n z had front rest taken) owns.0) (sides made owns.1)
+  sides (h ∷ made) owns = sides_after s (made ++ core.trace) core.zones n (record z { ports = record z.ports { inbox = rest } }) h (clears_with (none_beside s core legal n z had front rest taken) owns.0) (sides made owns.1)

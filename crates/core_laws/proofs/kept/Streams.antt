@@ -12,11 +12,11 @@ pub record Moved (old new : Core) (m : MoveOf old new) (j : ℕ) (z : Zone) : Ty
   pub had : slice_get old.zones j ≡ Some was
   pub number_is : z.number ≡ was.number
   pub keeps_is : z.keeps ≡ was.keeps
-  pub inbox_to : j ≡ m.to → z.inbox ≡ was.inbox ++ m.part
-  pub inbox_other : (j ≡ m.to → ⊥) → z.inbox ≡ was.inbox
-  pub lanes_from : j ≡ m.from → z.outboxes ≡ slice_set m.source.outboxes m.to m.left
+  pub inbox_to : j ≡ m.to → z.ports.inbox ≡ was.ports.inbox ++ m.part
+  pub inbox_other : (j ≡ m.to → ⊥) → z.ports.inbox ≡ was.ports.inbox
+  pub lanes_from : j ≡ m.from → z.ports.outboxes ≡ slice_set m.source.ports.outboxes m.to m.left
   pub was_from : j ≡ m.from → was ≡ m.source
-  pub lanes_other : (j ≡ m.from → ⊥) → z.outboxes ≡ was.outboxes
+  pub lanes_other : (j ≡ m.from → ⊥) → z.ports.outboxes ≡ was.ports.outboxes
 
 pub moved : (old new : Core) (m : MoveOf old new) (j : ℕ) (z : Zone) → slice_get new.zones j ≡ Some z → Moved old new m j z
 moved old new m j z has =
@@ -29,11 +29,11 @@ moved old new m j z has =
             had = subst (λ (i : ℕ). slice_get old.zones i ≡ Some m.target) (sym at_to.1) m.had_target;
             number_is = ap (λ (y : Zone). y.number) (sym is);
             keeps_is = ap (λ (y : Zone). y.keeps) (sym is);
-            inbox_to = λ e. ap (λ (y : Zone). y.inbox) (sym is);
+            inbox_to = λ e. ap (λ (y : Zone). y.ports.inbox) (sym is);
             inbox_other = λ ne. absurd (ne at_to.1);
             lanes_from = λ e. absurd (not_from e);
             was_from = λ e. absurd (not_from e);
-            lanes_other = λ ne. ap (λ (y : Zone). y.outboxes) (sym is);
+            lanes_other = λ ne. ap (λ (y : Zone). y.ports.outboxes) (sym is);
           }
       | inr other ↦
           let has_before : slice_get (slice_set old.zones m.from source') j ≡ Some z = sym (get-put_other (slice_set old.zones m.from source') m.to j target' other.1) ∙ has' in
@@ -46,8 +46,8 @@ moved old new m j z has =
                   number_is = ap (λ (y : Zone). y.number) (sym is);
                   keeps_is = ap (λ (y : Zone). y.keeps) (sym is);
                   inbox_to = λ e. absurd (other.1 e);
-                  inbox_other = λ ne. ap (λ (y : Zone). y.inbox) (sym is);
-                  lanes_from = λ e. ap (λ (y : Zone). y.outboxes) (sym is);
+                  inbox_other = λ ne. ap (λ (y : Zone). y.ports.inbox) (sym is);
+                  lanes_from = λ e. ap (λ (y : Zone). y.ports.outboxes) (sym is);
                   was_from = λ e. refl;
                   lanes_other = λ ne. absurd (ne at_from.1);
                 }
@@ -67,10 +67,10 @@ moved old new m j z has =
     ]
   where
     source' : Zone
-    source' = record m.source { outboxes = slice_set m.source.outboxes m.to m.left }
+    source' = record m.source { ports = record m.source.ports { outboxes = slice_set m.source.ports.outboxes m.to m.left } }
 
     target' : Zone
-    target' = record m.target { inbox = m.target.inbox ++ m.part }
+    target' = record m.target { ports = record m.target.ports { inbox = m.target.ports.inbox ++ m.part } }
 
     zones' : List Zone
     zones' = slice_set (slice_set old.zones m.from source') m.to target'
@@ -128,8 +128,8 @@ was_posted zero x (l ∷ ls) (suc n) lane h = record { old = lane; was = h; is =
 was_posted (suc to) x (l ∷ ls) zero lane h = record { old = l; was = refl; is = rw (next_none to) (sym (same_Some _ _ h) ∙ sym (append-nil l)) }
 was_posted (suc to) x (l ∷ ls) (suc n) lane h = let r = was_posted to x ls n lane h in record { old = r.old; was = r.was; is = rw (next_same to n) r.is }
 
-was_sent : (b : Bool) (to : ℕ) (x : Item) (z : Zone) (n : ℕ) (lane : List Item) → nat_eq to z.number ≡ b → (z.number ≡ n → ⊥) → slice_get (sent_to b to x z).outboxes n ≡ Some lane
-    → WasLane z.outboxes n (cond (nat_eq to n) (x ∷ []) []) lane
+was_sent : (b : Bool) (to : ℕ) (x : Item) (z : Zone) (n : ℕ) (lane : List Item) → nat_eq to z.number ≡ b → (z.number ≡ n → ⊥) → slice_get (sent_to b to x z).ports.outboxes n ≡ Some lane
+    → WasLane z.ports.outboxes n (cond (nat_eq to n) (x ∷ []) []) lane
 was_sent true to x z n lane is apart h = elim (eqb_tells to z.number) [
   | inl same ↦ elim (eqb_tells to n) [
     | inl there ↦ absurd (apart (sym same.1 ∙ there.1))
@@ -137,7 +137,7 @@ was_sent true to x z n lane is apart h = elim (eqb_tells to z.number) [
   ]
   | inr other ↦ let both : true ≡ false = sym is ∙ other.0 in absurd cc
 ]
-was_sent false to x z n lane is apart h = was_posted to x z.outboxes n lane h
+was_sent false to x z n lane is apart h = was_posted to x z.ports.outboxes n lane h
 
 number_sent : (b : Bool) (to : ℕ) (x : Item) (z : Zone) → (sent_to b to x z).number ≡ z.number
 number_sent true to x z = refl
@@ -148,9 +148,9 @@ two_parts true x more = refl
 two_parts false x more = refl
 
 -- a lane to the zone itself stays
-own_lane_sent : (b : Bool) (to : ℕ) (x : Item) (z : Zone) → nat_eq to z.number ≡ b → slice_get (sent_to b to x z).outboxes z.number ≡ slice_get z.outboxes z.number
+own_lane_sent : (b : Bool) (to : ℕ) (x : Item) (z : Zone) → nat_eq to z.number ≡ b → slice_get (sent_to b to x z).ports.outboxes z.number ≡ slice_get z.ports.outboxes z.number
 own_lane_sent true to x z is = refl
-own_lane_sent false to x z is = posted_other to x z.outboxes z.number is
+own_lane_sent false to x z is = posted_other to x z.ports.outboxes z.number is
   where
     posted_other : (to : ℕ) (x : Item) (lanes : List (List Item)) (n : ℕ) → nat_eq to n ≡ false → slice_get (posted to x lanes) n ≡ slice_get lanes n
     posted_other to x [] n is = refl
@@ -160,13 +160,13 @@ own_lane_sent false to x z is = posted_other to x z.outboxes z.number is
     posted_other (suc to) x (l ∷ ls) (suc n) is = posted_other to x ls n (sym (next_same to n) ∙ is)
 
 -- the inbox has what the zone posted to itself
-inbox_sent : (b : Bool) (to : ℕ) (x : Item) (z : Zone) → nat_eq to z.number ≡ b → (sent_to b to x z).inbox ≡ z.inbox ++ cond (nat_eq to z.number) (x ∷ []) []
+inbox_sent : (b : Bool) (to : ℕ) (x : Item) (z : Zone) → nat_eq to z.number ≡ b → (sent_to b to x z).ports.inbox ≡ z.ports.inbox ++ cond (nat_eq to z.number) (x ∷ []) []
 inbox_sent true to x z is = rw is refl
-inbox_sent false to x z is = rw is (sym (append-nil z.inbox))
+inbox_sent false to x z is = rw is (sym (append-nil z.ports.inbox))
 
 module _ (sizes : Sizes) where
   -- a lane to another zone, after posts were delivered
-  pub was_delivered : (ps : List Post) (z : Zone) (n : ℕ) (lane : List Item) → (z.number ≡ n → ⊥) → slice_get (delivered sizes ps z).outboxes n ≡ Some lane → WasLane z.outboxes n (items_to sizes n ps) lane
+  pub was_delivered : (ps : List Post) (z : Zone) (n : ℕ) (lane : List Item) → (z.number ≡ n → ⊥) → slice_get (delivered sizes ps z).ports.outboxes n ≡ Some lane → WasLane z.ports.outboxes n (items_to sizes n ps) lane
   was_delivered [] z n lane apart h = record { old = lane; was = h; is = sym (append-nil lane) }
   was_delivered (p ∷ ps) z n lane apart h =
       let to = zone_number sizes p.0 in
@@ -179,22 +179,22 @@ module _ (sizes : Sizes) where
             ∙ ap (λ (items : List Item). q.old ++ items) (two_parts (nat_eq to n) p.1 (items_to sizes n ps));
       }
 
-  pub own_lane_delivered : (ps : List Post) (z : Zone) → slice_get (delivered sizes ps z).outboxes z.number ≡ slice_get z.outboxes z.number
+  pub own_lane_delivered : (ps : List Post) (z : Zone) → slice_get (delivered sizes ps z).ports.outboxes z.number ≡ slice_get z.ports.outboxes z.number
   own_lane_delivered [] z = refl
   own_lane_delivered (p ∷ ps) z =
       let to = zone_number sizes p.0 in
       let same = number_sent (nat_eq to z.number) to p.1 z in
-      subst (λ (n : ℕ). slice_get (delivered sizes ps (sent sizes p z)).outboxes n ≡ slice_get (sent sizes p z).outboxes n) same (own_lane_delivered ps (sent sizes p z)) ∙ own_lane_sent (nat_eq to z.number) to p.1 z refl
+      subst (λ (n : ℕ). slice_get (delivered sizes ps (sent sizes p z)).ports.outboxes n ≡ slice_get (sent sizes p z).ports.outboxes n) same (own_lane_delivered ps (sent sizes p z)) ∙ own_lane_sent (nat_eq to z.number) to p.1 z refl
 
-  pub inbox_delivered : (ps : List Post) (z : Zone) → (delivered sizes ps z).inbox ≡ z.inbox ++ items_to sizes z.number ps
-  inbox_delivered [] z = sym (append-nil z.inbox)
+  pub inbox_delivered : (ps : List Post) (z : Zone) → (delivered sizes ps z).ports.inbox ≡ z.ports.inbox ++ items_to sizes z.number ps
+  inbox_delivered [] z = sym (append-nil z.ports.inbox)
   inbox_delivered (p ∷ ps) z =
       let to = zone_number sizes p.0 in
       let same = number_sent (nat_eq to z.number) to p.1 z in
-      inbox_delivered ps (sent sizes p z) ∙ ap (λ (n : ℕ). (sent sizes p z).inbox ++ items_to sizes n ps) same
+      inbox_delivered ps (sent sizes p z) ∙ ap (λ (n : ℕ). (sent sizes p z).ports.inbox ++ items_to sizes n ps) same
       ∙ ap (λ (items : List Item). items ++ items_to sizes z.number ps) (inbox_sent (nat_eq to z.number) to p.1 z refl)
-      ∙ append_assoc z.inbox (cond (nat_eq to z.number) (p.1 ∷ []) []) (items_to sizes z.number ps)
-      ∙ ap (λ (items : List Item). z.inbox ++ items) (two_parts (nat_eq to z.number) p.1 (items_to sizes z.number ps))
+      ∙ append_assoc z.ports.inbox (cond (nat_eq to z.number) (p.1 ∷ []) []) (items_to sizes z.number ps)
+      ∙ ap (λ (items : List Item). z.ports.inbox ++ items) (two_parts (nat_eq to z.number) p.1 (items_to sizes z.number ps))
 
 -- What an act of the zone of a number owes: the sender sends what it posts to the receiver, the receiver takes what it is served,
 -- and nobody else does either.
@@ -208,7 +208,7 @@ pub record Keeps {X : Type 0} (stream : Stream X) (sizes : Sizes) (n : ℕ) (t :
 module _ (X : Type 0) (stream : Stream X) (sizes : Sizes) (apart : stream.from ≡ stream.to → ⊥) where
   -- after a step
   module _ (zones : List Zone) (t : Trace) (n : ℕ) (old new : Zone) (front rest : List Item) (made : Trace) (posts : List Post) (had : slice_get zones n ≡ Some old) (number : old.number ≡ n)
-      (taken : old.inbox ≡ front ++ rest) (inbox : new.inbox ≡ rest ++ items_to sizes n posts) (owes : Keeps stream sizes n t front made posts) where
+      (taken : old.ports.inbox ≡ front ++ rest) (inbox : new.ports.inbox ≡ rest ++ items_to sizes n posts) (owes : Keeps stream sizes n t front made posts) where
     abbrev zones' : List Zone
     zones' = slice_set zones n new
 
@@ -223,29 +223,29 @@ module _ (X : Type 0) (stream : Stream X) (sizes : Sizes) (apart : stream.from �
     abbrev c : List Item → List X
     c items = counted stream.counts items
 
-    module _ (lanes : (lane : List Item) → (n ≡ stream.to → ⊥) → slice_get new.outboxes stream.to ≡ Some lane → WasLane old.outboxes stream.to (items_to sizes stream.to posts) lane)
-        (own_lane : n ≡ stream.to → slice_get new.outboxes stream.to ≡ slice_get old.outboxes stream.to) (flows : Flows stream t zones) where
+    module _ (lanes : (lane : List Item) → (n ≡ stream.to → ⊥) → slice_get new.ports.outboxes stream.to ≡ Some lane → WasLane old.ports.outboxes stream.to (items_to sizes stream.to posts) lane)
+        (own_lane : n ≡ stream.to → slice_get new.ports.outboxes stream.to ≡ slice_get old.ports.outboxes stream.to) (flows : Flows stream t zones) where
       -- the sender stepped
-      by_sender : (receiver sender : Zone) (lane : List Item) → n ≡ stream.from → slice_get zones stream.to ≡ Some receiver → slice_get new.outboxes stream.to ≡ Some lane
-          → stream.sent (made ++ t) ≡ stream.taken (made ++ t) ++ (c receiver.inbox ++ c lane)
+      by_sender : (receiver sender : Zone) (lane : List Item) → n ≡ stream.from → slice_get zones stream.to ≡ Some receiver → slice_get new.ports.outboxes stream.to ≡ Some lane
+          → stream.sent (made ++ t) ≡ stream.taken (made ++ t) ++ (c receiver.ports.inbox ++ c lane)
       by_sender receiver sender lane is had_receiver had_lane =
           let here : n ≡ stream.to → ⊥ = λ e. apart (sym is ∙ e) in
           let r = lanes lane here had_lane in
           let before = flows.in_order receiver old r.old had_receiver (subst (λ (i : ℕ). slice_get zones i ≡ Some old) is had) r.was in
           owes.sends is ∙ ap (λ (us : List X). us ++ c (items_to sizes stream.to posts)) before
-          ∙ append_assoc (stream.taken t) (c receiver.inbox ++ c r.old) (c (items_to sizes stream.to posts))
-          ∙ ap (λ (us : List X). stream.taken t ++ us) (append_assoc (c receiver.inbox) (c r.old) (c (items_to sizes stream.to posts))
-          ∙ ap (λ (us : List X). c receiver.inbox ++ us) (sym (counted-append stream.counts r.old (items_to sizes stream.to posts)) ∙ ap c (sym r.is)))
-          ∙ ap (λ (us : List X). us ++ (c receiver.inbox ++ c lane)) (sym (owes.taken_same here))
+          ∙ append_assoc (stream.taken t) (c receiver.ports.inbox ++ c r.old) (c (items_to sizes stream.to posts))
+          ∙ ap (λ (us : List X). stream.taken t ++ us) (append_assoc (c receiver.ports.inbox) (c r.old) (c (items_to sizes stream.to posts))
+          ∙ ap (λ (us : List X). c receiver.ports.inbox ++ us) (sym (counted-append stream.counts r.old (items_to sizes stream.to posts)) ∙ ap c (sym r.is)))
+          ∙ ap (λ (us : List X). us ++ (c receiver.ports.inbox ++ c lane)) (sym (owes.taken_same here))
 
       -- the receiver stepped
-      by_receiver : (sender : Zone) (lane : List Item) → n ≡ stream.to → slice_get zones stream.from ≡ Some sender → slice_get sender.outboxes stream.to ≡ Some lane
-          → stream.sent (made ++ t) ≡ stream.taken (made ++ t) ++ (c new.inbox ++ c lane)
+      by_receiver : (sender : Zone) (lane : List Item) → n ≡ stream.to → slice_get zones stream.from ≡ Some sender → slice_get sender.ports.outboxes stream.to ≡ Some lane
+          → stream.sent (made ++ t) ≡ stream.taken (made ++ t) ++ (c new.ports.inbox ++ c lane)
       by_receiver sender lane is had_sender had_lane =
           let here : n ≡ stream.from → ⊥ = λ e. apart (sym e ∙ is) in
           let before = flows.in_order old sender lane (subst (λ (i : ℕ). slice_get zones i ≡ Some old) is had) had_sender had_lane in
           let none : c (items_to sizes n posts) ≡ [] = subst (λ (i : ℕ). c (items_to sizes i posts) ≡ []) (sym is) (owes.nothing here) in
-          let inbox_is : c new.inbox ≡ c rest = ap c inbox ∙ counted-append stream.counts rest (items_to sizes n posts) ∙ ap (λ (us : List X). c rest ++ us) none ∙ append-nil (c rest) in
+          let inbox_is : c new.ports.inbox ≡ c rest = ap c inbox ∙ counted-append stream.counts rest (items_to sizes n posts) ∙ ap (λ (us : List X). c rest ++ us) none ∙ append-nil (c rest) in
           owes.sent_same here ∙ before
           ∙ ap (λ (us : List X). stream.taken t ++ (us ++ c lane)) (ap c taken ∙ counted-append stream.counts front rest)
           ∙ ap (λ (us : List X). stream.taken t ++ us) (append_assoc (c front) (c rest) (c lane))
@@ -253,25 +253,25 @@ module _ (X : Type 0) (stream : Stream X) (sizes : Sizes) (apart : stream.from �
           ∙ ap (λ (us : List X). us ++ (c rest ++ c lane)) (sym (owes.takes is))
           ∙ ap (λ (us : List X). stream.taken (made ++ t) ++ (us ++ c lane)) (sym inbox_is)
 
-      step_order : (receiver sender : Zone) (lane : List Item) → slice_get zones' stream.to ≡ Some receiver → slice_get zones' stream.from ≡ Some sender → slice_get sender.outboxes stream.to ≡ Some lane
-          → stream.sent (made ++ t) ≡ stream.taken (made ++ t) ++ (c receiver.inbox ++ c lane)
+      step_order : (receiver sender : Zone) (lane : List Item) → slice_get zones' stream.to ≡ Some receiver → slice_get zones' stream.from ≡ Some sender → slice_get sender.ports.outboxes stream.to ≡ Some lane
+          → stream.sent (made ++ t) ≡ stream.taken (made ++ t) ++ (c receiver.ports.inbox ++ c lane)
       step_order receiver sender lane had_receiver had_sender had_lane = elim (eqb_tells stream.from n) [
         | inl from ↦
             let is = stepped stream.from sender from.1 had_sender in
-            by_sender receiver sender lane (sym from.1) (stays stream.to receiver (λ e. apart (from.1 ∙ sym e)) had_receiver) (subst (λ (z : Zone). slice_get z.outboxes stream.to ≡ Some lane) (sym is) had_lane)
+            by_sender receiver sender lane (sym from.1) (stays stream.to receiver (λ e. apart (from.1 ∙ sym e)) had_receiver) (subst (λ (z : Zone). slice_get z.ports.outboxes stream.to ≡ Some lane) (sym is) had_lane)
         | inr not_from ↦
             let there = stays stream.from sender not_from.1 had_sender in
             elim (eqb_tells stream.to n) [
               | inl to ↦
                   let is = stepped stream.to receiver to.1 had_receiver in
-                  subst (λ (z : Zone). stream.sent (made ++ t) ≡ stream.taken (made ++ t) ++ (c z.inbox ++ c lane)) is (by_receiver sender lane (sym to.1) there had_lane)
+                  subst (λ (z : Zone). stream.sent (made ++ t) ≡ stream.taken (made ++ t) ++ (c z.ports.inbox ++ c lane)) is (by_receiver sender lane (sym to.1) there had_lane)
               | inr not_to ↦
                   let before = flows.in_order receiver sender lane (stays stream.to receiver not_to.1 had_receiver) there had_lane in
-                  owes.sent_same (λ e. not_from.1 (sym e)) ∙ before ∙ ap (λ (us : List X). us ++ (c receiver.inbox ++ c lane)) (sym (owes.taken_same (λ e. not_to.1 (sym e))))
+                  owes.sent_same (λ e. not_from.1 (sym e)) ∙ before ∙ ap (λ (us : List X). us ++ (c receiver.ports.inbox ++ c lane)) (sym (owes.taken_same (λ e. not_to.1 (sym e))))
             ]
       ]
 
-      step_alone : (n ≡ stream.from → ⊥) → (lane : List Item) → slice_get new.outboxes stream.to ≡ Some lane → c lane ≡ []
+      step_alone : (n ≡ stream.from → ⊥) → (lane : List Item) → slice_get new.ports.outboxes stream.to ≡ Some lane → c lane ≡ []
       step_alone ne lane had_lane = elim (eqb_tells n stream.to) [
         | inl is ↦ flows.alone n old had ne lane (sym (own_lane is.1) ∙ had_lane)
         | inr other ↦
@@ -288,12 +288,12 @@ module _ (X : Type 0) (stream : Stream X) (sizes : Sizes) (apart : stream.from �
   -- after a step of the core
   pub flows_step : (old new : Core) (st : StepOf sizes old new) → st.zone.number ≡ st.number → Keeps stream sizes st.number old.trace st.step.front st.made st.step.posts → Flows stream old.trace old.zones → Flows stream new.trace new.zones
   flows_step old new st number owes flows =
-      let before : Zone = record st.zone { keeps = st.zone'.keeps; inbox = st.step.rest; steps = st.zone.steps + 1 } in
-      let inbox : st.zone'.inbox ≡ st.step.rest ++ items_to sizes st.number st.step.posts = ap (λ (z : Zone). z.inbox) st.step.lanes ∙ inbox_delivered sizes st.step.posts before ∙ ap (λ (n : ℕ). st.step.rest ++ items_to sizes n st.step.posts) number in
+      let before : Zone = record st.zone { keeps = st.zone'.keeps; ports = record st.zone.ports { inbox = st.step.rest }; steps = st.zone.steps + 1 } in
+      let inbox : st.zone'.ports.inbox ≡ st.step.rest ++ items_to sizes st.number st.step.posts = ap (λ (z : Zone). z.ports.inbox) st.step.lanes ∙ inbox_delivered sizes st.step.posts before ∙ ap (λ (n : ℕ). st.step.rest ++ items_to sizes n st.step.posts) number in
       subst (λ (core : Core). Flows stream core.trace core.zones) (sym st.has)
       (flows_on old.zones old.trace st.number st.zone st.zone' st.step.front st.step.rest st.made st.step.posts st.had number st.step.taken inbox owes
-      (λ lane other h. was_delivered sizes st.step.posts before stream.to lane (λ e. other (sym number ∙ e)) (subst (λ (z : Zone). slice_get z.outboxes stream.to ≡ Some lane) st.step.lanes h))
-      (λ is. ap (λ (z : Zone). slice_get z.outboxes stream.to) st.step.lanes ∙ subst (λ (i : ℕ). slice_get (delivered sizes st.step.posts before).outboxes i ≡ slice_get st.zone.outboxes i) (number ∙ is) (own_lane_delivered sizes st.step.posts before))
+      (λ lane other h. was_delivered sizes st.step.posts before stream.to lane (λ e. other (sym number ∙ e)) (subst (λ (z : Zone). slice_get z.ports.outboxes stream.to ≡ Some lane) st.step.lanes h))
+      (λ is. ap (λ (z : Zone). slice_get z.ports.outboxes stream.to) st.step.lanes ∙ subst (λ (i : ℕ). slice_get (delivered sizes st.step.posts before).ports.outboxes i ≡ slice_get st.zone.ports.outboxes i) (number ∙ is) (own_lane_delivered sizes st.step.posts before))
       flows)
 
   -- after a move
@@ -303,56 +303,56 @@ module _ (X : Type 0) (stream : Stream X) (sizes : Sizes) (apart : stream.from �
 
     -- what moves there from another zone than the sender counts for nothing
     moves_nothing : (m.from ≡ stream.from → ⊥) → m.to ≡ stream.to → k m.part ++ k m.left ≡ []
-    moves_nothing ne to = sym (counted-append stream.counts m.part m.left) ∙ flows.alone m.from m.source m.had_source ne (m.part ++ m.left) (subst (λ (i : ℕ). slice_get m.source.outboxes i ≡ Some (m.part ++ m.left)) to m.outbox)
+    moves_nothing ne to = sym (counted-append stream.counts m.part m.left) ∙ flows.alone m.from m.source m.had_source ne (m.part ++ m.left) (subst (λ (i : ℕ). slice_get m.source.ports.outboxes i ≡ Some (m.part ++ m.left)) to m.outbox)
 
-    move_order : (receiver sender : Zone) (lane : List Item) → slice_get new.zones stream.to ≡ Some receiver → slice_get new.zones stream.from ≡ Some sender → slice_get sender.outboxes stream.to ≡ Some lane
-        → stream.sent old.trace ≡ stream.taken old.trace ++ (k receiver.inbox ++ k lane)
+    move_order : (receiver sender : Zone) (lane : List Item) → slice_get new.zones stream.to ≡ Some receiver → slice_get new.zones stream.from ≡ Some sender → slice_get sender.ports.outboxes stream.to ≡ Some lane
+        → stream.sent old.trace ≡ stream.taken old.trace ++ (k receiver.ports.inbox ++ k lane)
     move_order receiver sender lane had_receiver had_sender had_lane =
         let r = moved old new m stream.to receiver had_receiver in
         let q = moved old new m stream.from sender had_sender in
         elim (eqb_tells stream.to m.to) [
           | inl to ↦ elim (eqb_tells stream.from m.from) [
             | inl from ↦
-                let was : slice_get q.was.outboxes stream.to ≡ Some (m.part ++ m.left) =
-                subst (λ (z : Zone). slice_get z.outboxes stream.to ≡ Some (m.part ++ m.left)) (sym (q.was_from from.1)) (subst (λ (i : ℕ). slice_get m.source.outboxes i ≡ Some (m.part ++ m.left)) (sym to.1) m.outbox) in
-                let now : slice_get (slice_set m.source.outboxes m.to m.left) m.to ≡ Some lane =
-                subst (λ (i : ℕ). slice_get (slice_set m.source.outboxes m.to m.left) i ≡ Some lane) to.1 (subst (λ (lanes : List (List Item)). slice_get lanes stream.to ≡ Some lane) (q.lanes_from from.1) had_lane) in
-                let left : m.left ≡ lane = same_Some _ _ (sym (get-put_same m.source.outboxes m.to (m.part ++ m.left) m.left m.outbox) ∙ now) in
+                let was : slice_get q.was.ports.outboxes stream.to ≡ Some (m.part ++ m.left) =
+                subst (λ (z : Zone). slice_get z.ports.outboxes stream.to ≡ Some (m.part ++ m.left)) (sym (q.was_from from.1)) (subst (λ (i : ℕ). slice_get m.source.ports.outboxes i ≡ Some (m.part ++ m.left)) (sym to.1) m.outbox) in
+                let now : slice_get (slice_set m.source.ports.outboxes m.to m.left) m.to ≡ Some lane =
+                subst (λ (i : ℕ). slice_get (slice_set m.source.ports.outboxes m.to m.left) i ≡ Some lane) to.1 (subst (λ (lanes : List (List Item)). slice_get lanes stream.to ≡ Some lane) (q.lanes_from from.1) had_lane) in
+                let left : m.left ≡ lane = same_Some _ _ (sym (get-put_same m.source.ports.outboxes m.to (m.part ++ m.left) m.left m.outbox) ∙ now) in
                 flows.in_order r.was q.was (m.part ++ m.left) r.had q.had was
                 ∙ ap (λ (us : List X). stream.taken old.trace ++ us)
-                (ap (λ (us : List X). k r.was.inbox ++ us) (counted-append stream.counts m.part m.left) ∙ sym (append_assoc (k r.was.inbox) (k m.part) (k m.left))
-                ∙ ap (λ (us : List X). us ++ k m.left) (sym (counted-append stream.counts r.was.inbox m.part) ∙ ap k (sym (r.inbox_to to.1)))
-                ∙ ap (λ (items : List Item). k receiver.inbox ++ k items) left)
+                (ap (λ (us : List X). k r.was.ports.inbox ++ us) (counted-append stream.counts m.part m.left) ∙ sym (append_assoc (k r.was.ports.inbox) (k m.part) (k m.left))
+                ∙ ap (λ (us : List X). us ++ k m.left) (sym (counted-append stream.counts r.was.ports.inbox m.part) ∙ ap k (sym (r.inbox_to to.1)))
+                ∙ ap (λ (items : List Item). k receiver.ports.inbox ++ k items) left)
             | inr other ↦
                 let none = front_nothing (k m.part) (k m.left) (moves_nothing (λ e. other.1 (sym e)) (sym to.1)) in
                 flows.in_order r.was q.was lane r.had q.had (subst (λ (lanes : List (List Item)). slice_get lanes stream.to ≡ Some lane) (q.lanes_other other.1) had_lane)
                 ∙ ap (λ (us : List X). stream.taken old.trace ++ (us ++ k lane))
-                (sym (ap k (r.inbox_to to.1) ∙ counted-append stream.counts r.was.inbox m.part ∙ ap (λ (us : List X). k r.was.inbox ++ us) none ∙ append-nil (k r.was.inbox)))
+                (sym (ap k (r.inbox_to to.1) ∙ counted-append stream.counts r.was.ports.inbox m.part ∙ ap (λ (us : List X). k r.was.ports.inbox ++ us) none ∙ append-nil (k r.was.ports.inbox)))
           ]
           | inr elsewhere ↦
               flows.in_order r.was q.was lane r.had q.had (lane_before q (λ e. elsewhere.1 e))
               ∙ ap (λ (items : List Item). stream.taken old.trace ++ (k items ++ k lane)) (sym (r.inbox_other elsewhere.1))
         ]
       where
-        lane_before : (q : Moved old new m stream.from sender) → (stream.to ≡ m.to → ⊥) → slice_get q.was.outboxes stream.to ≡ Some lane
+        lane_before : (q : Moved old new m stream.from sender) → (stream.to ≡ m.to → ⊥) → slice_get q.was.ports.outboxes stream.to ≡ Some lane
         lane_before q elsewhere = elim (eqb_tells stream.from m.from) [
           | inl from ↦
-              subst (λ (z : Zone). slice_get z.outboxes stream.to ≡ Some lane) (sym (q.was_from from.1))
-              (sym (get-put_other m.source.outboxes m.to stream.to m.left elsewhere) ∙ subst (λ (lanes : List (List Item)). slice_get lanes stream.to ≡ Some lane) (q.lanes_from from.1) had_lane)
+              subst (λ (z : Zone). slice_get z.ports.outboxes stream.to ≡ Some lane) (sym (q.was_from from.1))
+              (sym (get-put_other m.source.ports.outboxes m.to stream.to m.left elsewhere) ∙ subst (λ (lanes : List (List Item)). slice_get lanes stream.to ≡ Some lane) (q.lanes_from from.1) had_lane)
           | inr other ↦ subst (λ (lanes : List (List Item)). slice_get lanes stream.to ≡ Some lane) (q.lanes_other other.1) had_lane
         ]
 
-    move_alone : Each (λ n z. (n ≡ stream.from → ⊥) → (lane : List Item) → slice_get z.outboxes stream.to ≡ Some lane → k lane ≡ []) new.zones
+    move_alone : Each (λ n z. (n ≡ stream.from → ⊥) → (lane : List Item) → slice_get z.ports.outboxes stream.to ≡ Some lane → k lane ≡ []) new.zones
     move_alone n z has ne lane had_lane =
         let r = moved old new m n z has in
         elim (eqb_tells n m.from) [
           | inl from ↦
-              let there : slice_get (slice_set m.source.outboxes m.to m.left) stream.to ≡ Some lane = subst (λ (lanes : List (List Item)). slice_get lanes stream.to ≡ Some lane) (r.lanes_from from.1) had_lane in
+              let there : slice_get (slice_set m.source.ports.outboxes m.to m.left) stream.to ≡ Some lane = subst (λ (lanes : List (List Item)). slice_get lanes stream.to ≡ Some lane) (r.lanes_from from.1) had_lane in
               elim (eqb_tells stream.to m.to) [
                 | inl to ↦
-                    let left : m.left ≡ lane = same_Some _ _ (sym (get-put_same m.source.outboxes m.to (m.part ++ m.left) m.left m.outbox) ∙ subst (λ (i : ℕ). slice_get (slice_set m.source.outboxes m.to m.left) i ≡ Some lane) to.1 there) in
+                    let left : m.left ≡ lane = same_Some _ _ (sym (get-put_same m.source.ports.outboxes m.to (m.part ++ m.left) m.left m.outbox) ∙ subst (λ (i : ℕ). slice_get (slice_set m.source.ports.outboxes m.to m.left) i ≡ Some lane) to.1 there) in
                     ap k (sym left) ∙ rest_nothing (k m.part) (k m.left) (moves_nothing (λ e. ne (from.1 ∙ e)) (sym to.1))
-                | inr elsewhere ↦ flows.alone m.from m.source m.had_source (λ e. ne (from.1 ∙ e)) lane (sym (get-put_other m.source.outboxes m.to stream.to m.left elsewhere.1) ∙ there)
+                | inr elsewhere ↦ flows.alone m.from m.source m.had_source (λ e. ne (from.1 ∙ e)) lane (sym (get-put_other m.source.ports.outboxes m.to stream.to m.left elsewhere.1) ∙ there)
               ]
           | inr other ↦ flows.alone n r.was r.had ne lane (subst (λ (lanes : List (List Item)). slice_get lanes stream.to ≡ Some lane) (r.lanes_other other.1) had_lane)
         ]

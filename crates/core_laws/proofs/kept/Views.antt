@@ -1,7 +1,7 @@
 -- What a thread does with its own zone is a step of the core, and what threads do with batches are moves of it.
 use Rattle.std.proofs.Common.{◌≡◌, ℕ, zero, suc, ◌+◌, Bool, true, false, List, [], ◌∷◌, ◌++◌, Some, slice_get, slice_set, nat_eq, refl, ap, sym, ◌∙◌, append_assoc, ◌≢◌, subst}
 use Rattle.core_laws.proofs.Common.{AllByRecursion, Item, Post, Session, Sizes, Trace, Zone, append-nil, get-put_same, same_Some, zone_number}
-use Rattle.core_model.specs.Steps.{posted, sent_to, sent, delivered, ZoneStep, Core, StepOf, MoveOf}
+use Rattle.core_model.specs.Steps.{posted, sent_to, sent, delivered, with_inbox, with_outboxes, ZoneStep, Core, StepOf, MoveOf}
 use Rattle.core_model.specs.Views.{behind, with_batches, zones_of, core_of, View, PostsBatch, ReceivesBatch, TakesBatch, AreEmptyLanes, with_batch, zones_seen}
 use Rattle.core_model.specs.Start.{IsFirst}
 
@@ -15,7 +15,7 @@ behind_posted (b ∷ bs) (suc to) x (l ∷ ls) = ap (λ (lanes : List (List Item
 
 sent_behind : (batches : List (List Item)) (b : Bool) (to : ℕ) (it : Item) (z : Zone) → with_batches batches (sent_to b to it z) ≡ sent_to b to it (with_batches batches z)
 sent_behind batches true to it z = refl
-sent_behind batches false to it z = ap (λ (lanes : List (List Item)). record z { outboxes = lanes }) (behind_posted batches to it z.outboxes)
+sent_behind batches false to it z = ap (λ (lanes : List (List Item)). record z { ports = record z.ports { outboxes = lanes } }) (behind_posted batches to it z.ports.outboxes)
 
 delivered_behind : (sizes : Sizes) (batches : List (List Item)) (ps : List Post) (z : Zone) → with_batches batches (delivered sizes ps z) ≡ delivered sizes ps (with_batches batches z)
 delivered_behind sizes batches [] z = refl
@@ -34,7 +34,7 @@ step_behind sizes batches old new made s =
       taken = s.taken;
       in_turn = s.in_turn;
       act = s.act;
-      lanes = ap (with_batches batches) s.lanes ∙ delivered_behind sizes batches s.posts (record old { keeps = new.keeps; inbox = s.rest; steps = old.steps + 1 });
+      lanes = ap (with_batches batches) s.lanes ∙ delivered_behind sizes batches s.posts (record old { keeps = new.keeps; ports = record old.ports { inbox = s.rest }; steps = old.steps + 1 });
     }
 
 -- what lies in the lanes from the zone of a number
@@ -138,7 +138,7 @@ pub posts_batch : (from to : ℕ) (views views' : List View) (lanes lanes' : Lis
 posts_batch from to views views' lanes lanes' t p = ap (λ (zones : List Zone). core_at zones t) zones_same
   where
     sender' : Zone
-    sender' = record p.sender.zone { outboxes = slice_set p.sender.zone.outboxes to [] }
+    sender' = record p.sender.zone { ports = record p.sender.zone.ports { outboxes = slice_set p.sender.zone.ports.outboxes to [] } }
 
     row' : List (List Item)
     row' = slice_set p.empty.row to p.batch
@@ -147,7 +147,7 @@ posts_batch from to views views' lanes lanes' t p = ap (λ (zones : List Zone). 
     there = seen_get views from p.sender p.had
 
     same : with_batches row' sender' ≡ with_batches (batches_of from lanes) p.sender.zone
-    same = ap (λ (lanes : List (List Item)). record p.sender.zone { outboxes = lanes }) (batch_posted p.empty.row p.sender.zone.outboxes to p.batch p.empty.holds p.outbox)
+    same = ap (λ (lanes : List (List Item)). record p.sender.zone { ports = record p.sender.zone.ports { outboxes = lanes } }) (batch_posted p.empty.row p.sender.zone.ports.outboxes to p.batch p.empty.holds p.outbox)
         ∙ ap (λ (row : List (List Item)). with_batches row p.sender.zone) (sym (row_of lanes from p.empty.row p.empty.had))
 
     put_twice : {X : Type 0} (xs : List X) (n : ℕ) (x y : X) → slice_set (slice_set xs n x) n y ≡ slice_set xs n y
@@ -185,7 +185,7 @@ takes_batch from to views views' lanes lanes' t k = record {
   apart = k.apart;
   had_source = view_get (zones_seen views) lanes from k.sender.zone there;
   had_target = view_get (zones_seen views) lanes to k.receiver.zone (seen_get views to k.receiver k.had_receiver);
-  outbox = subst (λ (row : List (List Item)). slice_get (behind row k.sender.zone.outboxes) to ≡ Some (k.batch ++ k.left)) (sym row_is) (behind_get k.lane.row k.sender.zone.outboxes to k.batch k.left k.lane.holds k.outbox);
+  outbox = subst (λ (row : List (List Item)). slice_get (behind row k.sender.zone.ports.outboxes) to ≡ Some (k.batch ++ k.left)) (sym row_is) (behind_get k.lane.row k.sender.zone.ports.outboxes to k.batch k.left k.lane.holds k.outbox);
   has = ap (λ (zones : List Zone). core_at zones t) zones_moved;
 }
   where
@@ -196,7 +196,7 @@ takes_batch from to views views' lanes lanes' t k = record {
     row_is = row_of lanes from k.lane.row k.lane.had
 
     receiver' : Zone
-    receiver' = record k.receiver.zone { inbox = k.receiver.zone.inbox ++ k.batch }
+    receiver' = record k.receiver.zone { ports = record k.receiver.zone.ports { inbox = k.receiver.zone.ports.inbox ++ k.batch } }
 
     row' : List (List Item)
     row' = slice_set k.lane.row to []
@@ -209,13 +209,13 @@ takes_batch from to views views' lanes lanes' t k = record {
     own_row (b ∷ bs) (suc i) zero row apart = refl
     own_row (b ∷ bs) (suc i) (suc j) row apart = own_row bs i j row (λ e. apart (ap suc e))
 
-    sent : with_batches row' k.sender.zone ≡ record (with_batches (batches_of from lanes) k.sender.zone) { outboxes = slice_set (behind (batches_of from lanes) k.sender.zone.outboxes) to k.left }
-    sent = ap (λ (lanes : List (List Item)). record k.sender.zone { outboxes = lanes })
-        (behind_taken k.lane.row k.sender.zone.outboxes to k.batch k.left k.lane.holds k.outbox ∙ ap (λ (row : List (List Item)). slice_set (behind row k.sender.zone.outboxes) to k.left) (sym row_is))
+    sent : with_batches row' k.sender.zone ≡ with_outboxes (with_batches (batches_of from lanes) k.sender.zone) (slice_set (behind (batches_of from lanes) k.sender.zone.ports.outboxes) to k.left)
+    sent = ap (λ (lanes : List (List Item)). record k.sender.zone { ports = record k.sender.zone.ports { outboxes = lanes } })
+        (behind_taken k.lane.row k.sender.zone.ports.outboxes to k.batch k.left k.lane.holds k.outbox ∙ ap (λ (row : List (List Item)). slice_set (behind row k.sender.zone.ports.outboxes) to k.left) (sym row_is))
 
     zones_moved : zones_of (zones_seen views') lanes'
-        ≡ slice_set (slice_set (zones_of (zones_seen views) lanes) from (record (with_batches (batches_of from lanes) k.sender.zone) { outboxes = slice_set (behind (batches_of from lanes) k.sender.zone.outboxes) to k.left }))
-        to (record (with_batches (batches_of to lanes) k.receiver.zone) { inbox = k.receiver.zone.inbox ++ k.batch })
+        ≡ slice_set (slice_set (zones_of (zones_seen views) lanes) from (with_outboxes (with_batches (batches_of from lanes) k.sender.zone) (slice_set (behind (batches_of from lanes) k.sender.zone.ports.outboxes) to k.left)))
+        to (with_inbox (with_batches (batches_of to lanes) k.receiver.zone) (k.receiver.zone.ports.inbox ++ k.batch))
     zones_moved =
         ap (λ (vs : List View). zones_of (zones_seen vs) lanes') k.views_is
         ∙ ap (λ (ls : List (List (List Item))). zones_of (zones_seen (slice_set views to (record k.receiver { zone = receiver'; received = slice_set k.receiver.received from [] }))) ls) k.lanes_is
@@ -235,7 +235,7 @@ zones_alone : (zones : List Zone) (lanes : List (List (List Item))) → AreEmpty
 zones_alone [] lanes h = refl
 zones_alone (z ∷ zs) [] h = refl
 zones_alone (z ∷ zs) (b ∷ bs) h =
-    ap (λ (lanes : List (List Item)). (record z { outboxes = lanes }) ∷ zones_of zs bs) (nothing_behind b z.outboxes h.0) ∙ ap (λ (zones : List Zone). z ∷ zones) (zones_alone zs bs h.1)
+    ap (λ (lanes : List (List Item)). (record z { ports = record z.ports { outboxes = lanes } }) ∷ zones_of zs bs) (nothing_behind b z.ports.outboxes h.0) ∙ ap (λ (zones : List Zone). z ∷ zones) (zones_alone zs bs h.1)
 
 -- At the start they stand for the first core.
 pub first_views : (s : Session) (core : Core) (views : List View) (lanes : List (List (List Item))) → IsFirst s core → zones_seen views ≡ core.zones → AreEmptyLanes lanes → core_of (zones_seen views) lanes [] ≡ core

@@ -19,11 +19,11 @@ items_total weigh (v ∷ vs) = ap (λ n. weigh (Request v) + n) (items_total wei
 pub record SameData (z z' : Zone) : Type 0 where
   pub number_is : z'.number ≡ z.number
   pub keeps_is : z'.keeps ≡ z.keeps
-  pub lanes : length z'.outboxes ≡ length z.outboxes
+  pub lanes : length z'.ports.outboxes ≡ length z.ports.outboxes
 
 pub sent_same : (b : Bool) (to : ℕ) (it : Item) (z : Zone) → SameData z (sent_to b to it z)
 sent_same true to it z = record { number_is = refl; keeps_is = refl; lanes = refl }
-sent_same false to it z = record { number_is = refl; keeps_is = refl; lanes = length-posted to it z.outboxes }
+sent_same false to it z = record { number_is = refl; keeps_is = refl; lanes = length-posted to it z.ports.outboxes }
 
 pub delivered_same : (sizes : Sizes) (ps : List Post) (z : Zone) → SameData z (delivered sizes ps z)
 delivered_same sizes [] z = record { number_is = refl; keeps_is = refl; lanes = refl }
@@ -33,17 +33,17 @@ delivered_same sizes (p ∷ ps) z =
     let b = delivered_same sizes ps (sent sizes p z) in
     record { number_is = b.number_is ∙ a.number_is; keeps_is = b.keeps_is ∙ a.keeps_is; lanes = b.lanes ∙ a.lanes }
 
-sent_weight : (t : Token) (b : Bool) (to : ℕ) (it : Item) (z : Zone) → to < length z.outboxes → weight t (sent_to b to it z) ≡ weight t z + t.item it
-sent_weight t true to it z h = omega (arith, total-append t.item z.inbox (it ∷ []))
-sent_weight t false to it z h = omega (arith, total-posted t.item to it z.outboxes h)
+sent_weight : (t : Token) (b : Bool) (to : ℕ) (it : Item) (z : Zone) → to < length z.ports.outboxes → weight t (sent_to b to it z) ≡ weight t z + t.item it
+sent_weight t true to it z h = omega (arith, total-append t.item z.ports.inbox (it ∷ []))
+sent_weight t false to it z h = omega (arith, total-posted t.item to it z.ports.outboxes h)
 
-pub delivered_weight : (t : Token) (sizes : Sizes) (ps : List Post) (z : Zone) → Within sizes (length z.outboxes) ps → weight t (delivered sizes ps z) ≡ weight t z + posts_sum ps t.item
+pub delivered_weight : (t : Token) (sizes : Sizes) (ps : List Post) (z : Zone) → Within sizes (length z.ports.outboxes) ps → weight t (delivered sizes ps z) ≡ weight t z + posts_sum ps t.item
 delivered_weight t sizes [] z h = omega arith
 delivered_weight t sizes (p ∷ ps) z h =
     let to = zone_number sizes p.0 in
     let a = sent_weight t (nat_eq to z.number) to p.1 z h.0 in
     let s = sent_same (nat_eq to z.number) to p.1 z in
-    let w : Within sizes (length (sent sizes p z).outboxes) ps = rw s.lanes h.1 in
+    let w : Within sizes (length (sent sizes p z).ports.outboxes) ps = rw s.lanes h.1 in
     let b = delivered_weight t sizes ps (sent sizes p z) w in
     omega (arith, a, b)
 
@@ -55,10 +55,10 @@ abbrev pub Shrinks : Token → ZoneData → ZoneData → Sum → Sum → Type 0
 Shrinks t old new before after = after t.item + t.own new + t.gave old ≤ before t.item + t.own old + t.gave new
 
 -- over a step of the core
-module _ (t : Token) (sizes : Sizes) (old new : Core) (s : StepOf sizes old new) (goes : Within sizes (length s.zone.outboxes) s.step.posts)
+module _ (t : Token) (sizes : Sizes) (old new : Core) (s : StepOf sizes old new) (goes : Within sizes (length s.zone.ports.outboxes) s.step.posts)
     (r : IsRow sizes s.zone.keeps s.step.front s.zone'.keeps s.step.posts) where
   abbrev z : Zone
-  z = record s.zone { keeps = s.zone'.keeps; inbox = s.step.rest; steps = s.zone.steps + 1 }
+  z = record s.zone { keeps = s.zone'.keeps; ports = record s.zone.ports { inbox = s.step.rest }; steps = s.zone.steps + 1 }
 
   -- what the zone weighs, by the row
   here : weight t s.zone' + r.before t.item + t.own s.zone.keeps ≡ weight t s.zone + r.after t.item + t.own s.zone'.keeps
@@ -85,10 +85,10 @@ module _ (t : Token) (sizes : Sizes) (old new : Core) (s : StepOf sizes old new)
 -- over a move
 module _ (t : Token) (old new : Core) (m : MoveOf old new) where
   abbrev source' : Zone
-  source' = record m.source { outboxes = slice_set m.source.outboxes m.to m.left }
+  source' = record m.source { ports = record m.source.ports { outboxes = slice_set m.source.ports.outboxes m.to m.left } }
 
   abbrev target' : Zone
-  target' = record m.target { inbox = m.target.inbox ++ m.part }
+  target' = record m.target { ports = record m.target.ports { inbox = m.target.ports.inbox ++ m.part } }
 
   -- a number of each zone, before and after
   both : (f : Zone → ℕ) → total f new.zones + f m.source + f m.target ≡ total f old.zones + f source' + f target'
@@ -100,8 +100,8 @@ module _ (t : Token) (old new : Core) (m : MoveOf old new) where
 
   same_weight : total (weight t) new.zones ≡ total (weight t) old.zones
   same_weight =
-      let e = total-set (total t.item) m.source.outboxes m.to (m.part ++ m.left) m.left m.outbox in
-      omega (arith, both (weight t), e, total-append t.item m.part m.left, total-append t.item m.target.inbox m.part)
+      let e = total-set (total t.item) m.source.ports.outboxes m.to (m.part ++ m.left) m.left m.outbox in
+      omega (arith, both (weight t), e, total-append t.item m.part m.left, total-append t.item m.target.ports.inbox m.part)
 
   same_given : total (given t) new.zones ≡ total (given t) old.zones
   same_given = omega (arith, both (given t))

@@ -114,7 +114,7 @@ one_of_two test place x y z e le = by_bit (test place)
 -- From the balance of all locks of its address: the front of a logical zone that holds a lock has it there.
 pub leased_front : (s : Session) (t : Trace) (zones : List Zone) (n : ℕ) (z : Zone) (l : LogicalZone) (v : Vio) (rest : List Item)
     → Each (ZoneOk s t) zones → ((test : ℕ → Bool) → Balanced (lease_token v.at.0 test) zones)
-    → slice_get zones n ≡ Some z → z.inbox ≡ item.Request v ∷ rest → z.keeps ≡ at.Logical l → holds v.phase ≡ true → Leased l v
+    → slice_get zones n ≡ Some z → z.ports.inbox ≡ item.Request v ∷ rest → z.keeps ≡ at.Logical l → holds v.phase ≡ true → Leased l v
 leased_front s t zones n z l v rest each balance had front keeps h test =
     let ok = each n z had in
     let own = subst (λ (d : ZoneData). DataOk s t n d) keeps ok.own in

@@ -51,7 +51,7 @@ counted-arrivals_alone = refl
 
 -- Three zones: the desk with a lane to zone 1, zone 1 with its inbox, and zone 2 with a lane to zone 1.
 abbrev zone : ℕ → ZoneData → List Item → List Item → Zone
-zone number keeps inbox lane = record { number = number; steps = 0; keeps = keeps; inbox = inbox; outboxes = [] ∷ lane ∷ [] ∷ [] }
+zone number keeps inbox lane = record { number = number; steps = 0; keeps = keeps; ports = record { inbox = inbox; outboxes = [] ∷ lane ∷ [] ∷ [] } }
 
 abbrev kept : ZoneData
 kept = logical 0 [] [] [] [] []
@@ -74,25 +74,25 @@ only : (lane items : List Item) → ◌≡◌ {A = _} (Some lane) (Some items) �
 only lane items is = same_Some _ _ is
 
 order : (inbox lane others : List Item) → InOrder inbox lane → (receiver sender : Zone) (items : List Item)
-    → slice_get (zones inbox lane others) 1 ≡ Some receiver → slice_get (zones inbox lane others) 0 ≡ Some sender → slice_get sender.outboxes 1 ≡ Some items
-    → sent_to_zone session 0 now ≡ drew_in 0 (places now) ++ (counted arrival receiver.inbox ++ counted arrival items)
+    → slice_get (zones inbox lane others) 1 ≡ Some receiver → slice_get (zones inbox lane others) 0 ≡ Some sender → slice_get sender.ports.outboxes 1 ≡ Some items
+    → sent_to_zone session 0 now ≡ drew_in 0 (places now) ++ (counted arrival receiver.ports.inbox ++ counted arrival items)
 order inbox lane others is receiver sender items hr hs hl =
     let r : zone 1 kept inbox [] ≡ receiver = same_Some _ _ hr in
     let q : zone 0 (desk [] [] 0 []) [] lane ≡ sender = same_Some _ _ hs in
-    let held : lane ≡ items = only lane items (subst (λ (z : Zone). slice_get z.outboxes 1 ≡ Some items) (sym q) hl) in
-    subst (λ (z : Zone). sent_to_zone session 0 now ≡ drew_in 0 (places now) ++ (counted arrival z.inbox ++ counted arrival items)) r
+    let held : lane ≡ items = only lane items (subst (λ (z : Zone). slice_get z.ports.outboxes 1 ≡ Some items) (sym q) hl) in
+    subst (λ (z : Zone). sent_to_zone session 0 now ≡ drew_in 0 (places now) ++ (counted arrival z.ports.inbox ++ counted arrival items)) r
     (subst (λ (these : List Item). sent_to_zone session 0 now ≡ drew_in 0 (places now) ++ (counted arrival inbox ++ counted arrival these)) held is)
 
 none_else : (inbox lane others : List Item) → counted arrival others ≡ [] → (n : ℕ) (z : Zone) → slice_get (zones inbox lane others) n ≡ Some z → (n ≡ 0 → ⊥)
-    → (items : List Item) → slice_get z.outboxes 1 ≡ Some items → counted arrival items ≡ []
+    → (items : List Item) → slice_get z.ports.outboxes 1 ≡ Some items → counted arrival items ≡ []
 none_else inbox lane others none zero z had ne items hl = absurd (ne refl)
 none_else inbox lane others none (suc zero) z had ne items hl =
     let q : zone 1 kept inbox [] ≡ z = same_Some _ _ had in
-    let held : [] ≡ items = only [] items (subst (λ (y : Zone). slice_get y.outboxes 1 ≡ Some items) (sym q) hl) in
+    let held : [] ≡ items = only [] items (subst (λ (y : Zone). slice_get y.ports.outboxes 1 ≡ Some items) (sym q) hl) in
     subst (λ (these : List Item). counted arrival these ≡ []) held refl
 none_else inbox lane others none (suc (suc zero)) z had ne items hl =
     let q : zone 2 kept [] others ≡ z = same_Some _ _ had in
-    let held : others ≡ items = only others items (subst (λ (y : Zone). slice_get y.outboxes 1 ≡ Some items) (sym q) hl) in
+    let held : others ≡ items = only others items (subst (λ (y : Zone). slice_get y.ports.outboxes 1 ≡ Some items) (sym q) hl) in
     subst (λ (these : List Item). counted arrival these ≡ []) held none
 none_else inbox lane others none (suc (suc (suc n))) z had ne items hl = absurd cc
 
@@ -110,7 +110,7 @@ flows-not_lost flows = let is = flows.in_order _ _ _ refl refl refl in absurd cc
 flows-not_twice : Flows (arrivals_at session 0) now (zones (one reader) (Request (vio reader asks.Write phase.Arrive 0 0) ∷ one second) []) → ⊥
 flows-not_twice flows = let is = flows.in_order _ _ _ refl refl refl in absurd cc
 
-flows-not_in_another_order_alone : (n : ℕ) (z : Zone) → slice_get (zones (one second) (one reader) []) n ≡ Some z → (n ≡ 0 → ⊥) → (items : List Item) → slice_get z.outboxes 1 ≡ Some items → counted arrival items ≡ []
+flows-not_in_another_order_alone : (n : ℕ) (z : Zone) → slice_get (zones (one second) (one reader) []) n ≡ Some z → (n ≡ 0 → ⊥) → (items : List Item) → slice_get z.ports.outboxes 1 ≡ Some items → counted arrival items ≡ []
 flows-not_in_another_order_alone = none_else (one second) (one reader) [] refl
 
 -- nor where another zone has one on its way there

@@ -18,10 +18,10 @@ two = StopNotice ∷ StopNotice ∷ []
 
 -- zone 0 with its outbox to zone 1, and zone 1 with its inbox and what it received from zone 0
 abbrev sender : List Item → View
-sender outbox = record { zone = record { number = 0; steps = 0; keeps = physical []; inbox = []; outboxes = [] ∷ outbox ∷ [] }; received = [] ∷ [] ∷ [] }
+sender outbox = record { zone = record { number = 0; steps = 0; keeps = physical []; ports = record { inbox = []; outboxes = [] ∷ outbox ∷ [] } }; received = [] ∷ [] ∷ [] }
 
 abbrev receiver : List Item → List Item → View
-receiver inbox received = record { zone = record { number = 1; steps = 0; keeps = physical []; inbox = inbox; outboxes = [] ∷ [] ∷ [] }; received = received ∷ [] ∷ [] }
+receiver inbox received = record { zone = record { number = 1; steps = 0; keeps = physical []; ports = record { inbox = inbox; outboxes = [] ∷ [] ∷ [] } }; received = received ∷ [] ∷ [] }
 
 abbrev views : List Item → List Item → List Item → List View
 views outbox inbox received = sender outbox ∷ receiver inbox received ∷ []
@@ -59,9 +59,9 @@ posts = record { sender = sender two; batch = two; had = refl; outbox = refl; em
 the_sender : (outbox inbox received : List Item) (view : View) → slice_get (views outbox inbox received) 0 ≡ Some view → sender outbox ≡ view
 the_sender outbox inbox received view had = same_Some _ _ had
 
-in_outbox : (outbox inbox received : List Item) (view : View) (batch : List Item) → slice_get (views outbox inbox received) 0 ≡ Some view → slice_get view.zone.outboxes 1 ≡ Some batch → outbox ≡ batch
+in_outbox : (outbox inbox received : List Item) (view : View) (batch : List Item) → slice_get (views outbox inbox received) 0 ≡ Some view → slice_get view.zone.ports.outboxes 1 ≡ Some batch → outbox ≡ batch
 in_outbox outbox inbox received view batch had is =
-    same_Some _ _ (subst (λ (v : View). slice_get v.zone.outboxes 1 ≡ Some batch) (sym (the_sender outbox inbox received view had)) is)
+    same_Some _ _ (subst (λ (v : View). slice_get v.zone.ports.outboxes 1 ≡ Some batch) (sym (the_sender outbox inbox received view had)) is)
 
 posts-not_into_a_full_lane : PostsBatch 0 1 (views one [] []) (views [] [] []) (lanes one) (lanes one) → ⊥
 posts-not_into_a_full_lane p = let was = held one [] p.empty in absurd cc
@@ -86,13 +86,13 @@ posts-not_a_part p =
 -- how many items the outbox from zone 0 to zone 1 has
 abbrev outbox_of : List View → ℕ
 outbox_of [] = 9
-outbox_of (view ∷ others) = lane_of (view.zone.outboxes ∷ [])
+outbox_of (view ∷ others) = lane_of (view.zone.ports.outboxes ∷ [])
 
 posts-not_kept_too : PostsBatch 0 1 (views two [] []) (views two [] []) (lanes []) (lanes two) → ⊥
 posts-not_kept_too p =
     let is = the_sender two [] [] p.sender p.had in
     let now : views two [] [] ≡ views [] [] [] =
-    subst (λ (v : View). views two [] [] ≡ slice_set (views two [] []) 0 (record v { zone = record v.zone { outboxes = slice_set v.zone.outboxes 1 [] } })) (sym is) p.views_is in
+    subst (λ (v : View). views two [] [] ≡ slice_set (views two [] []) 0 (record v { zone = record v.zone { ports = record v.zone.ports { outboxes = slice_set v.zone.ports.outboxes 1 [] } } })) (sym is) p.views_is in
     let sizes = ap outbox_of now in
     absurd cc
 
@@ -154,14 +154,14 @@ takes-not_unreceived t =
 
 -- how many items the inbox of zone 1 has
 abbrev inbox_of : List View → ℕ
-inbox_of (first ∷ second ∷ others) = length second.zone.inbox
+inbox_of (first ∷ second ∷ others) = length second.zone.ports.inbox
 inbox_of other = 9
 
 -- zone 1 after it took what it received
 taken_views : (t : TakesBatch 0 1 (views [] [] one) (views [] [] []) (lanes one) (lanes [])) → views [] [] [] ≡ views [] t.batch []
 taken_views t =
     let is = the_receiver [] [] one t.receiver t.had_receiver in
-    subst (λ (v : View). views [] [] [] ≡ slice_set (views [] [] one) 1 (record v { zone = record v.zone { inbox = v.zone.inbox ++ t.batch }; received = slice_set v.received 0 [] })) (sym is) t.views_is
+    subst (λ (v : View). views [] [] [] ≡ slice_set (views [] [] one) 1 (record v { zone = record v.zone { ports = record v.zone.ports { inbox = v.zone.ports.inbox ++ t.batch } }; received = slice_set v.received 0 [] })) (sym is) t.views_is
 
 takes-not_lost : TakesBatch 0 1 (views [] [] one) (views [] [] []) (lanes one) (lanes []) → ⊥
 takes-not_lost t =

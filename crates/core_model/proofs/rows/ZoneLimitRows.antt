@@ -93,7 +93,7 @@ abbrev lane : ℕ → List Item
 lane items = replicate items StopNotice
 
 abbrev zone : (inbox one other calls : ℕ) → Zone
-zone inbox one other calls = record { number = 5; steps = 9; keeps = at.Device (device calls); inbox = lane inbox; outboxes = lane one ∷ lane other ∷ [] }
+zone inbox one other calls = record { number = 5; steps = 9; keeps = at.Device (device calls); ports = record { inbox = lane inbox; outboxes = lane one ∷ lane other ∷ [] } }
 
 zone_full : IsWithin (zone 262 262 262 9)
 zone_full = record {

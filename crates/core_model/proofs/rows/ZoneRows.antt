@@ -110,7 +110,7 @@ kept_none = (refl, refl)
 
 -- the physical zone that made so many steps, with the stop notice in its inbox
 abbrev of_steps : ℕ → ZoneData → List Item → List (List Item) → Zone
-of_steps made keeps inbox outboxes = record { number = 3; steps = made; keeps = keeps; inbox = inbox; outboxes = outboxes }
+of_steps made keeps inbox outboxes = record { number = 3; steps = made; keeps = keeps; ports = record { inbox = inbox; outboxes = outboxes } }
 
 abbrev told : ZoneData
 told = at.Physical (record { notified = true; free = [] })

@@ -13,9 +13,9 @@ returns-clause-did g c did =
     let had : slice_get c.zones.inside.zones.items c.args.number ≡ Some c.in-Some.zone.now = slice_get_read _ _ _ _ refl within item.1 in
     rw (← c.zones.view_is) (record {
       zone = c.in-Some.zone.now;
-      zone' = c.step_zone.new.zone;
+      zone' = c.step_with.new.zone;
       had = had;
-      step = c.in_ok-step_zone.ensures.did did;
+      step = c.in_ok-step_with.ensures.did did;
       has = refl;
     })
 
@@ -24,19 +24,19 @@ returns-clause-idle g c idle zone got =
     let item = c.in-Some.ensures.item in
     let within : c.args.number < length c.zones.inside.zones.items = search rules in
     let had : slice_get c.args.zones.now c.args.number ≡ Some c.in-Some.zone.now = rw (← c.zones.view_is) (slice_get_read _ _ _ _ refl within item.1) in
-    subst (λ (z : Zone). IsIdle c.args.sizes.now z) (same_Some _ _ (sym had ∙ got)) (c.in_ok-step_zone.ensures.idle idle)
+    subst (λ (z : Zone). IsIdle c.args.sizes.now z) (same_Some _ _ (sym had ∙ got)) (c.in_ok-step_with.ensures.idle idle)
 
 pub returns-clause-busy : goal.returns-clause-busy
 returns-clause-busy g c did zone got idle =
     let item = c.in-Some.ensures.item in
     let within : c.args.number < length c.zones.inside.zones.items = search rules in
     let had : slice_get c.args.zones.now c.args.number ≡ Some c.in-Some.zone.now = rw (← c.zones.view_is) (slice_get_read _ _ _ _ refl within item.1) in
-    c.in_ok-step_zone.ensures.busy did (subst (λ (z : Zone). IsIdle c.args.sizes.now z) (sym (same_Some _ _ (sym had ∙ got))) idle)
+    c.in_ok-step_with.ensures.busy did (subst (λ (z : Zone). IsIdle c.args.sizes.now z) (sym (same_Some _ _ (sym had ∙ got))) idle)
 
-pub returns-in_err-step_zone-clause-err : goal.returns-in_err-step_zone-clause-err
-returns-in_err-step_zone-clause-err g c =
+pub returns-in_err-step_with-clause-err : goal.returns-in_err-step_with-clause-err
+returns-in_err-step_with-clause-err g c =
     let item = c.in-Some.ensures.item in
     let within : c.args.number < length c.zones.inside.zones.items = search rules in
     let had : slice_get c.args.zones.now c.args.number ≡ Some c.in-Some.zone.now = rw (← c.zones.view_is) (slice_get_read _ _ _ _ refl within item.1) in
-    passed_on c.from_residual.result (MayFaultAt c.args.sizes.now c.args.zones.now c.args.number) c.in_err-step_zone.field-0.0 c.from_residual.ensures.1
-    (c.in-Some.zone.now, had, c.in_err-step_zone.ensures.err)
+    passed_on c.from_residual.result (MayFaultAt c.args.sizes.now c.args.zones.now c.args.number) c.in_err-step_with.field-0.0 c.from_residual.ensures.1
+    (c.in-Some.zone.now, had, c.in_err-step_with.ensures.err)

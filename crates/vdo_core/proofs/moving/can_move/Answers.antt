@@ -22,4 +22,4 @@ returns-clause-yes c posted =
 pub returns-clause-no : goal.returns-clause-no
 returns-clause-no c none = λ source target apart had had'.
     (let here : slice_get c.args.zones.now c.args.from ≡ Some c.index.result.now = grind (arith, common_steps, gets) in
-    subst (λ (z : Zone). has_items (slice_get z.outboxes c.args.to) ≡ false) (same_Some _ _ (sym here ∙ had)) (sym c.has_posted.ensures ∙ none))
+    subst (λ (z : Zone). has_items (slice_get z.ports.outboxes c.args.to) ≡ false) (same_Some _ _ (sym here ∙ had)) (sym c.has_posted.ensures ∙ none))

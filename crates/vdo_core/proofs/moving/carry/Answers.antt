@@ -15,5 +15,5 @@ returns c =
       had_source = had;
       had_target = target;
       outbox = c.exchange.ensures.out;
-      has = rw (c.append.ensures.added, c.exchange.ensures.kept, c.requires.none) refl;
+      has = rw (c.receive.ensures.added, c.exchange.ensures.kept, c.requires.none) refl;
     }

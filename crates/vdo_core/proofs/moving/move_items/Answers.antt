@@ -25,13 +25,13 @@ pub carry-requires-clause-outbox : goal.carry-requires-clause-outbox
 carry-requires-clause-outbox c = λ source got.
     (let some = c.can_move.ensures.yes c.if-not-can_move.false in
     let there : slice_get c.args.zones.now c.args.from ≡ Some source = cc (c.zones.view_is, got) in
-    subst (λ (z : Zone). c.args.to < length z.outboxes) (same_Some _ _ (sym some.had_source ∙ there)) (has_lane some.source.outboxes c.args.to some.posted))
+    subst (λ (z : Zone). c.args.to < length z.ports.outboxes) (same_Some _ _ (sym some.had_source ∙ there)) (has_lane some.source.ports.outboxes c.args.to some.posted))
 
 pub carry-requires-clause-sent : goal.carry-requires-clause-sent
 carry-requires-clause-sent c = λ source lane got out.
     (let had : slice_get c.zones.inside.zones.items c.args.from ≡ Some c.index.result.now = grind (arith, gets) in
     let within : IsWithin source = subst (λ (z : Zone). IsWithin z) (same_Some _ _ (sym had ∙ got)) (c.is_within.ensures.0 c.if-not-is_within.false) in
-    short_lane source.outboxes c.args.to lane within.outboxes out)
+    short_lane source.ports.outboxes c.args.to lane within.outboxes out)
 
 pub carry-requires-clause-there : goal.carry-requires-clause-there
 carry-requires-clause-there c = λ target got.

@@ -1,4 +1,4 @@
-use Rattle.std.proofs.Common.{arith, length, reverse, sym}
+use Rattle.std.proofs.Common.{arith, length, reverse}
 use Rattle.std.proofs.lemmas.List.{length-reverse}
 use Rattle.vdo_core.specs.Cores.{sizes_of}
 use Rattle.vdo_core.proofs.SessionLaws.{few_entries, first_reached, imagined, is_of}

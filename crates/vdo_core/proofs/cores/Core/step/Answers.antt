@@ -1,6 +1,3 @@
-use Rattle.std.proofs.Common.{ap}
-use Rattle.vdo_core.specs.Cores.{CoreState}
-use Rattle.vdo_core.specs.Plays.{HasNoWork}
 use Rattle.vdo_core.proofs.SessionLaws.{none_fails_here, reached_on}
 use Rattle.vdo_core.proofs.cores.Core.step.Goals as goal
 

@@ -1,0 +1,45 @@
+-- What a zone has in its ports, and the room of each list: each clause at its limit, and one past it.
+use Rattle.std.proofs.Common.{◌≡◌, ℕ, List, [], ◌∷◌, length, replicate, refl, arith}
+use Rattle.std.proofs.lemmas.List.{length-replicate}
+use Rattle.zone_queues.specs.Queues.{Boxes, Queue}
+use Rattle.core_model.specs.PortsData.{AreLanes, IsLane, ports_of}
+use Rattle.core_model.specs.declared.items.Item.{Item}
+use Rattle.core_model.specs.declared.items.Item.TheVariants.{StopNotice}
+
+-- a list with this room, and so many items
+abbrev queue : (room items : ℕ) → Queue Item
+queue room items = record { room = room; items = replicate items StopNotice }
+
+abbrev boxes : Queue Item → List (Queue Item) → Boxes Item
+boxes inbox outboxes = record { inbox = inbox; outboxes = outboxes }
+
+-- ports_of: the items of the inbox, and those of each outbox in its place
+ports : ports_of (boxes (queue 5 1) (queue 6 2 ∷ queue 7 0 ∷ [])) ≡ record { inbox = StopNotice ∷ []; outboxes = (StopNotice ∷ StopNotice ∷ []) ∷ [] ∷ [] }
+ports = refl
+
+-- IsLane: 540 items fit
+lane_full : IsLane (queue 540 540)
+lane_full = record { room = refl; filled = omega (arith, length-replicate 540 StopNotice) }
+
+lane_of_less_room : IsLane (queue 539 0) → ⊥
+lane_of_less_room is = absurd (omega (arith, is.room))
+
+lane_too_full : IsLane (queue 540 541) → ⊥
+lane_too_full is = absurd (omega (arith, is.filled, length-replicate 541 StopNotice))
+
+-- AreLanes: the inbox, and each outbox
+lanes_all : AreLanes (boxes (queue 540 1) (queue 540 0 ∷ queue 540 2 ∷ []))
+lanes_all = record {
+  inbox = record { room = refl; filled = omega arith };
+  outboxes = (record { room = refl; filled = omega arith }, (record { room = refl; filled = omega arith }, tt));
+  few = omega arith;
+}
+
+lanes_not_the_inbox : AreLanes (boxes (queue 0 0) []) → ⊥
+lanes_not_the_inbox are = let room = are.inbox.room in absurd (omega (arith, room))
+
+lanes_not_the_second : AreLanes (boxes (queue 540 0) (queue 540 0 ∷ queue 3 0 ∷ [])) → ⊥
+lanes_not_the_second are = let room = are.outboxes.1.0.room in absurd (omega (arith, room))
+
+lanes_too_many : (outboxes : List (Queue Item)) → length outboxes ≡ 4294967296 → AreLanes (boxes (queue 540 0) outboxes) → ⊥
+lanes_too_many outboxes many are = let few = are.few in absurd (omega (arith, few, many))

@@ -1,0 +1,32 @@
+-- What a zone has in its ports: an inbox, and an outbox to each zone by its number.
+use Rattle.std.specs.Prelude.{ℕ, ◌+◌, ◌*◌, ◌^◌, ◌≡◌, ◌<◌, ◌≤◌, List, length, map}
+use Rattle.std.specs.List.{AllByRecursion}
+use Rattle.zone_queues.specs.Queues.{Boxes, Queue}
+use Rattle.core_model.specs.SessionLimits.{most_items}
+use Rattle.core_model.specs.declared.items.Item.{Item}
+
+-- the items of each, the oldest first
+pub record Ports : Type 0 where
+  pub inbox : List Item
+  pub outboxes : List (List Item)
+
+abbrev pub items_of : Queue Item → List Item
+items_of queue = queue.items
+
+abbrev pub ports_of : Boxes Item → Ports
+ports_of boxes = record { inbox = items_of boxes.inbox; outboxes = map items_of boxes.outboxes }
+
+-- the room of a lane: twice as many items as are under way, and sixteen more
+abbrev pub lane_room : ℕ
+lane_room = 2 * most_items + 16
+
+-- a list has that room, and no more in it
+pub record IsLane (queue : Queue Item) : Type 0 where
+  pub room : queue.room ≡ lane_room
+  pub filled : length queue.items ≤ lane_room
+
+-- so has each list of a zone; and their number is one of its type
+pub record AreLanes (boxes : Boxes Item) : Type 0 where
+  pub inbox : IsLane boxes.inbox
+  pub outboxes : AllByRecursion IsLane boxes.outboxes
+  pub few : length boxes.outboxes < 2 ^ 32

@@ -1,0 +1,135 @@
+ghost use Rattle.std.specs.Prelude.{◌≡◌, ◌+◌, ◌<◌, ◌≤◌, ◌↔◌, List, [], ◌∷◌, ◌++◌, Some, IfOk, IfSome, IfNone, IsTrue, false, length, replicate, slice_get, slice_set};
+ghost use Rattle.std.specs.List.{AllByRecursion};
+ghost use Rattle.core_model.specs.declared.items.Item.{Item};
+ghost use Rattle.core_model.specs.Limits.{IsShort};
+ghost use Rattle.core_model.specs.PortsData.{items_of};
+ghost use Rattle.core_model.specs.Steps.{posted};
+
+use crate::{Fifo, Item, LANE_ROOM, MOST_ITEMS};
+use std::alloc::{AllocError, Global};
+use std::marker::Model;
+use std::mem::replace;
+
+/// A list of items on their way, with room for all that are under way and for those of one step or move more.
+pub type Lane = Fifo<Item, LANE_ROOM>;
+
+/// The ports of a zone: its inbox, and an outbox to each zone by its number. Each is a list with the room of a `Lane`, which
+/// is taken when they are made: no item is ever refused. A contract sees the items, the oldest first.
+#[derive(Drop)]
+pub struct Ports {
+    boxes: zone_queues::Ports<Item>,
+    alloc: Global,
+}
+
+impl Model for Ports {
+    ghost use Rattle.core_model.specs.PortsData.{AreLanes, Ports as PortsData, ports_of};
+
+    ghost Value = { PortsData };
+
+    ghost view = { λ p. ports_of p.boxes };
+
+    ghost invariant = { λ p. AreLanes p.boxes };
+}
+
+impl Ports {
+    /// An inbox, and as many outboxes, with nothing in them.
+    pub fn new(alloc: Global, count: u32) -> Result<Ports, AllocError>
+        ensures { IfOk result (λ ports. ports ≡ record { inbox = []; outboxes = replicate count [] }) }
+    {
+        let rooms = rooms(alloc, count)?;
+        let boxes = zone_queues::Ports::new(alloc, LANE_ROOM, &rooms)?;
+        Ok(Ports { boxes, alloc })
+    }
+
+    /// How many outboxes there are.
+    pub fn count(&self) -> u32
+        ensures { result ≡ length self.now.outboxes }
+    {
+        self.boxes.outboxes().len() as u32
+    }
+
+    /// Adds an item behind those of the outbox to a zone.
+    pub fn post(&mut self, to: u32, item: Item)
+        requires there { to < length self.old.outboxes }
+        requires room { (lane : List Item) → slice_get self.old.outboxes to ≡ Some lane → length lane < LANE_ROOM }
+        ensures { self.new ≡ record self.old { outboxes = posted to item self.old.outboxes } }
+    {
+        self.boxes.post(to, item);
+    }
+
+    /// Adds an item behind those of the zone's own inbox.
+    pub fn keep(&mut self, item: Item)
+        requires { length self.old.inbox < LANE_ROOM }
+        ensures { self.new ≡ record self.old { inbox = self.old.inbox ++ item ∷ [] } }
+    {
+        self.boxes.keep(item);
+    }
+
+    /// The item in front of the inbox, which leaves it; `None` exactly where there is none.
+    pub fn take(&mut self) -> Option<Item>
+        ensures some { IfSome result (λ item. self.old ≡ record self.new { inbox = item ∷ self.new.inbox }) }
+        ensures none { IfNone result ((self.old.inbox ≡ []) × (self.new ≡ self.old)) }
+    {
+        self.boxes.take()
+    }
+
+    /// Whether an item is in the inbox.
+    pub fn has_item(&self) -> bool
+        ensures { IsTrue result ↔ (0 < length self.now.inbox) }
+    {
+        self.boxes.has_item()
+    }
+
+    /// Whether an item is in the outbox to a zone.
+    pub fn has_posts(&self, to: u32) -> bool
+        requires { to < length self.now.outboxes }
+        ensures { (result ≡ false) ↔ (slice_get self.now.outboxes to ≡ Some []) }
+    {
+        self.boxes.has_posts(to)
+    }
+
+    /// Whether no list has more items than may be under way.
+    pub fn are_short(&self) -> bool
+        ensures { IsTrue result ↔ IsShort self.now.inbox × AllByRecursion (λ lane. IsShort lane) self.now.outboxes }
+    {
+        self.boxes.inbox().len() <= MOST_ITEMS && are_short(self.boxes.outboxes())
+    }
+
+    /// Hands out the items of the outbox to a zone, and takes those of this list in their place.
+    pub fn exchange(&mut self, to: u32, batch: &mut Lane)
+        requires { to < length self.old.outboxes }
+        ensures out { slice_get self.old.outboxes to ≡ Some batch.new }
+        ensures kept { self.new ≡ record self.old { outboxes = slice_set self.old.outboxes to batch.old } }
+    {
+        let none = zone_queues::Lane::without_room(self.alloc);
+        let lane = replace(&mut batch.items, none);
+        batch.items = self.boxes.exchange(to, lane);
+    }
+
+    /// Adds all items of a batch to the inbox, behind those that are there. The batch is empty then, and keeps its room.
+    pub fn receive(&mut self, batch: &mut Lane)
+        requires { length self.old.inbox + length batch.old ≤ LANE_ROOM }
+        ensures added { self.new ≡ record self.old { inbox = self.old.inbox ++ batch.old } }
+        ensures emptied { batch.new ≡ [] }
+    {
+        self.boxes.receive(&mut batch.items);
+    }
+}
+
+// Whether none of these has more items than may be under way.
+fn are_short(lanes: &[zone_queues::Lane<Item>]) -> bool
+    ensures { IsTrue result ↔ AllByRecursion (λ lane. IsShort (items_of lane)) lanes.now }
+{
+    lanes.iter().all(|lane| lane.len() <= MOST_ITEMS)
+}
+
+// The room of a lane for each of so many.
+fn rooms(alloc: Global, count: u32) -> Result<Vec<u32>, AllocError>
+    ensures { IfOk result (λ rooms. rooms.items ≡ replicate count LANE_ROOM) }
+{
+    let mut rooms = Vec::with_capacity(alloc, count as usize)?;
+    for _ in 0..count {
+        rooms.push_reserved(LANE_ROOM);
+    }
+    Ok(rooms)
+}
