@@ -1,0 +1,12 @@
+pub mod StepLaws
+pub mod ShownLaws
+pub mod EntryLaws
+pub mod MapLaws
+pub mod NewestLaws
+pub mod GrowLaws
+pub mod OpenedLaws
+pub mod ReopenLaws
+pub mod SealedRows
+pub mod RingRows
+pub mod ShownRows
+pub mod MappedRows

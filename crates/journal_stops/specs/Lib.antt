@@ -1,0 +1,4 @@
+pub mod Sealed
+pub mod Rings
+pub mod Shown
+pub mod Mapped
