@@ -36,7 +36,7 @@ after old (Flush _ ∷ older) = after old older
 abbrev pub IsDone : ℕ → Call → Type 0
 IsDone size (Write at bytes true) = (at.0 < size) × (length bytes ≡ 4096)
 IsDone size (Write at bytes false) = ⊥
-IsDone size (Read _ _ _) = ⊥
+IsDone size (Read _ _ _) = Unit {0}
 IsDone size (Flush _) = Unit {0}
 
 right_done : (g : Geometry) (size : ℕ) → needed_blocks g ≤ size → (calls : List Call) → AllByRecursion (IsRight g) calls → AllByRecursion (IsDone size) calls
@@ -66,7 +66,7 @@ module _ (old : Blocks) (whole : (b : ℕ) → b < length old → length (block_
     | inr other ↦ rw (get_or-set_other (after old older) at.0 b bytes zero_block (λ e. other.1 (sym e))) (after_whole older done.1 b below)
   ]
   after_whole (Write at bytes false ∷ older) done b below = absurd done.0
-  after_whole (Read _ _ _ ∷ older) done b below = absurd done.0
+  after_whole (Read _ _ _ ∷ older) done b below = after_whole older done.1 b below
   after_whole (Flush _ ∷ older) done b below = after_whole older done.1 b below
 
   module _ (opening : Blocks) (first : List Call) (one : HasOneImage opening first old) where
@@ -80,7 +80,7 @@ module _ (old : Blocks) (whole : (b : ℕ) → b < length old → length (block_
       | inr other ↦ rw (other.0, get_or-set_other (after old older) at.0 b bytes zero_block (λ e. other.1 (sym e))) (after_settles older done.1 b below)
     ]
     after_settles (Write at bytes false ∷ older) done b below = absurd done.0
-    after_settles (Read _ _ _ ∷ older) done b below = absurd done.0
+    after_settles (Read _ _ _ ∷ older) done b below = after_settles older done.1 b below
     after_settles (Flush _ ∷ older) done b below = after_settles older done.1 b below
 
     -- nothing is pending after a flush

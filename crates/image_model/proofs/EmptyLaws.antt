@@ -283,8 +283,9 @@ module _ (g : Geometry) (blocks : Blocks) (empty : IsEmpty g blocks) where
     sectors = λ slot number sequence head entries inside below is. absurd (no_sector g blocks sizes slots_zero slot number sequence head entries inside below is);
   }
 
-  closed : IsClosed (the_image g blocks) 0
+  closed : IsClosed (the_image g blocks) 1 0
   closed = record {
+    next = refl;
     window = refl;
     updates = λ place point inside is. absurd (no_updates g blocks none_kept place point inside is);
     sectors = λ slot number sequence head entries inside below is. absurd (no_sector g blocks sizes slots_zero slot number sequence head entries inside below is);

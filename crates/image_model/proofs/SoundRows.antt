@@ -111,8 +111,9 @@ timely_sector timely = let within = timely.sectors 3 0 3 2 one (omega arith) (om
 abbrev image_with : Blocks → List CommittedEntry → Image
 image_with blocks window = record { geometry = small; blocks = blocks; window = window }
 
-closed_is : IsClosed (image_with [] []) 0
+closed_is : IsClosed (image_with [] []) 1 0
 closed_is = record {
+  next = refl;
   window = refl;
   updates = λ at point inside is. elim is [
     | inl in_slab ↦ absurd (no_slab_sector 1 at.slab 64 in_slab.number in_slab.sequence in_slab.entries in_slab.inside.1 in_slab.valid)
@@ -121,8 +122,12 @@ closed_is = record {
   sectors = λ slot number sequence oldest entries inside below is. absurd (no_journal_sector 1 number sequence oldest entries below is);
 }
 
+-- next: a last sequence that isn't before the first one is that of a block that was left
+closed_next : IsClosed (image_with [] []) 1 1 → ⊥
+closed_next closed = omega (arith, closed.next)
+
 -- window
-closed_window : IsClosed (image_with [] (remap 5 (At (pbn 86)) ∷ [])) 0 → ⊥
+closed_window : IsClosed (image_with [] (remap 5 (At (pbn 86)) ∷ [])) 1 0 → ⊥
 closed_window closed = let size = ap length closed.window in omega (arith, size)
 
 -- updates
@@ -130,11 +135,11 @@ no_commit_there : commit_of (image_with journaled []) (place 1) ≡ 0
 unfolding zero_block number_at
 no_commit_there = refl
 
-closed_updates : IsClosed (image_with journaled []) 3 → ⊥
+closed_updates : IsClosed (image_with journaled []) 4 3 → ⊥
 closed_updates closed =
     let within = closed.updates (place 1) 1536 (omega arith, omega arith) (inl kept_is) in
     let none = no_commit_there in omega (arith, within, none)
 
 -- sectors: not even one behind the last
-closed_sectors : IsClosed (image_with written_blocks []) 2 → ⊥
+closed_sectors : IsClosed (image_with written_blocks []) 3 2 → ⊥
 closed_sectors closed = let within = closed.sectors 3 0 3 2 one (omega arith) (omega arith) there_3 in omega (arith, within)

@@ -190,8 +190,8 @@ module _ (others : Blocks) (size : length others ≡ 153) (sound : IsSound (supe
   last_here : IsLast small 1 (journal_of small blocks) sound.last
   last_here = subst (λ (h : Super). IsLast h.geometry h.start (journal_of h.geometry blocks) sound.last) head_here sound.opens.is_window.is_last
 
-  closed_here : IsClosed (image_of (empty_super small) blocks sound.window) sound.last
-  closed_here = subst (λ (h : Super). IsClosed (image_of h blocks sound.window) sound.last) head_here (sound.closed (ap (λ (h : Super). h.clean) head_here))
+  closed_here : IsClosed (image_of (empty_super small) blocks sound.window) 1 sound.last
+  closed_here = subst (λ (h : Super). IsClosed (image_of h blocks sound.window) h.start sound.last) head_here (sound.closed (ap (λ (h : Super). h.clean) head_here))
 
 -- The empty image with another block behind the superblock: block 1 has the number 0.
 changed : ℕ → List ℕ → ℕ → List ℕ
@@ -402,8 +402,9 @@ module _ (commit counter : ℕ) where
   part_unshared : AreUnshared (the_image small (counted_with commit counter))
   part_unshared = not_shared small (counted_with commit counter) small_is says_none
 
-  part_closed : IsClosed (the_image small (counted_with commit counter)) 0
+  part_closed : IsClosed (the_image small (counted_with commit counter)) 1 0
   part_closed = record {
+    next = refl;
     window = refl;
     updates = λ at point inside is. absurd (no_updates small (counted_with commit counter) none_kept at point inside is);
     sectors = λ slot number sequence oldest entries inside below is. absurd (no_sector small (counted_with commit counter) small_is slots_zero slot number sequence oldest entries inside below is);
@@ -439,7 +440,7 @@ unfolding number_at
 no_commit_of_one n below = of_eight (λ k. number_at 8 0 (sector k (counter_bytes 0 1)) ≡ 0) refl refl refl refl refl refl refl refl n below
 
 counts_alone : Opens (counted_with 0 1) (empty_super small) 0 [] × ArePagesGood (the_image small (counted_with 0 1)) × AreStored (the_image small (counted_with 0 1))
-    × AreUnshared (the_image small (counted_with 0 1)) × IsOfItsTime small (counted_with 0 1) 0 × IsClosed (the_image small (counted_with 0 1)) 0
+    × AreUnshared (the_image small (counted_with 0 1)) × IsOfItsTime small (counted_with 0 1) 0 × IsClosed (the_image small (counted_with 0 1)) 1 0
 counts_alone = (
   part_opens 0 1,
   part_pages 0 1,
@@ -455,7 +456,7 @@ counts_alone = (
 
 -- timely: all other clauses hold of an image with the commit point 512
 timely_alone : Opens (counted_with 2 0) (empty_super small) 0 [] × ArePagesGood (the_image small (counted_with 2 0)) × AreStored (the_image small (counted_with 2 0))
-    × AreUnshared (the_image small (counted_with 2 0)) × AreTrue (the_image small (counted_with 2 0)) × IsClosed (the_image small (counted_with 2 0)) 0
+    × AreUnshared (the_image small (counted_with 2 0)) × AreTrue (the_image small (counted_with 2 0)) × IsClosed (the_image small (counted_with 2 0)) 1 0
 timely_alone = (
   part_opens 2 0,
   part_pages 2 0,

@@ -56,8 +56,10 @@ pub record IsOfItsTime (g : Geometry) (blocks : Blocks) (last : ℕ) : Type 0 wh
   pub sectors : (slot number sequence head : ℕ) (entries : List Entry) → slot < g.journal → number < 8
       → IsSector g.nonce number (sector number (get_or (journal_of g blocks) slot zero_block)) sequence head entries → sequence ≤ last + 1
 
--- A session was closed: nothing is left in a journal, not even a block that was torn.
-pub record IsClosed (image : Image) (last : ℕ) : Type 0 where
+-- A session was closed: the next one goes on behind the last sequence, and nothing is left in a journal, not even a block
+-- that was torn or has no entries.
+pub record IsClosed (image : Image) (start last : ℕ) : Type 0 where
+  pub next : start ≡ last + 1
   pub window : image.window ≡ []
   pub updates : (place : DataPlace) (point : ℕ) → IsDataPlace image.geometry place → IsUpdate image place point → point ≤ commit_of image place
   pub sectors : (slot number sequence head : ℕ) (entries : List Entry) → slot < image.geometry.journal → number < 8
@@ -78,4 +80,4 @@ pub record IsSound (blocks : Blocks) : Type 0 where
   pub unshared : AreUnshared (image_of head blocks window)
   pub counts : AreTrue (image_of head blocks window)
   pub timely : IsOfItsTime head.geometry blocks last
-  pub closed : IsTrue head.clean → IsClosed (image_of head blocks window) last
+  pub closed : IsTrue head.clean → IsClosed (image_of head blocks window) head.start last

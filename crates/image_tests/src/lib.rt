@@ -10,10 +10,14 @@ mod formats;
 #[cfg(test)]
 mod fuses;
 #[cfg(test)]
+mod heads;
+#[cfg(test)]
 mod maps;
 #[cfg(test)]
 mod picks;
 #[cfg(test)]
 mod plans;
+#[cfg(test)]
+mod replays;
 #[cfg(test)]
 mod windows;

@@ -64,7 +64,7 @@ more_of_slots page mappings slot old new were grown below at =
 
 module _ (image : Image) where
   -- the block of a page of the image's trees and levels
-  at_links : (page : PageId) → page.tree < TREES → page.level < image.geometry.height → page_at image page ≡ linked_at image (image.geometry.height - 1 - page.level) page
+  pub at_links : (page : PageId) → page.tree < TREES → page.level < image.geometry.height → page_at image page ≡ linked_at image (image.geometry.height - 1 - page.level) page
   at_links page tree level =
       ap₂ (λ (b c : Bool). if b && c then linked_at image (image.geometry.height - 1 - page.level) page else None)
       (lt-ltb page.tree TREES tree) (lt-ltb page.level image.geometry.height level)
@@ -91,7 +91,7 @@ module _ (image : Image) where
         | None ↦ None
       ]) linked
 
-  leads : (mapping : Mapping) (at : Pbn) → target_of mapping ≡ Some at → mapping ≡ At at
+  pub leads : (mapping : Mapping) (at : Pbn) → target_of mapping ≡ Some at → mapping ≡ At at
   leads Unmapped at is = absurd (cc is)
   leads Zero at is = absurd (cc is)
   leads (At block) at is = cc is

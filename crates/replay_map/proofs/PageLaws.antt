@@ -6,7 +6,7 @@ use Rattle.std.proofs.lemmas.Bool.{cases_lt}
 use Rattle.std.proofs.lemmas.List.{get_or-set_same, get_or-set_other}
 use Rattle.blk_base.specs.declared.geometry.Geometry.{Geometry}
 use Rattle.blk_base.specs.declared.place.Mapping.{Mapping}
-use Rattle.blk_base.specs.declared.place.Mapping.TheVariants.{Unmapped}
+use Rattle.blk_base.specs.declared.place.Mapping.TheVariants.{Unmapped, Zero, At}
 use Rattle.blk_base.specs.declared.sizes.TheConstants.{PAGE_SLOTS}
 use Rattle.disk_model.specs.Log.{block_at}
 use Rattle.image_model.proofs.MapLaws.{slot_says_its_mapping}
@@ -15,6 +15,8 @@ use Rattle.image_model.specs.Maps.{Image, IsReadable, head_of, mapping_in, put_l
 use Rattle.page_codec.specs.Grammar.{HasHead, IsSlot, IsSlotFault}
 use Rattle.page_codec.specs.declared.fault.PageFault.{PageFault}
 use Rattle.page_codec.specs.declared.forms.PageHead.{PageHead}
+use Rattle.image_model.specs.Windows.{LeadsToData}
+use Rattle.replay_map.specs.Reads.{AreLeading, LeadToData}
 use Rattle.replay_map.specs.Pages.{AreSaid, HasSlotFault, IsReadAs, IsRefused, SaysSlot, Stands}
 use Rattle.replay_map.specs.declared.changes.SlotId.{SlotId}
 
@@ -39,6 +41,18 @@ pub refused_at : (head : PageHead) (block : List ℕ) (changes : List (SlotId ×
     → slot < PAGE_SLOTS → AreSaid head block changes slot mappings → HasSlotFault head block changes slot fault → IsRefused head block changes fault
 refused_at head block changes slot mappings fault inside were here =
     inr (slot, inside, λ i below. (slice_index_or mappings i Unmapped, were i below), here)
+
+-- a slot leads to a data block, or to none
+slot_leads : (head : PageHead) (block : List ℕ) (changes : List (SlotId × Mapping)) (slot : ℕ) (mapping : Mapping) → head.page.level < 2 ^ 8 → LeadToData head.geometry changes
+    → SaysSlot head block changes slot mapping → LeadsToData head.geometry mapping
+slot_leads head block changes slot mapping low lead (inl put) = lead head.page slot mapping low put
+slot_leads head block changes slot Unmapped low lead (inr own) = tt
+slot_leads head block changes slot Zero low lead (inr own) = tt
+slot_leads head block changes slot (At at) low lead (inr own) = own.1.held.0
+
+pub are_leading : (head : PageHead) (block : List ℕ) (changes : List (SlotId × Mapping)) (mappings : List Mapping) → head.page.level < 2 ^ 8
+    → AreSaid head block changes PAGE_SLOTS mappings → LeadToData head.geometry changes → AreLeading head.geometry mappings
+are_leading head block changes mappings low said lead slot inside = slot_leads head block changes slot (slice_index_or mappings slot Unmapped) low lead (said slot inside)
 
 -- In an image.
 

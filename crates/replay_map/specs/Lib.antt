@@ -1,3 +1,10 @@
 pub mod Changes
 pub mod Pages
 pub mod Links
+pub mod Reads
+pub mod Sums
+pub mod Taken
+pub mod Walks
+pub mod Replayed
+pub mod Shares
+pub mod Finding

@@ -3,9 +3,21 @@
 #![tactic(auto)]
 
 mod changes;
+mod finding;
+mod found;
+mod laws;
 mod links;
 mod pages;
+mod recovered;
+mod replaying;
+mod sharing;
+mod taking;
+mod walking;
 
 pub use changes::{Changes, SlotId};
+pub use found::SlotChange;
+pub use laws::reads_show_the_map;
 pub use links::{Link, links_of};
 pub use pages::read_page;
+pub use recovered::RecoveredMap;
+pub use replaying::{replay, replay_with};

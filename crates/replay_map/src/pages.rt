@@ -6,6 +6,7 @@ ghost use Rattle.image_model.specs.Faults.{HasFault};
 ghost use Rattle.image_model.specs.Maps.{Image};
 ghost use Rattle.page_codec.specs.Grammar.{HasHead};
 ghost use Rattle.replay_map.specs.Pages.{AreSaid, HasSlotFault, IsReadAs, IsRefused, SaysSlot, Stands};
+ghost use Rattle.replay_map.specs.Reads.{AreLeading, LeadToData};
 
 use crate::Changes;
 use blk_base::{Block, Mapping, Mappings, PAGE_SLOTS};
@@ -24,6 +25,7 @@ pub fn read_page(
 ) -> Result<(), PageFault>
     requires geometry { IsGeometry want.now.geometry }
     ensures ok { OnOk result ((image : Image) → Stands image want.now block.now changes.now → IsReadAs image want.now into.new) }
+    ensures data { OnOk result (LeadToData want.now.geometry changes.now → AreLeading want.now.geometry into.new) }
     ensures fault { IfErr result (λ fault. (image : Image) → Stands image want.now block.now changes.now
         → HasFault image want.now.page want.now.at fault) }
 {

@@ -1,0 +1,4 @@
+pub mod TallyLaws
+pub mod ReportLaws
+pub mod AuditLaws
+pub mod Rows

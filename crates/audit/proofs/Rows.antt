@@ -1,0 +1,160 @@
+-- For each definition a small case that it accepts, and one that it refuses.
+use Rattle.std.proofs.Common.{ℕ, zero, suc, ◌≡◌, ◌+◌, Bool, true, List, [], ◌∷◌, length, Contains, reverse, refl, ◌∙◌, ap, subst, inl, inr, arith, length-append}
+use Rattle.blk_base.specs.declared.geometry.Geometry.{Geometry}
+use Rattle.blk_base.specs.declared.geometry.Super.{Super as Superblock}
+use Rattle.blk_base.specs.declared.place.Pbn.{Pbn}
+use Rattle.count_updates.specs.Numbers.{all_blocks}
+use Rattle.disk_model.specs.Seen.{Seen}
+use Rattle.disk_model.specs.Since.{reads_of}
+use Rattle.image_model.proofs.CountLaws.{none_in_nothing}
+use Rattle.image_model.proofs.Example.{pbn, small}
+use Rattle.image_model.specs.Maps.{Image}
+use Rattle.image_model.specs.declared.fault.ImageFault.TheVariants.{Window, Counts, Unclean}
+use Rattle.journal_window.specs.States.{WindowState}
+use Rattle.replay_map.specs.declared.links.Link.{Link}
+use Rattle.audit.specs.Audits.{AreBothRead, AuditWithFails, IsOpenedTo}
+use Rattle.audit.specs.Reports.{AreRising, AreUsed, Differs, IsReport}
+use Rattle.audit.specs.Tallies.{AreTallied, IsChanged, IsLinked, Tallies, differences_below, place_of_number, used_in}
+use Rattle.audit.specs.declared.forms.Difference.{Difference}
+use Rattle.audit.specs.declared.forms.Report.{Report}
+
+-- Numbers of blocks. A leaf stands at 85.
+abbrev leaf : Link
+leaf = record { page = record { tree = 0; level = 0; index = 0 }; at = pbn 85 }
+
+linked : IsLinked (leaf ∷ []) (pbn 85)
+linked = (leaf, (0, omega arith, refl), refl)
+
+not_linked : IsLinked (leaf ∷ []) (pbn 86) → ⊥
+not_linked (link, (zero, inside, is), at) = let block = ap (λ (l : Link). l.at.0) is in let here = ap (λ (b : Pbn). b.0) at in omega (arith, block, here)
+not_linked (link, (suc k, inside, is), at) = omega (arith, inside)
+
+page_and_address : Tallies (leaf ∷ []) (pbn 86 ∷ pbn 85 ∷ pbn 86 ∷ []) (pbn 85) 2
+page_and_address = record { pages = 1; one_page = inl (refl, linked); sum = refl }
+
+two_addresses : Tallies (leaf ∷ []) (pbn 86 ∷ pbn 85 ∷ pbn 86 ∷ []) (pbn 86) 2
+two_addresses = record { pages = 0; one_page = inr (refl, not_linked); sum = refl }
+
+-- one_page: a page counts one
+page_left_out : Tallies (leaf ∷ []) [] (pbn 85) 0 → ⊥
+page_left_out is = let sum = is.sum in elim is.one_page [
+  | inl one ↦ let pages = one.0 in omega (arith, sum, pages)
+  | inr none ↦ none.1 linked
+]
+
+-- sum: and each address does
+address_left_out : Tallies [] (pbn 86 ∷ pbn 86 ∷ []) (pbn 86) 1 → ⊥
+address_left_out is = let sum : 1 ≡ 2 + is.pages = is.sum in omega (arith, sum)
+
+-- size, each: a number for each data block, and the right one
+too_few : AreTallied small [] [] [] → ⊥
+too_few are = let size = are.size in omega (arith, size)
+
+first_is_one : (counts : List ℕ) → AreTallied small [] [] (1 ∷ counts) → ⊥
+first_is_one counts are =
+    let is = are.each (record { slab = 0; offset = 0 }) (omega arith, omega arith) in
+    let sum : 1 ≡ 0 + is.pages = is.sum in
+    elim is.one_page [
+      | inl one ↦ none_in_nothing one.1.0 one.1.1
+      | inr none ↦ let pages = none.0 in omega (arith, sum, pages)
+    ]
+
+-- size, here, others: the number of block 86 is changed, and no other
+one_shorter : (numbers : List ℕ) → IsChanged small (pbn 86) (λ n. n + 1) (1 ∷ numbers) numbers → ⊥
+one_shorter numbers is = let size = is.size in omega (arith, size)
+
+not_changed : (numbers : List ℕ) → IsChanged small (pbn 86) (λ n. n + 1) (0 ∷ 5 ∷ numbers) (0 ∷ 5 ∷ numbers) → ⊥
+not_changed numbers is = let same : 5 ≡ 6 = is.here (record { slab = 0; offset = 1 }) (omega arith, omega arith) refl in omega (arith, same)
+
+another_changed : (numbers : List ℕ) → IsChanged small (pbn 86) (λ n. n + 1) (0 ∷ 5 ∷ numbers) (1 ∷ 6 ∷ numbers) → ⊥
+another_changed numbers is =
+    let same : 1 ≡ 0 = is.others (record { slab = 0; offset = 0 }) (omega arith, omega arith) (λ block. let number = ap (λ (b : Pbn). b.0) block in omega (arith, number)) in
+    omega (arith, same)
+
+-- The data blocks in their order, and those that differ.
+last_of_slab : place_of_number (record small { slabs = 2 }) 63 ≡ record { slab = 0; offset = 63 }
+last_of_slab = refl
+
+first_of_next : place_of_number (record small { slabs = 2 }) 64 ≡ record { slab = 1; offset = 0 }
+first_of_next = refl
+
+second_differs : differences_below small (1 ∷ 2 ∷ 3 ∷ []) (1 ∷ 3 ∷ 4 ∷ []) 2 ≡ record { at = pbn 86; stored = 2; mapped = 3 } ∷ []
+second_differs = refl
+
+none_differs : differences_below small (1 ∷ 2 ∷ []) (1 ∷ 2 ∷ []) 2 ≡ []
+none_differs = refl
+
+two_used : used_in (0 ∷ 3 ∷ 1 ∷ []) ≡ 2
+two_used = refl
+
+-- Reports. apart: equal numbers are no difference; stands: it is named by its block, which is a data block
+equal_numbers : (image : Image) → Differs image (record { at = pbn 86; stored = 2; mapped = 2 }) → ⊥
+equal_numbers image is = is.apart refl
+
+no_data_block : (image : Image) → Differs image (record { at = pbn 0; stored = 2; mapped = 1 }) → ⊥
+no_data_block image is = let block = ap (λ (b : Pbn). b.0) is.stands in omega (arith, block)
+
+abbrev at : ℕ → Difference
+at n = record { at = pbn n; stored = 1; mapped = 2 }
+
+they_rise : AreRising (at 85 ∷ at 87 ∷ at 90 ∷ [])
+they_rise = ((omega arith, (omega arith, tt)), ((omega arith, tt), (tt, tt)))
+
+they_fall : AreRising (at 85 ∷ at 90 ∷ at 87 ∷ []) → ⊥
+they_fall rising = let less = rising.1.0.0 in omega (arith, less)
+
+named_twice : AreRising (at 85 ∷ at 85 ∷ []) → ⊥
+named_twice rising = let less = rising.0.0 in omega (arith, less)
+
+-- size: how many are used is counted of all data blocks
+used_of_none : (image : Image) (used : ℕ) → image.geometry ≡ small → (are : AreUsed image used) → are.counts ≡ [] → ⊥
+used_of_none image used same are none =
+    let size = are.size in
+    let all = ap all_blocks same in
+    let length_is = ap length none in
+    omega (arith, size, all, length_is)
+
+-- sum: and so many
+used_otherwise : (image : Image) → (are : AreUsed image 3) → are.counts ≡ 0 ∷ 3 ∷ 1 ∷ [] → ⊥
+used_otherwise image are same = let sum = are.sum ∙ ap used_in same in omega (arith, sum)
+
+-- each: a block that differs is listed, and no other
+left_out : (image : Image) (report : Report) (difference : Difference) → Differs image difference → report.differs.items ≡ [] → IsReport image report → ⊥
+left_out image report difference differs none is =
+    none_in_nothing difference (subst (λ (ds : List Difference). Contains ds difference) none ((is.each difference).1 differs))
+
+listed_wrongly : (image : Image) (report : Report) (difference : Difference) → (Differs image difference → ⊥) → Contains report.differs.items difference → IsReport image report → ⊥
+listed_wrongly image report difference same has is = same ((is.each difference).0 has)
+
+-- rising
+out_of_order : (image : Image) (report : Report) → report.differs.items ≡ at 90 ∷ at 85 ∷ [] → IsReport image report → ⊥
+out_of_order image report list is = let rising : AreRising (at 90 ∷ at 85 ∷ []) = subst AreRising list is.rising in let less = rising.0.0 in omega (arith, less)
+
+-- all
+one_too_few : (image : Image) (report : Report) → image.geometry ≡ small → report.total ≡ 63 → IsReport image report → ⊥
+one_too_few image report same total is = let all = is.all ∙ ap all_blocks same in omega (arith, all, total)
+
+-- What was read. All slabs are read.
+no_slab_read : (tells honest : Bool) (head : Superblock) (seen : Seen) → head.geometry ≡ small → AreBothRead tells honest head seen seen [] [] → ⊥
+no_slab_read tells honest head seen same are =
+    let count = are.slabs_read.count in
+    let slabs = ap (λ (g : Geometry). g.slabs) same in
+    omega (arith, count, slabs)
+
+-- Superblock and journal were read: a device that tells has them in its log.
+not_opened : (honest : Bool) (head : Superblock) (window : WindowState) (seen : Seen) → IsOpenedTo true honest seen seen head window → ⊥
+not_opened honest head window seen is =
+    let first = ap length (is.head_read.read.logged refl) in
+    let second = ap length (is.window_read.1.read.logged refl) in
+    let more = length-append (reads_of 1 (reverse is.window_read.0)) is.middle.log in
+    omega (arith, first, second, more)
+
+-- Once both were read no fault of theirs comes, nor one that only other calls give.
+no_super : (tells honest : Bool) (head : Superblock) (window : WindowState) (before now : Seen) → AuditWithFails tells honest head window before now (Window 7) → ⊥
+no_super tells honest head window before now fails = fails
+
+no_counts : (tells honest : Bool) (head : Superblock) (window : WindowState) (before now : Seen) → AuditWithFails tells honest head window before now (Counts (pbn 86) 2 1) → ⊥
+no_counts tells honest head window before now fails = fails
+
+not_unclean : (tells honest : Bool) (head : Superblock) (window : WindowState) (before now : Seen) → AuditWithFails tells honest head window before now Unclean → ⊥
+not_unclean tells honest head window before now fails = fails

@@ -1,0 +1,106 @@
+ghost use Rattle.std.specs.Prelude.{◌≡◌, ◌≤◌, IfOk, IfErr, length};
+ghost use Rattle.blk_base.specs.Limits.{IsGeometry};
+ghost use Rattle.blk_base.specs.Regions.{needed_blocks};
+ghost use Rattle.count_updates.specs.Numbers.{all_blocks};
+ghost use Rattle.disk_model.specs.Log.{Blocks};
+ghost use Rattle.disk_model.specs.Since.{IsUntouched};
+ghost use Rattle.image_model.specs.Maps.{Image};
+ghost use Rattle.journal_window.specs.Windows.{IsWindowOf};
+ghost use Rattle.replay_counts.specs.Recovered.{HasCounts};
+ghost use Rattle.replay_map.specs.Replayed.{HasMap, MapFails};
+ghost use Rattle.audit.specs.Audits.{AuditFails, AuditWithFails, IsAudited, IsAuditedWith, LaterFails};
+ghost use Rattle.audit.specs.Reports.{IsReport};
+
+use crate::Report;
+use crate::comparing::compare;
+use crate::tallying::tally;
+use blk_base::{Layout, Super};
+use disk_model::Disk;
+use image_model::ImageFault;
+use image_opening::read_head;
+use journal_window::{JournalWindow, read_window};
+use replay_counts::{RecoveredCounts, counts_with};
+use replay_map::{RecoveredMap, replay_with};
+use std::alloc::{AllocError, Global};
+
+/// Compares the stored count of each data block of the image on a device with the number of its mappings. It reads block 0,
+/// the recovery journal, each linked page, and of each slab its counters and its journal, each block once, and writes
+/// nothing. The last session needn't be closed.
+///
+/// The image is refused with its first fault, over the whole image, in this order: `Super`, `Window`, `Page`, `Counter`,
+/// `SharedPage`. `Device` comes only where a read failed, and `Memory` only for want of memory.
+pub fn audit<D: Disk>(alloc: Global, device: &mut D) -> Result<Report, ImageFault>
+    ensures report { IfOk result (IsAudited D.tells D.honest (D.seen device.old) (D.seen device.new)) }
+    ensures fault { IfErr result (AuditFails D.tells D.honest (D.seen device.old) (D.seen device.new)) }
+    ensures untouched { IsUntouched D.tells (D.seen device.old) (D.seen device.new) }
+{
+    let head = read_head(device)?;
+    let window = read_window(alloc, &head, device)?;
+    match audit_with(alloc, &head, &window, device) {
+        Ok(report) => Ok(report),
+        Err(fault) => Err(fault),
+    }
+}
+
+// The same from the superblock and the window on.
+fn audit_with<D: Disk>(
+    alloc: Global,
+    head: &Super,
+    window: &JournalWindow,
+    device: &mut D,
+) -> Result<Report, ImageFault>
+    requires sizes { IsGeometry head.now.geometry }
+    requires room { needed_blocks head.now.geometry ≤ (D.seen device.old).size }
+    requires window { (journal : Blocks) × IsWindowOf head.now journal window.now }
+    ensures report { IfOk result (IsAuditedWith D.tells D.honest head.now window.now (D.seen device.old) (D.seen device.new)) }
+    ensures fault { IfErr result (AuditWithFails D.tells D.honest head.now window.now (D.seen device.old) (D.seen device.new)) }
+    ensures untouched { IsUntouched D.tells (D.seen device.old) (D.seen device.new) }
+{
+    let map = match replay_with(alloc, head, window, device) {
+        Ok(map) => map,
+        Err(fault) => return Err(first_fault(alloc, head, window, fault, device)),
+    };
+    let counts = counts_with(alloc, head, window.entries(), device)?;
+    let Ok(report) = report_of(alloc, &Layout::of(&head.geometry), &map, &counts) else {
+        return Err(ImageFault::Memory);
+    };
+    Ok(report)
+}
+
+// The first of this fault of the map and those of the counts, which stand before a page that is shared.
+fn first_fault<D: Disk>(
+    alloc: Global,
+    head: &Super,
+    window: &JournalWindow,
+    fault: ImageFault,
+    device: &mut D,
+) -> ImageFault
+    requires sizes { IsGeometry head.now.geometry }
+    requires room { needed_blocks head.now.geometry ≤ (D.seen device.old).size }
+    requires window { (journal : Blocks) × IsWindowOf head.now journal window.now }
+    ensures fault { LaterFails D.tells D.honest head.now window.now fault (D.seen device.old) (D.seen device.new) result }
+    ensures untouched { IsUntouched D.tells (D.seen device.old) (D.seen device.new) }
+{
+    let ImageFault::SharedPage { .. } = fault else {
+        return fault;
+    };
+    match counts_with(alloc, head, window.entries(), device) {
+        Ok(_counts) => fault,
+        Err(earlier) => earlier,
+    }
+}
+
+// The report of each image with this map and these counts.
+fn report_of(
+    alloc: Global,
+    layout: &Layout,
+    map: &RecoveredMap,
+    counts: &RecoveredCounts,
+) -> Result<Report, AllocError>
+    requires { length counts.now.counts.items ≡ all_blocks layout.now.geometry }
+    ensures { IfOk result (λ report. (image : Image) → image.geometry ≡ layout.now.geometry → HasMap image map.now
+        → HasCounts image counts.now.counts.items counts.now.sectors.items → IsReport image report) }
+{
+    let mapped = tally(alloc, layout, &map.links, &map.mapped)?;
+    compare(alloc, layout, &counts.counts, &mapped)
+}

@@ -1,0 +1,52 @@
+-- The laws of recovery as they are promised.
+use Rattle.std.proofs.Common.{ℕ, ◌≡◌, ◌<◌, List, [], ◌∷◌, ◌++◌, length, refl, sym, ◌∙◌, ap, subst, arith, append_assoc}
+use Rattle.blk_base.specs.declared.geometry.Geometry.{Geometry}
+use Rattle.disk_model.specs.declared.call.Call.{Call}
+use Rattle.disk_model.specs.Images.{IsImage, HasOneImage}
+use Rattle.disk_model.specs.Log.{Blocks, block_at}
+use Rattle.image_format.specs.Runs.{as_failed}
+use Rattle.image_model.specs.Maps.{Image}
+use Rattle.image_model.specs.Sound.{IsDataPlace}
+use Rattle.recovery_laws.specs.Calls.{ArePuts, recovery_calls}
+use Rattle.recovery_laws.specs.Kept.{AreStopsKept, IsRecovered, IsToRecover, SayTheSame, image_in}
+use Rattle.recovery_laws.proofs.CallLaws.{at_last_one, failure_kept, moment_kept}
+
+pub same_again : (old middle new : Image) → SayTheSame old middle → SayTheSame middle new → SayTheSame old new
+same_again old middle new first second = record {
+  geometry = second.geometry ∙ first.geometry;
+  map = record { pages = λ page. first.map.pages page ∙ second.map.pages page; mappings = λ address. first.map.mappings address ∙ second.map.mappings address };
+  values = λ address. second.values address ∙ first.values address;
+  counts = λ place count inside.
+      let inside_too : IsDataPlace middle.geometry place = subst (λ (g : Geometry). IsDataPlace g place) (sym first.geometry) inside in
+      let one = first.counts place count inside in
+      let two = second.counts place count inside_too in
+      ((λ is. one.0 (two.0 is)), (λ is. two.1 (one.1 is)));
+}
+
+module _ (opening blocks : Blocks) (first puts : List Call) (to : IsToRecover opening first blocks) (are : ArePuts (image_in blocks to.sound) puts) where
+  abbrev image : Image
+  image = image_in blocks to.sound
+
+  abbrev all_calls : List Call
+  all_calls = recovery_calls image to.sound.last puts
+
+  whole : (b : ℕ) → b < length blocks → length (block_at blocks b) ≡ 4096
+  whole b below = to.one.whole b (let size = to.one.size in omega (arith, size, below))
+
+  moments : (front calls : List Call) → all_calls ≡ front ++ calls → AreStopsKept image opening first calls
+  moments front calls parts newer older now same is =
+      moment_kept blocks to.sound to.named to.unclean whole puts are opening first to.one (front ++ newer) older now
+      (parts ∙ ap (λ (list : List Call). front ++ list) same ∙ sym (append_assoc front newer older)) is
+
+  pub stops : AreStopsKept image opening first all_calls
+  stops = moments [] all_calls refl
+
+  pub failures : (front done : List Call) (call : Call) → all_calls ≡ front ++ (call ∷ done) → AreStopsKept image opening first (as_failed call ∷ done)
+  failures front done call parts [] older now same is =
+      failure_kept blocks to.sound to.named to.unclean whole puts are opening first to.one front done call now parts
+      (subst (λ (calls : List Call). IsImage opening (calls ++ first) now) (sym same) is)
+  failures front done call parts (other ∷ newer) older now same is =
+      moments (front ++ (call ∷ [])) done (parts ∙ sym (append_assoc front (call ∷ []) done)) newer older now (cc same) is
+
+  pub recovered : (now : Blocks) × HasOneImage opening (all_calls ++ first) now × IsRecovered image to.sound.last now
+  recovered = at_last_one blocks to.sound to.named to.unclean whole puts are opening first to.one

@@ -1,0 +1,50 @@
+-- What recovery keeps of an image.
+use Rattle.std.specs.Prelude.{ℕ, ◌≡◌, ◌+◌, ◌^◌, ◌<◌, ◌↔◌, ◌++◌, true, false, List, Ok}
+use Rattle.blk_base.specs.declared.geometry.Geometry.{Geometry}
+use Rattle.blk_base.specs.declared.geometry.Super.{Super}
+use Rattle.blk_base.specs.declared.layout.DataPlace.{DataPlace}
+use Rattle.disk_model.specs.declared.call.Call.{Call}
+use Rattle.disk_model.specs.Images.{IsImage, HasOneImage}
+use Rattle.disk_model.specs.Log.{Blocks}
+use Rattle.image_model.specs.Counts.{Stores}
+use Rattle.image_model.specs.Maps.{Image, HaveSameMap, value_of}
+use Rattle.image_model.specs.Sound.{IsDataPlace, IsSound, image_of}
+
+-- two images say the same: of the same sizes, each address has the same mapping and value, and each data block the same stored count
+pub record SayTheSame (old new : Image) : Type 0 where
+  pub geometry : new.geometry ≡ old.geometry
+  pub map : HaveSameMap old new
+  pub values : (address : ℕ) → value_of new address ≡ value_of old address
+  pub counts : (place : DataPlace) (count : ℕ) → IsDataPlace old.geometry place → Stores new place (Ok count) ↔ Stores old place (Ok count)
+
+-- these blocks are a sound image that says the same
+pub record AreKept (old : Image) (blocks : Blocks) : Type 0 where
+  pub sound : IsSound blocks
+  pub same : SayTheSame old (image_of sound.head blocks sound.window)
+
+-- Whatever a stop leaves at each moment since the log was the first one, once all these calls were made and before: the
+-- same image.
+abbrev pub AreStopsKept : Image → Blocks → List Call → List Call → Type 0
+AreStopsKept old opening first calls =
+    (newer older : List Call) (now : Blocks) → calls ≡ newer ++ older → IsImage opening (older ++ first) now → AreKept old now
+
+-- The superblock that recovery writes: closed, and the next session begins two behind the last sequence, so that a block
+-- of the next one that was torn stays below every later session.
+abbrev pub recovered_super : Geometry → ℕ → Super
+recovered_super g last = record { geometry = g; clean = true; start = last + 2 }
+
+-- the image was recovered: it says the same, is closed, and the next session begins there
+pub record IsRecovered (old : Image) (last : ℕ) (blocks : Blocks) : Type 0 where
+  pub kept : AreKept old blocks
+  pub closed : kept.sound.head ≡ recovered_super old.geometry last
+
+-- An image to recover: nothing is pending on its device, it is sound, and its last session wasn't closed.
+pub record IsToRecover (opening : Blocks) (first : List Call) (blocks : Blocks) : Type 0 where
+  pub one : HasOneImage opening first blocks
+  pub sound : IsSound blocks
+  pub unclean : sound.head.clean ≡ false
+  pub named : sound.head.geometry.nonce < 2 ^ 64
+
+-- it, as it is opened
+abbrev pub image_in : (blocks : Blocks) → IsSound blocks → Image
+image_in blocks sound = image_of sound.head blocks sound.window

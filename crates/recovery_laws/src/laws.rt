@@ -1,0 +1,37 @@
+ghost use Rattle.std.specs.Prelude.{◌≡◌, ◌∷◌, ◌++◌, false, List, Ok};
+ghost use Rattle.disk_model.specs.declared.call.Call.{Call};
+ghost use Rattle.disk_model.specs.Images.{HasOneImage};
+ghost use Rattle.disk_model.specs.Log.{Blocks};
+ghost use Rattle.image_format.specs.Runs.{as_failed};
+ghost use Rattle.image_layout.specs.Opened.{super_of_image};
+ghost use Rattle.image_model.specs.Maps.{Image};
+ghost use Rattle.image_model.specs.Sound.{IsSound};
+ghost use Rattle.recovery_laws.specs.Calls.{ArePuts, recovery_calls};
+ghost use Rattle.recovery_laws.specs.Kept.{AreKept, AreStopsKept, IsRecovered, IsToRecover, SayTheSame, image_in, recovered_super};
+ghost use Rattle.recovery_laws.specs.Written.{AreFull, AreUnderway};
+
+/// While an image is recovered it is sound and says the same, and afterwards it is closed too: of each of these, whatever
+/// way it came there. It does nothing.
+pub fn blocks_underway_say_the_same()
+    ensures underway { (blocks now : Blocks) (sound : IsSound blocks) → sound.head.clean ≡ false → AreUnderway (image_in blocks sound) now
+        → AreKept (image_in blocks sound) now }
+    ensures full { (blocks now : Blocks) (sound : IsSound blocks) → AreFull (image_in blocks sound) now
+        → super_of_image now ≡ Ok (recovered_super sound.head.geometry sound.last) → IsRecovered (image_in blocks sound) sound.last now }
+
+    // What says the same as what says the same does too: so a second recovery after a stop gives the same.
+    ensures again { (old middle new : Image) → SayTheSame old middle → SayTheSame middle new → SayTheSame old new }
+{}
+
+/// Recovery makes its writes in any order, with reads among them; then a flush, the superblock, and a flush. Whatever a
+/// stop leaves at any moment of that, also where a call failed and no other was made behind it, is sound and says the same;
+/// and afterwards nothing is pending and the image is closed. It does nothing.
+pub fn recovery_keeps_what_an_image_says()
+    ensures stops { (opening blocks : Blocks) (first puts : List Call) (to : IsToRecover opening first blocks) → ArePuts (image_in blocks to.sound) puts
+        → AreStopsKept (image_in blocks to.sound) opening first (recovery_calls (image_in blocks to.sound) to.sound.last puts) }
+    ensures failures { (opening blocks : Blocks) (first puts newer done : List Call) (call : Call) (to : IsToRecover opening first blocks)
+        → ArePuts (image_in blocks to.sound) puts → recovery_calls (image_in blocks to.sound) to.sound.last puts ≡ newer ++ (call ∷ done)
+        → AreStopsKept (image_in blocks to.sound) opening first (as_failed call ∷ done) }
+    ensures recovered { (opening blocks : Blocks) (first puts : List Call) (to : IsToRecover opening first blocks) → ArePuts (image_in blocks to.sound) puts
+        → (now : Blocks) × HasOneImage opening (recovery_calls (image_in blocks to.sound) to.sound.last puts ++ first) now
+        × IsRecovered (image_in blocks to.sound) to.sound.last now }
+{}

@@ -1,0 +1,6 @@
+//! What recovery keeps: the laws over definitions alone by which an image says the same at each moment of it.
+#![tactic(auto)]
+
+mod laws;
+
+pub use laws::{blocks_underway_say_the_same, recovery_keeps_what_an_image_says};

@@ -1,0 +1,34 @@
+-- What the pages of an image give together, by its changes.
+use Rattle.std.specs.Prelude.{ℕ, Bool, List}
+use Rattle.blk_base.specs.declared.geometry.Geometry.{Geometry}
+use Rattle.blk_base.specs.declared.place.Mapping.{Mapping}
+use Rattle.disk_model.specs.Seen.{Seen}
+use Rattle.image_model.specs.Faults.{IsPageFault, IsShareFault}
+use Rattle.image_model.specs.Maps.{Image, ArePagesGood}
+use Rattle.image_model.specs.declared.fault.ImageFault.{ImageFault}
+use Rattle.image_model.specs.declared.fault.ImageFault.TheVariants.{Super, Window, Page, Counter, SharedPage, Counts, Device, Unclean, Memory}
+use Rattle.replay_map.specs.Reads.{IsShown, ReadFails}
+use Rattle.replay_map.specs.Replayed.{HasMap}
+use Rattle.replay_map.specs.declared.changes.SlotId.{SlotId}
+use Rattle.replay_map.specs.declared.found.Found.{Found}
+use Rattle.replay_map.specs.declared.recovered.RecoveredMap.{RecoveredMap}
+
+-- the map with what was found, and this last sequence and so many entries
+abbrev pub map_with : Found → ℕ → ℕ → RecoveredMap
+map_with found last entries = record { links = found.links; slots = found.slots; mapped = found.mapped; last = last; entries = entries }
+
+-- what was found is the map of an image
+abbrev pub IsMapFound : Image → Found → Type 0
+IsMapFound image found = (last entries : ℕ) → HasMap image (map_with found last entries)
+
+-- why there is none: the first page that can't be read; or else the least shared block; a read that failed, or want of memory
+abbrev pub FindFails : Bool → Bool → Geometry → List (SlotId × Mapping) → Seen → Seen → ImageFault → Type 0
+FindFails tells honest g changes before now (Page at fault) = IsShown tells honest g changes before now (λ image. IsPageFault image at fault)
+FindFails tells honest g changes before now (SharedPage at) = IsShown tells honest g changes before now (λ image. ArePagesGood image × IsShareFault image at)
+FindFails tells honest g changes before now Device = ReadFails tells honest before now
+FindFails tells honest g changes before now Memory = Unit {0}
+FindFails tells honest g changes before now (Super fault) = ⊥
+FindFails tells honest g changes before now (Window sequence) = ⊥
+FindFails tells honest g changes before now (Counter at point) = ⊥
+FindFails tells honest g changes before now (Counts at stored mapped) = ⊥
+FindFails tells honest g changes before now Unclean = ⊥
