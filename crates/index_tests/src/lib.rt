@@ -9,6 +9,12 @@ mod chapters;
 #[cfg(test)]
 mod claims;
 #[cfg(test)]
+mod index;
+#[cfg(test)]
 mod sharing;
 #[cfg(test)]
+mod slow;
+#[cfg(test)]
 mod spelled;
+#[cfg(test)]
+mod steps;

@@ -1,5 +1,5 @@
 -- For each clause on names, records and chapters, a case that it accepts, and one that breaks it alone.
-use Rattle.std.specs.Prelude.{ℕ, zero, suc, ◌≡◌, ◌≢◌, ◌<◌, ◌≤◌, List, [], ◌∷◌, length, Option, Some, None, refl}
+use Rattle.std.specs.Prelude.{ℕ, zero, suc, ◌≡◌, ◌≢◌, ◌<◌, ◌≤◌, Bool, false, List, [], ◌∷◌, length, Option, Some, None, refl}
 use Rattle.std.proofs.Common.{ap, arith, get_or, length-take, length-drop, Less, Equal}
 use Rattle.std.proofs.lemmas.List.Elements.{All-cons}
 use Rattle.std.proofs.lemmas.List.Kept.{AllPairs-cons}
@@ -7,7 +7,9 @@ use Rattle.blk_base.specs.declared.place.Pbn.{Pbn}
 use Rattle.uds_chapters.specs.declared.entry.Record.{Record}
 use Rattle.uds_chapters.specs.declared.added.Added.TheVariants.{New, Replaced, Full}
 use Rattle.uds_chapters.specs.declared.found.PageFind.TheVariants.{At, Before, After, Absent, NotAPage}
-use Rattle.uds_chapters.specs.Names.{name_cmp, IsBelow, AreRising}
+use Rattle.uds_chapters.specs.Names.{name_cmp, IsBelow, AreRising, IsName, AreSorted}
+use Rattle.uds_chapters.specs.Tags.{some_tag, AreMarked, IsClosed}
+use Rattle.std.proofs.lemmas.Bool.{false≢true}
 use Rattle.uds_chapters.specs.Chapters.{location_of, with_record, Adds, records_in}
 use Rattle.uds_chapters.specs.Finds.{IsUnder, IsOver, Says, location_in}
 use Rattle.uds_chapters.specs.Places.{IsPlaceOf, IsGapFor}
@@ -210,3 +212,38 @@ not_the_gap_in_front = λ is. let over = is.behind 0 (one 0 0) (omega arith) (om
 
 not_the_gap_behind : ¬ IsGapFor two (5 ∷ []) 2
 not_the_gap_behind = λ is. let under = is.before 1 (one 0 0) (omega arith) in cc
+
+-- a name, and records with names that rise
+
+module _ (bytes : List ℕ) where
+  a_name_too_short : length bytes ≡ 15 → ¬ IsName bytes
+  a_name_too_short short = λ is. let size = is.size in omega (arith, size, short)
+
+a_byte_too_great : (bytes : List ℕ) → ¬ IsName (256 ∷ bytes)
+a_byte_too_great bytes = λ is. let small = is.bytes 0 in omega (arith, small)
+
+no_records_are_sorted : AreSorted []
+no_records_are_sorted = record { rising = λ i j d before inside. absurd (omega (arith, inside)); named = λ k d inside. absurd (omega (arith, inside)) }
+
+names_that_fall : ¬ AreSorted (one 2 85 ∷ one 1 86 ∷ [])
+names_that_fall = λ is. let less = is.rising 0 1 (one 0 0) (omega arith) (omega arith) in absurd cc
+
+names_of_one_byte : ¬ AreSorted (one 2 85 ∷ [])
+names_of_one_byte = λ is. let size = (is.named 0 (one 0 0) (omega arith)).size in omega (arith, size)
+
+-- the tags of a chapter
+
+no_tag_is_marked : AreMarked [] []
+no_tag_is_marked = λ k d inside. absurd (omega (arith, inside))
+
+a_tag_without_a_mark : ¬ AreMarked [] (one 2 85 ∷ [])
+a_tag_without_a_mark = λ is. false≢true (is 0 (one 0 0) (omega arith))
+
+a_chapter_not_sorted : (marks : List Bool) → ¬ IsClosed marks (one 2 85 ∷ one 1 86 ∷ [])
+a_chapter_not_sorted marks = λ is. let less = is.sorted.rising 0 1 (one 0 0) (omega arith) (omega arith) in absurd cc
+
+a_chapter_not_marked : ¬ IsClosed [] (one 2 85 ∷ [])
+a_chapter_not_marked = λ is. false≢true (is.marked 0 (one 0 0) (omega arith))
+
+no_record_has_a_tag : (tag : ℕ) → some_tag tag [] ≡ false
+no_record_has_a_tag tag = refl

@@ -1,6 +1,6 @@
 -- What records say of a name, and what adding one does to that.
-use Rattle.std.specs.Prelude.{ℕ, zero, suc, ◌≡◌, ◌≢◌, ◌<◌, ◌≤◌, ◌+◌, ◌*◌, List, [], ◌∷◌, ◌++◌, length, take, drop, All, Any, Option, None, Some, if◌then◌else◌, slice_set, refl}
-use Rattle.std.proofs.Common.{sym, ◌∙◌, ap, arith, get_or, length-drop, Ordering, Less, Equal, Greater}
+use Rattle.std.specs.Prelude.{ℕ, zero, suc, ◌≡◌, ◌≢◌, ◌<◌, ◌≤◌, ◌+◌, ◌*◌, List, [], ◌∷◌, ◌++◌, length, take, drop, All, Any, Option, None, Some, if◌then◌else◌, slice_index, slice_set, refl}
+use Rattle.std.proofs.Common.{sym, ◌∙◌, ap, subst, arith, get_or, length-drop, Ordering, Less, Equal, Greater}
 use Rattle.std.specs.List.{insert, refill}
 use Rattle.std.specs.Ordering.{match_ordering}
 use Rattle.std.specs.Str.{bytes_eq}
@@ -9,7 +9,7 @@ use Rattle.std.proofs.lemmas.List.Elements.{All-head, All-tail, All-cons}
 use Rattle.std.proofs.lemmas.List.Kept.{AllPairs-cons}
 use Rattle.blk_base.specs.declared.place.Pbn.{Pbn}
 use Rattle.uds_chapters.specs.declared.entry.Record.{Record}
-use Rattle.uds_chapters.specs.Names.{name_cmp, IsBelow, AreRising}
+use Rattle.uds_chapters.specs.Names.{name_cmp, IsBelow, AreRising, IsName, AreSorted}
 use Rattle.uds_chapters.specs.Chapters.{location_of, with_record, records_in}
 use Rattle.uds_chapters.specs.Places.{IsPlaceOf, IsGapFor}
 use Rattle.uds_chapters.proofs.NameLaws.{name_total, equal_names, own_name, below_apart, above_apart, turned, same_test, other_test, rising-head, rising-tail}
@@ -88,6 +88,16 @@ pub rising-with_record : (new : Record) (records : List Record) → AreRising re
 rising-with_record new [] rising = λ i j d before inside. absurd (omega arith)
 rising-with_record new (one ∷ records) rising =
     rising_step new one records (name_cmp one.name new.name) refl rising (rising-with_record new records (rising-tail one records rising))
+
+pub sorted-with_record : (new : Record) (records : List Record) → IsName new.name → AreSorted records → AreSorted (with_record new records)
+sorted-with_record new records name sorted = record {
+  rising = rising-with_record new records sorted.rising;
+  named = All-with_record (λ (one : Record). IsName one.name) new records name sorted.named;
+}
+
+-- what is read of a name says that it is one
+pub named : (name bytes : List ℕ) → bytes ≡ name → length bytes ≡ 16 → ((k : ℕ) → slice_index bytes k < 256) → IsName name
+named name bytes same size below = subst IsName same (record { size = size; bytes = below })
 
 -- where the record of a name stands, and where it would
 

@@ -3,3 +3,4 @@ pub mod Chapters
 pub mod Pages
 pub mod Finds
 pub mod Places
+pub mod Tags

@@ -1,5 +1,5 @@
 -- The order of names, and of the records that have them.
-use Rattle.std.specs.Prelude.{ℕ, ◌≡◌, List, AllPairs}
+use Rattle.std.specs.Prelude.{ℕ, ◌≡◌, ◌<◌, List, length, slice_index, All, AllPairs}
 use Rattle.std.specs.Ordering.{nat_cmp}
 use Rattle.std.specs.Cmp.Lexicographic.{slice_cmp}
 use Rattle.std.specs.declared.cmp.Ordering.{Ordering}
@@ -17,3 +17,17 @@ IsBelow one other = name_cmp one.name other.name ≡ Less
 -- each name is below those of all later records, so no name stands twice
 abbrev pub AreRising : List Record → Type 0
 AreRising records = AllPairs IsBelow records
+
+-- a name has 16 bytes
+pub record IsName (name : List ℕ) : Type 0 where
+  pub size : length name ≡ 16
+  pub bytes : (k : ℕ) → slice_index name k < 256
+
+-- each record has a name
+abbrev pub AreNamed : List Record → Type 0
+AreNamed records = All (λ one. IsName one.name) records
+
+-- the records of a chapter, whose names rise
+pub record AreSorted (records : List Record) : Type 0 where
+  pub rising : AreRising records
+  pub named : AreNamed records

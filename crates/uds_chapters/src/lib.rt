@@ -22,6 +22,7 @@ mod chapter;
 mod entry;
 mod found;
 mod laws;
+mod marks;
 mod open_chapter;
 mod ordered;
 mod reading;

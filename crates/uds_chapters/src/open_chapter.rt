@@ -1,5 +1,5 @@
-ghost use Rattle.std.specs.Prelude.{◌≡◌, ◌≤◌, [], length};
-ghost use Rattle.uds_chapters.specs.Names.{AreRising};
+ghost use Rattle.std.specs.Prelude.{◌≡◌, ◌<◌, ◌≤◌, ℕ, [], length, slice_index};
+ghost use Rattle.uds_chapters.specs.Names.{AreNamed, AreRising, AreSorted, IsName};
 ghost use Rattle.uds_chapters.specs.Chapters.{Adds};
 
 use crate::ordered::place_of;
@@ -19,13 +19,13 @@ pub struct OpenChapter {
 impl Model for OpenChapter {
     ghost use Rattle.std.specs.Prelude.{List};
     ghost use Rattle.uds_chapters.specs.declared.entry.Record.{Record};
-    ghost use Rattle.uds_chapters.specs.Names.{AreRising};
+    ghost use Rattle.uds_chapters.specs.Names.{AreSorted};
 
     ghost Value = { List Record };
 
     ghost view = { λ o. o.records.items };
 
-    ghost invariant = { λ o. AreRising o.records.items };
+    ghost invariant = { λ o. AreSorted o.records.items };
 }
 
 impl OpenChapter {
@@ -42,6 +42,7 @@ impl OpenChapter {
     pub fn records(&self) -> &[Record]
         ensures value { result.now ≡ self.now }
         ensures rising { AreRising self.now }
+        ensures named { AreNamed self.now }
         ensures few { length self.now ≤ 680 }
     {
         self.records.as_slice()
@@ -51,6 +52,8 @@ impl OpenChapter {
     pub fn add(&mut self, name: &Name, at: Pbn) -> Added
         ensures { Adds self.old self.new (record { name = name.now; at = at }) result }
     {
+        // For the proof alone, as what it calls does nothing.
+        is_name(name);
         let record = Record { name: *name, at };
         match place_of(self.records.as_slice(), name) {
             Ok(place) => {
@@ -68,9 +71,20 @@ impl OpenChapter {
     /// Closes the chapter: its records become those of the chapter with this number, and the open chapter is empty.
     pub fn close(&mut self, number: u32) -> Chapter
         ensures closed { result ≡ record { number = number; records = self.old } }
-        ensures sorted { AreRising self.old }
+        ensures sorted { AreSorted self.old }
         ensures empty { self.new ≡ [] }
     {
         Chapter::new(number, self.records.take())
     }
 }
+
+// A name has 16 bytes, each below 256.
+fn is_name(name: &Name)
+    ensures { IsName name.now }
+{
+    are_bytes(name.as_bytes());
+}
+
+fn are_bytes(bytes: &[u8])
+    ensures { (k : ℕ) → slice_index bytes.now k < 256 }
+{}

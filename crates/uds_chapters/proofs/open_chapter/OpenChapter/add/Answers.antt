@@ -2,10 +2,10 @@ use Rattle.std.proofs.Common.{◌∙◌, List, length, ap, sym, subst, arith, re
 use Rattle.std.specs.Prelude.{IsSome, ◌≢◌}
 use Rattle.std.proofs.lemmas.Bool.{eqb-true, eq-eqb, false≢true}
 use Rattle.uds_chapters.specs.declared.entry.Record.{Record}
-use Rattle.uds_chapters.specs.Names.{AreRising}
+use Rattle.uds_chapters.specs.Names.{AreSorted}
 use Rattle.uds_chapters.specs.Chapters.{location_of, with_record}
 use Rattle.uds_chapters.specs.Places.{IsPlaceOf, IsGapFor}
-use Rattle.uds_chapters.proofs.RecordLaws.{with_record-place, with_record-gap, location-place, location-gap, rising-with_record, refilled}
+use Rattle.uds_chapters.proofs.RecordLaws.{with_record-place, with_record-gap, location-place, location-gap, sorted-with_record, refilled}
 use Rattle.uds_chapters.proofs.open_chapter.OpenChapter.add.Goals as goal
 
 pub invariant_of-self : goal.invariant_of-self
@@ -13,15 +13,16 @@ invariant_of-self c =
     let items = c.self.inside.records.items in
     let new : Record = record { name = c.args.name.now; at = c.args.at } in
     let at : IsPlaceOf items new.name c.in-Ok.place = subst (λ (rs : List Record). IsPlaceOf rs c.args.name.now c.in-Ok.place) c.as_slice.ensures.value c.in-Ok.ensures.found in
-    subst AreRising (sym (refilled items c.as_mut_slice.result.now c.in-Ok.place new c.as_mut_slice.ensures.value ∙ with_record-place new items c.in-Ok.place c.self.invariant at))
-    (rising-with_record new items c.self.invariant)
+    subst AreSorted (sym (refilled items c.as_mut_slice.result.now c.in-Ok.place new c.as_mut_slice.ensures.value ∙ with_record-place new items c.in-Ok.place c.self.invariant.rising at))
+    (sorted-with_record new items c.is_name.ensures c.self.invariant)
 
 pub invariant_of-self-in-Err-2 : goal.invariant_of-self-in-Err-2
 invariant_of-self-in-Err-2 c =
     let items = c.self.inside.records.items in
     let new : Record = record { name = c.args.name.now; at = c.args.at } in
     let gap : IsGapFor items new.name c.in-Err.field-0 = subst (λ (rs : List Record). IsGapFor rs c.args.name.now c.in-Err.field-0) c.as_slice.ensures.value c.in-Err.ensures.gap in
-    subst AreRising (sym (c.insert.ensures.items ∙ with_record-gap new items c.in-Err.field-0 gap)) (rising-with_record new items c.self.invariant)
+    subst AreSorted (sym (c.insert.ensures.items ∙ with_record-gap new items c.in-Err.field-0 gap))
+    (sorted-with_record new items c.is_name.ensures c.self.invariant)
 
 pub returns-in-Ok : goal.returns-in-Ok
 returns-in-Ok c =
@@ -29,8 +30,8 @@ returns-in-Ok c =
     let new : Record = record { name = c.args.name.now; at = c.args.at } in
     let at : IsPlaceOf items new.name c.in-Ok.place = subst (λ (rs : List Record). IsPlaceOf rs c.args.name.now c.in-Ok.place) c.as_slice.ensures.value c.in-Ok.ensures.found in (
       subst (λ (rs : List Record). IsSome (location_of c.args.name.now rs)) c.self.view_is
-          (subst IsSome (sym (location-place new.name items c.in-Ok.place new c.self.invariant at)) refl),
-      refilled items c.as_mut_slice.result.now c.in-Ok.place new c.as_mut_slice.ensures.value ∙ with_record-place new items c.in-Ok.place c.self.invariant at
+          (subst IsSome (sym (location-place new.name items c.in-Ok.place new c.self.invariant.rising at)) refl),
+      refilled items c.as_mut_slice.result.now c.in-Ok.place new c.as_mut_slice.ensures.value ∙ with_record-place new items c.in-Ok.place c.self.invariant.rising at
           ∙ ap (with_record new) c.self.view_is,
     )
 

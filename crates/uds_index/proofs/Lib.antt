@@ -1,0 +1,10 @@
+mod RoomLaws
+mod BookLaws
+mod SearchLaws
+mod CacheLaws
+mod LookRows
+mod TagLaws
+mod KeepLaws
+mod AddLaws
+mod LoadLaws
+mod LoadRows

@@ -1,0 +1,6 @@
+pub mod Rooms
+pub mod Places
+pub mod Loads
+pub mod Looks
+pub mod Least
+pub mod Held

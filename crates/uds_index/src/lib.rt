@@ -1,0 +1,14 @@
+//! The index of block names on the device: where blocks were stored last, in chapters that stand in the index blocks of an
+//! image.
+#![tactic(auto)]
+
+mod keeping;
+mod loading;
+mod page;
+mod searching;
+mod uds;
+mod volume;
+
+pub use page::Page;
+pub use uds::Uds;
+pub use volume::Volume;

@@ -1,0 +1,152 @@
+ghost use Rattle.std.specs.Prelude.{◌≡◌, ◌+◌, ◌*◌, ◌%◌, ◌<◌, ◌≤◌, ◌^◌, ◌↔◌, ◌⊎◌, IsTrue, length, take, filter, nat_eq, All};
+ghost use Rattle.std.specs.Map.{keys_of};
+ghost use Rattle.block_names.specs.Names.{tag_of};
+ghost use Rattle.uds_chapters.specs.Chapters.{Numbered};
+ghost use Rattle.index_advice.specs.Books.{has_tag, first_location};
+ghost use Rattle.uds_chapters.specs.Names.{AreRising};
+ghost use Rattle.uds_index.specs.Least.{least_name, IsFrom};
+ghost use Rattle.uds_index.specs.Looks.{IsPageAt, IsNew, FindsKept, place_of_block};
+ghost use Rattle.index_advice.specs.Orders.{IsChapter};
+ghost use Rattle.uds_index.specs.Rooms.{count_at};
+
+use blk_base::Pbn;
+use block_names::{Name, tag};
+use byte_fields::put_u32;
+use index_advice::Look;
+use lru::LruCache;
+use uds_chapters::{Chapter, Record, location, place_of};
+
+/// How many records a page has.
+const PAGE_RECORDS: usize = 170;
+
+/// How many chapters a look searches at most.
+const SEARCHED: u32 = 4;
+
+/// How many pages a look asks for at most, and how many of one chapter.
+const ASKED: usize = 12;
+
+const ASKED_OF_CHAPTER: usize = 3;
+
+/// Where the index stands on the device.
+#[derive(Clone, Copy, Debug)]
+pub(crate) struct Region {
+    /// The first index block.
+    pub(crate) first: u32,
+    /// How many chapters there is room for.
+    pub(crate) places: u32,
+}
+
+// What the kept chapters say of a name: the newest record in the four newest that have its tag, or that there is none, or
+// which of their pages is to be read first.
+pub(crate) fn find_kept(
+    region: Region,
+    kept: &[Chapter],
+    name: &Name,
+    cache: &LruCache<u32, ()>,
+    given: &[u32],
+) -> Look
+    requires some { 0 < region.places }
+    requires blocks { region.first + 4 * region.places < 2 ^ 32 }
+    requires chapters { All IsChapter kept.now }
+    ensures { FindsKept region.first region.places (take 4 (filter (has_tag (tag_of name.now)) kept.now)) (keys_of cache.now.entries) given.now name.now result }
+{
+    let tag = tag(name);
+    let mut left = SEARCHED;
+    for chapter in kept {
+        if left == 0 {
+            return Look::Nothing;
+        }
+        if has_tag(chapter, tag) {
+            left -= 1;
+            let at = page_of(region, chapter, name);
+            if may_read(region.first, at, cache, given) {
+                return Look::Read(Pbn(at));
+            }
+            if let Some(at) = location(chapter.records(), name) {
+                return Look::Known(at);
+            }
+        }
+    }
+    Look::Nothing
+}
+
+// Whether a chapter has a name with the tag. Where its marks don't tell, such names stand together, and the first of them is
+// found by halving.
+fn has_tag(chapter: &Chapter, wanted: u32) -> bool
+    ensures { result ≡ has_tag wanted chapter.now }
+{
+    if !chapter.may_have_tag(wanted) {
+        return false;
+    }
+    let records = chapter.records();
+    match records.get(first_not_below(records, &least_name(wanted))) {
+        Some(record) => tag(&record.name) == wanted,
+        None => false,
+    }
+}
+
+// The place of the first record whose name isn't below this one, or behind the last.
+fn first_not_below(records: &[Record], least: &Name) -> usize
+    requires { AreRising records.now }
+    ensures { IsFrom records.now least.now result }
+{
+    match place_of(records, least) {
+        Ok(place) => place,
+        Err(place) => place,
+    }
+}
+
+// The least name with a tag.
+fn least_name(tag: u32) -> Name
+    ensures { result ≡ least_name tag }
+{
+    let mut bytes = [0; 16];
+    put_u32(&mut bytes, 0, tag);
+    Name::new(bytes)
+}
+
+// The index block of the page on which a name stands in a chapter, or would stand.
+fn page_of(region: Region, chapter: &Chapter, name: &Name) -> u32
+    requires some { 0 < region.places }
+    requires blocks { region.first + 4 * region.places < 2 ^ 32 }
+    ensures { IsPageAt region.first region.places result chapter.now }
+{
+    let records = chapter.records();
+    let place = match place_of(records, name) {
+        Ok(place) => place,
+        Err(place) => place,
+    };
+    let page = (place / PAGE_RECORDS).min(3);
+    region.first + 4 * (chapter.number() % region.places) + page as u32
+}
+
+// Whether a look may ask for this block.
+fn may_read(first: u32, at: u32, cache: &LruCache<u32, ()>, given: &[u32]) -> bool
+    ensures { IsTrue result → IsNew first (keys_of cache.now.entries) given.now at }
+{
+    if cache.contains(&at) {
+        return false;
+    }
+    if given.contains(&at) {
+        return false;
+    }
+    given.len() < ASKED && given_of_chapter(first, at, given) < ASKED_OF_CHAPTER
+}
+
+// How many of the blocks stand in the same place of the index as this one.
+fn given_of_chapter(first: u32, at: u32, given: &[u32]) -> usize
+    ensures { result ≡ count_at (place_of_block first) (place_of_block first at) given.now }
+{
+    let mut count = 0;
+    for block in given {
+        count += usize::from(is_same_place(first, *block, at));
+    }
+    count
+}
+
+// Whether two index blocks stand in the same place.
+fn is_same_place(first: u32, block: u32, other: u32) -> bool
+    ensures { result ≡ nat_eq (place_of_block first block) (place_of_block first other) }
+{
+    block.saturating_sub(first) / 4 == other.saturating_sub(first) / 4
+}
