@@ -2,9 +2,10 @@
 use blk_base::Pbn;
 use command_text::{
     Audit, Difference, Formatted, Mode, Recovery, Space, Status, put_audit, put_formatted,
-    put_recovery, put_status,
+    put_layout_fault, put_recovery, put_status,
 };
 use disk_model::{Failed, MemSink};
+use image_layout::{Field, LayoutFault};
 use std::test::Fail;
 
 const IMAGE: Formatted = Formatted {
@@ -42,6 +43,29 @@ fn two_slabs_are_formatted(rt: HostRuntime) -> Result<(), Fail> {
     assert_eq!(rt;
         (put, out.bytes()),
         (Err(Failed), b"formatted 223 blocks, 2 slabs ".as_slice())
+    );
+    Ok(())
+}
+
+#[test]
+fn layouts_are_refused(rt: HostRuntime) -> Result<(), Fail> {
+    let mut out = MemSink::new(rt.alloc(), 1000)?;
+    let small = LayoutFault::TooSmall {
+        needed: 154,
+        has: 153,
+    };
+    put_layout_fault(small, &mut out)?;
+    put_layout_fault(LayoutFault::Size(Field::SlabBlocks), &mut out)?;
+    put_layout_fault(LayoutFault::LogicalTooLarge, &mut out)?;
+    put_layout_fault(LayoutFault::TooLargeToCrash { has: 70_000 }, &mut out)?;
+    assert_eq!(rt;
+        out.bytes(),
+        b"layout: needs 154 blocks, has 153
+layout: size slab-blocks
+layout: logical too large
+layout: too large to crash
+"
+            .as_slice()
     );
     Ok(())
 }

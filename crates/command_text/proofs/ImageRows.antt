@@ -8,7 +8,9 @@ use Rattle.command_text.specs.declared.parts.Recovery.TheVariants.{Clean, Entrie
 use Rattle.command_text.specs.declared.parts.DamagedPlace.TheVariants.{Page, Count}
 use Rattle.command_text.specs.declared.statuses.Mode.TheVariants as mode
 use Rattle.command_text.specs.Parts.{recovered_text, recovery_text, space_pieces, space_text, damaged_text, damage_text}
-use Rattle.command_text.specs.Formats.{slabs_text, formatted_text}
+use Rattle.command_text.specs.Formats.{slabs_text, formatted_text, layout_line}
+use Rattle.image_layout.specs.declared.fault.Field.TheVariants.{SlabBlocks}
+use Rattle.image_layout.specs.declared.fault.LayoutFault.TheVariants.{TooSmall, LogicalTooLarge, Size, TooLargeToCrash}
 use Rattle.command_text.specs.Audits.{difference_text, verdict_text, audit_text}
 use Rattle.command_text.specs.Statuses.{mode_text, sizes_text, status_text}
 
@@ -65,6 +67,18 @@ formatted_one = simp numerals refl
 pub formatted_two : formatted_text (record { blocks = 223; slabs = 2; slab_blocks = 64; logical = 2000 })
     ≡ codes "formatted 223 blocks, 2 slabs of 64, logical 2000\n"
 formatted_two = simp numerals refl
+
+pub layout_too_small : layout_line (TooSmall 154 85) ≡ codes "layout: needs 154 blocks, has 85\n"
+layout_too_small = simp numerals refl
+
+pub layout_too_large : layout_line LogicalTooLarge ≡ codes "layout: logical too large\n"
+layout_too_large = refl
+
+pub layout_size : layout_line (Size SlabBlocks) ≡ codes "layout: size slab-blocks\n"
+layout_size = refl
+
+pub layout_to_crash : layout_line (TooLargeToCrash 70000) ≡ codes "layout: too large to crash\n"
+layout_to_crash = refl
 
 abbrev pub stray : Difference
 stray = record { at = record { 0 = 86 }; stored = 2; mapped = 1 }

@@ -1,4 +1,5 @@
 pub mod ImageRows
+pub mod LayoutLaws
 pub mod LineLaws
 pub mod Numerals
 pub mod SessionRows

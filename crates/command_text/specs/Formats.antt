@@ -1,6 +1,8 @@
 -- What `format` prints.
-use Rattle.std.specs.Prelude.{ℕ, List, [], ◌∷◌, ◌==◌, codes, decimal, if◌then◌else◌}
+use Rattle.std.specs.Prelude.{ℕ, List, [], ◌∷◌, ◌++◌, ◌==◌, codes, decimal, if◌then◌else◌}
 use Rattle.std.specs.List.{concat}
+use Rattle.image_layout.specs.Planning.{layout_fault_text}
+use Rattle.image_layout.specs.declared.fault.LayoutFault.{LayoutFault}
 use Rattle.command_text.specs.declared.formats.Formatted.{Formatted}
 
 -- one slab is a slab
@@ -11,3 +13,7 @@ slabs_text slabs = if slabs == 1 then codes " slab of " else codes " slabs of "
 abbrev pub formatted_text : Formatted → List ℕ
 formatted_text image = concat (codes "formatted " ∷ decimal image.blocks ∷ codes " blocks, " ∷ decimal image.slabs ∷ slabs_text image.slabs
     ∷ decimal image.slab_blocks ∷ codes ", logical " ∷ decimal image.logical ∷ codes "\n" ∷ [])
+
+-- `layout: needs 154 blocks, has 153`
+abbrev pub layout_line : LayoutFault → List ℕ
+layout_line why = codes "layout: " ++ layout_fault_text why ++ codes "\n"

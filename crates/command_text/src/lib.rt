@@ -4,6 +4,7 @@
 mod audits;
 mod crashes;
 mod formats;
+mod layouts;
 mod parts;
 mod pieces;
 mod runs;
@@ -15,6 +16,7 @@ mod workloads;
 pub use audits::{Audit, Difference, put_audit};
 pub use crashes::{AddressValue, Crash, CrashStop, put_crash, put_crash_stop};
 pub use formats::{Formatted, put_formatted};
+pub use layouts::put_layout_fault;
 pub use parts::{DamagedPlace, Recovery, Space, put_recovery};
 pub use runs::{RunNotes, put_run};
 pub use sectors::{SectorAnswer, SectorAsked, SectorLine, put_sector_lines, put_sectors};

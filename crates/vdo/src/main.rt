@@ -1,77 +1,102 @@
-//! The program: it serves a script on a fresh image in memory.
+//! The program: it makes an image on a file, or serves a script on a fresh image in memory.
 #![tactic(auto)]
 
+mod arguments;
+
+use arguments::{CommandLine, Device, Obstacle, command_line};
 use blk_base::{Geometry, Layout};
-use disk_model::{MemDisk, OpenGate};
+use disk_model::{Disk, MemDisk, OpenGate};
+use file_disk::open_disk;
 use image_layout::first_image;
-use std::alloc::AllocError;
+use std::alloc::{AllocError, Global};
 use std::process::ExitCode;
-use std::{env, io};
-use vdo_cli::{StdSink, StdSource, Words, run};
+use std::sync::Wait;
+use std::thread::Threads;
+use vdo_cli::{Ended, StdSink, StdSource, Words, run};
 
-/// Why the program can't begin.
-enum Obstacle {
-    /// A word isn't UTF-8.
-    Usage,
-    /// Memory ran out.
-    Memory,
-}
-
-impl From<AllocError> for Obstacle {
-    fn from(_error: AllocError) -> Obstacle {
-        Obstacle::Memory
-    }
-}
-
-// The one thing that can fail in making a sink.
-impl From<io::Error> for Obstacle {
-    fn from(_error: io::Error) -> Obstacle {
-        Obstacle::Memory
-    }
-}
-
-/// The words behind the program's name; `run` where there are none.
-fn words(rt: &HostRuntime) -> Result<Words, Obstacle> {
-    let arguments = match env::args(rt) {
-        Ok(arguments) => arguments,
-        Err(error) if error.kind() == io::ErrorKind::OutOfMemory => return Err(Obstacle::Memory),
-        Err(_) => return Err(Obstacle::Usage),
-    };
-    let mut words = Words::new(rt.alloc());
-    let mut none = true;
-    for word in arguments.skip(1) {
-        words.push(word.as_str())?;
-        none = false;
-    }
-    if none {
-        words.push("run")?;
-    }
-    Ok(words)
-}
-
-/// A device with a fresh image.
-fn device(rt: &HostRuntime) -> Result<MemDisk, AllocError> {
-    let layout = Layout::of(&Geometry::DEFAULT);
-    let blocks = first_image(rt.alloc(), &Geometry::DEFAULT, &layout)?;
-    MemDisk::from_blocks(rt.alloc(), blocks)
-}
-
-/// What a run takes.
-struct Outside<'r> {
-    words: Words,
-    device: MemDisk,
+/// The standard streams.
+#[derive(Drop)]
+struct Streams<'r> {
     source: StdSource,
     sink: StdSink<'r>,
 }
 
-/// The words, a device with a fresh image, and the standard streams.
-fn prepare(rt: &HostRuntime) -> Result<Outside<'_>, Obstacle> {
-    Ok(Outside {
-        words: words(rt)?,
-        device: device(rt)?,
-        source: StdSource::new(rt.clone()?),
-        sink: StdSink::new(rt)?,
-    })
+impl<'r> Streams<'r> {
+    fn open(rt: &'r HostRuntime) -> Result<Streams<'r>, Obstacle> {
+        // The one thing that can fail is the memory in which output is collected.
+        let Ok(sink) = StdSink::new(rt) else {
+            return Err(Obstacle::Memory);
+        };
+        Ok(Streams {
+            source: StdSource::new(rt.clone()?),
+            sink,
+        })
+    }
+
+    /// A command on a device.
+    fn run<R: Threads + Wait + Sync, D: Disk + Send + Drop>(
+        &mut self,
+        rt: &R,
+        words: &Words,
+        device: D,
+    ) -> Ended<D> {
+        run(
+            rt,
+            words,
+            device,
+            &mut self.source,
+            &mut self.sink,
+            &OpenGate,
+        )
+    }
+}
+
+/// A device in memory with a fresh image.
+fn fresh(alloc: Global) -> Result<MemDisk, AllocError> {
+    let layout = Layout::of(&Geometry::DEFAULT);
+    let blocks = first_image(alloc, &Geometry::DEFAULT, &layout)?;
+    MemDisk::from_blocks(alloc, blocks)
+}
+
+/// A command on a device in memory, on which an image of the default sizes is made first; where that fails, its status.
+fn run_in_memory<R: Threads + Wait + Sync>(
+    rt: &R,
+    alloc: Global,
+    words: &Words,
+    blocks: u32,
+    streams: &mut Streams<'_>,
+) -> Result<u8, AllocError> {
+    let mut format = Words::new(alloc);
+    format.push("format")?;
+    let device = MemDisk::zeroed(alloc, blocks)?;
+    let made = streams.run(rt, &format, device);
+    if made.status != 0 {
+        return Ok(made.status);
+    }
+    Ok(streams.run(rt, words, made.device).status)
+}
+
+/// A command on its device. Threads are started by `threads`, and files opened by `rt`.
+fn run_on<R: Threads + Wait + Sync>(
+    threads: &R,
+    rt: &HostRuntime,
+    line: CommandLine,
+    streams: &mut Streams<'_>,
+) -> Result<u8, Obstacle> {
+    let CommandLine { device, words } = line;
+    match device {
+        Device::Fresh => {
+            let device = fresh(rt.alloc())?;
+            Ok(streams.run(threads, &words, device).status)
+        }
+        Device::Memory(blocks) => {
+            Ok(run_in_memory(threads, rt.alloc(), &words, blocks, streams)?)
+        }
+        Device::File(path, blocks) => match open_disk(rt, path.as_str(), blocks) {
+            Ok(file) => Ok(streams.run(threads, &words, file).status),
+            Err(_) => Err(Obstacle::Device),
+        },
+    }
 }
 
 /// The status of the program where a run ended with this one, and the last of its output was written or not: a sink that
@@ -80,21 +105,19 @@ fn status_at_end(status: u8, written: bool) -> u8 {
     if !written && status <= 1 { 7 } else { status }
 }
 
+/// The command that the words ask for, and its status.
+fn serve<R: Threads + Wait + Sync>(threads: &R, rt: &HostRuntime) -> Result<u8, Obstacle> {
+    let line = command_line(rt)?;
+    let mut streams = Streams::open(rt)?;
+    let status = run_on(threads, rt, line, &mut streams)?;
+    Ok(status_at_end(status, streams.sink.finish().is_ok()))
+}
+
 fn main(rt: HostRuntime) -> ExitCode {
-    let (text, status) = match prepare(&rt) {
-        Ok(
-            Outside {
-                words,
-                device,
-                mut source,
-                mut sink,
-            },
-        ) => {
-            let ended = run(&rt, &words, device, &mut source, &mut sink, &OpenGate);
-            let finished = sink.finish();
-            return ExitCode::from(status_at_end(ended.status, finished.is_ok()));
-        }
+    let (text, status) = match serve(&rt, &rt) {
+        Ok(status) => return ExitCode::from(status),
         Err(Obstacle::Usage) => ("usage", 2),
+        Err(Obstacle::Device) => ("device fault", 3),
         Err(Obstacle::Memory) => ("no memory", 5),
     };
     let _printed = println!(rt; "{text}");

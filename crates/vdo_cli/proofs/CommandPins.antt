@@ -1,9 +1,13 @@
--- Rows that pin which words are served, and by which schedule, computed.
+-- Rows that pin which words are served, and as what, computed.
 use Rattle.std.proofs.Common.{ℕ, ◌≡◌, true, false, List, [], ◌∷◌, Some, None, codes, refl}
+use Rattle.blk_base.specs.declared.geometry.Geometry.{Geometry}
 use Rattle.vdo_words.specs.declared.commands.Command.TheVariants.{Recover, Run}
+use Rattle.vdo_words.specs.declared.commands.Command.TheVariants.{Format as FormatCommand}
+use Rattle.vdo_words.specs.declared.commands.FormatOptions.{FormatOptions}
 use Rattle.vdo_words.specs.declared.commands.CoreOptions.{CoreOptions}
 use Rattle.vdo_words.specs.declared.commands.Drive.TheVariants.{Schedule, Threads}
-use Rattle.vdo_cli.specs.Commands.{are_default, number_of, schedule_in, schedule_of}
+use Rattle.vdo_cli.specs.declared.words.Served.TheVariants.{Script, Format}
+use Rattle.vdo_cli.specs.Commands.{are_default, number_of, served_in, served_of, sizes_of}
 
 -- the options of a core that has none
 abbrev core : CoreOptions
@@ -27,60 +31,71 @@ number_of_schedule number = refl
 no_number_of_threads : number_of Threads ≡ None
 no_number_of_threads = refl
 
--- schedule_in: `run` alone, with such a core and a schedule
-in_run : (number : ℕ) → schedule_in (Some (Run (record { drive = Schedule number; core = core }))) ≡ Some number
+-- sizes_of: each option is its size
+each_size_is_its_option : sizes_of (record { logical = 1; slabs = 2; slab_blocks = 3; journal = 4; index = 5; slab_journal = 6; height = 7; nonce = 8 })
+    ≡ record { logical = 1; slabs = 2; slab_blocks = 3; journal = 4; index = 5; slab_journal = 6; height = 7; nonce = 8 }
+each_size_is_its_option = refl
+
+-- served_in: `run` with such a core and a schedule, and `format`
+in_run : (number : ℕ) → served_in (Some (Run (record { drive = Schedule number; core = core }))) ≡ Some (Script number)
 in_run number = refl
 
-not_in_threads : schedule_in (Some (Run (record { drive = Threads; core = core }))) ≡ None
+not_in_threads : served_in (Some (Run (record { drive = Threads; core = core }))) ≡ None
 not_in_threads = refl
 
-not_with_another_core : (number : ℕ) → schedule_in (Some (Run (record { drive = Schedule number; core = record core { cache = 4 } }))) ≡ None
+not_with_another_core : (number : ℕ) → served_in (Some (Run (record { drive = Schedule number; core = record core { cache = 4 } }))) ≡ None
 not_with_another_core number = refl
 
-not_in_another_command : schedule_in (Some Recover) ≡ None
+in_format : (options : FormatOptions) → served_in (Some (FormatCommand options)) ≡ Some (Format (sizes_of options))
+in_format options = refl
+
+not_in_another_command : served_in (Some Recover) ≡ None
 not_in_another_command = refl
 
-not_in_no_command : schedule_in None ≡ None
+not_in_no_command : served_in None ≡ None
 not_in_no_command = refl
 
--- schedule_of: of words. Schedule 0 where none is given, else the one that is
+-- served_of: of words. Schedule 0 where none is given, else the one that is
 abbrev pub run_words : List (List ℕ)
 run_words = codes "run" ∷ []
 
-abbrev pub seven_words : List (List ℕ)
-seven_words = codes "run" ∷ codes "--schedule" ∷ codes "7" ∷ []
-
-pub run_by_0 : schedule_of run_words ≡ Some 0
+pub run_by_0 : served_of run_words ≡ Some (Script 0)
 run_by_0 = refl
 
-pub run_by_7 : schedule_of seven_words ≡ Some 7
+pub run_by_7 : served_of (codes "run" ∷ codes "--schedule" ∷ codes "7" ∷ []) ≡ Some (Script 7)
 run_by_7 = refl
 
-run_by_8 : schedule_of (codes "run" ∷ codes "--schedule=8" ∷ codes "--depth" ∷ codes "1" ∷ []) ≡ Some 8
+run_by_8 : served_of (codes "run" ∷ codes "--schedule=8" ∷ codes "--depth" ∷ codes "1" ∷ []) ≡ Some (Script 8)
 run_by_8 = refl
 
+-- the default sizes where none is given, else those that are
+abbrev pub format_words : List (List ℕ)
+format_words = codes "format" ∷ []
+
+abbrev pub default_sizes : Geometry
+default_sizes = record { logical = 1000; slabs = 1; slab_blocks = 64; journal = 8; index = 16; slab_journal = 4; height = 2; nonce = 1 }
+
+pub format_by_default : served_of format_words ≡ Some (Format default_sizes)
+format_by_default = refl
+
+two_slabs : served_of (codes "format" ∷ codes "--slabs" ∷ codes "2" ∷ []) ≡ Some (Format (record default_sizes { slabs = 2 }))
+two_slabs = refl
+
 -- and no other words
-pub no_word : schedule_of [] ≡ None
+no_word : served_of [] ≡ None
 no_word = refl
 
-threads : schedule_of (codes "run" ∷ codes "--threads" ∷ []) ≡ None
+threads : served_of (codes "run" ∷ codes "--threads" ∷ []) ≡ None
 threads = refl
 
-deeper : schedule_of (codes "run" ∷ codes "--depth" ∷ codes "2" ∷ []) ≡ None
+deeper : served_of (codes "run" ∷ codes "--depth" ∷ codes "2" ∷ []) ≡ None
 deeper = refl
 
-no_number : schedule_of (codes "run" ∷ codes "--schedule" ∷ codes "seven" ∷ []) ≡ None
+no_number : served_of (codes "run" ∷ codes "--schedule" ∷ codes "seven" ∷ []) ≡ None
 no_number = refl
 
-format : schedule_of (codes "format" ∷ []) ≡ None
-format = refl
+status : served_of (codes "status" ∷ []) ≡ None
+status = refl
 
-twice : schedule_of (codes "run" ∷ codes "run" ∷ []) ≡ None
+twice : served_of (codes "run" ∷ codes "run" ∷ []) ≡ None
 twice = refl
-
--- for the rows of whole runs: no word is served by no schedule, and `run` isn't refused
-pub no_word_is_none : (number : ℕ) → schedule_of [] ≡ Some number → ⊥
-no_word_is_none number is = absurd cc
-
-pub run_is_served : schedule_of run_words ≡ None → ⊥
-run_is_served is = absurd cc

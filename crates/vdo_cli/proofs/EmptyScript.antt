@@ -40,7 +40,7 @@ empty_report = record { requests = no_requests; desk = []; marks = []; places = 
 -- The first core over an image with this superblock and window, with this script.
 module _ (head : Super) (window : List Entry) (script : Script) where
   abbrev pub first_zone : ℕ → ZoneData → Zone
-  first_zone number keeps = record { number = number; steps = 0; keeps = keeps; inbox = []; outboxes = [] ∷ [] ∷ [] ∷ [] ∷ [] ∷ [] }
+  first_zone number keeps = record { number = number; steps = 0; keeps = keeps; ports = record { inbox = []; outboxes = [] ∷ [] ∷ [] ∷ [] ∷ [] ∷ [] } }
 
   abbrev pub first_zones : List Zone
   first_zones =

@@ -10,6 +10,7 @@ pub mod CommandPins
 pub mod TextPins
 pub mod PlayPins
 pub mod RunPins
+pub mod FormatPins
 pub mod EmptyScript
 pub mod SessionPins
 pub mod DrivenPins

@@ -1,5 +1,6 @@
 -- A device goes on over runs.
 use Rattle.std.proofs.Common.{ℕ, ◌≡◌, ◌++◌, Bool, List, [], Option, Some, None, refl, sym, ◌∙◌, ap, append_assoc}
+use Rattle.blk_base.specs.declared.geometry.Geometry.{Geometry}
 use Rattle.disk_model.specs.declared.call.Call.{Call}
 use Rattle.disk_model.specs.Seen.{Seen}
 use Rattle.disk_model.specs.Since.{IsUntouched}
@@ -9,18 +10,23 @@ use Rattle.core_model.specs.Trace.{calls}
 use Rattle.vdo_cli.specs.declared.fault.Fault.{Fault}
 use Rattle.vdo_cli.specs.declared.fault.Fault.TheVariants as fault
 use Rattle.vdo_cli.specs.Onward.{GoesOn}
-use Rattle.vdo_cli.specs.Runs.{Setting, Outside, NotBegun, PlayedOut, EndsSo}
+use Rattle.vdo_cli.specs.declared.words.Served.{Served}
+use Rattle.vdo_cli.specs.declared.words.Served.TheVariants as served
+use Rattle.vdo_cli.specs.Commands.{served_of}
+use Rattle.vdo_cli.specs.NewImages.{MakesImage}
+use Rattle.vdo_cli.specs.Outsides.{Setting, Outside}
+use Rattle.vdo_cli.specs.Runs.{EndsAs, EndsSo, NotBegun, PlayedOut, RunsScript}
 
 untouched : (tells : Bool) (before after : Seen) → IsUntouched tells before after → GoesOn tells before after
 untouched tells before after is = record { stays = is.stays; calls = λ told. let since = is.reads told in (since.0, since.1) }
 
-not_begun : (s : Setting) (words : List (List ℕ)) (before after : Outside) (status : ℕ) (report : RunReport) (why : Fault)
-    → NotBegun s words before after status report why → GoesOn s.device_tells before.device after.device
-not_begun s words before after status report why ends = untouched s.device_tells before.device after.device ends.untouched
+not_begun : (s : Setting) (before after : Outside) (status : ℕ) (report : RunReport) (why : Fault)
+    → NotBegun s before after status report why → GoesOn s.device_tells before.device after.device
+not_begun s before after status report why ends = untouched s.device_tells before.device after.device ends.untouched
 
-served : (s : Setting) (words : List (List ℕ)) (before after : Outside) (status : ℕ) (report : RunReport) (ended : Option Fault)
-    → PlayedOut s words before after status report ended → GoesOn s.device_tells before.device after.device
-served s words before after status report ended ends = record {
+played : (s : Setting) (schedule : ℕ) (before after : Outside) (status : ℕ) (report : RunReport) (ended : Option Fault)
+    → PlayedOut s schedule before after status report ended → GoesOn s.device_tells before.device after.device
+played s schedule before after status report ended ends = record {
   stays = ends.session.stays;
   calls = λ told.
       let happens = ends.session.happens told in
@@ -30,21 +36,33 @@ served s words before after status report ended ends = record {
       );
 }
 
+script_goes_on : (s : Setting) (schedule : ℕ) (before after : Outside) (status : ℕ) (report : RunReport) (ended : Option Fault)
+    → RunsScript s schedule before after status report ended → GoesOn s.device_tells before.device after.device
+script_goes_on s schedule before after status report None ends = played s schedule before after status report None ends
+script_goes_on s schedule before after status report (Some fault.Sink) ends = played s schedule before after status report (Some fault.Sink) ends
+script_goes_on s schedule before after status report (Some other) ends = not_begun s before after status report other ends
+
+format_goes_on : (s : Setting) (g : Geometry) (before after : Outside) (status : ℕ) (report : RunReport) (ended : Option Fault)
+    → MakesImage s g before after status report ended → GoesOn s.device_tells before.device after.device
+format_goes_on s g before after status report ended makes = record {
+  stays = makes.stays;
+  calls = λ told. let since = makes.stops told in (since.0, since.1);
+}
+
 same_device : (tells : Bool) (before after : Seen) → after ≡ before → GoesOn tells before after
 same_device tells before after same = rw same (record { stays = record { opening = refl; size = refl }; calls = λ told. ([], refl) })
 
+-- over what is served
+served_goes_on : (s : Setting) (asked : Option Served) (before after : Outside) (status : ℕ) (report : RunReport) (ended : Option Fault)
+    → EndsAs s asked before after status report ended → GoesOn s.device_tells before.device after.device
+served_goes_on s None before after status report ended ends = same_device s.device_tells before.device after.device ends.device
+served_goes_on s (Some (served.Script schedule)) before after status report ended ends = script_goes_on s schedule before after status report ended ends
+served_goes_on s (Some (served.Format sizes)) before after status report ended ends = format_goes_on s sizes before after status report ended ends
+
 -- over a run
-pub run_goes_on : (s : Setting) (words : List (List ℕ)) (before after : Outside) (status : ℕ) (report : RunReport) (why : Option Fault)
-    → EndsSo s words before after status report why → GoesOn s.device_tells before.device after.device
-run_goes_on s words before after status report None ends = served s words before after status report None ends
-run_goes_on s words before after status report (Some fault.Sink) ends = served s words before after status report (Some fault.Sink) ends
-run_goes_on s words before after status report (Some fault.Usage) ends = same_device s.device_tells before.device after.device ends.device
-run_goes_on s words before after status report (Some (fault.Script why)) ends = not_begun s words before after status report (fault.Script why) ends
-run_goes_on s words before after status report (Some (fault.Later line)) ends = not_begun s words before after status report (fault.Later line) ends
-run_goes_on s words before after status report (Some fault.Device) ends = not_begun s words before after status report fault.Device ends
-run_goes_on s words before after status report (Some (fault.Image why)) ends = not_begun s words before after status report (fault.Image why) ends
-run_goes_on s words before after status report (Some fault.Memory) ends = not_begun s words before after status report fault.Memory ends
-run_goes_on s words before after status report (Some fault.Read) ends = not_begun s words before after status report fault.Read ends
+pub run_goes_on : (s : Setting) (words : List (List ℕ)) (before after : Outside) (status : ℕ) (report : RunReport) (ended : Option Fault)
+    → EndsSo s words before after status report ended → GoesOn s.device_tells before.device after.device
+run_goes_on s words before after status report ended ends = served_goes_on s (served_of words) before after status report ended ends
 
 -- over one run and the next
 pub goes_on : (tells : Bool) (first middle last : Seen) → GoesOn tells first middle → GoesOn tells middle last → GoesOn tells first last

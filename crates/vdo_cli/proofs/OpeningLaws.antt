@@ -42,12 +42,7 @@ module _ (tells honest : Bool) (before middle now : Seen) (head : Super) (first 
     failed = failed_on tells honest 0 before middle now (first ∷ []) was blocks failed;
   }
   journal_fails fault.Memory fails = tt
-  journal_fails (fault.Image why) fails = absurd fails
-  journal_fails fault.Usage fails = absurd fails
-  journal_fails (fault.Script why) fails = absurd fails
-  journal_fails (fault.Later line) fails = absurd fails
-  journal_fails fault.Read fails = absurd fails
-  journal_fails fault.Sink fails = absurd fails
+  journal_fails other fails = absurd fails
 
 -- What holds of the one image of an honest device where nothing is pending.
 

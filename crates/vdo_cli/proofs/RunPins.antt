@@ -12,10 +12,11 @@ use Rattle.vdo_cli.specs.declared.fault.Fault.{Fault}
 use Rattle.vdo_cli.specs.declared.fault.Fault.TheVariants as fault
 use Rattle.vdo_cli.specs.Endings.{Plays}
 use Rattle.vdo_cli.specs.Onward.{GoesOn}
-use Rattle.vdo_cli.specs.Runs.{Setting, Outside, EndsSo, PutsOrFails, no_report, outside, setting}
+use Rattle.vdo_cli.specs.Outsides.{Setting, Outside, PutsOrFails, no_report, outside, setting}
+use Rattle.vdo_cli.specs.Runs.{EndsSo}
 use Rattle.vdo_cli.specs.Texts.{some_lost, desk_status}
 use Rattle.std.specs.Prelude.{MatchBool}
-use Rattle.vdo_cli.proofs.CommandPins.{no_word, no_word_is_none, run_by_0, run_is_served, run_words}
+use Rattle.vdo_cli.proofs.CommandPins.{run_words}
 use Rattle.vdo_cli.proofs.PlayPins.{device, at}
 
 -- all of the outside tells
@@ -39,7 +40,7 @@ some_report = record { requests = [] ∷ []; desk = []; marks = []; places = [];
 -- Usage. The words are no command, and only its line was put:
 usage-no_words : Ends [] begins (with [] (7 ∷ []) (codes "usage\n") 0) 2 no_report (Some fault.Usage)
 usage-no_words = record {
-  words_are = no_word;
+  fault_is = refl;
   device = refl;
   left = refl;
   refuses = record { status_is = refl; report_is = refl; puts = inl (λ told. refl) };
@@ -48,14 +49,14 @@ usage-no_words = record {
 -- or a part of it, where the sink failed
 usage-part : Ends [] begins (with [] (7 ∷ []) (codes "us") 1) 2 no_report (Some fault.Usage)
 usage-part = record {
-  words_are = no_word;
+  fault_is = refl;
   device = refl;
   left = refl;
   refuses = record { status_is = refl; report_is = refl; puts = inr (omega arith, λ told. (2, refl)) };
 }
 
 usage-not_run : Ends run_words begins (with [] (7 ∷ []) (codes "usage\n") 0) 2 no_report (Some fault.Usage) → ⊥
-usage-not_run ends = run_is_served ends.words_are
+usage-not_run ends = ends.cause
 
 usage-not_read : Ends [] begins (with (Read (at 0) [] true ∷ []) (7 ∷ []) (codes "usage\n") 0) 2 no_report (Some fault.Usage) → ⊥
 usage-not_read ends = let same = ap (λ (seen : Seen). length seen.log) ends.device in omega (arith, same)
@@ -90,8 +91,6 @@ usage-not_another_text ends = elim ends.refuses.puts [
 -- No session was begun, here for want of memory. The words are served, nothing was written, and the line was put:
 memory-untouched : Ends run_words begins (with (Read (at 0) [] true ∷ []) [] (codes "no memory\n") 0) 5 no_report (Some fault.Memory)
 memory-untouched = record {
-  schedule = 0;
-  words_are = run_by_0;
   cause = tt;
   untouched = record {
     stays = record { opening = refl; size = refl };
@@ -102,7 +101,7 @@ memory-untouched = record {
 }
 
 memory-not_other_words : Ends [] begins (with [] [] (codes "no memory\n") 0) 5 no_report (Some fault.Memory) → ⊥
-memory-not_other_words ends = no_word_is_none ends.schedule ends.words_are
+memory-not_other_words ends = absurd (let is = ends.fault_is in cc)
 
 memory-not_written : Ends run_words begins (with (Write (at 0) [] true ∷ []) [] (codes "no memory\n") 0) 5 no_report (Some fault.Memory) → ⊥
 memory-not_written ends = let since = ends.untouched.reads refl in written since.0 since.1 since.2
@@ -139,21 +138,12 @@ image-not_unread ends = elim ends.cause [
 ]
 
 faults-not_other_words : (after : Outside) (status : ℕ) (report : RunReport) (why : Fault) → Ends [] begins after status report (Some why) → why ≡ fault.Usage
-faults-not_other_words after status report fault.Usage ends = refl
-faults-not_other_words after status report (fault.Script why) ends = absurd (no_word_is_none ends.schedule ends.words_are)
-faults-not_other_words after status report (fault.Later line) ends = absurd (no_word_is_none ends.schedule ends.words_are)
-faults-not_other_words after status report fault.Device ends = absurd (no_word_is_none ends.schedule ends.words_are)
-faults-not_other_words after status report (fault.Image why) ends = absurd (no_word_is_none ends.schedule ends.words_are)
-faults-not_other_words after status report fault.Memory ends = absurd (no_word_is_none ends.schedule ends.words_are)
-faults-not_other_words after status report fault.Read ends = absurd (no_word_is_none ends.schedule ends.words_are)
-faults-not_other_words after status report fault.Sink ends = absurd (no_word_is_none ends.schedule ends.words_are)
+faults-not_other_words after status report why ends = let is = ends.fault_is in cc
 
 -- A session was served: its answers were put, with its status
 served-whole : (report : RunReport) (before after : Seen) (left rest : List ℕ) → Plays true false true 0 report before after left rest
     → Ends run_words (outside before left 0 [] 0) (outside after rest 0 (answers_text report.requests report.desk report.places) 0) (desk_status report.desk) report None
 served-whole report before after left rest played = record {
-  schedule = 0;
-  words_are = run_by_0;
   session = played;
   closes = (refl, both (some_lost report.desk));
 }
@@ -163,7 +153,7 @@ served-whole report before after left rest played = record {
     both false = λ told. refl
 
 served-not_other_words : (after : Outside) (report : RunReport) → Ends [] begins after 0 report None → ⊥
-served-not_other_words after report ends = no_word_is_none ends.schedule ends.words_are
+served-not_other_words after report ends = absurd (let is = ends.fault_is in cc)
 
 served-not_another_status : (after : Outside) → Ends run_words begins after 1 no_report None → ⊥
 served-not_another_status after ends = omega (arith, ends.closes.0)

@@ -1,6 +1,6 @@
 -- Rows that pin what a session is that was served to its end (`EndsSo`, its parts `Plays` and `Closes`): for each part some
 -- that it accepts, and some that break this part alone.
-use Rattle.std.proofs.Common.{ℕ, ◌≡◌, ◌<◌, true, false, List, [], ◌∷◌, length, reverse, replicate, take, Option, Some, None, Ok, codes, refl, sym, ◌∙◌, ap, arith, length-append}
+use Rattle.std.proofs.Common.{ℕ, ◌≡◌, ◌<◌, true, false, List, [], ◌∷◌, length, reverse, replicate, take, Option, Some, None, Ok, codes, refl, ap, arith, length-append}
 use Rattle.std.proofs.lemmas.List.{length-reverse}
 use Rattle.blk_base.specs.declared.request.Answer.TheVariants as reply
 use Rattle.blk_base.specs.declared.request.Request.TheVariants as request
@@ -15,12 +15,12 @@ use Rattle.vdo_model.specs.declared.report.RunReport.{RunReport}
 use Rattle.vdo_model.proofs.Example.{address, of_a}
 use Rattle.vdo_cli.specs.declared.fault.Fault.TheVariants as fault
 use Rattle.vdo_cli.specs.Endings.{Plays}
-use Rattle.vdo_cli.specs.Runs.{PlayedOut, outside}
+use Rattle.vdo_cli.specs.Outsides.{outside}
 use Rattle.vdo_cli.specs.Texts.{some_lost}
-use Rattle.vdo_cli.proofs.CommandPins.{no_word_is_none, run_by_0, run_by_7, run_words, seven_words}
+use Rattle.vdo_cli.proofs.CommandPins.{run_words}
 use Rattle.vdo_cli.proofs.EmptyScript.{empty_report}
 use Rattle.vdo_cli.proofs.PlayPins.{device}
-use Rattle.vdo_cli.proofs.RunPins.{Ends, begins, telling, with}
+use Rattle.vdo_cli.proofs.RunPins.{Ends, begins, with}
 
 -- the text of the answers
 abbrev text : RunReport → List ℕ
@@ -33,14 +33,7 @@ lost_report = record empty_report { desk = Answer (of_a 0) reply.Stopped ∷ [] 
 -- Over a session that was served: the sink failed, and holds a first part of the text
 sink-failed : (n : ℕ) (report : RunReport) (before after : Seen) (left rest : List ℕ) → Plays true false true 0 report before after left rest → some_lost report.desk ≡ false
     → Ends run_words (outside before left 0 [] 0) (outside after rest 0 (take n (text report)) 1) 7 report (Some fault.Sink)
-sink-failed n report before after left rest played none = record { schedule = 0; words_are = run_by_0; session = played; closes = (refl, none, omega arith, λ told. (n, refl)) }
-
--- the words give the schedule
-seven-not_another_schedule : (before after : Seen) (ended : PlayedOut telling seven_words (outside before [] 0 [] 0) (outside after [] 0 [] 0) 0 empty_report None) → ended.schedule ≡ 0 → ⊥
-seven-not_another_schedule before after ended is =
-    let same : Some 7 ≡ Some ended.schedule = sym run_by_7 ∙ ended.words_are in
-    let number : 7 ≡ ended.schedule = cc in
-    omega (arith, number, is)
+sink-failed n report before after left rest played none = record { session = played; closes = (refl, none, omega arith, λ told. (n, refl)) }
 
 -- Sink: not where an answer says that the device failed, which goes before; nor where the sink holds less than before
 sink-not_where_lost : Ends run_words begins (with [] [] [] 1) 7 lost_report (Some fault.Sink) → ⊥
@@ -50,7 +43,7 @@ sink-not_fewer_bytes : Ends run_words (with [] [] (9 ∷ []) 0) (with [] [] [] 1
 sink-not_fewer_bytes ends = let part = ends.closes.3 refl in let size = ap length part.1 in omega (arith, size)
 
 sink-not_other_words : Ends [] begins (with [] [] [] 1) 7 empty_report (Some fault.Sink) → ⊥
-sink-not_other_words ends = no_word_is_none ends.schedule ends.words_are
+sink-not_other_words ends = absurd (let is = ends.fault_is in cc)
 
 -- An answer says that the device failed: the status is 3, and not another one, whatever became of the text
 lost-not_another_status : Ends run_words begins (with [] [] [] 1) 0 lost_report None → ⊥
@@ -108,4 +101,4 @@ reads_first schedule report before after left rest played =
     )
 
 served-not_unread : Ends run_words (with [] [] [] 0) (with [] [] [] 0) 0 empty_report None → ⊥
-served-not_unread ends = let longer = reads_first ends.schedule empty_report (with [] [] [] 0).device (with [] [] [] 0).device [] [] ends.session in omega (arith, longer)
+served-not_unread ends = let longer = reads_first 0 empty_report (with [] [] [] 0).device (with [] [] [] 0).device [] [] ends.session in omega (arith, longer)

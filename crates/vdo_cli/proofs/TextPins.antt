@@ -3,6 +3,8 @@ use Rattle.std.proofs.Common.{ℕ, ◌≡◌, ◌++◌, true, false, List, [], �
 use Rattle.std.specs.Prelude.{decimal}
 use Rattle.blk_base.specs.declared.request.Answer.TheVariants as reply
 use Rattle.image_layout.specs.declared.fault.ImageFault.TheVariants as image
+use Rattle.image_layout.specs.declared.fault.LayoutFault.{LayoutFault}
+use Rattle.image_layout.specs.declared.fault.LayoutFault.TheVariants.{LogicalTooLarge}
 use Rattle.image_layout.specs.declared.fault.SuperFault.{SuperFault}
 use Rattle.image_layout.specs.declared.fault.SuperFault.TheVariants.{NotAnImage, Version}
 use Rattle.stream_text.specs.declared.refusal.LineFault.TheVariants as line_fault
@@ -49,6 +51,9 @@ too_many_line = refl
 later_line : fault_text (fault.Later 12) ≡ codes "script line " ++ decimal 12 ++ codes ": later\n"
 later_line = refl
 
+layout_line : fault_text (fault.Layout LogicalTooLarge) ≡ codes "layout: logical too large\n"
+layout_line = refl
+
 device_line : fault_text fault.Device ≡ codes "device fault\n"
 device_line = refl
 
@@ -79,6 +84,9 @@ script_status = refl
 
 later_status : fault_status (fault.Later 3) ≡ 2
 later_status = refl
+
+layout_status : (why : LayoutFault) → fault_status (fault.Layout why) ≡ 8
+layout_status why = refl
 
 device_status : fault_status fault.Device ≡ 3
 device_status = refl

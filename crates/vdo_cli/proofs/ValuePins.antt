@@ -22,8 +22,9 @@ use Rattle.vdo_model.specs.declared.report.Mark.TheVariants.{Settled}
 use Rattle.vdo_model.specs.declared.report.RunReport.{RunReport}
 use Rattle.vdo_model.proofs.Example.{address, of_a, placed, entry, block, blocks_tell}
 use Rattle.vdo_cli.specs.Openings.{IsOpened}
-use Rattle.vdo_cli.specs.Runs.{Outside, EndsSo, outside, setting}
-use Rattle.vdo_cli.proofs.CommandPins.{run_by_0, run_words}
+use Rattle.vdo_cli.specs.Outsides.{Outside, outside, setting}
+use Rattle.vdo_cli.specs.Runs.{EndsSo}
+use Rattle.vdo_cli.proofs.CommandPins.{run_words}
 use Rattle.vdo_cli.proofs.EmptyScript.{empty_plays, empty_report}
 use Rattle.vdo_cli.proofs.OpeningLaws.{opened_window, says_head}
 
@@ -75,8 +76,6 @@ module _ (before opened : Seen) (head : Super) (window : List Entry) (is_opened 
   -- a session that was served says nothing else of it, here that of no request
   served-empty : Served before [] (outside opened [] 0 (answers_text empty_report.requests [] []) 0) empty_report
   served-empty = record {
-    schedule = 0;
-    words_are = run_by_0;
     session = empty_plays true true 0 head window before opened is_opened true [] [] (λ told. (refl, refl)) (λ told. refl);
     closes = (refl, λ told. refl);
   }

@@ -1,12 +1,16 @@
 -- The words that are served.
-use Rattle.std.specs.Prelude.{ℕ, ◌==◌, ◌&&◌, Bool, List, Option, Some, None, if◌then◌else◌}
+use Rattle.std.specs.Prelude.{ℕ, ◌==◌, ◌&&◌, Bool, List, Option, Some, None, option_map, if◌then◌else◌}
+use Rattle.blk_base.specs.declared.geometry.Geometry.{Geometry}
 use Rattle.vdo_words.specs.Commands.{command_of}
 use Rattle.vdo_words.specs.declared.commands.Command.{Command}
-use Rattle.vdo_words.specs.declared.commands.Command.TheVariants.{Run}
+use Rattle.vdo_words.specs.declared.commands.Command.TheVariants.{Format, Run}
 use Rattle.vdo_words.specs.declared.commands.CoreOptions.{CoreOptions}
+use Rattle.vdo_words.specs.declared.commands.FormatOptions.{FormatOptions}
 use Rattle.vdo_words.specs.declared.commands.Drive.{Drive}
 use Rattle.vdo_words.specs.declared.commands.Drive.TheVariants.{Schedule, Threads}
 use Rattle.vdo_core.specs.declared.cores.Setup.{Setup}
+use Rattle.vdo_cli.specs.declared.words.Served.{Served}
+use Rattle.vdo_cli.specs.declared.words.Served.TheVariants as served
 
 -- a core is set up with one logical zone, and one request of each stream is under way at most
 abbrev pub run_setup : Setup
@@ -21,11 +25,25 @@ abbrev pub number_of : Drive → Option ℕ
 number_of (Schedule number) = Some number
 number_of Threads = None
 
--- `run` is served, with a schedule
-abbrev pub schedule_in : Option Command → Option ℕ
-schedule_in (Some (Run options)) = if are_default options.core then number_of options.drive else None
-schedule_in other = None
+-- the sizes of an image, as the options of `format` give them
+abbrev pub sizes_of : FormatOptions → Geometry
+sizes_of o = record {
+  logical = o.logical;
+  slabs = o.slabs;
+  slab_blocks = o.slab_blocks;
+  journal = o.journal;
+  index = o.index;
+  slab_journal = o.slab_journal;
+  height = o.height;
+  nonce = o.nonce;
+}
 
--- the number of the schedule by which these words run a script
-abbrev pub schedule_of : List (List ℕ) → Option ℕ
-schedule_of words = schedule_in (command_of words)
+-- `run` is served, with a schedule, and `format`
+abbrev pub served_in : Option Command → Option Served
+served_in (Some (Run options)) = if are_default options.core then option_map served.Script (number_of options.drive) else None
+served_in (Some (Format options)) = Some (served.Format (sizes_of options))
+served_in other = None
+
+-- what these words ask for, of what is served
+abbrev pub served_of : List (List ℕ) → Option Served
+served_of words = served_in (command_of words)

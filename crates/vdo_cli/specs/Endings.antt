@@ -57,10 +57,7 @@ ScriptFails tells left faults faults' (fault.Later line) =
 ScriptFails tells left faults faults' fault.Read = Rose faults faults'
 -- memory ran out
 ScriptFails tells left faults faults' fault.Memory = Unit {0}
-ScriptFails tells left faults faults' fault.Usage = ⊥
-ScriptFails tells left faults faults' fault.Device = ⊥
-ScriptFails tells left faults faults' (fault.Image why) = ⊥
-ScriptFails tells left faults faults' fault.Sink = ⊥
+ScriptFails tells left faults faults' other = ⊥
 
 -- why no session was begun
 abbrev pub PlayFails : Bool → Bool → Bool → Seen → Seen → List ℕ → ℕ → ℕ → Fault → Type 0
@@ -76,5 +73,4 @@ PlayFails tells honest source_tells before after left faults faults' fault.Read 
     FailsOpened tells honest before after (ScriptFails source_tells left faults faults' fault.Read)
 -- memory ran out
 PlayFails tells honest source_tells before after left faults faults' fault.Memory = Unit {0}
-PlayFails tells honest source_tells before after left faults faults' fault.Usage = ⊥
-PlayFails tells honest source_tells before after left faults faults' fault.Sink = ⊥
+PlayFails tells honest source_tells before after left faults faults' other = ⊥

@@ -4,5 +4,7 @@ pub mod Sessions
 pub mod Stops
 pub mod Endings
 pub mod Texts
+pub mod Outsides
+pub mod NewImages
 pub mod Runs
 pub mod Onward

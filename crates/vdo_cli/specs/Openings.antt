@@ -57,12 +57,7 @@ abbrev pub JournalFails : Bool → Bool → ℕ → Seen → Seen → Fault → 
 JournalFails tells honest slots before now fault.Device =
     (blocks : List (List ℕ)) × (length blocks < slots) × NextFailed tells honest 1 before now blocks
 JournalFails tells honest slots before now fault.Memory = Unit {0}
-JournalFails tells honest slots before now (fault.Image why) = ⊥
-JournalFails tells honest slots before now fault.Usage = ⊥
-JournalFails tells honest slots before now (fault.Script why) = ⊥
-JournalFails tells honest slots before now (fault.Later line) = ⊥
-JournalFails tells honest slots before now fault.Read = ⊥
-JournalFails tells honest slots before now fault.Sink = ⊥
+JournalFails tells honest slots before now other = ⊥
 
 -- why a device can't be opened
 abbrev pub OpeningFails : Bool → Bool → Seen → Seen → Fault → Type 0
@@ -70,8 +65,4 @@ OpeningFails tells honest before now fault.Device = ReadFailed tells honest befo
 OpeningFails tells honest before now (fault.Image (image.Super why)) = HasNoImage tells honest before now why
 OpeningFails tells honest before now (fault.Image (image.Window sequence)) = HasFaulty tells honest before now sequence
 OpeningFails tells honest before now fault.Memory = Unit {0}
-OpeningFails tells honest before now fault.Usage = ⊥
-OpeningFails tells honest before now (fault.Script why) = ⊥
-OpeningFails tells honest before now (fault.Later line) = ⊥
-OpeningFails tells honest before now fault.Read = ⊥
-OpeningFails tells honest before now fault.Sink = ⊥
+OpeningFails tells honest before now other = ⊥

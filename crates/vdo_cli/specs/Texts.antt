@@ -6,6 +6,7 @@ use Rattle.blk_base.specs.declared.request.Answer.TheVariants as reply
 use Rattle.image_layout.specs.declared.fault.ImageFault.TheVariants as image
 use Rattle.image_layout.specs.declared.fault.SuperFault.{SuperFault}
 use Rattle.image_layout.specs.Faults.{super_fault_text}
+use Rattle.command_text.specs.Formats.{layout_line}
 use Rattle.stream_text.specs.declared.refusal.LineFault.{LineFault}
 use Rattle.stream_text.specs.declared.refusal.LineFault.TheVariants as line_fault
 use Rattle.vdo_model.specs.declared.report.DeskLine.{DeskLine}
@@ -40,6 +41,7 @@ abbrev pub fault_text : Fault → List ℕ
 fault_text fault.Usage = codes "usage\n"
 fault_text (fault.Script why) = script_fault_line why.line (line_fault_text why.fault)
 fault_text (fault.Later line) = script_fault_line line (codes "later")
+fault_text (fault.Layout why) = layout_line why
 fault_text fault.Device = codes "device fault\n"
 fault_text (fault.Image (image.Super why)) = super_fault_line why
 fault_text (fault.Image (image.Window sequence)) = window_fault_line sequence
@@ -52,6 +54,7 @@ abbrev pub fault_status : Fault → ℕ
 fault_status fault.Usage = 2
 fault_status (fault.Script why) = 2
 fault_status (fault.Later line) = 2
+fault_status (fault.Layout why) = 8
 fault_status fault.Device = 3
 fault_status (fault.Image why) = 4
 fault_status fault.Memory = 5

@@ -5,6 +5,7 @@ ghost use Rattle.vdo_cli.specs.Texts.{fault_text, fault_status, super_fault_line
 
 use crate::Fault;
 use blk_base::Answer;
+use command_text::put_layout_fault;
 use disk_model::{Failed, Sink};
 use image_layout::{ImageFault, SuperFault};
 use stream_text::LineFault;
@@ -98,6 +99,7 @@ pub fn put_fault<K: Sink>(fault: &Fault, out: &mut K) -> Result<(), Failed>
         Fault::Later { line } => return put_script_line(*line, b": later\n", out),
         Fault::Image(ImageFault::Super(why)) => return put_super_fault(*why, out),
         Fault::Image(ImageFault::Window { sequence }) => return put_window_fault(*sequence, out),
+        Fault::Layout(why) => return put_layout_fault(*why, out),
         Fault::Usage => b"usage\n",
         Fault::Device => b"device fault\n",
         Fault::Memory => b"no memory\n",
@@ -117,6 +119,7 @@ pub(crate) fn status_of(fault: &Fault) -> u8
         Fault::Image(_) => 4,
         Fault::Memory => 5,
         Fault::Read | Fault::Sink => 7,
+        Fault::Layout(_) => 8,
     }
 }
 

@@ -1,4 +1,4 @@
-use image_layout::ImageFault;
+use image_layout::{ImageFault, LayoutFault};
 use stream_text::ScriptRefusal;
 use thiserror::Error;
 
@@ -14,9 +14,12 @@ pub enum Fault {
     /// A line of the script asks for what isn't served yet: a discard. Status 2.
     #[error("script line {line}: later")]
     Later { line: u64 },
-    /// A read of the device failed before the script was read. Status 3.
+    /// The device failed: a read before the script was read, or a call while an image was made. Status 3.
     #[error("device fault")]
     Device,
+    /// An image of the wanted sizes can't be had on the device. Status 8.
+    #[error("layout: {0}")]
+    Layout(LayoutFault),
     /// The device has no image. Status 4.
     #[error("bad image: {0}")]
     Image(ImageFault),

@@ -10,7 +10,8 @@ ghost use Rattle.image_layout.specs.declared.fault.SuperFault.{SuperFault};
 ghost use Rattle.vdo_model.specs.declared.report.RunReport.{RunReport};
 ghost use Rattle.vdo_cli.specs.Onward.{GoesOn};
 ghost use Rattle.vdo_cli.specs.Openings.{HasFaulty, HasNoImage, IsOpened};
-ghost use Rattle.vdo_cli.specs.Runs.{EndsSo, Outside, Setting};
+ghost use Rattle.vdo_cli.specs.Outsides.{Outside, Setting};
+ghost use Rattle.vdo_cli.specs.Runs.{EndsSo};
 ghost use Rattle.vdo_cli.specs.declared.fault.Fault.{Fault};
 
 /// Where a device is honest and nothing is pending on it, what was read of it is what its one image has: the superblock

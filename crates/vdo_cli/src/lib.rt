@@ -5,6 +5,7 @@ mod adapters;
 mod ending;
 mod fault;
 mod laws;
+mod making;
 mod opening;
 mod playing;
 mod running;

@@ -1,10 +1,19 @@
 ghost use Rattle.std.specs.Prelude.{◌≡◌, Some, None, IsTrue};
 ghost use Rattle.stream_text.specs.AnswerRooms.{HasRoomFor};
-ghost use Rattle.vdo_cli.specs.Runs.{EndsSo, Closes, Refuses, no_report, outside, setting};
+ghost use Rattle.command_text.specs.Formats.{formatted_text};
+ghost use Rattle.disk_model.specs.Seen.{Stays};
+ghost use Rattle.image_format.specs.Formats.{StopsAreRight};
+ghost use Rattle.vdo_cli.specs.NewImages.{IsMadeOrNot, Tells};
+ghost use Rattle.vdo_cli.specs.Outsides.{Refuses, no_report, outside, setting};
+ghost use Rattle.vdo_cli.specs.Runs.{EndsSo, Closes, RunsScript};
 
 use crate::ending::{has_full, has_lost, put_fault, status_of};
+use crate::making::make_image;
 use crate::playing::{Played, play};
+use crate::words::Served;
 use crate::{Fault, Words};
+use blk_base::Geometry;
+use command_text::{Formatted, put_formatted};
 use disk_model::{Disk, Sink, Source, ZoneGate};
 use std::alloc::Global;
 use std::sync::Wait;
@@ -12,7 +21,8 @@ use std::thread::Threads;
 use stream_text::{AnswerRoom, put_answers};
 use vdo_model::{Requests, Rows, RunReport};
 
-/// A run that ended: its status, why no other one, what became of the requests, and the device.
+/// A run that ended: its status, why no other one, what became of the requests (nothing where no session was begun), and
+/// the device.
 #[derive(Drop)]
 pub struct Ended<D> {
     pub status: u8,
@@ -75,24 +85,80 @@ fn close<D: Disk, K: Sink>(report: RunReport, room: AnswerRoom, device: D, out: 
     }
 }
 
-/// Does what the words say. The only command is `run`, or `run --schedule N`: the requests of the script, each stream's in
-/// its order, are served on the device's image by the zones of a core, whose steps and moves come in the order of the
-/// schedule N (0 where none is given). Their answers are put to `out`, one line for each. What earlier runs wrote is there
-/// again: it is read from the window of the recovery journal.
+// Puts the line of an image that was made.
+fn tell<D: Disk, K: Sink>(alloc: Global, image: &Formatted, device: D, out: &mut K) -> Ended<D>
+    ensures device { result.device ≡ device }
+    ensures report { result.report ≡ no_report }
+    ensures tells { Tells K.tells (formatted_text image.now) result.status result.fault (K.holds out.old) (K.faults out.old) (K.holds out.new) (K.faults out.new) }
+{
+    let (status, fault) = match put_formatted(image, out) {
+        Ok(()) => (0, None),
+        Err(_) => (7, Some(Fault::Sink)),
+    };
+    Ended {
+        status,
+        fault,
+        report: empty_report(alloc),
+        device,
+    }
+}
+
+// Serves a script by the schedule of this number.
+fn run_script<R: Wait, D: Disk, S: Source, K: Sink>(
+    rt: &R,
+    alloc: Global,
+    schedule: u64,
+    device: D,
+    script: &mut S,
+    out: &mut K,
+) -> Ended<D>
+    ensures { RunsScript (setting D.tells D.honest S.tells K.tells) schedule
+        (outside (D.seen device) (S.left script.old) (S.faults script.old) (K.holds out.old) (K.faults out.old))
+        (outside (D.seen result.device) (S.left script.new) (S.faults script.new) (K.holds out.new) (K.faults out.new))
+        result.status result.report result.fault }
+{
+    let mut device = device;
+    match play(rt, alloc, schedule, &mut device, script) {
+        Ok(Played { report, room }) => close(report, room, device, out),
+        Err(fault) => refuse(alloc, fault, device, out),
+    }
+}
+
+// Makes an empty image of these sizes.
+fn format<D: Disk, K: Sink>(alloc: Global, sizes: &Geometry, device: D, out: &mut K) -> Ended<D>
+    ensures ends { IsMadeOrNot D.tells K.tells sizes.now (D.seen device) (D.seen result.device) result.status result.report result.fault
+        (K.holds out.old) (K.faults out.old) (K.holds out.new) (K.faults out.new) }
+    ensures stays { Stays (D.seen device) (D.seen result.device) }
+    ensures stops { IsTrue D.tells → StopsAreRight sizes.now (D.seen device) (D.seen result.device) }
+{
+    let mut device = device;
+    match make_image(sizes, &mut device) {
+        Ok(image) => tell(alloc, &image, device, out),
+        Err(fault) => refuse(alloc, fault, device, out),
+    }
+}
+
+/// Does what the words say. `run`, or `run --schedule N`: the requests of the script, each stream's in its order, are
+/// served on the device's image by the zones of a core, whose steps and moves come in the order of the schedule N (0 where
+/// none is given). Their answers are put to `out`, one line for each. What earlier runs wrote is there again: it is read
+/// from the window of the recovery journal. `format`, with the sizes of an image as its options: an empty image is made on
+/// the device, and a line says so.
 ///
 /// A stop before or within any call of the device leaves an image that can be opened again. In it each address has the
 /// value of one of its writes: of none older than the last one that was answered before a flush was begun which was
-/// answered too (docs/DESIGN.md, "A stop"). The report's marks say which calls of the device made the flushes last.
+/// answered too (docs/DESIGN.md, "A stop"). The report's marks say which calls of the device made the flushes last. A stop
+/// while an image is made leaves what was there, or no image, or an empty one.
 ///
 /// | Status | Comes where |
 /// |---|---|
-/// | 0 | each request was answered Ok, or with bytes |
+/// | 0 | each request was answered Ok, or with bytes; or the image was made |
 /// | 1 | a request was answered Full: all journal blocks or all data blocks were used |
 /// | 2 | the words are no command that is served (`Usage`), a line of the script has a fault (`Script`), or asks for a discard (`Later`) |
-/// | 3 | the device failed: before the script was read (`Device`), or a request was answered Stopped or with a read fault |
+/// | 3 | the device failed: before the script was read, or while an image was made (`Device`), or a request was answered Stopped or with a read fault |
 /// | 4 | the device has no image, or a block of its window isn't as a run leaves it (`Image`) |
 /// | 5 | memory ran out before the first request was served (`Memory`) |
 /// | 7 | the source or the sink failed (`Read`, `Sink`) |
+/// | 8 | an image of these sizes can't be had on the device (`Layout`) |
 ///
 /// The first that applies is taken in this order: words, superblock, window, script; and of a session 3, 7, 1, 0.
 pub fn run<R: Threads + Wait + Sync, D: Disk + Send + Drop, S: Source, K: Sink, G: ZoneGate + Sync>(
@@ -109,12 +175,9 @@ pub fn run<R: Threads + Wait + Sync, D: Disk + Send + Drop, S: Source, K: Sink, 
         result.status result.report result.fault }
 {
     let alloc = words.allocator();
-    let Some(schedule) = words.schedule() else {
-        return refuse(alloc, Fault::Usage, device, out);
-    };
-    let mut device = device;
-    match play(rt, alloc, schedule, &mut device, script) {
-        Ok(Played { report, room }) => close(report, room, device, out),
-        Err(fault) => refuse(alloc, fault, device, out),
+    match words.served() {
+        Some(Served::Script(schedule)) => run_script(rt, alloc, schedule, device, script, out),
+        Some(Served::Format(sizes)) => format(alloc, &sizes, device, out),
+        None => refuse(alloc, Fault::Usage, device, out),
     }
 }

@@ -1,10 +1,11 @@
 ghost use Rattle.std.specs.Prelude.{◌≡◌, ◌++◌, ◌∷◌, [], OnOk, OnErr};
 ghost use Rattle.vdo_cli.specs.Commands as commands;
-ghost use Rattle.vdo_cli.specs.Commands.{schedule_of};
+ghost use Rattle.vdo_cli.specs.Commands.{served_of};
 
+use blk_base::Geometry;
 use std::alloc::{AllocError, Global};
 use std::marker::Model;
-use vdo_words::{Command, CoreOptions, Drive, read_command};
+use vdo_words::{Command, CoreOptions, Drive, FormatOptions, read_command};
 
 // Whether the options of a core are those that it has without any.
 fn are_default(options: &CoreOptions) -> bool
@@ -17,15 +18,41 @@ fn are_default(options: &CoreOptions) -> bool
         && options.cache == 16
 }
 
-// The number of a schedule by which a command is served.
-fn schedule_in(command: Option<Command>) -> Option<u64>
-    ensures { result ≡ commands.schedule_in command }
+/// What words ask for, of what is served.
+#[derive(Clone, Copy)]
+pub(crate) enum Served {
+    /// A script is run by the schedule of this number.
+    Script(u64),
+    /// An image of these sizes is made.
+    Format(Geometry),
+}
+
+// The sizes that the options of `format` give.
+fn sizes_of(options: &FormatOptions) -> Geometry
+    ensures { result ≡ commands.sizes_of options.now }
+{
+    Geometry {
+        logical: options.logical,
+        slabs: options.slabs,
+        slab_blocks: options.slab_blocks,
+        journal: options.journal,
+        index: options.index,
+        slab_journal: options.slab_journal,
+        height: options.height,
+        nonce: options.nonce,
+    }
+}
+
+// What a command asks for, where it is served.
+fn served_in(command: Option<Command>) -> Option<Served>
+    ensures { result ≡ commands.served_in command }
 {
     match command {
         Some(Command::Run(options)) if are_default(&options.core) => match options.drive {
-            Drive::Schedule(number) => Some(number),
+            Drive::Schedule(number) => Some(Served::Script(number)),
             Drive::Threads => None,
         },
+        Some(Command::Format(options)) => Some(Served::Format(sizes_of(&options))),
         _ => None,
     }
 }
@@ -69,11 +96,11 @@ impl Words {
         *self.texts.allocator()
     }
 
-    // The number of the schedule by which the words run a script; `None` where they are nothing that is served.
-    pub(crate) fn schedule(&self) -> Option<u64>
-        ensures { result ≡ schedule_of self.now }
+    // What the words ask for; `None` where they are nothing that is served.
+    pub(crate) fn served(&self) -> Option<Served>
+        ensures { result ≡ served_of self.now }
     {
         let command = read_command(self.allocator(), &self.texts).ok();
-        schedule_in(command)
+        served_in(command)
     }
 }

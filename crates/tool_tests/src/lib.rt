@@ -1,0 +1,5 @@
+//! Tests of the commands that make and look at images, each as a whole run.
+#![tactic(auto)]
+
+#[cfg(test)]
+mod formats;

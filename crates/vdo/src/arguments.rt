@@ -1,0 +1,109 @@
+use std::alloc::{AllocError, Global};
+use std::{env, io};
+use vdo_cli::Words;
+
+/// Why the program can't begin.
+pub(crate) enum Obstacle {
+    /// The words name no device and no command, or one isn't UTF-8.
+    Usage,
+    /// The file can't be opened.
+    Device,
+    /// Memory ran out.
+    Memory,
+}
+
+impl From<AllocError> for Obstacle {
+    fn from(_error: AllocError) -> Obstacle {
+        Obstacle::Memory
+    }
+}
+
+/// A device on which a command is done.
+#[derive(Drop)]
+pub(crate) enum Device {
+    /// In memory, with a fresh image of the default sizes.
+    Fresh,
+    /// In memory, with so many blocks.
+    Memory(u32),
+    /// A file, as so many blocks.
+    File(String, u32),
+}
+
+/// A command line: a device, and the words of a command.
+#[derive(Drop)]
+pub(crate) struct CommandLine {
+    pub(crate) device: Device,
+    pub(crate) words: Words,
+}
+
+/// The command `run`, or one whose words these are.
+fn words_of(alloc: Global, texts: &[String]) -> Result<Words, AllocError> {
+    let mut words = Words::new(alloc);
+    if texts.is_empty() {
+        words.push("run")?;
+    }
+    for text in texts {
+        words.push(text.as_str())?;
+    }
+    Ok(words)
+}
+
+/// A number in decimal digits, without a sign.
+fn number_of(text: &str) -> Option<u32> {
+    if text.starts_with('+') {
+        return None;
+    }
+    text.parse().ok()
+}
+
+fn names_run(texts: &[String]) -> bool {
+    texts.first().is_some_and(|text| text.as_str() == "run")
+}
+
+fn device_of(alloc: Global, image: &str, blocks: u32) -> Result<Device, AllocError> {
+    if image == "-" {
+        return Ok(Device::Memory(blocks));
+    }
+    Ok(Device::File(String::from_str(alloc, image)?, blocks))
+}
+
+/// A command line is nothing, or `run` with its options, or `IMAGE BLOCKS` and a command, which isn't `run` yet.
+fn line_of(alloc: Global, texts: &[String]) -> Result<CommandLine, Obstacle> {
+    if texts.is_empty() || names_run(texts) {
+        let words = words_of(alloc, texts)?;
+        return Ok(CommandLine {
+            device: Device::Fresh,
+            words,
+        });
+    }
+    let [image, blocks, command @ ..] = texts else {
+        return Err(Obstacle::Usage);
+    };
+    let Some(blocks) = number_of(blocks.as_str()) else {
+        return Err(Obstacle::Usage);
+    };
+    if command.is_empty() || names_run(command) {
+        return Err(Obstacle::Usage);
+    }
+    let words = words_of(alloc, command)?;
+    Ok(CommandLine {
+        device: device_of(alloc, image.as_str(), blocks)?,
+        words,
+    })
+}
+
+/// What the words behind the program's name ask for.
+pub(crate) fn command_line(rt: &HostRuntime) -> Result<CommandLine, Obstacle> {
+    let arguments = match env::args(rt) {
+        Ok(arguments) => arguments,
+        Err(error) if error.kind() == io::ErrorKind::OutOfMemory => return Err(Obstacle::Memory),
+        Err(_) => return Err(Obstacle::Usage),
+    };
+    let mut texts = Vec::new(rt.alloc());
+    for text in arguments.skip(1) {
+        let Ok(()) = texts.push(text) else {
+            return Err(Obstacle::Memory);
+        };
+    }
+    line_of(rt.alloc(), &texts)
+}
