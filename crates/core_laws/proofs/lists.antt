@@ -1,2 +1,4 @@
+pub mod Changes
 pub mod CoreLists
+pub mod Zeros
 pub mod ZoneNames

@@ -7,6 +7,7 @@ ghost use Rattle.blk_base.specs.declared.request.Answer.TheVariants.{Range, Stop
 ghost use Rattle.blk_base.specs.declared.request.Request.{Request};
 ghost use Rattle.blk_base.specs.declared.request.Writer.{Writer};
 ghost use Rattle.disk_model.specs.declared.call.Call.{Call};
+ghost use Rattle.image_layout.specs.Window.{mapping_of};
 ghost use Rattle.vdo_model.specs.DeskLog.{IsDeskLog, AllAnswered, answer_of};
 ghost use Rattle.vdo_model.specs.FlushMarks.{AreFlushMarks};
 ghost use Rattle.vdo_model.specs.Places.{AreDrawn, IsAnsweredAtOnce, place_of};
@@ -19,17 +20,18 @@ ghost use Rattle.core_model.specs.declared.zones.ZoneData.TheVariants.{Desk, Dev
 ghost use Rattle.core_model.specs.DeskData.{Desk as DeskData};
 ghost use Rattle.core_model.specs.declared.zones.DeviceZone.{DeviceZone};
 ghost use Rattle.core_model.specs.LogicalData.{LogicalZone};
+ghost use Rattle.core_model.specs.declared.zones.Logged.{Logged};
 ghost use Rattle.core_model.specs.declared.zones.Zone.{Zone};
 ghost use Rattle.core_model.specs.declared.zones.ZoneData.{ZoneData};
 ghost use Rattle.core_model.specs.declared.items.Item.{Item};
 ghost use Rattle.core_model.specs.declared.sizes.Sizes.{Sizes};
 ghost use Rattle.core_model.specs.Legal.{Legal};
 ghost use Rattle.core_model.specs.Reports.{ShowsValues, opening_values, progress_of, report_of};
-ghost use Rattle.core_model.specs.RightTraces.{IsHeldBack, StopsAtFailure};
+ghost use Rattle.core_model.specs.RightTraces.{IsHeldBack, IsWrite, StopsAtFailure};
 ghost use Rattle.core_model.specs.Sessions.{Session, IsSession, HasHonestReads};
 ghost use Rattle.core_model.specs.Start.{IsFirst};
 ghost use Rattle.core_model.specs.Steps.{Act, CallsDevice, Core, HasAct, Leads, MayBegin, MoveOf, StepOf, ZoneStep};
-ghost use Rattle.core_model.specs.Trace.{Trace, aborted, calls, is_ok, is_read, lines, marks, moments, places};
+ghost use Rattle.core_model.specs.Trace.{Enters, Trace, aborted, calls, committed, entries_of, is_ok, is_read, lines, marks, moments, places};
 ghost use Rattle.core_model.specs.Views.{AreEmptyLanes, PostsBatch, ReceivesBatch, TakesBatch, View, core_of, zones_seen};
 ghost use Rattle.core_model.specs.Vios.{Post};
 ghost use Rattle.core_model.specs.Zones.{zone_number};
@@ -85,6 +87,16 @@ pub fn a_legal_core_stops_at_a_failure()
     ensures logged { (s : Session) (core : Core) (newer older : List Call) (call : Call) → Legal s core → calls core.trace ≡ newer ++ call ∷ older
         → is_read call ≡ false → AllByRecursion (λ (c : Call). is_read c ≡ false → is_ok c ≡ true) older }
     ensures aborted { (s : Session) (core : Core) → Legal s core → AllByRecursion (IsHeldBack core.trace) (aborted core.trace) }
+{}
+
+/// An entry that is handed in to the journal says what it replaces: what its address is mapped to by the committed entries on
+/// top of the window; and it maps the address to what the request of the script asks: a write's to a block, or to zeros where
+/// its bytes are zeros, a discard's to nothing.
+pub fn an_entry_says_what_it_replaces()
+    ensures old { (s : Session) (core : Core) (newer older : Trace) (e : Logged) → Legal s core → core.trace ≡ newer ++ Enters e ∷ older
+        → e.old ≡ mapping_of (entries_of s.window (committed older)) e.at.0 }
+    ensures new { (s : Session) (core : Core) (newer older : Trace) (e : Logged) → Legal s core → core.trace ≡ newer ++ Enters e ∷ older
+        → IsWrite s older e }
 {}
 
 /// On an honest device each read that a legal core answered gave the last settled write before its place.

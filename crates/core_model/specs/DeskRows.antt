@@ -13,7 +13,7 @@ use Rattle.vdo_model.specs.Scripts.{request_at}
 use Rattle.vdo_model.specs.declared.report.DeskLine.TheVariants as line
 use Rattle.vdo_model.specs.declared.report.FlushMark.{FlushMark}
 use Rattle.core_model.specs.declared.items.Asks.{Asks}
-use Rattle.core_model.specs.declared.items.Asks.TheVariants.{Read, Write, Flush}
+use Rattle.core_model.specs.declared.items.Asks.TheVariants.{Read, Write, Discard, Flush}
 use Rattle.core_model.specs.declared.items.Item.TheVariants as item
 use Rattle.core_model.specs.declared.items.Phase.TheVariants as phase
 use Rattle.core_model.specs.declared.items.Vio.{Vio}
@@ -30,10 +30,11 @@ IsNotified sizes desk = notified_zones sizes ≤ desk.notices
 abbrev pub is_notified : Sizes → Desk → Bool
 is_notified sizes desk = nat_lt (1 + sizes.zones) desk.notices
 
--- the request as it is under way, where it is served: discards, and writes that force their block out, aren't yet
+-- the request as it is under way, where it is served: writes that force their block out aren't yet
 abbrev pub vio_of : Sizes → Writer → Request → Option Vio
 vio_of sizes w (request.Read at) = Some (begun_vio sizes w Read at zero_block)
 vio_of sizes w (request.Write at bytes false) = Some (begun_vio sizes w Write at bytes)
+vio_of sizes w (request.Discard at) = Some (begun_vio sizes w Discard at zero_block)
 vio_of sizes w request.Flush = Some (turned phase.Flush (begun_vio sizes w Flush (record { 0 = 0 }) zero_block))
 vio_of sizes w other = None
 
@@ -42,6 +43,7 @@ vio_of sizes w other = None
 abbrev pub at_once : Sizes → Bool → Asks → ℕ → Option Answer
 at_once sizes notified Read a = if nat_lt a sizes.geometry.logical then None else Some reply.Range
 at_once sizes notified Write a = if nat_lt a sizes.geometry.logical then (if notified then Some reply.Stopped else None) else Some reply.Range
+at_once sizes notified Discard a = if nat_lt a sizes.geometry.logical then (if notified then Some reply.Stopped else None) else Some reply.Range
 at_once sizes notified Flush a = if notified then Some reply.Stopped else None
 
 -- a block request goes to the logical zone of its address, a flush to the device
@@ -51,6 +53,7 @@ first_zone v = to v.asks
     to : Asks → ZoneId
     to Read = v.home
     to Write = v.home
+    to Discard = v.home
     to Flush = id.Device
 
 -- The next request of a stream is begun, and answered at once or sent on.

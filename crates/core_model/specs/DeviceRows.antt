@@ -1,6 +1,7 @@
 -- What the device zone does: one call of the device. A failed read has any bytes.
 use Rattle.std.specs.Prelude.{ℕ, ◌+◌, ◌≡◌, ◌<◌, Bool, true, false, Option, Some, List, [], ◌∷◌}
 use Rattle.blk_base.specs.Regions.{journal_slot_of, needed_blocks}
+use Rattle.blk_base.specs.declared.place.Mapping.TheVariants.{At}
 use Rattle.blk_base.specs.declared.place.Pbn.{Pbn}
 use Rattle.blk_base.specs.declared.place.ZoneId.{ZoneId}
 use Rattle.blk_base.specs.declared.place.ZoneId.TheVariants as id
@@ -41,22 +42,22 @@ IsInside sizes x = x.0 < needed_blocks sizes.geometry
 
 pub data DeviceServes (sizes : Sizes) (old : DeviceZone) (v : Vio) (new : DeviceZone) (made : Trace) (posts : List Post) : Type 0 where
   -- the data of a write
-  stores : v.phase ≡ phase.Store → old.stopped ≡ false → IsInside sizes v.block
-      → new ≡ counted old → made ≡ Calls (Write v.block v.bytes true) ∷ [] → posts ≡ (id.Journal, item.Request (turned phase.Enter v)) ∷ []
+  stores : (x : Pbn) → v.phase ≡ phase.Store → v.new ≡ At x → old.stopped ≡ false → IsInside sizes x
+      → new ≡ counted old → made ≡ Calls (Write x v.bytes true) ∷ [] → posts ≡ (id.Journal, item.Request (turned phase.Enter v)) ∷ []
       → DeviceServes sizes old v new made posts
-  store_fails : (kept : Bool) → v.phase ≡ phase.Store → old.stopped ≡ false → IsInside sizes v.block
-      → new ≡ halted old → made ≡ Fails v.request (Write v.block v.bytes false) kept ∷ []
+  store_fails : (x : Pbn) (kept : Bool) → v.phase ≡ phase.Store → v.new ≡ At x → old.stopped ≡ false → IsInside sizes x
+      → new ≡ halted old → made ≡ Fails v.request (Write x v.bytes false) kept ∷ []
       → posts ≡ (id.Physical 0, item.Request (ended phase.AbortClaim reply.Stopped v)) ∷ stop_notices (notified sizes)
       → DeviceServes sizes old v new made posts
   store_unmade : v.phase ≡ phase.Store → old.stopped ≡ true
       → new ≡ old → made ≡ [] → posts ≡ (id.Physical 0, item.Request (ended phase.AbortClaim reply.Stopped v)) ∷ []
       → DeviceServes sizes old v new made posts
   -- the block of a read
-  loads : (bytes : List ℕ) → v.phase ≡ phase.Load → IsInside sizes v.block
-      → new ≡ counted old → made ≡ Calls (Read v.block bytes true) ∷ [] → posts ≡ (v.home, item.Request (record v { phase = phase.Loaded; bytes = bytes })) ∷ []
+  loads : (x : Pbn) (bytes : List ℕ) → v.phase ≡ phase.Load → v.old ≡ At x → IsInside sizes x
+      → new ≡ counted old → made ≡ Calls (Read x bytes true) ∷ [] → posts ≡ (v.home, item.Request (record v { phase = phase.Loaded; bytes = bytes })) ∷ []
       → DeviceServes sizes old v new made posts
-  load_fails : (bytes : List ℕ) (kept : Bool) → v.phase ≡ phase.Load → IsInside sizes v.block
-      → new ≡ old → made ≡ Fails v.request (Read v.block bytes false) kept ∷ [] → posts ≡ (v.home, item.Request (ended phase.Abort reply.ReadFault v)) ∷ []
+  load_fails : (x : Pbn) (bytes : List ℕ) (kept : Bool) → v.phase ≡ phase.Load → v.old ≡ At x → IsInside sizes x
+      → new ≡ old → made ≡ Fails v.request (Read x bytes false) kept ∷ [] → posts ≡ (v.home, item.Request (ended phase.Abort reply.ReadFault v)) ∷ []
       → DeviceServes sizes old v new made posts
   -- a flush request
   flushes : v.phase ≡ phase.Flush → old.stopped ≡ false

@@ -22,7 +22,7 @@ use Rattle.vdo_model.specs.declared.report.FlushMark.{FlushMark}
 use Rattle.vdo_model.specs.declared.report.Placed.{Placed}
 use Rattle.vdo_model.specs.ZoneOrder.{places_in}
 use Rattle.core_model.specs.declared.items.Asks.{Asks}
-use Rattle.core_model.specs.declared.items.Asks.TheVariants.{Read, Write, Flush}
+use Rattle.core_model.specs.declared.items.Asks.TheVariants.{Read, Write, Discard, Flush}
 use Rattle.core_model.specs.declared.items.Item.{Item}
 use Rattle.core_model.specs.declared.items.Item.TheVariants as item
 use Rattle.core_model.specs.declared.items.Phase.{Phase}
@@ -48,8 +48,8 @@ use Rattle.core_model.specs.JournalRows.{is_closed}
 use Rattle.core_model.specs.LogicalRows.{is_among, is_held, mapped_by}
 use Rattle.core_model.specs.Phases.{row, number_at, stage_row}
 use Rattle.core_model.specs.Zones.{zone_number, zone_count, notified_zones}
-use Rattle.core_model.specs.RightTraces.{IsOpen, Quiet, IsCommitted, AllBelow, HasPlace, HasBelow, HasCause}
-use Rattle.core_model.specs.Sessions.{Session, HasHonestReads, IsFresh, Stands, ReadsAs, AtRest, OnItsWay, ReadsEntry, HasPending, value_at}
+use Rattle.core_model.specs.RightTraces.{IsOpen, MapsTo, Quiet, IsCommitted, AllBelow, HasPlace, HasBelow, HasCause}
+use Rattle.core_model.specs.Sessions.{Session, HasHonestReads, IsFresh, OnBlock, Stands, ReadsAs, AtRest, OnItsWay, ReadsEntry, HasPending, value_at}
 use Rattle.plain_laws.specs.Sums.{total, Each}
 use Rattle.core_model.specs.Tokens.{lock_weight, kept_by}
 use Rattle.core_model.specs.Trace.{Trace, moments, lines, calls, marks, places, entered, committed, done, aborted, taken, has_stopped, of_address, newest, logged_of, entries_of}
@@ -78,15 +78,26 @@ pub record IsUnderWay (s : Session) (t : Trace) (w : Writer) (asks : Asks) (at :
 abbrev pub VioOk : Session → Trace → Vio → Type 0
 VioOk s t v = IsUnderWay s t v.request v.asks v.at v.bytes v.home
 
--- a block request that drew no place yet
+-- a request for a block: it reads, writes or discards
+abbrev pub IsForBlock : Asks → Type 0
+IsForBlock Flush = ⊥
+IsForBlock other = Unit {0}
+
+-- one that changes its block: it writes or discards
+abbrev pub IsChange : Asks → Type 0
+IsChange Write = Unit {0}
+IsChange Discard = Unit {0}
+IsChange other = ⊥
+
+-- a request for a block that drew no place yet
 pub record IsUndrawn (t : Trace) (w : Writer) (asks : Asks) : Type 0 where
-  pub block_request : (asks ≡ Read) ⊎ (asks ≡ Write)
+  pub for_block : IsForBlock asks
   pub unplaced : IsNone (place_of (places t) w)
   pub not_entered : IsNone (logged_of (entered t) w)
 
 -- one that has its place, and whose entry wasn't handed in
 pub record IsDrawn (s : Session) (t : Trace) (w : Writer) (asks : Asks) (a place : ℕ) : Type 0 where
-  pub block_request : (asks ≡ Read) ⊎ (asks ≡ Write)
+  pub for_block : IsForBlock asks
   pub placed : HasPlace s t w a place
   pub not_entered : IsNone (logged_of (entered t) w)
 
@@ -114,9 +125,9 @@ pub record HasLooked (s : Session) (t : Trace) (w : Writer) (asks : Asks) (a pla
 abbrev pub Looks : Session → Trace → Vio → Type 0
 Looks s t v = HasLooked s t v.request v.asks v.at.0 v.place v.old v.latest
 
--- a write whose entry was handed in
+-- a write or a discard whose entry was handed in
 pub record HasEntered (s : Session) (t : Trace) (asks : Asks) (e : Logged) : Type 0 where
-  pub is_write : asks ≡ Write
+  pub is_change : IsChange asks
   pub placed : HasPlace s t e.request e.at.0 e.place
   pub entry : logged_of (entered t) e.request ≡ Some e
   pub unset : IsNone (logged_of (done t) e.request)
@@ -137,15 +148,24 @@ HasEarned s t m asks r (Some a) = IsEarned s t m r a (is_marked asks a)
 abbrev pub MayReply : Session → Trace → Vio → Option Answer → Type 0
 MayReply s t v answer = HasEarned s t (mark_of_vio v) v.asks (request_of v) answer
 
+-- a mapping is to a free data block, or to a block inside the image
+abbrev pub IsToFresh : Session → Mapping → Type 0
+IsToFresh s (At x) = IsFresh s x
+IsToFresh s other = ⊥
+
+abbrev pub IsToInside : Session → Mapping → Type 0
+IsToInside s (At x) = IsInside s.sizes x
+IsToInside s other = ⊥
+
 -- What a request carries in each phase.
 abbrev pub Carries : Session → Trace → Vio → Phase → Type 0
 Carries s t v phase.Arrive = IsUndrawn t v.request v.asks
 Carries s t v phase.Wait = IsPlaced s t v
 Carries s t v phase.Claim = Holds s t v × (v.asks ≡ Write)
-Carries s t v phase.Store = Holds s t v × (v.asks ≡ Write) × IsFresh s v.block
-Carries s t v phase.Enter = Holds s t v × (v.asks ≡ Write) × IsFresh s v.block × ReadsAs s t v.block.0 v.bytes
-Carries s t v phase.Settle = IsEntered s t v × IsCommitted t (logged v) × AllBelow t v.at.0 v.place × IsFresh s v.block
-Carries s t v phase.Load = Looks s t v × (mapped_by v.latest (mapping_of s.window v.at.0) ≡ At v.block) × IsInside s.sizes v.block
+Carries s t v phase.Store = Holds s t v × (v.asks ≡ Write) × IsToFresh s v.new
+Carries s t v phase.Enter = Holds s t v × MapsTo v.asks v.bytes v.new × OnBlock (IsFresh s) v.new × OnBlock (λ x. ReadsAs s t x.0 v.bytes) v.new
+Carries s t v phase.Settle = IsEntered s t v × IsCommitted t (logged v) × AllBelow t v.at.0 v.place × OnBlock (IsFresh s) v.new
+Carries s t v phase.Load = Looks s t v × IsToInside s v.old
 Carries s t v phase.Loaded = Looks s t v × (HasHonestReads s t → v.bytes ≡ value_at s t v.at.0)
 Carries s t v phase.AbortClaim = Holds s t v × MayReply s t v v.answer
 Carries s t v phase.Abort = Holds s t v × MayReply s t v v.answer
@@ -156,8 +176,8 @@ Carries s t v phase.Reply = MayReply s t v v.answer
 
 -- What stands on the device while a sealed block is at a stage: its entry is the last that was handed in.
 abbrev pub StandsAt : Session → Trace → Vio → Stage → Type 0
-StandsAt s t v stage.Cover = AtRest s t (committed t) × ReadsAs s t v.block.0 v.bytes
-StandsAt s t v stage.Write = AtRest s t (committed t) × Stands s t v.block.0 v.bytes
+StandsAt s t v stage.Cover = AtRest s t (committed t) × OnBlock (λ x. ReadsAs s t x.0 v.bytes) v.new
+StandsAt s t v stage.Write = AtRest s t (committed t) × OnBlock (λ x. Stands s t x.0 v.bytes) v.new
 StandsAt s t v stage.Harden = OnItsWay s t (committed t) (logged v) × ReadsEntry s t (committed t) (logged v)
 StandsAt s t v stage.Commit = AtRest s t (logged v ∷ committed t)
 StandsAt s t v stage.Fail = (AtRest s t (committed t) ⊎ OnItsWay s t (committed t) (logged v)) × (has_stopped t ≡ true)
@@ -170,7 +190,8 @@ pub record IsSealed (s : Session) (t : Trace) (v : Vio) (at : ℕ) : Type 0 wher
   pub last : entered t ≡ logged v ∷ committed t
   pub others : of_address v.at.0 (committed t) ≡ of_address v.at.0 (done t)
   pub below : AllBelow t v.at.0 v.place
-  pub fresh : IsFresh s v.block
+  pub maps : MapsTo v.asks v.bytes v.new
+  pub fresh : OnBlock (IsFresh s) v.new
   pub old_held : HoldsMapping v.old
   pub sequence : at ≡ s.sizes.start + (s.sizes.opened + length (committed t))
   pub few : s.sizes.opened + length (committed t) < s.sizes.geometry.journal

@@ -1,5 +1,6 @@
 -- What the physical zone and the journal do: data blocks are taken, entries are handed in and committed.
 use Rattle.std.specs.Prelude.{◌+◌, ◌≡◌, Bool, true, false, ◌||◌, List, [], ◌∷◌, ◌++◌, length, nat_lt}
+use Rattle.blk_base.specs.declared.place.Mapping.TheVariants.{At}
 use Rattle.blk_base.specs.declared.place.Pbn.{Pbn}
 use Rattle.blk_base.specs.declared.place.ZoneId.TheVariants as id
 use Rattle.blk_base.specs.declared.request.Answer.{Answer}
@@ -18,7 +19,7 @@ use Rattle.core_model.specs.Vios.{Post, turned, ended, logged}
 pub data PhysicalServes (sizes : Sizes) (old : PhysicalZone) (v : Vio) (new : PhysicalZone) (made : Trace) (posts : List Post) : Type 0 where
   -- a write takes the first free block, or there is none
   claims : (x : Pbn) (others : List Pbn) → v.phase ≡ phase.Claim → old.free ≡ x ∷ others
-      → new ≡ record old { free = others } → made ≡ Takes v.request x ∷ [] → posts ≡ (id.Device, item.Request (record v { phase = phase.Store; block = x })) ∷ []
+      → new ≡ record old { free = others } → made ≡ Takes v.request x ∷ [] → posts ≡ (id.Device, item.Request (record v { phase = phase.Store; new = At x })) ∷ []
       → PhysicalServes sizes old v new made posts
   is_full : v.phase ≡ phase.Claim → old.free ≡ []
       → new ≡ old → made ≡ [] → posts ≡ (v.home, item.Request (ended phase.Abort reply.Full v)) ∷ []

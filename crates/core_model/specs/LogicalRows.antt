@@ -1,5 +1,5 @@
 -- What a logical zone does: places, locks, slots.
-use Rattle.std.specs.Prelude.{ℕ, ◌+◌, ◌≡◌, ◌==◌, Bool, true, false, ◌||◌, Option, None, Some, List, [], ◌∷◌, ◌++◌, if◌then◌else◌}
+use Rattle.std.specs.Prelude.{ℕ, ◌+◌, ◌≡◌, ◌==◌, Bool, true, false, ◌&&◌, ◌||◌, Option, None, Some, List, [], ◌∷◌, ◌++◌, if◌then◌else◌}
 use Rattle.blk_base.specs.Sectors.{zero_block}
 use Rattle.blk_base.specs.declared.place.Lba.{Lba}
 use Rattle.blk_base.specs.declared.place.Mapping.{Mapping}
@@ -9,7 +9,7 @@ use Rattle.blk_base.specs.declared.request.Answer.TheVariants as reply
 use Rattle.image_layout.specs.Window.{mapping_of}
 use Rattle.vdo_model.specs.declared.report.Placed.{Placed}
 use Rattle.core_model.specs.declared.items.Asks.{Asks}
-use Rattle.core_model.specs.declared.items.Asks.TheVariants.{Read, Write, Flush}
+use Rattle.core_model.specs.declared.items.Asks.TheVariants.{Read, Write, Discard, Flush}
 use Rattle.core_model.specs.declared.items.Item.TheVariants as item
 use Rattle.core_model.specs.declared.items.Phase.TheVariants as phase
 use Rattle.core_model.specs.declared.items.Vio.{Vio}
@@ -66,13 +66,13 @@ place_of_vio l v = record { request = v.request; zone = l.zone; place = l.next }
 abbrev pub drawn_by : LogicalZone → Vio → LogicalZone
 drawn_by l v = record l { next = l.next + 1; places = place_of_vio l v ∷ l.places }
 
--- the last write that set an address in this session, and where the address is mapped
+-- the last write or discard that set an address in this session, and where the address is mapped
 abbrev pub latest_at : LogicalZone → ℕ → Option Logged
 latest_at l a = newest (of_address a l.slots)
 
 abbrev pub mapped_by : Option Logged → Mapping → Mapping
 mapped_by None opening = opening
-mapped_by (Some e) opening = At e.block
+mapped_by (Some e) opening = e.new
 
 abbrev pub mapping_at : LogicalZone → ℕ → Mapping
 mapping_at l a = mapped_by (latest_at l a) (mapping_of l.window a)
@@ -81,15 +81,29 @@ mapping_at l a = mapped_by (latest_at l a) (mapping_of l.window a)
 abbrev pub looked : LogicalZone → Vio → Vio
 looked l v = record v { old = mapping_at l v.at.0; latest = latest_at l v.at.0 }
 
--- where it goes: a write takes a block, a read reads the mapped one, or is given zeros; a flush takes no lock
+-- whether bytes are zeros
+abbrev pub are_zeros : List ℕ → Bool
+are_zeros [] = true
+are_zeros (b ∷ bytes) = (b == 0) && are_zeros bytes
+
+-- one that needs no block hands in its entry
+abbrev pub enters_with : Mapping → Vio → Post
+enters_with new v = (id.Journal, item.Request (record v { phase = phase.Enter; new = new }))
+
+-- a write takes a block, but for one of zeros
+abbrev pub write_next : Vio → Post
+write_next v = if are_zeros v.bytes then enters_with Zero v else (id.Physical 0, item.Request (turned phase.Claim v))
+
+-- where it goes: a read reads the mapped block, or is given zeros; a discard needs no block; a flush takes no lock
 abbrev pub read_next : Sizes → LogicalZone → Vio → Mapping → Post
-read_next sizes l v (At x) = (id.Device, item.Request (record v { phase = phase.Load; block = x }))
+read_next sizes l v (At x) = (id.Device, item.Request (turned phase.Load v))
 read_next sizes l v Unmapped = (id.Logical l.zone, item.Request (record v { phase = phase.Loaded; bytes = zero_block }))
 read_next sizes l v Zero = (id.Logical l.zone, item.Request (record v { phase = phase.Loaded; bytes = zero_block }))
 
 abbrev pub next_for : Sizes → LogicalZone → Vio → Asks → Option Post
 next_for sizes l v Read = Some (read_next sizes l (looked l v) (mapping_at l v.at.0))
-next_for sizes l v Write = Some (id.Physical 0, item.Request (turned phase.Claim (looked l v)))
+next_for sizes l v Write = Some (write_next (looked l v))
+next_for sizes l v Discard = Some (enters_with Unmapped (looked l v))
 next_for sizes l v Flush = None
 
 abbrev pub goes_on : Sizes → LogicalZone → Vio → Option Post

@@ -2,7 +2,9 @@
 use Rattle.std.specs.Prelude.{ℕ, ◌+◌, ◌≡◌, ◌⊎◌, ◌<◌, ◌≤◌, true, false, Some, IsNone, IsSome, List, [], ◌∷◌, length, slice_get}
 use Rattle.std.specs.List.{AllByRecursion}
 use Rattle.blk_base.specs.declared.place.Lba.{Lba}
-use Rattle.blk_base.specs.declared.place.Mapping.TheVariants.{At}
+use Rattle.blk_base.specs.Sectors.{zero_block}
+use Rattle.blk_base.specs.declared.place.Mapping.{Mapping}
+use Rattle.blk_base.specs.declared.place.Mapping.TheVariants.{Unmapped, Zero, At}
 use Rattle.blk_base.specs.declared.place.Pbn.{Pbn}
 use Rattle.blk_base.specs.declared.request.Answer.{Answer}
 use Rattle.blk_base.specs.declared.request.Answer.TheVariants as reply
@@ -20,7 +22,10 @@ use Rattle.vdo_model.specs.declared.report.DeskLine.{DeskLine}
 use Rattle.vdo_model.specs.declared.report.DeskLine.TheVariants as line
 use Rattle.vdo_model.specs.declared.report.Placed.{Placed}
 use Rattle.core_model.specs.declared.zones.Logged.{Logged}
+use Rattle.core_model.specs.declared.items.Asks.{Asks}
+use Rattle.core_model.specs.declared.items.Asks.TheVariants as asks
 use Rattle.core_model.specs.Sessions.{Session, Shown, value_at}
+use Rattle.core_model.specs.Vios.{asked}
 use Rattle.core_model.specs.Trace.{Happening, Says, Flushes, Draws, Enters, Commits, Sets, Gives, Takes, Aborts, Calls, Fails, Trace, Gift, moments, lines, places, entered, committed, done, aborted, gifts, taken, is_read, is_ok, has_stopped, has_read_fault, of_address, logged_of, gift_of, entries_of}
 
 -- a request is begun and not answered
@@ -51,10 +56,19 @@ pub record AllBelow (t : Trace) (a place : ℕ) : Type 0 where
 abbrev pub HasPlace : Session → Trace → Writer → ℕ → ℕ → Type 0
 HasPlace s t w a place = place_of (places t) w ≡ Some (record { request = w; zone = zone_of s.sizes.zones a; place = place })
 
--- an entry is of a write of the script that has its place
+-- what a request maps its address to: a write to a block, or to zeros where its bytes are; a discard to nothing
+abbrev pub MapsTo : Asks → List ℕ → Mapping → Type 0
+MapsTo asks.Write bytes (At x) = Unit {0}
+MapsTo asks.Write bytes Zero = bytes ≡ zero_block
+MapsTo asks.Discard bytes Unmapped = Unit {0}
+MapsTo other bytes new = ⊥
+
+-- an entry is of a write or a discard of the script that has its place, and maps its address to what that maps it to
 pub record IsWrite (s : Session) (t : Trace) (e : Logged) : Type 0 where
+  pub asks : Asks
   pub bytes : List ℕ
-  pub asked : request_at s.script e.request ≡ Some (request.Write e.at bytes false)
+  pub asked : request_at s.script e.request ≡ Some (asked asks e.at bytes)
+  pub maps : MapsTo asks bytes e.new
   pub placed : HasPlace s t e.request e.at.0 e.place
 
 -- one of these writes is of this address, with a lower place
@@ -68,9 +82,12 @@ pub record FollowsAbort (s : Session) (t : Trace) (w : Writer) (a : ℕ) : Type 
   pub placed : HasPlace s t w a place
   pub behind : HasBelow a place (aborted t)
 
--- no block of the journal is left, or no free data block
+-- no block of the journal is left; or none, or no free data block
+abbrev pub HasFullJournal : Session → Trace → Type 0
+HasFullJournal s t = s.sizes.geometry.journal ≤ s.sizes.opened + length (entered t)
+
 abbrev pub IsFull : Session → Trace → Type 0
-IsFull s t = (s.sizes.geometry.journal ≤ s.sizes.opened + length (entered t)) ⊎ (length s.free ≤ taken t)
+IsFull s t = HasFullJournal s t ⊎ (length s.free ≤ taken t)
 
 -- Why a request may be answered so.
 abbrev pub HasCause : Session → Trace → Writer → Request → Answer → Type 0
@@ -88,22 +105,30 @@ HasCause s t w (request.Write at bytes fua) reply.Range = s.sizes.geometry.logic
 HasCause s t w (request.Write at bytes fua) reply.Stopped = (has_stopped t ≡ true) × IsSome (place_of (places t) w) × IsNone (logged_of (done t) w)
 HasCause s t w (request.Write at bytes fua) reply.Full = IsSome (place_of (places t) w) × IsNone (logged_of (entered t) w) × IsFull s t
 HasCause s t w (request.Write at bytes fua) other = ⊥
-HasCause s t w (request.Discard at) a = ⊥
+-- a discard: the same, but that it needs no data block
+HasCause s t w (request.Discard at) reply.Ok = IsSome (logged_of (done t) w)
+HasCause s t w (request.Discard at) reply.Range = s.sizes.geometry.logical ≤ at.0
+HasCause s t w (request.Discard at) reply.Stopped = (has_stopped t ≡ true) × IsSome (place_of (places t) w) × IsNone (logged_of (done t) w)
+HasCause s t w (request.Discard at) reply.Full = IsSome (place_of (places t) w) × IsNone (logged_of (entered t) w) × HasFullJournal s t
+HasCause s t w (request.Discard at) other = ⊥
 -- a flush: the session is stopped; one that returned is answered with its mark
 HasCause s t w request.Flush reply.Stopped = has_stopped t ≡ true
 HasCause s t w request.Flush other = ⊥
 
--- A write is stopped before it reached its zone: it was just begun.
+-- A write or a discard is stopped before it reached its zone: it was just begun.
 pub record IsStoppedAtOnce (t : Trace) (w : Writer) : Type 0 where
   pub stopped : has_stopped t ≡ true
   pub unset : IsNone (logged_of (done t) w)
   pub older : Trace
   pub begun_last : t ≡ Says (line.Begin w) ∷ older
 
--- a request may be answered so: it has its cause, or it is a write below the logical size that is stopped at once
+-- a request may be answered so: it has its cause, or it is a write or a discard below the logical size that is stopped at
+-- once
 abbrev pub MayAnswer : Session → Trace → Writer → Request → Answer → Type 0
 MayAnswer s t w (request.Write at bytes fua) reply.Stopped =
     HasCause s t w (request.Write at bytes fua) reply.Stopped ⊎ ((at.0 < s.sizes.geometry.logical) × IsStoppedAtOnce t w)
+MayAnswer s t w (request.Discard at) reply.Stopped =
+    HasCause s t w (request.Discard at) reply.Stopped ⊎ ((at.0 < s.sizes.geometry.logical) × IsStoppedAtOnce t w)
 MayAnswer s t w r a = HasCause s t w r a
 
 -- a line may follow this trace
@@ -141,7 +166,7 @@ pub record SlotMayFollow (s : Session) (e : Logged) (t : Trace) : Type 0 where
   pub below : AllBelow t e.at.0 e.place
   pub unaborted : IsNone (logged_of (aborted t) e.request)
 
--- a write whose entry was handed in may be aborted, once the session is stopped
+-- a write or a discard whose entry was handed in may be aborted, once the session is stopped
 pub record AbortMayFollow (s : Session) (e : Logged) (t : Trace) : Type 0 where
   pub is_open : IsOpen t e.request
   pub handed_in : logged_of (entered t) e.request ≡ Some e

@@ -4,6 +4,8 @@ use Rattle.std.specs.List.{AllByRecursion}
 use Rattle.blk_base.specs.Limits.{IsGeometry}
 use Rattle.blk_base.specs.Regions.{IsDataBlock, journal_slot_of, needed_blocks}
 use Rattle.blk_base.specs.declared.journal_entry.Entry.{Entry}
+use Rattle.blk_base.specs.Sectors.{zero_block}
+use Rattle.blk_base.specs.declared.place.Mapping.{Mapping}
 use Rattle.blk_base.specs.declared.place.Mapping.TheVariants.{At}
 use Rattle.blk_base.specs.declared.place.Pbn.{Pbn}
 use Rattle.blk_base.specs.declared.request.Request.TheVariants as request
@@ -37,7 +39,7 @@ pub record Session : Type 0 where
 abbrev pub IsServed : Request → Type 0
 IsServed (request.Read at) = Unit {0}
 IsServed (request.Write at bytes fua) = (length bytes ≡ 4096) × (fua ≡ false)
-IsServed (request.Discard at) = ⊥
+IsServed (request.Discard at) = Unit {0}
 IsServed request.Flush = Unit {0}
 
 -- a data block that no entry of the window names
@@ -83,16 +85,26 @@ Stands s t x bytes = Surely s.blocks (log s t) x (λ content. content ≡ bytes)
 abbrev pub ReadsAs : Session → Trace → ℕ → List ℕ → Type 0
 ReadsAs s t x bytes = AllByRecursion (λ content. content ≡ bytes) (device.settled s.blocks (log s t) x)
 
--- what a write gives its address
+-- what a write or a discard gives its address
 abbrev pub bytes_of : Session → Logged → List ℕ
 bytes_of s e = value_written (request_at s.script e.request)
 
--- the blocks of these writes stand
+-- what holds of the block of a mapping, where it has one
+abbrev pub OnBlock : (Pbn → Type 0) → Mapping → Type 0
+OnBlock P (At x) = P x
+OnBlock P other = Unit {0}
+
+-- a mapping gives its address these bytes: its block was free, and has them; without a block they are zeros
+abbrev pub GivesBytes : Session → Trace → Mapping → List ℕ → Type 0
+GivesBytes s t (At x) bytes = IsFresh s x × Stands s t x.0 bytes
+GivesBytes s t other bytes = bytes ≡ zero_block
+
+-- these writes and discards give their addresses their bytes
 abbrev pub EachStands : Session → Trace → List Logged → Type 0
 EachStands s t [] = Unit {0}
-EachStands s t (e ∷ older) = (IsFresh s e.block × Stands s t e.block.0 (bytes_of s e)) × EachStands s t older
+EachStands s t (e ∷ older) = GivesBytes s t e.new (bytes_of s e) × EachStands s t older
 
--- the journal has the entries of these writes, and their blocks stand
+-- the journal has their entries, and they give their addresses their bytes
 abbrev pub AtRest : Session → Trace → List Logged → Type 0
 AtRest s t es = IsAtRest s.blocks (log s t) s.sizes.geometry s.sizes.start (entries_of s.window es) × EachStands s t es
 

@@ -1,5 +1,7 @@
 -- Tokens: what is given out once and held once. Of each token as many are held as were given.
-use Rattle.std.specs.Prelude.{ℕ, ◌+◌, ◌≡◌, ◌≤◌, ◌==◌, Bool, ◌&&◌, not, List, [], ◌∷◌, length, cond}
+use Rattle.std.specs.Prelude.{ℕ, ◌+◌, ◌≡◌, ◌≤◌, ◌==◌, Bool, false, ◌&&◌, not, List, [], ◌∷◌, length, cond}
+use Rattle.blk_base.specs.declared.place.Mapping.{Mapping}
+use Rattle.blk_base.specs.declared.place.Mapping.TheVariants.{At}
 use Rattle.blk_base.specs.declared.place.Pbn.{Pbn}
 use Rattle.blk_base.specs.declared.request.Writer.{Writer}
 use Rattle.vdo_model.specs.Scripts.{same_writer}
@@ -133,15 +135,20 @@ entry_token = record { item = entry_weight; own = ended_at; gave = entered_at }
 abbrev pub claims : Phase → Bool
 claims p = (row p).claims
 
+-- whether a mapping names a block
+abbrev pub names : ℕ → Mapping → Bool
+names x (At p) = p.0 == x
+names x other = false
+
 abbrev pub claim_weight : ℕ → Item → ℕ
-claim_weight x (Request v) = bit (claims v.phase && v.block.0 == x)
+claim_weight x (Request v) = bit (claims v.phase && names x v.new)
 claim_weight x other = 0
 
 abbrev pub is_block : ℕ → Pbn → ℕ
 is_block x p = bit (p.0 == x)
 
 abbrev pub is_entry : ℕ → Logged → ℕ
-is_entry x e = bit (e.block.0 == x)
+is_entry x e = bit (names x e.new)
 
 abbrev pub blocks_at : ℕ → ZoneData → ℕ
 blocks_at x (at.Physical p) = total (is_block x) p.free

@@ -4,7 +4,6 @@ use Rattle.std.specs.Prelude.{ℕ, suc, ◌==◌, Bool, true, false, not, ◌&&�
 use Rattle.blk_base.specs.declared.journal_entry.Entry.{Entry}
 use Rattle.blk_base.specs.declared.journal_entry.Entry.TheVariants.{Remap}
 use Rattle.blk_base.specs.declared.place.Lba.{Lba}
-use Rattle.blk_base.specs.declared.place.Mapping.TheVariants.{At}
 use Rattle.blk_base.specs.declared.place.Pbn.{Pbn}
 use Rattle.blk_base.specs.declared.request.Answer.TheVariants.{Ok}
 use Rattle.blk_base.specs.declared.request.Writer.{Writer}
@@ -32,7 +31,7 @@ pub data Happening : Type 0 where
   Flushes : FlushMark → Happening
   -- a request draws its place
   Draws : Placed → Happening
-  -- the entry of a write is handed in, is committed, and its slot is set
+  -- the entry of a write or a discard is handed in, is committed, and its slot is set
   Enters : Logged → Happening
   Commits : Logged → Happening
   Sets : Logged → Happening
@@ -40,7 +39,7 @@ pub data Happening : Type 0 where
   Gives : Gift → Happening
   -- a write takes a free data block
   Takes : Writer → Pbn → Happening
-  -- a write whose entry was handed in is aborted: its slot is never set
+  -- a write or a discard whose entry was handed in is aborted: its slot is never set
   Aborts : Logged → Happening
   -- the device is called, and the call succeeds
   Calls : Call → Happening
@@ -82,7 +81,7 @@ places [] = []
 places (Draws p ∷ t) = p ∷ places t
 places (other ∷ t) = places t
 
--- the writes whose entry was handed in
+-- the writes and discards whose entry was handed in
 abbrev pub entered : Trace → List Logged
 entered [] = []
 entered (Enters e ∷ t) = e ∷ entered t
@@ -162,7 +161,7 @@ gift_of (g ∷ older) w = if same_writer g.request w then Some g else gift_of ol
 
 -- the entry of the journal, and those of the journal
 abbrev pub entry_of : Logged → Entry
-entry_of e = Remap e.at e.old (At e.block)
+entry_of e = Remap e.at e.old e.new
 
 -- the entries of these writes, over those of the window
 abbrev pub entries_of : List Entry → List Logged → List Entry

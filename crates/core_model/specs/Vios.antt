@@ -10,7 +10,7 @@ use Rattle.blk_base.specs.declared.request.Request.TheVariants as request
 use Rattle.blk_base.specs.declared.request.Writer.{Writer}
 use Rattle.vdo_model.specs.Places.{zone_of}
 use Rattle.core_model.specs.declared.items.Asks.{Asks}
-use Rattle.core_model.specs.declared.items.Asks.TheVariants.{Read, Write, Flush}
+use Rattle.core_model.specs.declared.items.Asks.TheVariants.{Read, Write, Discard, Flush}
 use Rattle.core_model.specs.declared.items.Item.{Item}
 use Rattle.core_model.specs.declared.items.Phase.{Phase}
 use Rattle.core_model.specs.declared.items.Phase.TheVariants as phase
@@ -29,6 +29,7 @@ Post = ZoneId × Item
 abbrev pub asked : Asks → Lba → List ℕ → Request
 asked Read at bytes = request.Read at
 asked Write at bytes = request.Write at bytes false
+asked Discard at bytes = request.Discard at
 asked Flush at bytes = request.Flush
 
 abbrev pub request_of : Vio → Request
@@ -47,7 +48,7 @@ begun_vio sizes w asks at bytes =
       place = 0;
       old = Unmapped;
       latest = None;
-      block = record { 0 = 0 };
+      new = Unmapped;
       answer = None;
       calls = 0;
     }
@@ -62,7 +63,7 @@ ended next answer v = record v { phase = next; answer = Some answer }
 
 -- the entry that it hands in
 abbrev pub logged : Vio → Logged
-logged v = record { request = v.request; at = v.at; place = v.place; old = v.old; block = v.block }
+logged v = record { request = v.request; at = v.at; place = v.place; old = v.old; new = v.new }
 
 -- what it was given
 abbrev pub gift : Vio → Gift

@@ -5,7 +5,7 @@ ghost use Rattle.core_model.specs.declared.items.Phase.TheVariants as phase;
 ghost use Rattle.core_model.specs.Vios.{ended, logged, turned};
 
 use crate::{Logged, Phase, Vio};
-use blk_base::{Answer, Block, Mapping, Pbn};
+use blk_base::{Answer, Block, Mapping};
 use std::alloc::{AllocError, Global};
 use std::marker::Model;
 
@@ -81,12 +81,12 @@ impl BoxedVio {
         self
     }
 
-    /// It has a block, and goes on to another phase with it.
-    pub fn take_block(mut self, phase: Phase, block: Pbn) -> BoxedVio
-        ensures { result ≡ record self { phase = phase; block = block } }
+    /// It is known what it maps its address to, and it goes on to another phase.
+    pub fn map_to(mut self, phase: Phase, new: Mapping) -> BoxedVio
+        ensures { result ≡ record self { phase = phase; new = new } }
     {
         self.vio.phase = phase;
-        self.vio.block = block;
+        self.vio.new = new;
         self
     }
 
@@ -126,7 +126,7 @@ impl BoxedVio {
             at: self.vio.at,
             place: self.vio.place,
             old: self.vio.old,
-            block: self.vio.block,
+            new: self.vio.new,
         }
     }
 }

@@ -12,7 +12,7 @@ use crate::scripts::count_requests;
 use crate::{
     Asks, BoxedVio, Fifo, LANE_ROOM, MOST_ITEMS, MOST_NOTICES, MOST_UNDER_WAY, Phase, Vio,
 };
-use blk_base::{Answer, Block, Lba, Mapping, Pbn, Writer, ZoneId};
+use blk_base::{Answer, Block, Lba, Mapping, Writer, ZoneId};
 use std::alloc::{AllocError, Global};
 use std::marker::Model;
 use vdo_model::{DeskLine, FlushMark, Requests, Rows};
@@ -88,7 +88,7 @@ fn blank() -> Vio {
         place: 0,
         old: Mapping::Unmapped,
         latest: None,
-        block: Pbn(0),
+        new: Mapping::Unmapped,
         answer: None,
         calls: 0,
     }

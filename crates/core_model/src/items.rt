@@ -1,11 +1,12 @@
 use crate::{BoxedVio, Logged};
-use blk_base::{Answer, Block, Lba, Mapping, Pbn, Writer, ZoneId};
+use blk_base::{Answer, Block, Lba, Mapping, Writer, ZoneId};
 
 /// What a request asks for.
 #[derive(Clone, Copy)]
 pub enum Asks {
     Read,
     Write,
+    Discard,
     Flush,
 }
 
@@ -21,7 +22,7 @@ pub enum Phase {
     Claim,
     /// Device: the data of a write is written to its block.
     Store,
-    /// Journal: the entry of a write is handed in, or waits until it can be.
+    /// Journal: the entry of a write or a discard is handed in, or waits until it can be.
     Enter,
     /// Logical: the entry is committed: the slot of the address is set, and the lock released.
     Settle,
@@ -48,7 +49,7 @@ pub enum Phase {
 pub struct Vio {
     pub request: Writer,
     pub asks: Asks,
-    /// The address of a read or write.
+    /// The address of a read, a write or a discard.
     pub at: Lba,
     /// The logical zone of the address.
     pub home: ZoneId,
@@ -61,8 +62,9 @@ pub struct Vio {
     pub old: Mapping,
     /// The last write of its address that was done in this session when it took the lock.
     pub latest: Option<Logged>,
-    /// The data block that it has taken, or that it reads; block 0 until then.
-    pub block: Pbn,
+    /// What a write or a discard maps its address to: the data block that it has taken, or none; `Unmapped` until that is
+    /// known.
+    pub new: Mapping,
     /// What it is answered with, once that is known.
     pub answer: Option<Answer>,
     /// Of a flush, how many calls of the device had succeeded when its own returned; 0 until then.

@@ -1,15 +1,16 @@
 use crate::{BLOCK_ROOM, BoxedVio, Desk, Fifo, LANE_ROOM, LogicalZone, Ports, Register, Supply};
-use blk_base::{Lba, Mapping, Pbn, Writer};
+use blk_base::{Lba, Mapping, Writer};
 
-/// A write whose journal entry was handed in.
+/// A write or a discard whose journal entry was handed in.
 #[derive(Clone, Copy)]
 pub struct Logged {
     pub request: Writer,
     pub at: Lba,
-    /// The number that the write drew in its logical zone.
+    /// The number that it drew in its logical zone.
     pub place: u64,
+    /// What its address is mapped to before it, and by it.
     pub old: Mapping,
-    pub block: Pbn,
+    pub new: Mapping,
 }
 
 /// The data blocks.

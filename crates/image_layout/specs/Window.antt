@@ -21,11 +21,14 @@ abbrev pub HasBlock : Geometry → List (List ℕ) → ℕ → ℕ → List Entr
 HasBlock g journal sequence head entries =
     IsSector g.nonce 0 (sector 0 (get_or journal (journal_slot_of g sequence) zero_block)) sequence head entries
 
--- an entry that maps an address below the logical size to a data block
+-- a mapping is to a data block, or to none
+abbrev pub IsToData : Geometry → Mapping → Type 0
+IsToData g (At x) = IsDataBlock g x.0
+IsToData g other = Unit {0}
+
+-- an entry that maps an address below the logical size to a data block, or to none
 abbrev pub IsMapped : Geometry → Entry → Type 0
-IsMapped g (Remap at old (At x)) = (at.0 < g.logical) × IsDataBlock g x.0
-IsMapped g (Remap at old Unmapped) = ⊥
-IsMapped g (Remap at old Zero) = ⊥
+IsMapped g (Remap at old new) = (at.0 < g.logical) × IsToData g new
 IsMapped g (NewPage page at) = ⊥
 
 -- the block of this sequence is as a run leaves it: its head is the first sequence, and it has one entry, which is this one

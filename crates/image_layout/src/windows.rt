@@ -2,7 +2,7 @@ ghost use Rattle.std.specs.Prelude.{◌≡◌, ◌≤◌, ◌<◌, ◌+◌, ◌^
 ghost use Rattle.blk_base.specs.Limits.{IsGeometry};
 ghost use Rattle.blk_base.specs.declared.geometry.Geometry.{Geometry};
 ghost use Rattle.blk_base.specs.declared.journal_entry.Entry.{Entry};
-ghost use Rattle.image_layout.specs.Window.{IsMapped, IsWritten, IsCount, IsWindow, IsFaulty, IsRefused, mapping_of, value_of};
+ghost use Rattle.image_layout.specs.Window.{IsMapped, IsToData, IsWritten, IsCount, IsWindow, IsFaulty, IsRefused, mapping_of, value_of};
 ghost use Rattle.image_layout.specs.WindowCount.{IsCounted};
 
 use crate::WindowFault;
@@ -136,18 +136,25 @@ fn only_entry(entries: &[Entry]) -> Option<Entry>
     }
 }
 
-// Whether an entry maps an address below the logical size to a data block.
+// Whether a mapping is to a data block, or to none.
+fn is_to_data(layout: &Layout, mapping: Mapping) -> bool
+    ensures yes { IsTrue result → IsToData layout.now.geometry mapping }
+    ensures no { result ≡ false → IsToData layout.now.geometry mapping → ⊥ }
+{
+    match mapping {
+        Mapping::At(block) => layout.is_data_block(block),
+        Mapping::Unmapped | Mapping::Zero => true,
+    }
+}
+
+// Whether an entry maps an address below the logical size to a data block, or to none.
 fn is_mapped(layout: &Layout, entry: &Entry) -> bool
     ensures yes { IsTrue result → IsMapped layout.now.geometry entry.now }
     ensures no { result ≡ false → IsMapped layout.now.geometry entry.now → ⊥ }
 {
     match *entry {
-        Entry::Remap {
-            at,
-            old: _,
-            new: Mapping::At(block),
-        } => at.0 < layout.geometry.logical && layout.is_data_block(block),
-        _ => false,
+        Entry::Remap { at, new, .. } => at.0 < layout.geometry.logical && is_to_data(layout, new),
+        Entry::NewPage { .. } => false,
     }
 }
 

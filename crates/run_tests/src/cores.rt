@@ -36,6 +36,7 @@ impl From<StepFault> for Unplayed {
 pub(crate) enum Ask {
     Read(u32),
     Write(u32, u8),
+    Discard(u32),
     Flush,
 }
 
@@ -83,6 +84,7 @@ fn request(ask: Ask) -> Request
             },
             fua: false,
         },
+        Ask::Discard(at) => Request::Discard(Lba(at)),
         Ask::Flush => Request::Flush,
     }
 }

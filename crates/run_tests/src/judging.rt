@@ -73,7 +73,7 @@ fn is_settled(report: &RunReport, request: Writer) -> bool {
     matches!(answer_of(report, request), Some(Answer::Ok))
 }
 
-// The byte that a request writes at an address, if it is a write of it.
+// The byte that a request gives an address, if it is a write or a discard of it.
 fn written(report: &RunReport, request: Writer, at: Lba) -> Option<u8> {
     match request_of(report, request) {
         Some(
@@ -83,6 +83,7 @@ fn written(report: &RunReport, request: Writer, at: Lba) -> Option<u8> {
                 ..
             },
         ) if there.0 == at.0 => byte_of(block),
+        Some(Request::Discard(there)) if there.0 == at.0 => Some(0),
         _ => None,
     }
 }
@@ -97,7 +98,8 @@ fn place_of(report: &RunReport, request: Writer) -> Option<(u32, u64)> {
     None
 }
 
-// The place in the order of its zone and the byte of a request, if it is a settled write of this address before a place.
+// The place in the order of its zone and the byte of a request, if it is a settled write or discard of this address before
+// a place.
 fn settled_before(
     report: &RunReport,
     request: Writer,
@@ -113,7 +115,7 @@ fn settled_before(
     }
 }
 
-// The byte of the last settled write of an address before a place, or that of a fresh image.
+// The byte of the last settled write or discard of an address before a place, or that of a fresh image.
 fn byte_before(report: &RunReport, at: Lba, place: (u32, u64)) -> u8 {
     let mut last = (0, 0);
     for placed in report.places.as_slice() {
@@ -155,8 +157,8 @@ fn met_by(report: &RunReport, request: Writer, answer: &Answer) -> Met {
     met
 }
 
-/// What a run on a fresh image met, each read looked at: it gives the value of the last settled write of its address with
-/// an earlier place, or zeros.
+/// What a run on a fresh image met, each read looked at: it gives the value of the last settled write or discard of
+/// its address with an earlier place, or zeros.
 pub(crate) fn judge(report: &RunReport) -> Met {
     let mut total = Met::NOTHING;
     for line in report.desk.as_slice() {
@@ -171,7 +173,7 @@ fn is_settled_flush(report: &RunReport, request: Writer) -> bool {
     matches!(request_of(report, request), Some(Request::Flush)) && is_settled(report, request)
 }
 
-// Whether a write was answered before a flush was begun that was answered Ok.
+// Whether a request was answered before a flush was begun that was answered Ok.
 fn is_flushed(report: &RunReport, request: Writer) -> bool {
     let mut answered = false;
     for line in report.desk.as_slice() {
@@ -187,8 +189,8 @@ fn is_flushed(report: &RunReport, request: Writer) -> bool {
     false
 }
 
-/// Whether an image after a stop of a run on a fresh one may have this byte at an address: that of a write which isn't
-/// older than the last one that was flushed.
+/// Whether an image after a stop of a run on a fresh one may have this byte at an address: that of a write or a discard
+/// which isn't older than the last one that was flushed.
 pub(crate) fn may_show(report: &RunReport, at: Lba, byte: u8) -> bool {
     let mut allowed = byte == 0;
     for entry in report.histories.as_slice() {

@@ -1,7 +1,7 @@
-use crate::cores::{Ask, Given, Unplayed, are_answers, in_order, places, played, sizes};
+use crate::cores::{Ask, Given, Unplayed, are_answers, in_order, places, played, push, sizes};
 use crate::runs::fresh;
 use blk_base::{Pbn, Writer};
-use disk_model::{CallKind, FaultAt, MemDisk};
+use disk_model::{Call, CallKind, FaultAt, MemDisk};
 use std::alloc::{AllocError, Global};
 use std::test::Fail;
 use vdo_core::Event;
@@ -14,7 +14,7 @@ struct Row {
     gives: &'static [Given],
 }
 
-const ROWS: [Row; 4] = [
+const ROWS: [Row; 6] = [
     Row {
         asks: &[Ask::Write(5, 0x61), Ask::Read(5)],
         fails: None,
@@ -49,6 +49,36 @@ const ROWS: [Row; 4] = [
             Given::Bytes(6),
             Given::Ok,
         ],
+    },
+    // A discard, and a write of zeros.
+    Row {
+        asks: &[
+            Ask::Write(5, 0x61),
+            Ask::Discard(5),
+            Ask::Read(5),
+            Ask::Write(5, 0x62),
+            Ask::Write(5, 0),
+            Ask::Read(5),
+            Ask::Discard(6),
+            Ask::Read(6),
+        ],
+        fails: None,
+        gives: &[
+            Given::Ok,
+            Given::Ok,
+            Given::Bytes(0),
+            Given::Ok,
+            Given::Ok,
+            Given::Bytes(0),
+            Given::Ok,
+            Given::Bytes(0),
+        ],
+    },
+    // The first block of the journal: the entry of a discard is handed in.
+    Row {
+        asks: &[Ask::Discard(5), Ask::Discard(6), Ask::Read(5)],
+        fails: Some(2),
+        gives: &[Given::Stopped, Given::Stopped, Given::Stopped],
     },
     // The first data block: the entry isn't handed in.
     Row {
@@ -120,6 +150,40 @@ const PLACES: [Placed; 2] = [
         place: 1,
     },
 ];
+
+// The blocks that are written for these requests.
+fn written(alloc: Global, events: &[Event], asks: &[Ask]) -> Result<Vec<Pbn>, Unplayed> {
+    let mut disk = fresh(alloc)?;
+    let _zones = played(alloc, &sizes(1, 1), &[asks], events, &mut disk)?;
+    let mut written = Vec::new(alloc);
+    for call in disk.calls() {
+        if let Call::Write { at, .. } = call {
+            push(&mut written, *at)?;
+        }
+    }
+    Ok(written)
+}
+
+// Discards and writes of zeros take no data block: nine of them fill the journal, and it alone is written.
+#[test]
+fn discards_and_zeros(rt: HostRuntime) -> Result<(), Fail> {
+    let events = in_order(rt.alloc(), 5)?;
+    let asks: &[Ask] = &[
+        Ask::Discard(1),
+        Ask::Write(2, 0),
+        Ask::Discard(3),
+        Ask::Write(1, 0),
+        Ask::Discard(2),
+        Ask::Write(3, 0),
+        Ask::Discard(1),
+        Ask::Write(2, 0),
+        Ask::Discard(3),
+    ];
+    let written = written(rt.alloc(), &events, asks)?;
+    let journal = [2, 3, 4, 5, 6, 7, 8, 1].map(Pbn);
+    assert_eq!(rt; written.as_slice(), journal.as_slice());
+    Ok(())
+}
 
 // How many places two requests draw, and which.
 fn drawn(

@@ -11,8 +11,8 @@ use std::thread::Threads;
 use vdo_core::Setup;
 use vdo_model::RunReport;
 
-// Four streams over two logical zones: addresses from 812 on are of the second. No two writes of a plan have the same byte.
-const PLANS: [Plan; 3] = [
+// Streams over two logical zones: addresses from 812 on are of the second. No two writes of a plan have the same byte.
+const PLANS: [Plan; 4] = [
     Plan {
         setup: Setup {
             logical_zones: 2,
@@ -77,6 +77,35 @@ const PLANS: [Plan; 3] = [
             ],
         ],
     },
+    // Discards, and a write of zeros.
+    Plan {
+        setup: Setup {
+            logical_zones: 2,
+            depth: 16,
+        },
+        streams: &[
+            &[
+                Ask::Write(5, 1),
+                Ask::Discard(5),
+                Ask::Read(5),
+                Ask::Flush,
+                Ask::Write(5, 2),
+            ],
+            &[
+                Ask::Write(900, 0),
+                Ask::Write(900, 3),
+                Ask::Read(900),
+                Ask::Discard(900),
+            ],
+            &[
+                Ask::Write(6, 4),
+                Ask::Read(5),
+                Ask::Flush,
+                Ask::Discard(6),
+                Ask::Read(6),
+            ],
+        ],
+    },
 ];
 
 const SCHEDULES: u64 = 20;
@@ -105,9 +134,9 @@ fn runs_without_a_fault(rt: HostRuntime) -> Result<(), Fail> {
             total = total.and(met_by(&rt, rt.alloc(), plan, number, Trouble::Nothing)?);
         }
     }
-    // The three plans have 7, 4 and 7 reads of addresses, 2 requests out of range, and 2 writes too many.
+    // The plans have 7, 4, 7 and 4 reads of addresses, 2 requests out of range, and 2 writes too many.
     let want = Met {
-        reads: 18 * 20,
+        reads: 22 * 20,
         ranges: 2 * 20,
         full: 2 * 20,
         ..Met::NOTHING
@@ -347,5 +376,11 @@ fn stops_with_three_under_way(rt: HostRuntime) -> Result<(), Fail> {
 #[test]
 fn stops_with_sixteen_under_way(rt: HostRuntime) -> Result<(), Fail> {
     assert_eq!(rt; stops_are_right(&rt, rt.alloc(), &PLANS[2])?, (0, true));
+    Ok(())
+}
+
+#[test]
+fn stops_with_discards(rt: HostRuntime) -> Result<(), Fail> {
+    assert_eq!(rt; stops_are_right(&rt, rt.alloc(), &PLANS[3])?, (0, true));
     Ok(())
 }

@@ -98,9 +98,15 @@ const BLOCK_84: &[u8] =
 // 1, 1, address 5 to block 149, behind the last data block
 const BLOCK_149: &[u8] =
     b"\x01\0\0\0\0\0\0\0\x01\0\0\0\0\0\0\0\x01\0\0\0\0\0\0\0\0\0\x01\0VJS1\0\0\0\0\x05\0\0\0\0\0\0\0\0\x01\x95";
-// 1, 1, address 5 to no block
-const NO_BLOCK: &[u8] =
-    b"\x01\0\0\0\0\0\0\0\x01\0\0\0\0\0\0\0\x01\0\0\0\0\0\0\0\0\0\x01\0VJS1\0\0\0\0\x05";
+// 2, 1, address 5 from block 85 to nothing
+const DISCARD: &[u8] =
+    b"\x01\0\0\0\0\0\0\0\x02\0\0\0\0\0\0\0\x01\0\0\0\0\0\0\0\0\0\x01\0VJS1\0\0\0\0\x05\0\0\0\x01U";
+// 2, 1, address 5 from block 85 to zeros
+const ZERO: &[u8] =
+    b"\x01\0\0\0\0\0\0\0\x02\0\0\0\0\0\0\0\x01\0\0\0\0\0\0\0\0\0\x01\0VJS1\0\0\0\0\x05\0\0\0\x01U\0\0\0\x01";
+// 1, 1, address 1000 to nothing
+const DISCARD_1000: &[u8] =
+    b"\x01\0\0\0\0\0\0\0\x01\0\0\0\0\0\0\0\x01\0\0\0\0\0\0\0\0\0\x01\0VJS1\0\0\0\0\xe8\x03";
 // 1, 1, the page 0 of tree 3 at level 1 to block 86
 const PAGE: &[u8] =
     b"\x01\0\0\0\0\0\0\0\x01\0\0\0\0\0\0\0\x01\0\0\0\0\0\0\0\0\0\x01\0VJS1\x01\x03\x01\0\0\0\0\0\0\0\0\0\0\x01V";
@@ -133,7 +139,7 @@ const REFUSED_ENTRIES: [Case; 5] = [
     ),
     (Device::With(&[(2, BLOCK_84)]), WRITE, WINDOW_1),
     (Device::With(&[(2, BLOCK_149)]), WRITE, WINDOW_1),
-    (Device::With(&[(2, NO_BLOCK)]), WRITE, WINDOW_1),
+    (Device::With(&[(2, DISCARD_1000)]), WRITE, WINDOW_1),
     (Device::With(&[(2, PAGE)]), WRITE, WINDOW_1),
 ];
 
@@ -151,8 +157,8 @@ const FOUND: End = (b"0 0 read 5 1*6a+4095*00 z0:0\n", 0, Calls::Any);
 
 const ZEROS: End = (b"0 0 read 5 4096*00 z0:0\n", 0, Calls::Any);
 
-// What stands in the window is read, and a block of the journal in another slot isn't.
-const READ_WINDOWS: [Case; 3] = [
+// What stands in the window is read, zeros and discards too, and a block of the journal in another slot isn't.
+const READ_WINDOWS: [Case; 5] = [
     (Device::With(&[(2, WRITTEN), VALUE]), READ, FOUND),
     (
         Device::With(&[(2, WRITTEN), (3, SECOND), VALUE]),
@@ -161,6 +167,16 @@ const READ_WINDOWS: [Case; 3] = [
     ),
     (
         Device::With(&[(3, WRITTEN), (4, SECOND), VALUE]),
+        READ,
+        ZEROS,
+    ),
+    (
+        Device::With(&[(2, WRITTEN), (3, DISCARD), VALUE]),
+        READ,
+        ZEROS,
+    ),
+    (
+        Device::With(&[(2, WRITTEN), (3, ZERO), VALUE]),
         READ,
         ZEROS,
     ),

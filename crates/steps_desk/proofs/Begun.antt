@@ -12,5 +12,5 @@ pub named : (sizes : Sizes) (w : Writer) (r : Request) (v : Vio) → vio_of size
 named sizes w (request.Read at) v is = sym (ap (λ (u : Vio). u.request) (same_Some _ _ is))
 named sizes w (request.Write at bytes false) v is = sym (ap (λ (u : Vio). u.request) (same_Some _ _ is))
 named sizes w (request.Write at bytes true) v is = absurd cc
-named sizes w (request.Discard at) v is = absurd cc
+named sizes w (request.Discard at) v is = sym (ap (λ (u : Vio). u.request) (same_Some _ _ is))
 named sizes w request.Flush v is = sym (ap (λ (u : Vio). u.request) (same_Some _ _ is))

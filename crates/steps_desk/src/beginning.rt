@@ -13,7 +13,7 @@ ghost use Rattle.step_parts.specs.Acts.{ActsAlone};
 ghost use Rattle.steps_desk.specs.Begins.{BeginsNone, CanBegin};
 
 use crate::answering::is_notified;
-use blk_base::{Answer, Block, Lba, Mapping, PAGE_SLOTS, Pbn, Request, TREES, Writer, ZoneId};
+use blk_base::{Answer, Block, Lba, Mapping, PAGE_SLOTS, Request, TREES, Writer, ZoneId};
 use core_model::{Asks, Desk, Item, Phase, Sizes, Vio};
 use step_parts::{Posts, StepFault};
 
@@ -33,7 +33,7 @@ fn begun_vio(sizes: &Sizes, request: Writer, asks: Asks, at: Lba, bytes: Block) 
         place: 0,
         old: Mapping::Unmapped,
         latest: None,
-        block: Pbn(0),
+        new: Mapping::Unmapped,
         answer: None,
         calls: 0,
     }
@@ -58,13 +58,17 @@ fn vio_of(sizes: &Sizes, request: Writer, asked: &Request) -> Option<Vio>
             bytes.copy_from(block);
             Some(begun_vio(sizes, request, Asks::Write, *at, bytes))
         }
+        Request::Discard(at) => {
+            let zeros = Block::zero();
+            Some(begun_vio(sizes, request, Asks::Discard, *at, zeros))
+        }
         Request::Flush => {
             let zeros = Block::zero();
             let mut vio = begun_vio(sizes, request, Asks::Flush, Lba(0), zeros);
             vio.phase = Phase::Flush;
             Some(vio)
         }
-        Request::Write { .. } | Request::Discard(_) => None,
+        Request::Write { fua: true, .. } => None,
     }
 }
 
@@ -81,7 +85,7 @@ fn at_once(sizes: &Sizes, notified: bool, asks: Asks, at: Lba) -> Option<Answer>
                 Some(Answer::Range)
             }
         }
-        Asks::Write => {
+        Asks::Write | Asks::Discard => {
             if at.0 >= logical {
                 Some(Answer::Range)
             } else if notified {
@@ -105,7 +109,7 @@ fn first_zone(vio: &Vio) -> ZoneId
     ensures { result ≡ rows.first_zone vio.now }
 {
     match vio.asks {
-        Asks::Read | Asks::Write => vio.home,
+        Asks::Read | Asks::Write | Asks::Discard => vio.home,
         Asks::Flush => ZoneId::Device,
     }
 }

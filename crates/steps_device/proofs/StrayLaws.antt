@@ -1,5 +1,7 @@
--- No rule serves a request whose block is outside the image.
+-- No rule serves a request that has no block inside the image.
 use Rattle.std.proofs.Common.{◌≡◌, false, sym, ◌∙◌}
+use Rattle.blk_base.specs.declared.place.Mapping.TheVariants.{At}
+use Rattle.blk_base.specs.declared.place.Pbn.{Pbn}
 use Rattle.core_model.specs.declared.items.Phase.TheVariants as phase
 use Rattle.core_model.specs.declared.items.Vio.{Vio}
 use Rattle.core_model.specs.declared.sizes.Sizes.{Sizes}
@@ -8,22 +10,24 @@ use Rattle.core_model.specs.DeviceRows.{DeviceServes, IsInside}
 use Rattle.core_model.specs.DeviceRows as device
 use Rattle.step_parts.specs.Causes.{NoRule}
 
-pub none_stores : (sizes : Sizes) (old : DeviceZone) (v : Vio) → v.phase ≡ phase.Store → old.stopped ≡ false → (IsInside sizes v.block → ⊥) → NoRule (DeviceServes sizes old v)
-none_stores sizes old v is runs out new made posts (device.stores p r inside h1 h2 h3) = out inside
-none_stores sizes old v is runs out new made posts (device.store_fails kept p r inside h1 h2 h3) = out inside
+pub none_stores : (sizes : Sizes) (old : DeviceZone) (v : Vio) → v.phase ≡ phase.Store → old.stopped ≡ false
+    → ((x : Pbn) → v.new ≡ At x → IsInside sizes x → ⊥) → NoRule (DeviceServes sizes old v)
+none_stores sizes old v is runs out new made posts (device.stores x p to r inside h1 h2 h3) = out x to inside
+none_stores sizes old v is runs out new made posts (device.store_fails x kept p to r inside h1 h2 h3) = out x to inside
 none_stores sizes old v is runs out new made posts (device.store_unmade p halts h1 h2 h3) = cc
-none_stores sizes old v is runs out new made posts (device.loads bytes p inside h1 h2 h3) = out inside
-none_stores sizes old v is runs out new made posts (device.load_fails bytes kept p inside h1 h2 h3) = out inside
+none_stores sizes old v is runs out new made posts (device.loads x bytes p from inside h1 h2 h3) = let other = sym is ∙ p in cc
+none_stores sizes old v is runs out new made posts (device.load_fails x bytes kept p from inside h1 h2 h3) = let other = sym is ∙ p in cc
 none_stores sizes old v is runs out new made posts (device.flushes p r h1 h2 h3) = let other = sym is ∙ p in cc
 none_stores sizes old v is runs out new made posts (device.flush_fails kept p r h1 h2 h3) = let other = sym is ∙ p in cc
 none_stores sizes old v is runs out new made posts (device.flush_unmade p halts h1 h2 h3) = let other = sym is ∙ p in cc
 
-pub none_loads : (sizes : Sizes) (old : DeviceZone) (v : Vio) → v.phase ≡ phase.Load → (IsInside sizes v.block → ⊥) → NoRule (DeviceServes sizes old v)
-none_loads sizes old v is out new made posts (device.stores p r inside h1 h2 h3) = out inside
-none_loads sizes old v is out new made posts (device.store_fails kept p r inside h1 h2 h3) = out inside
+pub none_loads : (sizes : Sizes) (old : DeviceZone) (v : Vio) → v.phase ≡ phase.Load
+    → ((x : Pbn) → v.old ≡ At x → IsInside sizes x → ⊥) → NoRule (DeviceServes sizes old v)
+none_loads sizes old v is out new made posts (device.stores x p to r inside h1 h2 h3) = let other = sym is ∙ p in cc
+none_loads sizes old v is out new made posts (device.store_fails x kept p to r inside h1 h2 h3) = let other = sym is ∙ p in cc
 none_loads sizes old v is out new made posts (device.store_unmade p halts h1 h2 h3) = let other = sym is ∙ p in cc
-none_loads sizes old v is out new made posts (device.loads bytes p inside h1 h2 h3) = out inside
-none_loads sizes old v is out new made posts (device.load_fails bytes kept p inside h1 h2 h3) = out inside
+none_loads sizes old v is out new made posts (device.loads x bytes p from inside h1 h2 h3) = out x from inside
+none_loads sizes old v is out new made posts (device.load_fails x bytes kept p from inside h1 h2 h3) = out x from inside
 none_loads sizes old v is out new made posts (device.flushes p r h1 h2 h3) = let other = sym is ∙ p in cc
 none_loads sizes old v is out new made posts (device.flush_fails kept p r h1 h2 h3) = let other = sym is ∙ p in cc
 none_loads sizes old v is out new made posts (device.flush_unmade p halts h1 h2 h3) = let other = sym is ∙ p in cc

@@ -1,4 +1,7 @@
-ghost use Rattle.std.specs.Prelude.{◌≡◌, ◌<◌, ◌≤◌, ◌^◌, ◌-◌, [], false, OnOk, OnErr};
+ghost use Rattle.std.specs.Prelude.{◌≡◌, ◌<◌, ◌≤◌, ◌^◌, ◌-◌, [], false, OnOk, OnErr, IfSome, IfNone};
+ghost use Rattle.blk_base.specs.Limits.{IsGeometry};
+ghost use Rattle.blk_base.specs.declared.place.Mapping.TheVariants.{At};
+ghost use Rattle.blk_base.specs.declared.place.Pbn.{Pbn};
 ghost use Rattle.disk_model.specs.Seen.{Stays};
 ghost use Rattle.core_model.specs.DeviceRows as rows;
 ghost use Rattle.core_model.specs.DeviceRows.{DeviceServes};
@@ -11,21 +14,35 @@ ghost use Rattle.steps_device.specs.DeviceCalls.{Fits};
 
 use crate::calling::{flush, is_inside, read_block, write_block};
 use crate::stopping::halt;
-use blk_base::{Answer, Block, ZoneId};
+use blk_base::{Answer, Block, Mapping, Pbn, ZoneId};
 use core_model::{BoxedVio, DeviceZone, Item, Phase, Sizes};
 use disk_model::Disk;
 use step_parts::{Posts, Stray};
+
+// The block of a mapping, if there is one and it lies inside the image.
+fn block_inside(sizes: &Sizes, mapping: Mapping) -> Option<Pbn>
+    requires { IsGeometry sizes.now.geometry }
+    ensures some { IfSome result (λ block. (mapping ≡ At block) × rows.IsInside sizes.now block) }
+    ensures none { IfNone result ((block : Pbn) → mapping ≡ At block → rows.IsInside sizes.now block → ⊥) }
+{
+    match mapping {
+        Mapping::At(block) if is_inside(sizes, block) => Some(block),
+        _ => None,
+    }
+}
 
 // The data of a write.
 fn store<D: Disk>(
     sizes: &Sizes,
     zone: &mut DeviceZone,
     vio: BoxedVio,
+    block: Pbn,
     disk: &mut D,
     posts: &mut Posts,
 )
     requires phase { vio.phase ≡ phase.Store }
-    requires inside { rows.IsInside sizes.now vio.block }
+    requires block { vio.new ≡ At block }
+    requires inside { rows.IsInside sizes.now block }
     requires runs { zone.old.stopped ≡ false }
     requires counts { zone.old.calls < 2 ^ 64 - 1 }
     requires fits { Fits sizes.now (D.seen disk.old) }
@@ -35,7 +52,7 @@ fn store<D: Disk>(
     ensures serves { (made : Trace) × DeviceServes sizes.now zone.old vio zone.new made posts.new
         × HasCalled D.tells D.honest (D.seen disk.old) (D.seen disk.new) made }
 {
-    let Ok(()) = write_block(disk, vio.get().block, &vio.get().bytes) else {
+    let Ok(()) = write_block(disk, block, &vio.get().bytes) else {
         let failed = vio.end(Phase::AbortClaim, Answer::Stopped);
         halt(
             sizes,
@@ -55,11 +72,13 @@ fn load<D: Disk>(
     sizes: &Sizes,
     zone: &mut DeviceZone,
     vio: BoxedVio,
+    block: Pbn,
     disk: &mut D,
     posts: &mut Posts,
 )
     requires phase { vio.phase ≡ phase.Load }
-    requires inside { rows.IsInside sizes.now vio.block }
+    requires block { vio.old ≡ At block }
+    requires inside { rows.IsInside sizes.now block }
     requires counts { zone.old.calls < 2 ^ 64 - 1 }
     requires fits { Fits sizes.now (D.seen disk.old) }
     requires few { sizes.now.zones ≤ most_zones }
@@ -70,7 +89,7 @@ fn load<D: Disk>(
 {
     let home = vio.get().home;
     let mut bytes = Block::zero();
-    let Ok(()) = read_block(disk, vio.get().block, &mut bytes) else {
+    let Ok(()) = read_block(disk, block, &mut bytes) else {
         let failed = vio.end(Phase::Abort, Answer::ReadFault);
         posts.first(home, Item::Request(failed));
         return;
@@ -132,11 +151,13 @@ fn serve_store<D: Disk>(
         posts.first(ZoneId::Physical(0), Item::Request(unmade));
         return Ok(());
     }
-    if !is_inside(sizes, vio.get().block) {
-        return Err(Stray);
+    match block_inside(sizes, vio.get().new) {
+        None => Err(Stray),
+        Some(block) => {
+            store(sizes, zone, vio, block, disk, posts);
+            Ok(())
+        }
     }
-    store(sizes, zone, vio, disk, posts);
-    Ok(())
 }
 
 // The block of a read.
@@ -157,11 +178,13 @@ fn serve_load<D: Disk>(
         × HasCalled D.tells D.honest (D.seen disk.old) (D.seen disk.new) made) }
     ensures err { OnErr result (NoRule (DeviceServes sizes.now zone.old vio)) }
 {
-    if !is_inside(sizes, vio.get().block) {
-        return Err(Stray);
+    match block_inside(sizes, vio.get().old) {
+        None => Err(Stray),
+        Some(block) => {
+            load(sizes, zone, vio, block, disk, posts);
+            Ok(())
+        }
     }
-    load(sizes, zone, vio, disk, posts);
-    Ok(())
 }
 
 /// What the device's zone does with a request in front of its inbox. It makes one call of the device, or none.

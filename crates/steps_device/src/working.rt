@@ -13,7 +13,7 @@ ghost use Rattle.steps_device.specs.DeviceCalls.{Fits, HasFailed};
 
 use crate::calling::{flush, write_block};
 use crate::stopping::halt;
-use blk_base::{Block, Entry, Layout, Mapping, Pbn, ZoneId};
+use blk_base::{Block, Entry, Layout, Pbn, ZoneId};
 use core_model::{DeviceZone, Item, SealedBlock, Sizes, Stage};
 use disk_model::{Disk, Failed};
 use journal_codec::{Entries, JournalBlock, encode};
@@ -27,7 +27,7 @@ fn sealed_bytes(sizes: &Sizes, block: &SealedBlock) -> Block
     entries.push(Entry::Remap {
         at: block.vio.get().at,
         old: block.vio.get().old,
-        new: Mapping::At(block.vio.get().block),
+        new: block.vio.get().new,
     });
     let mut bytes = Block::zero();
     encode(

@@ -1,3 +1,4 @@
 mod ActLaws
 mod StrayLaws
 mod WaitingLaws
+mod ZeroLaws

@@ -9,7 +9,7 @@ use Rattle.core_model.specs.LogicalRows.{all_for, but_first_for, drawn_by, first
 use Rattle.core_model.specs.Vios.{Post, turned}
 use Rattle.core_model.specs.Waiters.{IsFree}
 use Rattle.core_model.specs.declared.items.Asks.{Asks}
-use Rattle.core_model.specs.declared.items.Asks.TheVariants.{Read, Write, Flush}
+use Rattle.core_model.specs.declared.items.Asks.TheVariants.{Read, Write, Discard, Flush}
 use Rattle.core_model.specs.declared.items.Phase.{Phase}
 use Rattle.core_model.specs.declared.items.Phase.TheVariants as phase
 use Rattle.core_model.specs.declared.items.Vio.{Vio}
@@ -60,6 +60,7 @@ read_any_phase sizes l v q Zero = refl
 any_phase : (sizes : Sizes) (l : LogicalZone) (v : Vio) (q : Phase) (a : Asks) → next_for sizes l (turned q v) a ≡ next_for sizes l v a
 any_phase sizes l v q Read = ap (λ (p : Post). Some p) (read_any_phase sizes l v q (mapping_at l v.at.0))
 any_phase sizes l v q Write = refl
+any_phase sizes l v q Discard = refl
 any_phase sizes l v q Flush = refl
 
 pub goes_as_holder : (sizes : Sizes) (l : LogicalZone) (v : Vio) → goes_on sizes (record (drawn_by l v) { held = lock_of (placed l v) ∷ l.held }) (turned phase.Wait (placed l v)) ≡ goes_on sizes l (placed l v)

@@ -14,6 +14,7 @@ use crate::waiting::stop_all;
 use blk_base::{Answer, Block, Lba, Mapping, ZoneId};
 use core_model::{Asks, BoxedVio, Item, LogicalZone, Phase, Sizes};
 use image_layout::mapping_at;
+use lane_kernels::is_zero;
 use step_parts::{Posts, Stray};
 
 // The bytes of an address that is mapped to no block.
@@ -28,8 +29,8 @@ fn read_next(sizes: &Sizes, zone: &LogicalZone, vio: BoxedVio, mapping: Mapping)
     ensures { result ≡ rows.read_next sizes.now zone.now vio mapping }
 {
     match mapping {
-        Mapping::At(block) => {
-            let loads = vio.take_block(Phase::Load, block);
+        Mapping::At(_) => {
+            let loads = vio.turn(Phase::Load);
             (ZoneId::Device, Item::Request(loads))
         }
         Mapping::Unmapped | Mapping::Zero => {
@@ -42,6 +43,33 @@ fn read_next(sizes: &Sizes, zone: &LogicalZone, vio: BoxedVio, mapping: Mapping)
     }
 }
 
+// One that needs no block hands in its entry.
+fn enter_with(vio: BoxedVio, new: Mapping) -> (ZoneId, Item)
+    ensures { result ≡ rows.enters_with new vio }
+{
+    let enters = vio.map_to(Phase::Enter, new);
+    (ZoneId::Journal, Item::Request(enters))
+}
+
+// Whether a block has zeros alone.
+fn are_zeros(bytes: &Block) -> bool
+    ensures { result ≡ rows.are_zeros bytes.now }
+{
+    is_zero(bytes)
+}
+
+// Where a write goes that has the lock of its address: it takes a block, but for one of zeros.
+fn write_next(vio: BoxedVio) -> (ZoneId, Item)
+    ensures { result ≡ rows.write_next vio }
+{
+    if are_zeros(&vio.get().bytes) {
+        enter_with(vio, Mapping::Zero)
+    } else {
+        let claims = vio.turn(Phase::Claim);
+        (ZoneId::Physical(0), Item::Request(claims))
+    }
+}
+
 // A request that has the lock of its address, and knows what is mapped there.
 fn look(zone: &LogicalZone, vio: BoxedVio) -> BoxedVio
     ensures { result ≡ rows.looked zone.now vio }
@@ -49,7 +77,7 @@ fn look(zone: &LogicalZone, vio: BoxedVio) -> BoxedVio
     let at = vio.get().at;
     let latest = zone.latest(at);
     let old = match latest {
-        Some(write) => Mapping::At(write.block),
+        Some(write) => write.new,
         None => mapping_at(zone.window(), at),
     };
     vio.look(old, latest)
@@ -64,10 +92,8 @@ fn goes_on(sizes: &Sizes, zone: &LogicalZone, vio: BoxedVio) -> Option<(ZoneId, 
     let mapping = looked.get().old;
     match asks {
         Asks::Read => Some(read_next(sizes, zone, looked, mapping)),
-        Asks::Write => {
-            let claims = looked.turn(Phase::Claim);
-            Some((ZoneId::Physical(0), Item::Request(claims)))
-        }
+        Asks::Write => Some(write_next(looked)),
+        Asks::Discard => Some(enter_with(looked, Mapping::Unmapped)),
         Asks::Flush => None,
     }
 }

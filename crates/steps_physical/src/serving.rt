@@ -7,7 +7,7 @@ ghost use Rattle.core_model.specs.declared.items.Item.TheVariants.{Request, Stop
 ghost use Rattle.core_model.specs.declared.items.Phase.TheVariants.{Claim};
 ghost use Rattle.step_parts.specs.Causes.{NoRule};
 
-use blk_base::{Answer, ZoneId};
+use blk_base::{Answer, Mapping, ZoneId};
 use core_model::{BoxedVio, Item, Phase, PhysicalZone, Sizes};
 use step_parts::{Posts, Stray};
 
@@ -19,7 +19,7 @@ fn claim(sizes: &Sizes, zone: &mut PhysicalZone, vio: BoxedVio, posts: &mut Post
 {
     match zone.free.take() {
         Some(block) => {
-            let stores = vio.take_block(Phase::Store, block);
+            let stores = vio.map_to(Phase::Store, Mapping::At(block));
             posts.first(ZoneId::Device, Item::Request(stores));
         }
         None => {

@@ -178,8 +178,11 @@ module _ (g : Geometry) where
     begins-not_at_sequence_0 : (script : Script) → CanBegin (sizes 0 1) script window → ⊥
     begins-not_at_sequence_0 script can = omega (arith, can.start.0)
 
-    begins-not_with_a_discard : CanBegin (sizes 1 1) ((request.Discard at ∷ []) ∷ []) window → ⊥
-    begins-not_with_a_discard can = can.served.0.0
+    begins-not_with_half_a_block : CanBegin (sizes 1 1) ((request.Write at (replicate 2048 0) false ∷ []) ∷ []) window → ⊥
+    begins-not_with_half_a_block can = let half : 2048 ≡ 4096 = sym (length-replicate {A = ℕ} 2048 0) ∙ can.served.0.0.0 in absurd (omega (arith, half))
+
+    begins-not_with_a_forced_write : (block : List ℕ) → CanBegin (sizes 1 1) ((request.Write at block true ∷ []) ∷ []) window → ⊥
+    begins-not_with_a_forced_write block can = let forced = can.served.0.0.1 in absurd cc
 
     begins-not_with_17_streams : CanBegin (sizes 1 1) (replicate 17 []) window → ⊥
     begins-not_with_17_streams can = omega (arith, can.limits.streams)

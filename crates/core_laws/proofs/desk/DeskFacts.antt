@@ -1,13 +1,13 @@
 -- What the acts of the desk owe.
 use Rattle.std.proofs.Common.{◌≡◌, ◌⊎◌, ℕ, ◌+◌, ◌<◌, ◌≤◌, if◌then◌else◌, Bool, true, false, nat_lt, Option, None, Some, IsNone, List, [], ◌∷◌, refl, ap, sym, ◌∙◌, subst, inl, inr, arith}
-use Rattle.core_laws.proofs.Common.{AllByRecursion, Answer as Reply, Asks, Desk, DeskLine, Flushes, FlushMark, HasAddress, HasCause, IsEarned, IsNextLine, IsOpen, IsSession, KeptOk, Lba, MayAnswer, MayReply, Phase, Post, Request, RightTrace, Says, Session, Sizes, Trace, Vio, Writer, answer_of, asked, begun, begun_vio, cases_Bool, desk_zone, done, eqb_tells, every-append, has_stopped, lines, logged_of, ltb-false, ltb-true, moments, none_is, notified_zones, option_cases, request_at, request_of, same_Some, same_tells, zone_at, zone_of}
+use Rattle.core_laws.proofs.Common.{AllByRecursion, Answer as Reply, Asks, Desk, DeskLine, Flushes, FlushMark, HasAddress, HasCause, IsEarned, IsNextLine, IsOpen, IsSession, KeptOk, Lba, MayAnswer, MayReply, Phase, Post, Request, RightTrace, Says, Session, Sizes, Trace, Vio, Writer, answer_of, asked, begun, begun_vio, cases_Bool, desk_zone, done, eqb_tells, every-append, has_stopped, lines, logged_of, ltb-false, ltb-true, moments, none_is, notified_zones, option_cases, request_at, request_of, same_Some, same_tells, zone_at, zone_of, IsForBlock}
 use Rattle.blk_base.specs.Sectors.{zero_block}
 use Rattle.blk_base.specs.declared.place.ZoneId.TheVariants as id
 use Rattle.blk_base.specs.declared.request.Answer.TheVariants as reply
 use Rattle.blk_base.specs.declared.request.Request.TheVariants as request
 use Rattle.vdo_model.specs.FlushMarks.{IsMark}
 use Rattle.vdo_model.specs.declared.report.DeskLine.TheVariants as line
-use Rattle.core_model.specs.declared.items.Asks.TheVariants.{Read, Write, Flush}
+use Rattle.core_model.specs.declared.items.Asks.TheVariants.{Read, Write, Discard, Flush}
 use Rattle.core_model.specs.declared.items.Item.TheVariants as item
 use Rattle.core_model.specs.declared.items.Phase.TheVariants as phase
 use Rattle.core_model.specs.declared.zones.ZoneData.TheVariants as at
@@ -26,6 +26,7 @@ begun_now w older number = elim (eqb_tells w.stream w.stream) [
 -- a request with a cause of its answer may be answered so
 cause_may : (s : Session) (t : Trace) (w : Writer) (r : Request) (a : Reply) → HasCause s t w r a → MayAnswer s t w r a
 cause_may s t w (request.Write at bytes fua) reply.Stopped cause = inl cause
+cause_may s t w (request.Discard at) reply.Stopped cause = inl cause
 cause_may s t w r a cause = cause
 
 -- a request that is answered at once may be answered so
@@ -56,7 +57,10 @@ once_cause s t w notified request.Flush v a older last served unset heard_so is 
     let once : at_once s.sizes notified Flush 0 ≡ Some a = rw (← same_Some _ _ served) at is in
     let both = once_notified notified a once in subst (λ (x : Reply). MayAnswer s t w request.Flush x) both.1 (heard_so both.0)
 once_cause s t w notified (request.Write at bytes true) v a older last served unset heard_so is = absurd cc
-once_cause s t w notified (request.Discard at) v a older last served unset heard_so is = absurd cc
+once_cause s t w notified (request.Discard at) v a older last served unset heard_so is =
+    let once : at_once s.sizes notified Discard at.0 ≡ Some a = rw (← same_Some _ _ served) at is in
+    once_range s t w (request.Discard at) at.0 _ a (λ past. past) (λ below b stopped.
+    let both = once_notified notified b stopped in subst (λ (x : Reply). MayAnswer s t w (request.Discard at) x) both.1 (inr (below, record { stopped = heard_so both.0; unset = unset; older = older; begun_last = last }))) once
 
 -- a block request that is sent on has an address below the logical size
 sent_below : (n logical : ℕ) (o : Option Reply) → (if nat_lt n logical then o else Some reply.Range) ≡ None → n < logical
@@ -83,14 +87,14 @@ module _ (s : Session) (t : Trace) (w : Writer) (is : IsSession s) (right : Righ
   begins_right = (next, shown_plain s t (Says (line.Begin w)) tt (shown_of s t right), right)
 
   -- a block request goes to the logical zone of its address, a flush to the device
-  begins_block : (q : Asks) (at : Lba) (bytes : List ℕ) → (q ≡ Read) ⊎ (q ≡ Write) → request_at s.script w ≡ Some (asked q at bytes) → at.0 < s.sizes.geometry.logical
+  begins_block : (q : Asks) (at : Lba) (bytes : List ℕ) → IsForBlock q → request_at s.script w ≡ Some (asked q at bytes) → at.0 < s.sizes.geometry.logical
       → PostOk s (Says (line.Begin w) ∷ t) (id.Logical (zone_of s.sizes.zones at.0), item.Request (begun_vio s.sizes w q at bytes))
   begins_block q at bytes block asks below =
       let zone = zone_below s.sizes.zones at.0 is.zones in (
         omega (arith, zone),
         (
           record { asked = asks; is_open = begins_open; address = address q; home = refl },
-          record { block_request = block; unplaced = unborn_place s t w right late; not_entered = unborn_entry s t w right late },
+          record { for_block = block; unplaced = unborn_place s t w right late; not_entered = unborn_entry s t w right late },
           refl,
         ),
       )
@@ -98,20 +102,23 @@ module _ (s : Session) (t : Trace) (w : Writer) (is : IsSession s) (right : Righ
       address : (p : Asks) → HasAddress s.sizes at p
       address Read = below
       address Write = below
+      address Discard = below
       address Flush = tt
 
   begins_post : (notified : Bool) (r : Request) (v : Vio) → vio_of s.sizes w r ≡ Some v → request_at s.script w ≡ Some r → at_once s.sizes notified v.asks v.at.0 ≡ None
       → PostOk s (Says (line.Begin w) ∷ t) (first_zone v, item.Request v)
   begins_post notified (request.Read at) v served asks none =
       let once : at_once s.sizes notified Read at.0 ≡ None = rw (← same_Some _ _ served) at none in
-      subst (λ (u : Vio). PostOk s (Says (line.Begin w) ∷ t) (first_zone u, item.Request u)) (same_Some _ _ served) (begins_block Read at zero_block (inl refl) asks (sent_below at.0 s.sizes.geometry.logical _ once))
+      subst (λ (u : Vio). PostOk s (Says (line.Begin w) ∷ t) (first_zone u, item.Request u)) (same_Some _ _ served) (begins_block Read at zero_block tt asks (sent_below at.0 s.sizes.geometry.logical _ once))
   begins_post notified (request.Write at bytes false) v served asks none =
       let once : at_once s.sizes notified Write at.0 ≡ None = rw (← same_Some _ _ served) at none in
-      subst (λ (u : Vio). PostOk s (Says (line.Begin w) ∷ t) (first_zone u, item.Request u)) (same_Some _ _ served) (begins_block Write at bytes (inr refl) asks (sent_below at.0 s.sizes.geometry.logical _ once))
+      subst (λ (u : Vio). PostOk s (Says (line.Begin w) ∷ t) (first_zone u, item.Request u)) (same_Some _ _ served) (begins_block Write at bytes tt asks (sent_below at.0 s.sizes.geometry.logical _ once))
   begins_post notified request.Flush v served asks none =
       subst (λ (u : Vio). PostOk s (Says (line.Begin w) ∷ t) (first_zone u, item.Request u)) (same_Some _ _ served) (omega arith, (record { asked = asks; is_open = begins_open; address = tt; home = refl }, refl, refl))
   begins_post notified (request.Write at bytes true) v served asks none = absurd cc
-  begins_post notified (request.Discard at) v served asks none = absurd cc
+  begins_post notified (request.Discard at) v served asks none =
+      let once : at_once s.sizes notified Discard at.0 ≡ None = rw (← same_Some _ _ served) at none in
+      subst (λ (u : Vio). PostOk s (Says (line.Begin w) ∷ t) (first_zone u, item.Request u)) (same_Some _ _ served) (begins_block Discard at zero_block tt asks (sent_below at.0 s.sizes.geometry.logical _ once))
 
 -- Stopped is answered only where the stop notice of every zone has come.
 stops_answer : (notified limit : ℕ) (v : Writer) (a : Reply) (older : List DeskLine) → ((w : Writer) → answer_of older w ≡ Some reply.Stopped → limit ≤ notified) → (a ≡ reply.Stopped → limit ≤ notified)
@@ -139,6 +146,7 @@ never_stopped false is = cc
 once_stopped : (sizes : Sizes) (notified : Bool) (asks : Asks) (a : ℕ) → at_once sizes notified asks a ≡ Some reply.Stopped → notified ≡ true
 once_stopped sizes notified Read a is = absurd (never_stopped (nat_lt a sizes.geometry.logical) is)
 once_stopped sizes notified Write a is = low_stopped (nat_lt a sizes.geometry.logical) notified is
+once_stopped sizes notified Discard a is = low_stopped (nat_lt a sizes.geometry.logical) notified is
 once_stopped sizes notified Flush a is = notified_first notified is
 
 -- The desk begins a request.

@@ -1,21 +1,21 @@
 -- The device's calls: what they write, what reads give, and which data blocks they are of.
 use Rattle.std.proofs.Common.{◌≡◌, ◌≢◌, ℕ, zero, suc, ◌*◌, ◌<◌, ◌≤◌, ◌^◌, Bool, Some, List, [], ◌∷◌, length, get_or, subst, inl, inr, arith, ◌⊎◌, false, Option, None, ap, sym, ◌∙◌, ◌+◌, true, refl}
-use Rattle.core_laws.proofs.lists.CoreLists.{same_block}
-use Rattle.core_laws.proofs.Common.{AllByRecursion, AtRest, Call, Calls, EachStands, Entry, Geometry, Happening, HasPending, IsFresh, IsServed, IsSession, IsWrite, Lba, Logged, Mapping, MayFollow, OnItsWay, Pbn, ReadsAs, ReadsEntry, Request, RightTrace, Session, Stands, Trace, Writer, bytes_of, committed, device_zone, done, entered, entries_of, entry_of, eqb_tells, every-get, log, newest, of_address, request_at, value_from, value_written}
+use Rattle.core_laws.proofs.Common.{AllByRecursion, Asks, AtRest, Call, Calls, EachStands, Entry, Geometry, GivesBytes, Happening, HasPending, IsFresh, IsServed, IsSession, IsWrite, Lba, Logged, Mapping, MayFollow, OnBlock, OnItsWay, Pbn, ReadsAs, ReadsEntry, Request, RightTrace, Session, Stands, Trace, Writer, asked, bytes_of, committed, device_zone, done, entered, entries_of, entry_of, eqb_tells, every-get, log, newest, of_address, request_at, value_from, value_written}
 use Rattle.std.proofs.Math.Nat.{mod-lt, mul-le-mul_left}
 use Rattle.std.proofs.lemmas.List.Elements.{All-nil, All-cons}
 use Rattle.blk_base.specs.Limits.{IsGeometry, logical_limit}
 use Rattle.blk_base.specs.Regions.{IsDataBlock, journal_slot_of, needed_blocks, slab_stride_of}
 use Rattle.blk_base.proofs.RegionLaws.{data_block_high, data_block_inside}
 use Rattle.blk_base.specs.declared.journal_entry.Entry.TheVariants.{Remap, NewPage}
-use Rattle.blk_base.specs.declared.place.Mapping.TheVariants.{At}
+use Rattle.blk_base.specs.declared.place.Mapping.TheVariants.{Unmapped, Zero, At}
 use Rattle.disk_model.specs.Log.{block_at, Blocks, Misses, contents, settled}
 use Rattle.disk_model.specs.declared.call.Call.TheVariants.{Write, Flush}
-use Rattle.image_layout.specs.Window.{IsMapped, AreWritten, journal_of, mapping_of, value_in, value_of}
+use Rattle.image_layout.specs.Window.{IsMapped, IsToData, AreWritten, journal_of, mapping_of, value_in, value_of}
 use Rattle.stop_laws.specs.Journals.{MissesJournal, block_of_slot, HasEntry, HasNone, IsAtRest, IsUnderWay}
 use Rattle.disk_model.specs.Images.{IsMixOf}
 use Rattle.disk_model.proofs.ImageLaws.{settled_are_contents, block_of_mix, all_weaker, settled-write}
 use Rattle.core_model.specs.LogicalRows.{mapped_by}
+use Rattle.core_laws.proofs.lists.Zeros.{zeros_length}
 use Rattle.core_laws.proofs.trace.DeskOfTrace.{all_done, each_of_address, done_writes, shown_of}
 use Rattle.blk_base.specs.Sectors.{sector}
 use Rattle.byte_fields.specs.Mappings.{HoldsMapping}
@@ -26,9 +26,10 @@ use Rattle.journal_codec.proofs.ReadLaws.{one_reading}
 use Rattle.stop_laws.proofs.JournalLaws.{begins, under_way_kept}
 use Rattle.core_laws.proofs.kept.ActKept.{shown_kept}
 use Rattle.core_laws.proofs.kept.Keys.{Key, OfBlock, OfJournal, Spares, Clears}
-use Rattle.core_laws.proofs.kept.StandsOn.{SparesBlocks, SparesEntries, IsCallOf, succeeded, failed, spares_all, write_spares, block_spared, journal_spared, call_entries, each_kept, opening_kept}
+use Rattle.core_laws.proofs.kept.StandsOn.{AreElsewhere, SparesBlock, SparesBlocks, SparesEntries, IsCallOf, succeeded, failed, spares_all, write_spares, block_spared, journal_spared, call_entries, each_kept, opening_kept}
 use Rattle.blk_base.specs.declared.request.Request.TheVariants as request
 use Rattle.disk_model.specs.Log as device
+use Rattle.core_model.specs.declared.items.Asks.TheVariants as asks
 
 -- Data blocks lie behind the journal and inside the image; the blocks that the window names are data blocks.
 
@@ -42,7 +43,7 @@ blocks_fit g sizes =
 pub mapped_data : (g : Geometry) (start : ℕ) (journal : List (List ℕ)) (entries : List Entry) (a : ℕ) (x : Pbn) → AreWritten g start journal entries → mapping_of entries a ≡ At x → IsDataBlock g x.0
 mapped_data g start journal [] a x written is = absurd cc
 mapped_data g start journal (Remap at old new ∷ older) a x written is = elim (eqb_tells at.0 a) [
-  | inl same ↦ let new_is : new ≡ At x = rw same.0 at is in (subst (λ (m : Mapping). IsMapped g (Remap at old m)) new_is written.0.1).1
+  | inl same ↦ let new_is : new ≡ At x = rw same.0 at is in subst (IsToData g) new_is written.0.1.1
   | inr other ↦ let rest : mapping_of older a ≡ At x = rw other.0 at is in mapped_data g start journal older a x written.1 rest
 ]
 mapped_data g start journal (NewPage page at ∷ older) a x written is = absurd written.0.1
@@ -78,6 +79,13 @@ request_served s w r is asks =
 pub write_whole : (s : Session) (w : Writer) (at : Lba) (bytes : List ℕ) (fua : Bool) → IsSession s → request_at s.script w ≡ Some (request.Write at bytes fua) → length bytes ≡ 4096
 write_whole s w at bytes fua session asked = (request_served s w (request.Write at bytes fua) session asked).0
 
+-- what a request that is served gives its address is a whole block
+pub whole_written : (s : Session) (w : Writer) (q : Asks) (at : Lba) (bytes : List ℕ) → IsSession s → request_at s.script w ≡ Some (asked q at bytes) → length (value_written (Some (asked q at bytes))) ≡ 4096
+whole_written s w asks.Write at bytes session is = write_whole s w at bytes false session is
+whole_written s w asks.Read at bytes session is = zeros_length
+whole_written s w asks.Discard at bytes session is = zeros_length
+whole_written s w asks.Flush at bytes session is = zeros_length
+
 -- A block that the window names had 4096 bytes.
 pub window_whole : (s : Session) (a : ℕ) (x : Pbn) → IsSession s → mapping_of s.window a ≡ At x → length (block_at s.image x.0) ≡ 4096
 window_whole s a x session is = session.one_image.whole x.0 (omega (arith, data_block_inside s.sizes.geometry x.0 (window_data s a x session is), session.room))
@@ -102,14 +110,14 @@ pub committed_stand : (s : Session) (t : Trace) → RightTrace s t → EachStand
 committed_stand s t right = journal_each s t (shown_of s t right).journal
 
 abbrev pub HasBlockOf : Session → Trace → Logged → Type 0
-HasBlockOf s t e = IsFresh s e.block × Stands s t e.block.0 (bytes_of s e)
+HasBlockOf s t e = GivesBytes s t e.new (bytes_of s e)
 
 each_all : (s : Session) (t : Trace) (es : List Logged) → EachStands s t es → AllByRecursion (HasBlockOf s t) es
 each_all s t [] k = tt
 each_all s t (e ∷ es) k = (k.0, each_all s t es k.1)
 
 -- what holds of all holds of the newest
-newest_has : (P : Logged → Type 0) (es : List Logged) (e : Logged) → newest es ≡ Some e → AllByRecursion P es → P e
+pub newest_has : (P : Logged → Type 0) (es : List Logged) (e : Logged) → newest es ≡ Some e → AllByRecursion P es → P e
 newest_has P [] e is all = absurd cc
 newest_has P (f ∷ es) e is all = let same : f ≡ e = cc in subst P same all.0
 
@@ -124,8 +132,7 @@ module _ (s : Session) (t : Trace) (session : IsSession s) (right : RightTrace s
   latest_whole : (a : ℕ) (e : Logged) → newest (of_address a (done t)) ≡ Some e → length (bytes_of s e) ≡ 4096
   latest_whole a e is =
       let write = newest_of (IsWrite s t) a e is (done_writes s t right) in
-      let value : bytes_of s e ≡ write.bytes = ap value_written write.asked in
-      ap length value ∙ write_whole s e.request e.at write.bytes false session write.asked
+      ap (λ o. length (value_written o)) write.asked ∙ whole_written s e.request write.asks e.at write.bytes session write.asked
 
   -- the value of an address, by its last write or the window
   pub read_value : (a : ℕ) (latest : Option Logged) (x : Pbn) (bytes : List ℕ) → latest ≡ newest (of_address a (done t)) → mapped_by latest (mapping_of s.window a) ≡ At x
@@ -135,8 +142,8 @@ module _ (s : Session) (t : Trace) (session : IsSession s) (right : RightTrace s
       let stands = (shown_of s t right).kept.mapped a x maps in
       block_of_mix (device.settled s.blocks (log s t) x.0) (device.block_at s.image x.0) bytes (window_whole s a x session maps) size mix (stands_reads s t x.0 _ stands) ∙ sym value
   read_value a (Some e) x bytes is maps size mix =
-      let same : e.block ≡ x = same_block e.block x maps in
-      let stands : Stands s t x.0 (bytes_of s e) = subst (λ (y : Pbn). Stands s t y.0 (bytes_of s e)) same (latest_stands a e (sym is)).1 in
+      let gives : GivesBytes s t (At x) (bytes_of s e) = subst (λ (m : Mapping). GivesBytes s t m (bytes_of s e)) maps (latest_stands a e (sym is)) in
+      let stands = gives.1 in
       block_of_mix (device.settled s.blocks (log s t) x.0) (bytes_of s e) bytes (latest_whole a e (sym is)) size mix (stands_reads s t x.0 _ stands)
 
 -- What one call of the device does to what stands on it.
@@ -159,7 +166,7 @@ quiet_call s t {h} c is may misses right =
     (may, shown_kept s h t same.0 same.1 same.2 (block_spared is 0 (misses 0)) (λ a y named. block_spared is y.0 (misses y.0)) (shown_of s t right), right)
 
 -- the data of a write
-pub store_call : (s : Session) (t : Trace) {h : Happening} (x : Pbn) (bytes : List ℕ) (ok : Bool) → IsCallOf h (Write x bytes ok) → MayFollow s h t → IsFresh s x → AllByRecursion (λ (e : Logged). x.0 ≢ e.block.0) (entered t)
+pub store_call : (s : Session) (t : Trace) {h : Happening} (x : Pbn) (bytes : List ℕ) (ok : Bool) → IsCallOf h (Write x bytes ok) → MayFollow s h t → IsFresh s x → AreElsewhere x.0 (entered t)
     → RightTrace s t → RightTrace s (h ∷ t)
 store_call s t {h} x bytes ok is may fresh apart right = (
   may,
@@ -181,27 +188,39 @@ entries_length window (e ∷ es) = omega (arith, entries_length window es)
 logical_small : (height : ℕ) → logical_limit height ≤ 4000000000
 logical_small height = elim (eqb_tells height 2) [ inl same ↦ rw same.0 (omega arith) | inr other ↦ rw other.0 (omega arith) ]
 
+-- a mapping to a free block is one that an entry can hold, to a data block
+pub fresh_held : (s : Session) → IsGeometry s.sizes.geometry → (m : Mapping) → OnBlock (IsFresh s) m → HoldsMapping m
+fresh_held s sizes Unmapped fresh = tt
+fresh_held s sizes Zero fresh = tt
+fresh_held s sizes (At x) fresh =
+    let high = data_block_high s.sizes.geometry x.0 fresh.is_data in
+    let fits = blocks_fit s.sizes.geometry sizes in
+    let inside = fresh.inside in
+    (omega (arith, high), omega (arith, inside, fits))
+
+fresh_data : (s : Session) (m : Mapping) → OnBlock (IsFresh s) m → IsToData s.sizes.geometry m
+fresh_data s Unmapped fresh = tt
+fresh_data s Zero fresh = tt
+fresh_data s (At x) fresh = fresh.is_data
+
 -- what the form of the journal needs of an entry
 pub record IsSpelled (s : Session) (e : Logged) : Type 0 where
   pub sizes : IsGeometry s.sizes.geometry
   pub start : (1 ≤ s.sizes.start) × (s.sizes.start < 2 ^ 54)
   pub below : e.at.0 < s.sizes.geometry.logical
   pub old_held : HoldsMapping e.old
-  pub fresh : IsFresh s e.block
+  pub fresh : OnBlock (IsFresh s) e.new
 
 module _ (s : Session) (e : Logged) (is : IsSpelled s e) where
   spelled_entry : HoldsEntry (entry_of e)
   spelled_entry =
-      let high = data_block_high s.sizes.geometry e.block.0 is.fresh.is_data in
-      let fits = blocks_fit s.sizes.geometry is.sizes in
       let small = logical_small s.sizes.geometry.height in
       let limit = is.sizes.logical.1 in
       let below = is.below in
-      let inside = is.fresh.inside in
-      (omega (arith, below, limit, small), is.old_held, (omega (arith, high), omega (arith, inside, fits)))
+      (omega (arith, below, limit, small), is.old_held, fresh_held s is.sizes e.new is.fresh)
 
   pub spelled_mapped : IsMapped s.sizes.geometry (entry_of e)
-  spelled_mapped = (is.below, is.fresh.is_data)
+  spelled_mapped = (is.below, fresh_data s e.new is.fresh)
 
   -- the bytes of its block say it
   pub spelled_block : (count : ℕ) → count < s.sizes.geometry.journal
@@ -244,19 +263,24 @@ hardens opening log g start entries entry way reads =
 module _ (s : Session) (t : Trace) (e : Logged) (slot : Pbn) (bytes : List ℕ) (session : IsSession s) (is : IsSpelled s e) (few : length (entries_of s.window (committed t)) < s.sizes.geometry.journal)
     (place : slot.0 ≡ block_of_slot (journal_slot_of s.sizes.geometry (s.sizes.start + length (entries_of s.window (committed t)))))
     (says : HasEntry s.sizes.geometry s.sizes.start (s.sizes.start + length (entries_of s.window (committed t))) (entry_of e) bytes)
-    (rest : AtRest s t (committed t)) (keeps : Stands s t e.block.0 (bytes_of s e)) where
+    (rest : AtRest s t (committed t)) (keeps : GivesBytes s t e.new (bytes_of s e)) where
   -- it is no data block
   misses : (x : ℕ) → IsDataBlock s.sizes.geometry x → slot.0 ≢ x
   misses x held = slot_misses s.sizes.geometry (s.sizes.start + length (entries_of s.window (committed t))) slot.0 x (omega (arith, few)) place held
 
+  misses_its : (ok : Bool) (m : Mapping) (value : List ℕ) → GivesBytes s t m value → OnBlock (λ x. SparesBlock (Calls (Write slot bytes ok)) x.0) m
+  misses_its ok (At x) value gives = misses x.0 gives.0.is_data
+  misses_its ok Unmapped value gives = tt
+  misses_its ok Zero value gives = tt
+
   misses_each : (ok : Bool) (es : List Logged) → EachStands s t es → SparesBlocks (Calls (Write slot bytes ok)) es
   misses_each ok [] stand = tt
-  misses_each ok (f ∷ es) stand = (misses f.block.0 stand.0.0.is_data, misses_each ok es stand.1)
+  misses_each ok (f ∷ es) stand = (misses_its ok f.new _ stand.0, misses_each ok es stand.1)
 
   pub slot_way : (ok : Bool) → OnItsWay s (Calls (Write slot bytes ok) ∷ t) (committed t) e
   slot_way ok = (
     begins s.blocks (log s t) s.sizes.geometry s.sizes.start (entries_of s.window (committed t)) (entry_of e) slot bytes place says (spelled_mapped s e is) few rest.0 ok,
-    each_kept s (Calls (Write slot bytes ok)) t (e ∷ committed t) (misses_each ok (e ∷ committed t) ((is.fresh, keeps), rest.1)) ((is.fresh, keeps), rest.1),
+    each_kept s (Calls (Write slot bytes ok)) t (e ∷ committed t) (misses_each ok (e ∷ committed t) (keeps, rest.1)) (keeps, rest.1),
   )
 
   pub slot_reads : ReadsEntry s (Calls (Write slot bytes true) ∷ t) (committed t) e

@@ -1,9 +1,9 @@
 -- What the acts of the device zone owe: it stores, loads and flushes for requests, and flushes and writes for sealed blocks.
 use Rattle.std.proofs.Common.{◌≡◌, ◌≢◌, ℕ, zero, suc, ◌+◌, ◌<◌, ◌≤◌, Bool, true, false, Some, IsSome, List, [], ◌∷◌, refl, ap, sym, ◌∙◌, subst, inl, inr, arith, ◌⊎◌, length}
-use Rattle.core_laws.proofs.Common.{AllByRecursion, Asks, AtRest, BlockOk, Call, Calls, DataOk, DeviceZone, Fails, FailureMayFollow, Happening, HasAddress, HasCause, HasHonestReads, IsEarned, IsFresh, IsMadeFor, IsSealed, IsSession, Lba, Logged, OnItsWay, Pbn, Post, RightTrace, SealedBlock, Session, Sizes, Stage, Stands, StandsAt, Trace, Vio, VioOk, Writer, asked, bytes_of, calls, committed, done, ended, entered, entries_of, entry_of, eqb_tells, has_read_fault, has_stopped, is_ok, is_read, log, logged, logical_zones, moments, notified, place_of, places, request_of, same_self, same_Some, some_is, staged, value_at, value_from, value_written, zone_count, zone_number}
+use Rattle.core_laws.proofs.Common.{AllByRecursion, Asks, AtRest, BlockOk, Call, Calls, DataOk, DeviceZone, Fails, FailureMayFollow, Happening, HasAddress, HasCause, HasHonestReads, IsEarned, IsFresh, IsMadeFor, IsSealed, IsSession, Lba, Logged, OnItsWay, Pbn, Post, RightTrace, SealedBlock, Session, Sizes, Stage, Stands, StandsAt, Trace, Vio, VioOk, Writer, asked, bytes_of, calls, committed, done, ended, entered, entries_of, entry_of, eqb_tells, has_read_fault, has_stopped, is_ok, is_read, log, logged, logical_zones, moments, notified, place_of, places, request_of, same_self, same_Some, some_is, staged, value_at, value_from, value_written, zone_count, zone_number, IsToFresh, IsChange, GivesBytes, Mapping, ReadsAs, MapsTo, OnBlock}
 use Rattle.image_layout.specs.Window.{mapping_of}
 use Rattle.vdo_model.specs.FlushMarks.{IsMark, successes}
-use Rattle.core_model.specs.declared.items.Asks.TheVariants.{Read, Flush, Write}
+use Rattle.core_model.specs.declared.items.Asks.TheVariants.{Read, Write, Discard, Flush}
 use Rattle.core_model.specs.DeskRows.{is_marked, mark_of_vio}
 use Rattle.core_model.specs.DeviceRows.{DeviceServes, counted, halted, stop_notices, DeviceWorks, journal_bytes, IsItsSlot, call_of, next_stage, next_zone}
 use Rattle.core_model.specs.LogicalRows.{mapped_by}
@@ -14,10 +14,11 @@ use Rattle.disk_model.specs.Log.{Misses}
 use Rattle.core_laws.proofs.kept.Carried.{vio_kept, holds_kept, looks_kept, sealed_kept}
 use Rattle.core_laws.proofs.journal.JournalFacts.{home_within, stopped_post}
 use Rattle.core_laws.proofs.kept.Spared.{mapping_by, honest_before}
-use Rattle.core_laws.proofs.kept.StandsOn.{IsCallOf, succeeded, failed, block_spared, journal_spared, write_spares, call_entries, spares_all, each_kept, rests_kept, way_kept}
+use Rattle.core_laws.proofs.kept.StandsOn.{AreElsewhere, IsCallOf, succeeded, failed, block_spared, journal_spared, write_spares, call_entries, spares_all, each_kept, rests_kept, way_kept}
 use Rattle.blk_base.specs.Regions.{journal_slot_of, IsDataBlock}
 use Rattle.journal_codec.specs.Spelling.{block_bytes}
 use Rattle.stop_laws.specs.Journals.{HasEntry, block_of_slot}
+use Rattle.blk_base.specs.declared.place.Mapping.TheVariants.{Unmapped, Zero, At}
 use Rattle.blk_base.specs.declared.place.ZoneId.TheVariants as id
 use Rattle.blk_base.specs.declared.request.Answer.TheVariants as reply
 use Rattle.disk_model.specs.declared.call.Call.TheVariants as call
@@ -26,6 +27,10 @@ use Rattle.core_model.specs.declared.items.Phase.TheVariants as phase
 use Rattle.core_model.specs.declared.zones.ZoneData.TheVariants as at
 use Rattle.core_model.specs.DeviceRows as device
 use Rattle.core_model.specs.declared.items.Stage.TheVariants as stage
+
+-- a write changes its block
+write_changes : (q : Asks) → q ≡ Write → IsChange q
+write_changes q is = rw is tt
 
 -- the stop notices
 logical_ok : (s : Session) (t : Trace) (n : ℕ) → n ≤ s.sizes.zones → has_stopped t ≡ true → AllByRecursion (PostOk s t) (stop_notices (logical_zones n))
@@ -88,66 +93,74 @@ module _ {s : Session} {t : Trace} {n : ℕ} {old : DeviceZone} {v : Vio} (known
   quiet c is misses = call_clears is known.own.number_is (λ x. inr (λ inside. block_spared is x (misses x))) (inr (quiet_journal s t c is misses))
 
   -- the data of a write
-  unnamed : v.phase ≡ phase.Store → AllByRecursion (λ (e : Logged). v.block.0 ≢ e.block.0) (entered t)
-  unnamed is = known.unnamed old v refl refl (rw is refl)
+  unnamed : (x : Pbn) → v.phase ≡ phase.Store → v.new ≡ At x → AreElsewhere x.0 (entered t)
+  unnamed x is to = known.unnamed old v x refl refl (rw is refl) to
 
-  stored : {h : Happening} (success : Bool) → IsCallOf h (call.Write v.block v.bytes success) → v.phase ≡ phase.Store → IsFresh s v.block → Clears s n (Mine s t (at.Device old) (item.Request v ∷ [])) h t
-  stored success is store fresh = call_clears is known.own.number_is
-      (λ x. elim (eqb_tells v.block.0 x) [
-        | inl same ↦ inl (subst (λ (y : ℕ). Mine s t (at.Device old) (item.Request v ∷ []) (OfBlock y)) same.1 (weighed (omega (arith, claim_one v (rw store refl)))))
-        | inr other ↦ inr (λ inside. block_spared is x other.1)
+  stored : {h : Happening} (x : Pbn) (success : Bool) → IsCallOf h (call.Write x v.bytes success) → v.phase ≡ phase.Store → v.new ≡ At x → IsFresh s x → Clears s n (Mine s t (at.Device old) (item.Request v ∷ [])) h t
+  stored x success is store to fresh = call_clears is known.own.number_is
+      (λ y. elim (eqb_tells x.0 y) [
+        | inl same ↦ inl (subst (λ (z : ℕ). Mine s t (at.Device old) (item.Request v ∷ []) (OfBlock z)) same.1 (weighed (omega (arith, claim_one v x (rw store refl) to))))
+        | inr other ↦ inr (λ inside. block_spared is y other.1)
       ])
-      (inr (call_entries s t is, journal_spared s is (data_misses s.sizes.geometry v.block v.bytes success fresh.is_data), write_spares is (entered t) (unnamed store)))
+      (inr (call_entries s t is, journal_spared s is (data_misses s.sizes.geometry x v.bytes success fresh.is_data), write_spares is (entered t) (unnamed x store to)))
+
+  -- what it carries then to the journal
+  stored_carries : (u : Trace) (x : Pbn) (q : Asks) (m : Mapping) → q ≡ Write → m ≡ At x → IsFresh s x → ReadsAs s u x.0 v.bytes → MapsTo q v.bytes m × OnBlock (IsFresh s) m × OnBlock (λ y. ReadsAs s u y.0 v.bytes) m
+  stored_carries u x q m is to fresh reads = rw (is, to) (tt, fresh, reads)
 
   -- the read of its block is made for it
-  made_for : (bytes : List ℕ) (success : Bool) → v.phase ≡ phase.Load → IsMadeFor s t v.request (call.Read v.block bytes success)
-  made_for bytes success is =
+  made_for : (x : Pbn) (bytes : List ℕ) (success : Bool) → v.phase ≡ phase.Load → v.old ≡ At x → IsMadeFor s t v.request (call.Read x bytes success)
+  made_for x bytes success is from =
       let carries = in_phase known phase.Load is in
-      (v.at, (vio_ok known).asked ∙ ap (λ q. Some (asked q v.at v.bytes)) carries.0.is_read, mapping_by s.window (done t) v.at.0 ∙ ap (λ o. mapped_by o (mapping_of s.window v.at.0)) (sym carries.0.latest) ∙ carries.1)
+      (v.at, (vio_ok known).asked ∙ ap (λ q. Some (asked q v.at v.bytes)) carries.0.is_read, sym carries.0.held.old_is ∙ from)
 
-  load_value : (bytes : List ℕ) → v.phase ≡ phase.Load → HasHonestReads s (Calls (call.Read v.block bytes true) ∷ t) → bytes ≡ value_at s t v.at.0
-  load_value bytes is honest =
+  load_value : (x : Pbn) (bytes : List ℕ) → v.phase ≡ phase.Load → v.old ≡ At x → HasHonestReads s (Calls (call.Read x bytes true) ∷ t) → bytes ≡ value_at s t v.at.0
+  load_value x bytes is from honest =
       let carries = in_phase known phase.Load is in
-      read_value s t known.session known.right v.at.0 v.latest v.block bytes carries.0.latest carries.1 honest.0 honest.1 ∙ ap (value_from s v.at.0) carries.0.latest
+      let maps = ap (λ o. mapped_by o (mapping_of s.window v.at.0)) carries.0.latest ∙ sym (mapping_by s.window (done t) v.at.0) ∙ sym carries.0.held.old_is ∙ from in
+      read_value s t known.session known.right v.at.0 v.latest x bytes carries.0.latest maps honest.0 honest.1 ∙ ap (value_from s v.at.0) carries.0.latest
 
   pub device_serves : (new : DeviceZone) (made : Trace) (posts : List Post) → DeviceServes s.sizes old v new made posts → ActKept s t n (at.Device old) (item.Request v ∷ []) (at.Device new) made posts
-  device_serves new made posts (device.stores is runs inside e m p) =
-      let h = Calls (call.Write v.block v.bytes true) in
+  device_serves new made posts (device.stores x is to runs inside e m p) =
+      let h = Calls (call.Write x v.bytes true) in
       let carries = in_phase known phase.Store is in
-      rw (e, m, p) (act_one known h (stored true succeeded is carries.2) (λ g honest. g honest)
-      (store_call s t v.block v.bytes true succeeded (record { succeeds = refl; goes_on = λ writes. goes runs }) carries.2 (unnamed is) known.right) (after_call known.own (call.Write v.block v.bytes true) refl)
-      ((omega arith, (vio_kept s h t v tt (vio_ok known), (holds_kept s h t v tt tt carries.0, carries.1, carries.2, store_reads s t v.block v.bytes), refl)), tt))
-  device_serves new made posts (device.store_fails kept is runs inside e m p) =
-      let c = call.Write v.block v.bytes false in
+      let fresh : IsFresh s x = subst (IsToFresh s) to carries.2 in
+      let stored_now = stored_carries (h ∷ t) x v.asks v.new carries.1 to fresh (store_reads s t x v.bytes) in
+      rw (e, m, p) (act_one known h (stored x true succeeded is to fresh) (λ g honest. g honest)
+      (store_call s t x v.bytes true succeeded (record { succeeds = refl; goes_on = λ writes. goes runs }) fresh (unnamed x is to) known.right) (after_call known.own (call.Write x v.bytes true) refl)
+      ((omega arith, (vio_kept s h t v tt (vio_ok known), (holds_kept s h t v tt tt carries.0, stored_now.0, stored_now.1, stored_now.2), refl)), tt))
+  device_serves new made posts (device.store_fails x kept is to runs inside e m p) =
+      let c = call.Write x v.bytes false in
       let h = Fails v.request c kept in
       let carries = in_phase known phase.Store is in
-      let now = store_call s t v.block v.bytes false failed (record { is_open = (vio_ok known).is_open; fails = refl; goes_on = λ writes. goes runs; made_for = tt }) carries.2 (unnamed is) known.right in
-      rw (e, m, p) (act_one known h (stored false failed is carries.2) (λ g honest. g honest) now (after_failure known.own v.request c kept true refl refl)
-      (stopped_post s (h ∷ t) v now refl (vio_kept s h t v tt (vio_ok known)) (holds_kept s h t v tt tt carries.0) carries.1, notices_ok s (h ∷ t) refl))
+      let fresh : IsFresh s x = subst (IsToFresh s) to carries.2 in
+      let now = store_call s t x v.bytes false failed (record { is_open = (vio_ok known).is_open; fails = refl; goes_on = λ writes. goes runs; made_for = tt }) fresh (unnamed x is to) known.right in
+      rw (e, m, p) (act_one known h (stored x false failed is to fresh) (λ g honest. g honest) now (after_failure known.own v.request c kept true refl refl)
+      (stopped_post s (h ∷ t) v now refl (vio_kept s h t v tt (vio_ok known)) (holds_kept s h t v tt tt carries.0) (write_changes v.asks carries.1), notices_ok s (h ∷ t) refl))
   device_serves new made posts (device.store_unmade is halts e m p) =
       let carries = in_phase known phase.Store is in
-      rw (e, m, p) (act_none known known.own (stopped_post s t v known.right (sym known.own.lists.stopped_is ∙ halts) (vio_ok known) carries.0 carries.1, tt))
-  device_serves new made posts (device.loads bytes is inside e m p) =
-      let c = call.Read v.block bytes true in
+      rw (e, m, p) (act_none known known.own (stopped_post s t v known.right (sym known.own.lists.stopped_is ∙ halts) (vio_ok known) carries.0 (write_changes v.asks carries.1), tt))
+  device_serves new made posts (device.loads x bytes is from inside e m p) =
+      let c = call.Read x bytes true in
       let carries = in_phase known phase.Load is in
       let here = vio_kept s (Calls c) t v tt (vio_ok known) in
-      rw (e, m, p) (act_one known (Calls c) (quiet c succeeded (λ x. tt)) (λ g honest. g honest.2)
+      rw (e, m, p) (act_one known (Calls c) (quiet c succeeded (λ y. tt)) (λ g honest. g honest.2)
       (quiet_call s t c succeeded (record { succeeds = refl; goes_on = λ (writes : true ≡ false). absurd cc }) (λ x. tt) known.right) (after_call known.own c refl) (
         (
           home,
           (
             record { asked = here.asked ∙ ap Some (asks_same v.asks v.at v.bytes bytes carries.0.is_read); is_open = here.is_open; address = here.address; home = here.home },
-            (looks_kept s (Calls c) t v tt tt carries.0, λ honest. load_value bytes is honest),
+            (looks_kept s (Calls c) t v tt tt carries.0, λ honest. load_value x bytes is from honest),
             refl,
           ),
         ),
         tt,
       ))
-  device_serves new made posts (device.load_fails bytes kept is inside e m p) =
-      let c = call.Read v.block bytes false in
+  device_serves new made posts (device.load_fails x bytes kept is from inside e m p) =
+      let c = call.Read x bytes false in
       let h = Fails v.request c kept in
       let k = looks_kept s h t v tt tt (in_phase known phase.Load is).0 in
-      let may : FailureMayFollow s v.request c t = record { is_open = (vio_ok known).is_open; fails = refl; goes_on = λ (writes : true ≡ false). absurd cc; made_for = made_for bytes false is } in
+      let may : FailureMayFollow s v.request c t = record { is_open = (vio_ok known).is_open; fails = refl; goes_on = λ (writes : true ≡ false). absurd cc; made_for = made_for x bytes false is from } in
       rw (e, m, p) (act_one known h (quiet c failed (λ x. tt)) (λ g honest. g honest) (quiet_call s t c failed may (λ x. tt) known.right) (after_failure known.own v.request c kept old.stopped refl known.own.lists.stopped_is)
       ((home, (vio_kept s h t v tt (vio_ok known), (k.held, cause_fault s (h ∷ t) v.request v.asks v.at v.bytes k.is_read (some_is _ _ k.held.is_placed.placed) (rw (same_self v.request) refl)), refl)), tt))
   device_serves new made posts (device.flushes is runs e m p) =
@@ -179,8 +192,22 @@ flush_rest s t {h} es is k = rests_kept s h t es (journal_spared s is (λ slot b
 flush_way : (s : Session) (t : Trace) {h : Happening} {ok : Bool} (es : List Logged) (e : Logged) → IsCallOf h (call.Flush ok) → OnItsWay s t es e → OnItsWay s (h ∷ t) es e
 flush_way s t {h} es e is k = way_kept s h t es e (journal_spared s is (λ slot below. tt)) (spares_all h (λ x. block_spared is x tt) (e ∷ es)) k
 
-below_logical : (s : Session) (v : Vio) (q : Asks) → q ≡ Write → HasAddress s.sizes v.at q → v.at.0 < s.sizes.geometry.logical
-below_logical s v q is k = let here : HasAddress s.sizes v.at Write = rw is at k in here
+below_logical : (s : Session) (v : Vio) (q : Asks) → IsChange q → HasAddress s.sizes v.at q → v.at.0 < s.sizes.geometry.logical
+below_logical s v Write is k = k
+below_logical s v Discard is k = k
+below_logical s v Read is k = absurd is
+below_logical s v Flush is k = absurd is
+
+-- what a request maps its address to gives it the bytes that it writes
+gives_now : (s : Session) (u : Trace) (q : Asks) (place : Lba) (bytes : List ℕ) (m : Mapping) → MapsTo q bytes m → OnBlock (IsFresh s) m → OnBlock (λ x. Stands s u x.0 bytes) m → GivesBytes s u m (value_written (Some (asked q place bytes)))
+gives_now s u Write place bytes (At x) maps fresh stands = (fresh, stands)
+gives_now s u Write place bytes Zero maps fresh stands = maps
+gives_now s u Write place bytes Unmapped maps fresh stands = absurd maps
+gives_now s u Discard place bytes Unmapped maps fresh stands = refl
+gives_now s u Discard place bytes Zero maps fresh stands = absurd maps
+gives_now s u Discard place bytes (At x) maps fresh stands = absurd maps
+gives_now s u Read place bytes m maps fresh stands = absurd maps
+gives_now s u Flush place bytes m maps fresh stands = absurd maps
 
 module _ (s : Session) (t : Trace) (b : SealedBlock) (session : IsSession s) (ok : IsSealed s t b.vio b.sequence) where
   abbrev count : ℕ
@@ -199,13 +226,10 @@ module _ (s : Session) (t : Trace) (b : SealedBlock) (session : IsSession s) (ok
   spelled = record {
     sizes = session.sizes;
     start = session.start;
-    below = below_logical s b.vio b.vio.asks ok.is_entered.is_write ok.vio.address;
+    below = below_logical s b.vio b.vio.asks ok.is_entered.is_change ok.vio.address;
     old_held = ok.old_held;
     fresh = ok.fresh;
   }
-
-  value_is : bytes_of s (logged b.vio) ≡ b.vio.bytes
-  value_is = ap value_written (ok.vio.asked ∙ ap (λ q. Some (asked q b.vio.at b.vio.bytes)) ok.is_entered.is_write)
 
   says : HasEntry s.sizes.geometry s.sizes.start (s.sizes.start + count) (entry_of (logged b.vio)) (journal_bytes s.sizes b)
   says = subst (λ (m : ℕ). HasEntry s.sizes.geometry s.sizes.start (s.sizes.start + count) (entry_of (logged b.vio)) (block_bytes s.sizes.geometry.nonce m s.sizes.start (entry_of (logged b.vio) ∷ [])))
@@ -214,8 +238,9 @@ module _ (s : Session) (t : Trace) (b : SealedBlock) (session : IsSession s) (ok
   place_is : (slot : Pbn) → IsItsSlot s.sizes b slot → slot.0 ≡ block_of_slot (journal_slot_of s.sizes.geometry (s.sizes.start + count))
   place_is slot place = place ∙ ap (λ m. block_of_slot (journal_slot_of s.sizes.geometry m)) sequence_is
 
-  block_stands : StandsAt s t b.vio stage.Write → Stands s t b.vio.block.0 (bytes_of s (logged b.vio))
-  block_stands stands = subst (Stands s t b.vio.block.0) (sym value_is) stands.1
+  block_stands : StandsAt s t b.vio stage.Write → GivesBytes s t b.vio.new (bytes_of s (logged b.vio))
+  block_stands stands =
+      subst (GivesBytes s t b.vio.new) (ap value_written (sym ok.vio.asked)) (gives_now s t b.vio.asks b.vio.at b.vio.bytes b.vio.new ok.maps ok.fresh stands.1)
 
   -- what a call leaves, at each stage
   pub record Made (h : Happening) (next : Stage) : Type 0 where

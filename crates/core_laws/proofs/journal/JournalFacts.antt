@@ -1,15 +1,16 @@
 -- What the acts of the journal owe: entries are handed in, wait, or are refused, and a sealed block is committed, or failed.
 use Rattle.std.proofs.Common.{◌≡◌, ℕ, ◌<◌, true, Some, IsNone, IsSome, List, [], ◌∷◌, refl, ap, arith, ◌+◌, Bool, false, length, nat_lt, sym, ◌∙◌, inl, inr, ◌⊎◌, subst}
-use Rattle.core_laws.proofs.Common.{AllByRecursion, Asks, AtRest, BlockOk, Carries, Commits, DataOk, Enters, EntryMayFollow, HasCause, HasPlace, Holds, IsFull, IsPlaced, IsSealed, IsSession, JournalLists, JournalZone, KeptOk, Lba, Logged, MayReply, OnItsWay, Post, RestsAt, RightTrace, SealedBlock, Session, Stage, StandsAt, Trace, Vio, VioOk, Writer, asked, committed, done, each_at, entered, every-append, has_stopped, holder_weight, holds, logged, logged_of, ltb-false, ltb-true, of_address, or_parts, place_of, places, same_self, some_is, turned, zone_count, zone_number, zone_of}
+use Rattle.core_laws.proofs.Common.{AllByRecursion, Asks, AtRest, BlockOk, Carries, Commits, DataOk, Enters, EntryMayFollow, HasCause, HasFullJournal, HasPlace, Holds, IsChange, IsFull, IsPlaced, IsSealed, IsSession, JournalLists, JournalZone, KeptOk, Lba, Logged, MayReply, OnItsWay, Post, RestsAt, RightTrace, SealedBlock, Session, Stage, StandsAt, Trace, Vio, VioOk, Writer, asked, committed, done, each_at, entered, every-append, has_stopped, holder_weight, holds, logged, logged_of, ltb-false, ltb-true, of_address, or_parts, place_of, places, same_self, some_is, turned, zone_count, zone_number, zone_of}
 use Rattle.std.proofs.Math.Nat.{mod-lt}
-use Rattle.core_model.specs.declared.items.Asks.TheVariants.{Write}
+use Rattle.core_model.specs.declared.items.Asks.TheVariants.{Read, Write, Discard, Flush}
 use Rattle.core_model.specs.JournalRows.{refused, all_refused, JournalServes, is_closed, has_block, sealed, entered_by, JournalEnds, committed_by, hands_out}
 use Rattle.core_laws.proofs.kept.ActKept.{PostOk, carries_at, unentered_slot, Known, Mine, weighed, ActKept, act_none, act_one, own_request, own_address, line_kept, vio_over, vio_ok, in_phase, Reached, in_hand, in_line, line_of, reaches}
+use Rattle.core_laws.proofs.lists.Changes.{maps_change}
 use Rattle.core_laws.proofs.trace.DeskOfTrace.{shown_of}
 use Rattle.core_laws.proofs.trace.AbortsOfTrace.{unentered_abort}
 use Rattle.core_laws.proofs.kept.Keys.{Clears, Key, OfRequest, OfAddress, OfJournal, any, token_of, Spares, mine_or_spared, own_name, holder_one, idle_none}
 use Rattle.core_laws.proofs.kept.Spared.{mapping_same, of_same}
-use Rattle.core_laws.proofs.kept.StandsOn.{spares_all, reads_kept, rests_kept, opening_kept, SparesBlocks}
+use Rattle.core_laws.proofs.kept.StandsOn.{on_any, on_each, spares_all, reads_kept, rests_kept, opening_kept, SparesBlocks}
 use Rattle.core_laws.proofs.kept.Frame.{kept_on}
 use Rattle.core_laws.proofs.kept.Carried.{item_kept}
 use Rattle.blk_base.specs.declared.request.Answer.TheVariants as reply
@@ -20,20 +21,34 @@ use Rattle.core_model.specs.declared.items.Stage.TheVariants as stage
 use Rattle.core_model.specs.declared.zones.ZoneData.TheVariants as at
 use Rattle.core_model.specs.JournalRows as journal
 
--- once the session is stopped, a write whose slot isn't set may be answered so; where no block is left for it, one that has
--- its place and isn't handed in is answered `Full`
-cause_stopped : (s : Session) (t : Trace) (w : Writer) (q : Asks) (at : Lba) (bytes : List ℕ) → q ≡ Write → has_stopped t ≡ true → IsSome (place_of (places t) w) → IsNone (logged_of (done t) w)
+-- once the session is stopped, a write or a discard whose slot isn't set may be answered so; where no block is left for it, one
+-- that has its place and isn't handed in is answered `Full`
+cause_stopped : (s : Session) (t : Trace) (w : Writer) (q : Asks) (at : Lba) (bytes : List ℕ) → IsChange q → has_stopped t ≡ true → IsSome (place_of (places t) w) → IsNone (logged_of (done t) w)
     → HasCause s t w (asked q at bytes) reply.Stopped
-cause_stopped s t w q at bytes is stopped placed none = rw is (stopped, placed, none)
+cause_stopped s t w Write at bytes is stopped placed none = (stopped, placed, none)
+cause_stopped s t w Discard at bytes is stopped placed none = (stopped, placed, none)
+cause_stopped s t w Read at bytes is stopped placed none = absurd is
+cause_stopped s t w Flush at bytes is stopped placed none = absurd is
 
-cause_full : (s : Session) (t : Trace) (w : Writer) (q : Asks) (at : Lba) (bytes : List ℕ) → q ≡ Write → IsNone (logged_of (entered t) w) → IsSome (place_of (places t) w) → IsFull s t
+cause_full : (s : Session) (t : Trace) (w : Writer) (q : Asks) (at : Lba) (bytes : List ℕ) → IsChange q → IsNone (logged_of (entered t) w) → IsSome (place_of (places t) w) → HasFullJournal s t
     → HasCause s t w (asked q at bytes) reply.Full
-cause_full s t w q at bytes is none some full = rw is (some, none, full)
+cause_full s t w Write at bytes is none some full = (some, none, inl full)
+cause_full s t w Discard at bytes is none some full = (some, none, full)
+cause_full s t w Read at bytes is none some full = absurd is
+cause_full s t w Flush at bytes is none some full = absurd is
 
-pub may_stop : (s : Session) (t : Trace) (v : Vio) → v.asks ≡ Write → has_stopped t ≡ true → HasPlace s t v.request v.at.0 v.place → IsNone (logged_of (done t) v.request) → MayReply s t v (Some reply.Stopped)
+-- a write, where no data block is left
+cause_taken : (s : Session) (t : Trace) (w : Writer) (q : Asks) (at : Lba) (bytes : List ℕ) → q ≡ Write → IsNone (logged_of (entered t) w) → IsSome (place_of (places t) w) → IsFull s t
+    → HasCause s t w (asked q at bytes) reply.Full
+cause_taken s t w q at bytes is none some full = rw is (some, none, full)
+
+pub may_stop : (s : Session) (t : Trace) (v : Vio) → IsChange v.asks → has_stopped t ≡ true → HasPlace s t v.request v.at.0 v.place → IsNone (logged_of (done t) v.request) → MayReply s t v (Some reply.Stopped)
 may_stop s t v is stopped placed none = cause_stopped s t v.request v.asks v.at v.bytes is stopped (some_is _ _ placed) none
 
-pub may_fill : (s : Session) (t : Trace) (v : Vio) → v.asks ≡ Write → IsPlaced s t v → IsFull s t → MayReply s t v (Some reply.Full)
+pub write_full : (s : Session) (t : Trace) (v : Vio) → v.asks ≡ Write → IsPlaced s t v → IsFull s t → MayReply s t v (Some reply.Full)
+write_full s t v is k full = cause_taken s t v.request v.asks v.at v.bytes is k.not_entered (some_is _ _ k.placed) full
+
+pub may_fill : (s : Session) (t : Trace) (v : Vio) → IsChange v.asks → IsPlaced s t v → HasFullJournal s t → MayReply s t v (Some reply.Full)
 may_fill s t v is k full = cause_full s t v.request v.asks v.at v.bytes is k.not_entered (some_is _ _ k.placed) full
 
 -- the home of a request is a zone
@@ -44,32 +59,34 @@ home_within s t v session ok =
     omega (arith, below, home)
 
 module _ (s : Session) (t : Trace) where
-  -- a write that holds its lock is aborted
-  pub stopped_post : (v : Vio) → RightTrace s t → has_stopped t ≡ true → VioOk s t v → Holds s t v → v.asks ≡ Write → PostOk s t (refused s.sizes reply.Stopped v)
+  -- a write or a discard that holds its lock is aborted
+  pub stopped_post : (v : Vio) → RightTrace s t → has_stopped t ≡ true → VioOk s t v → Holds s t v → IsChange v.asks → PostOk s t (refused s.sizes reply.Stopped v)
   stopped_post v right stopped ok k is = (omega arith, (ok, (k, may_stop s t v is stopped k.is_placed.placed (unentered_slot s t v.request right k.is_placed.not_entered)), refl))
 
-  pub full_post : (v : Vio) → IsFull s t → VioOk s t v → Holds s t v → v.asks ≡ Write → PostOk s t (refused s.sizes reply.Full v)
+  pub full_post : (v : Vio) → HasFullJournal s t → VioOk s t v → Holds s t v → IsChange v.asks → PostOk s t (refused s.sizes reply.Full v)
   full_post v full ok k is = (omega arith, (ok, (k, may_fill s t v is k.is_placed full), refl))
 
   -- all that wait do
   pub stopped_posts : (vs : List Vio) → RightTrace s t → has_stopped t ≡ true → AllByRecursion (KeptOk s t phase.Enter) vs → AllByRecursion (PostOk s t) (all_refused s.sizes reply.Stopped vs)
   stopped_posts [] right stopped all = tt
   stopped_posts (v ∷ vs) right stopped all =
-      let k = carries_at s t v phase.Enter all.0.2 all.0.1 in (stopped_post v right stopped all.0.0 k.0 k.1, stopped_posts vs right stopped all.1)
+      let k = carries_at s t v phase.Enter all.0.2 all.0.1 in (stopped_post v right stopped all.0.0 k.0 (maps_change v.asks v.bytes v.new k.1), stopped_posts vs right stopped all.1)
 
-  pub full_posts : (vs : List Vio) → IsFull s t → AllByRecursion (KeptOk s t phase.Enter) vs → AllByRecursion (PostOk s t) (all_refused s.sizes reply.Full vs)
+  pub full_posts : (vs : List Vio) → HasFullJournal s t → AllByRecursion (KeptOk s t phase.Enter) vs → AllByRecursion (PostOk s t) (all_refused s.sizes reply.Full vs)
   full_posts [] full all = tt
-  full_posts (v ∷ vs) full all = let k = carries_at s t v phase.Enter all.0.2 all.0.1 in (full_post v full all.0.0 k.0 k.1, full_posts vs full all.1)
+  full_posts (v ∷ vs) full all = let k = carries_at s t v phase.Enter all.0.2 all.0.1 in (full_post v full all.0.0 k.0 (maps_change v.asks v.bytes v.new k.1), full_posts vs full all.1)
 
--- The entry of a write is handed in while no block is under way.
+-- The entry of a write or a discard is handed in while no block is under way.
 module _ (s : Session) (t : Trace) (v : Vio) (right : RightTrace s t) (ok : VioOk s t v) (is : v.phase ≡ phase.Enter) (carries : Carries s t v phase.Enter)
     (idle : entered t ≡ committed t) (rest : AtRest s t (committed t)) (few : s.sizes.opened + length (committed t) < s.sizes.geometry.journal) where
   pub may_enter : EntryMayFollow s (logged v) t
   may_enter = record {
     is_open = ok.is_open;
     is_write = record {
+      asks = v.asks;
       bytes = v.bytes;
-      asked = ok.asked ∙ ap (λ q. Some (asked q v.at v.bytes)) carries.1;
+      asked = ok.asked;
+      maps = carries.1;
       placed = carries.0.is_placed.placed;
     };
     once = carries.0.is_placed.not_entered;
@@ -100,7 +117,7 @@ module _ (s : Session) (t : Trace) (v : Vio) (right : RightTrace s t) (ok : VioO
       vio = vio_over s (Enters (logged v)) t v refl ok;
       phase = is;
       is_entered = record {
-        is_write = carries.1;
+        is_change = maps_change v.asks v.bytes v.new carries.1;
         placed = carries.0.is_placed.placed;
         entry = rw (same_self v.request) refl;
         unset = unentered_slot s t v.request right carries.0.is_placed.not_entered;
@@ -109,20 +126,21 @@ module _ (s : Session) (t : Trace) (v : Vio) (right : RightTrace s t) (ok : VioO
       last = ap (λ es. logged v ∷ es) idle;
       others = carries.0.quiet.all_done;
       below = record { writes = carries.0.below.writes; reads = carries.0.below.reads };
+      maps = carries.1;
       fresh = carries.2;
       old_held = carries.0.old_held;
       sequence = next;
       few = few;
     },
-    (rest_now, reads_kept s (Enters (logged v)) t v.block.0 v.bytes tt carries.3),
+    (rest_now, on_each v.new (λ x to reads. reads_kept s (Enters (logged v)) t x.0 v.bytes tt reads) carries.3),
   )
 
 rests_idle : (s : Session) (t : Trace) (busy broken : Bool) → busy ≡ false → broken ≡ false → RestsAt s t busy broken → (entered t ≡ committed t) × AtRest s t (committed t)
 rests_idle s t busy broken p q k = let here : RestsAt s t false false = rw (p, q) at k in here
 
 -- where there is no block for one more entry, the journal is full
-pub full_now : (s : Session) (t : Trace) (j : JournalZone) → JournalLists t j → has_block s.sizes j ≡ false → IsFull s t
-full_now s t j lists none = inl (let less = ltb-false (s.sizes.opened + length j.entered) s.sizes.geometry.journal none in let same = ap length lists.entered_is in omega (arith, less, same))
+pub full_now : (s : Session) (t : Trace) (j : JournalZone) → JournalLists t j → has_block s.sizes j ≡ false → HasFullJournal s t
+full_now s t j lists none = (let less = ltb-false (s.sizes.opened + length j.entered) s.sizes.geometry.journal none in let same = ap length lists.entered_is in omega (arith, less, same))
 
 pub room_for : (n m : ℕ) → nat_lt n m ≡ true → n < m
 room_for n m is = ltb-true n m is
@@ -131,9 +149,9 @@ room_for n m is = ltb-true n m is
 module _ {s : Session} {t : Trace} {n : ℕ} {old : JournalZone} {v : Vio} (known : Known s t n (at.Journal old) (item.Request v ∷ [])) where
   pub journal_serves : (new : JournalZone) (made : Trace) (posts : List Post) → JournalServes s.sizes old v new made posts → ActKept s t n (at.Journal old) (item.Request v ∷ []) (at.Journal new) made posts
   journal_serves new made posts (journal.is_stopped is closed e m p) =
-      rw (e, m, p) (act_none known known.own (stopped_post s t v known.right (known.own.told closed) (vio_ok known) (in_phase known phase.Enter is).0 (in_phase known phase.Enter is).1, tt))
+      rw (e, m, p) (act_none known known.own (stopped_post s t v known.right (known.own.told closed) (vio_ok known) (in_phase known phase.Enter is).0 (maps_change v.asks v.bytes v.new (in_phase known phase.Enter is).1), tt))
   journal_serves new made posts (journal.is_full is closed busy full e m p) =
-      rw (e, m, p) (act_none known known.own (full_post s t v (full_now s t old known.own.lists full) (vio_ok known) (in_phase known phase.Enter is).0 (in_phase known phase.Enter is).1, tt))
+      rw (e, m, p) (act_none known known.own (full_post s t v (full_now s t old known.own.lists full) (vio_ok known) (in_phase known phase.Enter is).0 (maps_change v.asks v.bytes v.new (in_phase known phase.Enter is).1), tt))
   journal_serves new made posts (journal.waits is closed busy e m p) =
       let k = known.own in
       rw (e, m, p) (act_none known (record {
@@ -184,7 +202,7 @@ journal_notified {s} {t} {n} {old} known =
 -- a commit writes no block
 commit_spares : (e : Logged) (es : List Logged) → SparesBlocks (Commits e) es
 commit_spares e [] = tt
-commit_spares e (f ∷ es) = (tt, commit_spares e es)
+commit_spares e (f ∷ es) = (on_any f.new (λ x. tt), commit_spares e es)
 
 -- The block of an entry is committed.
 module _ (s : Session) (t : Trace) (b : SealedBlock) (session : IsSession s) (right : RightTrace s t) (ok : IsSealed s t b.vio b.sequence) (rest : AtRest s t (logged b.vio ∷ committed t)) where
@@ -214,7 +232,7 @@ module _ (s : Session) (t : Trace) (b : SealedBlock) (session : IsSession s) (ri
     (
       vio_over s (Commits (logged b.vio)) t b.vio refl ok.vio,
       (
-        record { is_write = ok.is_entered.is_write; placed = ok.is_entered.placed; entry = ok.is_entered.entry; unset = ok.is_entered.unset; unaborted = ok.is_entered.unaborted },
+        record { is_change = ok.is_entered.is_change; placed = ok.is_entered.placed; entry = ok.is_entered.entry; unset = ok.is_entered.unset; unaborted = ok.is_entered.unaborted },
         record {
           all_committed = ap (of_address b.vio.at.0) ok.last;
           last = of_same (logged b.vio) (committed t) ∙ ap (λ es. logged b.vio ∷ es) ok.others;
@@ -368,7 +386,7 @@ module _ {s : Session} {t : Trace} {n : ℕ} {old : JournalZone} {b : SealedBloc
         answers = record { entry = logged b.vio; is_last = ok.last; stands = failed fails.0 };
         told = λ closed. fails.1;
       })
-      ((omega arith, (ok.vio, (ok.is_entered, may_stop s t b.vio ok.is_entered.is_write fails.1 ok.is_entered.placed ok.is_entered.unset, fails.1), refl)), stopped_posts s t old.waiting known.right fails.1 k.kept))
+      ((omega arith, (ok.vio, (ok.is_entered, may_stop s t b.vio ok.is_entered.is_change fails.1 ok.is_entered.placed ok.is_entered.unset, fails.1), refl)), stopped_posts s t old.waiting known.right fails.1 k.kept))
     where
       failed : AtRest s t (committed t) ⊎ OnItsWay s t (committed t) (logged b.vio) → AtRest s t (committed t) ⊎ OnItsWay s t (committed t) (logged b.vio) ⊎ AtRest s t (logged b.vio ∷ committed t)
       failed (inl k) = inl k

@@ -13,7 +13,7 @@ use Rattle.core_laws.proofs.kept.Frame.{kept_on}
 use Rattle.core_laws.proofs.kept.Keys.{Key, OfRequest, OfAddress, OfJournal, token_of, Spares, happens_in, IfAny, Clears, clears_with, mine_or_spared, own_name, holder_one}
 use Rattle.core_laws.proofs.kept.Spared.{about}
 use Rattle.core_laws.proofs.tokens.Known.{LeasedIn}
-use Rattle.core_laws.proofs.kept.StandsOn.{spares_all, SparesBlock, SparesBlocks, SparesJournal, SparesEntries, rests_kept, opening_kept, pending_kept}
+use Rattle.core_laws.proofs.kept.StandsOn.{spares_all, SparesBlock, SparesBlocks, SparesJournal, SparesEntries, rests_kept, opening_kept, pending_kept, AreElsewhere}
 
 -- In the hands of an act is what the front of the inbox weighs for, and what the zone's own data does. A request that isn't
 -- begun is in nobody's.
@@ -42,7 +42,7 @@ pub record Known (s : Session) (t : Trace) (n : ℕ) (d : ZoneData) (front : Lis
   pub leased : LeasedIn d front
   pub in_turn : (l : LogicalZone) (v : Vio) → d ≡ at.Logical l → front ≡ item.Request v ∷ [] → v.phase ≡ phase.Arrive → AllByRecursion (ComesAfter l.zone v.request) (places t)
   -- no entry names a block that a write at the device has taken
-  pub unnamed : (z : DeviceZone) (v : Vio) → d ≡ at.Device z → front ≡ item.Request v ∷ [] → claims v.phase ≡ true → AllByRecursion (λ (e : Logged). v.block.0 ≢ e.block.0) (entered t)
+  pub unnamed : (z : DeviceZone) (v : Vio) (x : Pbn) → d ≡ at.Device z → front ≡ item.Request v ∷ [] → claims v.phase ≡ true → v.new ≡ At x → AreElsewhere x.0 (entered t)
 
 -- what happens is about what it has in its hands
 abbrev pub Owns : Session → Trace → ℕ → ZoneData → List Item → Trace → Type 0

@@ -5,7 +5,7 @@ use Rattle.blk_base.specs.declared.place.Mapping.TheVariants.{Unmapped, Zero, At
 use Rattle.blk_base.specs.declared.place.ZoneId.TheVariants as id
 use Rattle.blk_base.specs.declared.request.Request.TheVariants as request
 use Rattle.vdo_model.specs.declared.report.DeskLine.TheVariants as line
-use Rattle.core_model.specs.declared.items.Asks.TheVariants.{Read, Write, Flush}
+use Rattle.core_model.specs.declared.items.Asks.TheVariants.{Read, Write, Discard, Flush}
 use Rattle.core_model.specs.declared.items.Item.TheVariants as item
 use Rattle.core_model.specs.declared.items.Phase.TheVariants as phase
 use Rattle.core_model.specs.declared.zones.ZoneData.TheVariants as at
@@ -44,7 +44,7 @@ past v p = ap (λ (q : Phase). arriving q v.request ++ []) p
 -- the posts of each row that are lists
 
 goes_still : (sizes : Sizes) (l : LogicalZone) (v : Vio) (post : Post) → goes_on sizes l v ≡ Some post → Still post
-goes_still sizes l v post goes = goes_by Still sizes l v post goes (λ reads. read (mapping_at l v.at.0)) (λ writes. refl)
+goes_still sizes l v post goes = goes_by Still sizes l v post goes (λ reads. read (mapping_at l v.at.0)) (λ writes zeros. refl) (λ writes others. refl) (λ discards. refl)
   where
     read : (m : Mapping) → Still (read_next sizes l (looked l v) m)
     read Unmapped = refl
@@ -132,11 +132,11 @@ module _ (s : Session) (t : Trace) where
   end_course old b new made posts (journal.fails c n m q) = still refl (rw q (refl, refused_still s.sizes _ old.waiting)) (rw m refl) (λ zone. rw m refl)
 
   device_course : (old : DeviceZone) (v : Vio) (new : DeviceZone) (made : Trace) (posts : List Post) → DeviceServes s.sizes old v new made posts → Course s t (at.Device old) (item.Request v ∷ []) made posts
-  device_course old v new made posts (device.stores p s inside n m q) = still (past v p) (rw q (refl, tt)) (rw m refl) (λ zone. rw m refl)
-  device_course old v new made posts (device.store_fails kept p up inside n m q) = still (past v p) (rw q (refl, notices_still (notified s.sizes))) (rw m refl) (λ zone. rw m refl)
+  device_course old v new made posts (device.stores x p to s inside n m q) = still (past v p) (rw q (refl, tt)) (rw m refl) (λ zone. rw m refl)
+  device_course old v new made posts (device.store_fails x kept p to up inside n m q) = still (past v p) (rw q (refl, notices_still (notified s.sizes))) (rw m refl) (λ zone. rw m refl)
   device_course old v new made posts (device.store_unmade p s n m q) = still (past v p) (rw q (refl, tt)) (rw m refl) (λ zone. rw m refl)
-  device_course old v new made posts (device.loads bytes p inside n m q) = still (past v p) (rw q (refl, tt)) (rw m refl) (λ zone. rw m refl)
-  device_course old v new made posts (device.load_fails bytes kept p inside n m q) = still (past v p) (rw q (refl, tt)) (rw m refl) (λ zone. rw m refl)
+  device_course old v new made posts (device.loads x bytes p from inside n m q) = still (past v p) (rw q (refl, tt)) (rw m refl) (λ zone. rw m refl)
+  device_course old v new made posts (device.load_fails x bytes kept p from inside n m q) = still (past v p) (rw q (refl, tt)) (rw m refl) (λ zone. rw m refl)
   device_course old v new made posts (device.flushes p s n m q) = still (past v p) (rw q (refl, tt)) (rw m refl) (λ zone. rw m refl)
   device_course old v new made posts (device.flush_fails kept p up n m q) = still (past v p) (rw q (refl, notices_still (notified s.sizes))) (rw m refl) (λ zone. rw m refl)
   device_course old v new made posts (device.flush_unmade p s n m q) = still (past v p) (rw q (refl, tt)) (rw m refl) (λ zone. rw m refl)
@@ -170,7 +170,7 @@ posted_begun sizes zone w (request.Read at) v is = subst (λ (v : Vio). only_of 
 posted_begun sizes zone w (request.Write at bytes false) v is = subst (λ (v : Vio). only_of zone (zone_asked sizes.zones (Some (request.Write at bytes false))) w ≡ counted arrival (items_to sizes (logical_zone zone) ((first_zone v, item.Request v) ∷ []))) (same_Some _ _ is) (at_home sizes zone (zone_of sizes.zones at.0) w _ refl)
 posted_begun sizes zone w request.Flush v is = subst (λ (v : Vio). [] ≡ counted arrival (items_to sizes (logical_zone zone) ((first_zone v, item.Request v) ∷ []))) (same_Some _ _ is) (to_nobody (nat_eq (device_zone sizes) (logical_zone zone)) _ refl)
 posted_begun sizes zone w (request.Write at bytes true) v is = absurd cc
-posted_begun sizes zone w (request.Discard at) v is = absurd cc
+posted_begun sizes zone w (request.Discard at) v is = subst (λ (v : Vio). only_of zone (zone_asked sizes.zones (Some (request.Discard at))) w ≡ counted arrival (items_to sizes (logical_zone zone) ((first_zone v, item.Request v) ∷ []))) (same_Some _ _ is) (at_home sizes zone (zone_of sizes.zones at.0) w _ refl)
 
 -- a request that is answered by its vio has its place, or is a flush
 answer_placed : (s : Session) (t : Trace) (v : Vio) (a : Answer) → RightTrace s t → VioOk s t v → HasCause s t v.request (request_of v) a
@@ -181,6 +181,7 @@ answer_placed s t v a right ok cause = by v.asks ok.asked ok.address cause
         → IsSome (place_of (places t) v.request) ⊎ (zone_asked s.sizes.zones (request_at s.script v.request) ≡ None)
     by Read is below cause = inl (cause_placed s t v.request (request.Read v.at) v.at.0 a right refl below cause)
     by Write is below cause = inl (cause_placed s t v.request (request.Write v.at v.bytes false) v.at.0 a right refl below cause)
+    by Discard is below cause = inl (cause_placed s t v.request (request.Discard v.at) v.at.0 a right refl below cause)
     by Flush is below cause = inr (ap (zone_asked s.sizes.zones) is)
 
 module _ (s : Session) (t : Trace) (right : RightTrace s t) where

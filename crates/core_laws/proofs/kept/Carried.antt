@@ -1,6 +1,7 @@
 -- What requests and sealed blocks carry stays where the next happening is about something else.
 use Rattle.std.proofs.Common.{◌≡◌, ◌⊎◌, ℕ, ◌≤◌, Bool, true, false, Option, None, Some, List, ◌∷◌, refl, ap, sym, ◌∙◌, subst, inl, inr, arith}
-use Rattle.core_laws.proofs.Common.{Answer, AtRest, BlockOk, Carries, Happening, HasCause, Holds, IsEarned, IsEntered, IsPlaced, IsSealed, IsUndrawn, Item, ItemOk, KeptOk, Logged, Looks, MayReply, OnItsWay, Phase, Request, SealedBlock, Session, Stage, StandsAt, Trace, Vio, VioOk, Writer, committed, done, entered, gift_of, gifts, holds, logged, logged_of, newest, place_of, places, request_of}
+use Rattle.core_laws.proofs.Common.{Answer, AtRest, BlockOk, Carries, Happening, HasCause, Holds, IsEarned, IsEntered, IsPlaced, IsSealed, IsUndrawn, Item, ItemOk, KeptOk, Logged, Looks, MayReply, OnItsWay, Pbn, Phase, Request, SealedBlock, Session, Stage, StandsAt, Trace, Vio, VioOk, Writer, committed, done, entered, gift_of, gifts, holds, logged, logged_of, newest, place_of, places, request_of}
+use Rattle.blk_base.specs.declared.place.Mapping.TheVariants.{At}
 use Rattle.blk_base.specs.declared.request.Answer.TheVariants as reply
 use Rattle.blk_base.specs.declared.request.Request.TheVariants as request
 use Rattle.core_model.specs.declared.items.Item.TheVariants as item
@@ -8,8 +9,8 @@ use Rattle.core_model.specs.declared.items.Phase.TheVariants as phase
 use Rattle.core_model.specs.declared.items.Stage.TheVariants as stage
 use Rattle.core_model.specs.DeskRows.{is_marked, mark_of_vio}
 use Rattle.core_laws.proofs.kept.Keys.{Key, OfRequest, OfAddress, OfBlock, OfJournal, token_of, Spares, own_name, holder_one, claim_one}
-use Rattle.core_laws.proofs.kept.Spared.{SparesRequest, SparesAddress, open_kept, place_same, entry_same, slot_same, abort_same, gift_same, stop_kept, fault_kept, abort_kept, full_kept, mapping_same, quiet_kept, committed_kept, below_kept, mark_kept, honest_before, value_same, done_at, committed_at}
-use Rattle.core_laws.proofs.kept.StandsOn.{SparesBlocks, SparesJournal, SparesEntries, stands_kept, reads_kept, rests_kept, way_kept, entry_reads_kept}
+use Rattle.core_laws.proofs.kept.Spared.{SparesRequest, SparesAddress, open_kept, place_same, entry_same, slot_same, abort_same, gift_same, stop_kept, fault_kept, abort_kept, full_kept, journal_full_kept, mapping_same, quiet_kept, committed_kept, below_kept, mark_kept, honest_before, value_same, done_at, committed_at}
+use Rattle.core_laws.proofs.kept.StandsOn.{SparesBlocks, SparesJournal, SparesEntries, on_both, stands_kept, reads_kept, rests_kept, way_kept, entry_reads_kept}
 
 -- the parts of the trace say the same of a request
 pub record SaysSame (h : Happening) (t : Trace) (w : Writer) : Type 0 where
@@ -34,7 +35,11 @@ module _ (s : Session) (h : Happening) (t : Trace) where
   cause_kept w (request.Write at bytes fua) reply.Stopped same k = (stop_kept h t k.0, rw (same.of_place) k.1, rw (same.of_slot) k.2)
   cause_kept w (request.Write at bytes fua) reply.Full same k = (rw (same.of_place) k.0, rw (same.of_entry) k.1, full_kept s h t k.2)
   cause_kept w (request.Write at bytes fua) other same k = absurd k
-  cause_kept w (request.Discard at) a same k = k
+  cause_kept w (request.Discard at) reply.Ok same k = rw (same.of_slot) k
+  cause_kept w (request.Discard at) reply.Range same k = k
+  cause_kept w (request.Discard at) reply.Stopped same k = (stop_kept h t k.0, rw (same.of_place) k.1, rw (same.of_slot) k.2)
+  cause_kept w (request.Discard at) reply.Full same k = (rw (same.of_place) k.0, rw (same.of_entry) k.1, journal_full_kept s h t k.2)
+  cause_kept w (request.Discard at) other same k = absurd k
   cause_kept w request.Flush reply.Stopped same k = stop_kept h t k
   cause_kept w request.Flush other same k = absurd k
 
@@ -54,14 +59,14 @@ module _ (s : Session) (h : Happening) (t : Trace) where
 
   unplaced_kept : (v : Vio) → SparesRequest h v.request → IsUndrawn t v.request v.asks → IsUndrawn (h ∷ t) v.request v.asks
   unplaced_kept v apart k = record {
-    block_request = k.block_request;
+    for_block = k.for_block;
     unplaced = rw (place_same h t v.request apart) k.unplaced;
     not_entered = rw (entry_same h t v.request apart) k.not_entered;
   }
 
   placed_kept : (v : Vio) → SparesRequest h v.request → IsPlaced s t v → IsPlaced s (h ∷ t) v
   placed_kept v apart k = record {
-    block_request = k.block_request;
+    for_block = k.for_block;
     placed = place_same h t v.request apart ∙ k.placed;
     not_entered = rw (entry_same h t v.request apart) k.not_entered;
   }
@@ -84,7 +89,7 @@ module _ (s : Session) (h : Happening) (t : Trace) where
 
   pub entered_kept : (v : Vio) → SparesRequest h v.request → IsEntered s t v → IsEntered s (h ∷ t) v
   entered_kept v apart k = record {
-    is_write = k.is_write;
+    is_change = k.is_change;
     placed = place_same h t v.request apart ∙ k.placed;
     entry = entry_same h t v.request apart ∙ k.entry;
     unset = rw (slot_same h t v.request apart) k.unset;
@@ -92,15 +97,15 @@ module _ (s : Session) (h : Happening) (t : Trace) where
   }
 
   -- by the phase
-  by_phase : (v : Vio) (q : Phase) → SparesRequest h v.request → (holds q ≡ true → SparesAddress h v.at.0) → (q ≡ phase.Enter → Spares s t h (OfBlock v.block.0))
+  by_phase : (v : Vio) (q : Phase) → SparesRequest h v.request → (holds q ≡ true → SparesAddress h v.at.0) → (q ≡ phase.Enter → (x : Pbn) → v.new ≡ At x → Spares s t h (OfBlock x.0))
       → Carries s t v q → Carries s (h ∷ t) v q
   by_phase v phase.Arrive r a b k = unplaced_kept v r k
   by_phase v phase.Wait r a b k = placed_kept v r k
   by_phase v phase.Claim r a b k = (holds_kept v r (a refl) k.0, k.1)
   by_phase v phase.Store r a b k = (holds_kept v r (a refl) k.0, k.1, k.2)
-  by_phase v phase.Enter r a b k = (holds_kept v r (a refl) k.0, k.1, k.2, reads_kept s h t v.block.0 v.bytes (b refl k.2.is_data) k.3)
+  by_phase v phase.Enter r a b k = (holds_kept v r (a refl) k.0, k.1, k.2, on_both v.new (λ x to fresh reads. reads_kept s h t x.0 v.bytes (b refl x to fresh.is_data) reads) k.2 k.3)
   by_phase v phase.Settle r a b k = (entered_kept v r k.0, committed_kept h t (logged v) (a refl) k.1, below_kept h t v.at.0 v.place (a refl) k.2, k.3)
-  by_phase v phase.Load r a b k = (looks_kept v r (a refl) k.0, k.1, k.2)
+  by_phase v phase.Load r a b k = (looks_kept v r (a refl) k.0, k.1)
   by_phase v phase.Loaded r a b k = (looks_kept v r (a refl) k.0, λ honest. k.1 (honest_before s h t honest) ∙ sym (value_same s h t v.at.0 (a refl)))
   by_phase v phase.AbortClaim r a b k = (holds_kept v r (a refl) k.0, reply_kept v v.answer r k.1)
   by_phase v phase.Abort r a b k = (holds_kept v r (a refl) k.0, reply_kept v v.answer r k.1)
@@ -119,15 +124,15 @@ module _ (s : Session) (h : Happening) (t : Trace) where
   carries_kept : (v : Vio) → SparesItem (item.Request v) → Carries s t v v.phase → Carries s (h ∷ t) v v.phase
   carries_kept v spares k =
       by_phase v v.phase (own_spared v spares) (λ held. spares (OfAddress v.at.0) (omega (arith, holder_one v held)))
-      (λ is. spares (OfBlock v.block.0) (omega (arith, claim_one v (rw is refl)))) k
+      (λ is x to. spares (OfBlock x.0) (omega (arith, claim_one v x (rw is refl) to))) k
 
   pub kept_kept : (q : Phase) (v : Vio) → SparesItem (item.Request v) → KeptOk s t q v → KeptOk s (h ∷ t) q v
   kept_kept q v spares k = (vio_kept v (own_spared v spares) k.0, carries_kept v spares k.1, k.2)
 
   -- a sealed block
   by_stage : (v : Vio) (q : Stage) → SparesEntries s h t → SparesJournal s h → SparesBlocks h (logged v ∷ committed t) → StandsAt s t v q → StandsAt s (h ∷ t) v q
-  by_stage v stage.Cover same journal blocks k = rw same.committed_same (rests_kept s h t (committed t) journal blocks.1 k.0, reads_kept s h t v.block.0 v.bytes blocks.0 k.1)
-  by_stage v stage.Write same journal blocks k = rw same.committed_same (rests_kept s h t (committed t) journal blocks.1 k.0, stands_kept s h t v.block.0 v.bytes blocks.0 k.1)
+  by_stage v stage.Cover same journal blocks k = rw same.committed_same (rests_kept s h t (committed t) journal blocks.1 k.0, on_both v.new (λ x to apart reads. reads_kept s h t x.0 v.bytes apart reads) blocks.0 k.1)
+  by_stage v stage.Write same journal blocks k = rw same.committed_same (rests_kept s h t (committed t) journal blocks.1 k.0, on_both v.new (λ x to apart stands. stands_kept s h t x.0 v.bytes apart stands) blocks.0 k.1)
   by_stage v stage.Harden same journal blocks k = rw same.committed_same (way_kept s h t (committed t) (logged v) journal blocks k.0, entry_reads_kept s h t (committed t) (logged v) journal k.0 k.1)
   by_stage v stage.Commit same journal blocks k = rw same.committed_same (rests_kept s h t (logged v ∷ committed t) journal blocks k)
   by_stage v stage.Fail same journal blocks k = (rw same.committed_same (failed k.0), stop_kept h t k.1)
@@ -144,6 +149,7 @@ module _ (s : Session) (h : Happening) (t : Trace) where
     last = same.entered_same ∙ k.last ∙ ap (λ es. logged v ∷ es) (sym same.committed_same);
     others = committed_at h t v.at.0 address ∙ k.others ∙ sym (done_at h t v.at.0 address);
     below = below_kept h t v.at.0 v.place address k.below;
+    maps = k.maps;
     fresh = k.fresh;
     old_held = k.old_held;
     sequence = rw same.committed_same k.sequence;

@@ -23,11 +23,11 @@ module _ (sizes : Sizes) where
   logical_once old v new made posts (logical.aborts_entered p n m q) = rw n (omega arith)
 
   device_once : (old : DeviceZone) (v : Vio) (new : DeviceZone) (made : Trace) (posts : List Post) → DeviceServes sizes old v new made posts → new.calls ≤ old.calls + 1
-  device_once old v new made posts (device.stores p going inside n m q) = rw n (omega arith)
-  device_once old v new made posts (device.store_fails kept p going inside n m q) = rw n (omega arith)
+  device_once old v new made posts (device.stores x p to going inside n m q) = rw n (omega arith)
+  device_once old v new made posts (device.store_fails x kept p to going inside n m q) = rw n (omega arith)
   device_once old v new made posts (device.store_unmade p stopped n m q) = rw n (omega arith)
-  device_once old v new made posts (device.loads bytes p inside n m q) = rw n (omega arith)
-  device_once old v new made posts (device.load_fails bytes kept p inside n m q) = rw n (omega arith)
+  device_once old v new made posts (device.loads x bytes p from inside n m q) = rw n (omega arith)
+  device_once old v new made posts (device.load_fails x bytes kept p from inside n m q) = rw n (omega arith)
   device_once old v new made posts (device.flushes p going n m q) = rw n (omega arith)
   device_once old v new made posts (device.flush_fails kept p going n m q) = rw n (omega arith)
   device_once old v new made posts (device.flush_unmade p stopped n m q) = rw n (omega arith)

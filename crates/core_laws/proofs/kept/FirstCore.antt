@@ -16,12 +16,9 @@ use Rattle.core_model.specs.Legal.{Legal}
 use Rattle.core_model.specs.Start.{IsFirstLogical, IsFirstData, IsFirstZone, IsFirst}
 use Rattle.core_model.specs.Steps.{Core}
 use Rattle.core_laws.proofs.kept.FirstState.{legal_first}
+use Rattle.core_laws.proofs.lists.Zeros.{zeros_length}
 
 -- a device of zeros
-
-zeros_length : length zero_block ≡ 4096
-unfolding zero_block
-zeros_length = length-replicate {A = ℕ} 4096 0
 
 zeros_at : (n b : ℕ) → get_or (replicate n zero_block) b zero_block ≡ zero_block
 zeros_at n b = elim (cases_lt b n) [

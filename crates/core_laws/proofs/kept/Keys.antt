@@ -1,13 +1,14 @@
 -- The keys that facts are on: a request, an address, a data block, the journal. Whoever weighs for a key has facts on it,
 -- and of each key at most one is held in the whole core. Each happening is about some keys, and spares the others.
 use Rattle.std.proofs.Common.{◌≡◌, ◌⊎◌, ℕ, ◌≤◌, ◌==◌, ◌&&◌, Bool, true, false, not, Option, None, Some, refl, ap, subst, inl, inr, arith}
-use Rattle.core_laws.proofs.Common.{Aborts, Calls, Commits, Draws, Enters, Fails, Flushes, Gives, Happening, Says, Session, Sets, Sizes, Takes, Token, Trace, Vio, Writer, ZoneData, bit, block_token, claims, desk_zone, device_zone, entered, eqb_tells, holder_weight, holds, journal_token, journal_zone, logical_zone, of_vio, physical_zone, request_token, same_self, same_tells, zone_of}
+use Rattle.core_laws.proofs.Common.{Aborts, Calls, Commits, Draws, Enters, Fails, Flushes, Gives, Happening, Says, Session, Sets, Sizes, Takes, Token, Trace, Vio, Writer, ZoneData, bit, block_token, claims, desk_zone, device_zone, entered, eqb_tells, holder_weight, holds, journal_token, journal_zone, logical_zone, of_vio, physical_zone, request_token, same_self, same_tells, zone_of, Pbn}
 use Rattle.blk_base.specs.Regions.{IsDataBlock}
 use Rattle.core_model.specs.declared.items.Item.TheVariants.{Request}
 use Rattle.core_model.specs.declared.zones.ZoneData.TheVariants as at
 use Rattle.core_model.specs.LogicalRows.{is_among, is_held}
 use Rattle.core_laws.proofs.kept.Spared.{OffRequest, OffNumber, about, SparesRequest, SparesAddress}
 use Rattle.core_laws.proofs.kept.StandsOn.{SparesBlock, SparesBlocks, SparesJournal, SparesEntries}
+use Rattle.blk_base.specs.declared.place.Mapping.TheVariants.{At}
 
 pub data Key : Type 0 where
   OfRequest : Writer → Key
@@ -43,8 +44,8 @@ own_name v = ap bit (same_self v.request)
 pub holder_one : (v : Vio) → holds v.phase ≡ true → holder_weight v.at.0 any v ≡ 1
 holder_one v held = elim (eqb_tells v.at.0 v.at.0) [ inl same ↦ rw (held, same.0) refl | inr other ↦ absurd (other.1 refl) ]
 
-pub claim_one : (v : Vio) → claims v.phase ≡ true → (block_token v.block.0).item (Request v) ≡ 1
-claim_one v takes = elim (eqb_tells v.block.0 v.block.0) [ inl same ↦ rw (takes, same.0) refl | inr other ↦ absurd (other.1 refl) ]
+pub claim_one : (v : Vio) (x : Pbn) → claims v.phase ≡ true → v.new ≡ At x → (block_token x.0).item (Request v) ≡ 1
+claim_one v x takes is = elim (eqb_tells x.0 x.0) [ inl same ↦ rw (takes, is, same.0) refl | inr other ↦ absurd (other.1 refl) ]
 
 -- a journal that isn't idle is busy
 pub idle_none : (b : Bool) → bit (not b) ≡ 0 → b ≡ true

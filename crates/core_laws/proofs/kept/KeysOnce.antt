@@ -1,6 +1,7 @@
 -- Of each key at most one is held in a legal core; so whoever has it in hand has it alone.
 use Rattle.std.proofs.Common.{◌≡◌, ◌≢◌, ℕ, zero, suc, ◌+◌, ◌≤◌, ◌==◌, ◌&&◌, ◌++◌, Bool, true, false, not, List, [], ◌∷◌, Some, slice_get, refl, sym, ◌∙◌, ap, subst, inl, inr, arith}
-use Rattle.core_laws.proofs.Common.{AllByRecursion, DataOk, Item, Logged, Session, Trace, Writer, Zone, ZoneData, begins_of, begun, bit, block_token, blocks_at, cases_Bool, entered, eqb_tells, given, in_log, is_entry, journal_zone, kept_by, lease_token, lines, lock_weight, locks_at, nobody_else, request_token, total, total-append, total-get, total_zero, weight, zone_of}
+use Rattle.core_laws.proofs.Common.{AllByRecursion, DataOk, Item, Logged, Session, Trace, Writer, Zone, ZoneData, begins_of, begun, bit, block_token, blocks_at, cases_Bool, entered, eqb_tells, given, in_log, is_entry, journal_zone, kept_by, lease_token, lines, lock_weight, locks_at, nobody_else, request_token, total, total-append, total-get, total_zero, weight, zone_of, Mapping, names, OnBlock}
+use Rattle.blk_base.specs.declared.place.Mapping.TheVariants.{Unmapped, Zero, At}
 use Rattle.core_model.specs.declared.zones.ZoneData.TheVariants as at
 use Rattle.core_model.specs.Legal.{Legal}
 use Rattle.core_model.specs.LogicalRows.{is_among, is_held}
@@ -13,6 +14,7 @@ use Rattle.core_laws.proofs.lists.CoreLists.{counts_held}
 use Rattle.core_laws.proofs.tokens.Owners.{home_of, locks_elsewhere, not_begun, request_once}
 use Rattle.core_laws.proofs.tokens.Lift.{items_total}
 use Rattle.core_laws.proofs.trace.DeskOfTrace.{desk_log_right}
+use Rattle.core_laws.proofs.kept.StandsOn.{AreElsewhere}
 
 -- An address weighs where its lock is, or at its home.
 slots_split : (s : Session) (a : ℕ) (zones : List Zone) → total (weight (slot_token s.sizes a)) zones ≡ total (weight (lease_token a any)) zones + total (λ z. free_at s.sizes a z.keeps) zones
@@ -93,15 +95,20 @@ module _ (s : Session) (core : Core) (legal : Legal s core) where
     none_beside k (in_hand (unborn {w = w} late)) = beside (OfRequest w) (omega (arith, nobody w late))
 
   -- entries that don't name a block
-  entries_apart : (x : ℕ) (es : List Logged) → total (is_entry x) es ≡ 0 → AllByRecursion (λ (e : Logged). x ≢ e.block.0) es
-  entries_apart x [] none = tt
-  entries_apart x (e ∷ es) none = elim (eqb_tells e.block.0 x) [
-    | inl same ↦ let one : is_entry x e ≡ 1 = rw same.0 refl in absurd (omega (arith, none, one))
-    | inr other ↦ (λ is. other.1 (sym is), entries_apart x es (omega (arith, none)))
+  named_none : (x : ℕ) (m : Mapping) → bit (names x m) ≡ 0 → OnBlock (λ y. x ≢ y.0) m
+  named_none x (At y) none = elim (eqb_tells y.0 x) [
+    | inl same ↦ absurd (let one : bit (y.0 == x) ≡ 1 = rw same.0 refl in omega (arith, none, one))
+    | inr other ↦ λ is. other.1 (sym is)
   ]
+  named_none x Unmapped none = tt
+  named_none x Zero none = tt
+
+  entries_apart : (x : ℕ) (es : List Logged) → total (is_entry x) es ≡ 0 → AreElsewhere x es
+  entries_apart x [] none = tt
+  entries_apart x (e ∷ es) none = (named_none x e.new (omega (arith, none)), entries_apart x es (omega (arith, none)))
 
   -- no entry names a block of which nobody beside another zone than the journal has anything
-  pub block_unnamed : (n : ℕ) (z : Zone) (x : ℕ) → HasNoneBeside core.zones n z (block_token x) → (journal_zone s.sizes ≡ n → ⊥) → AllByRecursion (λ (e : Logged). x ≢ e.block.0) (entered core.trace)
+  pub block_unnamed : (n : ℕ) (z : Zone) (x : ℕ) → HasNoneBeside core.zones n z (block_token x) → (journal_zone s.sizes ≡ n → ⊥) → AreElsewhere x (entered core.trace)
   block_unnamed n z x none apart =
       let journal = journal_sits s core.trace core.zones legal.each legal.count in
       let nothing = none.others (journal_zone s.sizes) journal.zone journal.had apart in

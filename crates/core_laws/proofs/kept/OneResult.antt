@@ -16,6 +16,7 @@ use Rattle.core_model.specs.JournalRows.{PhysicalServes, JournalServes, JournalE
 use Rattle.core_model.specs.LogicalRows.{LogicalServes, is_among, is_held, lock_of, all_for, placed, place_of_vio, drawn_by, goes_on, granted, released, retire, all_stopped, with_slot}
 use Rattle.core_model.specs.Steps.{Act, CallsDevice}
 use Rattle.core_model.specs.Steps as steps
+use Rattle.blk_base.specs.declared.place.Mapping.TheVariants.{At}
 
 -- what a zone keeps, what happens, and what is posted
 abbrev Result : Type 0 → Type 0
@@ -46,7 +47,7 @@ desk_is sizes desk v new made posts (marks is asks answer n m q) = rw (n, m, q, 
 -- the physical zone
 abbrev claim_at : Sizes → PhysicalZone → Vio → List Pbn → Result PhysicalZone
 claim_at sizes p v [] = (p, [], (v.home, item.Request (ended phase.Abort reply.Full v)) ∷ [])
-claim_at sizes p v (x ∷ others) = (record p { free = others }, Takes v.request x ∷ [], (id.Device, item.Request (record v { phase = phase.Store; block = x })) ∷ [])
+claim_at sizes p v (x ∷ others) = (record p { free = others }, Takes v.request x ∷ [], (id.Device, item.Request (record v { phase = phase.Store; new = At x })) ∷ [])
 
 abbrev physical_at : Sizes → PhysicalZone → Vio → Phase → Result PhysicalZone
 physical_at sizes p v phase.Claim = claim_at sizes p v p.free
@@ -159,11 +160,11 @@ device_at sizes d v made other = (d, [])
 
 device_is : (sizes : Sizes) (d : DeviceZone) (v : Vio) (new : DeviceZone) (made : Trace) (posts : List Post) → DeviceServes sizes d v new made posts
     → (new, posts) ≡ device_at sizes d v made v.phase
-device_is sizes d v new made posts (DeviceServes.stores is goes inside n m q) = rw (n, m, q, is, goes) refl
-device_is sizes d v new made posts (DeviceServes.store_fails kept is goes inside n m q) = rw (n, m, q, is, goes) refl
+device_is sizes d v new made posts (DeviceServes.stores x is to goes inside n m q) = rw (n, m, q, is, goes) refl
+device_is sizes d v new made posts (DeviceServes.store_fails x kept is to goes inside n m q) = rw (n, m, q, is, goes) refl
 device_is sizes d v new made posts (DeviceServes.store_unmade is stops n m q) = rw (n, m, q, is, stops) refl
-device_is sizes d v new made posts (DeviceServes.loads bytes is inside n m q) = rw (n, m, q, is) refl
-device_is sizes d v new made posts (DeviceServes.load_fails bytes kept is inside n m q) = rw (n, m, q, is) refl
+device_is sizes d v new made posts (DeviceServes.loads x bytes is from inside n m q) = rw (n, m, q, is) refl
+device_is sizes d v new made posts (DeviceServes.load_fails x bytes kept is from inside n m q) = rw (n, m, q, is) refl
 device_is sizes d v new made posts (DeviceServes.flushes is goes n m q) = rw (n, m, q, is, goes) refl
 device_is sizes d v new made posts (DeviceServes.flush_fails kept is goes n m q) = rw (n, m, q, is, goes) refl
 device_is sizes d v new made posts (DeviceServes.flush_unmade is stops n m q) = rw (n, m, q, is, stops) refl

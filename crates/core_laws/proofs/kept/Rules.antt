@@ -1,13 +1,13 @@
 -- In a legal core a rule applies to the item in front of each inbox, and each post of a rule has a lane.
 use Rattle.std.proofs.Common.{◌⊎◌, ◌≡◌, ℕ, ◌<◌, ◌≤◌, true, false, None, Some, Option, List, [], ◌∷◌, ◌++◌, length, slice_get, refl, ap, sym, ◌∙◌, subst, inl, inr, arith}
 use Rattle.std.proofs.lemmas.Option.{slice_get_within}
-use Rattle.core_laws.proofs.Common.{AllByRecursion, Answer, Asks, Call, Carries, DataOk, Desk, DeviceZone, IsServed, IsSession, Item, ItemOk, JournalZone, KeptOk, LogicalZone, MayReply, Pbn, Phase, PhysicalZone, Post, Request, Script, SealedBlock, Session, Stage, Trace, Vio, VioOk, Writer, Zone, ZoneData, cases_Bool, desk_zone, device_zone, eqb_tells, every-map, journal_zone, logical_zone, notified_zones, option_cases, physical_zone, request_at, some_of, zone_at, zone_count, zone_number, zone_of, zone_of_stage}
+use Rattle.core_laws.proofs.Common.{AllByRecursion, Answer, Asks, Call, Carries, DataOk, Desk, DeviceZone, IsServed, IsSession, Item, ItemOk, JournalZone, KeptOk, LogicalZone, MayReply, Pbn, Phase, PhysicalZone, Post, Request, Script, SealedBlock, Session, Stage, Trace, Vio, VioOk, Writer, Zone, ZoneData, cases_Bool, desk_zone, device_zone, eqb_tells, every-map, journal_zone, logical_zone, notified_zones, option_cases, physical_zone, request_at, some_of, zone_at, zone_count, zone_number, zone_of, zone_of_stage, Mapping, IsForBlock, IsToInside, IsToFresh}
 use Rattle.blk_base.specs.Regions.{journal_slot_of}
 use Rattle.blk_base.specs.declared.request.Answer.TheVariants as reply
 use Rattle.blk_base.specs.declared.request.Request.TheVariants as request
 use Rattle.disk_model.specs.declared.call.Call.TheVariants as call
 use Rattle.stop_laws.specs.Journals.{block_of_slot}
-use Rattle.core_model.specs.declared.items.Asks.TheVariants.{Read, Write, Flush}
+use Rattle.core_model.specs.declared.items.Asks.TheVariants.{Read, Write, Discard, Flush}
 use Rattle.core_model.specs.declared.items.Item.TheVariants as item
 use Rattle.core_model.specs.declared.items.Phase.TheVariants as phase
 use Rattle.core_model.specs.declared.items.Stage.TheVariants as stage
@@ -24,12 +24,14 @@ use Rattle.core_laws.proofs.kept.LegalKept.{goes}
 use Rattle.core_laws.proofs.kept.ZoneKinds.{Keeps, desk_keeps, logical_keeps, physical_keeps, journal_keeps, device_keeps}
 use Rattle.core_laws.proofs.physical.PhysicalFacts.{zone_below}
 use Rattle.core_laws.proofs.kept.ActKept.{carries_at}
+use Rattle.blk_base.specs.declared.place.Mapping.TheVariants.{Unmapped, Zero, At}
 
 -- a marked answer is that of a flush that returned
 pub marked_is : (asks : Asks) (a : Answer) → is_marked asks a ≡ true → (asks ≡ Flush) × (a ≡ reply.Ok)
 marked_is Flush reply.Ok marked = (refl, refl)
 marked_is Read reply.Ok marked = absurd cc
 marked_is Write reply.Ok marked = absurd cc
+marked_is Discard reply.Ok marked = absurd cc
 marked_is asks other marked = absurd cc
 
 module _ (s : Session) (session : IsSession s) (t : Trace) where
@@ -52,7 +54,7 @@ module _ (s : Session) (session : IsSession s) (t : Trace) where
   served_some w (request.Read at) served = (_, refl)
   served_some w (request.Write at bytes true) served = absurd (let fua = served.1 in cc)
   served_some w (request.Write at bytes false) served = (_, refl)
-  served_some w (request.Discard at) served = absurd served
+  served_some w (request.Discard at) served = (_, refl)
   served_some w request.Flush served = (_, refl)
 
   desk_starts : (n : ℕ) (desk : Desk) → DataOk s t n (at.Desk desk) → MayBegin s.sizes (at.Desk desk) → HasAct s.sizes (at.Desk desk) []
@@ -64,13 +66,18 @@ module _ (s : Session) (session : IsSession s) (t : Trace) where
         | inr once ↦ (_, _, _, steps.begins (DeskBegins.answers w asked.0 served.0 once.0 next asked.1 served.1 once.1 refl refl refl))
       ]
 
-  -- a logical zone: whoever goes on with a lock is a read or a write
+  -- a logical zone: whoever goes on with a lock asks for a block
   abbrev IsBlockRequest : Vio → Type 0
-  IsBlockRequest v = (v.asks ≡ Read) ⊎ (v.asks ≡ Write)
+  IsBlockRequest v = IsForBlock v.asks
 
   goes_some : (l : LogicalZone) (v : Vio) → IsBlockRequest v → (post : Post) × (goes_on s.sizes l v ≡ Some post)
-  goes_some l v (inl read) = (_, ap (next_for s.sizes l v) read)
-  goes_some l v (inr write) = (_, ap (next_for s.sizes l v) write)
+  goes_some l v block = by v.asks block
+    where
+      by : (q : Asks) → IsForBlock q → (post : Post) × (next_for s.sizes l v q ≡ Some post)
+      by Read block = (_, refl)
+      by Write block = (_, refl)
+      by Discard block = (_, refl)
+      by Flush block = absurd block
 
   grants_some : (l : LogicalZone) (a : ℕ) (vs : List Vio) → AllByRecursion IsBlockRequest vs → (more : List Post) × (passes_on s.sizes l (first_for a vs) ≡ Some more)
   grants_some l a [] all = ([], refl)
@@ -90,7 +97,7 @@ module _ (s : Session) (session : IsSession s) (t : Trace) where
 
   -- whoever waits in a zone is one
   passes : (l : LogicalZone) (n : ℕ) (a : ℕ) (to : LogicalZone) → DataOk s t n (at.Logical l) → (more : List Post) × (passes_on s.sizes to (first_for a l.waiting) ≡ Some more)
-  passes l n a to own = grants_some to a l.waiting (every-map {P = KeptOk s t phase.Wait} {Q = IsBlockRequest} (λ v k. (carries_at s t v phase.Wait k.2 k.1).block_request) l.waiting own.kept)
+  passes l n a to own = grants_some to a l.waiting (every-map {P = KeptOk s t phase.Wait} {Q = IsBlockRequest} (λ v k. (carries_at s t v phase.Wait k.2 k.1).for_block) l.waiting own.kept)
 
   -- the physical zone
   claims : (p : PhysicalZone) (v : Vio) (free : List Pbn) → p.free ≡ free → v.phase ≡ phase.Claim → HasAct s.sizes (at.Physical p) (item.Request v ∷ [])
@@ -121,11 +128,21 @@ module _ (s : Session) (session : IsSession s) (t : Trace) where
       next (w ∷ ws) some block = (_, _, _, steps.ends (JournalEnds.commits_next w ws is some block refl refl refl))
 
   -- the device
-  stores : (d : DeviceZone) (v : Vio) → v.phase ≡ phase.Store → IsInside s.sizes v.block → HasAct s.sizes (at.Device d) (item.Request v ∷ [])
-  stores d v is inside = elim (cases_Bool d.stopped) [
+  stores : (d : DeviceZone) (v : Vio) (x : Pbn) → v.phase ≡ phase.Store → v.new ≡ At x → IsInside s.sizes x → HasAct s.sizes (at.Device d) (item.Request v ∷ [])
+  stores d v x is to inside = elim (cases_Bool d.stopped) [
     | inl stopped ↦ (_, _, _, steps.calls (DeviceServes.store_unmade is stopped refl refl refl))
-    | inr goes ↦ (_, _, _, steps.calls (DeviceServes.stores is goes inside refl refl refl))
+    | inr goes ↦ (_, _, _, steps.calls (DeviceServes.stores x is to goes inside refl refl refl))
   ]
+
+  stores_by : (d : DeviceZone) (v : Vio) (m : Mapping) → v.phase ≡ phase.Store → v.new ≡ m → IsToFresh s m → HasAct s.sizes (at.Device d) (item.Request v ∷ [])
+  stores_by d v (At x) is to fresh = stores d v x is to fresh.inside
+  stores_by d v Unmapped is to fresh = absurd fresh
+  stores_by d v Zero is to fresh = absurd fresh
+
+  loads_by : (d : DeviceZone) (v : Vio) (m : Mapping) → v.phase ≡ phase.Load → v.old ≡ m → IsToInside s m → HasAct s.sizes (at.Device d) (item.Request v ∷ [])
+  loads_by d v (At x) is from inside = (_, _, _, steps.calls (DeviceServes.loads x [] is from inside refl refl refl))
+  loads_by d v Unmapped is from inside = absurd inside
+  loads_by d v Zero is from inside = absurd inside
 
   flushes : (d : DeviceZone) (v : Vio) → v.phase ≡ phase.Flush → HasAct s.sizes (at.Device d) (item.Request v ∷ [])
   flushes d v is = elim (cases_Bool d.stopped) [
@@ -181,13 +198,13 @@ module _ (s : Session) (session : IsSession s) (t : Trace) where
 
     -- a request, by its phase; one that waits is in no lane
     by_phase : (v : Vio) (q : Phase) → v.phase ≡ q → VioOk s t v → Carries s t v q → n ≡ zone_at s.sizes v.home q → Has (item.Request v)
-    by_phase v phase.Arrive is ok carries to = in_home v ok to (λ l here. arrives l v is carries.block_request)
+    by_phase v phase.Arrive is ok carries to = in_home v ok to (λ l here. arrives l v is carries.for_block)
     by_phase v phase.Claim is ok carries to = in_physical _ to (λ p. claims p v p.free refl is)
-    by_phase v phase.Store is ok carries to = in_device _ to (λ dev. stores dev v is carries.2.inside)
+    by_phase v phase.Store is ok carries to = in_device _ to (λ dev. stores_by dev v v.new is refl carries.2)
     by_phase v phase.Enter is ok carries to = in_journal _ to (λ j. enters j v is)
     by_phase v phase.Settle is ok carries to =
         in_home v ok to (λ l here. let grants = passes l _ v.at.0 (with_slot l v) here in (_, _, _, steps.serves (LogicalServes.settles grants.0 is grants.1 refl refl refl)))
-    by_phase v phase.Load is ok carries to = in_device _ to (λ dev. (_, _, _, steps.calls (DeviceServes.loads [] is carries.2 refl refl refl)))
+    by_phase v phase.Load is ok carries to = in_device _ to (λ dev. loads_by dev v v.old is refl carries.1)
     by_phase v phase.Loaded is ok carries to = in_home v ok to (λ l here. let grants = passes l _ v.at.0 l here in (_, _, _, steps.serves (LogicalServes.gives grants.0 is grants.1 refl refl refl)))
     by_phase v phase.AbortClaim is ok carries to = in_physical _ to (λ p. (_, _, _, steps.takes (PhysicalServes.aborts_claim is refl refl refl)))
     by_phase v phase.Abort is ok carries to = in_home v ok to (λ l here. let grants = passes l _ v.at.0 l here in (_, _, _, steps.serves (LogicalServes.aborts grants.0 is grants.1 refl refl refl)))

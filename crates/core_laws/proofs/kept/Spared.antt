@@ -1,6 +1,6 @@
 -- Facts on the trace stay where the next happening is about something else.
 use Rattle.std.proofs.Common.{◌≡◌, ◌≢◌, ℕ, ◌+◌, ◌<◌, ◌==◌, Bool, true, false, not, ◌&&◌, ◌||◌, if◌then◌else◌, Option, None, Some, List, [], ◌∷◌, refl, ap, sym, ◌∙◌, inl, inr, arith}
-use Rattle.core_laws.proofs.Common.{Aborts, AllBelow, Calls, Commits, DeskLine, Draws, Enters, Entry, Fails, Flushes, FlushMark, Gives, Happening, HasBelow, HasHonestReads, IsCommitted, IsFull, IsOpen, Logged, Quiet, Says, Session, Sets, Takes, Trace, Writer, aborted, begun, committed, done, entered, entries_of, eqb_tells, gift_of, gifts, has_read_fault, has_stopped, is_read, lines, logged_of, moments, newest, of_address, place_of, places, same_writer, value_at}
+use Rattle.core_laws.proofs.Common.{Aborts, AllBelow, Calls, Commits, DeskLine, Draws, Enters, Entry, Fails, Flushes, FlushMark, Gives, Happening, HasBelow, HasHonestReads, IsCommitted, HasFullJournal, IsFull, IsOpen, Logged, Quiet, Says, Session, Sets, Takes, Trace, Writer, aborted, begun, committed, done, entered, entries_of, eqb_tells, gift_of, gifts, has_read_fault, has_stopped, is_read, lines, logged_of, moments, newest, of_address, place_of, places, same_writer, value_at}
 use Rattle.blk_base.specs.declared.request.Answer.TheVariants as reply
 use Rattle.disk_model.specs.declared.call.Call.TheVariants.{Read}
 use Rattle.image_layout.specs.Window.{mapping_of}
@@ -145,6 +145,10 @@ fault_kept other t w is = is
 pub abort_kept : (h : Happening) (t : Trace) (a place : ℕ) → HasBelow a place (aborted t) → HasBelow a place (aborted (h ∷ t))
 abort_kept (Aborts e) t a place is = inr is
 abort_kept other t a place is = is
+
+pub journal_full_kept : (s : Session) (h : Happening) (t : Trace) → HasFullJournal s t → HasFullJournal s (h ∷ t)
+journal_full_kept s (Enters e) t full = omega (arith, full)
+journal_full_kept s other t full = full
 
 pub full_kept : (s : Session) (h : Happening) (t : Trace) → IsFull s t → IsFull s (h ∷ t)
 full_kept s (Enters e) t (inl full) = inl (omega (arith, full))

@@ -1,9 +1,9 @@
 -- What stands on the device goes on over each call that misses it.
 use Rattle.std.proofs.Common.{◌≡◌, ◌≢◌, ◌⊎◌, ℕ, ◌+◌, ◌<◌, Bool, true, List, [], ◌∷◌, refl, inl, inr, subst, sym, ap, ◌∙◌, arith, length}
 use Rattle.std.proofs.Math.Nat.{mod-lt}
-use Rattle.core_laws.proofs.Common.{AllByRecursion, AtRest, Call, Calls, EachStands, Fails, Happening, HasPending, Kept, Logged, OnItsWay, Pbn, ReadsAs, ReadsEntry, Session, Stands, Trace, Writer, committed, entered, entries_of, entry_of, log}
+use Rattle.core_laws.proofs.Common.{AllByRecursion, AtRest, Call, Calls, EachStands, Fails, GivesBytes, Happening, HasPending, Kept, Logged, Mapping, OnBlock, OnItsWay, Pbn, ReadsAs, ReadsEntry, Session, Stands, Trace, Writer, committed, entered, entries_of, entry_of, log}
 use Rattle.blk_base.specs.Regions.{journal_slot_of}
-use Rattle.blk_base.specs.declared.place.Mapping.TheVariants.{At}
+use Rattle.blk_base.specs.declared.place.Mapping.TheVariants.{Unmapped, Zero, At}
 use Rattle.disk_model.specs.Log.{Misses}
 use Rattle.disk_model.specs.declared.call.Call.TheVariants.{Write}
 use Rattle.disk_model.proofs.ImageLaws.{kept, settled-misses}
@@ -20,12 +20,28 @@ SparesBlock other x = Unit {0}
 -- nor one of the journal, nor of a block of these writes
 abbrev pub SparesBlocks : Happening → List Logged → Type 0
 SparesBlocks h [] = Unit {0}
-SparesBlocks h (e ∷ older) = SparesBlock h e.block.0 × SparesBlocks h older
+SparesBlocks h (e ∷ older) = OnBlock (λ x. SparesBlock h x.0) e.new × SparesBlocks h older
+
+-- what holds of each block, or follows from what holds of it, holds of that of a mapping
+pub on_any : {P : Pbn → Type 0} (m : Mapping) → ((x : Pbn) → P x) → OnBlock P m
+on_any (At x) all = all x
+on_any Unmapped all = tt
+on_any Zero all = tt
+
+pub on_both : {P Q R : Pbn → Type 0} (m : Mapping) → ((x : Pbn) → m ≡ At x → P x → Q x → R x) → OnBlock P m → OnBlock Q m → OnBlock R m
+on_both (At x) so p q = so x refl p q
+on_both Unmapped so p q = tt
+on_both Zero so p q = tt
+
+pub on_each : {P Q : Pbn → Type 0} (m : Mapping) → ((x : Pbn) → m ≡ At x → P x → Q x) → OnBlock P m → OnBlock Q m
+on_each (At x) so p = so x refl p
+on_each Unmapped so p = tt
+on_each Zero so p = tt
 
 -- one that writes no block at all
 pub spares_all : (h : Happening) → ((x : ℕ) → SparesBlock h x) → (es : List Logged) → SparesBlocks h es
 spares_all h none [] = tt
-spares_all h none (e ∷ es) = (none e.block.0, spares_all h none es)
+spares_all h none (e ∷ es) = (on_any e.new (λ x. none x.0), spares_all h none es)
 
 abbrev pub SparesJournal : Session → Happening → Type 0
 SparesJournal s (Calls c) = MissesJournal s.sizes.geometry c
@@ -41,10 +57,14 @@ pub block_spared : {h : Happening} {c : Call} → IsCallOf h c → (x : ℕ) →
 block_spared succeeded x misses = misses
 block_spared failed x misses = misses
 
+-- none of these writes names this block
+abbrev pub AreElsewhere : ℕ → List Logged → Type 0
+AreElsewhere x es = AllByRecursion (λ (e : Logged). OnBlock (λ y. x ≢ y.0) e.new) es
+
 -- a write of a block that they don't name spares theirs
-pub write_spares : {h : Happening} {x : Pbn} {bytes : List ℕ} {ok : Bool} → IsCallOf h (Write x bytes ok) → (es : List Logged) → AllByRecursion (λ (e : Logged). x.0 ≢ e.block.0) es → SparesBlocks h es
+pub write_spares : {h : Happening} {x : Pbn} {bytes : List ℕ} {ok : Bool} → IsCallOf h (Write x bytes ok) → (es : List Logged) → AreElsewhere x.0 es → SparesBlocks h es
 write_spares is [] apart = tt
-write_spares is (e ∷ es) apart = (block_spared is e.block.0 apart.0, write_spares is es apart.1)
+write_spares is (e ∷ es) apart = (on_each e.new (λ y to. block_spared is y.0) apart.0, write_spares is es apart.1)
 
 pub journal_spared : (s : Session) {h : Happening} {c : Call} → IsCallOf h c → MissesJournal s.sizes.geometry c → SparesJournal s h
 journal_spared s succeeded misses = misses
@@ -61,9 +81,14 @@ module _ (s : Session) where
   reads_kept (Fails w c true) t x bytes apart k = subst (λ (options : List (List ℕ)). AllByRecursion (λ content. content ≡ bytes) options) (sym (settled-misses s.blocks (log s t) c x apart)) k
   reads_kept other t x bytes apart k = k
 
+  gives_kept : (h : Happening) (t : Trace) (m : Mapping) (bytes : List ℕ) → OnBlock (λ x. SparesBlock h x.0) m → GivesBytes s t m bytes → GivesBytes s (h ∷ t) m bytes
+  gives_kept h t (At x) bytes apart k = (k.0, stands_kept h t x.0 bytes apart k.1)
+  gives_kept h t Unmapped bytes apart k = k
+  gives_kept h t Zero bytes apart k = k
+
   pub each_kept : (h : Happening) (t : Trace) (es : List Logged) → SparesBlocks h es → EachStands s t es → EachStands s (h ∷ t) es
   each_kept h t [] apart k = tt
-  each_kept h t (e ∷ older) apart k = ((k.0.0, stands_kept h t e.block.0 _ apart.0 k.0.1), each_kept h t older apart.1 k.1)
+  each_kept h t (e ∷ older) apart k = (gives_kept h t e.new _ apart.0 k.0, each_kept h t older apart.1 k.1)
 
   pub rests_kept : (h : Happening) (t : Trace) (es : List Logged) → SparesJournal s h → SparesBlocks h es → AtRest s t es → AtRest s (h ∷ t) es
   rests_kept (Calls c) t es journal apart k =

@@ -1,6 +1,6 @@
 -- Over an act of a legal core: what its zone owes, and everything beside what is served stays as it was.
 use Rattle.std.proofs.Common.{◌≡◌, ◌≢◌, ℕ, true, Some, List, [], ◌∷◌, ◌++◌, slice_get, refl, ap, ◌∙◌, subst, arith}
-use Rattle.core_laws.proofs.Common.{AllByRecursion, DataOk, DeviceZone, IsSession, Item, ItemOk, Logged, LogicalZone, Phase, Post, Session, Trace, Vio, Writer, Zone, ZoneData, arrival, arriving, block_token, claims, desk_zone, entered, every-front, places, total}
+use Rattle.core_laws.proofs.Common.{AllByRecursion, DataOk, DeviceZone, IsSession, Item, ItemOk, Logged, LogicalZone, Phase, Post, Session, Trace, Vio, Writer, Zone, ZoneData, arrival, arriving, block_token, claims, desk_zone, entered, every-front, places, total, Pbn}
 use Rattle.core_model.specs.declared.items.Item.TheVariants as item
 use Rattle.core_model.specs.declared.items.Phase.TheVariants as phase
 use Rattle.core_model.specs.declared.zones.ZoneData.TheVariants as at
@@ -23,6 +23,8 @@ use Rattle.core_laws.proofs.kept.ZoneKinds.{stood, desk_sits}
 use Rattle.core_laws.proofs.logical.LogicalFacts.{logical_serves, logical_notified}
 use Rattle.core_laws.proofs.physical.PhysicalFacts.{physical_serves, physical_notified}
 use Rattle.core_laws.proofs.tokens.Owners.{leased_front}
+use Rattle.blk_base.specs.declared.place.Mapping.TheVariants.{At}
+use Rattle.core_laws.proofs.kept.StandsOn.{AreElsewhere}
 
 -- each act, by its zone
 pub by_act : {s : Session} {t : Trace} {n : ℕ} {old new : ZoneData} {front : List Item} {made : Trace} {posts : List Post} → Act s.sizes old front new made posts → Known s t n old front → ActKept s t n old front new made posts
@@ -59,11 +61,11 @@ module _ (s : Session) (session : IsSession s) (core : Core) (legal : Legal s co
       first : (q : Phase) → q ≡ phase.Arrive → arriving q v.request ++ counted arrival rest ≡ v.request ∷ counted arrival rest
       first q is = rw is refl
 
-  unnamed : (d : DeviceZone) (v : Vio) → z.keeps ≡ at.Device d → front ≡ item.Request v ∷ [] → claims v.phase ≡ true → AllByRecursion (λ (e : Logged). v.block.0 ≢ e.block.0) (entered core.trace)
-  unnamed d v keeps is takes =
+  unnamed : (d : DeviceZone) (v : Vio) (x : Pbn) → z.keeps ≡ at.Device d → front ≡ item.Request v ∷ [] → claims v.phase ≡ true → v.new ≡ At x → AreElsewhere x.0 (entered core.trace)
+  unnamed d v x keeps is takes to =
       let here = (own_ok (at.Device d) keeps).number_is in
-      let some = ap (total (block_token v.block.0).item) is in
-      block_unnamed s core legal n (record z { ports = record z.ports { inbox = rest } }) v.block.0 (none_beside s core legal n z had front rest taken (OfBlock v.block.0) (in_hand (weighed (omega (arith, some, claim_one v takes))))) (λ same. omega (arith, same, here))
+      let some = ap (total (block_token x.0).item) is in
+      block_unnamed s core legal n (record z { ports = record z.ports { inbox = rest } }) x.0 (none_beside s core legal n z had front rest taken (OfBlock x.0) (in_hand (weighed (omega (arith, some, claim_one v x takes to))))) (λ same. omega (arith, same, here))
 
   pub known : Known s core.trace n z.keeps front
   known = record {

@@ -1,7 +1,7 @@
 -- What the acts of a logical zone owe: a request draws its place, and is done with its lock.
 use Rattle.std.proofs.Common.{◌≡◌, ◌⊎◌, ℕ, ◌+◌, ◌==◌, Bool, true, false, if◌then◌else◌, Some, IsNone, List, [], ◌∷◌, ◌++◌, refl, ap, sym, ◌∙◌, inl, inr, arith, ◌<◌, IsSome, subst}
-use Rattle.core_laws.proofs.Common.{Aborts, AllBelow, AllByRecursion, Asks, DataOk, DeskLine, Draws, FlushMark, Follows, Gives, GivesRight, Happening, HasAddress, HasEarned, HasHonestReads, IsCommitted, IsEntered, IsFresh, IsOfZone, IsPlaced, IsUndrawn, KeptOk, Lba, Lock, LocksOk, Logged, LogicalZone, Looks, MayReply, Pbn, Phase, Placed, PlaceMayFollow, Post, Quiet, RightTrace, Session, Sets, Trace, Vio, VioOk, Writer, aborted, answer_of, asked, before_begin, done, ended, eq-eqb, eqb_tells, every-append, every-map, gift, gift_of, gifts, has_stopped, holds, lines, logged, logged_of, logical_zone, mapping_in, places, request_at, same_self, same_writer, some_is, turned, value_at, zone_number, zone_of}
-use Rattle.core_model.specs.declared.items.Asks.TheVariants.{Read, Write, Flush}
+use Rattle.core_laws.proofs.Common.{Aborts, AllBelow, AllByRecursion, Asks, DataOk, DeskLine, Draws, FlushMark, Follows, Gives, GivesRight, Happening, HasAddress, HasEarned, HasHonestReads, IsChange, IsCommitted, IsEntered, IsForBlock, IsFresh, IsOfZone, IsPlaced, IsUndrawn, KeptOk, Lba, Lock, LocksOk, Logged, LogicalZone, Looks, MayReply, OnBlock, Pbn, Phase, Placed, PlaceMayFollow, Post, Quiet, RightTrace, Session, Sets, Trace, Vio, VioOk, Writer, aborted, answer_of, asked, before_begin, done, ended, eq-eqb, eqb_tells, every-append, every-map, gift, gift_of, gifts, has_stopped, holds, lines, logged, logged_of, logical_zone, mapping_in, places, request_at, same_self, same_writer, some_is, turned, value_at, zone_number, zone_of}
+use Rattle.core_model.specs.declared.items.Asks.TheVariants.{Read, Write, Discard, Flush}
 use Rattle.core_model.specs.Legal.{ComesAfter}
 use Rattle.core_model.specs.LogicalRows.{is_among, is_held, lock_of, placed, place_of_vio, drawn_by, goes_on, LogicalServes, arrives_retired, arrives_free, arrives_held, settles, gives, aborts, aborts_entered, released, granted, retire, all_stopped, all_for, with_slot}
 use Rattle.core_laws.proofs.trace.DeskOfTrace.{shown_of}
@@ -11,7 +11,7 @@ use Rattle.core_laws.proofs.kept.Spared.{quiet_kept, below_kept, about, of_same}
 use Rattle.core_laws.proofs.logical.LockLaws.{more_drawn, one_waits, one_takes}
 use Rattle.core_laws.proofs.tokens.Owners.{at_home}
 use Rattle.core_model.specs.Phases.{row}
-use Rattle.core_laws.proofs.lists.CoreLists.{same_block, or_none}
+use Rattle.core_laws.proofs.lists.CoreLists.{or_none}
 use Rattle.core_laws.proofs.logical.Releases.{below_more, has_below_more, goes_ok, stopped_ok, release_ok, retire_ok, drawn_before}
 use Rattle.blk_base.specs.declared.place.Mapping.TheVariants.{At}
 use Rattle.byte_fields.specs.Mappings.{HoldsMapping}
@@ -19,8 +19,7 @@ use Rattle.core_model.specs.DeskRows.{mark_of_vio}
 use Rattle.core_model.specs.DeviceRows.{IsInside}
 use Rattle.core_laws.proofs.kept.Frame.{told_kept}
 use Rattle.core_laws.proofs.kept.Carried.{reply_said}
-use Rattle.blk_base.proofs.RegionLaws.{data_block_high}
-use Rattle.core_laws.proofs.device.DeviceCalls.{blocks_fit}
+use Rattle.core_laws.proofs.device.DeviceCalls.{fresh_held}
 use Rattle.core_laws.proofs.tokens.Known.{Leased}
 use Rattle.blk_base.specs.declared.place.ZoneId.TheVariants as id
 use Rattle.blk_base.specs.declared.request.Answer.TheVariants as reply
@@ -73,11 +72,11 @@ module _ {s : Session} {t : Trace} {n : ℕ} {l : LogicalZone} {v : Vio} (known 
     unplaced : IsUndrawn t v.request v.asks
     unplaced = carries_at s t v phase.Arrive arrives known.front_ok.0.1
 
-    of_zone : (asks : Asks) → (asks ≡ Read) ⊎ (asks ≡ Write) → HasAddress s.sizes v.at asks → request_at s.script v.request ≡ Some (asked asks v.at v.bytes) → IsOfZone s.sizes.zones s.sizes.geometry.logical s.script p
+    of_zone : (asks : Asks) → IsForBlock asks → HasAddress s.sizes v.at asks → request_at s.script v.request ≡ Some (asked asks v.at v.bytes) → IsOfZone s.sizes.zones s.sizes.geometry.logical s.script p
     of_zone Read block low is = (request.Read v.at, v.at.0, is, refl, low, sym zone_is)
     of_zone Write block low is = (request.Write v.at v.bytes false, v.at.0, is, refl, low, sym zone_is)
-    of_zone Flush (inl is) low at = absurd cc
-    of_zone Flush (inr is) low at = absurd cc
+    of_zone Discard block low is = (request.Discard v.at, v.at.0, is, refl, low, sym zone_is)
+    of_zone Flush block low is = absurd block
 
     may_draw : PlaceMayFollow s p t
     may_draw = record {
@@ -85,7 +84,7 @@ module _ {s : Session} {t : Trace} {n : ℕ} {l : LogicalZone} {v : Vio} (known 
       next = record {
         number = known.own.lists.next_is;
         once = unplaced.unplaced;
-        zone = of_zone v.asks unplaced.block_request front_ok.address front_ok.asked;
+        zone = of_zone v.asks unplaced.for_block front_ok.address front_ok.asked;
         order = every-map {P = ComesAfter l.zone v.request} {Q = λ (q : Placed). q.zone ≡ p.zone → Follows (lines t) p q}
             (λ q f same. record { stream = f same; answered = unanswered_before (lines t) q.request v.request front_ok.is_open.unanswered }) (places t) (known.in_turn l v refl refl arrives);
       };
@@ -96,7 +95,7 @@ module _ {s : Session} {t : Trace} {n : ℕ} {l : LogicalZone} {v : Vio} (known 
     right' = (may_draw, shown_plain s t (Draws p) tt (shown_of s t known.right), known.right)
 
     is_placed : IsPlaced s t' v'
-    is_placed = record { block_request = unplaced.block_request; placed = rw (same_self v.request) (rw zone_is refl); not_entered = unplaced.not_entered }
+    is_placed = record { for_block = unplaced.for_block; placed = rw (same_self v.request) (rw zone_is refl); not_entered = unplaced.not_entered }
 
     placed_ok : VioOk s t' v'
     placed_ok = vio_over s (Draws p) t v refl front_ok
@@ -149,11 +148,14 @@ module _ {s : Session} {t : Trace} {n : ℕ} {l : LogicalZone} {v : Vio} (known 
         let same = drawn_ok l.held l.waiting (more_drawn s l.zone l.next l.held l.waiting known.own.sound.locks) others_wait (λ a none. none) in
         act_one known (Draws p) clears gives_same right'
         (drawn_ok (lock_of v' ∷ l.held) l.waiting (one_takes s l.zone l.next l.held l.waiting known.own.sound.locks v' zone_is refl free) others_wait (λ a none. (or_none (v.at.0 == a) (is_held a l.held) none).1))
-        (goes_ok s t' n (drawn_by l v) same v' placed_ok is_placed (quiet' v.at.0 zone_is free alive) (below_kept (Draws p) t v.at.0 l.next tt (known.own.lists.below v.at.0 zone_is)) home_is post goes, tt)
+        (goes_ok s t' n (drawn_by l v) known.session right' same v' placed_ok is_placed (quiet' v.at.0 zone_is free alive) (below_kept (Draws p) t v.at.0 l.next tt (known.own.lists.below v.at.0 zone_is)) home_is post goes, tt)
 
--- a write that is done, and a read that was given its bytes, may be answered so
-done_earned : (s : Session) (t : Trace) (m : FlushMark) (asks : Asks) (at : Lba) (bytes : List ℕ) → asks ≡ Write → IsSome (logged_of (done t) m.request) → HasEarned s t m asks (asked asks at bytes) (Some reply.Ok)
-done_earned s t m asks at bytes is some = rw is some
+-- a write or a discard that is done, and a read that was given its bytes, may be answered so
+done_earned : (s : Session) (t : Trace) (m : FlushMark) (asks : Asks) (at : Lba) (bytes : List ℕ) → IsChange asks → IsSome (logged_of (done t) m.request) → HasEarned s t m asks (asked asks at bytes) (Some reply.Ok)
+done_earned s t m Write at bytes is some = some
+done_earned s t m Discard at bytes is some = some
+done_earned s t m Read at bytes is some = absurd is
+done_earned s t m Flush at bytes is some = absurd is
 
 given_earned : (s : Session) (t : Trace) (m : FlushMark) (asks : Asks) (at : Lba) (bytes : List ℕ) (place : ℕ) → asks ≡ Read → gift_of (gifts t) m.request ≡ Some (record { request = m.request; at = at; place = place; bytes = bytes })
     → HasEarned s t m asks (asked asks at bytes) (Some (reply.Bytes bytes))
@@ -176,7 +178,7 @@ module _ {s : Session} {t : Trace} {n : ℕ} {l : LogicalZone} {v : Vio} (known 
 
   -- whoever did what is done or given at its address had a place that was drawn
   drawn_here : (q : Phase) → v.phase ≡ q → holds q ≡ true → v.place < l.next
-  drawn_here q is held = drawn_before s t n l known.own v (leased q is held) home
+  drawn_here q is held = drawn_before s t n l known.session known.right known.own v (leased q is held) home
 
   -- Its slot is set.
   module _ (is : v.phase ≡ phase.Settle) where
@@ -186,7 +188,7 @@ module _ {s : Session} {t : Trace} {n : ℕ} {l : LogicalZone} {v : Vio} (known 
     abbrev set_t : Trace
     set_t = Sets (logged v) ∷ t
 
-    facts : IsEntered s t v × IsCommitted t (logged v) × AllBelow t v.at.0 v.place × IsFresh s v.block
+    facts : IsEntered s t v × IsCommitted t (logged v) × AllBelow t v.at.0 v.place × OnBlock (IsFresh s) v.new
     facts = in_phase known phase.Settle is
 
     clears_set : Clears s n (Mine s t (at.Logical l) (item.Request v ∷ [])) (Sets e) t
@@ -205,19 +207,13 @@ module _ {s : Session} {t : Trace} {n : ℕ} {l : LogicalZone} {v : Vio} (known 
 
     mapped_set : (a : ℕ) → HoldsMapping (mapping_in l.window (e ∷ l.slots) a)
     mapped_set a = elim (eqb_tells v.at.0 a) [
-      | inl same ↦ rw same.0 (
-          let block = facts.3 in
-          let high = data_block_high s.sizes.geometry v.block.0 block.is_data in
-          let low = block.inside in
-          let few = blocks_fit s.sizes.geometry known.session.sizes in
-          (omega (arith, high), omega (arith, low, few))
-          )
+      | inl same ↦ rw same.0 (fresh_held s known.session.sizes v.new facts.3)
       | inr other ↦ rw other.0 (known.own.sound.map.mapped a)
     ]
 
     inside_set : (a : ℕ) (x : Pbn) → mapping_in l.window (e ∷ l.slots) a ≡ At x → IsInside s.sizes x
     inside_set a x at = elim (eqb_tells v.at.0 a) [
-      | inl same ↦ let here : At v.block ≡ At x = rw same.0 at at in subst (IsInside s.sizes) (same_block v.block x here) facts.3.inside
+      | inl same ↦ let here : v.new ≡ At x = rw same.0 at at in let fresh : IsFresh s x = subst (OnBlock (IsFresh s)) here facts.3 in fresh.inside
       | inr other ↦ known.own.sound.map.inside a x (rw other.0 at at)
     ]
 
@@ -244,9 +240,9 @@ module _ {s : Session} {t : Trace} {n : ℕ} {l : LogicalZone} {v : Vio} (known 
 
     settles_kept : (more : List Post) → granted s.sizes v.at.0 (with_slot l v) ≡ Some more → After (released v.at.0 (with_slot l v)) (Sets (logged v) ∷ []) ((id.Desk, item.Request (ended phase.Reply reply.Ok v)) ∷ more)
     settles_kept more grants =
-        let both = release_ok s set_t n (with_slot l v) slot_ok v (leased phase.Settle is refl) home quiet_set below_set more grants in
+        let both = release_ok s set_t n (with_slot l v) known.session right_set slot_ok v (leased phase.Settle is refl) home quiet_set below_set more grants in
         act_one known (Sets e) clears_set (λ f honest. f honest) right_set both.0
-        ((omega arith, (vio_over s (Sets e) t v refl (vio_ok known), done_earned s set_t (mark_of_vio v) v.asks v.at v.bytes facts.0.is_write (rw (same_self v.request) (some_is (Some e) e refl)), refl)), both.1)
+        ((omega arith, (vio_over s (Sets e) t v refl (vio_ok known), done_earned s set_t (mark_of_vio v) v.asks v.at v.bytes facts.0.is_change (rw (same_self v.request) (some_is (Some e) e refl)), refl)), both.1)
 
   -- It is given its bytes.
   module _ (is : v.phase ≡ phase.Loaded) where
@@ -294,7 +290,7 @@ module _ {s : Session} {t : Trace} {n : ℕ} {l : LogicalZone} {v : Vio} (known 
 
     gives_kept : (more : List Post) → granted s.sizes v.at.0 l ≡ Some more → After (released v.at.0 l) (Gives (gift v) ∷ []) ((id.Desk, item.Request (ended phase.Reply (reply.Bytes v.bytes) v)) ∷ more)
     gives_kept more grants =
-        let both = release_ok s u n l given_ok v (leased phase.Loaded is refl) home (quiet_same v.at.0 looked.0.held.quiet) below_give more grants in
+        let both = release_ok s u n l known.session right_give given_ok v (leased phase.Loaded is refl) home (quiet_same v.at.0 looked.0.held.quiet) below_give more grants in
         act_one known (Gives (gift v)) clears_give (λ f honest. (looked.1 honest, f honest)) right_give both.0
         ((omega arith, (vio_over s (Gives (gift v)) t v refl (vio_ok known), given_earned s u (mark_of_vio v) v.asks v.at v.bytes v.place looked.0.is_read (rw (same_self v.request) refl), refl)), both.1)
 
@@ -302,7 +298,7 @@ module _ {s : Session} {t : Trace} {n : ℕ} {l : LogicalZone} {v : Vio} (known 
   aborts_kept : (more : List Post) → v.phase ≡ phase.Abort → granted s.sizes v.at.0 l ≡ Some more → After (released v.at.0 l) [] ((id.Desk, item.Request (turned phase.Reply v)) ∷ more)
   aborts_kept more is grants =
       let facts = in_phase known phase.Abort is in
-      let both = release_ok s t n l known.own v (leased phase.Abort is refl) home facts.0.quiet (below_more t v.at.0 v.place (v.place + 1) (omega arith) facts.0.below) more grants in
+      let both = release_ok s t n l known.session known.right known.own v (leased phase.Abort is refl) home facts.0.quiet (below_more t v.at.0 v.place (v.place + 1) (omega arith) facts.0.below) more grants in
       act_none known both.0 ((omega arith, ((vio_ok known), facts.1, refl)), both.1)
 
   -- .. or after.
@@ -337,7 +333,7 @@ module _ {s : Session} {t : Trace} {n : ℕ} {l : LogicalZone} {v : Vio} (known 
 
     aborts_entered_kept : After (retire v.at.0 l) (Aborts (logged v) ∷ []) ((id.Desk, item.Request (turned phase.Reply v)) ∷ all_stopped (all_for v.at.0 l.waiting))
     aborts_entered_kept =
-        let both = retire_ok s (gone ∷ t) n l gone_ok v (leased phase.AbortEntered is refl) home right_abort carries_it.2 (λ place less. inl (refl, less)) in
+        let both = retire_ok s (gone ∷ t) n l known.session right_abort gone_ok v (leased phase.AbortEntered is refl) home carries_it.2 (λ place less. inl (refl, less)) in
         act_one known gone clears_abort (λ f honest. f honest) right_abort both.0
         ((omega arith, (vio_over s gone t v refl (vio_ok known), reply_said s gone t v v.answer (record { of_place = refl; of_entry = refl; of_slot = refl; of_gift = refl }) carries_it.1, refl)), both.1)
 

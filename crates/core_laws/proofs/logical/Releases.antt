@@ -1,22 +1,26 @@
 -- A lock is passed on to the first that waits for it, or released, or never released.
 use Rattle.std.proofs.Common.{◌≡◌, ◌≢◌, ◌⊎◌, ℕ, ◌+◌, ◌<◌, ◌≤◌, ◌==◌, true, false, Option, None, Some, List, [], ◌∷◌, refl, ap, sym, ◌∙◌, subst, inl, inr, arith}
-use Rattle.core_laws.proofs.Common.{AllBelow, AllByRecursion, Asks, DataOk, Gift, HasBelow, HasCause, Holds, IsPlaced, KeptOk, Logged, LogicalZone, Looks, Mapping, Pbn, Post, Quiet, Request, RightTrace, Session, Trace, Vio, VioOk, WaitsOk, aborted, asked, done, each_both, ended, eqb_tells, every-map, gifts, has_stopped, newest, of_address, some_is, value_at, value_from, zone_count, zone_number, zone_of}
+use Rattle.core_laws.proofs.Common.{AllBelow, AllByRecursion, Asks, DataOk, Gift, HasBelow, HasCause, Holds, IsForBlock, IsPlaced, IsSession, IsToInside, IsWrite, KeptOk, Lba, Logged, LogicalZone, Looks, Mapping, MapsTo, Pbn, Post, Quiet, Request, RightTrace, Session, Trace, Vio, VioOk, WaitsOk, aborted, asked, bytes_of, done, each_both, ended, eqb_tells, every-map, gifts, has_stopped, newest, of_address, request_at, some_is, value_at, value_from, value_written, zone_count, zone_number, zone_of}
 use Rattle.blk_base.specs.Sectors.{zero_block}
 use Rattle.blk_base.specs.declared.place.Mapping.TheVariants.{Unmapped, Zero, At}
 use Rattle.blk_base.specs.declared.place.ZoneId.TheVariants as id
 use Rattle.blk_base.specs.declared.request.Answer.TheVariants as reply
+use Rattle.blk_base.specs.declared.request.Request.TheVariants as request
 use Rattle.image_layout.specs.Window.{mapping_of, value_in}
-use Rattle.core_model.specs.declared.items.Asks.TheVariants.{Read, Write, Flush}
+use Rattle.core_model.specs.declared.items.Asks.TheVariants.{Read, Write, Discard, Flush}
 use Rattle.core_model.specs.declared.items.Item.TheVariants as item
 use Rattle.core_model.specs.declared.items.Phase.TheVariants as phase
 use Rattle.core_model.specs.declared.zones.ZoneData.TheVariants as at
-use Rattle.core_model.specs.LogicalRows.{is_among, is_held, without, first_for, all_for, none_for, latest_at, mapped_by, mapping_at, looked, read_next, goes_on, passed_to, released, granted, retire, all_stopped}
+use Rattle.core_model.specs.LogicalRows.{are_zeros, is_among, is_held, without, first_for, all_for, none_for, latest_at, mapped_by, mapping_at, looked, read_next, goes_on, passed_to, released, granted, retire, all_stopped}
 use Rattle.core_laws.proofs.kept.ActKept.{PostOk, carries_at, unentered_slot}
 use Rattle.core_laws.proofs.logical.LockLaws.{place_drawn, waits_behind, one_back, one_passed, one_retired}
 use Rattle.core_laws.proofs.tokens.Known.{Leased}
 use Rattle.core_laws.proofs.lists.CoreLists.{or_none, held_without, every_but_first, every_none_for, every_all_for, first_has}
 use Rattle.core_laws.proofs.tokens.Posts.{goes_by, IsGranted, nobody, somebody, is_granted}
+use Rattle.core_laws.proofs.device.DeviceCalls.{newest_has, write_whole}
+use Rattle.core_laws.proofs.lists.Zeros.{zeros_of}
 use Rattle.core_laws.proofs.kept.Spared.{mapping_by}
+use Rattle.core_laws.proofs.trace.DeskOfTrace.{done_writes, each_of_address}
 
 -- below a greater place
 pub below_more : (t : Trace) (a m n : ℕ) → m ≤ n → AllBelow t a m → AllBelow t a n
@@ -29,7 +33,19 @@ below_more t a m n less k = record {
 pub asked_read : (asks : Asks) (v : Vio) (bytes : List ℕ) → asks ≡ Read → asked asks v.at v.bytes ≡ asked asks v.at bytes
 asked_read asks v bytes is = rw is refl
 
-module _ (s : Session) (t : Trace) (n : ℕ) (l : LogicalZone) (k : DataOk s t n (at.Logical l)) (u : Vio) (ok : VioOk s t u) (place : IsPlaced s t u) (quiet : Quiet t u.at.0) (below : AllBelow t u.at.0 u.place)
+-- What an entry maps to no block gives its address zeros.
+maps_zero : (q : Asks) (bytes : List ℕ) (m : Mapping) (place : Lba) → ((x : Pbn) → m ≢ At x) → MapsTo q bytes m → value_written (Some (asked q place bytes)) ≡ zero_block
+maps_zero Write bytes Zero place off maps = maps
+maps_zero Write bytes (At x) place off maps = absurd (off x refl)
+maps_zero Write bytes Unmapped place off maps = absurd maps
+maps_zero Discard bytes m place off maps = refl
+maps_zero Read bytes m place off maps = absurd maps
+maps_zero Flush bytes m place off maps = absurd maps
+
+zero_written : (s : Session) (t : Trace) (e : Logged) → IsWrite s t e → (m : Mapping) → e.new ≡ m → ((x : Pbn) → m ≢ At x) → bytes_of s e ≡ zero_block
+zero_written s t e write m is off = ap value_written write.asked ∙ maps_zero write.asks write.bytes m e.at off (subst (MapsTo write.asks write.bytes) is write.maps)
+
+module _ (s : Session) (t : Trace) (n : ℕ) (l : LogicalZone) (session : IsSession s) (right : RightTrace s t) (k : DataOk s t n (at.Logical l)) (u : Vio) (ok : VioOk s t u) (place : IsPlaced s t u) (quiet : Quiet t u.at.0) (below : AllBelow t u.at.0 u.place)
     (home : u.home ≡ id.Logical l.zone) where
   among : 1 + l.zone < zone_count s.sizes
   among = let a = k.sound.among in omega (arith, a)
@@ -52,16 +68,16 @@ module _ (s : Session) (t : Trace) (n : ℕ) (l : LogicalZone) (k : DataOk s t n
     old_is = mapping_is ∙ ap (λ o. mapped_by o (mapping_of s.window u.at.0)) latest_is ∙ sym (mapping_by s.window (done t) u.at.0);
   }
 
-  -- a read of zeros: nothing is done there, and the window maps the address to no block
-  unmapped : (o : Option Logged) (m opening : Mapping) → ((x : Pbn) → m ≢ At x) → m ≡ mapped_by o opening → (o ≡ None) × (opening ≡ m)
-  unmapped None m opening off is = (refl, sym is)
-  unmapped (Some e) m opening off is = absurd (off e.block is)
+  -- a read of zeros: what was done there last maps the address to no block, or the window does
+  zeros_by : (o : Option Logged) (m : Mapping) → ((x : Pbn) → m ≢ At x) → value_in s.image m ≡ zero_block → newest (of_address u.at.0 (done t)) ≡ o → mapped_by o (mapping_of s.window u.at.0) ≡ m
+      → value_from s u.at.0 o ≡ zero_block
+  zeros_by None m off zero is maps = ap (value_in s.image) maps ∙ zero
+  zeros_by (Some e) m off zero is maps = zero_written s t e (newest_has (IsWrite s t) (of_address u.at.0 (done t)) e is (each_of_address (IsWrite s t) u.at.0 (done t) (done_writes s t right))) m maps off
 
   zeros : (m : Mapping) → ((x : Pbn) → m ≢ At x) → value_in s.image m ≡ zero_block → mapping_at l u.at.0 ≡ m → zero_block ≡ value_at s t u.at.0
   zeros m off zero is =
-      let both = unmapped (latest_at l u.at.0) m (mapping_of s.window u.at.0) off (sym is ∙ mapping_is) in
-      let none = sym latest_is ∙ both.0 in
-      sym (ap (value_from s u.at.0) none ∙ ap (value_in s.image) both.1 ∙ zero)
+      let maps = sym (ap (λ o. mapped_by o (mapping_of s.window u.at.0)) latest_is) ∙ sym mapping_is ∙ is in
+      sym (zeros_by (newest (of_address u.at.0 (done t))) m off zero refl maps)
 
   module _ (is_read : u.asks ≡ Read) where
     looks : Looks s t (looked l u)
@@ -78,13 +94,28 @@ module _ (s : Session) (t : Trace) (n : ℕ) (l : LogicalZone) (k : DataOk s t n
     )
 
     read_ok : (m : Mapping) → mapping_at l u.at.0 ≡ m → PostOk s t (read_next s.sizes l (looked l u) m)
-    read_ok (At x) is = (omega arith, (ok, (looks, sym mapping_is ∙ is, k.sound.map.inside u.at.0 x is), refl))
+    read_ok (At x) is = (omega arith, (ok, (looks, subst (IsToInside s) (sym is) (k.sound.map.inside u.at.0 x is)), refl))
     read_ok Unmapped is = zero_ok (zeros Unmapped (λ x is_at. cc) refl is)
     read_ok Zero is = zero_ok (zeros Zero (λ x is_at. cc) refl is)
 
+  -- a write of zeros maps its address to zeros, and a discard to nothing
+  zero_bytes : (q : Asks) → q ≡ Write → request_at s.script u.request ≡ Some (asked q u.at u.bytes) → are_zeros u.bytes ≡ true → u.bytes ≡ zero_block
+  zero_bytes q is asks zero =
+      let write : request_at s.script u.request ≡ Some (request.Write u.at u.bytes false) = rw is at asks in
+      zeros_of u.bytes (write_whole s u.request u.at u.bytes false session write) zero
+
+  zeros_mapped : (q : Asks) → q ≡ Write → u.bytes ≡ zero_block → MapsTo q u.bytes Zero
+  zeros_mapped q is zero = rw is zero
+
+  discard_mapped : (q : Asks) → q ≡ Discard → MapsTo q u.bytes Unmapped
+  discard_mapped q is = rw is tt
+
   -- whoever has the lock goes on
   pub goes_ok : (post : Post) → goes_on s.sizes l u ≡ Some post → PostOk s t post
-  goes_ok post goes = goes_by (PostOk s t) s.sizes l u post goes (λ reads. read_ok reads (mapping_at l u.at.0) refl) (λ writes. (omega arith, (ok, (holds, writes), refl)))
+  goes_ok post goes = goes_by (PostOk s t) s.sizes l u post goes (λ reads. read_ok reads (mapping_at l u.at.0) refl)
+      (λ writes zero. (omega arith, (ok, (holds, zeros_mapped u.asks writes (zero_bytes u.asks writes ok.asked zero), tt, tt), refl)))
+      (λ writes others. (omega arith, (ok, (holds, writes), refl)))
+      (λ discards. (omega arith, (ok, (holds, discard_mapped u.asks discards, tt, tt), refl)))
 
 -- A greater place has a lower one still.
 pub has_below_more : (a m n : ℕ) (es : List Logged) → m ≤ n → HasBelow a m es → HasBelow a n es
@@ -93,15 +124,15 @@ has_below_more a m n (e ∷ es) less (inl here) = inl (here.0, (let p = here.1 i
 has_below_more a m n (e ∷ es) less (inr there) = inr (has_below_more a m n es less there)
 
 -- A block request at an address whose lock is never released may be answered as stopped.
-stopped_cause : (s : Session) (t : Trace) (v : Vio) (asks : Asks) → RightTrace s t → has_stopped t ≡ true → HasBelow v.at.0 v.place (aborted t) → (asks ≡ Read) ⊎ (asks ≡ Write) → IsPlaced s t v
+stopped_cause : (s : Session) (t : Trace) (v : Vio) (asks : Asks) → RightTrace s t → has_stopped t ≡ true → HasBelow v.at.0 v.place (aborted t) → IsForBlock asks → IsPlaced s t v
     → HasCause s t v.request (asked asks v.at v.bytes) reply.Stopped
 stopped_cause s t v Read right stopped behind block place = (stopped, record { place = v.place; placed = place.placed; behind = behind })
 stopped_cause s t v Write right stopped behind block place = (stopped, some_is _ _ place.placed, unentered_slot s t v.request right place.not_entered)
-stopped_cause s t v Flush right stopped behind (inl is) place = absurd cc
-stopped_cause s t v Flush right stopped behind (inr is) place = absurd cc
+stopped_cause s t v Discard right stopped behind block place = (stopped, some_is _ _ place.placed, unentered_slot s t v.request right place.not_entered)
+stopped_cause s t v Flush right stopped behind block place = absurd block
 
 pub stopped_ok : (s : Session) (t : Trace) (v : Vio) → RightTrace s t → has_stopped t ≡ true → HasBelow v.at.0 v.place (aborted t) → VioOk s t v → IsPlaced s t v → PostOk s t (id.Desk, item.Request (ended phase.Reply reply.Stopped v))
-stopped_ok s t v right stopped behind ok place = (omega arith, (ok, stopped_cause s t v v.asks right stopped behind place.block_request place, refl))
+stopped_ok s t v right stopped behind ok place = (omega arith, (ok, stopped_cause s t v v.asks right stopped behind place.for_block place, refl))
 
 pub all_stopped_ok : (s : Session) (t : Trace) (vs : List Vio) → RightTrace s t → has_stopped t ≡ true → AllByRecursion (λ v. KeptOk s t phase.Wait v × HasBelow v.at.0 v.place (aborted t)) vs
     → AllByRecursion (PostOk s t) (all_stopped vs)
@@ -109,7 +140,7 @@ all_stopped_ok s t [] right stopped all = tt
 all_stopped_ok s t (v ∷ vs) right stopped all = (stopped_ok s t v right stopped all.0.1 all.0.0.0 (carries_at s t v phase.Wait all.0.0.2 all.0.0.1), all_stopped_ok s t vs right stopped all.1)
 
 -- What a zone has once a lock of it is given back, by a holder with the lock's place.
-module _ (s : Session) (t : Trace) (n : ℕ) (l : LogicalZone) (k : DataOk s t n (at.Logical l)) (v : Vio) (leased : Leased l v) (home : zone_of s.sizes.zones v.at.0 ≡ l.zone) where
+module _ (s : Session) (t : Trace) (n : ℕ) (l : LogicalZone) (session : IsSession s) (right : RightTrace s t) (k : DataOk s t n (at.Logical l)) (v : Vio) (leased : Leased l v) (home : zone_of s.sizes.zones v.at.0 ≡ l.zone) where
   pub drawn_before : v.place < l.next
   drawn_before = place_drawn s l.zone l.next l.held l.waiting k.sound.locks v leased
 
@@ -135,7 +166,7 @@ module _ (s : Session) (t : Trace) (n : ℕ) (l : LogicalZone) (k : DataOk s t n
         let waits = first_has (WaitsOk l.zone l.next l.held) v.at.0 l.waiting w is k.sound.locks.waits in
         let later = first_has (λ u. u.at.0 ≡ v.at.0 → v.place < u.place) v.at.0 l.waiting w is behind in
         let above = later.0 kept.1 in
-        goes_ok s t n l k w kept.0.0 (carries_at s t w phase.Wait kept.0.2 kept.0.1) (subst (λ (c : ℕ). Quiet t c) (sym kept.1) quiet)
+        goes_ok s t n l session right k w kept.0.0 (carries_at s t w phase.Wait kept.0.2 kept.0.1) (subst (λ (c : ℕ). Quiet t c) (sym kept.1) quiet)
         (subst (λ (c : ℕ). AllBelow t c w.place) (sym kept.1) (below_more t v.at.0 (v.place + 1) w.place (omega (arith, above)) below)) waits.0.at_home post goes
 
     pub release_ok : (more : List Post) → granted s.sizes v.at.0 l ≡ Some more → DataOk s t n (at.Logical (released v.at.0 l)) × AllByRecursion (PostOk s t) more
@@ -166,8 +197,8 @@ module _ (s : Session) (t : Trace) (n : ℕ) (l : LogicalZone) (k : DataOk s t n
         )
 
   -- The lock is never released, since its holder was aborted.
-  pub retire_ok : RightTrace s t → has_stopped t ≡ true → ((place : ℕ) → v.place < place → HasBelow v.at.0 place (aborted t)) → DataOk s t n (at.Logical (retire v.at.0 l)) × AllByRecursion (PostOk s t) (all_stopped (all_for v.at.0 l.waiting))
-  retire_ok right stopped aborts = (
+  pub retire_ok : has_stopped t ≡ true → ((place : ℕ) → v.place < place → HasBelow v.at.0 place (aborted t)) → DataOk s t n (at.Logical (retire v.at.0 l)) × AllByRecursion (PostOk s t) (all_stopped (all_for v.at.0 l.waiting))
+  retire_ok stopped aborts = (
     record {
       number_is = k.number_is;
       lists = k.lists;

@@ -10,7 +10,7 @@ use Rattle.core_model.specs.JournalRows.{PhysicalServes}
 use Rattle.core_laws.proofs.kept.ActKept.{Known, ActKept, act_none, act_one, plain_clears, shown_plain, vio_over, vio_ok, in_phase}
 use Rattle.core_laws.proofs.kept.Carried.{holds_kept}
 use Rattle.core_laws.proofs.trace.DeskOfTrace.{shown_of}
-use Rattle.core_laws.proofs.journal.JournalFacts.{home_within, may_fill}
+use Rattle.core_laws.proofs.journal.JournalFacts.{home_within, write_full}
 
 -- the zone of an address is one of the logical zones
 pub zone_below : (zones a : ℕ) → 1 ≤ zones → zone_of zones a < zones
@@ -48,7 +48,7 @@ module _ {s : Session} {t : Trace} {n : ℕ} {old : PhysicalZone} {v : Vio} (kno
   physical_serves new made posts (PhysicalServes.is_full is free_is i m q) =
       let k = in_phase known phase.Claim is in
       let full : IsFull s t = inr (none_left s.free (taken t) (sym free_is ∙ known.own.lists.left)) in
-      rw (i, m, q) (act_none known known.own ((home, ((vio_ok known), (k.0, may_fill s t v k.1 k.0.is_placed full), refl)), tt))
+      rw (i, m, q) (act_none known known.own ((home, ((vio_ok known), (k.0, write_full s t v k.1 k.0.is_placed full), refl)), tt))
   physical_serves new made posts (PhysicalServes.aborts_claim is i m q) = rw (i, m, q) (act_none known known.own ((home, ((vio_ok known), in_phase known phase.AbortClaim is, refl)), tt))
   physical_serves new made posts (PhysicalServes.aborts_entered_claim is i m q) = rw (i, m, q) (act_none known known.own ((home, ((vio_ok known), in_phase known phase.AbortEnteredClaim is, refl)), tt))
 

@@ -1,7 +1,7 @@
 -- The rows of the table of phases as the tokens see them: what a zone's data was and is, and the items that were there
 -- (the front, and those that are kept) and are there (those that are posted, and those that are kept), by their sum.
-use Rattle.std.proofs.Common.{◌≡◌, ℕ, ◌+◌, ◌*◌, true, false, Option, Some, List, [], ◌∷◌, length}
-use Rattle.core_laws.proofs.Common.{Answer, Desk, DeviceZone, FlushMark, Item, JournalZone, Logged, LogicalZone, Mapping, Pbn, Phase, PhysicalZone, SealedBlock, Sizes, Stage, Vio, Writer, ZoneData, bit, claims, ended, has_entry, holds, notified_zones, staged, total, turned}
+use Rattle.std.proofs.Common.{◌≡◌, ℕ, ◌+◌, ◌*◌, true, false, Option, Some, List, [], ◌∷◌, length, ◌&&◌}
+use Rattle.core_laws.proofs.Common.{Answer, Desk, DeviceZone, FlushMark, Item, JournalZone, Logged, LogicalZone, Mapping, Pbn, Phase, PhysicalZone, SealedBlock, Sizes, Stage, Vio, Writer, ZoneData, bit, claims, ended, has_entry, holds, notified_zones, staged, total, turned, names}
 use Rattle.blk_base.specs.declared.request.Answer.TheVariants as reply
 use Rattle.vdo_model.specs.declared.report.DeskLine.TheVariants as line
 use Rattle.core_model.specs.declared.items.Item.TheVariants.{Request, Block, StopNotice}
@@ -12,6 +12,7 @@ use Rattle.core_model.specs.DeviceRows.{counted, halted}
 use Rattle.core_model.specs.JournalRows.{entered_by, committed_by, sealed}
 use Rattle.core_model.specs.LogicalRows.{drawn_by, placed, lock_of, without, all_for, none_for, retire}
 use Rattle.core_laws.proofs.tokens.Known.{Leased}
+use Rattle.blk_base.specs.declared.place.Mapping.TheVariants.{At}
 
 -- what items have together of what one may have
 abbrev pub Sum : Type 0
@@ -29,14 +30,14 @@ pub record Onward : Type 0 where
   pub phase : Phase
   pub old : Mapping
   pub latest : Option Logged
-  pub block : Pbn
+  pub new : Mapping
   pub bytes : List ℕ
   pub locks : holds phase ≡ true
-  pub unclaimed : claims phase ≡ false
+  pub unclaimed : (x : ℕ) → (claims phase && names x new) ≡ false
   pub unentered : has_entry phase ≡ false
 
 abbrev pub onward : Onward → Vio → Vio
-onward on v = record v { phase = on.phase; old = on.old; latest = on.latest; block = on.block; bytes = on.bytes }
+onward on v = record v { phase = on.phase; old = on.old; latest = on.latest; new = on.new; bytes = on.bytes }
 
 -- a request with its answer
 abbrev pub replied : Option Answer → Vio → Vio
@@ -76,7 +77,7 @@ pub data Row (sizes : Sizes) : ZoneData → ZoneData → Sum → Sum → Type 0 
   tells_logical : (l : LogicalZone) → Row sizes (at.Logical l) (at.Logical (record l { notified = true })) (λ f. f StopNotice + all_in phase.Wait l.waiting f) (λ f. f StopNotice + all_in phase.Wait l.waiting f)
   -- the physical zone
   claims_block : (p : PhysicalZone) (v : Vio) (x : Pbn) (others : List Pbn)
-      → Row sizes (at.Physical (record p { free = x ∷ others })) (at.Physical (record p { free = others })) (λ f. f (Request (turned phase.Claim v))) (λ f. f (Request (record v { phase = phase.Store; block = x })))
+      → Row sizes (at.Physical (record p { free = x ∷ others })) (at.Physical (record p { free = others })) (λ f. f (Request (turned phase.Claim v))) (λ f. f (Request (record v { phase = phase.Store; new = At x })))
   finds_none : (p : PhysicalZone) (v : Vio) → Row sizes (at.Physical p) (at.Physical p) (λ f. f (Request (turned phase.Claim v))) (λ f. f (Request (ended phase.Abort reply.Full v)))
   aborts_claim : (p : PhysicalZone) (v : Vio) → Row sizes (at.Physical p) (at.Physical p) (λ f. f (Request (turned phase.AbortClaim v))) (λ f. f (Request (turned phase.Abort v)))
   aborts_entered_claim : (p : PhysicalZone) (v : Vio) → Row sizes (at.Physical p) (at.Physical p) (λ f. f (Request (turned phase.AbortEnteredClaim v))) (λ f. f (Request (turned phase.AbortEntered v)))

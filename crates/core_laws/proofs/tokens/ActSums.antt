@@ -1,6 +1,6 @@
 -- Each act is one of the rows that the tokens see.
-use Rattle.std.proofs.Common.{◌≡◌, ℕ, suc, ◌+◌, ◌*◌, true, false, Option, None, Some, List, [], ◌∷◌, ◌++◌, length, refl, ap, ◌∙◌, subst, inl, inr, arith}
-use Rattle.core_laws.proofs.Common.{AllByRecursion, Answer, Desk, DeviceZone, Item, JournalZone, Logged, LogicalZone, Mapping, Pbn, Phase, PhysicalZone, Post, SealedBlock, Sizes, Trace, Vio, ZoneData, ZoneId, as_items, claims, eqb_tells, every-map, has_entry, holds, notified, notified_zones, queued, same_Some, total, turned}
+use Rattle.std.proofs.Common.{◌≡◌, ℕ, suc, ◌+◌, ◌*◌, true, false, Option, None, Some, List, [], ◌∷◌, ◌++◌, length, refl, ap, ◌∙◌, subst, inl, inr, arith, ◌&&◌}
+use Rattle.core_laws.proofs.Common.{AllByRecursion, Answer, Desk, DeviceZone, Item, JournalZone, Logged, LogicalZone, Mapping, Pbn, Phase, PhysicalZone, Post, SealedBlock, Sizes, Trace, Vio, ZoneData, ZoneId, as_items, claims, eqb_tells, every-map, has_entry, holds, notified, notified_zones, queued, same_Some, total, turned, names}
 use Rattle.blk_base.specs.Sectors.{zero_block}
 use Rattle.blk_base.specs.declared.place.Mapping.TheVariants.{Unmapped, Zero, At}
 use Rattle.blk_base.specs.declared.place.ZoneId.TheVariants as id
@@ -101,16 +101,18 @@ module _ (sizes : Sizes) where
       rw (n, q) (is_row (row.answers old v reply.Ok _) (λ f. omega (arith, in_phase f v phase.Reply p, all_are f phase.Reply old.parked kept)) (λ f. omega (arith, all_are f phase.Reply old.parked kept)))
 
   -- a logical zone: who goes on with a lock, and who gets it
-  abbrev looked_on : (l : LogicalZone) (v : Vio) (q : Phase) → Pbn → List ℕ → holds q ≡ true → claims q ≡ false → has_entry q ≡ false → Onward
-  looked_on l v q x bytes locks unclaimed unentered = record { phase = q; old = mapping_at l v.at.0; latest = latest_at l v.at.0; block = x; bytes = bytes; locks = locks; unclaimed = unclaimed; unentered = unentered }
+  abbrev looked_on : (l : LogicalZone) (v : Vio) (q : Phase) (new : Mapping) → List ℕ → holds q ≡ true → ((x : ℕ) → (claims q && names x new) ≡ false) → has_entry q ≡ false → Onward
+  looked_on l v q new bytes locks unclaimed unentered = record { phase = q; old = mapping_at l v.at.0; latest = latest_at l v.at.0; new = new; bytes = bytes; locks = locks; unclaimed = unclaimed; unentered = unentered }
 
   went_on : (l : LogicalZone) (v : Vio) (post : Post) → goes_on sizes l v ≡ Some post → (on : Onward) × (post.1 ≡ Request (onward on v))
-  went_on l v post goes = goes_by (λ p. (on : Onward) × (p.1 ≡ Request (onward on v))) sizes l v post goes (λ reads. read (mapping_at l v.at.0)) (λ writes. (looked_on l v phase.Claim v.block v.bytes refl refl refl, refl))
+  went_on l v post goes = goes_by (λ p. (on : Onward) × (p.1 ≡ Request (onward on v))) sizes l v post goes (λ reads. read (mapping_at l v.at.0))
+      (λ writes zeros. (looked_on l v phase.Enter Zero v.bytes refl (λ x. refl) refl, refl)) (λ writes others. (looked_on l v phase.Claim v.new v.bytes refl (λ x. refl) refl, refl))
+      (λ discards. (looked_on l v phase.Enter Unmapped v.bytes refl (λ x. refl) refl, refl))
     where
       read : (m : Mapping) → (on : Onward) × ((read_next sizes l (looked l v) m).1 ≡ Request (onward on v))
-      read (At x) = (looked_on l v phase.Load x v.bytes refl refl refl, refl)
-      read Unmapped = (looked_on l v phase.Loaded v.block zero_block refl refl refl, refl)
-      read Zero = (looked_on l v phase.Loaded v.block zero_block refl refl refl, refl)
+      read (At x) = (looked_on l v phase.Load v.new v.bytes refl (λ y. refl) refl, refl)
+      read Unmapped = (looked_on l v phase.Loaded v.new zero_block refl (λ x. refl) refl, refl)
+      read Zero = (looked_on l v phase.Loaded v.new zero_block refl (λ x. refl) refl, refl)
 
   first_taken : (a : ℕ) (f : Vio → ℕ) (vs : List Vio) (w : Vio) → first_for a vs ≡ Some w → total f vs ≡ f w + total f (but_first_for a vs)
   first_taken a f [] w is = absurd cc
@@ -226,12 +228,12 @@ module _ (sizes : Sizes) where
       subst (λ (o : DeviceZone). IsRow sizes (at.Device o) front (at.Device new) posts) is is_one
 
   device_row : (old : DeviceZone) (v : Vio) (new : DeviceZone) (made : Trace) (posts : List Post) → DeviceServes sizes old v new made posts → IsRow sizes (at.Device old) (Request v ∷ []) (at.Device new) posts
-  device_row old v new made posts (device.stores p going inside n m q) = rw (n, q) (is_row (row.stores old v) (λ f. omega (arith, in_phase f v phase.Store p)) (λ f. omega arith))
-  device_row old v new made posts (device.store_fails known p going inside n m q) =
+  device_row old v new made posts (device.stores x p to going inside n m q) = rw (n, q) (is_row (row.stores old v) (λ f. omega (arith, in_phase f v phase.Store p)) (λ f. omega arith))
+  device_row old v new made posts (device.store_fails x known p to going inside n m q) =
       rw (n, q) (runs old _ _ _ going (is_row (row.store_fails old v) (λ f. omega (arith, in_phase f v phase.Store p)) (λ f. omega (arith, all_notices f))))
   device_row old v new made posts (device.store_unmade p stopped n m q) = rw (n, q) (is_row (row.store_unmade old v) (λ f. omega (arith, in_phase f v phase.Store p)) (λ f. omega arith))
-  device_row old v new made posts (device.loads bytes p inside n m q) = rw (n, q) (is_row (row.loads old v bytes) (λ f. omega (arith, in_phase f v phase.Load p)) (λ f. omega arith))
-  device_row old v new made posts (device.load_fails bytes known p inside n m q) = rw (n, q) (is_row (row.load_fails old v) (λ f. omega (arith, in_phase f v phase.Load p)) (λ f. omega arith))
+  device_row old v new made posts (device.loads x bytes p from inside n m q) = rw (n, q) (is_row (row.loads old v bytes) (λ f. omega (arith, in_phase f v phase.Load p)) (λ f. omega arith))
+  device_row old v new made posts (device.load_fails x bytes known p from inside n m q) = rw (n, q) (is_row (row.load_fails old v) (λ f. omega (arith, in_phase f v phase.Load p)) (λ f. omega arith))
   device_row old v new made posts (device.flushes p going n m q) = rw (n, q) (is_row (row.flushes old v) (λ f. omega (arith, in_phase f v phase.Flush p)) (λ f. omega arith))
   device_row old v new made posts (device.flush_fails known p going n m q) =
       rw (n, q) (runs old _ _ _ going (is_row (row.flush_fails old v) (λ f. omega (arith, in_phase f v phase.Flush p)) (λ f. omega (arith, all_notices f))))

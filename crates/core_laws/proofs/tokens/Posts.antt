@@ -1,36 +1,45 @@
 -- What is posted for a request that is begun, and for one that gets the lock of its address.
-use Rattle.std.proofs.Common.{◌≡◌, ◌⊎◌, false, List, [], ◌∷◌, Option, None, Some, inl, inr, refl, ap, sym, subst}
-use Rattle.core_laws.proofs.Common.{Asks, LogicalZone, Post, Request, Sizes, Vio, Writer, same_Some, turned}
+use Rattle.std.proofs.Common.{◌≡◌, ◌⊎◌, true, false, List, [], ◌∷◌, Option, None, Some, inl, inr, refl, ap, sym, subst}
+use Rattle.core_laws.proofs.Common.{Asks, LogicalZone, Post, Request, Sizes, Vio, Writer, cases_Bool, same_Some, turned}
+use Rattle.blk_base.specs.declared.place.Mapping.TheVariants.{Unmapped, Zero}
 use Rattle.blk_base.specs.declared.place.ZoneId.TheVariants as id
 use Rattle.blk_base.specs.declared.request.Request.TheVariants as request
-use Rattle.core_model.specs.declared.items.Asks.TheVariants.{Read, Write}
+use Rattle.core_model.specs.declared.items.Asks.TheVariants.{Read, Write, Discard, Flush}
 use Rattle.core_model.specs.declared.items.Item.TheVariants as item
 use Rattle.core_model.specs.declared.items.Phase.TheVariants as phase
 use Rattle.core_model.specs.DeskRows.{vio_of}
-use Rattle.core_model.specs.LogicalRows.{looked, read_next, next_for, mapping_at, goes_on, only_post, passes_on}
+use Rattle.core_model.specs.LogicalRows.{are_zeros, enters_with, looked, read_next, next_for, mapping_at, goes_on, only_post, passes_on}
 
 -- a request that is begun has its name, and arrives or flushes
 pub begun_request : (sizes : Sizes) (w : Writer) (r : Request) (v : Vio) → vio_of sizes w r ≡ Some v → v.request ≡ w
 begun_request sizes w (request.Read at) v is = ap (λ (u : Vio). u.request) (sym (same_Some _ _ is))
 begun_request sizes w (request.Write at bytes false) v is = ap (λ (u : Vio). u.request) (sym (same_Some _ _ is))
+begun_request sizes w (request.Discard at) v is = ap (λ (u : Vio). u.request) (sym (same_Some _ _ is))
 begun_request sizes w request.Flush v is = ap (λ (u : Vio). u.request) (sym (same_Some _ _ is))
 begun_request sizes w other v is = absurd cc
 
 pub begun_phase : (sizes : Sizes) (w : Writer) (r : Request) (v : Vio) → vio_of sizes w r ≡ Some v → (v.phase ≡ phase.Arrive) ⊎ (v.phase ≡ phase.Flush)
 begun_phase sizes w (request.Read at) v is = inl (ap (λ (u : Vio). u.phase) (sym (same_Some _ _ is)))
 begun_phase sizes w (request.Write at bytes false) v is = inl (ap (λ (u : Vio). u.phase) (sym (same_Some _ _ is)))
+begun_phase sizes w (request.Discard at) v is = inl (ap (λ (u : Vio). u.phase) (sym (same_Some _ _ is)))
 begun_phase sizes w request.Flush v is = inr (ap (λ (u : Vio). u.phase) (sym (same_Some _ _ is)))
 begun_phase sizes w other v is = absurd cc
 
 -- what is posted for a request that goes on with the lock of its address, by a fact of each post that it may be
 pub goes_by : (P : Post → Type 0) (sizes : Sizes) (l : LogicalZone) (v : Vio) (post : Post) → goes_on sizes l v ≡ Some post
-    → (v.asks ≡ Read → P (read_next sizes l (looked l v) (mapping_at l v.at.0))) → (v.asks ≡ Write → P (id.Physical 0, item.Request (turned phase.Claim (looked l v)))) → P post
-goes_by P sizes l v post is reads writes = by v.asks refl is
+    → (v.asks ≡ Read → P (read_next sizes l (looked l v) (mapping_at l v.at.0)))
+    → (v.asks ≡ Write → are_zeros v.bytes ≡ true → P (enters_with Zero (looked l v))) → (v.asks ≡ Write → are_zeros v.bytes ≡ false → P (id.Physical 0, item.Request (turned phase.Claim (looked l v))))
+    → (v.asks ≡ Discard → P (enters_with Unmapped (looked l v))) → P post
+goes_by P sizes l v post is reads zeros others discards = by v.asks refl is
   where
     by : (asks : Asks) → v.asks ≡ asks → next_for sizes l v asks ≡ Some post → P post
     by Read asks next = subst P (same_Some _ _ next) (reads asks)
-    by Write asks next = subst P (same_Some _ _ next) (writes asks)
-    by other asks next = absurd cc
+    by Write asks next = elim (cases_Bool (are_zeros v.bytes)) [
+      | inl all ↦ subst P (rw all at (same_Some _ _ next)) (zeros asks all)
+      | inr some ↦ subst P (rw some at (same_Some _ _ next)) (others asks some)
+    ]
+    by Discard asks next = subst P (same_Some _ _ next) (discards asks)
+    by Flush asks next = absurd cc
 
 -- and for the one that gets a lock, where somebody does
 pub data IsGranted (sizes : Sizes) (l : LogicalZone) : Option Vio → List Post → Type 0 where

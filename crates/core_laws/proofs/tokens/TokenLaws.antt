@@ -33,7 +33,7 @@ module _ (sizes : Sizes) where
   nothing (v ∷ vs) = omega (arith, nothing vs)
 
   unclaimed : (x : ℕ) (on : Onward) (v : Vio) → (block_token x).item (Request (row.onward on v)) ≡ 0
-  unclaimed x on v = ap (λ b. bit (b && (on.block.0 == x))) on.unclaimed
+  unclaimed x on v = ap bit (on.unclaimed x)
 
   pub blocks_law : (x : ℕ) → {old new : ZoneData} {before after : Sum} → Row sizes old new before after → Shrinks (block_token x) old new before after
   blocks_law x (row.claims_block p v y others) = omega arith

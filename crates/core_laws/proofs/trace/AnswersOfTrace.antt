@@ -7,6 +7,7 @@ use Rattle.vdo_model.specs.Histories.{mark_of, histories_of}
 use Rattle.vdo_model.specs.Histories as model
 use Rattle.vdo_model.specs.declared.report.DeskLine.TheVariants.{Begin, Answer}
 use Rattle.core_model.specs.Reports.{is_there, set_in, handed_in, drawn_histories}
+use Rattle.core_laws.proofs.lists.Changes.{Changes}
 use Rattle.core_laws.proofs.trace.DeskOfTrace.{done_is_entered}
 use Rattle.core_laws.proofs.trace.Walks.{progress}
 use Rattle.core_laws.proofs.trace.PlacesOfTrace.{places_drawn}
@@ -36,64 +37,57 @@ pub there_some : (o : Option Logged) → is_there o ≡ true → (e : Logged) ×
 there_some (Some e) is = (e, refl)
 there_some None is = absurd cc
 
-cause_says : (s : Session) (t : Trace) (w : Writer) (at : Lba) (bytes : List ℕ) (fua : Bool) (a : Reply) → at.0 < s.sizes.geometry.logical → MayAnswer s t w (request.Write at bytes fua) a
-    → AnswerSays (set_in t w) (handed_in t w) (Some a)
-cause_says s t w at bytes fua reply.Ok below cause = there_true (logged_of (done t) w) cause
-cause_says s t w at bytes fua reply.Range below cause = absurd (omega arith)
-cause_says s t w at bytes fua reply.Stopped below (inl cause) = there_false (logged_of (done t) w) cause.2
-cause_says s t w at bytes fua reply.Stopped below (inr at_once) = there_false (logged_of (done t) w) at_once.1.unset
-cause_says s t w at bytes fua reply.Full below cause = there_false (logged_of (entered t) w) cause.1
-cause_says s t w at bytes fua other below cause = absurd cause
+cause_says : (s : Session) (t : Trace) (w : Writer) (r : Request) (a : ℕ) (answer : Reply) → Changes r → address_of r ≡ Some a → a < s.sizes.geometry.logical → MayAnswer s t w r answer
+    → AnswerSays (set_in t w) (handed_in t w) (Some answer)
+cause_says s t w (request.Write at bytes fua) a reply.Ok change has below cause = there_true (logged_of (done t) w) cause
+cause_says s t w (request.Write at bytes fua) a reply.Range change has below cause = let here : at.0 ≡ a = same_Some _ _ has in absurd (omega (arith, here, below, cause))
+cause_says s t w (request.Write at bytes fua) a reply.Stopped change has below (inl cause) = there_false (logged_of (done t) w) cause.2
+cause_says s t w (request.Write at bytes fua) a reply.Stopped change has below (inr at_once) = there_false (logged_of (done t) w) at_once.1.unset
+cause_says s t w (request.Write at bytes fua) a reply.Full change has below cause = there_false (logged_of (entered t) w) cause.1
+cause_says s t w (request.Write at bytes fua) a other change has below cause = absurd cause
+cause_says s t w (request.Discard at) a reply.Ok change has below cause = there_true (logged_of (done t) w) cause
+cause_says s t w (request.Discard at) a reply.Range change has below cause = let here : at.0 ≡ a = same_Some _ _ has in absurd (omega (arith, here, below, cause))
+cause_says s t w (request.Discard at) a reply.Stopped change has below (inl cause) = there_false (logged_of (done t) w) cause.2
+cause_says s t w (request.Discard at) a reply.Stopped change has below (inr at_once) = there_false (logged_of (done t) w) at_once.1.unset
+cause_says s t w (request.Discard at) a reply.Full change has below cause = there_false (logged_of (entered t) w) cause.1
+cause_says s t w (request.Discard at) a other change has below cause = absurd cause
+cause_says s t w (request.Read at) a answer change has below cause = absurd change
+cause_says s t w request.Flush a answer change has below cause = absurd change
+
+-- a flush changes no block
+flush_changes : (r : Request) → request.Flush ≡ r → Changes r → ⊥
+flush_changes r is change = subst Changes (sym is) change
 
 unanswered_says : (is_set handed : Bool) (o : Option Reply) → IsNone o → AnswerSays is_set handed o
 unanswered_says is_set handed o none = let is = none_of o none in rw is tt
 
--- what an answer of a write below the logical size says
-pub answer_says : (s : Session) (t : Trace) (w : Writer) (at : Lba) (bytes : List ℕ) (fua : Bool) → RightTrace s t → request_at s.script w ≡ Some (request.Write at bytes fua) → at.0 < s.sizes.geometry.logical
+-- what an answer of a write or a discard below the logical size says
+pub answer_says : (s : Session) (t : Trace) (w : Writer) (r : Request) (a : ℕ) → RightTrace s t → request_at s.script w ≡ Some r → Changes r → address_of r ≡ Some a → a < s.sizes.geometry.logical
     → AnswerSays (set_in t w) (handed_in t w) (answer_of (lines t) w)
-answer_says s [] w at bytes fua right asked below = tt
-answer_says s (Says (Begin v) ∷ t) w at bytes fua right asked below = answer_says s t w at bytes fua right.2 asked below
-answer_says s (Says (Answer v b) ∷ t) w at bytes fua right asked below = elim (same_tells v w) [
+answer_says s [] w r a right asked change has below = tt
+answer_says s (Says (Begin v) ∷ t) w r a right asked change has below = answer_says s t w r a right.2 asked change has below
+answer_says s (Says (Answer v b) ∷ t) w r a right asked change has below = elim (same_tells v w) [
   | inl same ↦
-      let cause = right.0.1 _ (subst (λ (x : Writer). request_at s.script x ≡ Some (request.Write at bytes fua)) (sym same.1) asked) in
-      rw same.0 (cause_says s t w at bytes fua b below (subst (λ (x : Writer). MayAnswer s t x (request.Write at bytes fua) b) same.1 cause))
-  | inr other ↦ rw other.0 (answer_says s t w at bytes fua right.2 asked below)
+      let cause = right.0.1 _ (subst (λ (x : Writer). request_at s.script x ≡ Some r) (sym same.1) asked) in
+      rw same.0 (cause_says s t w r a b change has below (subst (λ (x : Writer). MayAnswer s t x r b) same.1 cause))
+  | inr other ↦ rw other.0 (answer_says s t w r a right.2 asked change has below)
 ]
-answer_says s (Flushes mark ∷ t) w at bytes fua right asked below = elim (same_tells mark.request w) [
-  | inl same ↦
-      let flush = subst (λ (x : Writer). request_at s.script x ≡ Some request.Flush) same.1 right.0.1 in
-      let none : Some request.Flush ≡ Some (request.Write at bytes fua) = sym flush ∙ asked in
-      absurd cc
-  | inr other ↦ rw other.0 (answer_says s t w at bytes fua right.2 asked below)
-]
-answer_says s (Enters e ∷ t) w at bytes fua right asked below = elim (same_tells e.request w) [
-  | inl same ↦ unanswered_says _ _ _ (subst (λ (x : Writer). IsNone (answer_of (lines t) x)) same.1 right.0.is_open.unanswered)
-  | inr other ↦ rw other.0 (answer_says s t w at bytes fua right.2 asked below)
-]
-answer_says s (Sets e ∷ t) w at bytes fua right asked below = elim (same_tells e.request w) [
-  | inl same ↦ unanswered_says _ _ _ (subst (λ (x : Writer). IsNone (answer_of (lines t) x)) same.1 right.0.is_open.unanswered)
-  | inr other ↦ rw other.0 (answer_says s t w at bytes fua right.2 asked below)
-]
-answer_says s (Fails v c true ∷ t) w at bytes fua right asked below = answer_says s t w at bytes fua right.2 asked below
-answer_says s (other ∷ t) w at bytes fua right asked below = answer_says s t w at bytes fua right.2 asked below
-
--- a discard isn't answered
-discard_unanswered : (s : Session) (t : Trace) (w : Writer) (at : Lba) → RightTrace s t → request_at s.script w ≡ Some (request.Discard at) → answer_of (lines t) w ≡ None
-discard_unanswered s [] w at right asked = refl
-discard_unanswered s (Says (Begin v) ∷ t) w at right asked = discard_unanswered s t w at right.2 asked
-discard_unanswered s (Says (Answer v b) ∷ t) w at right asked = elim (same_tells v w) [
-  | inl same ↦ absurd (right.0.1 _ (subst (λ (x : Writer). request_at s.script x ≡ Some (request.Discard at)) (sym same.1) asked))
-  | inr other ↦ rw other.0 (discard_unanswered s t w at right.2 asked)
-]
-discard_unanswered s (Flushes mark ∷ t) w at right asked = elim (same_tells mark.request w) [
+answer_says s (Flushes mark ∷ t) w r a right asked change has below = elim (same_tells mark.request w) [
   | inl same ↦
       let flush = subst (λ (x : Writer). request_at s.script x ≡ Some request.Flush) same.1 right.0.1 in
-      let none : Some request.Flush ≡ Some (request.Discard at) = sym flush ∙ asked in
-      absurd cc
-  | inr other ↦ rw other.0 (discard_unanswered s t w at right.2 asked)
+      absurd (flush_changes r (same_Some _ _ (sym flush ∙ asked)) change)
+  | inr other ↦ rw other.0 (answer_says s t w r a right.2 asked change has below)
 ]
-discard_unanswered s (Fails v c true ∷ t) w at right asked = discard_unanswered s t w at right.2 asked
-discard_unanswered s (other ∷ t) w at right asked = discard_unanswered s t w at right.2 asked
+answer_says s (Enters e ∷ t) w r a right asked change has below = elim (same_tells e.request w) [
+  | inl same ↦ unanswered_says _ _ _ (subst (λ (x : Writer). IsNone (answer_of (lines t) x)) same.1 right.0.is_open.unanswered)
+  | inr other ↦ rw other.0 (answer_says s t w r a right.2 asked change has below)
+]
+answer_says s (Sets e ∷ t) w r a right asked change has below = elim (same_tells e.request w) [
+  | inl same ↦ unanswered_says _ _ _ (subst (λ (x : Writer). IsNone (answer_of (lines t) x)) same.1 right.0.is_open.unanswered)
+  | inr other ↦ rw other.0 (answer_says s t w r a right.2 asked change has below)
+]
+answer_says s (Fails v c true ∷ t) w r a right asked change has below = answer_says s t w r a right.2 asked change has below
+answer_says s (other ∷ t) w r a right asked change has below = answer_says s t w r a right.2 asked change has below
 
 -- an entry whose slot is set was handed in
 pub set_is_handed : (s : Session) (t : Trace) (w : Writer) → RightTrace s t → set_in t w ≡ true → handed_in t w ≡ true
@@ -115,17 +109,21 @@ mark_said is_set handed (Some reply.NoSpace) both says = absurd says
 mark_said is_set handed (Some reply.ReadFault) both says = absurd says
 mark_said is_set handed (Some reply.Damaged) both says = absurd says
 
+-- the mark of a write or a discard in its history, without its answer
+mark_without : (s : Session) (t : Trace) (w : Writer) (r : Request) (a : ℕ) → RightTrace s t → request_at s.script w ≡ Some r → Changes r → address_of r ≡ Some a → a < s.sizes.geometry.logical
+    → mark_of (answer_of (lines t) w) (set_in t w) (handed_in t w) ≡ mark_of None (set_in t w) (handed_in t w)
+mark_without s t w r a right asked change has below =
+    mark_said (set_in t w) (handed_in t w) (answer_of (lines t) w) (set_is_handed s t w right) (answer_says s t w r a right asked change has below)
+
 -- the entry of a place in its history, without its answer
 entry_said : (s : Session) (t : Trace) (w : Writer) (r : Request) (a : ℕ) → RightTrace s t → request_at s.script w ≡ Some r → address_of r ≡ Some a → a < s.sizes.geometry.logical
     → model.entry_of (Some r) w (mark_of (answer_of (lines t) w) (set_in t w) (handed_in t w)) ≡ model.entry_of (Some r) w (mark_of None (set_in t w) (handed_in t w))
 entry_said s t w (request.Read at) a right asked has below = refl
 entry_said s t w request.Flush a right asked has below = refl
-entry_said s t w (request.Discard at) a right asked has below = rw (discard_unanswered s t w at right asked) refl
+entry_said s t w (request.Discard at) a right asked has below =
+    ap (λ (mark : Mark). model.entry_of (Some (request.Discard at)) w mark) (mark_without s t w (request.Discard at) a right asked tt has below)
 entry_said s t w (request.Write at bytes fua) a right asked has below =
-    let at_is : at.0 ≡ a = same_Some _ _ has in
-    let says = answer_says s t w at bytes fua right asked (omega arith) in
-    let mark_is = mark_said (set_in t w) (handed_in t w) (answer_of (lines t) w) (set_is_handed s t w right) says in
-    ap (λ (mark : Mark). model.entry_of (Some (request.Write at bytes fua)) w mark) mark_is
+    ap (λ (mark : Mark). model.entry_of (Some (request.Write at bytes fua)) w mark) (mark_without s t w (request.Write at bytes fua) a right asked tt has below)
 
 histories_said : (s : Session) (t : Trace) (desk : List DeskLine) (ps : List Placed) → RightTrace s t → AreDrawn s.sizes.zones s.sizes.geometry.logical s.script desk ps
     → histories_of s.script (lines t) (progress (set_in t) (handed_in t)) ps ≡ histories_of s.script [] (progress (set_in t) (handed_in t)) ps

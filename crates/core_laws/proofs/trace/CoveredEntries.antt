@@ -11,6 +11,7 @@ use Rattle.core_model.specs.Reports.{set_in, handed_in}
 use Rattle.core_laws.proofs.trace.AnswersOfTrace.{AnswerSays, there_some, answer_says, set_is_handed}
 use Rattle.core_laws.proofs.trace.Cuts.{Cut, call_in_cut, lines_append, committed_append, right_part}
 use Rattle.core_laws.proofs.trace.DeskOfTrace.{AreApart, each_of_address, are_of_address, logged_has, desk_log_right, entered_apart, done_writes, done_is_committed}
+use Rattle.core_laws.proofs.lists.Changes.{change_address, changes_asked, maps_change}
 use Rattle.core_laws.proofs.lists.CoreLists.{Has, has_it, has_at, has_older, not_in_both, answer_later, answered_before, before_later}
 use Rattle.core_laws.proofs.trace.MarksOfTrace.{HasMark}
 use Rattle.blk_base.specs.declared.request.Answer.TheVariants as reply
@@ -54,16 +55,19 @@ module _ (s : Session) (t : Trace) (right : RightTrace s t) where
       → (b : Reply) → answer_of (lines older) e.request ≡ Some b → Has (committed older) e.request
   answered_committed newer older parts e write below set b answer =
       let right_old = right_part s newer older (subst (RightTrace s) parts right) in
+      let is_change = maps_change write.asks write.bytes e.new write.maps in
+      let change = changes_asked write.asks e.at write.bytes is_change in
+      let address = change_address write.asks e.at write.bytes is_change in
       let lines_are : lines t ≡ lines newer ++ lines older = ap lines parts ∙ lines_append newer older in
       let now : answer_of (lines t) e.request ≡ Some b =
       ap (λ (ls : List DeskLine). answer_of ls e.request) lines_are
       ∙ answer_later s.sizes.depth s.script (lines newer) (lines older) e.request b (subst (IsDeskLog s.sizes.depth s.script) lines_are (desk_log_right s t right)) answer in
       let says : AnswerSays (set_in t e.request) (handed_in t e.request) (Some b) =
-      subst (AnswerSays (set_in t e.request) (handed_in t e.request)) now (answer_says s t e.request e.at write.bytes false right write.asked below) in
+      subst (AnswerSays (set_in t e.request) (handed_in t e.request)) now (answer_says s t e.request _ e.at.0 right write.asked change address below) in
       let ok : b ≡ reply.Ok =
       set_ok (handed_in t e.request) b (set_is_handed s t e.request right set) (subst (λ (is_set : Bool). AnswerSays is_set (handed_in t e.request) (Some b)) set says) in
       let set_old : set_in older e.request ≡ true =
-      subst (AnswerSays (set_in older e.request) (handed_in older e.request)) (answer ∙ ap (λ (r : Reply). Some r) ok) (answer_says s older e.request e.at write.bytes false right_old write.asked below) in
+      subst (AnswerSays (set_in older e.request) (handed_in older e.request)) (answer ∙ ap (λ (r : Reply). Some r) ok) (answer_says s older e.request _ e.at.0 right_old write.asked change address below) in
       let found = there_some (logged_of (done older) e.request) set_old in
       has_it (committed older) e.request found.0 (done_is_committed s older e.request found.0 right_old found.1)
 

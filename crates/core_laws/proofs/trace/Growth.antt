@@ -102,4 +102,4 @@ entered_stays s h t w e may is = entered_grows (λ es. logged_of es w ≡ Some e
 
 -- an entry of a write stays one
 pub write_stays : (s : Session) (h : Happening) (t : Trace) (e : Logged) → MayFollow s h t → IsWrite s t e → IsWrite s (h ∷ t) e
-write_stays s h t e may is = record { bytes = is.bytes; asked = is.asked; placed = place_stays s h t e.request _ may is.placed }
+write_stays s h t e may is = record { asks = is.asks; bytes = is.bytes; asked = is.asked; maps = is.maps; placed = place_stays s h t e.request _ may is.placed }

@@ -1,9 +1,10 @@
 -- The histories of a right trace: which entries of its address one walks, and what each entry says.
 use Rattle.std.proofs.Common.{ℕ, ◌≡◌, ◌==◌, Bool, true, false, List, [], ◌∷◌, Some, None, refl, sym, ◌∙◌, ap, subst, inl, inr, ◌+◌, ◌<◌, ◌≤◌, ◌++◌, Option, IsNone, arith}
-use Rattle.core_laws.proofs.Common.{AllByRecursion, AreDrawn, DeskLine, HistoryEntry, IsWrite, Lba, Logged, Mark, Placed, Request, RightTrace, Script, Session, Trace, Writer, address_of, cases_Bool, done, drawn, each_both, entered, eqb_tells, every-map, lines, logged_of, not_both, of_address, place_of, places, request_at, same_self, same_Some, same_tells, zone_of}
+use Rattle.core_laws.proofs.Common.{AllByRecursion, AreDrawn, DeskLine, HistoryEntry, IsWrite, Lba, Logged, Mark, Placed, Request, RightTrace, Script, Session, Trace, Writer, address_of, asked, cases_Bool, done, drawn, each_both, entered, eqb_tells, every-map, lines, logged_of, not_both, of_address, place_of, places, request_at, same_self, same_Some, same_tells, zone_of}
 use Rattle.stop_laws.specs.Histories.{is_lasting}
 use Rattle.vdo_model.specs.Histories.{mark_of, history_of, is_settled, histories_of}
 use Rattle.core_model.specs.Reports.{is_there, set_in, handed_in, drawn_histories}
+use Rattle.core_laws.proofs.lists.Changes.{change_address, maps_change}
 use Rattle.core_laws.proofs.trace.DeskOfTrace.{each_of_address, are_of_address, entered_writes, done_writes}
 use Rattle.core_laws.proofs.trace.PlacesOfTrace.{places_drawn}
 use Rattle.core_laws.proofs.trace.TurnsOfTrace.{entered_falling, done_falling}
@@ -15,12 +16,14 @@ use Rattle.vdo_model.specs.Histories as model
 -- The histories of a right trace: the history of an address walks the entries of the address that were handed in, and
 -- those whose slots were set.
 
--- the entries of an address are of writes of it, with their places
+-- the entries of an address are of writes and discards of it, with their places
 pub writes_put : (s : Session) (t : Trace) (a : ℕ) (es : List Logged) → AllByRecursion (IsWrite s t) es → AllByRecursion (IsPut s.script (places t) (zone_of s.sizes.zones a) a) (of_address a es)
 writes_put s t a es writes =
     every-map {P = λ (e : Logged). IsWrite s t e × (e.at.0 ≡ a)} {Q = IsPut s.script (places t) (zone_of s.sizes.zones a) a} (λ e is. record {
+      asks = is.0.asks;
       bytes = is.0.bytes;
       asked = is.0.asked;
+      change = maps_change is.0.asks is.0.bytes e.new is.0.maps;
       at_address = is.1;
       has_place = subst (λ (b : ℕ). place_of (places t) e.request ≡ Some (record { request = e.request; zone = zone_of s.sizes.zones b; place = e.place })) is.1 is.0.placed;
     }) (of_address a es) (each_both (IsWrite s t) (λ (e : Logged). e.at.0 ≡ a) (of_address a es) (each_of_address (IsWrite s t) a es writes) (are_of_address a es))
@@ -28,14 +31,16 @@ writes_put s t a es writes =
 -- the entry of a request of this address is among those of the address
 pub logged_at : (s : Session) (t : Trace) (a : ℕ) (es : List Logged) (w : Writer) (r : Request) → AllByRecursion (IsWrite s t) es → request_at s.script w ≡ Some r → address_of r ≡ Some a
     → logged_of (of_address a es) w ≡ logged_of es w
-logged_at s t a [] w r writes asked has = refl
-logged_at s t a (e ∷ es) w r writes asked has =
-    let rest = logged_at s t a es w r writes.1 asked has in
+logged_at s t a [] w r writes asks has = refl
+logged_at s t a (e ∷ es) w r writes asks has =
+    let rest = logged_at s t a es w r writes.1 asks has in
     elim (same_tells e.request w) [
       | inl same ↦
-          let mine = subst (λ (x : Writer). request_at s.script x ≡ Some (request.Write e.at writes.0.bytes false)) same.1 writes.0.asked in
-          let r_is : request.Write e.at writes.0.bytes false ≡ r = same_Some _ _ (sym mine ∙ asked) in
-          let here : Some e.at.0 ≡ Some a = subst (λ (q : Request). address_of q ≡ Some a) (sym r_is) has in
+          let write = writes.0 in
+          let mine = subst (λ (x : Writer). request_at s.script x ≡ Some (asked write.asks e.at write.bytes)) same.1 write.asked in
+          let r_is : asked write.asks e.at write.bytes ≡ r = same_Some _ _ (sym mine ∙ asks) in
+          let change = maps_change write.asks write.bytes e.new write.maps in
+          let here : Some e.at.0 ≡ Some a = sym (change_address write.asks e.at write.bytes change) ∙ subst (λ (q : Request). address_of q ≡ Some a) (sym r_is) has in
           elim (eqb_tells e.at.0 a) [
             | inl there ↦ rw (there.0, same.0) refl
             | inr other ↦ absurd (other.1 (same_Some e.at.0 a here))

@@ -114,7 +114,11 @@ cause_tells s t w (request.Write at bytes fua) a reply.Ok right has cause = inr 
 cause_tells s t w (request.Write at bytes fua) a reply.Stopped right has cause = inr cause.1
 cause_tells s t w (request.Write at bytes fua) a reply.Full right has cause = inr cause.0
 cause_tells s t w (request.Write at bytes fua) a other right has cause = absurd cause
-cause_tells s t w (request.Discard at) a answer right has cause = absurd cause
+cause_tells s t w (request.Discard at) a reply.Range right has cause = inl (refl, subst (λ (n : ℕ). s.sizes.geometry.logical ≤ n) (same_Some _ _ has) cause)
+cause_tells s t w (request.Discard at) a reply.Ok right has cause = inr (done_placed s t w right cause)
+cause_tells s t w (request.Discard at) a reply.Stopped right has cause = inr cause.1
+cause_tells s t w (request.Discard at) a reply.Full right has cause = inr cause.0
+cause_tells s t w (request.Discard at) a other right has cause = absurd cause
 cause_tells s t w request.Flush a answer right has cause = absurd cc
 
 -- one below the logical size with a cause of its answer has a place
@@ -130,6 +134,8 @@ may_placed : (s : Session) (t : Trace) (w : Writer) (r : Request) (a : ℕ) (ans
     → IsSome (place_of (places t) w) ⊎ ((answer ≡ Stopped) × IsStoppedAtOnce t w)
 may_placed s t w (request.Write at bytes fua) a reply.Stopped right has below (inl cause) = inl (cause_placed s t w (request.Write at bytes fua) a reply.Stopped right has below cause)
 may_placed s t w (request.Write at bytes fua) a reply.Stopped right has below (inr at_once) = inr (refl, at_once.1)
+may_placed s t w (request.Discard at) a reply.Stopped right has below (inl cause) = inl (cause_placed s t w (request.Discard at) a reply.Stopped right has below cause)
+may_placed s t w (request.Discard at) a reply.Stopped right has below (inr at_once) = inr (refl, at_once.1)
 may_placed s t w r a answer right has below cause = inl (cause_placed s t w r a answer right has below cause)
 
 place_is_some : (s : Session) (h : Happening) (t : Trace) (w : Writer) → MayFollow s h t → IsSome (place_of (places t) w) → IsSome (place_of (places (h ∷ t)) w)
@@ -199,7 +205,7 @@ TellsRange s a answer = (answer ≡ reply.Range) ↔ (s.sizes.geometry.logical �
 range_past : (s : Session) (t : Trace) (w : Writer) (r : Request) (a : ℕ) → address_of r ≡ Some a → HasCause s t w r reply.Range → s.sizes.geometry.logical ≤ a
 range_past s t w (request.Read at) a has cause = subst (λ (n : ℕ). s.sizes.geometry.logical ≤ n) (same_Some _ _ has) cause
 range_past s t w (request.Write at bytes fua) a has cause = subst (λ (n : ℕ). s.sizes.geometry.logical ≤ n) (same_Some _ _ has) cause
-range_past s t w (request.Discard at) a has cause = absurd cause
+range_past s t w (request.Discard at) a has cause = subst (λ (n : ℕ). s.sizes.geometry.logical ≤ n) (same_Some _ _ has) cause
 range_past s t w request.Flush a has cause = absurd cc
 
 cause_range : (s : Session) (t : Trace) (w : Writer) (r : Request) (a : ℕ) (answer : Reply) → RightTrace s t → request_at s.script w ≡ Some r → address_of r ≡ Some a → HasCause s t w r answer → TellsRange s a answer
@@ -214,6 +220,9 @@ cause_range s t w r a answer right asked has cause = elim (cause_tells s t w r a
 may_range : (s : Session) (t : Trace) (w : Writer) (r : Request) (a : ℕ) (answer : Reply) → RightTrace s t → request_at s.script w ≡ Some r → address_of r ≡ Some a → MayAnswer s t w r answer → TellsRange s a answer
 may_range s t w (request.Write at bytes fua) a reply.Stopped right asked has (inl cause) = cause_range s t w (request.Write at bytes fua) a reply.Stopped right asked has cause
 may_range s t w (request.Write at bytes fua) a reply.Stopped right asked has (inr at_once) =
+    let below = at_once.0 in let is : at.0 ≡ a = same_Some _ _ has in (λ none. absurd cc, λ past. absurd (omega (arith, past, below, is)))
+may_range s t w (request.Discard at) a reply.Stopped right asked has (inl cause) = cause_range s t w (request.Discard at) a reply.Stopped right asked has cause
+may_range s t w (request.Discard at) a reply.Stopped right asked has (inr at_once) =
     let below = at_once.0 in let is : at.0 ≡ a = same_Some _ _ has in (λ none. absurd cc, λ past. absurd (omega (arith, past, below, is)))
 may_range s t w r a answer right asked has cause = cause_range s t w r a answer right asked has cause
 

@@ -1,6 +1,6 @@
 -- A stop before or after any call of a right trace is right.
 use Rattle.std.proofs.Common.{ℕ, ◌≡◌, ◌⊎◌, ◌<◌, false, Option, List, [], ◌∷◌, ◌++◌, length, refl, ◌∙◌, ap, inl, inr, arith, ◌≤◌, Bool, true, sym, subst, append_assoc, IsSome}
-use Rattle.core_laws.proofs.Common.{AllByRecursion, AtRest, Call, Calls, DeskLine, EachStands, FlushMark, HasPending, HistoryEntry, IsSession, IsWrite, Kept, Logged, Mapping, Mark, OnItsWay, Request, RightTrace, RunReport, Session, Shown, Trace, Writer, answer_of, append-nil, begun, bytes_of, calls, committed, done, each_both, entered, entries_of, entry_of, eqb_tells, every-append, every-map, lines, log, marks, newest, of_address, places, request_at, same_self, value_from, value_written}
+use Rattle.core_laws.proofs.Common.{AllByRecursion, AtRest, Call, Calls, DeskLine, EachStands, FlushMark, HasPending, HistoryEntry, IsSession, IsWrite, Kept, Logged, Mapping, Mark, OnItsWay, Request, RightTrace, RunReport, Session, Shown, Trace, Writer, answer_of, append-nil, begun, bytes_of, calls, committed, done, each_both, entered, entries_of, entry_of, eqb_tells, every-append, every-map, lines, log, marks, newest, of_address, places, request_at, same_self, value_from, value_written, GivesBytes}
 use Rattle.blk_base.specs.declared.place.Mapping.TheVariants.{Unmapped, Zero, At}
 use Rattle.disk_model.specs.Images.{IsImage}
 use Rattle.disk_model.specs.Log.{Blocks, block_at}
@@ -8,7 +8,7 @@ use Rattle.disk_model.proofs.ImageLaws.{block_of_image}
 use Rattle.image_layout.specs.Window.{IsWindow, journal_of, mapping_of, value_in, value_of}
 use Rattle.stop_laws.proofs.JournalLaws.{window_at_rest, window_under_way}
 use Rattle.blk_base.proofs.RegionLaws.{data_block_inside}
-use Rattle.core_laws.proofs.device.DeviceCalls.{mapped_data, write_whole}
+use Rattle.core_laws.proofs.device.DeviceCalls.{mapped_data, write_whole, whole_written}
 use Rattle.stop_laws.specs.Histories.{is_lasting}
 use Rattle.vdo_model.specs.Stops.{is_covered, covered, MayLast, last_value, IsBegunBefore, before_answer, length_at, MayShow, RightAfterStops}
 use Rattle.vdo_model.specs.declared.report.Mark.TheVariants.{Settled, Unsettled, Refused}
@@ -113,19 +113,25 @@ module _ (s : Session) (u : Trace) (image : Blocks) (session : IsSession s) (is 
       let inside : x.0 < length s.blocks = omega (arith, below, session.room) in
       block_of_image s.blocks (log s u) image x.0 (block_at s.image x.0) inside (session.one_image.whole x.0 inside) (kept.mapped a x maps) is
 
+  -- A mapping that gives its address bytes has them as its value.
+  new_value : (m : Mapping) (bytes : List ℕ) → length bytes ≡ 4096 → GivesBytes s u m bytes → value_in image m ≡ bytes
+  new_value (At x) bytes whole gives = block_of_image s.blocks (log s u) image x.0 bytes (omega (arith, gives.0.inside, session.room)) whole gives.1 is
+  new_value Unmapped bytes whole gives = sym gives
+  new_value Zero bytes whole gives = sym gives
+
   -- And an address has the value of its newest entry.
   pub shown_value : (es : List Logged) (a : ℕ) → Kept s u → EachStands s u es → AllByRecursion (λ (e : Logged). length (bytes_of s e) ≡ 4096) es
       → value_of image (entries_of s.window es) a ≡ value_from s a (newest (of_address a es))
   shown_value [] a kept stand whole = old_value a (mapping_of s.window a) refl kept
   shown_value (e ∷ older) a kept stand whole = elim (eqb_tells e.at.0 a) [
-    | inl same ↦ rw same.0 (block_of_image s.blocks (log s u) image e.block.0 (bytes_of s e) (omega (arith, stand.0.0.inside, session.room)) whole.0 stand.0.1 is)
+    | inl same ↦ rw same.0 (new_value e.new (bytes_of s e) whole.0 stand.0)
     | inr other ↦ rw other.0 (shown_value older a kept stand.1 whole.1)
   ]
 
 -- what an entry writes is whole
 pub whole_entry : (s : Session) (t : Trace) (e : Logged) → IsSession s → IsWrite s t e → length (bytes_of s e) ≡ 4096
 whole_entry s t e session is =
-    ap (λ (o : Option Request). length (value_written o)) is.asked ∙ write_whole s e.request e.at is.bytes false session is.asked
+    ap (λ (o : Option Request). length (value_written o)) is.asked ∙ whole_written s e.request is.asks e.at is.bytes session is.asked
 
 -- The part of a history that a stop shows: from the entry that stands for the newest of the shown ones back.
 

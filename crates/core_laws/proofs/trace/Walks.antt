@@ -1,8 +1,10 @@
 -- The history of an address walks a list of entries.
 use Rattle.std.proofs.Common.{◌≡◌, ◌⊎◌, ◌++◌, Bool, true, false, List, [], ◌∷◌, refl, sym, ◌∙◌, ap, subst, inl, inr, ℕ, ◌≢◌, ◌+◌, ◌<◌, ◌≤◌, ◌==◌, Option, Some, None, IsNone, arith}
-use Rattle.core_laws.proofs.Common.{AllByRecursion, AreDrawn, DeskLine, HistoryEntry, Logged, Mark, Placed, Request, Script, Writer, address_of, cases_Bool, drawn, each_both, eqb_tells, every-map, logged_of, not_both, place_of, request_at, same_self, same_Some, same_tells}
+use Rattle.core_laws.proofs.Common.{AllByRecursion, AreDrawn, Asks, DeskLine, HistoryEntry, IsChange, Logged, Mark, Placed, Request, Script, Writer, address_of, asked, cases_Bool, drawn, each_both, eqb_tells, every-map, logged_of, not_both, place_of, request_at, same_self, same_Some, same_tells}
+use Rattle.core_model.specs.declared.items.Asks.TheVariants.{Read, Write, Discard, Flush}
 use Rattle.core_model.specs.Reports.{is_there}
 use Rattle.vdo_model.specs.Histories.{Progress, mark_of, histories_of, history_of}
+use Rattle.core_laws.proofs.lists.Changes.{change_address}
 use Rattle.core_laws.proofs.trace.TurnsOfTrace.{IsFalling}
 use Rattle.blk_base.specs.declared.request.Request.TheVariants as request
 use Rattle.vdo_model.specs.Histories as model
@@ -108,10 +110,12 @@ walks_split test (h ∷ hs) (e ∷ newer) es walks = elim walks [
 abbrev pub placed : Writer → ℕ → ℕ → Placed
 placed w zone place = record { request = w; zone = zone; place = place }
 
--- an entry is of a write of this address that has its place
+-- an entry is of a write or a discard of this address that has its place
 pub record IsPut (script : Script) (ps : List Placed) (zone a : ℕ) (e : Logged) : Type 0 where
+  pub asks : Asks
   pub bytes : List ℕ
-  pub asked : request_at script e.request ≡ Some (request.Write e.at bytes false)
+  pub asked : request_at script e.request ≡ Some (asked asks e.at bytes)
+  pub change : IsChange asks
   pub at_address : e.at.0 ≡ a
   pub has_place : place_of ps e.request ≡ Some (placed e.request zone e.place)
 
@@ -166,13 +170,19 @@ skip test (Some (request.Discard at)) w mark hs a es none walks = elim (eqb_tell
   | inr other ↦ rw other.0 walks
 ]
 
-take : (test : Mark → Bool) (o : Option Request) (w : Writer) (mark : Mark) (hs : List HistoryEntry) (a : ℕ) (e : Logged) (es : List Logged) (bytes : List ℕ)
-    → o ≡ Some (request.Write e.at bytes false) → e.at.0 ≡ a → w ≡ e.request → test mark ≡ true
+take : (test : Mark → Bool) (o : Option Request) (w : Writer) (mark : Mark) (hs : List HistoryEntry) (a : ℕ) (e : Logged) (es : List Logged) (q : Asks) (bytes : List ℕ) → IsChange q
+    → o ≡ Some (asked q e.at bytes) → e.at.0 ≡ a → w ≡ e.request → test mark ≡ true
     → Walks test (history_of hs a) es → Walks test (history_of (model.entry_of o w mark ++ hs) a) (e ∷ es)
-take test o w mark hs a e es bytes is at same passes walks = elim (eqb_tells e.at.0 a) [
+take test o w mark hs a e es Write bytes change is at same passes walks = elim (eqb_tells e.at.0 a) [
   | inl there ↦ rw (is, there.0) (inr (e, es, refl, same, passes, walks))
   | inr other ↦ absurd (other.1 at)
 ]
+take test o w mark hs a e es Discard bytes change is at same passes walks = elim (eqb_tells e.at.0 a) [
+  | inl there ↦ rw (is, there.0) (inr (e, es, refl, same, passes, walks))
+  | inr other ↦ absurd (other.1 at)
+]
+take test o w mark hs a e es Read bytes change is at same passes walks = absurd change
+take test o w mark hs a e es Flush bytes change is at same passes walks = absurd change
 
 -- how far each write has come
 abbrev pub progress : (Writer → Bool) → (Writer → Bool) → Progress
@@ -195,7 +205,7 @@ module _ (test : Mark → Bool) (zones logical : ℕ) (script : Script) (desk : 
   older_place : (p : Placed) (ps : List Placed) (e : Logged) → p.request ≢ e.request → IsPut script (p ∷ ps) zone a e → IsPut script ps zone a e
   older_place p ps e differs put = elim (same_tells p.request e.request) [
     | inl same ↦ absurd (differs same.1)
-    | inr other ↦ record { bytes = put.bytes; asked = put.asked; at_address = put.at_address; has_place = rw other.0 at put.has_place }
+    | inr other ↦ record { asks = put.asks; bytes = put.bytes; asked = put.asked; change = put.change; at_address = put.at_address; has_place = rw other.0 at put.has_place }
   ]
 
   -- the place of an entry that is of the newest place's request
@@ -257,10 +267,10 @@ module _ (test : Mark → Bool) (zones logical : ℕ) (script : Script) (desk : 
         let differ = differ_from p ps e es (λ f less put. below_newest p ps e f same.1 puts.0 less put) falls.0 puts.1 in
         let others = none_named ps e.request (subst (λ (x : Writer). IsNone (place_of ps x)) same.1 drawn_so.0.once) in
         let rest = places_walk ps es drawn_so.1 falls.1 (all_older p ps es differ puts.1) (fits_older e es ps others fits.1) in
-        let asked = subst (λ (x : Writer). request_at script x ≡ Some (request.Write e.at puts.0.bytes false)) (sym same.1) puts.0.asked in
+        let asks = subst (λ (x : Writer). request_at script x ≡ Some (asked puts.0.asks e.at puts.0.bytes)) (sym same.1) puts.0.asked in
         let mine : is_there (logged_of (e ∷ es) p.request) ≡ true = rw (same.1, same_self e.request) refl in
-        let passes = fits.0 _ asked (ap Some puts.0.at_address) ∙ mine in
-        take test (request_at script p.request) p.request (mark_of None (is_set p.request) (handed p.request)) (histories_of script [] (progress is_set handed) ps) a e es puts.0.bytes asked puts.0.at_address same.1 passes rest
+        let passes = fits.0 _ asks (change_address puts.0.asks e.at puts.0.bytes puts.0.change ∙ ap Some puts.0.at_address) ∙ mine in
+        take test (request_at script p.request) p.request (mark_of None (is_set p.request) (handed p.request)) (histories_of script [] (progress is_set handed) ps) a e es puts.0.asks puts.0.bytes puts.0.change asks puts.0.at_address same.1 passes rest
     | inr other ↦
         let put = older_place p ps e other.1 puts.0 in
         let differ = differ_from p ps e es (λ f less puts_f. below_older p ps e f drawn_so put less puts_f) falls.0 puts.1 in

@@ -166,6 +166,49 @@ flush_stopped_by_a_stop may = absurd cc
 flush_with_its_mark : HasCause session begun flush request.Flush Ok → ⊥
 flush_with_its_mark may = may
 
--- A discard has no answer: it isn't served.
-discard_unserved : (answer : Answer) → HasCause session set first (request.Discard (address 0)) answer → ⊥
-discard_unserved answer may = may
+-- A discard is answered as a write is, but that it is full for want of a block of the journal alone.
+abbrev Discards : Trace → Writer → ℕ → Answer → Type 0
+Discards t w a answer = HasCause session t w (request.Discard (address a)) answer
+
+discard_ok : Discards set first 0 Ok
+discard_ok = refl
+
+discard_ok_once_set : Discards lasting first 0 Ok → ⊥
+discard_ok_once_set may = absurd cc
+
+discard_range : Discards begun first 1000 Range
+discard_range = omega arith
+
+discard_range_outside : Discards begun first 999 Range → ⊥
+discard_range_outside may = absurd (omega (arith, may))
+
+discard_stopped : Discards (stopped lasting) first 0 Stopped
+discard_stopped = (refl, refl, refl)
+
+discard_stopped_with_a_place : Discards (stopped begun) first 0 Stopped → ⊥
+discard_stopped_with_a_place may = let placed = may.1 in absurd cc
+
+discard_stopped_by_a_stop : Discards lasting first 0 Stopped → ⊥
+discard_stopped_by_a_stop may = let is = may.0 in absurd cc
+
+discard_stopped_unset : Discards (stopped set) first 0 Stopped → ⊥
+discard_stopped_unset may = let unset = may.2 in absurd cc
+
+discard_stopped_at_once : MayBeStopped (Says (Begin second) ∷ stopped []) (request.Discard (address 0))
+discard_stopped_at_once = inr (omega arith, record { stopped = refl; unset = refl; older = stopped []; begun_last = refl })
+
+discard_stopped_inside : MayBeStopped (Says (Begin second) ∷ stopped []) (request.Discard (address 1000)) → ⊥
+discard_stopped_inside (inl cause) = let placed = cause.1 in absurd cc
+discard_stopped_inside (inr at_once) = let below = at_once.0 in absurd (omega (arith, below))
+
+discard_full : Discards handed_in second 0 Full
+discard_full = (refl, refl, omega arith)
+
+discard_full_with_a_place : Discards handed_in late 0 Full → ⊥
+discard_full_with_a_place may = let placed = may.0 in absurd cc
+
+discard_full_of_blocks : Discards (Takes second (block 86) ∷ took) first 0 Full → ⊥
+discard_full_of_blocks may = let journal = may.2 in absurd (omega (arith, journal))
+
+discard_full_before_it_enters : Discards handed_in first 0 Full → ⊥
+discard_full_before_it_enters may = let entered = may.1 in absurd cc

@@ -1,6 +1,8 @@
 -- Which happening may follow: for each one a trace that it may follow, and for each of its conditions one that breaks it.
-use Rattle.std.proofs.Common.{ℕ, ◌≡◌, true, false, List, [], ◌∷◌, ◌++◌, length, refl, ap, subst, arith}
+use Rattle.std.proofs.Common.{ℕ, ◌≡◌, true, false, List, [], ◌∷◌, ◌++◌, Some, length, refl, ap, subst, arith}
+use Rattle.std.proofs.lemmas.List.{length-replicate}
 use Rattle.std.proofs.lemmas.Option.{same_Some}
+use Rattle.blk_base.specs.Sectors.{zero_block}
 use Rattle.blk_base.specs.declared.place.Mapping.{Mapping}
 use Rattle.blk_base.specs.declared.place.Mapping.TheVariants.{Unmapped, Zero, At}
 use Rattle.blk_base.specs.declared.request.Answer.TheVariants.{Ok, Stopped}
@@ -9,10 +11,13 @@ use Rattle.blk_base.specs.declared.request.Request.TheVariants as request
 use Rattle.disk_model.specs.declared.call.Call.TheVariants.{Read, Write, Flush}
 use Rattle.vdo_model.specs.FlushMarks.{Moment, Desk, Device}
 use Rattle.vdo_model.specs.declared.report.DeskLine.TheVariants.{Begin, Answer}
-use Rattle.core_model.specs.RightTraces.{MayAnswer, MayFollow, StopsAtFailure}
+use Rattle.core_model.specs.declared.items.Asks.{Asks}
+use Rattle.core_model.specs.declared.items.Asks.TheVariants as asks
+use Rattle.core_model.specs.RightTraces.{MapsTo, MayAnswer, MayFollow, StopsAtFailure}
 use Rattle.core_model.specs.Sessions.{Session}
+use Rattle.core_model.specs.Vios.{asked}
 use Rattle.core_model.specs.Trace.{Says, Flushes, Draws, Enters, Commits, Sets, Gives, Takes, Aborts, Calls, Fails, Trace, Happening}
-use Rattle.core_model.proofs.rows.WorkedTraces.{address, block, writer, x, y, first, reader, second, other, late, flush, sizes, session, begun, took, handed_in, lasting, set, stopped, place, entry, of_first, of_second, of_other, given}
+use Rattle.core_model.proofs.rows.WorkedTraces.{address, block, writer, x, y, first, reader, second, other, late, flush, sizes, session, begun, drawn, took, handed_in, lasting, set, stopped, place, entry, of_first, of_second, of_other, given}
 
 -- the session, with two blocks in its journal
 abbrev roomy : Session
@@ -127,7 +132,7 @@ takes_no_block_beyond may = let next = may.next in absurd cc
 enters : May (Enters of_second) set
 enters = record {
   is_open = record { is_begun = omega arith; unanswered = refl };
-  is_write = record { bytes = y; asked = refl; placed = refl };
+  is_write = record { asks = asks.Write; bytes = y; asked = refl; maps = tt; placed = refl };
   once = refl;
   idle = refl;
   quiet = record { all_committed = refl; all_done = refl };
@@ -140,7 +145,60 @@ enters_while_open : May (Enters of_second) (Says (Answer second Stopped) ∷ set
 enters_while_open may = let no = may.is_open.unanswered in absurd cc
 
 enters_as_asked : May (Enters (entry first 812 0 Unmapped 85)) took → ⊥
-enters_as_asked may = let asked = may.is_write.asked in absurd (let same = ap address_in (same_Some _ _ asked) in omega (arith, same))
+enters_as_asked may = at_its_address may.is_write.asks may.is_write.bytes may.is_write.asked
+  where
+    at_its_address : (what : Asks) (bytes : List ℕ) → Some (request.Write (address 0) x false) ≡ Some (asked what (address 812) bytes) → ⊥
+    at_its_address asks.Write bytes is = let same = ap address_in (same_Some _ _ is) in absurd (omega (arith, same))
+    at_its_address asks.Read bytes is = absurd cc
+    at_its_address asks.Discard bytes is = absurd cc
+    at_its_address asks.Flush bytes is = absurd cc
+
+-- It maps its address to a block, or to zeros where the bytes are; that of a discard to nothing.
+abbrev session_of : Request → Session
+session_of asked = record roomy { script = (asked ∷ []) ∷ [] }
+
+enters_zeros : MayFollow (session_of (request.Write (address 0) zero_block false)) (Enters (record of_first { new = Zero })) drawn
+enters_zeros = record {
+  is_open = record { is_begun = omega arith; unanswered = refl };
+  is_write = record { asks = asks.Write; bytes = zero_block; asked = refl; maps = refl; placed = refl };
+  once = refl;
+  idle = refl;
+  quiet = record { all_committed = refl; all_done = refl };
+  below = record { writes = tt; reads = tt };
+  left = omega arith;
+  old_is = refl;
+}
+
+enters_a_discard : MayFollow (session_of (request.Discard (address 0))) (Enters (record of_first { new = Unmapped })) drawn
+enters_a_discard = record {
+  is_open = record { is_begun = omega arith; unanswered = refl };
+  is_write = record { asks = asks.Discard; bytes = zero_block; asked = refl; maps = tt; placed = refl };
+  once = refl;
+  idle = refl;
+  quiet = record { all_committed = refl; all_done = refl };
+  below = record { writes = tt; reads = tt };
+  left = omega arith;
+  old_is = refl;
+}
+
+-- no write of other bytes maps to zeros, no write to nothing, no discard to a block or to zeros, and a read to nothing at all
+zeros_length : length zero_block ≡ 4096
+unfolding zero_block
+zeros_length = length-replicate {A = ℕ} 4096 0
+
+maps_of_zeros_alone : MapsTo asks.Write x Zero → ⊥
+maps_of_zeros_alone may = let same : 1 ≡ length zero_block = ap length may in absurd (omega (arith, same, zeros_length))
+
+maps_a_write : MapsTo asks.Write x Unmapped → ⊥
+maps_a_write may = may
+
+maps_a_discard : (MapsTo asks.Discard x (At (block 85)) → ⊥) × (MapsTo asks.Discard zero_block Zero → ⊥)
+maps_a_discard = (λ may. may, λ may. may)
+
+maps_no_read : (new : Mapping) → MapsTo asks.Read x new → ⊥
+maps_no_read Unmapped may = may
+maps_no_read Zero may = may
+maps_no_read (At b) may = may
 
 enters_at_its_place : May (Enters (entry second 0 5 (At (block 85)) 86)) set → ⊥
 enters_at_its_place may = let placed : 1 ≡ 5 = ap (λ p. p.place) (same_Some _ _ may.is_write.placed) in absurd (omega (arith, placed))

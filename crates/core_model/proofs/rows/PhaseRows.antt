@@ -2,7 +2,7 @@
 use Rattle.std.proofs.Common.{ℕ, Bool, true, false, None, Some, List, [], ◌∷◌, refl, arith}
 use Rattle.blk_base.specs.Sectors.{zero_block}
 use Rattle.blk_base.specs.declared.place.Lba.{Lba}
-use Rattle.blk_base.specs.declared.place.Mapping.TheVariants.{Unmapped, At}
+use Rattle.blk_base.specs.declared.place.Mapping.TheVariants.{Unmapped, Zero, At}
 use Rattle.blk_base.specs.declared.place.Pbn.{Pbn}
 use Rattle.blk_base.specs.declared.place.ZoneId.TheVariants as id
 use Rattle.blk_base.specs.declared.request.Answer.{Answer}
@@ -14,6 +14,7 @@ use Rattle.vdo_model.specs.declared.report.DeskLine.{DeskLine}
 use Rattle.vdo_model.specs.declared.report.DeskLine.TheVariants as line
 use Rattle.vdo_model.specs.declared.report.FlushMark.{FlushMark}
 use Rattle.vdo_model.specs.declared.report.Placed.{Placed}
+use Rattle.vdo_model.specs.Scripts.{Script}
 use Rattle.core_model.specs.declared.items.Asks.{Asks}
 use Rattle.core_model.specs.declared.items.Asks.TheVariants as asks
 use Rattle.core_model.specs.declared.items.Item.{Item}
@@ -41,16 +42,19 @@ abbrev Acts : ZoneData → List Item → ZoneData → Trace → List Post → Ty
 Acts = Act sizes
 
 -- a request of address 0, which is in logical zone 0
-abbrev pub vio : Writer → Asks → Phase → ℕ → ℕ → Vio
-vio w what now n b =
-    record { request = w; asks = what; at = address 0; home = id.Logical 0; phase = now; bytes = x; place = n; old = Unmapped; latest = None; block = block b; answer = None; calls = 0 }
+abbrev pub vio : Writer → Asks → Phase → ℕ → Vio
+vio w what now n =
+    record { request = w; asks = what; at = address 0; home = id.Logical 0; phase = now; bytes = x; place = n; old = Unmapped; latest = None; new = Unmapped; answer = None; calls = 0 }
 
--- the first write, once it has its block; the reader, which reads that block
+-- the first write, once it has its block; the reader, and as it is once it knows that block
 abbrev pub writes : Phase → Vio
-writes now = vio first asks.Write now 0 85
+writes now = record (vio first asks.Write now 0) { new = At (block 85) }
 
 abbrev pub reads : Phase → Vio
-reads now = vio reader asks.Read now 2 85
+reads now = vio reader asks.Read now 2
+
+abbrev pub finds : Phase → Vio
+finds now = record (reads now) { old = At (block 85); latest = Some of_first }
 
 abbrev answered : Answer → Vio → Vio
 answered answer v = record v { answer = Some answer }
@@ -58,6 +62,13 @@ answered answer v = record v { answer = Some answer }
 -- the desk: its log and its marks, how many stop notices have come, and who waits for them
 abbrev pub desk : List DeskLine → List FlushMark → ℕ → List Vio → ZoneData
 desk log marks notices parked = at.Desk (record { requests = script; log = log; marks = marks; notices = notices; parked = parked })
+
+-- a desk with another script, with this log and these marks
+abbrev desk_of : Script → List DeskLine → List FlushMark → ZoneData
+desk_of requests log marks = at.Desk (record { requests = requests; log = log; marks = marks; notices = 0; parked = [] })
+
+abbrev discards : Script
+discards = (request.Discard (address 0) ∷ []) ∷ []
 
 -- logical zone 0: its next place and its places, its locks and who waits for one, the retired addresses, and the slots that are set
 abbrev pub logical : ℕ → List Placed → List Lock → List Vio → List Lba → List Logged → ZoneData
@@ -86,16 +97,20 @@ notify = (id.Journal, StopNotice) ∷ (id.Physical 0, StopNotice) ∷ (id.Logica
 
 -- (begins): a write and a read go to their home, a flush to the device; one outside of the logical size, and a write after a
 -- stop, is answered at once
-begins_a_write : Acts (desk [] [] 0 []) [] (desk (line.Begin first ∷ []) [] 0 []) (Says (line.Begin first) ∷ []) ((id.Logical 0, Request (vio first asks.Write phase.Arrive 0 0)) ∷ [])
+begins_a_write : Acts (desk [] [] 0 []) [] (desk (line.Begin first ∷ []) [] 0 []) (Says (line.Begin first) ∷ []) ((id.Logical 0, Request (vio first asks.Write phase.Arrive 0)) ∷ [])
 begins_a_write = begins (DeskBegins.sends first (request.Write (address 0) x false) _ (refl, refl, omega arith) refl refl refl refl refl refl)
 
 begins_a_flush : Acts (desk [] [] 0 []) [] (desk (line.Begin flush ∷ []) [] 0 []) (Says (line.Begin flush) ∷ [])
-    ((id.Device, Request (record (vio flush asks.Flush phase.Flush 0 0) { bytes = zero_block })) ∷ [])
+    ((id.Device, Request (record (vio flush asks.Flush phase.Flush 0) { bytes = zero_block })) ∷ [])
 begins_a_flush = begins (DeskBegins.sends flush request.Flush _ (refl, refl, omega arith) refl refl refl refl refl refl)
 
 begins_a_read : Acts (desk (line.Begin first ∷ []) [] 0 []) [] (desk (line.Begin reader ∷ line.Begin first ∷ []) [] 0 []) (Says (line.Begin reader) ∷ [])
-    ((id.Logical 0, Request (record (vio reader asks.Read phase.Arrive 0 0) { bytes = zero_block })) ∷ [])
+    ((id.Logical 0, Request (record (vio reader asks.Read phase.Arrive 0) { bytes = zero_block })) ∷ [])
 begins_a_read = begins (DeskBegins.sends reader (request.Read (address 0)) _ (refl, refl, omega arith) refl refl refl refl refl refl)
+
+begins_a_discard : Act sizes (desk_of discards [] []) [] (desk_of discards (line.Begin first ∷ []) []) (Says (line.Begin first) ∷ [])
+    ((id.Logical 0, Request (record (vio first asks.Discard phase.Arrive 0) { bytes = zero_block })) ∷ [])
+begins_a_discard = begins (DeskBegins.sends first (request.Discard (address 0)) _ (refl, refl, omega arith) refl refl refl refl refl refl)
 
 begins_out_of_range : Act (record sizes { geometry = record sizes.geometry { logical = 812 } }) (desk (line.Begin second ∷ []) [] 0 []) []
     (desk (line.Answer other reply.Range ∷ line.Begin other ∷ line.Begin second ∷ []) [] 0 []) (Says (line.Answer other reply.Range) ∷ Says (line.Begin other) ∷ []) []
@@ -108,7 +123,7 @@ begins_after_a_stop = begins (DeskBegins.answers first (request.Write (address 0
 replies : Acts (desk [] [] 0 []) (Request (answered reply.Ok (writes phase.Reply)) ∷ []) (desk (line.Answer first reply.Ok ∷ []) [] 0 []) (Says (line.Answer first reply.Ok) ∷ []) []
 replies = answers (DeskServes.answers reply.Ok refl refl (λ is. absurd cc) refl refl refl refl)
 
-replies_to_a_flush : Acts (desk [] [] 0 []) (Request (record (vio flush asks.Flush phase.Reply 0 0) { answer = Some reply.Ok; calls = 3 }) ∷ [])
+replies_to_a_flush : Acts (desk [] [] 0 []) (Request (record (vio flush asks.Flush phase.Reply 0) { answer = Some reply.Ok; calls = 3 }) ∷ [])
     (desk (line.Answer flush reply.Ok ∷ []) (record { request = flush; calls = 3 } ∷ []) 0 []) (Flushes (record { request = flush; calls = 3 }) ∷ []) []
 replies_to_a_flush = answers (DeskServes.marks refl refl refl refl refl refl)
 
@@ -118,42 +133,50 @@ replies_later = answers (DeskServes.parks reply.Stopped refl refl refl refl refl
 replies_at_last : Acts (desk [] [] 3 (answered reply.Stopped (writes phase.Reply) ∷ [])) (StopNotice ∷ []) (desk [] [] 4 []) [] ((id.Desk, Request (answered reply.Stopped (writes phase.Reply))) ∷ [])
 replies_at_last = hears
 
--- Arrive: the address is free, or held, or retired; then a write claims a block, a read goes to the block that is mapped, or
--- has zeros
-arrives : Acts (logical 0 [] [] [] [] []) (Request (vio first asks.Write phase.Arrive 0 0) ∷ []) (logical 1 (place first 0 0 ∷ []) (lock 0 ∷ []) [] [] []) (Draws (place first 0 0) ∷ [])
-    ((id.Physical 0, Request (vio first asks.Write phase.Claim 0 0)) ∷ [])
+-- Arrive: the address is free, or held, or retired; then a write claims a block, but for one of zeros, a discard hands in its
+-- entry, a read goes to the block that is mapped, or has zeros
+arrives : Acts (logical 0 [] [] [] [] []) (Request (vio first asks.Write phase.Arrive 0) ∷ []) (logical 1 (place first 0 0 ∷ []) (lock 0 ∷ []) [] [] []) (Draws (place first 0 0) ∷ [])
+    ((id.Physical 0, Request (vio first asks.Write phase.Claim 0)) ∷ [])
 arrives = serves (LogicalServes.arrives_free _ refl refl refl refl refl refl refl)
 
-arrives_to_read : Acts (logical 2 [] [] [] [] (of_first ∷ [])) (Request (vio reader asks.Read phase.Arrive 0 0) ∷ []) (logical 3 (place reader 0 2 ∷ []) (lock 2 ∷ []) [] [] (of_first ∷ []))
-    (Draws (place reader 0 2) ∷ []) ((id.Device, Request (record (reads phase.Load) { old = At (block 85); latest = Some of_first })) ∷ [])
+arrives_to_read : Acts (logical 2 [] [] [] [] (of_first ∷ [])) (Request (vio reader asks.Read phase.Arrive 0) ∷ []) (logical 3 (place reader 0 2 ∷ []) (lock 2 ∷ []) [] [] (of_first ∷ []))
+    (Draws (place reader 0 2) ∷ []) ((id.Device, Request (finds phase.Load)) ∷ [])
 arrives_to_read = serves (LogicalServes.arrives_free _ refl refl refl refl refl refl refl)
 
-arrives_to_zeros : Acts (logical 2 [] [] [] [] []) (Request (vio reader asks.Read phase.Arrive 0 0) ∷ []) (logical 3 (place reader 0 2 ∷ []) (lock 2 ∷ []) [] [] [])
-    (Draws (place reader 0 2) ∷ []) ((id.Logical 0, Request (record (vio reader asks.Read phase.Loaded 2 0) { bytes = zero_block })) ∷ [])
+arrives_to_zeros : Acts (logical 2 [] [] [] [] []) (Request (vio reader asks.Read phase.Arrive 0) ∷ []) (logical 3 (place reader 0 2 ∷ []) (lock 2 ∷ []) [] [] [])
+    (Draws (place reader 0 2) ∷ []) ((id.Logical 0, Request (record (vio reader asks.Read phase.Loaded 2) { bytes = zero_block })) ∷ [])
 arrives_to_zeros = serves (LogicalServes.arrives_free _ refl refl refl refl refl refl refl)
 
-arrives_to_wait : Acts (logical 2 [] (lock 0 ∷ []) [] [] []) (Request (vio reader asks.Read phase.Arrive 0 0) ∷ [])
-    (logical 3 (place reader 0 2 ∷ []) (lock 0 ∷ []) (vio reader asks.Read phase.Wait 2 0 ∷ []) [] []) (Draws (place reader 0 2) ∷ []) []
+arrives_to_discard : Acts (logical 0 [] [] [] [] []) (Request (vio first asks.Discard phase.Arrive 0) ∷ []) (logical 1 (place first 0 0 ∷ []) (lock 0 ∷ []) [] [] []) (Draws (place first 0 0) ∷ [])
+    ((id.Journal, Request (vio first asks.Discard phase.Enter 0)) ∷ [])
+arrives_to_discard = serves (LogicalServes.arrives_free _ refl refl refl refl refl refl refl)
+
+arrives_to_write_zeros : Acts (logical 0 [] [] [] [] []) (Request (record (vio first asks.Write phase.Arrive 0) { bytes = 0 ∷ 0 ∷ [] }) ∷ []) (logical 1 (place first 0 0 ∷ []) (lock 0 ∷ []) [] [] [])
+    (Draws (place first 0 0) ∷ []) ((id.Journal, Request (record (vio first asks.Write phase.Enter 0) { bytes = 0 ∷ 0 ∷ []; new = Zero })) ∷ [])
+arrives_to_write_zeros = serves (LogicalServes.arrives_free _ refl refl refl refl refl refl refl)
+
+arrives_to_wait : Acts (logical 2 [] (lock 0 ∷ []) [] [] []) (Request (vio reader asks.Read phase.Arrive 0) ∷ [])
+    (logical 3 (place reader 0 2 ∷ []) (lock 0 ∷ []) (vio reader asks.Read phase.Wait 2 ∷ []) [] []) (Draws (place reader 0 2) ∷ []) []
 arrives_to_wait = serves (LogicalServes.arrives_held refl refl refl refl refl refl)
 
-arrives_retired : Acts (logical 2 [] [] [] (address 0 ∷ []) []) (Request (vio reader asks.Read phase.Arrive 0 0) ∷ []) (logical 3 (place reader 0 2 ∷ []) [] [] (address 0 ∷ []) [])
-    (Draws (place reader 0 2) ∷ []) ((id.Desk, Request (answered reply.Stopped (vio reader asks.Read phase.Reply 2 0))) ∷ [])
+arrives_retired : Acts (logical 2 [] [] [] (address 0 ∷ []) []) (Request (vio reader asks.Read phase.Arrive 0) ∷ []) (logical 3 (place reader 0 2 ∷ []) [] [] (address 0 ∷ []) [])
+    (Draws (place reader 0 2) ∷ []) ((id.Desk, Request (answered reply.Stopped (vio reader asks.Read phase.Reply 2))) ∷ [])
 arrives_retired = serves (LogicalServes.arrives_retired refl refl refl refl refl)
 
 -- Claim: the next free block, or none
-claims : Acts (physical (block 85 ∷ block 86 ∷ [])) (Request (vio first asks.Write phase.Claim 0 0) ∷ []) (physical (block 86 ∷ [])) (Takes first (block 85) ∷ []) ((id.Device, Request (writes phase.Store)) ∷ [])
+claims : Acts (physical (block 85 ∷ block 86 ∷ [])) (Request (vio first asks.Write phase.Claim 0) ∷ []) (physical (block 86 ∷ [])) (Takes first (block 85) ∷ []) ((id.Device, Request (writes phase.Store)) ∷ [])
 claims = takes (PhysicalServes.claims (block 85) (block 86 ∷ []) refl refl refl refl refl)
 
-claims_none : Acts (physical []) (Request (vio first asks.Write phase.Claim 0 0) ∷ []) (physical []) [] ((id.Logical 0, Request (answered reply.Full (vio first asks.Write phase.Abort 0 0))) ∷ [])
+claims_none : Acts (physical []) (Request (vio first asks.Write phase.Claim 0) ∷ []) (physical []) [] ((id.Logical 0, Request (answered reply.Full (vio first asks.Write phase.Abort 0))) ∷ [])
 claims_none = takes (PhysicalServes.is_full refl refl refl refl refl)
 
 -- Store: the data is written, or not
 stores : Acts (device false 6) (Request (writes phase.Store) ∷ []) (device false 7) (Calls (Write (block 85) x true) ∷ []) ((id.Journal, Request (writes phase.Enter)) ∷ [])
-stores = calls (DeviceServes.stores refl refl (omega arith) refl refl refl)
+stores = calls (DeviceServes.stores (block 85) refl refl refl (omega arith) refl refl refl)
 
 stores_in_vain : Acts (device false 6) (Request (writes phase.Store) ∷ []) (device true 6) (Fails first (Write (block 85) x false) true ∷ [])
     ((id.Physical 0, Request (answered reply.Stopped (writes phase.AbortClaim))) ∷ notify)
-stores_in_vain = calls (DeviceServes.store_fails true refl refl (omega arith) refl refl refl)
+stores_in_vain = calls (DeviceServes.store_fails (block 85) true refl refl refl (omega arith) refl refl refl)
 
 stores_no_more : Acts (device true 6) (Request (writes phase.Store) ∷ []) (device true 6) [] ((id.Physical 0, Request (answered reply.Stopped (writes phase.AbortClaim))) ∷ [])
 stores_no_more = calls (DeviceServes.store_unmade refl refl refl refl refl)
@@ -202,15 +225,15 @@ fails = ends (JournalEnds.fails refl refl refl refl)
 
 -- Settle: the slot is set, and the lock goes to the reader
 settles : Acts (logical 3 [] (lock 0 ∷ []) (reads phase.Wait ∷ []) [] []) (Request (writes phase.Settle) ∷ []) (logical 3 [] (lock 2 ∷ []) [] [] (of_first ∷ [])) (Sets of_first ∷ [])
-    ((id.Desk, Request (answered reply.Ok (writes phase.Reply))) ∷ (id.Device, Request (record (reads phase.Load) { old = At (block 85); latest = Some of_first })) ∷ [])
+    ((id.Desk, Request (answered reply.Ok (writes phase.Reply))) ∷ (id.Device, Request (finds phase.Load)) ∷ [])
 settles = serves (LogicalServes.settles _ refl refl refl refl refl)
 
 -- Load: the block is read, or not
-loads : Acts (device true 6) (Request (reads phase.Load) ∷ []) (device true 7) (Calls (Read (block 85) y true) ∷ []) ((id.Logical 0, Request (record (reads phase.Loaded) { bytes = y })) ∷ [])
-loads = calls (DeviceServes.loads y refl (omega arith) refl refl refl)
+loads : Acts (device true 6) (Request (finds phase.Load) ∷ []) (device true 7) (Calls (Read (block 85) y true) ∷ []) ((id.Logical 0, Request (record (finds phase.Loaded) { bytes = y })) ∷ [])
+loads = calls (DeviceServes.loads (block 85) y refl refl (omega arith) refl refl refl)
 
-loads_in_vain : Acts (device false 6) (Request (reads phase.Load) ∷ []) (device false 6) (Fails reader (Read (block 85) y false) true ∷ []) ((id.Logical 0, Request (answered reply.ReadFault (reads phase.Abort))) ∷ [])
-loads_in_vain = calls (DeviceServes.load_fails y true refl (omega arith) refl refl refl)
+loads_in_vain : Acts (device false 6) (Request (finds phase.Load) ∷ []) (device false 6) (Fails reader (Read (block 85) y false) true ∷ []) ((id.Logical 0, Request (answered reply.ReadFault (finds phase.Abort))) ∷ [])
+loads_in_vain = calls (DeviceServes.load_fails (block 85) y true refl refl (omega arith) refl refl refl)
 
 -- Loaded: it is given its bytes, and the lock is free
 gives : Acts (logical 3 [] (lock 2 ∷ []) [] [] []) (Request (reads phase.Loaded) ∷ []) (logical 3 [] [] [] [] []) (Gives (given 2) ∷ []) ((id.Desk, Request (answered (reply.Bytes x) (reads phase.Reply))) ∷ [])
@@ -233,15 +256,15 @@ aborts_entered : Acts (logical 3 [] (lock 0 ∷ []) (reads phase.Wait ∷ []) []
 aborts_entered = serves (LogicalServes.aborts_entered refl refl refl refl)
 
 -- Flush: it returns with its mark, or is stopped
-flushes : Acts (device false 9) (Request (vio flush asks.Flush phase.Flush 0 0) ∷ []) (device false 10) (Calls (Flush true) ∷ [])
-    ((id.Desk, Request (record (vio flush asks.Flush phase.Reply 0 0) { answer = Some reply.Ok; calls = 10 })) ∷ [])
+flushes : Acts (device false 9) (Request (vio flush asks.Flush phase.Flush 0) ∷ []) (device false 10) (Calls (Flush true) ∷ [])
+    ((id.Desk, Request (record (vio flush asks.Flush phase.Reply 0) { answer = Some reply.Ok; calls = 10 })) ∷ [])
 flushes = calls (DeviceServes.flushes refl refl refl refl refl)
 
-flushes_in_vain : Acts (device false 9) (Request (vio flush asks.Flush phase.Flush 0 0) ∷ []) (device true 9) (Fails flush (Flush false) true ∷ [])
-    ((id.Desk, Request (answered reply.Stopped (vio flush asks.Flush phase.Reply 0 0))) ∷ notify)
+flushes_in_vain : Acts (device false 9) (Request (vio flush asks.Flush phase.Flush 0) ∷ []) (device true 9) (Fails flush (Flush false) true ∷ [])
+    ((id.Desk, Request (answered reply.Stopped (vio flush asks.Flush phase.Reply 0))) ∷ notify)
 flushes_in_vain = calls (DeviceServes.flush_fails true refl refl refl refl refl)
 
-flushes_no_more : Acts (device true 9) (Request (vio flush asks.Flush phase.Flush 0 0) ∷ []) (device true 9) [] ((id.Desk, Request (answered reply.Stopped (vio flush asks.Flush phase.Reply 0 0))) ∷ [])
+flushes_no_more : Acts (device true 9) (Request (vio flush asks.Flush phase.Flush 0) ∷ []) (device true 9) [] ((id.Desk, Request (answered reply.Stopped (vio flush asks.Flush phase.Reply 0))) ∷ [])
 flushes_no_more = calls (DeviceServes.flush_unmade refl refl refl refl refl)
 
 -- (stop notice): it is passed on to the desk; in the journal those that wait are aborted, and no entry is handed in any more

@@ -44,9 +44,9 @@ drew_in_other = refl
 
 -- a request that has yet to draw its place, and one that has it
 arrives : Writer → Item
-arrives w = Request (vio w asks.Write phase.Arrive 0 0)
+arrives w = Request (vio w asks.Write phase.Arrive 0)
 
-counted-arrivals_alone : counted arrival (Request (vio first asks.Write phase.Arrive 0 0) ∷ StopNotice ∷ Request (vio second asks.Write phase.Settle 1 86) ∷ []) ≡ first ∷ []
+counted-arrivals_alone : counted arrival (Request (vio first asks.Write phase.Arrive 0) ∷ StopNotice ∷ Request (vio second asks.Write phase.Settle 1) ∷ []) ≡ first ∷ []
 counted-arrivals_alone = refl
 
 -- Three zones: the desk with a lane to zone 1, zone 1 with its inbox, and zone 2 with a lane to zone 1.
@@ -64,7 +64,7 @@ abbrev now : Trace
 now = Draws (place first 0 0) ∷ begun
 
 abbrev one : Writer → List Item
-one w = Request (vio w asks.Write phase.Arrive 0 0) ∷ []
+one w = Request (vio w asks.Write phase.Arrive 0) ∷ []
 
 abbrev InOrder : List Item → List Item → Type 0
 InOrder inbox lane = sent_to_zone session 0 now ≡ drew_in 0 (places now) ++ (counted arrival inbox ++ counted arrival lane)
@@ -107,7 +107,7 @@ flows-not_in_another_order flows = let is = flows.in_order _ _ _ refl refl refl 
 flows-not_lost : Flows (arrivals_at session 0) now (zones (one reader) [] []) → ⊥
 flows-not_lost flows = let is = flows.in_order _ _ _ refl refl refl in absurd cc
 
-flows-not_twice : Flows (arrivals_at session 0) now (zones (one reader) (Request (vio reader asks.Write phase.Arrive 0 0) ∷ one second) []) → ⊥
+flows-not_twice : Flows (arrivals_at session 0) now (zones (one reader) (Request (vio reader asks.Write phase.Arrive 0) ∷ one second) []) → ⊥
 flows-not_twice flows = let is = flows.in_order _ _ _ refl refl refl in absurd cc
 
 flows-not_in_another_order_alone : (n : ℕ) (z : Zone) → slice_get (zones (one second) (one reader) []) n ≡ Some z → (n ≡ 0 → ⊥) → (items : List Item) → slice_get z.ports.outboxes 1 ≡ Some items → counted arrival items ≡ []

@@ -82,7 +82,7 @@ drawn = Draws (place other 1 0) ∷ Draws (place reader 0 2) ∷ Draws (place se
 
 -- the entries of the writes
 abbrev pub entry : Writer → ℕ → ℕ → Mapping → ℕ → Logged
-entry w a n old b = record { request = w; at = address a; place = n; old = old; block = block b }
+entry w a n old b = record { request = w; at = address a; place = n; old = old; new = At (block b) }
 
 abbrev pub of_first : Logged
 of_first = entry first 0 0 Unmapped 85

@@ -1,0 +1,21 @@
+-- Blocks of zeros.
+use Rattle.std.proofs.Common.{◌≡◌, ◌==◌, ◌∙◌, ℕ, true, List, [], ◌∷◌, ap, length, refl, replicate}
+use Rattle.core_laws.proofs.Common.{and_parts, eqb-true, length-replicate}
+use Rattle.blk_base.specs.Sectors.{zero_block}
+use Rattle.core_model.specs.LogicalRows.{are_zeros}
+
+pub zeros_length : length zero_block ≡ 4096
+unfolding zero_block
+zeros_length = length-replicate {A = ℕ} 4096 0
+
+zeros_are : (bytes : List ℕ) → are_zeros bytes ≡ true → bytes ≡ replicate (length bytes) 0
+zeros_are [] is = refl
+zeros_are (b ∷ bytes) is =
+    let both = and_parts (b == 0) (are_zeros bytes) is in
+    let first = eqb-true b 0 both.0 in
+    rw first (ap (λ bs. 0 ∷ bs) (zeros_are bytes both.1))
+
+-- a whole block whose bytes are zeros
+pub zeros_of : (bytes : List ℕ) → length bytes ≡ 4096 → are_zeros bytes ≡ true → bytes ≡ zero_block
+unfolding zero_block
+zeros_of bytes size is = zeros_are bytes is ∙ ap (λ n. replicate n 0) size
