@@ -177,7 +177,7 @@ first_is_kept book page pages first is =
     All-head (IsOfKept book.kept) page pages (subst (λ (ones : List DuePage). All (IsOfKept book.kept) ones) first is.order.due)
 
 -- a list with one more in front, and without the first
-insert_first : {X : Type 0} (ones : List X) (new : X) → insert ones 0 new ≡ new ∷ ones
+pub insert_first : {X : Type 0} (ones : List X) (new : X) → insert ones 0 new ≡ new ∷ ones
 insert_first [] new = refl
 insert_first (one ∷ ones) new = refl
 

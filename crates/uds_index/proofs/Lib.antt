@@ -3,7 +3,8 @@ mod BookLaws
 mod SearchLaws
 mod CacheLaws
 mod LookRows
-mod TagLaws
+mod ListLaws
+mod PlaceLaws
 mod KeepLaws
 mod AddLaws
 mod LoadLaws

@@ -5,7 +5,9 @@ ghost use Rattle.disk_model.specs.Since.{IsUntouched};
 ghost use Rattle.uds_index.specs.Held.{IsPageRead, loaded_page};
 ghost use Rattle.uds_index.specs.Loads.{Holds, Loaded, IsLoadedBook, ReadEach, ReadOne};
 
-use crate::{Uds, Volume};
+use crate::Uds;
+use crate::tags::TagList;
+use crate::volume::Volume;
 use blk_base::{Block, Geometry, Layout};
 use byte_fields::read_u32;
 use disk_model::Disk;
@@ -48,8 +50,11 @@ impl Uds {
         let layout = Layout::of(geometry);
         let pages = NonZeroUsize::new(cache as usize).unwrap_or(NonZeroUsize::MIN);
         let cache = LruCache::new(alloc, pages)?;
+        let places = geometry.index / 4;
+        let mut tags = TagList::new(alloc, 4 * places)?;
         let volume = load_volume(alloc, &layout, device)?;
-        Ok(Uds::over(volume, cache))
+        volume.list_tags(&mut tags);
+        Ok(Uds::over(volume, tags, cache))
     }
 }
 
