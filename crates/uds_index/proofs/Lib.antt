@@ -3,6 +3,7 @@ mod BookLaws
 mod SearchLaws
 mod CacheLaws
 mod LookRows
+mod TagRows
 mod ListLaws
 mod PlaceLaws
 mod KeepLaws

@@ -1,4 +1,4 @@
-ghost use Rattle.std.specs.Prelude.{◌≡◌, ◌+◌, ◌*◌, ◌/◌, ◌<◌, ◌≤◌, ℕ, List, [], None, false, Option, IfOk, IfSome, IfNone, OnErr, length, option_map};
+ghost use Rattle.std.specs.Prelude.{◌≡◌, ◌+◌, ◌*◌, ◌/◌, ◌%◌, ◌<◌, ◌≤◌, ℕ, List, [], None, false, Option, IfOk, IfSome, IfNone, OnErr, length, nat_eq, option_map};
 ghost use Rattle.blk_base.specs.Limits.{IsGeometry};
 ghost use Rattle.blk_base.specs.Regions.{first_index_of, needed_blocks};
 ghost use Rattle.disk_model.specs.Since.{IsUntouched};
@@ -109,7 +109,7 @@ fn held_page(block: &Block, nonce: u64, places: u32, number: u32) -> Option<Load
     ensures none { IfNone result ((page : Loaded) → Holds nonce places number block.now page → ⊥) }
 {
     let chapter = read_u32(&block.bytes, NUMBER);
-    if chapter % places != number / 4 {
+    if !stands_at(chapter, places, number) {
         return None;
     }
     let records = read_page(block, nonce, chapter, (number % 4) as u8)?;
@@ -117,4 +117,12 @@ fn held_page(block: &Block, nonce: u64, places: u32, number: u32) -> Option<Load
         number: chapter,
         records,
     })
+}
+
+// Whether the index block with this number is one of a chapter's.
+fn stands_at(chapter: u32, places: u32, number: u32) -> bool
+    requires { 0 < places }
+    ensures { result ≡ nat_eq (chapter % places) (number / 4) }
+{
+    chapter % places == number / 4
 }

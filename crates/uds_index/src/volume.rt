@@ -229,11 +229,16 @@ fn next_number(kept: &[Chapter]) -> Option<u32>
     }
 }
 
-// Whether two chapters stand in the same index blocks.
+// Whether two chapters stand in the same index blocks. Of other numbers that are near none does, which is told without
+// dividing.
 pub(crate) fn is_same_place(places: u32, number: u32, other: u32) -> bool
     requires { 0 < places }
     ensures { result ≡ is_same_place places number other }
 {
+    let gap = number.abs_diff(other);
+    if 0 < gap && gap < places {
+        return false;
+    }
     number % places == other % places
 }
 
