@@ -2,11 +2,10 @@
 use Rattle.std.specs.Prelude.{ℕ, zero, suc, ◌≡◌, ◌<◌, ◌≤◌, slice_index_or, List, [], ◌∷◌, length, true, refl}
 use Rattle.std.proofs.Common.{ap, arith}
 use Rattle.byte_fields.specs.Fields.{number_at}
-use Rattle.uds_chapters.specs.declared.entry.Record.{Record}
 use Rattle.uds_chapters.specs.Chapters.{Numbered}
 use Rattle.index_advice.specs.Books.{Book}
 use Rattle.uds_index.specs.declared.tags.Tagged.{Tagged}
-use Rattle.uds_index.specs.Tags.{Listed, AreListed, IsListed, AreTagsOf, ArePartedAt, tagged_with, with_tag, with_tags}
+use Rattle.uds_index.specs.Tags.{AreListed, IsListed, AreTagsOf, ArePartedAt, tagged_with, with_tag, with_tags}
 use Rattle.uds_index.proofs.ListLaws.{listed_with, none_listed}
 
 abbrev tagged : ℕ → ℕ → Tagged
