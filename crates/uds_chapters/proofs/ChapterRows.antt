@@ -8,8 +8,6 @@ use Rattle.uds_chapters.specs.declared.entry.Record.{Record}
 use Rattle.uds_chapters.specs.declared.added.Added.TheVariants.{New, Replaced, Full}
 use Rattle.uds_chapters.specs.declared.found.PageFind.TheVariants.{At, Before, After, Absent, NotAPage}
 use Rattle.uds_chapters.specs.Names.{name_cmp, IsBelow, AreRising, IsName, AreSorted}
-use Rattle.uds_chapters.specs.Tags.{some_tag, AreMarked, IsClosed}
-use Rattle.std.proofs.lemmas.Bool.{false≢true}
 use Rattle.uds_chapters.specs.Chapters.{location_of, with_record, Adds, records_in}
 use Rattle.uds_chapters.specs.Finds.{IsUnder, IsOver, Says, location_in}
 use Rattle.uds_chapters.specs.Places.{IsPlaceOf, IsGapFor}
@@ -230,20 +228,3 @@ names_that_fall = λ is. let less = is.rising 0 1 (one 0 0) (omega arith) (omega
 
 names_of_one_byte : ¬ AreSorted (one 2 85 ∷ [])
 names_of_one_byte = λ is. let size = (is.named 0 (one 0 0) (omega arith)).size in omega (arith, size)
-
--- the tags of a chapter
-
-no_tag_is_marked : AreMarked [] []
-no_tag_is_marked = λ k d inside. absurd (omega (arith, inside))
-
-a_tag_without_a_mark : ¬ AreMarked [] (one 2 85 ∷ [])
-a_tag_without_a_mark = λ is. false≢true (is 0 (one 0 0) (omega arith))
-
-a_chapter_not_sorted : (marks : List Bool) → ¬ IsClosed marks (one 2 85 ∷ one 1 86 ∷ [])
-a_chapter_not_sorted marks = λ is. let less = is.sorted.rising 0 1 (one 0 0) (omega arith) (omega arith) in absurd cc
-
-a_chapter_not_marked : ¬ IsClosed [] (one 2 85 ∷ [])
-a_chapter_not_marked = λ is. false≢true (is.marked 0 (one 0 0) (omega arith))
-
-no_record_has_a_tag : (tag : ℕ) → some_tag tag [] ≡ false
-no_record_has_a_tag tag = refl

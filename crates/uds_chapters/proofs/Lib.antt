@@ -2,6 +2,5 @@ pub mod NameLaws
 pub mod RecordLaws
 pub mod PageLaws
 pub mod FindLaws
-mod TagLaws
 mod ChapterRows
 mod PageRows

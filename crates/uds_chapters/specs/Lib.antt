@@ -3,4 +3,3 @@ pub mod Chapters
 pub mod Pages
 pub mod Finds
 pub mod Places
-pub mod Tags

@@ -1,34 +1,30 @@
 ghost use Rattle.std.specs.Prelude.{◌≡◌, ◌<◌, ◌≤◌, ◌↔◌, length};
 ghost use Rattle.uds_chapters.specs.Names.{AreNamed, AreRising, AreSorted};
-ghost use Rattle.std.specs.Prelude.{false};
 ghost use Rattle.uds_chapters.specs.Chapters.{records_in};
-ghost use Rattle.uds_chapters.specs.Tags.{some_tag};
 ghost use Rattle.uds_chapters.specs.Pages.{IsPage};
 
 use crate::Record;
-use crate::marks::{MARKS, marks_of};
 use crate::writing::put_page;
 use arrayvec::ArrayVec;
 use blk_base::Block;
 use std::marker::Model;
 
-/// A closed chapter: its number, and at most 680 records, sorted by name. The tags of its names are marked.
+/// A closed chapter: its number, and at most 680 records, sorted by name.
 #[derive(Drop)]
 pub struct Chapter {
     number: u32,
     records: ArrayVec<Record, 680>,
-    marks: [bool; MARKS],
 }
 
 impl Model for Chapter {
     ghost use Rattle.uds_chapters.specs.Chapters.{Numbered};
-    ghost use Rattle.uds_chapters.specs.Tags.{IsClosed};
+    ghost use Rattle.uds_chapters.specs.Names.{AreSorted};
 
     ghost Value = { Numbered };
 
     ghost view = { λ chapter. record { number = chapter.number; records = chapter.records.items } };
 
-    ghost invariant = { λ chapter. IsClosed chapter.marks chapter.records.items };
+    ghost invariant = { λ chapter. AreSorted chapter.records.items };
 }
 
 impl Chapter {
@@ -36,12 +32,7 @@ impl Chapter {
         requires { AreSorted records.items }
         ensures { result ≡ record { number = number; records = records.items } }
     {
-        let marks = marks_of(records.as_slice());
-        Chapter {
-            number,
-            records,
-            marks,
-        }
+        Chapter { number, records }
     }
 
     /// The number.
@@ -59,13 +50,6 @@ impl Chapter {
         ensures few { length self.now.records ≤ 680 }
     {
         self.records.as_slice()
-    }
-
-    /// Whether some name may have this tag, by the marks alone; where it answers no, none has it.
-    pub fn may_have_tag(&self, tag: u32) -> bool
-        ensures { result ≡ false → some_tag tag self.now.records ≡ false }
-    {
-        self.marks[tag as usize % MARKS]
     }
 
     /// Writes the page `i` of the four pages, for the image with this nonce.

@@ -22,7 +22,6 @@ mod chapter;
 mod entry;
 mod found;
 mod laws;
-mod marks;
 mod open_chapter;
 mod ordered;
 mod reading;

@@ -1,9 +1,10 @@
 -- What learning and closing leave of a book that is kept.
-use Rattle.std.specs.Prelude.{ℕ, ◌≡◌, ◌≢◌, ◌<◌, ◌≤◌, ◌+◌, ◌*◌, ◌%◌, ◌||◌, ◌&&◌, Bool, true, false, not, List, [], ◌∷◌, ◌++◌, length, cond, All, None, Some, IsSome, nat_eq, slice_index_or, refl}
+use Rattle.std.specs.Prelude.{ℕ, ◌≡◌, ◌≢◌, ◌<◌, ◌≤◌, ◌+◌, ◌*◌, ◌/◌, ◌%◌, ◌||◌, ◌&&◌, Bool, true, false, not, List, [], ◌∷◌, ◌++◌, length, cond, All, None, Some, IsSome, nat_eq, slice_index_or, refl}
 use Rattle.std.specs.List.{insert, remove}
-use Rattle.std.proofs.Common.{sym, ◌∙◌, ap, subst, arith, length-append}
-use Rattle.std.proofs.lemmas.Bool.{false≢true, eqb-true, eq-eqb, ne_eqb, lt-ltb, le-ltb, le-leb, lt-leb}
-use Rattle.std.proofs.lemmas.Nat.{mod_below}
+use Rattle.std.proofs.Common.{sym, ◌∙◌, ap, subst, arith, inl, inr, length-append}
+use Rattle.std.proofs.lemmas.Bool.{false≢true, eqb-true, eq-eqb, ne_eqb, lt-ltb, le-ltb, le-leb, lt-leb, cases_eq, cases_lt}
+use Rattle.std.proofs.lemmas.Nat.{mod_below, column_fits}
+use Rattle.std.proofs.Math.Nat.{mod-add-div}
 use Rattle.uds_chapters.specs.declared.entry.Record.{Record}
 use Rattle.uds_chapters.specs.declared.added.Added.TheVariants.{New, Replaced, Full}
 use Rattle.uds_chapters.specs.Chapters.{Adds, Numbered, location_of, with_record, records_in}
@@ -177,7 +178,7 @@ first_is_kept book page pages first is =
     All-head (IsOfKept book.kept) page pages (subst (λ (ones : List DuePage). All (IsOfKept book.kept) ones) first is.order.due)
 
 -- a list with one more in front, and without the first
-insert_first : {X : Type 0} (ones : List X) (new : X) → insert ones 0 new ≡ new ∷ ones
+pub insert_first : {X : Type 0} (ones : List X) (new : X) → insert ones 0 new ≡ new ∷ ones
 insert_first [] new = refl
 insert_first (one ∷ ones) new = refl
 
@@ -254,3 +255,29 @@ has_due book page pages block chapter number i next n p found filled = record {
   filled = subst (λ (j : ℕ). IsPage book.nonce page.number j block (records_in j chapter.records)) p
       (subst (λ (m : ℕ). IsPage book.nonce m i block (records_in i chapter.records)) (found_number number book.kept chapter found ∙ n) filled);
 }
+
+-- numbers that are near, and aren't the same, stand at other places
+near : (places low high : ℕ) → low < high → high < low + places → low % places ≡ high % places → ⊥
+near places low high above below same = elim (cases_lt (low / places) (high / places)) [
+  | inl less ↦
+      let first = mod-add-div low places in let second = mod-add-div high places in
+      let room = column_fits places (low / places) places (high / places) less (omega arith) in
+      omega (arith, first, second, room, below, same)
+  | inr over ↦ elim (cases_eq (low / places) (high / places)) [
+    | inl equal ↦
+        let first = mod-add-div low places in let second = mod-add-div high places in
+        let product = ap (λ (n : ℕ). places * n) equal in
+        omega (arith, first, second, product, above, same)
+    | inr apart ↦
+        let first = mod-add-div low places in let second = mod-add-div high places in
+        let room = column_fits places (high / places) places (low / places) (omega (arith, over, apart)) (omega arith) in
+        omega (arith, first, second, room, above, same)
+  ]
+]
+
+pub near_apart : (places number other : ℕ) → number ≢ other → (other ≤ number → number < other + places) → (number ≤ other → other < number + places)
+    → false ≡ nat_eq (number % places) (other % places)
+near_apart places number other apart up down = sym (ne_eqb (number % places) (other % places) (λ same. elim (cases_lt number other) [
+  | inl less ↦ near places number other less (down (omega (arith, less))) same
+  | inr more ↦ near places other number (omega (arith, more, apart)) (up more) (sym same)
+]))

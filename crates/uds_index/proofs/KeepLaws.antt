@@ -17,10 +17,10 @@ pub or-true : (b : Bool) → (b || true) ≡ true
 or-true true = refl
 or-true false = refl
 
-newer_head : (one : Numbered) (ones : List Numbered) → AllPairs IsNewer (one ∷ ones) → All (IsNewer one) ones
+pub newer_head : (one : Numbered) (ones : List Numbered) → AllPairs IsNewer (one ∷ ones) → All (IsNewer one) ones
 newer_head one ones pairs = λ k d inside. pairs 0 (suc k) d (omega arith) (omega arith)
 
-newer_tail : (one : Numbered) (ones : List Numbered) → AllPairs IsNewer (one ∷ ones) → AllPairs IsNewer ones
+pub newer_tail : (one : Numbered) (ones : List Numbered) → AllPairs IsNewer (one ∷ ones) → AllPairs IsNewer ones
 newer_tail one ones pairs = λ i j d before inside. pairs (suc i) (suc j) d (omega arith) (omega arith)
 
 -- what holds of all chapters with other numbers, and of the new one, holds of all then

@@ -3,7 +3,9 @@ mod BookLaws
 mod SearchLaws
 mod CacheLaws
 mod LookRows
-mod TagLaws
+mod TagRows
+mod ListLaws
+mod PlaceLaws
 mod KeepLaws
 mod AddLaws
 mod LoadLaws

@@ -14,7 +14,6 @@ use Rattle.uds_chapters.specs.Pages.{page_bytes, IsPage}
 use Rattle.uds_chapters.proofs.PageLaws.{page_read}
 use Rattle.index_advice.specs.Books.{Book, DuePage}
 use Rattle.index_advice.specs.Orders.{IsNewer}
-use Rattle.uds_index.specs.Least.{IsFrom}
 use Rattle.uds_index.specs.Loads.{Loaded, Holds, ArePages, pages_with, loaded_location, IsLoaded, HasChapter, IsLoadedBook, ReadOne, ReadEach}
 use Rattle.uds_index.specs.Held.{records_of, with_chapter}
 
@@ -136,10 +135,3 @@ a_chapter_replaced = refl
 
 the_records_of_its_number : records_of 5 (chapter 7 [] ∷ chapter 5 (one 1 85 ∷ []) ∷ []) ≡ one 1 85 ∷ []
 the_records_of_its_number = refl
-
--- the first record whose name isn't below one
-one_too_early : ¬ IsFrom (one 1 85 ∷ one 3 86 ∷ []) (2 ∷ []) 0
-one_too_early = λ is. is.high 0 (one 0 0) (omega arith) (omega arith) refl
-
-one_too_late : ¬ IsFrom (one 1 85 ∷ one 3 86 ∷ []) (2 ∷ []) 2
-one_too_late = λ is. let low = is.low 1 (one 0 0) (omega arith) in absurd cc

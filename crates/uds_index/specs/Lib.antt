@@ -2,5 +2,5 @@ pub mod Rooms
 pub mod Places
 pub mod Loads
 pub mod Looks
-pub mod Least
+pub mod Tags
 pub mod Held

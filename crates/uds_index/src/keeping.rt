@@ -1,7 +1,8 @@
-ghost use Rattle.std.specs.Prelude.{◌≡◌, ◌≢◌, ◌+◌, ◌<◌, ◌≤◌, ℕ, List, AllPairs, IfSome, IfNone, length, slice_index_or, vec_capacity};
+ghost use Rattle.std.specs.Prelude.{◌≡◌, ◌≢◌, ◌+◌, ◌<◌, ◌≤◌, ℕ, List, AllPairs, IfSome, IfNone, length, option_copied, slice_index_or, vec_capacity};
 ghost use Rattle.std.specs.Option.{option_or};
 ghost use Rattle.uds_chapters.specs.Chapters.{Numbered, location_of};
 ghost use Rattle.uds_chapters.specs.Names.{AreRising};
+ghost use Rattle.index_advice.specs.Books.{chapter_of};
 ghost use Rattle.index_advice.specs.Orders.{IsNewer};
 ghost use Rattle.uds_index.specs.Held.{HasRecordsAt, IsJoined, IsPlaceAmong, KeepsPage, records_of, with_chapter};
 
@@ -32,16 +33,25 @@ pub(crate) fn keep_page(kept: &mut Vec<Chapter>, number: u32, page: &[Record])
     }
 }
 
+// The chapter with this number, which is found by halving.
+pub(crate) fn chapter_of(kept: &[Chapter], number: u32) -> Option<&Chapter>
+    requires { AllPairs IsNewer kept.now }
+    ensures { option_copied result ≡ chapter_of number kept.now }
+{
+    let chapter = kept.get(place_among(kept, number))?;
+    if chapter.number() == number {
+        Some(chapter)
+    } else {
+        None
+    }
+}
+
 // The place of the first chapter that isn't newer than this number, or behind the last.
 fn place_among(kept: &[Chapter], number: u32) -> usize
+    requires { AllPairs IsNewer kept.now }
     ensures { IsPlaceAmong number kept.now result }
 {
-    for (place, chapter) in kept.iter().enumerate() {
-        if chapter.number() <= number {
-            return place;
-        }
-    }
-    kept.len()
+    kept.partition_point(|chapter| chapter.number() > number)
 }
 
 // The records of the chapter at a place, if it has this number.

@@ -6,9 +6,8 @@ mod keeping;
 mod loading;
 mod page;
 mod searching;
+mod tags;
 mod uds;
 mod volume;
 
-pub use page::Page;
 pub use uds::Uds;
-pub use volume::Volume;

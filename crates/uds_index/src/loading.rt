@@ -1,11 +1,13 @@
-ghost use Rattle.std.specs.Prelude.{◌≡◌, ◌+◌, ◌*◌, ◌/◌, ◌<◌, ◌≤◌, ℕ, List, [], None, false, Option, IfOk, IfSome, IfNone, OnErr, length, option_map};
+ghost use Rattle.std.specs.Prelude.{◌≡◌, ◌+◌, ◌*◌, ◌/◌, ◌%◌, ◌<◌, ◌≤◌, ℕ, List, [], None, false, Option, IfOk, IfSome, IfNone, OnErr, length, nat_eq, option_map};
 ghost use Rattle.blk_base.specs.Limits.{IsGeometry};
 ghost use Rattle.blk_base.specs.Regions.{first_index_of, needed_blocks};
 ghost use Rattle.disk_model.specs.Since.{IsUntouched};
 ghost use Rattle.uds_index.specs.Held.{IsPageRead, loaded_page};
 ghost use Rattle.uds_index.specs.Loads.{Holds, Loaded, IsLoadedBook, ReadEach, ReadOne};
 
-use crate::{Uds, Volume};
+use crate::Uds;
+use crate::tags::TagList;
+use crate::volume::Volume;
 use blk_base::{Block, Geometry, Layout};
 use byte_fields::read_u32;
 use disk_model::Disk;
@@ -48,8 +50,11 @@ impl Uds {
         let layout = Layout::of(geometry);
         let pages = NonZeroUsize::new(cache as usize).unwrap_or(NonZeroUsize::MIN);
         let cache = LruCache::new(alloc, pages)?;
+        let places = geometry.index / 4;
+        let mut tags = TagList::new(alloc, 4 * places)?;
         let volume = load_volume(alloc, &layout, device)?;
-        Ok(Uds::over(volume, cache))
+        volume.list_tags(&mut tags);
+        Ok(Uds::over(volume, tags, cache))
     }
 }
 
@@ -104,7 +109,7 @@ fn held_page(block: &Block, nonce: u64, places: u32, number: u32) -> Option<Load
     ensures none { IfNone result ((page : Loaded) → Holds nonce places number block.now page → ⊥) }
 {
     let chapter = read_u32(&block.bytes, NUMBER);
-    if chapter % places != number / 4 {
+    if !stands_at(chapter, places, number) {
         return None;
     }
     let records = read_page(block, nonce, chapter, (number % 4) as u8)?;
@@ -112,4 +117,12 @@ fn held_page(block: &Block, nonce: u64, places: u32, number: u32) -> Option<Load
         number: chapter,
         records,
     })
+}
+
+// Whether the index block with this number is one of a chapter's.
+fn stands_at(chapter: u32, places: u32, number: u32) -> bool
+    requires { 0 < places }
+    ensures { result ≡ nat_eq (chapter % places) (number / 4) }
+{
+    chapter % places == number / 4
 }

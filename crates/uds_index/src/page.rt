@@ -4,7 +4,7 @@ use std::marker::Model;
 
 /// A page of a chapter that is to be written.
 #[derive(Clone, Copy, Debug, PartialEq, Eq)]
-pub struct Page {
+pub(crate) struct Page {
     number: u32,
     page: u8,
 }
@@ -21,21 +21,21 @@ impl Model for Page {
 
 impl Page {
     /// This page, 0 to 3, of the chapter with this number.
-    pub fn new(number: u32, page: u8) -> Page
+    pub(crate) fn new(number: u32, page: u8) -> Page
         ensures { result ≡ record { number = number; page = page } }
     {
         Page { number, page }
     }
 
     /// The chapter's number.
-    pub fn number(self) -> u32
+    pub(crate) fn number(self) -> u32
         ensures { result ≡ self.number }
     {
         self.number
     }
 
     /// The page, 0 to 3.
-    pub fn page(self) -> u8
+    pub(crate) fn page(self) -> u8
         ensures { result ≡ self.page }
     {
         self.page

@@ -1,26 +1,26 @@
-ghost use Rattle.std.specs.Prelude.{◌≡◌, ◌+◌, ◌*◌, ◌%◌, ◌<◌, ◌≤◌, ◌^◌, ◌↔◌, ◌⊎◌, IsTrue, length, take, filter, nat_eq, All};
+ghost use Rattle.std.specs.Prelude.{◌≡◌, ◌+◌, ◌*◌, ◌%◌, ◌<◌, ◌≤◌, ◌^◌, ◌↔◌, ◌⊎◌, IsTrue, length, take, filter, nat_eq, All, AllPairs};
 ghost use Rattle.std.specs.Map.{keys_of};
 ghost use Rattle.block_names.specs.Names.{tag_of};
 ghost use Rattle.uds_chapters.specs.Chapters.{Numbered};
 ghost use Rattle.index_advice.specs.Books.{has_tag, first_location};
-ghost use Rattle.uds_chapters.specs.Names.{AreRising};
-ghost use Rattle.uds_index.specs.Least.{least_name, IsFrom};
+ghost use Rattle.uds_index.specs.Tags.{AreListed};
 ghost use Rattle.uds_index.specs.Looks.{IsPageAt, IsNew, FindsKept, place_of_block};
-ghost use Rattle.index_advice.specs.Orders.{IsChapter};
+ghost use Rattle.index_advice.specs.Orders.{IsChapter, IsNewer};
 ghost use Rattle.uds_index.specs.Rooms.{count_at};
 
+use crate::keeping::chapter_of;
+use crate::tags::TagList;
 use blk_base::Pbn;
 use block_names::{Name, tag};
-use byte_fields::put_u32;
 use index_advice::Look;
 use lru::LruCache;
-use uds_chapters::{Chapter, Record, location, place_of};
+use uds_chapters::{Chapter, location, place_of};
 
 /// How many records a page has.
 const PAGE_RECORDS: usize = 170;
 
 /// How many chapters a look searches at most.
-const SEARCHED: u32 = 4;
+const SEARCHED: usize = 4;
 
 /// How many pages a look asks for at most, and how many of one chapter.
 const ASKED: usize = 12;
@@ -41,6 +41,7 @@ pub(crate) struct Region {
 pub(crate) fn find_kept(
     region: Region,
     kept: &[Chapter],
+    tags: &TagList,
     name: &Name,
     cache: &LruCache<u32, ()>,
     given: &[u32],
@@ -48,61 +49,25 @@ pub(crate) fn find_kept(
     requires some { 0 < region.places }
     requires blocks { region.first + 4 * region.places < 2 ^ 32 }
     requires chapters { All IsChapter kept.now }
+    requires order { AllPairs IsNewer kept.now }
+    requires listed { AreListed kept.now tags.now.tags }
     ensures { FindsKept region.first region.places (take 4 (filter (has_tag (tag_of name.now)) kept.now)) (keys_of cache.now.entries) given.now name.now result }
 {
-    let tag = tag(name);
-    let mut left = SEARCHED;
-    for chapter in kept {
-        if left == 0 {
-            return Look::Nothing;
+    let tagged = tags.with_tag(tag(name));
+    let newest = &tagged[..tagged.len().min(SEARCHED)];
+    for one in newest {
+        let Some(chapter) = chapter_of(kept, one.number) else {
+            unreachable!()
+        };
+        let at = page_of(region, chapter, name);
+        if may_read(region.first, at, cache, given) {
+            return Look::Read(Pbn(at));
         }
-        if has_tag(chapter, tag) {
-            left -= 1;
-            let at = page_of(region, chapter, name);
-            if may_read(region.first, at, cache, given) {
-                return Look::Read(Pbn(at));
-            }
-            if let Some(at) = location(chapter.records(), name) {
-                return Look::Known(at);
-            }
+        if let Some(at) = location(chapter.records(), name) {
+            return Look::Known(at);
         }
     }
     Look::Nothing
-}
-
-// Whether a chapter has a name with the tag. Where its marks don't tell, such names stand together, and the first of them is
-// found by halving.
-fn has_tag(chapter: &Chapter, wanted: u32) -> bool
-    ensures { result ≡ has_tag wanted chapter.now }
-{
-    if !chapter.may_have_tag(wanted) {
-        return false;
-    }
-    let records = chapter.records();
-    match records.get(first_not_below(records, &least_name(wanted))) {
-        Some(record) => tag(&record.name) == wanted,
-        None => false,
-    }
-}
-
-// The place of the first record whose name isn't below this one, or behind the last.
-fn first_not_below(records: &[Record], least: &Name) -> usize
-    requires { AreRising records.now }
-    ensures { IsFrom records.now least.now result }
-{
-    match place_of(records, least) {
-        Ok(place) => place,
-        Err(place) => place,
-    }
-}
-
-// The least name with a tag.
-fn least_name(tag: u32) -> Name
-    ensures { result ≡ least_name tag }
-{
-    let mut bytes = [0; 16];
-    put_u32(&mut bytes, 0, tag);
-    Name::new(bytes)
 }
 
 // The index block of the page on which a name stands in a chapter, or would stand.

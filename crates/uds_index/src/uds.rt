@@ -1,8 +1,10 @@
 ghost use Rattle.std.specs.Prelude.{◌≡◌, [], None, Some, false, not, length, is_none};
 ghost use Rattle.std.specs.Map.{keys_of};
 ghost use Rattle.uds_index.specs.Looks.{Caches, IsCached, IsGiven, at_rest};
+ghost use Rattle.uds_index.specs.Tags.{IsListed};
 
-use crate::Volume;
+use crate::tags::TagList;
+use crate::volume::Volume;
 use arrayvec::ArrayVec;
 use blk_base::{Block, Pbn};
 use block_names::Name;
@@ -15,6 +17,8 @@ use std::marker::Model;
 #[derive(Drop)]
 pub struct Uds {
     volume: Volume,
+    // The tags of its chapters.
+    tags: TagList,
     // The index blocks that were read lately.
     cache: LruCache<u32, ()>,
     // Of the look that is under way.
@@ -26,22 +30,28 @@ pub struct Uds {
 impl Model for Uds {
     ghost use Rattle.std.specs.Map.{keys_of};
     ghost use Rattle.uds_index.specs.Looks.{Index, AsksFew};
+    ghost use Rattle.uds_index.specs.Tags.{IsListed};
 
     ghost Value = { Index };
 
     ghost view = { λ u. record { book = u.volume; cached = keys_of u.cache.entries; asked = u.asked; given = u.given.items; unread = u.unread } };
 
-    ghost invariant = { λ u. AsksFew (record { book = u.volume; cached = keys_of u.cache.entries; asked = u.asked; given = u.given.items; unread = u.unread }) };
+    ghost invariant = { λ u. record {
+      few : AsksFew (record { book = u.volume; cached = keys_of u.cache.entries; asked = u.asked; given = u.given.items; unread = u.unread });
+      listed : IsListed u.volume u.tags;
+    } };
 }
 
 impl Uds {
     // An index over this book, with an empty cache.
-    pub(crate) fn over(volume: Volume, cache: LruCache<u32, ()>) -> Uds
-        requires { cache.entries ≡ [] }
+    pub(crate) fn over(volume: Volume, tags: TagList, cache: LruCache<u32, ()>) -> Uds
+        requires listed { IsListed volume tags }
+        requires empty { cache.entries ≡ [] }
         ensures { result ≡ record { book = volume; cached = []; asked = None; given = []; unread = false } }
     {
         Uds {
             volume,
+            tags,
             cache,
             asked: None,
             given: ArrayVec::new(),
@@ -81,7 +91,8 @@ impl Advisor for Uds {
         let found = if self.unread {
             Look::Nothing
         } else {
-            self.volume.find(name, &self.cache, self.given.as_slice())
+            self.volume
+                .find(&self.tags, name, &self.cache, self.given.as_slice())
         };
         match found {
             Look::Read(at) => self.asked = Some(at.0),
@@ -108,7 +119,7 @@ impl Advisor for Uds {
         ensures book { Leads self.old.book (Learnt name.now at) self.new.book }
         ensures same { SameLook self.old self.new }
     {
-        self.volume.learn(name, at);
+        self.volume.learn(&mut self.tags, name, at);
     }
 
     fn write_due(&mut self, into: &mut Block) -> Option<Pbn>
@@ -124,7 +135,7 @@ impl Advisor for Uds {
         ensures book { Leads self.old.book Finished self.new.book }
         ensures same { SameLook self.old self.new }
     {
-        self.volume.finish();
+        self.volume.finish(&mut self.tags);
     }
 }
 

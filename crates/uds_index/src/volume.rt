@@ -1,17 +1,19 @@
-ghost use Rattle.std.specs.Prelude.{◌≡◌, ◌+◌, ◌*◌, ◌%◌, ◌<◌, ◌≤◌, ◌^◌, [], ◌∷◌, ◌++◌, length, IfOk, IfSome, IfNone, vec_len, vec_capacity, option_copied};
+ghost use Rattle.std.specs.Prelude.{◌≡◌, ◌+◌, ◌*◌, ◌%◌, ◌<◌, ◌≤◌, ◌^◌, [], ◌∷◌, ◌++◌, length, IfOk, IfSome, IfNone, vec_len, vec_capacity};
 ghost use Rattle.uds_chapters.specs.Chapters.{Numbered};
-ghost use Rattle.index_advice.specs.Books.{number_after, chapter_of, chapters_elsewhere, pages_elsewhere, pages_of, closed, added, learnt, finished, has_room, is_same_place, block_of};
+ghost use Rattle.index_advice.specs.Books.{number_after, chapters_elsewhere, pages_elsewhere, pages_of, closed, added, learnt, finished, has_room, is_same_place, block_of};
 ghost use Rattle.std.specs.Map.{keys_of};
 ghost use Rattle.uds_chapters.specs.Names.{AreRising};
 ghost use Rattle.uds_index.specs.Held.{KeepsPage, records_of};
 ghost use Rattle.uds_index.specs.Looks.{Finds};
 ghost use Rattle.uds_index.specs.Rooms.{count_at, place_of_chapter};
+ghost use Rattle.uds_index.specs.Tags.{AreListed, IsListed};
 ghost use Rattle.index_advice.specs.Advices.{TakesDue, HasDuePage};
 ghost use Rattle.index_advice.specs.declared.advice.Advice.TheVariants.{Due};
 
-use crate::Page;
-use crate::keeping::keep_page;
+use crate::keeping::{chapter_of, keep_page};
+use crate::page::Page;
 use crate::searching::{Region, find_kept};
+use crate::tags::TagList;
 use blk_base::{Block, Pbn};
 use block_names::Name;
 use index_advice::Look;
@@ -26,7 +28,7 @@ const LAST: u32 = 4_294_967_294;
 /// What the index knows, which contracts see as its book. There is room for all that it will keep, so that no call asks for
 /// memory.
 #[derive(Drop)]
-pub struct Volume {
+pub(crate) struct Volume {
     nonce: u64,
     first: u32,
     places: u32,
@@ -53,7 +55,12 @@ impl Model for Volume {
 
 impl Volume {
     /// No chapter: `places` places for chapters, in four index blocks each, from the block `first` on.
-    pub fn new(alloc: Global, nonce: u64, first: u32, places: u32) -> Result<Volume, AllocError>
+    pub(crate) fn new(
+        alloc: Global,
+        nonce: u64,
+        first: u32,
+        places: u32,
+    ) -> Result<Volume, AllocError>
         requires some { 0 < places }
         requires blocks { first + 4 * places < 2 ^ 32 }
         ensures { IfOk result (λ volume. volume ≡ record { nonce = nonce; first = first; places = places; kept = []; unclosed = []; due = [] }) }
@@ -73,8 +80,10 @@ impl Volume {
 
     /// Learns that a block with this name is stored here. Where the open chapter has 680 other names it is closed first; but
     /// while pages are to be written, and behind the last number, nothing is learnt.
-    pub fn learn(&mut self, name: &Name, at: Pbn)
-        ensures { self.new ≡ learnt (record { name = name.now; at = at }) self.old }
+    pub(crate) fn learn(&mut self, tags: &mut TagList, name: &Name, at: Pbn)
+        requires listed { IsListed self.old tags.old }
+        ensures learnt { self.new ≡ learnt (record { name = name.now; at = at }) self.old }
+        ensures listed { IsListed self.new tags.new }
     {
         let Some(number) = next_number(&self.kept) else {
             return;
@@ -83,7 +92,7 @@ impl Volume {
             Added::New | Added::Replaced => {}
             Added::Full => {
                 if self.due.is_empty() {
-                    self.close(number);
+                    self.close(tags, number);
                     self.add(name, at);
                 }
             }
@@ -91,19 +100,21 @@ impl Volume {
     }
 
     /// Closes the open chapter, if it has a record and a number, so that its pages are to be written.
-    pub fn finish(&mut self)
-        ensures { self.new ≡ finished self.old }
+    pub(crate) fn finish(&mut self, tags: &mut TagList)
+        requires listed { IsListed self.old tags.old }
+        ensures finished { self.new ≡ finished self.old }
+        ensures listed { IsListed self.new tags.new }
     {
         let Some(number) = next_number(&self.kept) else {
             return;
         };
         if !self.unclosed.records().is_empty() {
-            self.close(number);
+            self.close(tags, number);
         }
     }
 
     /// The next page that is to be written, and its block; `None` exactly where there is none.
-    pub fn write_due(&mut self, into: &mut Block) -> Option<Pbn>
+    pub(crate) fn write_due(&mut self, into: &mut Block) -> Option<Pbn>
         ensures some { IfSome result (λ at. TakesDue self.old self.new at.0) }
         ensures filled { IfSome result (λ at. HasDuePage self.old into.new) }
         ensures none { IfNone result ((self.old.due ≡ []) × (self.new ≡ self.old)) }
@@ -143,15 +154,31 @@ impl Volume {
         }
     }
 
+    /// Lists the tags of all chapters that are kept.
+    pub(crate) fn list_tags(&self, tags: &mut TagList)
+        requires none { tags.old.tags ≡ [] }
+        requires room { 2720 * self.now.places ≤ tags.old.room }
+        ensures { IsListed self.now tags.new }
+    {
+        list_all(&self.kept, tags);
+    }
+
     /// How many chapters are kept.
-    pub fn chapters(&self) -> u32
+    pub(crate) fn chapters(&self) -> u32
         ensures { result ≡ length self.now.kept }
     {
         self.kept.len() as u32
     }
 
     /// What is known of a name, where the pages of these blocks are cached, and these were given in the look that is under way.
-    pub(crate) fn find(&self, name: &Name, cache: &LruCache<u32, ()>, given: &[u32]) -> Look
+    pub(crate) fn find(
+        &self,
+        tags: &TagList,
+        name: &Name,
+        cache: &LruCache<u32, ()>,
+        given: &[u32],
+    ) -> Look
+        requires { IsListed self.now tags.now }
         ensures { Finds self.now (keys_of cache.now.entries) given.now name.now result }
     {
         match location(self.unclosed.records(), name) {
@@ -161,20 +188,24 @@ impl Volume {
                     first: self.first,
                     places: self.places,
                 };
-                find_kept(region, &self.kept, name, cache, given)
+                find_kept(region, &self.kept, tags, name, cache, given)
             }
         }
     }
 
     // Closes the open chapter under this number, in place of what stood in its index blocks.
-    fn close(&mut self, number: u32)
-        requires { number ≡ number_after self.old.kept }
-        ensures { self.new ≡ closed self.old }
+    fn close(&mut self, tags: &mut TagList, number: u32)
+        requires number { number ≡ number_after self.old.kept }
+        requires listed { IsListed self.old tags.old }
+        ensures closed { self.new ≡ closed self.old }
+        ensures listed { IsListed self.new tags.new }
     {
         let places = self.places;
         leave_out_chapters(&mut self.kept, places, number);
         leave_out_pages(&mut self.due, places, number);
+        tags.leave_out(places, number);
         let chapter = self.unclosed.close(number);
+        tags.add(&chapter);
         let Ok(()) = self.kept.insert(0, chapter) else {
             unreachable!()
         };
@@ -198,11 +229,16 @@ fn next_number(kept: &[Chapter]) -> Option<u32>
     }
 }
 
-// Whether two chapters stand in the same index blocks.
-fn is_same_place(places: u32, number: u32, other: u32) -> bool
+// Whether two chapters stand in the same index blocks. Of other numbers that are near none does, which is told without
+// dividing.
+pub(crate) fn is_same_place(places: u32, number: u32, other: u32) -> bool
     requires { 0 < places }
     ensures { result ≡ is_same_place places number other }
 {
+    let gap = number.abs_diff(other);
+    if 0 < gap && gap < places {
+        return false;
+    }
     number % places == other % places
 }
 
@@ -238,9 +274,15 @@ fn push_pages(due: &mut Vec<Page>, number: u32)
     due.push_reserved(Page::new(number, 3));
 }
 
-// The chapter with this number.
-fn chapter_of(kept: &[Chapter], number: u32) -> Option<&Chapter>
-    ensures { option_copied result ≡ chapter_of number kept.now }
+// Lists the tags of these chapters, the oldest first.
+fn list_all(kept: &[Chapter], tags: &mut TagList)
+    requires none { tags.old.tags ≡ [] }
+    requires room { 680 * length kept.now ≤ tags.old.room }
+    ensures listed { AreListed kept.now tags.new.tags }
+    ensures room { tags.new.room ≡ tags.old.room }
 {
-    kept.iter().find(|chapter| chapter.number() == number)
+    let count = kept.len();
+    for listed in 0..count {
+        tags.add(&kept[count - 1 - listed]);
+    }
 }

@@ -18,5 +18,5 @@ returns c =
       spelled = c.put_page.ensures.spelled ∙ ap₂ (λ (n : ℕ) (rs : List Record). page_bytes c.args.nonce n i rs) number same;
       few = subst (λ (rs : List Record). length rs ≤ 170) same c.part-records.ensures.few;
       held = subst (λ (rs : List Record). All HoldsRecord rs) same c.put_page.ensures.held;
-      rising = subst (λ (rs : List Record). AreRising (records_in i rs)) own (rising_in i c.self.inside.records.items c.self.invariant.sorted.rising);
+      rising = subst (λ (rs : List Record). AreRising (records_in i rs)) own (rising_in i c.self.inside.records.items c.self.invariant.rising);
     }
