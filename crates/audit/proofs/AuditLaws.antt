@@ -6,7 +6,7 @@ use Rattle.blk_base.specs.declared.geometry.Geometry.{Geometry}
 use Rattle.blk_base.specs.declared.geometry.Super.{Super as Superblock}
 use Rattle.blk_base.specs.declared.layout.DataPlace.{DataPlace}
 use Rattle.blk_base.specs.declared.journal_entry.CommittedEntry.{CommittedEntry}
-use Rattle.count_updates.specs.Numbers.{all_blocks, block_number}
+use Rattle.count_updates.specs.Numbers.{all_blocks, all_sectors, block_number}
 use Rattle.disk_model.specs.Log.{Blocks, block_at}
 use Rattle.disk_model.specs.Seen.{Seen}
 use Rattle.blk_base.specs.Limits.{IsGeometry}
@@ -71,6 +71,11 @@ pub counts_size : (tells honest : Bool) (g : Geometry) (window : List CommittedE
     → AreCountsRead tells honest g window before now counts sectors → length counts ≡ all_blocks g
 counts_size tells honest g window before now counts sectors (reads, read, has) =
     (has (listed (read_at g reads) 0 (needed_blocks g)) (slab_shown g reads)).blocks
+
+pub sectors_size : (tells honest : Bool) (g : Geometry) (window : List CommittedEntry) (before now : Seen) (counts : List ℕ) (sectors : List SectorPoints)
+    → AreCountsRead tells honest g window before now counts sectors → length sectors ≡ all_sectors g
+sectors_size tells honest g window before now counts sectors (reads, read, has) =
+    (has (listed (read_at g reads) 0 (needed_blocks g)) (slab_shown g reads)).sizes
 
 module _ (tells honest : Bool) (head : Superblock) (window : WindowState) (before middle now : Seen) where
   pub audited : (map : RecoveredMap) (counts : List ℕ) (sectors : List SectorPoints) (report : Report) → IsMapRead tells honest head.geometry window before middle map

@@ -65,11 +65,28 @@ module _ (blocks : Blocks) (sound : IsSound blocks) (named : sound.head.geometry
   each_stands (call ∷ older) parts =
       (stands_part (call ∷ older) parts, stands_part (as_failed call ∷ older) (failed_part call parts.0, parts.1), each_stands older parts.1)
 
-  puts_part : (calls : List Call) → AllByRecursion (Puts (IsFullBlock blocks sound named)) calls → Parts calls
+  pub puts_part : (calls : List Call) → AllByRecursion (Puts (IsFullBlock blocks sound named)) calls → Parts calls
   puts_part [] full = tt
   puts_part (Read at bytes ok ∷ calls) full = (tt, puts_part calls full.1)
   puts_part (Flush ok ∷ calls) full = (tt, puts_part calls full.1)
   puts_part (Write at bytes ok ∷ calls) full = (full_block_is_part blocks sound named at.0 bytes full.0, puts_part calls full.1)
+
+  -- a first part of the writes, and one more call that failed
+  pub part_kept : (calls : List Call) → AllByRecursion (IsPut image) calls → AtEach Stands calls
+  part_kept calls each = each_stands calls (puts_part calls (puts_full blocks sound named calls each))
+
+  pub cut_kept : (calls : List Call) (call : Call) → AllByRecursion (IsPut image) calls → IsPut image call ⊎ (call ≡ Flush true) → AtEach Stands (as_failed call ∷ calls)
+  cut_kept calls call each (inl is) =
+      let full = puts_full blocks sound named (call ∷ calls) (is, each) in
+      each_stands (as_failed call ∷ calls) (failed_part call (puts_part (call ∷ calls) full).0, puts_part calls full.1)
+  cut_kept calls call each (inr is) =
+      subst (λ (other : Call). AtEach Stands (as_failed other ∷ calls)) (sym is) (each_stands (Flush false ∷ calls) (tt, puts_part calls (puts_full blocks sound named calls each)))
+
+  -- On a device on which nothing was pending.
+  pub each_kept : (opening : Blocks) (first calls newer older : List Call) (now : Blocks) → HasOneImage opening first blocks → AtEach Stands calls → calls ≡ newer ++ older
+      → IsImage opening (older ++ first) now → AreKept image now
+  each_kept opening first calls newer older now one each parts is =
+      at_moment Stands calls newer older each parts now (one_image-later opening first older blocks now one is)
 
   -- While the superblock is written.
 

@@ -1,15 +1,17 @@
 -- The laws of recovery as they are promised.
-use Rattle.std.proofs.Common.{ℕ, ◌≡◌, ◌<◌, List, [], ◌∷◌, ◌++◌, length, refl, sym, ◌∙◌, ap, subst, arith, append_assoc}
+use Rattle.std.proofs.Common.{ℕ, ◌≡◌, ◌⊎◌, ◌<◌, true, List, [], ◌∷◌, ◌++◌, length, refl, sym, ◌∙◌, ap, subst, arith, append_assoc}
+use Rattle.std.specs.List.{AllByRecursion}
 use Rattle.blk_base.specs.declared.geometry.Geometry.{Geometry}
 use Rattle.disk_model.specs.declared.call.Call.{Call}
+use Rattle.disk_model.specs.declared.call.Call.TheVariants.{Flush}
 use Rattle.disk_model.specs.Images.{IsImage, HasOneImage}
 use Rattle.disk_model.specs.Log.{Blocks, block_at}
 use Rattle.image_format.specs.Runs.{as_failed}
 use Rattle.image_model.specs.Maps.{Image}
 use Rattle.image_model.specs.Sound.{IsDataPlace}
-use Rattle.recovery_laws.specs.Calls.{ArePuts, recovery_calls}
+use Rattle.recovery_laws.specs.Calls.{ArePuts, IsPut, recovery_calls}
 use Rattle.recovery_laws.specs.Kept.{AreStopsKept, IsRecovered, IsToRecover, SayTheSame, image_in}
-use Rattle.recovery_laws.proofs.CallLaws.{at_last_one, failure_kept, moment_kept}
+use Rattle.recovery_laws.proofs.CallLaws.{at_last_one, cut_kept, each_kept, failure_kept, moment_kept, part_kept}
 
 pub same_again : (old middle new : Image) → SayTheSame old middle → SayTheSame middle new → SayTheSame old new
 same_again old middle new first second = record {
@@ -22,6 +24,21 @@ same_again old middle new first second = record {
       let two = second.counts place count inside_too in
       ((λ is. one.0 (two.0 is)), (λ is. two.1 (one.1 is)));
 }
+
+-- While not all writes are made.
+module _ (opening blocks : Blocks) (first calls : List Call) (to : IsToRecover opening first blocks) (each : AllByRecursion (IsPut (image_in blocks to.sound)) calls) where
+  whole_blocks : (b : ℕ) → b < length blocks → length (block_at blocks b) ≡ 4096
+  whole_blocks b below = to.one.whole b (let size = to.one.size in omega (arith, size, below))
+
+  pub parts : AreStopsKept (image_in blocks to.sound) opening first calls
+  parts newer older now same is =
+      each_kept blocks to.sound to.named to.unclean whole_blocks opening first calls newer older now to.one
+      (part_kept blocks to.sound to.named to.unclean whole_blocks calls each) same is
+
+  pub cut : (call : Call) → IsPut (image_in blocks to.sound) call ⊎ (call ≡ Flush true) → AreStopsKept (image_in blocks to.sound) opening first (as_failed call ∷ calls)
+  cut call kind newer older now same is =
+      each_kept blocks to.sound to.named to.unclean whole_blocks opening first (as_failed call ∷ calls) newer older now to.one
+      (cut_kept blocks to.sound to.named to.unclean whole_blocks calls call each kind) same is
 
 module _ (opening blocks : Blocks) (first puts : List Call) (to : IsToRecover opening first blocks) (are : ArePuts (image_in blocks to.sound) puts) where
   abbrev image : Image

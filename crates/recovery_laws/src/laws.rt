@@ -1,12 +1,14 @@
-ghost use Rattle.std.specs.Prelude.{◌≡◌, ◌∷◌, ◌++◌, false, List, Ok};
+ghost use Rattle.std.specs.Prelude.{◌≡◌, ◌⊎◌, ◌∷◌, ◌++◌, true, false, List, Ok};
+ghost use Rattle.std.specs.List.{AllByRecursion};
 ghost use Rattle.disk_model.specs.declared.call.Call.{Call};
+ghost use Rattle.disk_model.specs.declared.call.Call.TheVariants.{Flush};
 ghost use Rattle.disk_model.specs.Images.{HasOneImage};
 ghost use Rattle.disk_model.specs.Log.{Blocks};
 ghost use Rattle.image_format.specs.Runs.{as_failed};
 ghost use Rattle.image_layout.specs.Opened.{super_of_image};
 ghost use Rattle.image_model.specs.Maps.{Image};
 ghost use Rattle.image_model.specs.Sound.{IsSound};
-ghost use Rattle.recovery_laws.specs.Calls.{ArePuts, recovery_calls};
+ghost use Rattle.recovery_laws.specs.Calls.{ArePuts, IsPut, recovery_calls};
 ghost use Rattle.recovery_laws.specs.Kept.{AreKept, AreStopsKept, IsRecovered, IsToRecover, SayTheSame, image_in, recovered_super};
 ghost use Rattle.recovery_laws.specs.Written.{AreFull, AreUnderway};
 
@@ -26,6 +28,14 @@ pub fn blocks_underway_say_the_same()
 /// stop leaves at any moment of that, also where a call failed and no other was made behind it, is sound and says the same;
 /// and afterwards nothing is pending and the image is closed. It does nothing.
 pub fn recovery_keeps_what_an_image_says()
+    // While not all writes are made.
+    ensures parts { (opening blocks : Blocks) (first calls : List Call) (to : IsToRecover opening first blocks) → AllByRecursion (IsPut (image_in blocks to.sound)) calls
+        → AreStopsKept (image_in blocks to.sound) opening first calls }
+    ensures cut { (opening blocks : Blocks) (first calls : List Call) (call : Call) (to : IsToRecover opening first blocks)
+        → AllByRecursion (IsPut (image_in blocks to.sound)) calls → IsPut (image_in blocks to.sound) call ⊎ (call ≡ Flush true)
+        → AreStopsKept (image_in blocks to.sound) opening first (as_failed call ∷ calls) }
+
+    // And where all are.
     ensures stops { (opening blocks : Blocks) (first puts : List Call) (to : IsToRecover opening first blocks) → ArePuts (image_in blocks to.sound) puts
         → AreStopsKept (image_in blocks to.sound) opening first (recovery_calls (image_in blocks to.sound) to.sound.last puts) }
     ensures failures { (opening blocks : Blocks) (first puts newer done : List Call) (call : Call) (to : IsToRecover opening first blocks)

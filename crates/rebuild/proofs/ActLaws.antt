@@ -1,0 +1,217 @@
+-- Calls that recover an image, one after the other.
+use Rattle.std.proofs.Common.{ℕ, ◌≡◌, ◌≤◌, ◌+◌, Bool, IsTrue, true, false, List, [], ◌∷◌, ◌++◌, Result, Ok, Err, OnErr, IsErr, refl, sym, ◌∙◌, ap, subst, inl, inr, arith, append_assoc}
+use Rattle.std.specs.List.{AllByRecursion}
+use Rattle.blk_base.specs.declared.place.Pbn.{Pbn}
+use Rattle.disk_model.specs.declared.call.Call.{Call}
+use Rattle.disk_model.specs.declared.call.Call.TheVariants.{Read, Write, Flush}
+use Rattle.disk_model.specs.declared.call.Failed.{Failed}
+use Rattle.disk_model.specs.Causes.{Rose}
+use Rattle.disk_model.specs.Log.{Blocks}
+use Rattle.disk_model.specs.Seen.{Seen}
+use Rattle.disk_model.specs.Since.{IsUntouched, OnlyReads, WereRead, NextFailed}
+use Rattle.disk_model.proofs.SeenLaws.{stays_on, later_on, stays_yet, later_yet}
+use Rattle.image_format.specs.Calls.{put}
+use Rattle.image_format.specs.Runs.{as_failed, Makes}
+use Rattle.image_model.specs.Maps.{Image}
+use Rattle.recovery_laws.specs.Calls.{IsPut, IsWritten}
+use Rattle.recovery_laws.specs.Kept.{image_in}
+use Rattle.rebuild.specs.Acts.{Acts, AreMade, IsStart, Recovers, Stopped, Went}
+use Rattle.rebuild.specs.Reads.{ReadsOne}
+
+-- What was written stays written.
+pub still_written : (more calls : List Call) (b : ℕ) → IsWritten calls b → IsWritten (more ++ calls) b
+still_written [] calls b written = written
+still_written (Read at bytes ok ∷ more) calls b written = still_written more calls b written
+still_written (Flush ok ∷ more) calls b written = still_written more calls b written
+still_written (Write at bytes ok ∷ more) calls b written = inr (still_written more calls b written)
+
+-- reads are among the calls
+reads_are : (image : Image) (reads calls : List Call) → OnlyReads reads → AllByRecursion (IsPut image) calls → AllByRecursion (IsPut image) (reads ++ calls)
+reads_are image [] calls only each = each
+reads_are image (Read at bytes ok ∷ reads) calls only each = (tt, reads_are image reads calls only each)
+reads_are image (Write at bytes ok ∷ reads) calls only each = absurd only
+reads_are image (Flush ok ∷ reads) calls only each = absurd only
+
+pub read_made : (tells : Bool) (image : Image) (first before now : Seen) (calls : List Call) → IsTrue tells → AreMade image first before calls → IsUntouched tells before now
+    → (reads : List Call) × AreMade image first now (reads ++ calls)
+read_made tells image first before now calls told made untouched =
+    let since = untouched.reads told in (
+      since.0,
+      record {
+        stays = stays_on first before now made.stays untouched.stays;
+        logged = since.1 ∙ ap (λ (log : List Call). since.0 ++ log) made.logged ∙ sym (append_assoc since.0 calls first.log);
+        each = reads_are image since.0 calls since.2 made.each;
+      },
+    )
+
+pub none_made : (image : Image) (first : Seen) → AreMade image first first []
+none_made image first = record { stays = stays_yet first; logged = refl; each = tt }
+
+-- No call, where nothing is left to do.
+pub acts_yet : (tells honest : Bool) (seen : Seen) (Needs : Image → Type 0) (Done : Image → List Call → Type 0)
+    → ((first : Seen) (blocks : Blocks) (start : IsStart tells honest first blocks) (calls : List Call) → AreMade (image_in blocks start.to.sound) first seen calls
+    → Needs (image_in blocks start.to.sound) → Done (image_in blocks start.to.sound) calls)
+    → Acts tells honest seen seen Needs Done (Ok tt)
+acts_yet tells honest seen Needs Done all = record {
+  stays = stays_yet seen;
+  later = later_yet seen;
+  rose = tt;
+  recovers = λ first blocks start calls made needs. ([], made, all first blocks start calls made needs);
+}
+
+recovers_as : (tells honest : Bool) (before now : Seen) (N N' : Image → Type 0) (D D' : Image → List Call → Type 0) (result : Result (Unit {0}) Failed)
+    → Recovers tells honest before now N D result → ((image : Image) → N' image → N image) → ((image : Image) (calls : List Call) → N' image → D image calls → D' image calls)
+    → Recovers tells honest before now N' D' result
+recovers_as tells honest before now N N' D D' (Ok _) is needs done = λ first blocks start calls made has.
+    let went = is first blocks start calls made (needs (image_in blocks start.to.sound) has) in
+    (went.0, went.1, done (image_in blocks start.to.sound) (went.0 ++ calls) has went.2)
+recovers_as tells honest before now N N' D D' (Err _) is needs done = λ first blocks start calls made has.
+    is first blocks start calls made (needs (image_in blocks start.to.sound) has)
+
+pub acts_as : (tells honest : Bool) (before now : Seen) (N N' : Image → Type 0) (D D' : Image → List Call → Type 0) (result : Result (Unit {0}) Failed)
+    → Acts tells honest before now N D result → ((image : Image) → N' image → N image) → ((image : Image) (calls : List Call) → N' image → D image calls → D' image calls)
+    → Acts tells honest before now N' D' result
+acts_as tells honest before now N N' D D' result acts needs done = record {
+  stays = acts.stays;
+  later = acts.later;
+  rose = acts.rose;
+  recovers = recovers_as tells honest before now N N' D D' result acts.recovers needs done;
+}
+
+-- More calls after others.
+module _ (tells honest : Bool) (before middle now : Seen) (N : Image → Type 0) (D₁ D₂ D : Image → List Call → Type 0) where
+  then_recovers : (result : Result (Unit {0}) Failed) → Went tells honest before middle N D₁ → Recovers tells honest middle now N D₂ result
+      → ((image : Image) (more calls : List Call) → N image → D₁ image calls → D₂ image (more ++ calls) → D image (more ++ calls))
+      → Recovers tells honest before now N D result
+  then_recovers (Ok _) old new both = λ first blocks start calls made has.
+      let image = image_in blocks start.to.sound in
+      let one = old first blocks start calls made has in
+      let two = new first blocks start (one.0 ++ calls) one.1 has in
+      let same = append_assoc two.0 one.0 calls in (
+        two.0 ++ one.0,
+        subst (AreMade image first now) (sym same) two.1,
+        subst (D image) (sym same) (both image two.0 (one.0 ++ calls) has one.2 two.2),
+      )
+  then_recovers (Err _) old new both = λ first blocks start calls made has.
+      let one = old first blocks start calls made has in
+      new first blocks start (one.0 ++ calls) one.1 has
+
+  rose_on : (result : Result (Unit {0}) Failed) → before.faults ≤ middle.faults → OnErr result (Rose middle.faults now.faults)
+      → OnErr result (Rose before.faults now.faults)
+  rose_on (Ok _) less rose = tt
+  rose_on (Err _) less rose = omega (arith, less, rose)
+
+  pub then_acts : (result : Result (Unit {0}) Failed) → Acts tells honest before middle N D₁ (Ok tt) → Acts tells honest middle now N D₂ result
+      → ((image : Image) (more calls : List Call) → N image → D₁ image calls → D₂ image (more ++ calls) → D image (more ++ calls))
+      → Acts tells honest before now N D result
+  then_acts result old new both = record {
+    stays = stays_on before middle now old.stays new.stays;
+    later = later_on before middle now old.later new.later;
+    rose = rose_on result old.later.faults new.rose;
+    recovers = then_recovers result old.recovers new.recovers both;
+  }
+
+-- Where one failed nothing is said of what was done.
+pub still_failed : (tells honest : Bool) (before now : Seen) (N : Image → Type 0) (D D' : Image → List Call → Type 0) (fault : Failed) (result : Result (Unit {0}) Failed) → IsErr result
+    → Acts tells honest before now N D (Err fault) → Acts tells honest before now N D' result
+still_failed tells honest before now N D D' fault (Ok _) is acts = absurd (cc is)
+still_failed tells honest before now N D D' fault (Err _) is acts = record { stays = acts.stays; later = acts.later; rose = acts.rose; recovers = acts.recovers }
+
+-- A block is read, and then written.
+
+one_of_one : (one : Call) (newer done : List Call) (call : Call) → one ∷ [] ≡ newer ++ (call ∷ done) → (call ≡ one) × (done ≡ [])
+one_of_one one [] done call is = (cc is, cc is)
+one_of_one one (other ∷ []) done call is = absurd (cc is)
+one_of_one one (other ∷ another ∷ newer) done call is = absurd (cc is)
+
+pub read_failed : (tells honest : Bool) (before now : Seen) (at : Pbn) (N : Image → Type 0) → NextFailed tells honest at.0 before now [] → Stopped tells honest before now N
+read_failed tells honest before now at N failed = λ first blocks start calls made has.
+    let logged = failed.logged start.told in
+    record {
+      calls = calls;
+      each = made.each;
+      call = Read (record { 0 = at.0 + 0 }) logged.0 true;
+      kind = inl tt;
+      logged = elim logged.1 [
+        | inl is ↦ inl (is ∙ ap (λ (log : List Call). Read (record { 0 = at.0 + 0 }) logged.0 false ∷ log) made.logged)
+        | inr lost ↦ inr (lost.0 ∙ made.logged, tt)
+      ];
+    }
+
+module _ (tells honest : Bool) (before middle now : Seen) (at : Pbn) (given bytes : List ℕ) (N : Image → Type 0) where
+  abbrev Puts : Type 0
+  Puts = (first : Seen) (blocks : Blocks) (start : IsStart tells honest first blocks) (calls : List Call) → AreMade (image_in blocks start.to.sound) first before calls
+      → N (image_in blocks start.to.sound) → IsPut (image_in blocks start.to.sound) (put at.0 bytes)
+
+  log_then : (first : Seen) (blocks : Blocks) (start : IsStart tells honest first blocks) (calls : List Call) → WereRead tells honest at.0 before middle (given ∷ [])
+      → AreMade (image_in blocks start.to.sound) first before calls → middle.log ≡ Read (record { 0 = at.0 + 0 }) given true ∷ (calls ++ first.log)
+  log_then first blocks start calls read made =
+      read.logged start.told ∙ ap (λ (log : List Call). Read (record { 0 = at.0 + 0 }) given true ∷ log) made.logged
+
+  written_recovers : (result : Result (Unit {0}) Failed) → WereRead tells honest at.0 before middle (given ∷ []) → Makes tells middle now (put at.0 bytes ∷ []) result → Puts
+      → Recovers tells honest before now N (λ image calls. IsWritten calls at.0) result
+  written_recovers (Ok _) read made is = λ first blocks start calls were has.
+      let image = image_in blocks start.to.sound in (
+        put at.0 bytes ∷ Read (record { 0 = at.0 + 0 }) given true ∷ [],
+        record {
+          stays = stays_on first middle now (stays_on first before middle were.stays read.stays) made.stays;
+          logged = made.logged start.told ∙ ap (λ (log : List Call). put at.0 bytes ∷ log) (log_then first blocks start calls read were);
+          each = (is first blocks start calls were has, (tt, were.each));
+        },
+        inl refl,
+      )
+  written_recovers (Err _) read made is = λ first blocks start calls were has.
+      let image = image_in blocks start.to.sound in
+      let one = one_of_one (put at.0 bytes) made.newer made.done made.call made.parts in
+      let before_it = log_then first blocks start calls read were in
+      let log : made.done ++ middle.log ≡ Read (record { 0 = at.0 + 0 }) given true ∷ (calls ++ first.log) =
+      ap (λ (done : List Call). done ++ middle.log) one.1 ∙ before_it in
+      record {
+        calls = Read (record { 0 = at.0 + 0 }) given true ∷ calls;
+        each = (tt, were.each);
+        call = put at.0 bytes;
+        kind = inl (is first blocks start calls were has);
+        logged = elim (made.logged start.told) [
+          | inl stands ↦ inl (stands ∙ ap (λ (call : Call). as_failed call ∷ (made.done ++ middle.log)) one.0 ∙ ap (λ (l : List Call). as_failed (put at.0 bytes) ∷ l) log)
+          | inr lost ↦ inr (lost.0 ∙ log, tt)
+        ];
+      }
+
+  pub written : (result : Result (Unit {0}) Failed) → WereRead tells honest at.0 before middle (given ∷ []) → Makes tells middle now (put at.0 bytes ∷ []) result → Puts
+      → Acts tells honest before now N (λ image calls. IsWritten calls at.0) result
+  written (Ok u) read made is = record {
+    stays = stays_on before middle now read.stays made.stays;
+    later = later_on before middle now read.later made.later;
+    rose = tt;
+    recovers = written_recovers (Ok u) read made is;
+  }
+  written (Err e) read made is = record {
+    stays = stays_on before middle now read.stays made.stays;
+    later = later_on before middle now read.later made.later;
+    rose = (let less = read.later.faults in let rose = made.rose in omega (arith, less, rose));
+    recovers = written_recovers (Err e) read made is;
+  }
+
+-- what a read that failed is, where it is passed on
+pub read_err : (tells honest : Bool) (at : Pbn) (before now : Seen) (bytes : List ℕ) (result : Result (Unit {0}) Failed) → IsErr result → NextFailed tells honest at.0 before now []
+    → ReadsOne tells honest at before now bytes result
+read_err tells honest at before now bytes (Ok _) is failed = absurd (cc is)
+read_err tells honest at before now bytes (Err _) is failed = failed
+
+rose_err : (before now : Seen) (result : Result (Unit {0}) Failed) → Rose before.faults now.faults → OnErr result (Rose before.faults now.faults)
+rose_err before now (Ok _) rose = tt
+rose_err before now (Err _) rose = rose
+
+recovers_err : (tells honest : Bool) (before now : Seen) (N : Image → Type 0) (D : Image → List Call → Type 0) (result : Result (Unit {0}) Failed) → IsErr result → Stopped tells honest before now N
+    → Recovers tells honest before now N D result
+recovers_err tells honest before now N D (Ok _) is stopped = absurd (cc is)
+recovers_err tells honest before now N D (Err _) is stopped = stopped
+
+pub read_stops : (tells honest : Bool) (before now : Seen) (at : Pbn) (N : Image → Type 0) (D : Image → List Call → Type 0) (result : Result (Unit {0}) Failed) → IsErr result
+    → NextFailed tells honest at.0 before now [] → Acts tells honest before now N D result
+read_stops tells honest before now at N D result is failed = record {
+  stays = failed.stays;
+  later = failed.later;
+  rose = rose_err before now result failed.rose;
+  recovers = recovers_err tells honest before now N D result is (read_failed tells honest before now at N failed);
+}

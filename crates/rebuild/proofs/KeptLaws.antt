@@ -1,0 +1,127 @@
+-- Whatever a stop leaves at each moment of recovery says the same.
+use Rattle.std.proofs.Common.{ℕ, ◌≡◌, Bool, IsTrue, true, List, [], ◌∷◌, ◌++◌, Result, Ok, Err, refl, sym, ◌∙◌, ap, ap₂, subst, inl, inr, append_assoc}
+use Rattle.blk_base.specs.declared.geometry.Super.{Super as Superblock}
+use Rattle.blk_base.specs.declared.journal_entry.CommittedEntry.{CommittedEntry}
+use Rattle.disk_model.specs.declared.call.Call.{Call}
+use Rattle.disk_model.specs.declared.call.Call.TheVariants.{Read, Write, Flush}
+use Rattle.disk_model.specs.declared.call.Failed.{Failed}
+use Rattle.disk_model.specs.Images.{HasOneImage}
+use Rattle.disk_model.specs.Log.{Blocks}
+use Rattle.disk_model.specs.Seen.{Seen}
+use Rattle.disk_model.specs.Since.{IsUntouched, OnlyReads}
+use Rattle.disk_model.proofs.OneImageLaws.{one_image-unique}
+use Rattle.disk_model.proofs.SinceLaws.{image_since}
+use Rattle.image_format.specs.Calls.{put}
+use Rattle.image_format.specs.Runs.{Makes, WereMade, OneFailed, as_failed}
+use Rattle.image_layout.specs.Superblock.{super_block}
+use Rattle.image_layout.specs.Window.{journal_of}
+use Rattle.image_model.proofs.WindowLaws.{one_window}
+use Rattle.image_model.specs.Maps.{Image}
+use Rattle.image_model.specs.Sound.{IsSound, Opens, image_of}
+use Rattle.image_model.specs.Windows.{IsWindow}
+use Rattle.recovery_laws.proofs.WholeLaws.{cut, failures, parts, stops}
+use Rattle.recovery_laws.specs.Calls.{ArePuts, recovery_calls}
+use Rattle.recovery_laws.specs.Kept.{AreKept, image_in, recovered_super}
+use Rattle.rebuild.specs.Acts.{AreMade, HasStopped, IsStart}
+use Rattle.rebuild.specs.Outcomes.{Ends, IsAllMade, IsKeptSince}
+
+-- Where there were only reads.
+
+reads_behind : (newer older : List Call) → OnlyReads (newer ++ older) → OnlyReads older
+reads_behind [] older reads = reads
+reads_behind (Read at bytes ok ∷ newer) older reads = reads_behind newer older reads
+reads_behind (Write at bytes ok ∷ newer) older reads = absurd reads
+reads_behind (Flush ok ∷ newer) older reads = absurd reads
+
+kept_yet : (blocks : Blocks) (sound : IsSound blocks) → AreKept (image_in blocks sound) blocks
+kept_yet blocks sound = record {
+  sound = sound;
+  same = record {
+    geometry = refl;
+    map = record { pages = λ page. refl; mappings = λ address. refl };
+    values = λ address. refl;
+    counts = λ place count inside. ((λ is. is), (λ is. is));
+  };
+}
+
+pub untouched_kept : (tells : Bool) (before now : Seen) (blocks : Blocks) (sound : IsSound blocks) → IsTrue tells → HasOneImage before.opening before.log blocks → IsUntouched tells before now
+    → IsKeptSince (image_in blocks sound) before now
+untouched_kept tells before now blocks sound told one untouched =
+    let since = untouched.reads told in (
+      since.0,
+      since.1,
+      λ newer older image same is.
+          let reads = reads_behind newer older (subst OnlyReads same since.2) in
+          let still = image_since before.opening before.log (older ++ before.log) blocks (older, refl, reads) one in
+          let unchanged : image ≡ blocks = one_image-unique before.opening (older ++ before.log) blocks image still is in
+          subst (AreKept (image_in blocks sound)) (sym unchanged) (kept_yet blocks sound),
+    )
+
+module _ (tells honest : Bool) (first : Seen) (blocks : Blocks) (start : IsStart tells honest first blocks) where
+  abbrev image : Image
+  image = image_in blocks start.to.sound
+
+  abbrev last : ℕ
+  last = start.to.sound.last
+
+  pub made_kept : (now : Seen) (calls : List Call) → AreMade image first now calls → IsKeptSince image first now
+  made_kept now calls made = (calls, made.logged, parts first.opening blocks first.log calls start.to made.each)
+
+  pub stopped_kept : (now : Seen) → HasStopped image first now → IsKeptSince image first now
+  stopped_kept now stopped = elim stopped.logged [
+    | inl is ↦ (as_failed stopped.call ∷ stopped.calls, is, cut first.opening blocks first.log stopped.calls start.to stopped.each stopped.call stopped.kind)
+    | inr lost ↦ (stopped.calls, lost.0, parts first.opening blocks first.log stopped.calls start.to stopped.each)
+  ]
+
+  pub all_kept : (now : Seen) → IsAllMade image last first now → IsKeptSince image first now
+  all_kept now (puts, are, logged) = (recovery_calls image last puts, logged, stops first.opening blocks first.log puts start.to are)
+
+  -- While it is closed.
+  module _ (before now : Seen) (puts : List Call) (made : AreMade image first before puts) (are : ArePuts image puts) where
+    abbrev closing : List Call
+    closing = Flush true ∷ put 0 (super_block (recovered_super image.geometry last)) ∷ Flush true ∷ []
+
+    pub closed_made : WereMade tells before now closing → IsAllMade image last first now
+    closed_made closes = (puts, are, closes.logged start.told ∙ ap (λ (log : List Call). closing ++ log) made.logged)
+
+    pub closing_failed : OneFailed tells before now closing → IsKeptSince image first now
+    closing_failed failed =
+        let whole : recovery_calls image last puts ≡ failed.newer ++ (failed.call ∷ (failed.done ++ puts)) =
+        ap (λ (calls : List Call). calls ++ puts) failed.parts ∙ append_assoc failed.newer (failed.call ∷ failed.done) puts in
+        let log : failed.done ++ before.log ≡ (failed.done ++ puts) ++ first.log =
+        ap (λ (log : List Call). failed.done ++ log) made.logged ∙ sym (append_assoc failed.done puts first.log) in
+        elim (failed.logged start.told) [
+          | inl is ↦ (
+            as_failed failed.call ∷ (failed.done ++ puts),
+            is ∙ ap (λ (l : List Call). as_failed failed.call ∷ l) log,
+            failures first.opening blocks first.log puts start.to are failed.newer (failed.done ++ puts) failed.call whole,
+          )
+          | inr lost ↦ (
+            failed.done ++ puts,
+            lost.0 ∙ log,
+            λ newer older other same is. stops first.opening blocks first.log puts start.to are (failed.newer ++ (failed.call ∷ newer)) older other
+                (whole ∙ ap (λ (l : List Call). failed.newer ++ (failed.call ∷ l)) same ∙ sym (append_assoc failed.newer (failed.call ∷ newer) older)) is,
+          )
+        ]
+
+    pub closes_to : (result : Result (Unit {0}) Failed) → Makes tells before now closing result → Ends image last first now result
+    closes_to (Ok _) makes = closed_made makes
+    closes_to (Err _) makes = closing_failed makes
+
+-- An image is opened in one way.
+
+pub opened_alike : (blocks : Blocks) (sound : IsSound blocks) (head : Superblock) (last : ℕ) (window : List CommittedEntry) → Opens blocks head last window
+    → (head ≡ sound.head) × (last ≡ sound.last) × (window ≡ sound.window)
+opened_alike blocks sound head last window opens =
+    let accepted = opens.accepted in
+    let own = sound.opens.accepted in
+    let same : head ≡ sound.head = cc (accepted, own) in
+    let there = subst (λ (h : Superblock). IsWindow h.geometry h.start (journal_of h.geometry blocks) last window) same opens.is_window in
+    let one = one_window sound.head.geometry sound.head.start (journal_of sound.head.geometry blocks) last sound.last window sound.window there sound.opens.is_window in
+    (same, one.0, one.1)
+
+pub image_alike : (blocks : Blocks) (sound : IsSound blocks) (head : Superblock) (last : ℕ) (window : List CommittedEntry) → Opens blocks head last window
+    → image_of head blocks window ≡ image_in blocks sound
+image_alike blocks sound head last window opens =
+    let one = opened_alike blocks sound head last window opens in
+    ap₂ (λ (h : Superblock) (w : List CommittedEntry). image_of h blocks w) one.0 one.2

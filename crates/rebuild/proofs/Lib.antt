@@ -1,0 +1,10 @@
+pub mod ActLaws
+pub mod WrittenLaws
+pub mod DoneLaws
+pub mod TurnLaws
+pub mod ReadLaws
+pub mod KeptLaws
+pub mod ShownLaws
+pub mod UncleanLaws
+pub mod RecoverLaws
+pub mod Rows

@@ -1,0 +1,115 @@
+-- What recovery promises, by how it ended.
+use Rattle.std.proofs.Common.{ℕ, ◌≡◌, ◌<◌, ◌^◌, ◌++◌, Bool, IsTrue, true, false, List, Result, Ok, Err, IsErrAnd, length, sym, ◌∙◌, subst, inl, inr}
+use Rattle.blk_base.specs.declared.geometry.Super.{Super as Superblock}
+use Rattle.disk_model.specs.declared.call.Call.{Call}
+use Rattle.disk_model.specs.Images.{HasOneImage}
+use Rattle.disk_model.specs.Log.{Blocks}
+use Rattle.disk_model.specs.Seen.{Seen}
+use Rattle.disk_model.specs.Since.{IsUntouched}
+use Rattle.disk_model.proofs.SeenLaws.{later_on, stays_on}
+use Rattle.disk_model.proofs.SinceLaws.{untouched_on}
+use Rattle.image_layout.specs.Opened.{super_of_image}
+use Rattle.image_model.specs.Sound.{IsSound}
+use Rattle.image_model.specs.declared.fault.ImageFault.{ImageFault}
+use Rattle.image_opening.proofs.HeadLaws.{head_shown}
+use Rattle.image_opening.specs.Heads.{HeadFails, IsHeadRead}
+use Rattle.recovery_laws.proofs.WholeLaws.{recovered}
+use Rattle.recovery_laws.specs.Calls.{recovery_calls}
+use Rattle.recovery_laws.specs.Kept.{image_in}
+use Rattle.rebuild.proofs.KeptLaws.{all_kept, untouched_kept}
+use Rattle.rebuild.proofs.ShownLaws.{clean_answer, entries_answer, head_refused, unclean_refused}
+use Rattle.rebuild.specs.Acts.{IsStart}
+use Rattle.rebuild.specs.Outcomes.{RecoversUnclean}
+use Rattle.rebuild.specs.Recoveries.{IsRecovery, IsTold}
+use Rattle.rebuild.specs.declared.forms.Recovered.{Recovered}
+use Rattle.rebuild.specs.declared.forms.Recovered.TheVariants.{Clean, Entries}
+
+module _ (tells honest : Bool) (before : Seen) where
+  pub head_failed : (now : Seen) (why : ImageFault) → (IsTrue tells → length before.opening ≡ before.size) → HeadFails tells honest before now why → IsUntouched tells before now
+      → IsRecovery tells honest before now (Err why)
+  head_failed now why told fails untouched = record {
+    stays = untouched.stays;
+    later = untouched.later;
+    answers = tt;
+    fails = inl fails;
+    nothing = inr untouched;
+    says = λ blocks is. head_refused tells honest before blocks is now why (told is.told) fails;
+    stops = λ blocks is sound. untouched_kept tells before now blocks sound is.told is.one untouched;
+    closed = tt;
+  }
+
+  pub was_clean : (now : Seen) (head : Superblock) → IsHeadRead tells honest before now head → head.clean ≡ true → IsUntouched tells before now → IsRecovery tells honest before now (Ok Clean)
+  was_clean now head read clean untouched = record {
+    stays = untouched.stays;
+    later = untouched.later;
+    answers = (head, read, clean, untouched);
+    fails = tt;
+    nothing = tt;
+    says = λ blocks is. clean_answer tells honest before blocks is now head read clean;
+    stops = λ blocks is sound. untouched_kept tells before now blocks sound is.told is.one untouched;
+    closed = λ blocks is. tt;
+  }
+
+  module _ (middle now : Seen) (head : Superblock) (read : IsHeadRead tells honest before middle head) (unclean : head.clean ≡ false) (untouched : IsUntouched tells before middle)
+      (named : head.geometry.nonce < 2 ^ 64) where
+    accepted : (blocks : Blocks) → IsTold tells honest before blocks → super_of_image blocks ≡ Ok head
+    accepted blocks is = head_shown tells honest before middle blocks is.told is.fair is.one head read
+
+    same_head : (blocks : Blocks) → IsTold tells honest before blocks → (sound : IsSound blocks) → head ≡ sound.head
+    same_head blocks is sound = let here = accepted blocks is in let own = sound.opens.accepted in cc (here, own)
+
+    abbrev start_of : (blocks : Blocks) (is : IsTold tells honest before blocks) (sound : IsSound blocks) → IsStart tells honest before blocks
+    start_of blocks is sound =
+        let same = same_head blocks is sound in
+        record {
+          told = is.told;
+          fair = is.fair;
+          to = record {
+            one = is.one;
+            sound = sound;
+            unclean = subst (λ (h : Superblock). h.clean ≡ false) same unclean;
+            named = subst (λ (h : Superblock). h.geometry.nonce < 2 ^ 64) same named;
+          };
+        }
+
+    pub was_recovered : (count : ℕ) → RecoversUnclean tells honest head middle now (Ok count) → IsRecovery tells honest before now (Ok (Entries count))
+    was_recovered count is_so = record {
+      stays = stays_on before middle now untouched.stays is_so.stays;
+      later = later_on before middle now untouched.later is_so.later;
+      answers = (head, middle, read, unclean, is_so.entries);
+      fails = tt;
+      nothing = tt;
+      says = λ blocks is. entries_answer tells honest before blocks is middle head read count unclean is_so.entries;
+      stops = λ blocks is sound.
+          let start = start_of blocks is sound in
+          all_kept tells honest before blocks start now (is_so.ends before blocks start untouched (accepted blocks is));
+      closed = λ blocks is sound.
+          let start = start_of blocks is sound in
+          let made = is_so.ends before blocks start untouched (accepted blocks is) in
+          let last = recovered before.opening blocks before.log made.0 start.to made.1 in
+          let opening = untouched.stays.opening in
+          let opening_too = is_so.stays.opening in (
+            last.0,
+            subst (λ (log : List Call). HasOneImage now.opening log last.0) (sym made.2)
+                (subst (λ (bs : Blocks). HasOneImage bs (recovery_calls (image_in blocks sound) sound.last made.0 ++ before.log) last.0) (sym (opening_too ∙ opening)) last.1),
+            last.2,
+          );
+    }
+
+    pub was_refused : (why : ImageFault) → RecoversUnclean tells honest head middle now (Err why) → IsRecovery tells honest before now (Err why)
+    was_refused why is_so = record {
+      stays = stays_on before middle now untouched.stays is_so.stays;
+      later = later_on before middle now untouched.later is_so.later;
+      answers = tt;
+      fails = inr (head, middle, read, unclean, is_so.fails);
+      nothing = elim is_so.nothing [ inl device ↦ inl device | inr more ↦ inr (untouched_on tells before middle now untouched more) ];
+      says = λ blocks is. unclean_refused tells honest before blocks is middle head read now why unclean is_so.fails;
+      stops = λ blocks is sound. is_so.ends before blocks (start_of blocks is sound) untouched (accepted blocks is);
+      closed = tt;
+    }
+
+-- what holds of a refusal holds where it is passed on
+pub refused_as : (tells honest : Bool) (before now : Seen) (why : ImageFault) (result : Result Recovered ImageFault) → IsErrAnd result (λ e. e ≡ why) → IsRecovery tells honest before now (Err why)
+    → IsRecovery tells honest before now result
+refused_as tells honest before now why (Ok x) is recovery = absurd is
+refused_as tells honest before now why (Err e) is recovery = subst (λ (f : ImageFault). IsRecovery tells honest before now (Err f)) (sym is) recovery

@@ -1,0 +1,103 @@
+-- For each definition a small case that it accepts, and one that it refuses.
+use Rattle.std.proofs.Common.{ℕ, ◌≡◌, true, false, List, [], ◌∷◌, ◌++◌, Ok, Err, length, refl, ap, inl, inr, arith}
+use Rattle.blk_base.specs.declared.geometry.Super.{Super as Superblock}
+use Rattle.disk_model.specs.declared.call.Call.{Call}
+use Rattle.disk_model.specs.declared.call.Call.TheVariants.{Read, Write, Flush}
+use Rattle.disk_model.specs.Log.{Blocks}
+use Rattle.disk_model.specs.Seen.{Seen}
+use Rattle.disk_model.specs.Since.{OnlyReads}
+use Rattle.disk_model.proofs.SinceLaws.{untouched_yet}
+use Rattle.image_model.proofs.Example.{pbn}
+use Rattle.image_model.specs.Maps.{Image}
+use Rattle.image_model.specs.declared.fault.ImageFault.TheVariants.{Device, Unclean, Memory}
+use Rattle.image_layout.specs.Opened.{super_of_image}
+use Rattle.rebuild.proofs.ActLaws.{none_made}
+use Rattle.rebuild.specs.Acts.{AreMade, HasStopped}
+use Rattle.rebuild.specs.Outcomes.{WritesNothing}
+use Rattle.rebuild.specs.Recoveries.{IsAnswer, IsRecovery, IsRefusal}
+use Rattle.rebuild.specs.declared.forms.Recovered.TheVariants.{Clean, Entries}
+
+abbrev seen : Seen
+seen = record { opening = []; size = 154; log = []; faults = 3; unkept = 0 }
+
+-- a flush, and a block of no page and no counters
+abbrev flushed : Seen
+flushed = record seen { log = Flush true ∷ [] }
+
+-- logged, each: since a start only reads and recovery's writes were made, and these
+nothing_made : (image : Image) → AreMade image seen seen []
+nothing_made image = none_made image seen
+
+read_made : (image : Image) → AreMade image seen (record seen { log = Read (pbn 0) [] true ∷ [] }) (Read (pbn 0) [] true ∷ [])
+read_made image = record { stays = record { opening = refl; size = refl }; logged = refl; each = (tt, tt) }
+
+not_logged : (image : Image) → AreMade image seen flushed [] → ⊥
+not_logged image made = let same = ap (λ (log : List Call). length log) made.logged in omega (arith, same)
+
+no_flush : (image : Image) → AreMade image seen flushed (Flush true ∷ []) → ⊥
+no_flush image made = made.each.0
+
+-- stays: the device has as many blocks
+other_size : (image : Image) → AreMade image seen (record seen { size = 3 }) [] → ⊥
+other_size image made = let size = made.stays.size in omega (arith, size)
+
+-- kind: the call that failed may be a flush, and no write of another block
+flush_failed : (image : Image) → HasStopped image seen (record seen { log = Flush false ∷ [] })
+flush_failed image = record { calls = []; each = tt; call = Flush true; kind = inr refl; logged = inl refl }
+
+call_lost : (image : Image) → HasStopped image seen seen
+call_lost image = record { calls = []; each = tt; call = Flush true; kind = inr refl; logged = inr (refl, tt) }
+
+-- A refusal wrote nothing, or a call failed.
+refused : WritesNothing true seen seen Memory
+refused = inr (untouched_yet true seen)
+
+failed : WritesNothing true seen flushed Device
+failed = inl refl
+
+-- Answers by the image: a clean one isn't recovered, and an unclean one isn't clean.
+module _ (blocks : Blocks) (head : Superblock) (accepted : super_of_image blocks ≡ Ok head) where
+  same_superblock : (other : Superblock) → super_of_image blocks ≡ Ok other → other ≡ head
+  same_superblock other is = cc (is, accepted)
+
+  unclean_is_not_clean : head.clean ≡ false → IsAnswer blocks Clean → ⊥
+  unclean_is_not_clean unclean (other, is, clean) =
+      let same = ap (λ (h : Superblock). h.clean) (same_superblock other is) in absurd (cc (same, unclean, clean))
+
+  clean_has_no_entries : (count : ℕ) → head.clean ≡ true → IsAnswer blocks (Entries count) → ⊥
+  clean_has_no_entries count clean (other, last, window, opens, unclean, number) =
+      let same = ap (λ (h : Superblock). h.clean) (same_superblock other opens.accepted) in absurd (cc (same, unclean, clean))
+
+  -- count: as many as the window has
+  clean_answer : head.clean ≡ true → IsAnswer blocks Clean
+  clean_answer clean = (head, accepted, clean)
+
+  -- Refusals: want of memory comes for an unclean image alone, and a device's only where a call failed.
+  clean_has_memory : head.clean ≡ true → IsRefusal blocks seen seen Memory → ⊥
+  clean_has_memory clean (other, is, unclean) =
+      let same = ap (λ (h : Superblock). h.clean) (same_superblock other is) in absurd (cc (same, unclean, clean))
+
+no_call_failed : (blocks : Blocks) → IsRefusal blocks seen seen Device → ⊥
+no_call_failed blocks rose = omega (arith, rose)
+
+a_call_failed : (blocks : Blocks) → IsRefusal blocks seen (record seen { faults = 4 }) Device
+a_call_failed blocks = omega arith
+
+-- it mends what is unclean, and looks at no number of mappings
+never_unclean : (blocks : Blocks) → IsRefusal blocks seen seen Unclean → ⊥
+never_unclean blocks none = none
+
+none_flushed : (calls : List Call) → Flush true ∷ [] ≡ calls ++ [] → OnlyReads calls → ⊥
+none_flushed [] same reads = absurd (cc same)
+none_flushed (Flush ok ∷ calls) same reads = reads
+none_flushed (Read at bytes ok ∷ calls) same reads = absurd (cc same)
+none_flushed (Write at bytes ok ∷ calls) same reads = reads
+
+-- nothing: after another refusal than a device's nothing was written
+written_and_refused : IsRecovery true true seen flushed (Err Memory) → ⊥
+written_and_refused is = elim is.nothing [
+  | inl device ↦ absurd (cc device)
+  | inr untouched ↦
+      let since = untouched.reads refl in
+      none_flushed since.0 since.1 since.2
+]

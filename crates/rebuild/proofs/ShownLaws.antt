@@ -1,0 +1,140 @@
+-- What recovery answers is what the one image of an honest device says; and why a call's failure is its cause.
+use Rattle.std.proofs.Common.{ℕ, ◌≡◌, ◌≤◌, Bool, true, false, List, [], ◌∷◌, Ok, length, reverse, refl, inl, inr, arith}
+use Rattle.audit.specs.Audits.{AuditWithFails}
+use Rattle.blk_base.specs.Regions.{needed_blocks}
+use Rattle.blk_base.specs.declared.geometry.Geometry.{Geometry}
+use Rattle.blk_base.specs.declared.geometry.Super.{Super as Superblock}
+use Rattle.disk_model.specs.Causes.{Rose}
+use Rattle.disk_model.specs.Images.{HasOneImage}
+use Rattle.disk_model.specs.Log.{Blocks}
+use Rattle.disk_model.specs.Seen.{Later, Seen}
+use Rattle.disk_model.specs.Since.{IsUntouched}
+use Rattle.disk_model.proofs.SinceLaws.{untouched_on, untouched_yet, were_only_read}
+use Rattle.image_layout.specs.Opened.{super_of_image}
+use Rattle.image_model.specs.Faults.{IsCountFault, IsOpened, IsShareFault}
+use Rattle.image_model.specs.Maps.{ArePagesGood}
+use Rattle.image_model.specs.Sound.{AreStored, Opens, image_of}
+use Rattle.image_model.specs.declared.fault.ImageFault.{ImageFault}
+use Rattle.image_model.specs.declared.fault.ImageFault.TheVariants.{Super, Window, Page, Counter, SharedPage, Counts, Device, Unclean, Memory}
+use Rattle.image_opening.proofs.HeadLaws.{head_fault, head_shown}
+use Rattle.image_opening.specs.Heads.{HeadFails, IsHeadRead}
+use Rattle.journal_window.proofs.ReadWindowLaws.{fault_shown, window_shown}
+use Rattle.journal_window.specs.Reads.{Fails, IsWindowRead}
+use Rattle.journal_window.specs.States.{WindowState}
+use Rattle.replay_map.proofs.HonestLaws.{all_shown}
+use Rattle.replay_map.proofs.ReadLaws.{blocks_untouched}
+use Rattle.slab_reading.specs.Reads.{SlabsRead}
+use Rattle.slab_reading.specs.Slabs.{first_of_slab}
+use Rattle.rebuild.proofs.ReadLaws.{both_shown, still}
+use Rattle.rebuild.specs.Outcomes.{HasEntries, UncleanFails}
+use Rattle.rebuild.specs.Recoveries.{IsAnswer, IsRefusal, IsTold, IsUnclean}
+use Rattle.rebuild.specs.declared.forms.Recovered.TheVariants.{Clean, Entries}
+
+-- A failed call has its cause.
+
+rose_behind : (before middle now : Seen) → Later before middle → Rose middle.faults now.faults → Rose before.faults now.faults
+rose_behind before middle now later rose = let less = later.faults in omega (arith, less, rose)
+
+slabs_later : (tells honest : Bool) (g : Geometry) (before now : Seen) (reads : List Blocks) → SlabsRead tells honest g before now reads → IsUntouched tells before now
+slabs_later tells honest g before now [] same = rw same (untouched_yet tells before)
+slabs_later tells honest g before now (read ∷ older) (middle, earlier, is) =
+    untouched_on tells before middle now (slabs_later tells honest g before middle older earlier)
+    (were_only_read tells honest (first_of_slab g (length older)) middle now (reverse read) is.reads)
+
+audit_rose : (tells honest : Bool) (head : Superblock) (window : WindowState) (before now : Seen) → AuditWithFails tells honest head window before now Device → Rose before.faults now.faults
+audit_rose tells honest head window before now (inl (reads, middle, at, read, failed)) =
+    rose_behind before middle now (blocks_untouched tells honest before middle reads read).later failed.rose
+audit_rose tells honest head window before now (inr (pages, middle, read, (slabs, few, last, slabs_read, (blocks, short, failed)))) =
+    rose_behind before middle now (blocks_untouched tells honest before middle pages read).later
+    (rose_behind middle last now (slabs_later tells honest head.geometry middle last slabs slabs_read).later failed.rose)
+
+unclean_rose : (tells honest : Bool) (head : Superblock) (before now : Seen) → UncleanFails tells honest head before now Device → Rose before.faults now.faults
+unclean_rose tells honest head before now (inl (blocks, few, failed)) = failed.rose
+unclean_rose tells honest head before now (inr (inl (middle, window, read, fails))) =
+    rose_behind before middle now (were_only_read tells honest 1 before middle (reverse read.0) read.1.read).later (audit_rose tells honest head window middle now fails)
+unclean_rose tells honest head before now (inr (inr (same, rose))) = rose
+
+-- By the one image.
+
+module _ (tells honest : Bool) (before : Seen) (blocks : Blocks) (is : IsTold tells honest before blocks) where
+  module _ (middle : Seen) (head : Superblock) (head_read : IsHeadRead tells honest before middle head) where
+    abbrev accepted : super_of_image blocks ≡ Ok head
+    accepted = head_shown tells honest before middle blocks is.told is.fair is.one head head_read
+
+    head_untouched : IsUntouched tells before middle
+    head_untouched = were_only_read tells honest 0 before middle (head_read.block ∷ []) head_read.read
+
+    one_there : HasOneImage middle.opening middle.log blocks
+    one_there = still tells honest blocks is.told is.fair before middle head_untouched is.one
+
+    enough : needed_blocks head.geometry ≤ middle.size
+    enough = let room = head_read.is.room in let size = head_untouched.stays.size in omega (arith, room, size)
+
+    module _ (second : Seen) (window : WindowState) (read : IsWindowRead tells honest middle second head window) where
+      pub window_opens : Opens blocks head window.last window.entries
+      window_opens = window_shown tells honest middle second blocks is.told is.fair one_there head enough accepted window read
+
+      window_untouched : IsUntouched tells middle second
+      window_untouched = were_only_read tells honest 1 middle second (reverse read.0) read.1.read
+
+      pub one_behind : HasOneImage second.opening second.log blocks
+      one_behind = still tells honest blocks is.told is.fair middle second window_untouched one_there
+
+      pub enough_behind : needed_blocks head.geometry ≤ second.size
+      enough_behind = let room = enough in let size = window_untouched.stays.size in omega (arith, room, size)
+
+      opened : IsOpened blocks (image_of head blocks window.entries)
+      opened = record { head = head; last = window.last; opens = window_opens; is_image = refl }
+
+      audit_fault : (now : Seen) (why : ImageFault) → AuditWithFails tells honest head window second now why → IsUnclean blocks → IsRefusal blocks before now why
+      audit_fault now (Page at fault) (pages, pages_read, says) unclean =
+          (unclean, (image_of head blocks window.entries, opened, says blocks (all_shown tells honest blocks is.told is.fair second now pages one_behind pages_read)))
+      audit_fault now (Counter at point) fails unclean =
+          let said = both_shown tells honest blocks is.told is.fair head window second now (λ image. ArePagesGood image × IsCountFault image at point.0) one_behind enough_behind fails in
+          (unclean, (image_of head blocks window.entries, opened, said.0, said.1))
+      audit_fault now (SharedPage at) fails unclean =
+          let said = both_shown tells honest blocks is.told is.fair head window second now (λ image. ArePagesGood image × AreStored image × IsShareFault image at) one_behind enough_behind fails in
+          (unclean, (image_of head blocks window.entries, opened, said.0, said.1, said.2))
+      audit_fault now Device fails unclean =
+          rose_behind before middle now head_untouched.later (unclean_rose tells honest head middle now (inr (inl (second, window, read, fails))))
+      audit_fault now Memory fails unclean = unclean
+      audit_fault now (Super fault) fails unclean = absurd fails
+      audit_fault now (Window sequence) fails unclean = absurd fails
+      audit_fault now (Counts at stored mapped) fails unclean = absurd fails
+      audit_fault now Unclean fails unclean = absurd fails
+
+    window_fault : (now : Seen) (why : ImageFault) → Fails tells honest middle now head why → IsUnclean blocks → IsRefusal blocks before now why
+    window_fault now (Super fault) fails unclean = fault_shown tells honest middle now blocks is.told is.fair one_there head enough accepted (Super fault) fails
+    window_fault now (Window sequence) fails unclean = (unclean, fault_shown tells honest middle now blocks is.told is.fair one_there head enough accepted (Window sequence) fails)
+    window_fault now Device (read, few, failed) unclean = rose_behind before middle now head_untouched.later failed.rose
+    window_fault now Memory fails unclean = unclean
+    window_fault now (Page at fault) fails unclean = absurd fails
+    window_fault now (Counter at point) fails unclean = absurd fails
+    window_fault now (SharedPage at) fails unclean = absurd fails
+    window_fault now (Counts at stored mapped) fails unclean = absurd fails
+    window_fault now Unclean fails unclean = absurd fails
+
+    device_refused : (now : Seen) (why : ImageFault) → why ≡ Device → Rose before.faults now.faults → IsRefusal blocks before now why
+    device_refused now why same rose = rw same rose
+
+    pub unclean_refused : (now : Seen) (why : ImageFault) → head.clean ≡ false → UncleanFails tells honest head middle now why → IsRefusal blocks before now why
+    unclean_refused now why unclean (inl fails) = window_fault now why fails (head, accepted, unclean)
+    unclean_refused now why unclean (inr (inl (second, window, read, fails))) = audit_fault second window read now why fails (head, accepted, unclean)
+    unclean_refused now why unclean (inr (inr (same, rose))) = device_refused now why same (rose_behind before middle now head_untouched.later rose)
+
+    pub clean_answer : head.clean ≡ true → IsAnswer blocks Clean
+    clean_answer clean = (head, accepted, clean)
+
+    pub entries_answer : (count : ℕ) → head.clean ≡ false → HasEntries tells honest head middle count → IsAnswer blocks (Entries count)
+    entries_answer count unclean (second, window, read, number) = (head, window.last, window.entries, window_opens second window read, unclean, number)
+
+  pub head_refused : (now : Seen) (why : ImageFault) → length before.opening ≡ before.size → HeadFails tells honest before now why → IsRefusal blocks before now why
+  head_refused now (Super fault) told fails = head_fault tells honest before now blocks is.told is.fair is.one (Super fault) told fails
+  head_refused now Device told failed = failed.rose
+  head_refused now (Window sequence) told fails = absurd fails
+  head_refused now (Page at fault) told fails = absurd fails
+  head_refused now (Counter at point) told fails = absurd fails
+  head_refused now (SharedPage at) told fails = absurd fails
+  head_refused now (Counts at stored mapped) told fails = absurd fails
+  head_refused now Unclean told fails = absurd fails
+  head_refused now Memory told fails = absurd fails

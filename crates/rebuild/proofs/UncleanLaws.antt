@@ -1,0 +1,193 @@
+-- How the recovery of an image ends whose superblock was read.
+use Rattle.std.proofs.Common.{ℕ, ◌≡◌, ◌≤◌, Bool, true, List, [], ◌∷◌, ◌++◌, Result, Ok, Err, OnErr, IsErr, IsErrAnd, reverse, refl, sym, subst, inl, inr, arith}
+use Rattle.blk_base.specs.Regions.{needed_blocks}
+use Rattle.blk_base.specs.declared.geometry.Geometry.{Geometry}
+use Rattle.blk_base.specs.declared.geometry.Super.{Super as Superblock}
+use Rattle.blk_base.specs.declared.place.Mapping.{Mapping}
+use Rattle.disk_model.specs.declared.call.Call.{Call}
+use Rattle.disk_model.specs.declared.call.Call.TheVariants.{Flush}
+use Rattle.disk_model.specs.declared.call.Failed.{Failed}
+use Rattle.disk_model.specs.Causes.{Rose}
+use Rattle.disk_model.specs.Images.{HasOneImage}
+use Rattle.disk_model.specs.Log.{Blocks}
+use Rattle.disk_model.specs.Seen.{Later, Seen, Stays}
+use Rattle.disk_model.specs.Since.{IsUntouched}
+use Rattle.disk_model.proofs.SeenLaws.{later_on, stays_on}
+use Rattle.disk_model.proofs.SinceLaws.{untouched_on, were_only_read}
+use Rattle.image_format.specs.Calls.{put}
+use Rattle.image_format.specs.Runs.{Makes}
+use Rattle.image_layout.specs.Opened.{super_of_image}
+use Rattle.image_layout.specs.Superblock.{super_block}
+use Rattle.image_model.specs.Maps.{Image}
+use Rattle.image_model.specs.Sound.{Opens}
+use Rattle.image_model.specs.declared.fault.ImageFault.{ImageFault}
+use Rattle.image_model.specs.declared.fault.ImageFault.TheVariants.{Device}
+use Rattle.journal_window.proofs.ReadWindowLaws.{window_shown}
+use Rattle.journal_window.specs.Reads.{IsWindowRead}
+use Rattle.journal_window.specs.States.{WindowState}
+use Rattle.recovery_laws.specs.Calls.{ArePuts}
+use Rattle.recovery_laws.specs.Kept.{image_in, recovered_super}
+use Rattle.replay_counts.specs.Recovered.{HasCounts}
+use Rattle.replay_map.specs.Changes.{AreNewest}
+use Rattle.replay_map.specs.Replayed.{HasMap}
+use Rattle.replay_map.specs.declared.changes.SlotId.{SlotId}
+use Rattle.rebuild.proofs.ActLaws.{none_made, read_made}
+use Rattle.rebuild.proofs.KeptLaws.{closes_to, image_alike, made_kept, opened_alike, stopped_kept}
+use Rattle.rebuild.proofs.ReadLaws.{both_shown, still}
+use Rattle.rebuild.specs.Acts.{Acts, AreMade, IsStart}
+use Rattle.rebuild.specs.Done.{AreBothDone, HasContents}
+use Rattle.rebuild.specs.Outcomes.{Ends, IsKeptSince, RecoversUnclean, UncleanFails, WritesAll}
+use Rattle.rebuild.specs.Reads.{AreContents}
+use Rattle.rebuild.specs.declared.forms.Contents.{Contents}
+
+ends_failed : {T E : Type 0} (image : Image) (last : ℕ) (first now : Seen) (result : Result T E) → IsErr result → IsKeptSince image first now → Ends image last first now result
+ends_failed image last first now (Ok _) is kept = absurd (cc is)
+ends_failed image last first now (Err _) is kept = kept
+
+rose_of : (before now : Seen) (result : Result (Unit {0}) Failed) → Rose before.faults now.faults → OnErr result (Rose before.faults now.faults)
+rose_of before now (Ok _) rose = tt
+rose_of before now (Err _) rose = rose
+
+-- Writing.
+
+pub blocks_failed : (tells honest : Bool) (before now : Seen) (N : Image → Type 0) (last : ℕ) (fault : Failed) (result : Result (Unit {0}) Failed) → IsErr result
+    → Acts tells honest before now N AreBothDone (Err fault) → WritesAll tells honest before now N last result
+blocks_failed tells honest before now N last fault result is acts = record {
+  stays = acts.stays;
+  later = acts.later;
+  rose = rose_of before now result acts.rose;
+  ends = λ first blocks start calls made has same.
+      ends_failed (image_in blocks start.to.sound) start.to.sound.last first now result is
+      (stopped_kept tells honest first blocks start now (acts.recovers first blocks start calls made has));
+}
+
+module _ (tells honest : Bool) (before middle now : Seen) (N : Image → Type 0) (last : ℕ) where
+  abbrev closing : Geometry → List Call
+  closing g = Flush true ∷ put 0 (super_block (recovered_super g last)) ∷ Flush true ∷ []
+
+  makes_stays : (calls : List Call) (result : Result (Unit {0}) Failed) → Makes tells middle now calls result → Stays middle now × Later middle now × OnErr result (Rose middle.faults now.faults)
+  makes_stays calls (Ok _) makes = (makes.stays, makes.later, tt)
+  makes_stays calls (Err _) makes = (makes.stays, makes.later, makes.rose)
+
+  rose_behind : (result : Result (Unit {0}) Failed) → before.faults ≤ middle.faults → OnErr result (Rose middle.faults now.faults) → OnErr result (Rose before.faults now.faults)
+  rose_behind (Ok _) less rose = tt
+  rose_behind (Err _) less rose = omega (arith, less, rose)
+
+  pub all_written : (g : Geometry) (result : Result (Unit {0}) Failed) → ((image : Image) → N image → image.geometry ≡ g) → Acts tells honest before middle N AreBothDone (Ok tt)
+      → Makes tells middle now (closing g) result → WritesAll tells honest before now N last result
+  all_written g result sizes acts makes =
+      let parts = makes_stays (closing g) result makes in record {
+        stays = stays_on before middle now acts.stays parts.0;
+        later = later_on before middle now acts.later parts.1;
+        rose = rose_behind result acts.later.faults parts.2;
+        ends = λ first blocks start calls made has same.
+            let image = image_in blocks start.to.sound in
+            let went = acts.recovers first blocks start calls made has in
+            let are : ArePuts image (went.0 ++ calls) = record { each = went.1.each; pages = went.2.0; counters = went.2.1 } in
+            closes_to tells honest first blocks start middle now (went.0 ++ calls) went.1 are result
+            (subst (λ (n : ℕ). Makes tells middle now (Flush true ∷ put 0 (super_block (recovered_super image.geometry n)) ∷ Flush true ∷ []) result) (sym same)
+            (subst (λ (h : Geometry). Makes tells middle now (closing h) result) (sym (sizes image has)) makes));
+      }
+
+-- Reading.
+
+pub read_refused : (tells honest : Bool) (head : Superblock) (before now : Seen) (why : ImageFault) → UncleanFails tells honest head before now why → IsUntouched tells before now
+    → RecoversUnclean tells honest head before now (Err why)
+read_refused tells honest head before now why fails untouched = record {
+  stays = untouched.stays;
+  later = untouched.later;
+  entries = tt;
+  fails = fails;
+  nothing = inr untouched;
+  ends = λ first blocks start before_it accepted.
+      let image = image_in blocks start.to.sound in
+      let made = read_made tells image first first now [] start.told (none_made image first) (untouched_on tells first before now before_it untouched) in
+      made_kept tells honest first blocks start now (made.0 ++ []) made.1;
+}
+
+pub passed_as : (tells honest : Bool) (head : Superblock) (before now : Seen) (why : ImageFault) (result : Result ℕ ImageFault) → IsErrAnd result (λ e. e ≡ why)
+    → RecoversUnclean tells honest head before now (Err why) → RecoversUnclean tells honest head before now result
+passed_as tells honest head before now why (Ok x) is recovers = absurd is
+passed_as tells honest head before now why (Err e) is recovers = subst (λ (f : ImageFault). RecoversUnclean tells honest head before now (Err f)) (sym is) recovers
+
+-- Both.
+
+module _ (tells honest : Bool) (head : Superblock) (before second third now : Seen) (window : WindowState) (changes : List (SlotId × Mapping)) (contents : Contents)
+    (read : IsWindowRead tells honest before second head window) (is : AreContents tells honest head window second third contents) (read_only : IsUntouched tells second third)
+    (newest : AreNewest window.entries changes) (room : needed_blocks head.geometry ≤ before.size) where
+  abbrev Needs : Image → Type 0
+  Needs = HasContents head.geometry changes contents.map.links.items contents.counts.counts.items contents.counts.sectors.items
+
+  window_read : IsUntouched tells before second
+  window_read = were_only_read tells honest 1 before second (reverse read.0) read.1.read
+
+  all_read : IsUntouched tells before third
+  all_read = untouched_on tells before second third window_read read_only
+
+  module _ (first : Seen) (blocks : Blocks) (start : IsStart tells honest first blocks) (before_it : IsUntouched tells first before) (accepted : super_of_image blocks ≡ Ok head) where
+    abbrev image : Image
+    image = image_in blocks start.to.sound
+
+    one_here : HasOneImage before.opening before.log blocks
+    one_here = still tells honest blocks start.told start.fair first before before_it start.to.one
+
+    opens : Opens blocks head window.last window.entries
+    opens = window_shown tells honest before second blocks start.told start.fair one_here head room accepted window read
+
+    one_there : HasOneImage second.opening second.log blocks
+    one_there = still tells honest blocks start.told start.fair before second window_read one_here
+
+    needs : Needs image
+    needs =
+        let room_there : needed_blocks head.geometry ≤ second.size = let size = window_read.stays.size in omega (arith, size, room) in
+        let both = both_shown tells honest blocks start.told start.fair head window second third
+        (λ i. HasMap i contents.map × HasCounts i contents.counts.counts.items contents.counts.sectors.items) one_there room_there is.shown in
+        subst Needs (image_alike blocks start.to.sound head window.last window.entries opens)
+        (record { sizes = refl; newest = newest; links = both.0.links; counts = both.1 })
+
+    last_is : start.to.sound.last ≡ window.last
+    last_is = sym (opened_alike blocks start.to.sound head window.last window.entries opens).1
+
+    made : (reads : List Call) × AreMade image first third (reads ++ [])
+    made = read_made tells image first first third [] start.told (none_made image first) (untouched_on tells first before third before_it all_read)
+
+    ends_so : (result : Result (Unit {0}) Failed) → WritesAll tells honest third now Needs window.last result → Ends image start.to.sound.last first now result
+    ends_so result writes = writes.ends first blocks start (made.0 ++ []) made.1 needs last_is
+
+  pub write_failed : (fault : Failed) → WritesAll tells honest third now Needs window.last (Err fault) → RecoversUnclean tells honest head before now (Err Device)
+  write_failed fault writes = record {
+    stays = stays_on before third now all_read.stays writes.stays;
+    later = later_on before third now all_read.later writes.later;
+    entries = tt;
+    fails = inr (inr (refl, let less = all_read.later.faults in let rose = writes.rose in omega (arith, less, rose)));
+    nothing = inl refl;
+    ends = λ first blocks start before_it accepted. ends_so first blocks start before_it accepted (Err fault) writes;
+  }
+
+  pub unclean_recovered : WritesAll tells honest third now Needs window.last (Ok tt) → RecoversUnclean tells honest head before now (Ok contents.map.entries)
+  unclean_recovered writes = record {
+    stays = stays_on before third now all_read.stays writes.stays;
+    later = later_on before third now all_read.later writes.later;
+    entries = (second, window, read, is.entries);
+    fails = tt;
+    nothing = tt;
+    ends = λ first blocks start before_it accepted. ends_so first blocks start before_it accepted (Ok tt) writes;
+  }
+
+  -- by the sizes of a layout, and a last sequence that was asked for
+  writes_as : (g : Geometry) (last : ℕ) (result : Result (Unit {0}) Failed) → g ≡ head.geometry → last ≡ window.last
+      → WritesAll tells honest third now (HasContents g changes contents.map.links.items contents.counts.counts.items contents.counts.sectors.items) last result
+      → WritesAll tells honest third now Needs window.last result
+  writes_as g last result sizes same writes =
+      subst (λ (n : ℕ). WritesAll tells honest third now Needs n result) same
+      (subst (λ (h : Geometry). WritesAll tells honest third now (HasContents h changes contents.map.links.items contents.counts.counts.items contents.counts.sectors.items) last result) sizes writes)
+
+  pub write_failed_as : (g : Geometry) (last : ℕ) (fault : Failed) → g ≡ head.geometry → last ≡ window.last
+      → WritesAll tells honest third now (HasContents g changes contents.map.links.items contents.counts.counts.items contents.counts.sectors.items) last (Err fault)
+      → RecoversUnclean tells honest head before now (Err Device)
+  write_failed_as g last fault sizes same writes = write_failed fault (writes_as g last (Err fault) sizes same writes)
+
+  pub recovered_as : (g : Geometry) (last : ℕ) → g ≡ head.geometry → last ≡ window.last
+      → WritesAll tells honest third now (HasContents g changes contents.map.links.items contents.counts.counts.items contents.counts.sectors.items) last (Ok tt)
+      → RecoversUnclean tells honest head before now (Ok contents.map.entries)
+  recovered_as g last sizes same writes = unclean_recovered (writes_as g last (Ok tt) sizes same writes)

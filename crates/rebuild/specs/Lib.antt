@@ -1,0 +1,5 @@
+pub mod Reads
+pub mod Acts
+pub mod Done
+pub mod Outcomes
+pub mod Recoveries

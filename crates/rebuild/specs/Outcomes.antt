@@ -1,0 +1,73 @@
+-- How the recovery of an image ends whose last session wasn't closed.
+use Rattle.std.specs.Prelude.{ℕ, ◌≡◌, ◌⊎◌, Bool, List, ◌++◌, length, Result, Ok, Err, IfOk, IfErr, OnErr}
+use Rattle.audit.specs.Audits.{AuditWithFails}
+use Rattle.blk_base.specs.declared.geometry.Super.{Super as Superblock}
+use Rattle.disk_model.specs.declared.call.Call.{Call}
+use Rattle.disk_model.specs.declared.call.Failed.{Failed}
+use Rattle.disk_model.specs.Causes.{Rose}
+use Rattle.disk_model.specs.Seen.{Later, Seen, Stays}
+use Rattle.disk_model.specs.Log.{Blocks}
+use Rattle.disk_model.specs.Since.{IsUntouched, SinceThen}
+use Rattle.image_layout.specs.Opened.{super_of_image}
+use Rattle.image_model.specs.Maps.{Image}
+use Rattle.image_model.specs.declared.fault.ImageFault.{ImageFault}
+use Rattle.image_model.specs.declared.fault.ImageFault.TheVariants.{Device}
+use Rattle.journal_window.specs.Reads.{IsWindowRead, Fails}
+use Rattle.journal_window.specs.States.{WindowState}
+use Rattle.recovery_laws.specs.Calls.{ArePuts, recovery_calls}
+use Rattle.recovery_laws.specs.Kept.{AreStopsKept, image_in}
+use Rattle.rebuild.specs.Acts.{AreMade, IsStart}
+
+-- Of any device.
+
+-- The journal was read, and its window has so many entries.
+abbrev pub HasEntries : Bool → Bool → Superblock → Seen → ℕ → Type 0
+HasEntries tells honest head before count =
+    (middle : Seen) × (window : WindowState) × IsWindowRead tells honest before middle head window × (count ≡ length window.entries)
+
+-- Why an image isn't recovered whose superblock was read: its journal has no window; or it was read, and then the first
+-- fault of the map and the counts was; or a call failed.
+abbrev pub UncleanFails : Bool → Bool → Superblock → Seen → Seen → ImageFault → Type 0
+UncleanFails tells honest head before now why =
+    Fails tells honest before now head why
+    ⊎ ((middle : Seen) × (window : WindowState) × IsWindowRead tells honest before middle head window × AuditWithFails tells honest head window middle now why)
+    ⊎ ((why ≡ Device) × Rose before.faults now.faults)
+
+-- nothing was written, but where a call failed
+abbrev pub WritesNothing : Bool → Seen → Seen → ImageFault → Type 0
+WritesNothing tells before now why = (why ≡ Device) ⊎ IsUntouched tells before now
+
+-- Of an honest device, at a start.
+
+-- all writes of recovery were made since, and the superblock behind them; whatever a stop leaves before that says the same
+abbrev pub IsAllMade : Image → ℕ → Seen → Seen → Type 0
+IsAllMade image last first now = (puts : List Call) × ArePuts image puts × (now.log ≡ recovery_calls image last puts ++ first.log)
+
+-- whatever a stop leaves says the same, at each moment since
+abbrev pub IsKeptSince : Image → Seen → Seen → Type 0
+IsKeptSince image first now = SinceThen (AreStopsKept image first.opening first.log) first.log now.log
+
+abbrev pub Ends : {T E : Type 0} → Image → ℕ → Seen → Seen → Result T E → Type 0
+Ends image last first now (Ok _) = IsAllMade image last first now
+Ends image last first now (Err _) = IsKeptSince image first now
+
+-- The whole.
+
+-- What writing all of an image answers: where a call failed, its count rose. From each start on, after reads and where the
+-- image has what is needed and this last sequence, it ends so.
+pub record WritesAll (tells honest : Bool) (before now : Seen) (Needs : Image → Type 0) (last : ℕ) (result : Result (Unit {0}) Failed) : Type 0 where
+  pub stays : Stays before now
+  pub later : Later before now
+  pub rose : OnErr result (Rose before.faults now.faults)
+  pub ends : (first : Seen) (blocks : Blocks) (start : IsStart tells honest first blocks) (calls : List Call) → AreMade (image_in blocks start.to.sound) first before calls
+      → Needs (image_in blocks start.to.sound) → start.to.sound.last ≡ last → Ends (image_in blocks start.to.sound) start.to.sound.last first now result
+
+-- what recovering an image answers whose superblock was read and says that its last session wasn't closed
+pub record RecoversUnclean (tells honest : Bool) (head : Superblock) (before now : Seen) (result : Result ℕ ImageFault) : Type 0 where
+  pub stays : Stays before now
+  pub later : Later before now
+  pub entries : IfOk result (HasEntries tells honest head before)
+  pub fails : IfErr result (UncleanFails tells honest head before now)
+  pub nothing : IfErr result (WritesNothing tells before now)
+  pub ends : (first : Seen) (blocks : Blocks) (start : IsStart tells honest first blocks) → IsUntouched tells first before → super_of_image blocks ≡ Ok head
+      → Ends (image_in blocks start.to.sound) start.to.sound.last first now result

@@ -1,0 +1,91 @@
+-- What is promised of the recovery of an image.
+use Rattle.std.specs.Prelude.{ℕ, ◌≡◌, ◌⊎◌, Bool, IsTrue, true, false, List, length, Result, Ok, Err, IfOk, IfErr}
+use Rattle.blk_base.specs.declared.geometry.Super.{Super as Superblock}
+use Rattle.blk_base.specs.declared.journal_entry.CommittedEntry.{CommittedEntry}
+use Rattle.disk_model.specs.Causes.{Rose}
+use Rattle.disk_model.specs.Images.{HasOneImage}
+use Rattle.disk_model.specs.Log.{Blocks}
+use Rattle.disk_model.specs.Seen.{Later, Seen, Stays}
+use Rattle.disk_model.specs.Since.{IsUntouched}
+use Rattle.image_layout.specs.Opened.{super_of_image}
+use Rattle.image_model.specs.Faults.{IsImageFault}
+use Rattle.image_model.specs.Sound.{IsSound, Opens}
+use Rattle.image_model.specs.declared.fault.ImageFault.{ImageFault}
+use Rattle.image_model.specs.declared.fault.ImageFault.TheVariants.{Super, Window, Page, Counter, SharedPage, Counts, Device, Unclean, Memory}
+use Rattle.image_opening.specs.Heads.{HeadFails, IsHeadRead}
+use Rattle.recovery_laws.specs.Kept.{IsRecovered, image_in}
+use Rattle.rebuild.specs.Outcomes.{HasEntries, IsKeptSince, UncleanFails, WritesNothing}
+use Rattle.rebuild.specs.declared.forms.Recovered.{Recovered}
+use Rattle.rebuild.specs.declared.forms.Recovered.TheVariants.{Clean, Entries}
+
+-- Of any device.
+
+-- what it answers: block 0 was read, and its superblock says that the last session was closed, and then nothing was
+-- written; or that it wasn't, and then the journal was read, whose window has so many entries
+abbrev pub Answers : Bool → Bool → Seen → Seen → Recovered → Type 0
+Answers tells honest before now Clean = (head : Superblock) × IsHeadRead tells honest before now head × (head.clean ≡ true) × IsUntouched tells before now
+Answers tells honest before now (Entries count) =
+    (head : Superblock) × (middle : Seen) × IsHeadRead tells honest before middle head × (head.clean ≡ false) × HasEntries tells honest head middle count
+
+-- why there is none: block 0 is no superblock, or wasn't read; or the last session wasn't closed, and then as above
+abbrev pub RecoverFails : Bool → Bool → Seen → Seen → ImageFault → Type 0
+RecoverFails tells honest before now why =
+    HeadFails tells honest before now why
+    ⊎ ((head : Superblock) × (middle : Seen) × IsHeadRead tells honest before middle head × (head.clean ≡ false) × UncleanFails tells honest head middle now why)
+
+-- Of an honest device on which nothing is pending: by its one image.
+
+-- what it answers
+abbrev pub IsAnswer : Blocks → Recovered → Type 0
+IsAnswer blocks Clean = (head : Superblock) × (super_of_image blocks ≡ Ok head) × (head.clean ≡ true)
+IsAnswer blocks (Entries count) =
+    (head : Superblock) × (last : ℕ) × (window : List CommittedEntry) × Opens blocks head last window × (head.clean ≡ false) × (count ≡ length window)
+
+-- the image has this superblock, which says that the last session wasn't closed
+abbrev pub IsUnclean : Blocks → Type 0
+IsUnclean blocks = (head : Superblock) × (super_of_image blocks ≡ Ok head) × (head.clean ≡ false)
+
+-- why there is none: the image has this fault, the first of its faults; a call failed, or want of memory
+abbrev pub IsRefusal : Blocks → Seen → Seen → ImageFault → Type 0
+IsRefusal blocks before now (Super fault) = IsImageFault blocks (Super fault)
+IsRefusal blocks before now (Window sequence) = IsUnclean blocks × IsImageFault blocks (Window sequence)
+IsRefusal blocks before now (Page at fault) = IsUnclean blocks × IsImageFault blocks (Page at fault)
+IsRefusal blocks before now (Counter at point) = IsUnclean blocks × IsImageFault blocks (Counter at point)
+IsRefusal blocks before now (SharedPage at) = IsUnclean blocks × IsImageFault blocks (SharedPage at)
+IsRefusal blocks before now Device = Rose before.faults now.faults
+IsRefusal blocks before now Memory = IsUnclean blocks
+IsRefusal blocks before now (Counts at stored mapped) = ⊥
+IsRefusal blocks before now Unclean = ⊥
+
+abbrev pub IsResult : Blocks → Seen → Seen → Result Recovered ImageFault → Type 0
+IsResult blocks before now (Ok recovered) = IsAnswer blocks recovered
+IsResult blocks before now (Err why) = IsRefusal blocks before now why
+
+-- Each way it ends: where the image is sound, whatever a stop leaves at each moment since is sound and says the same.
+abbrev pub AreStopsSound : Blocks → Seen → Seen → Type 0
+AreStopsSound blocks before now = (sound : IsSound blocks) → IsKeptSince (image_in blocks sound) before now
+
+-- After recovery nothing is pending, and the image is sound and closed, and says the same.
+abbrev pub LeavesClosed : Blocks → Seen → Recovered → Type 0
+LeavesClosed blocks now Clean = Unit {0}
+LeavesClosed blocks now (Entries count) =
+    (sound : IsSound blocks) → (image : Blocks) × HasOneImage now.opening now.log image × IsRecovered (image_in blocks sound) sound.last image
+
+-- the one image of a device that tells and is honest
+pub record IsTold (tells honest : Bool) (seen : Seen) (blocks : Blocks) : Type 0 where
+  pub told : IsTrue tells
+  pub fair : IsTrue honest
+  pub one : HasOneImage seen.opening seen.log blocks
+
+-- The whole.
+pub record IsRecovery (tells honest : Bool) (before now : Seen) (result : Result Recovered ImageFault) : Type 0 where
+  -- of any device
+  pub stays : Stays before now
+  pub later : Later before now
+  pub answers : IfOk result (Answers tells honest before now)
+  pub fails : IfErr result (RecoverFails tells honest before now)
+  pub nothing : IfErr result (WritesNothing tells before now)
+  -- of an honest one, by its one image
+  pub says : (blocks : Blocks) → IsTold tells honest before blocks → IsResult blocks before now result
+  pub stops : (blocks : Blocks) → IsTold tells honest before blocks → AreStopsSound blocks before now
+  pub closed : IfOk result (λ recovered. (blocks : Blocks) → IsTold tells honest before blocks → LeavesClosed blocks now recovered)

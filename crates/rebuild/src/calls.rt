@@ -1,0 +1,58 @@
+ghost use Rattle.std.specs.Prelude.{◌≡◌, ◌≤◌, ◌<◌, ◌^◌, ◌∷◌, [], true};
+ghost use Rattle.disk_model.specs.declared.call.Call.TheVariants.{Flush};
+ghost use Rattle.image_format.specs.Calls.{put};
+ghost use Rattle.image_format.specs.Runs.{Makes};
+ghost use Rattle.image_layout.specs.Superblock.{super_block};
+ghost use Rattle.recovery_laws.specs.Kept.{recovered_super};
+ghost use Rattle.rebuild.specs.Reads.{ReadsOne};
+
+use blk_base::{Block, Geometry, Pbn, Super};
+use disk_model::{Disk, Failed};
+use image_layout::write_super;
+
+// Reads a block.
+pub(crate) fn read<D: Disk>(device: &mut D, at: Pbn, into: &mut Block) -> Result<(), Failed>
+    requires { at.0 < (D.seen device.old).size }
+    ensures { ReadsOne D.tells D.honest at (D.seen device.old) (D.seen device.new) into.new result }
+{
+    // Asked for the proof alone: a device that tells has as many opening blocks.
+    let _blocks = device.blocks();
+    device.read(at, into)?;
+    // Looked at for the proof alone: a block has 4096 bytes.
+    let _bytes = &into.bytes;
+    Ok(())
+}
+
+// Writes a block.
+pub(crate) fn put<D: Disk>(device: &mut D, at: Pbn, block: &Block) -> Result<(), Failed>
+    requires { at.0 < (D.seen device.old).size }
+    ensures { Makes D.tells (D.seen device.old) (D.seen device.new) (put at.0 block.now ∷ []) result }
+{
+    device.write(at, block)
+}
+
+// Makes the writes last.
+fn flush<D: Disk>(device: &mut D) -> Result<(), Failed>
+    ensures { Makes D.tells (D.seen device.old) (D.seen device.new) (Flush true ∷ []) result }
+{
+    device.flush()
+}
+
+// Once all pages and counters are written: the superblock of a closed image, which goes on behind this last sequence.
+pub(crate) fn close<D: Disk>(device: &mut D, sizes: &Geometry, last: u64) -> Result<(), Failed>
+    requires some { 0 < (D.seen device.old).size }
+    requires few { last < 2 ^ 55 }
+    ensures { Makes D.tells (D.seen device.old) (D.seen device.new)
+        (Flush true ∷ put 0 (super_block (recovered_super sizes.now last)) ∷ Flush true ∷ []) result }
+{
+    let head = Super {
+        geometry: *sizes,
+        clean: true,
+        start: last + 2,
+    };
+    let mut block = Block::zero();
+    write_super(&head, &mut block);
+    flush(device)?;
+    put(device, Pbn(0), &block)?;
+    flush(device)
+}

@@ -1,0 +1,105 @@
+ghost use Rattle.std.specs.Prelude.{◌≡◌, ◌≤◌, ◌<◌, length};
+ghost use Rattle.blk_base.specs.Regions.{ReferenceBlock, IsPlace, needed_blocks, references_of};
+ghost use Rattle.count_updates.specs.Numbers.{all_blocks, all_sectors};
+ghost use Rattle.rebuild.specs.Acts.{Acts};
+ghost use Rattle.rebuild.specs.Done.{AreSlabsDone, HasTheseCounts, IsBlockDone, IsSlabDone};
+
+use crate::calls::{put, read};
+use blk_base::{Block, Layout};
+use disk_model::{Disk, Failed};
+use recovery_blocks::{has_updates, put_counts};
+use replay_counts::RecoveredCounts;
+
+/// How many sectors a block has.
+const SECTORS: u32 = 8;
+
+// Writes each block of counters that has an update above a commit point.
+pub(crate) fn put_slabs<D: Disk>(
+    device: &mut D,
+    layout: &Layout,
+    counts: &RecoveredCounts,
+) -> Result<(), Failed>
+    requires room { needed_blocks layout.now.geometry ≤ (D.seen device.old).size }
+    requires counts { length counts.now.counts.items ≡ all_blocks layout.now.geometry }
+    requires sectors { length counts.now.sectors.items ≡ all_sectors layout.now.geometry }
+    ensures { Acts D.tells D.honest (D.seen device.old) (D.seen device.new) (HasTheseCounts layout.now.geometry counts.now.counts.items counts.now.sectors.items)
+        (AreSlabsDone layout.now.geometry counts.now.sectors.items layout.now.geometry.slabs) result }
+{
+    for slab in 0..layout.geometry.slabs {
+        put_slab(device, layout, slab, counts)?;
+    }
+    Ok(())
+}
+
+// Writes those of a slab.
+fn put_slab<D: Disk>(
+    device: &mut D,
+    layout: &Layout,
+    slab: u32,
+    counts: &RecoveredCounts,
+) -> Result<(), Failed>
+    requires room { needed_blocks layout.now.geometry ≤ (D.seen device.old).size }
+    requires inside { slab < layout.now.geometry.slabs }
+    requires counts { length counts.now.counts.items ≡ all_blocks layout.now.geometry }
+    requires sectors { length counts.now.sectors.items ≡ all_sectors layout.now.geometry }
+    ensures { Acts D.tells D.honest (D.seen device.old) (D.seen device.new) (HasTheseCounts layout.now.geometry counts.now.counts.items counts.now.sectors.items)
+        (IsSlabDone layout.now.geometry counts.now.sectors.items slab (references_of layout.now.geometry)) result }
+{
+    for i in 0..references(layout) {
+        put_block(device, layout, slab, i, counts)?;
+    }
+    Ok(())
+}
+
+// How many blocks have the counters of a slab.
+fn references(layout: &Layout) -> u32
+    ensures { result ≡ references_of layout.now.geometry }
+{
+    layout.sectors_per_slab().div_ceil(SECTORS)
+}
+
+// Writes this one, if it has.
+fn put_block<D: Disk>(
+    device: &mut D,
+    layout: &Layout,
+    slab: u32,
+    i: u32,
+    counts: &RecoveredCounts,
+) -> Result<(), Failed>
+    requires room { needed_blocks layout.now.geometry ≤ (D.seen device.old).size }
+    requires inside { IsPlace layout.now.geometry (ReferenceBlock slab i) }
+    requires counts { length counts.now.counts.items ≡ all_blocks layout.now.geometry }
+    requires sectors { length counts.now.sectors.items ≡ all_sectors layout.now.geometry }
+    ensures { Acts D.tells D.honest (D.seen device.old) (D.seen device.new) (HasTheseCounts layout.now.geometry counts.now.counts.items counts.now.sectors.items)
+        (IsBlockDone layout.now.geometry counts.now.sectors.items slab i) result }
+{
+    if has_updates(layout, slab, i, &counts.sectors) {
+        write_block(device, layout, slab, i, counts)
+    } else {
+        Ok(())
+    }
+}
+
+// Reads a block of counters, puts the counts into it, and writes it.
+fn write_block<D: Disk>(
+    device: &mut D,
+    layout: &Layout,
+    slab: u32,
+    i: u32,
+    counts: &RecoveredCounts,
+) -> Result<(), Failed>
+    requires room { needed_blocks layout.now.geometry ≤ (D.seen device.old).size }
+    requires inside { IsPlace layout.now.geometry (ReferenceBlock slab i) }
+    requires counts { length counts.now.counts.items ≡ all_blocks layout.now.geometry }
+    requires sectors { length counts.now.sectors.items ≡ all_sectors layout.now.geometry }
+    ensures { Acts D.tells D.honest (D.seen device.old) (D.seen device.new) (HasTheseCounts layout.now.geometry counts.now.counts.items counts.now.sectors.items)
+        (IsBlockDone layout.now.geometry counts.now.sectors.items slab i) result }
+{
+    let at = layout.reference_block(slab, i);
+    let mut block = Block::zero();
+    read(device, at, &mut block)?;
+    put_counts(&mut block, layout, slab, i, counts);
+    // Looked at for the proof alone: a block has 4096 bytes.
+    let _bytes = &block.bytes;
+    put(device, at, &block)
+}

@@ -1,0 +1,85 @@
+ghost use Rattle.std.specs.Prelude.{◌<◌};
+ghost use Rattle.blk_base.specs.declared.sizes.TheConstants.{TREES};
+ghost use Rattle.replay_map.specs.Walks.{IsRoot};
+ghost use Rattle.rebuild.specs.Acts.{Acts};
+ghost use Rattle.rebuild.specs.Done.{AreLinksDone, ArePagesDone, AreRootsDone, HasLinks, HasPage, HasPages, HasRoots, IsPageDone};
+
+use crate::calls::{put, read};
+use blk_base::{Block, Layout, PageId, TREES};
+use disk_model::{Disk, Failed};
+use recovery_blocks::{has_changes, put_changes};
+use replay_map::{Changes, Link};
+
+// Writes each page into whose slots the changes put something.
+pub(crate) fn put_pages<D: Disk>(
+    device: &mut D,
+    layout: &Layout,
+    changes: &Changes,
+    links: &[Link],
+) -> Result<(), Failed>
+    ensures { Acts D.tells D.honest (D.seen device.old) (D.seen device.new) (HasPages layout.now.geometry changes.now links.now) ArePagesDone result }
+{
+    put_roots(device, layout, changes)?;
+    put_links(device, changes, links)
+}
+
+// Writes those of the roots.
+fn put_roots<D: Disk>(device: &mut D, layout: &Layout, changes: &Changes) -> Result<(), Failed>
+    ensures { Acts D.tells D.honest (D.seen device.old) (D.seen device.new) (HasRoots layout.now.geometry changes.now)
+        (AreRootsDone layout.now.geometry changes.now TREES) result }
+{
+    for tree in 0..TREES {
+        let root = root_of(layout, tree);
+        put_page(device, changes, root)?;
+    }
+    Ok(())
+}
+
+// The root of a tree.
+fn root_of(layout: &Layout, tree: u8) -> Link
+    requires { tree < TREES }
+    ensures { IsRoot layout.now.geometry tree result }
+{
+    Link {
+        page: PageId {
+            tree,
+            level: (layout.geometry.height - 1) as u8,
+            index: 0,
+        },
+        at: layout.root(tree),
+    }
+}
+
+// Writes those of these pages.
+fn put_links<D: Disk>(device: &mut D, changes: &Changes, links: &[Link]) -> Result<(), Failed>
+    ensures { Acts D.tells D.honest (D.seen device.old) (D.seen device.new) (HasLinks changes.now links.now) (AreLinksDone changes.now links.now) result }
+{
+    for link in links {
+        put_page(device, changes, *link)?;
+    }
+    Ok(())
+}
+
+// Writes this page, if they do. A device that isn't honest may have given a link past its end: nothing is written there.
+fn put_page<D: Disk>(device: &mut D, changes: &Changes, link: Link) -> Result<(), Failed>
+    ensures { Acts D.tells D.honest (D.seen device.old) (D.seen device.new) (HasPage changes.now link) (IsPageDone changes.now link) result }
+{
+    if !has_changes(link.page, changes) {
+        return Ok(());
+    }
+    if device.blocks() <= link.at.0 {
+        return Ok(());
+    }
+    write_page(device, changes, link)
+}
+
+// Reads the block of a page, puts the changes into its slots, and writes it.
+fn write_page<D: Disk>(device: &mut D, changes: &Changes, link: Link) -> Result<(), Failed>
+    requires { link.at.0 < (D.seen device.old).size }
+    ensures { Acts D.tells D.honest (D.seen device.old) (D.seen device.new) (HasPage changes.now link) (IsPageDone changes.now link) result }
+{
+    let mut block = Block::zero();
+    read(device, link.at, &mut block)?;
+    put_changes(&mut block, link.page, changes);
+    put(device, link.at, &block)
+}

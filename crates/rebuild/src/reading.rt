@@ -1,0 +1,62 @@
+ghost use Rattle.std.specs.Prelude.{◌≤◌, IfOk, IfErr};
+ghost use Rattle.audit.specs.Audits.{AuditWithFails, LaterFails};
+ghost use Rattle.blk_base.specs.Limits.{IsGeometry};
+ghost use Rattle.blk_base.specs.Regions.{needed_blocks};
+ghost use Rattle.disk_model.specs.Log.{Blocks};
+ghost use Rattle.disk_model.specs.Since.{IsUntouched};
+ghost use Rattle.journal_window.specs.Windows.{IsWindowOf};
+ghost use Rattle.rebuild.specs.Reads.{AreContents};
+
+use crate::forms::Contents;
+use blk_base::Super;
+use disk_model::Disk;
+use image_model::ImageFault;
+use journal_window::JournalWindow;
+use replay_counts::counts_with;
+use replay_map::replay_with;
+use std::alloc::Global;
+
+// Reads what the image with this superblock and this window says; or finds its first fault.
+pub(crate) fn read_contents<D: Disk>(
+    alloc: Global,
+    head: &Super,
+    window: &JournalWindow,
+    device: &mut D,
+) -> Result<Contents, ImageFault>
+    requires sizes { IsGeometry head.now.geometry }
+    requires room { needed_blocks head.now.geometry ≤ (D.seen device.old).size }
+    requires window { (journal : Blocks) × IsWindowOf head.now journal window.now }
+    ensures contents { IfOk result (AreContents D.tells D.honest head.now window.now (D.seen device.old) (D.seen device.new)) }
+    ensures fault { IfErr result (AuditWithFails D.tells D.honest head.now window.now (D.seen device.old) (D.seen device.new)) }
+    ensures untouched { IsUntouched D.tells (D.seen device.old) (D.seen device.new) }
+{
+    let map = match replay_with(alloc, head, window, device) {
+        Ok(map) => map,
+        Err(fault) => return Err(first_fault(alloc, head, window, fault, device)),
+    };
+    let counts = counts_with(alloc, head, window.entries(), device)?;
+    Ok(Contents { map, counts })
+}
+
+// The first of this fault of the map and those of the counts, which stand before a page that is shared.
+fn first_fault<D: Disk>(
+    alloc: Global,
+    head: &Super,
+    window: &JournalWindow,
+    fault: ImageFault,
+    device: &mut D,
+) -> ImageFault
+    requires sizes { IsGeometry head.now.geometry }
+    requires room { needed_blocks head.now.geometry ≤ (D.seen device.old).size }
+    requires window { (journal : Blocks) × IsWindowOf head.now journal window.now }
+    ensures fault { LaterFails D.tells D.honest head.now window.now fault (D.seen device.old) (D.seen device.new) result }
+    ensures untouched { IsUntouched D.tells (D.seen device.old) (D.seen device.new) }
+{
+    let ImageFault::SharedPage { .. } = fault else {
+        return fault;
+    };
+    match counts_with(alloc, head, window.entries(), device) {
+        Ok(_counts) => fault,
+        Err(earlier) => earlier,
+    }
+}

@@ -1,0 +1,39 @@
+ghost use Rattle.rebuild.specs.Recoveries.{IsRecovery};
+
+use crate::Recovered;
+use crate::unclean::recover_unclean;
+use disk_model::Disk;
+use image_model::ImageFault;
+use image_opening::read_head;
+use std::alloc::Global;
+
+/// Closes the image on a device whose last session wasn't closed. Each address keeps its mapping and its value, and each
+/// data block its stored count. `Clean` comes exactly where the superblock says that the session was closed, and then
+/// nothing is written; else `Entries` has the length of the window.
+///
+/// | Step | What is done | Then |
+/// |---|---|---|
+/// | 1 | the superblock, the recovery journal, each linked page, and of each slab its counters and its journal are read | |
+/// | 2 | each page with a slot that the window replaces is read and written with it; each block of counters with a sector that has an update above its commit point is read and written with the stored counts, and with the greatest points applied | a flush |
+/// | 3 | block 0: the superblock, with `clean` true and `start` two past the window's last sequence | a flush |
+///
+/// The image is refused with its first fault, over the whole image, in this order: `Super`, `Window`, `Page`, `Counter`,
+/// `SharedPage`. `Device` comes only where a call failed, and `Memory` only for want of memory. After a refusal other than
+/// `Device` nothing was written.
+///
+/// Of an honest device on which nothing is pending, and whose image is sound: whatever it answers, and at whatever moment it
+/// is stopped, what is left is sound and says the same. So a second recovery gives the same.
+pub fn recover<D: Disk>(alloc: Global, device: &mut D) -> Result<Recovered, ImageFault>
+    ensures { IsRecovery D.tells D.honest (D.seen device.old) (D.seen device.new) result }
+{
+    // Asked for the proof alone: a device that tells has as many opening blocks.
+    let _blocks = device.blocks();
+    let head = read_head(device)?;
+    // Looked at for the proof alone: it fits 64 bits, so that it is read back.
+    let _nonce = head.geometry.nonce;
+    if head.clean {
+        return Ok(Recovered::Clean);
+    }
+    let count = recover_unclean(alloc, &head, device)?;
+    Ok(Recovered::Entries(count))
+}

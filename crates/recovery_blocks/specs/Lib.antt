@@ -1,0 +1,3 @@
+pub mod Patches
+pub mod Counters
+pub mod Spelled
