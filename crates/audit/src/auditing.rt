@@ -1,4 +1,4 @@
-ghost use Rattle.std.specs.Prelude.{◌≡◌, ◌≤◌, IfOk, IfErr, length};
+ghost use Rattle.std.specs.Prelude.{◌≡◌, ◌≤◌, ◌<◌, ◌^◌, IfOk, IfErr, length};
 ghost use Rattle.blk_base.specs.Limits.{IsGeometry};
 ghost use Rattle.blk_base.specs.Regions.{needed_blocks};
 ghost use Rattle.count_updates.specs.Numbers.{all_blocks};
@@ -31,7 +31,7 @@ use std::alloc::{AllocError, Global};
 /// `SharedPage`. `Device` comes only where a read failed, and `Memory` only for want of memory.
 pub fn audit<D: Disk>(alloc: Global, device: &mut D) -> Result<Report, ImageFault>
     ensures report { IfOk result (IsAudited D.tells D.honest (D.seen device.old) (D.seen device.new)) }
-    ensures few { IfOk result (λ report. length report.differs.items ≤ report.total) }
+    ensures few { IfOk result (λ report. length report.differs.items < 2 ^ 32) }
     ensures fault { IfErr result (AuditFails D.tells D.honest (D.seen device.old) (D.seen device.new)) }
     ensures untouched { IsUntouched D.tells (D.seen device.old) (D.seen device.new) }
 {
@@ -55,7 +55,7 @@ pub fn audit_with<D: Disk>(
     requires room { needed_blocks head.now.geometry ≤ (D.seen device.old).size }
     requires window { (journal : Blocks) × IsWindowOf head.now journal window.now }
     ensures report { IfOk result (IsAuditedWith D.tells D.honest head.now window.now (D.seen device.old) (D.seen device.new)) }
-    ensures few { IfOk result (λ report. length report.differs.items ≤ report.total) }
+    ensures few { IfOk result (λ report. length report.differs.items < 2 ^ 32) }
     ensures fault { IfErr result (AuditWithFails D.tells D.honest head.now window.now (D.seen device.old) (D.seen device.new)) }
     ensures untouched { IsUntouched D.tells (D.seen device.old) (D.seen device.new) }
 {
@@ -103,7 +103,7 @@ fn report_of(
     requires { length counts.now.counts.items ≡ all_blocks layout.now.geometry }
     ensures report { IfOk result (λ report. (image : Image) → image.geometry ≡ layout.now.geometry → HasMap image map.now
         → HasCounts image counts.now.counts.items counts.now.sectors.items → IsReport image report) }
-    ensures few { IfOk result (λ report. length report.differs.items ≤ report.total) }
+    ensures few { IfOk result (λ report. length report.differs.items < 2 ^ 32) }
 {
     let mapped = tally(alloc, layout, &map.links, &map.mapped)?;
     compare(alloc, layout, &counts.counts, &mapped)
