@@ -1,5 +1,5 @@
 -- What the lists say of an image: its report.
-use Rattle.std.proofs.Common.{ℕ, zero, suc, ◌≡◌, ◌+◌, ◌/◌, ◌%◌, ◌<◌, ◌≤◌, ◌↔◌, if◌then◌else◌, Bool, List, [], ◌∷◌, ◌++◌, length, Contains, Some, Ok, slice_index, refl, sym, ◌∙◌, ap, ap₂, subst, inl, inr, arith}
+use Rattle.std.proofs.Common.{ℕ, zero, suc, ◌≡◌, ◌+◌, ◌/◌, ◌%◌, ◌<◌, ◌≤◌, ◌↔◌, if◌then◌else◌, Bool, List, [], ◌∷◌, ◌++◌, length, Contains, Some, Ok, slice_index, refl, sym, ◌∙◌, ap, ap₂, subst, inl, inr, arith, length-append}
 use Rattle.std.specs.List.{AllByRecursion}
 use Rattle.std.proofs.lemmas.Bool.{cases_lt}
 use Rattle.std.proofs.lemmas.Bool.Decides.{eqb_tells}
@@ -36,6 +36,22 @@ rising_more (x ∷ xs) one rising below =
 all_of : (P : Difference → Type 0) (xs : List Difference) → ((x : Difference) → Contains xs x → P x) → AllByRecursion P xs
 all_of P [] each = tt
 all_of P (x ∷ xs) each = (each x (0, omega arith, refl), all_of P xs (λ y (k, inside, is). each y (suc k, omega (arith, inside), is)))
+
+-- At most one for each number.
+
+pub few_below : (g : Geometry) (stored mapped : List ℕ) (n : ℕ) → length (differences_below g stored mapped n) ≤ n
+few_below g stored mapped zero = omega arith
+few_below g stored mapped (suc n) =
+    let few = few_below g stored mapped n in
+    let sum = length-append (differences_below g stored mapped n) (difference_in g stored mapped n) in
+    elim (eqb_tells (slice_index stored n) (slice_index mapped n)) [
+      | inl same ↦
+          let none : length (difference_in g stored mapped n) ≡ 0 = rw same.0 refl in
+          omega (arith, few, sum, none)
+      | inr differs ↦
+          let one : length (difference_in g stored mapped n) ≡ 1 = rw differs.0 refl in
+          omega (arith, few, sum, one)
+    ]
 
 module _ (g : Geometry) (sizes : IsGeometry g) where
   -- Numbers and places.

@@ -1,4 +1,4 @@
-ghost use Rattle.std.specs.Prelude.{◌≡◌, ◌≤◌, IfOk, IfErr, length};
+ghost use Rattle.std.specs.Prelude.{◌≡◌, ◌≤◌, ◌<◌, ◌^◌, IfOk, IfErr, length};
 ghost use Rattle.blk_base.specs.Limits.{IsGeometry};
 ghost use Rattle.blk_base.specs.Regions.{needed_blocks};
 ghost use Rattle.count_updates.specs.Numbers.{all_blocks};
@@ -31,6 +31,7 @@ use std::alloc::{AllocError, Global};
 /// `SharedPage`. `Device` comes only where a read failed, and `Memory` only for want of memory.
 pub fn audit<D: Disk>(alloc: Global, device: &mut D) -> Result<Report, ImageFault>
     ensures report { IfOk result (IsAudited D.tells D.honest (D.seen device.old) (D.seen device.new)) }
+    ensures few { IfOk result (λ report. length report.differs.items < 2 ^ 32) }
     ensures fault { IfErr result (AuditFails D.tells D.honest (D.seen device.old) (D.seen device.new)) }
     ensures untouched { IsUntouched D.tells (D.seen device.old) (D.seen device.new) }
 {
@@ -42,8 +43,9 @@ pub fn audit<D: Disk>(alloc: Global, device: &mut D) -> Result<Report, ImageFaul
     }
 }
 
-// The same from the superblock and the window on.
-fn audit_with<D: Disk>(
+/// The same for the image with this superblock and this window, which was read from its journal. The device has the blocks that
+/// the image's sizes need. Refused with `Page`, `Counter`, `SharedPage`, `Device` and `Memory` as `audit` is.
+pub fn audit_with<D: Disk>(
     alloc: Global,
     head: &Super,
     window: &JournalWindow,
@@ -53,6 +55,7 @@ fn audit_with<D: Disk>(
     requires room { needed_blocks head.now.geometry ≤ (D.seen device.old).size }
     requires window { (journal : Blocks) × IsWindowOf head.now journal window.now }
     ensures report { IfOk result (IsAuditedWith D.tells D.honest head.now window.now (D.seen device.old) (D.seen device.new)) }
+    ensures few { IfOk result (λ report. length report.differs.items < 2 ^ 32) }
     ensures fault { IfErr result (AuditWithFails D.tells D.honest head.now window.now (D.seen device.old) (D.seen device.new)) }
     ensures untouched { IsUntouched D.tells (D.seen device.old) (D.seen device.new) }
 {
@@ -98,8 +101,9 @@ fn report_of(
     counts: &RecoveredCounts,
 ) -> Result<Report, AllocError>
     requires { length counts.now.counts.items ≡ all_blocks layout.now.geometry }
-    ensures { IfOk result (λ report. (image : Image) → image.geometry ≡ layout.now.geometry → HasMap image map.now
+    ensures report { IfOk result (λ report. (image : Image) → image.geometry ≡ layout.now.geometry → HasMap image map.now
         → HasCounts image counts.now.counts.items counts.now.sectors.items → IsReport image report) }
+    ensures few { IfOk result (λ report. length report.differs.items < 2 ^ 32) }
 {
     let mapped = tally(alloc, layout, &map.links, &map.mapped)?;
     compare(alloc, layout, &counts.counts, &mapped)

@@ -18,6 +18,7 @@ pub(crate) fn compare(
     ensures differs { IfOk result (λ report. report.differs.items ≡ differences_below layout.now.geometry stored.now mapped.now (all_blocks layout.now.geometry)) }
     ensures used { IfOk result (λ report. report.used ≡ used_in stored.now) }
     ensures total { IfOk result (λ report. report.total ≡ all_blocks layout.now.geometry) }
+    ensures few { IfOk result (λ report. length report.differs.items < 2 ^ 32) }
 {
     let used = count_used(stored);
     let total = layout.geometry.slabs * layout.geometry.slab_blocks;

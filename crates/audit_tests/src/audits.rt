@@ -3,6 +3,7 @@ use blk_base::{Block, Entry, Geometry, Lba, Mapping, Mappings, PageId, Pbn, Poin
 use disk_model::MemDisk;
 use image_layout::write_super;
 use image_model::ImageFault;
+use image_status::{ImageStatus, read_status};
 use journal_codec::{Entries, JournalBlock, encode};
 use page_codec::{MapPage, PageFault, PageHead, encode as encode_page};
 use slab_codec::{ReferenceBlock, ReferenceSector, encode_reference};
@@ -236,5 +237,25 @@ fn other_failure(alloc: Global) -> Result<Option<(u64, Audited, usize)>, AllocEr
 #[test]
 fn a_read_that_fails_is_told(rt: HostRuntime) -> Result<(), Fail> {
     assert_eq!(rt; other_failure(rt.alloc())?, None);
+    Ok(())
+}
+
+// What an image says of itself: its window, and no page of its index.
+#[test]
+fn an_image_is_looked_at(rt: HostRuntime) -> Result<(), Fail> {
+    let alloc = rt.alloc();
+    let blocks = image(alloc, (&[LINK, MAPS], BLANK, &[(3, 9)]))?;
+    let mut device = MemDisk::from_blocks(alloc, blocks)?;
+    assert_eq!(rt;
+        read_status(alloc, &mut device),
+        Ok(ImageStatus {
+            clean: false,
+            entries: 2,
+            chapters: 0,
+            used: 3,
+            total: 64,
+            logical: 1000,
+        })
+    );
     Ok(())
 }

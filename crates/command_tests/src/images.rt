@@ -1,11 +1,13 @@
 //! What the commands print that look at an image: `format`, `recover`, `audit` and `status`.
-use blk_base::Pbn;
+use blk_base::{Pbn, Point};
 use command_text::{
     Audit, Difference, Formatted, Mode, Recovery, Space, Status, put_audit, put_formatted,
-    put_layout_fault, put_recovery, put_status,
+    put_image_fault, put_layout_fault, put_recovery, put_status,
 };
 use disk_model::{Failed, MemSink};
-use image_layout::{Field, LayoutFault};
+use image_layout::{Field, LayoutFault, SuperFault};
+use image_model::ImageFault;
+use page_codec::PageFault;
 use std::test::Fail;
 
 const IMAGE: Formatted = Formatted {
@@ -64,6 +66,69 @@ fn layouts_are_refused(rt: HostRuntime) -> Result<(), Fail> {
 layout: size slab-blocks
 layout: logical too large
 layout: too large to crash
+"
+            .as_slice()
+    );
+    Ok(())
+}
+
+const AT: Pbn = Pbn(85);
+
+const IMAGE_FAULTS: [ImageFault; 13] = [
+    ImageFault::Super(SuperFault::NotAnImage),
+    ImageFault::Super(SuperFault::Version(4294967295)),
+    ImageFault::Super(SuperFault::BadField(Field::SlabBlocks)),
+    ImageFault::Window {
+        sequence: 36028797018963967,
+    },
+    ImageFault::Page {
+        at: AT,
+        fault: PageFault::Header,
+    },
+    ImageFault::Page {
+        at: AT,
+        fault: PageFault::Compressed(3),
+    },
+    ImageFault::Page {
+        at: AT,
+        fault: PageFault::OutOfRange(811),
+    },
+    ImageFault::Counter {
+        at: AT,
+        point: Point(1547),
+    },
+    ImageFault::SharedPage { at: AT },
+    ImageFault::Counts {
+        at: Pbn(86),
+        stored: 2,
+        mapped: 18446744073709551615,
+    },
+    ImageFault::Unclean,
+    ImageFault::Device,
+    ImageFault::Memory,
+];
+
+#[test]
+fn images_are_refused(rt: HostRuntime) -> Result<(), Fail> {
+    let mut out = MemSink::new(rt.alloc(), 1000)?;
+    for fault in &IMAGE_FAULTS {
+        put_image_fault(*fault, &mut out)?;
+    }
+    assert_eq!(rt;
+        out.bytes(),
+        b"bad image: not an image
+bad image: version 4294967295
+bad image: field slab-blocks
+bad image: window 36028797018963967
+bad image: page 85 header
+bad image: page 85 slot 3 compressed
+bad image: page 85 slot 811 out of range
+bad image: counter 85
+bad image: shared page 85
+bad image: block 86 stored 2 mapped 18446744073709551615
+bad image: unclean
+device fault
+no memory
 "
             .as_slice()
     );

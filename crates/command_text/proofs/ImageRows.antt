@@ -2,7 +2,7 @@
 use Rattle.std.specs.Prelude.{◌≡◌, List, [], ◌∷◌, codes, Some, None, refl}
 use Rattle.command_text.proofs.Numerals.{numerals}
 use Rattle.command_text.specs.declared.audits.Audit.{Audit}
-use Rattle.command_text.specs.declared.audits.Difference.{Difference}
+use Rattle.audit.specs.declared.forms.Difference.{Difference}
 use Rattle.command_text.specs.declared.parts.Space.{Space}
 use Rattle.command_text.specs.declared.parts.Recovery.TheVariants.{Clean, Entries}
 use Rattle.command_text.specs.declared.parts.DamagedPlace.TheVariants.{Page, Count}

@@ -1,3 +1,5 @@
+pub mod FaultLaws
+pub mod FaultRows
 pub mod ImageRows
 pub mod LayoutLaws
 pub mod LineLaws

@@ -1,8 +1,8 @@
 -- What `audit` prints.
 use Rattle.std.specs.Prelude.{ℕ, List, [], ◌∷◌, ◌++◌, length, map, codes, decimal}
 use Rattle.std.specs.List.{concat}
+use Rattle.audit.specs.declared.forms.Difference.{Difference}
 use Rattle.command_text.specs.declared.parts.Space.{Space}
-use Rattle.command_text.specs.declared.audits.Difference.{Difference}
 use Rattle.command_text.specs.declared.audits.Audit.{Audit}
 use Rattle.command_text.specs.Parts.{space_text}
 
@@ -17,5 +17,9 @@ verdict_text [] space = codes "audit clean, " ++ space_text space
 verdict_text (d ∷ more) space = concat (codes "audit differs " ∷ decimal (length (d ∷ more)) ∷ codes "\n" ∷ [])
 
 -- a line for each block that differs, and then the verdict
+abbrev pub findings_text : List Difference → Space → List ℕ
+findings_text differences space = concat (map difference_text differences) ++ verdict_text differences space
+
+-- those of an audit
 abbrev pub audit_text : Audit → List ℕ
-audit_text audit = concat (map difference_text audit.differences.now) ++ verdict_text audit.differences.now audit.space
+audit_text audit = findings_text audit.differences.now audit.space

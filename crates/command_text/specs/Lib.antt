@@ -1,6 +1,7 @@
 pub mod Pieces
 pub mod Parts
 pub mod Formats
+pub mod Faults
 pub mod Audits
 pub mod Statuses
 pub mod Runs

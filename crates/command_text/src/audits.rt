@@ -5,16 +5,8 @@ ghost use Rattle.command_text.specs.Audits.{difference_text, verdict_text, audit
 
 use crate::parts::Space;
 use crate::pieces::{Line, Piece, put_lines};
-use blk_base::Pbn;
+use audit::Difference;
 use disk_model::{Failed, Sink};
-
-/// A data block whose stored count isn't the number of its mappings.
-#[derive(Clone, Copy, Debug, PartialEq, Eq)]
-pub struct Difference {
-    pub at: Pbn,
-    pub stored: u32,
-    pub mapped: u64,
-}
 
 impl Line for Difference {
     ghost text = { difference_text };

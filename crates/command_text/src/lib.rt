@@ -3,6 +3,7 @@
 
 mod audits;
 mod crashes;
+mod faults;
 mod formats;
 mod layouts;
 mod parts;
@@ -13,8 +14,10 @@ mod statuses;
 mod tallies;
 mod workloads;
 
-pub use audits::{Audit, Difference, put_audit};
+pub use audit::Difference;
+pub use audits::{Audit, put_audit};
 pub use crashes::{AddressValue, Crash, CrashStop, put_crash, put_crash_stop};
+pub use faults::put_image_fault;
 pub use formats::{Formatted, put_formatted};
 pub use layouts::put_layout_fault;
 pub use parts::{DamagedPlace, Recovery, Space, put_recovery};

@@ -40,7 +40,7 @@ returns-clause-report g c =
     audited _ _ _ c.args.window.now _ (g.D.Disk.seen c.replay_with.new.device) _ c.in-Ok.map c.in_ok-counts.counts.counts.items c.in_ok-counts.counts.sectors.items c.in-Ok-report_of.report c.in-Ok.ensures.map
     (subst (λ (entries : List CommittedEntry). AreCountsRead g.D.Disk.tells g.D.Disk.honest c.args.head.now.geometry entries (g.D.Disk.seen c.replay_with.new.device) (g.D.Disk.seen c.counts_with.new.device)
     c.in_ok-counts.counts.counts.items c.in_ok-counts.counts.sectors.items) (sym c.entries.ensures) c.in_ok-counts.ensures.counts)
-    (λ image same map has. c.in-Ok-report_of.ensures image (same ∙ sym c.of.ensures) map has)
+    (λ image same map has. c.in-Ok-report_of.ensures.report image (same ∙ sym c.of.ensures) map has)
 
 pub returns-clause-untouched : goal.returns-clause-untouched
 returns-clause-untouched g c = untouched_on _ _ _ _ c.replay_with.ensures.untouched c.counts_with.ensures.untouched

@@ -2,8 +2,8 @@ use Rattle.audit.proofs.AuditLaws.{report_ok, report_with}
 use Rattle.audit.specs.Tallies.{AreTallied}
 use Rattle.audit.proofs.auditing.report_of.Goals as goal
 
-pub returns : goal.returns
-returns c =
+pub returns-clause-report : goal.returns-clause-report
+returns-clause-report c =
     let g = c.args.layout.now.geometry in
     let tallied : AreTallied g c.args.map.now.links.items c.args.map.now.mapped.items c.in_ok-mapped.mapped.items = rw (c.deref.ensures.value, c.deref-2.ensures.value) at c.in_ok-mapped.ensures in
     report_ok c.compare.result _ _ _ _ c.compare.ensures.differs c.compare.ensures.used c.compare.ensures.total

@@ -1,0 +1,2 @@
+pub mod StatusLaws
+pub mod Rows

@@ -1,0 +1,41 @@
+-- What an image says of itself: by what the reads gave.
+use Rattle.std.specs.Prelude.{ℕ, ◌≡◌, Bool, List, length, Option}
+use Rattle.audit.specs.Audits.{BothShow, IsOpenedTo}
+use Rattle.audit.specs.Reports.{AreUsed}
+use Rattle.blk_base.specs.Regions.{first_index_of}
+use Rattle.blk_base.specs.declared.geometry.Geometry.{Geometry}
+use Rattle.blk_base.specs.declared.geometry.Super.{Super}
+use Rattle.count_updates.specs.Numbers.{all_blocks}
+use Rattle.disk_model.specs.Seen.{Seen}
+use Rattle.index_advice.specs.Books.{Book}
+use Rattle.journal_window.specs.States.{WindowState}
+use Rattle.uds_index.specs.Loads.{IsLoadedBook, ReadEach}
+use Rattle.image_status.specs.declared.forms.ImageStatus.{ImageStatus}
+
+-- the index blocks were read, each once and in rising order, whether a read failed or not; so many chapters have a page
+-- among those that were read and hold one
+pub record HasChapters (tells honest : Bool) (g : Geometry) (before now : Seen) (chapters : ℕ) : Type 0 where
+  pub reads : List (Option (List ℕ))
+  pub count : length reads ≡ g.index
+  pub each : ReadEach tells honest (first_index_of g) before now reads
+  pub book : Book
+  pub loaded : IsLoadedBook g reads book
+  pub chapters_are : chapters ≡ length book.kept
+
+-- From the superblock and the window on: pages and slabs were read, and then the index. Each image with this window that has
+-- what was read has so many used data blocks, and so many in all.
+pub record IsStatusWith (tells honest : Bool) (head : Super) (window : WindowState) (before now : Seen) (status : ImageStatus) : Type 0 where
+  pub middle : Seen
+  pub space : BothShow tells honest head window before middle (λ image. AreUsed image status.used × (status.total ≡ all_blocks image.geometry))
+  pub chapters : HasChapters tells honest head.geometry middle now status.chapters
+  pub clean : status.clean ≡ head.clean
+  pub entries : status.entries ≡ length window.entries
+  pub logical : status.logical ≡ head.geometry.logical
+
+-- The whole.
+pub record IsStatusRead (tells honest : Bool) (before now : Seen) (status : ImageStatus) : Type 0 where
+  pub head : Super
+  pub window : WindowState
+  pub middle : Seen
+  pub opened : IsOpenedTo tells honest before middle head window
+  pub status_is : IsStatusWith tells honest head window middle now status

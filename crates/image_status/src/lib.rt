@@ -1,0 +1,9 @@
+//! What an image says of itself: whether its last session was closed and how many entries a recovery would find, how many
+//! chapters its index has, how much of its space is used, and its logical size. It writes nothing.
+#![tactic(auto)]
+
+mod forms;
+mod reading;
+
+pub use forms::ImageStatus;
+pub use reading::read_status;
