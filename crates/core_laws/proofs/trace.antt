@@ -11,3 +11,4 @@ pub mod ReportOfTrace
 pub mod StopsOfTrace
 pub mod TurnsOfTrace
 pub mod Walks
+pub mod ZeroWrites

@@ -1,6 +1,7 @@
 -- A right trace: each happening may follow those before it, and at each moment a stop leaves what it may.
 use Rattle.std.specs.Prelude.{ℕ, ◌+◌, ◌≡◌, ◌⊎◌, ◌<◌, ◌≤◌, true, false, Some, IsNone, IsSome, List, [], ◌∷◌, length, slice_get}
 use Rattle.std.specs.List.{AllByRecursion}
+use Rattle.blk_base.specs.Regions.{IsDataBlock}
 use Rattle.blk_base.specs.declared.place.Lba.{Lba}
 use Rattle.blk_base.specs.Sectors.{zero_block}
 use Rattle.blk_base.specs.declared.place.Mapping.{Mapping}
@@ -24,7 +25,7 @@ use Rattle.vdo_model.specs.declared.report.Placed.{Placed}
 use Rattle.core_model.specs.declared.zones.Logged.{Logged}
 use Rattle.core_model.specs.declared.items.Asks.{Asks}
 use Rattle.core_model.specs.declared.items.Asks.TheVariants as asks
-use Rattle.core_model.specs.Sessions.{Session, Shown, value_at}
+use Rattle.core_model.specs.Sessions.{OnBlock, Session, Shown, value_at}
 use Rattle.core_model.specs.Vios.{asked}
 use Rattle.core_model.specs.Trace.{Happening, Says, Flushes, Draws, Enters, Commits, Sets, Gives, Takes, Aborts, Calls, Fails, Trace, Gift, moments, lines, places, entered, committed, done, aborted, gifts, taken, is_read, is_ok, has_stopped, has_read_fault, of_address, logged_of, gift_of, entries_of}
 
@@ -153,6 +154,8 @@ pub record EntryMayFollow (s : Session) (e : Logged) (t : Trace) : Type 0 where
   pub below : AllBelow t e.at.0 e.place
   -- a block of the journal is left for it
   pub left : s.sizes.opened + length (entered t) < s.sizes.geometry.journal
+  -- it maps its address to a data block, or to none
+  pub new_data : OnBlock (λ x. IsDataBlock s.sizes.geometry x.0) e.new
   -- it has what its address is mapped to by the committed entries
   pub old_is : e.old ≡ mapping_of (entries_of s.window (committed t)) e.at.0
 

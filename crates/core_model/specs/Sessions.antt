@@ -4,7 +4,6 @@ use Rattle.std.specs.List.{AllByRecursion}
 use Rattle.blk_base.specs.Limits.{IsGeometry}
 use Rattle.blk_base.specs.Regions.{IsDataBlock, journal_slot_of, needed_blocks}
 use Rattle.blk_base.specs.declared.journal_entry.Entry.{Entry}
-use Rattle.blk_base.specs.Sectors.{zero_block}
 use Rattle.blk_base.specs.declared.place.Mapping.{Mapping}
 use Rattle.blk_base.specs.declared.place.Mapping.TheVariants.{At}
 use Rattle.blk_base.specs.declared.place.Pbn.{Pbn}
@@ -94,34 +93,32 @@ abbrev pub OnBlock : (Pbn → Type 0) → Mapping → Type 0
 OnBlock P (At x) = P x
 OnBlock P other = Unit {0}
 
--- a mapping gives its address these bytes: its block was free, and has them; without a block they are zeros
-abbrev pub GivesBytes : Session → Trace → Mapping → List ℕ → Type 0
-GivesBytes s t (At x) bytes = IsFresh s x × Stands s t x.0 bytes
-GivesBytes s t other bytes = bytes ≡ zero_block
+-- the value of an address: that of its last write, or the one that it had when the session began
+abbrev pub value_from : Session → ℕ → Option Logged → List ℕ
+value_from s a None = value_of s.image s.window a
+value_from s a (Some e) = bytes_of s e
 
--- these writes and discards give their addresses their bytes
-abbrev pub EachStands : Session → Trace → List Logged → Type 0
-EachStands s t [] = Unit {0}
-EachStands s t (e ∷ older) = GivesBytes s t e.new (bytes_of s e) × EachStands s t older
+-- What these writes, on top of the window, map the addresses to stands: the block of each address that has one has its value.
+abbrev pub MapStands : Session → Trace → List Logged → Type 0
+MapStands s t es = (a : ℕ) → OnBlock (λ x. Stands s t x.0 (value_from s a (newest (of_address a es)))) (mapping_of (entries_of s.window es) a)
 
--- the journal has their entries, and they give their addresses their bytes
+-- the journal has their entries, and their map stands
 abbrev pub AtRest : Session → Trace → List Logged → Type 0
-AtRest s t es = IsAtRest s.blocks (log s t) s.sizes.geometry s.sizes.start (entries_of s.window es) × EachStands s t es
+AtRest s t es = IsAtRest s.blocks (log s t) s.sizes.geometry s.sizes.start (entries_of s.window es) × MapStands s t es
 
--- besides, the block of one more entry is under way
+-- what a write maps its address to stands
+abbrev pub NewStands : Session → Trace → Logged → Type 0
+NewStands s t e = OnBlock (λ x. Stands s t x.0 (bytes_of s e)) e.new
+
+-- besides, the block of one more entry is under way, and what it maps its address to stands
 abbrev pub OnItsWay : Session → Trace → List Logged → Logged → Type 0
-OnItsWay s t es e = IsUnderWay s.blocks (log s t) s.sizes.geometry s.sizes.start (entries_of s.window es) (entry_of e) × EachStands s t (e ∷ es)
+OnItsWay s t es e = IsUnderWay s.blocks (log s t) s.sizes.geometry s.sizes.start (entries_of s.window es) (entry_of e) × MapStands s t es × NewStands s t e
 
 -- and a read of that block's place gives it
 abbrev pub ReadsEntry : Session → Trace → List Logged → Logged → Type 0
 ReadsEntry s t es e =
     AllByRecursion (HasEntry s.sizes.geometry s.sizes.start (s.sizes.start + length (entries_of s.window es)) (entry_of e))
     (device.settled s.blocks (log s t) (block_of_slot (journal_slot_of s.sizes.geometry (s.sizes.start + length (entries_of s.window es)))))
-
--- what was there when the session began stands: the superblock, and each block that the window maps an address to
-pub record Kept (s : Session) (t : Trace) : Type 0 where
-  pub superblock : Stands s t 0 (device.block_at s.image 0)
-  pub mapped : (a : ℕ) (y : Pbn) → mapping_of s.window a ≡ At y → Stands s t y.0 (device.block_at s.image y.0)
 
 -- The last entry was handed in and isn't committed: the journal has the committed ones, or the block of this one is under
 -- way, or is there too.
@@ -130,16 +127,11 @@ pub record HasPending (s : Session) (t : Trace) : Type 0 where
   pub is_last : entered t ≡ entry ∷ committed t
   pub stands : AtRest s t (committed t) ⊎ OnItsWay s t (committed t) entry ⊎ AtRest s t (entry ∷ committed t)
 
--- What stands on the device: what was there, and in the journal the entries that are committed, or these and the one that
--- was handed in last.
+-- What stands on the device: the superblock, and in the journal the entries that are committed, or these and the one that was
+-- handed in last; and what they map the addresses to.
 pub record Shown (s : Session) (t : Trace) : Type 0 where
-  pub kept : Kept s t
+  pub superblock : Stands s t 0 (device.block_at s.image 0)
   pub journal : ((entered t ≡ committed t) × AtRest s t (committed t)) ⊎ HasPending s t
-
--- the value of an address: that of its last write, or the one that it had when the session began
-abbrev pub value_from : Session → ℕ → Option Logged → List ℕ
-value_from s a None = value_of s.image s.window a
-value_from s a (Some e) = bytes_of s e
 
 abbrev pub value_at : Session → Trace → ℕ → List ℕ
 value_at s t a = value_from s a (newest (of_address a (done t)))

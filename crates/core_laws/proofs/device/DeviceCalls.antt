@@ -1,6 +1,6 @@
 -- The device's calls: what they write, what reads give, and which data blocks they are of.
-use Rattle.std.proofs.Common.{◌≡◌, ◌≢◌, ℕ, zero, suc, ◌*◌, ◌<◌, ◌≤◌, ◌^◌, Bool, Some, List, [], ◌∷◌, length, get_or, subst, inl, inr, arith, ◌⊎◌, false, Option, None, ap, sym, ◌∙◌, ◌+◌, true, refl}
-use Rattle.core_laws.proofs.Common.{AllByRecursion, Asks, AtRest, Call, Calls, EachStands, Entry, Geometry, GivesBytes, Happening, HasPending, IsFresh, IsServed, IsSession, IsWrite, Lba, Logged, Mapping, MayFollow, OnBlock, OnItsWay, Pbn, ReadsAs, ReadsEntry, Request, RightTrace, Session, Stands, Trace, Writer, asked, bytes_of, committed, device_zone, done, entered, entries_of, entry_of, eqb_tells, every-get, log, newest, of_address, request_at, value_from, value_written}
+use Rattle.std.proofs.Common.{◌≡◌, ◌≢◌, ◌==◌, ℕ, zero, suc, ◌*◌, ◌<◌, ◌≤◌, ◌^◌, Bool, Some, List, [], ◌∷◌, length, get_or, subst, inl, inr, arith, ◌⊎◌, false, Option, None, ap, sym, ◌∙◌, ◌+◌, true, refl}
+use Rattle.core_laws.proofs.Common.{AllByRecursion, Asks, AtRest, Call, Calls, Entry, Geometry, Happening, HasPending, IsFresh, IsServed, IsSession, IsWrite, Lba, Logged, Mapping, MayFollow, OnBlock, OnItsWay, Pbn, ReadsAs, ReadsEntry, Request, RightTrace, Session, Stands, Trace, Writer, asked, bytes_of, committed, device_zone, done, entered, entries_of, entry_of, eqb_tells, every-get, log, newest, of_address, request_at, value_from, value_written, Quiet, NewStands, MapStands}
 use Rattle.std.proofs.Math.Nat.{mod-lt, mul-le-mul_left}
 use Rattle.std.proofs.lemmas.List.Elements.{All-nil, All-cons}
 use Rattle.blk_base.specs.Limits.{IsGeometry, logical_limit}
@@ -16,7 +16,7 @@ use Rattle.disk_model.specs.Images.{IsMixOf}
 use Rattle.disk_model.proofs.ImageLaws.{settled_are_contents, block_of_mix, all_weaker, settled-write}
 use Rattle.core_model.specs.LogicalRows.{mapped_by}
 use Rattle.core_laws.proofs.lists.Zeros.{zeros_length}
-use Rattle.core_laws.proofs.trace.DeskOfTrace.{all_done, each_of_address, done_writes, shown_of}
+use Rattle.core_laws.proofs.trace.DeskOfTrace.{all_done, each_of_address, done_writes, shown_of, AreData, committed_data}
 use Rattle.blk_base.specs.Sectors.{sector}
 use Rattle.byte_fields.specs.Mappings.{HoldsMapping}
 use Rattle.journal_codec.specs.Grammar.{HoldsEntry, HoldsBlock}
@@ -26,10 +26,12 @@ use Rattle.journal_codec.proofs.ReadLaws.{one_reading}
 use Rattle.stop_laws.proofs.JournalLaws.{begins, under_way_kept}
 use Rattle.core_laws.proofs.kept.ActKept.{shown_kept}
 use Rattle.core_laws.proofs.kept.Keys.{Key, OfBlock, OfJournal, Spares, Clears}
-use Rattle.core_laws.proofs.kept.StandsOn.{AreElsewhere, SparesBlock, SparesBlocks, SparesEntries, IsCallOf, succeeded, failed, spares_all, write_spares, block_spared, journal_spared, call_entries, each_kept, opening_kept}
+use Rattle.core_laws.proofs.kept.StandsOn.{AreElsewhere, SparesBlock, SparesBlocks, SparesEntries, IsCallOf, succeeded, failed, spares_all, write_spares, block_spared, journal_spared, call_entries, map_kept, new_kept, on_each, stands_kept}
 use Rattle.blk_base.specs.declared.request.Request.TheVariants as request
 use Rattle.disk_model.specs.Log as device
 use Rattle.core_model.specs.declared.items.Asks.TheVariants as asks
+use Rattle.core_laws.proofs.lists.CoreLists.{newest_has}
+use Rattle.core_laws.proofs.kept.Spared.{mapping_by}
 
 -- Data blocks lie behind the journal and inside the image; the blocks that the window names are data blocks.
 
@@ -96,55 +98,58 @@ window_whole s a x session is = session.one_image.whole x.0 (omega (arith, data_
 pub stands_reads : (s : Session) (t : Trace) (x : ℕ) (bytes : List ℕ) → Stands s t x bytes → ReadsAs s t x bytes
 stands_reads s t x bytes k = settled_are_contents (λ content. content ≡ bytes) s.blocks (log s t) x k
 
--- the blocks of all committed writes stand
-pending_each : (s : Session) (t : Trace) (es : List Logged) (e : Logged) → AtRest s t es ⊎ OnItsWay s t es e ⊎ AtRest s t (e ∷ es) → EachStands s t es
-pending_each s t es e (inl k) = k.1
-pending_each s t es e (inr (inl k)) = k.1.1
-pending_each s t es e (inr (inr k)) = k.1.1
+-- Where these writes, on top of the window, map an address is a data block.
+pub mapped_is_data : (s : Session) (es : List Logged) (a : ℕ) (x : Pbn) → IsSession s → AreData s es → mapping_of (entries_of s.window es) a ≡ At x → IsDataBlock s.sizes.geometry x.0
+mapped_is_data s [] a x session to_data is = window_data s a x session is
+mapped_is_data s (e ∷ es) a x session to_data is = elim (eqb_tells e.at.0 a) [
+  | inl same ↦ let to : e.new ≡ At x = rw same.0 at is in subst (OnBlock (λ y. IsDataBlock s.sizes.geometry y.0)) to to_data.0
+  | inr other ↦ mapped_is_data s es a x session to_data.1 (rw other.0 at is)
+]
 
-journal_each : (s : Session) (t : Trace) → ((entered t ≡ committed t) × AtRest s t (committed t)) ⊎ HasPending s t → EachStands s t (committed t)
-journal_each s t (inl k) = k.1.1
-journal_each s t (inr k) = pending_each s t (committed t) k.entry k.stands
-
-pub committed_stand : (s : Session) (t : Trace) → RightTrace s t → EachStands s t (committed t)
-committed_stand s t right = journal_each s t (shown_of s t right).journal
-
-abbrev pub HasBlockOf : Session → Trace → Logged → Type 0
-HasBlockOf s t e = GivesBytes s t e.new (bytes_of s e)
-
-each_all : (s : Session) (t : Trace) (es : List Logged) → EachStands s t es → AllByRecursion (HasBlockOf s t) es
-each_all s t [] k = tt
-each_all s t (e ∷ es) k = (k.0, each_all s t es k.1)
-
--- what holds of all holds of the newest
-pub newest_has : (P : Logged → Type 0) (es : List Logged) (e : Logged) → newest es ≡ Some e → AllByRecursion P es → P e
-newest_has P [] e is all = absurd cc
-newest_has P (f ∷ es) e is all = let same : f ≡ e = cc in subst P same all.0
-
--- the block of the last write of an address stands, and is whole
+-- What an address has, by its last write or the window.
 module _ (s : Session) (t : Trace) (session : IsSession s) (right : RightTrace s t) where
-  newest_of : (P : Logged → Type 0) (a : ℕ) (e : Logged) → newest (of_address a (done t)) ≡ Some e → AllByRecursion P (done t) → P e
-  newest_of P a e is all = newest_has P (of_address a (done t)) e is (each_of_address P a (done t) all)
+  newest_of : (P : Logged → Type 0) (es : List Logged) (a : ℕ) (e : Logged) → newest (of_address a es) ≡ Some e → AllByRecursion P es → P e
+  newest_of P es a e is all = newest_has P (of_address a es) e is (each_of_address P a es all)
 
-  pub latest_stands : (a : ℕ) (e : Logged) → newest (of_address a (done t)) ≡ Some e → HasBlockOf s t e
-  latest_stands a e is = newest_of (HasBlockOf s t) a e is (all_done (HasBlockOf s t) s t right (each_all s t (committed t) (committed_stand s t right)))
-
-  latest_whole : (a : ℕ) (e : Logged) → newest (of_address a (done t)) ≡ Some e → length (bytes_of s e) ≡ 4096
-  latest_whole a e is =
-      let write = newest_of (IsWrite s t) a e is (done_writes s t right) in
+  -- a value that is mapped to a block is whole
+  pub value_whole : (es : List Logged) (a : ℕ) (x : Pbn) (o : Option Logged) → AllByRecursion (IsWrite s t) es → newest (of_address a es) ≡ o → mapped_by o (mapping_of s.window a) ≡ At x → length (value_from s a o) ≡ 4096
+  value_whole es a x None writes is maps = let value : value_of s.image s.window a ≡ device.block_at s.image x.0 = ap (value_in s.image) maps in ap length value ∙ window_whole s a x session maps
+  value_whole es a x (Some e) writes is maps =
+      let write = newest_of (IsWrite s t) es a e is writes in
       ap (λ o. length (value_written o)) write.asked ∙ whole_written s e.request write.asks e.at write.bytes session write.asked
 
-  -- the value of an address, by its last write or the window
-  pub read_value : (a : ℕ) (latest : Option Logged) (x : Pbn) (bytes : List ℕ) → latest ≡ newest (of_address a (done t)) → mapped_by latest (mapping_of s.window a) ≡ At x
+  -- what the committed entries map an address to stands, where none of it is under way
+  abbrev StandsHere : ℕ → List Logged → Type 0
+  StandsHere a es = OnBlock (λ x. Stands s t x.0 (value_from s a (newest (of_address a es)))) (mapping_of (entries_of s.window es) a)
+
+  quiet_stands : (a : ℕ) → Quiet t a → ((entered t ≡ committed t) × AtRest s t (committed t)) ⊎ HasPending s t → StandsHere a (committed t)
+  quiet_stands a quiet (inl k) = k.1.1 a
+  quiet_stands a quiet (inr k) = by k.stands
+    where
+      apart : (k.entry.at.0 == a) ≡ false
+      apart = elim (eqb_tells k.entry.at.0 a) [
+        | inl same ↦
+            let more : of_address a (k.entry ∷ committed t) ≡ of_address a (committed t) = ap (of_address a) (sym k.is_last) ∙ quiet.all_committed in
+            let longer : k.entry ∷ of_address a (committed t) ≡ of_address a (committed t) = rw same.0 at more in
+            absurd (let count = ap length longer in omega (arith, count))
+        | inr other ↦ other.0
+      ]
+
+      by : AtRest s t (committed t) ⊎ OnItsWay s t (committed t) k.entry ⊎ AtRest s t (k.entry ∷ committed t) → StandsHere a (committed t)
+      by (inl rest) = rest.1 a
+      by (inr (inl way)) = way.1 a
+      by (inr (inr rest)) = rw apart at (rest.1 a)
+
+  -- a read of the block that an address is mapped to gives its value, where the device is honest
+  pub read_value : (a : ℕ) (latest : Option Logged) (x : Pbn) (bytes : List ℕ) → Quiet t a → latest ≡ newest (of_address a (done t)) → mapped_by latest (mapping_of s.window a) ≡ At x
       → length bytes ≡ 4096 → IsMixOf (device.settled s.blocks (log s t) x.0) bytes → bytes ≡ value_from s a latest
-  read_value a None x bytes is maps size mix =
-      let value : value_of s.image s.window a ≡ device.block_at s.image x.0 = ap (value_in s.image) maps in
-      let stands = (shown_of s t right).kept.mapped a x maps in
-      block_of_mix (device.settled s.blocks (log s t) x.0) (device.block_at s.image x.0) bytes (window_whole s a x session maps) size mix (stands_reads s t x.0 _ stands) ∙ sym value
-  read_value a (Some e) x bytes is maps size mix =
-      let gives : GivesBytes s t (At x) (bytes_of s e) = subst (λ (m : Mapping). GivesBytes s t m (bytes_of s e)) maps (latest_stands a e (sym is)) in
-      let stands = gives.1 in
-      block_of_mix (device.settled s.blocks (log s t) x.0) (bytes_of s e) bytes (latest_whole a e (sym is)) size mix (stands_reads s t x.0 _ stands)
+  read_value a latest x bytes quiet is maps size mix =
+      let same : newest (of_address a (committed t)) ≡ latest = ap newest quiet.all_done ∙ sym is in
+      let maps_now : mapping_of (entries_of s.window (committed t)) a ≡ At x = mapping_by s.window (committed t) a ∙ ap (λ o. mapped_by o (mapping_of s.window a)) same ∙ maps in
+      let here : Stands s t x.0 (value_from s a (newest (of_address a (committed t))))
+      = subst (OnBlock (λ y. Stands s t y.0 (value_from s a (newest (of_address a (committed t)))))) maps_now (quiet_stands a quiet (shown_of s t right).journal) in
+      let stands : Stands s t x.0 (value_from s a latest) = subst (λ (o : Option Logged). Stands s t x.0 (value_from s a o)) same here in
+      block_of_mix (device.settled s.blocks (log s t) x.0) (value_from s a latest) bytes (value_whole (done t) a x latest (done_writes s t right) (sym is) maps) size mix (stands_reads s t x.0 _ stands)
 
 -- What one call of the device does to what stands on it.
 
@@ -158,20 +163,20 @@ call_clears failed here block journal = record { zone = here; request = tt; addr
 
 -- a call that writes nothing
 pub quiet_journal : (s : Session) (t : Trace) {h : Happening} (c : Call) → IsCallOf h c → ((x : ℕ) → Misses c x) → Spares s t h OfJournal
-quiet_journal s t {h} c is misses = (call_entries s t is, journal_spared s is (λ slot below. misses (block_of_slot slot)), spares_all h (λ x. block_spared is x (misses x)) (entered t))
+quiet_journal s t {h} c is misses = (call_entries s t is, journal_spared s is (λ slot below. misses (block_of_slot slot)), ((λ a x named. block_spared is x.0 (misses x.0)), spares_all h (λ x. block_spared is x (misses x)) (entered t)))
 
 pub quiet_call : (s : Session) (t : Trace) {h : Happening} (c : Call) → IsCallOf h c → MayFollow s h t → ((x : ℕ) → Misses c x) → RightTrace s t → RightTrace s (h ∷ t)
 quiet_call s t {h} c is may misses right =
     let same = quiet_journal s t c is misses in
-    (may, shown_kept s h t same.0 same.1 same.2 (block_spared is 0 (misses 0)) (λ a y named. block_spared is y.0 (misses y.0)) (shown_of s t right), right)
+    (may, shown_kept s h t same.0 same.1 same.2 (block_spared is 0 (misses 0)) (shown_of s t right), right)
 
 -- the data of a write
 pub store_call : (s : Session) (t : Trace) {h : Happening} (x : Pbn) (bytes : List ℕ) (ok : Bool) → IsCallOf h (Write x bytes ok) → MayFollow s h t → IsFresh s x → AreElsewhere x.0 (entered t)
     → RightTrace s t → RightTrace s (h ∷ t)
 store_call s t {h} x bytes ok is may fresh apart right = (
   may,
-  shown_kept s h t (call_entries s t is) (journal_spared s is (data_misses s.sizes.geometry x bytes ok fresh.is_data)) (write_spares is (entered t) apart)
-      (block_spared is 0 (data_not_first s.sizes.geometry x.0 fresh.is_data)) (λ a y named. block_spared is y.0 (λ same. fresh.unnamed a y named (sym same))) (shown_of s t right),
+  shown_kept s h t (call_entries s t is) (journal_spared s is (data_misses s.sizes.geometry x bytes ok fresh.is_data)) ((λ a y named. block_spared is y.0 (λ same. fresh.unnamed a y named (sym same))), write_spares is (entered t) apart)
+      (block_spared is 0 (data_not_first s.sizes.geometry x.0 fresh.is_data)) (shown_of s t right),
   right,
 )
 
@@ -263,24 +268,23 @@ hardens opening log g start entries entry way reads =
 module _ (s : Session) (t : Trace) (e : Logged) (slot : Pbn) (bytes : List ℕ) (session : IsSession s) (is : IsSpelled s e) (few : length (entries_of s.window (committed t)) < s.sizes.geometry.journal)
     (place : slot.0 ≡ block_of_slot (journal_slot_of s.sizes.geometry (s.sizes.start + length (entries_of s.window (committed t)))))
     (says : HasEntry s.sizes.geometry s.sizes.start (s.sizes.start + length (entries_of s.window (committed t))) (entry_of e) bytes)
-    (rest : AtRest s t (committed t)) (keeps : GivesBytes s t e.new (bytes_of s e)) where
+    (right : RightTrace s t) (rest : AtRest s t (committed t)) (keeps : NewStands s t e) where
   -- it is no data block
   misses : (x : ℕ) → IsDataBlock s.sizes.geometry x → slot.0 ≢ x
   misses x held = slot_misses s.sizes.geometry (s.sizes.start + length (entries_of s.window (committed t))) slot.0 x (omega (arith, few)) place held
 
-  misses_its : (ok : Bool) (m : Mapping) (value : List ℕ) → GivesBytes s t m value → OnBlock (λ x. SparesBlock (Calls (Write slot bytes ok)) x.0) m
-  misses_its ok (At x) value gives = misses x.0 gives.0.is_data
-  misses_its ok Unmapped value gives = tt
-  misses_its ok Zero value gives = tt
+  data_spared : (ok : Bool) (es : List Logged) → AreData s es → SparesBlocks (Calls (Write slot bytes ok)) es
+  data_spared ok [] to_data = tt
+  data_spared ok (f ∷ es) to_data = (on_each f.new (λ x to inside. misses x.0 inside) to_data.0, data_spared ok es to_data.1)
 
-  misses_each : (ok : Bool) (es : List Logged) → EachStands s t es → SparesBlocks (Calls (Write slot bytes ok)) es
-  misses_each ok [] stand = tt
-  misses_each ok (f ∷ es) stand = (misses_its ok f.new _ stand.0, misses_each ok es stand.1)
+  window_spared : (a : ℕ) (x : Pbn) → mapping_of s.window a ≡ At x → slot.0 ≢ x.0
+  window_spared a x named = misses x.0 (window_data s a x session named)
 
   pub slot_way : (ok : Bool) → OnItsWay s (Calls (Write slot bytes ok) ∷ t) (committed t) e
   slot_way ok = (
     begins s.blocks (log s t) s.sizes.geometry s.sizes.start (entries_of s.window (committed t)) (entry_of e) slot bytes place says (spelled_mapped s e is) few rest.0 ok,
-    each_kept s (Calls (Write slot bytes ok)) t (e ∷ committed t) (misses_each ok (e ∷ committed t) (keeps, rest.1)) (keeps, rest.1),
+    map_kept s (Calls (Write slot bytes ok)) t (committed t) (window_spared, data_spared ok (committed t) (committed_data s t right)) rest.1,
+    new_kept s (Calls (Write slot bytes ok)) t e (on_each e.new (λ x to fresh. misses x.0 fresh.is_data) is.fresh) keeps,
   )
 
   pub slot_reads : ReadsEntry s (Calls (Write slot bytes true) ∷ t) (committed t) e
@@ -290,11 +294,11 @@ module _ (s : Session) (t : Trace) (e : Logged) (slot : Pbn) (bytes : List ℕ) 
       (sym (settled-write s.blocks (log s t) slot bytes)) (says, tt))
 
   pub slot_call : (h : Happening) (ok : Bool) → IsCallOf h (Write slot bytes ok) → MayFollow s h t → AtRest s (h ∷ t) (committed t) ⊎ OnItsWay s (h ∷ t) (committed t) e → entered t ≡ e ∷ committed t
-      → RightTrace s t → RightTrace s (h ∷ t)
-  slot_call h ok is may stands last right = (
+      → RightTrace s (h ∷ t)
+  slot_call h ok is may stands last = (
     may,
     record {
-      kept = opening_kept s h t (block_spared is 0 (λ same. omega (arith, same, place))) (λ a y named. block_spared is y.0 (misses y.0 (window_data s a y session named))) (shown_of s t right).kept;
+      superblock = stands_kept s h t 0 _ (block_spared is 0 (λ same. omega (arith, same, place))) (shown_of s t right).superblock;
       journal = inr (record {
         entry = e;
         is_last = same.entered_same ∙ last ∙ ap (λ es. e ∷ es) (sym same.committed_same);

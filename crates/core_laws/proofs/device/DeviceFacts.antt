@@ -1,6 +1,6 @@
 -- What the acts of the device zone owe: it stores, loads and flushes for requests, and flushes and writes for sealed blocks.
 use Rattle.std.proofs.Common.{◌≡◌, ◌≢◌, ℕ, zero, suc, ◌+◌, ◌<◌, ◌≤◌, Bool, true, false, Some, IsSome, List, [], ◌∷◌, refl, ap, sym, ◌∙◌, subst, inl, inr, arith, ◌⊎◌, length}
-use Rattle.core_laws.proofs.Common.{AllByRecursion, Asks, AtRest, BlockOk, Call, Calls, DataOk, DeviceZone, Fails, FailureMayFollow, Happening, HasAddress, HasCause, HasHonestReads, IsEarned, IsFresh, IsMadeFor, IsSealed, IsSession, Lba, Logged, OnItsWay, Pbn, Post, RightTrace, SealedBlock, Session, Sizes, Stage, Stands, StandsAt, Trace, Vio, VioOk, Writer, asked, bytes_of, calls, committed, done, ended, entered, entries_of, entry_of, eqb_tells, has_read_fault, has_stopped, is_ok, is_read, log, logged, logical_zones, moments, notified, place_of, places, request_of, same_self, same_Some, some_is, staged, value_at, value_from, value_written, zone_count, zone_number, IsToFresh, IsChange, GivesBytes, Mapping, ReadsAs, MapsTo, OnBlock}
+use Rattle.core_laws.proofs.Common.{AllByRecursion, Asks, AtRest, BlockOk, Call, Calls, DataOk, DeviceZone, Fails, FailureMayFollow, Happening, HasAddress, HasCause, HasHonestReads, IsEarned, IsFresh, IsMadeFor, IsSealed, IsSession, Lba, Logged, OnItsWay, Pbn, Post, RightTrace, SealedBlock, Session, Sizes, Stage, Stands, StandsAt, Trace, Vio, VioOk, Writer, asked, bytes_of, calls, committed, done, ended, entered, entries_of, entry_of, eqb_tells, has_read_fault, has_stopped, is_ok, is_read, log, logged, logical_zones, moments, notified, place_of, places, request_of, same_self, same_Some, some_is, staged, value_at, value_from, value_written, zone_count, zone_number, IsToFresh, IsChange, NewStands, Mapping, ReadsAs, MapsTo, OnBlock}
 use Rattle.image_layout.specs.Window.{mapping_of}
 use Rattle.vdo_model.specs.FlushMarks.{IsMark, successes}
 use Rattle.core_model.specs.declared.items.Asks.TheVariants.{Read, Write, Discard, Flush}
@@ -14,7 +14,7 @@ use Rattle.disk_model.specs.Log.{Misses}
 use Rattle.core_laws.proofs.kept.Carried.{vio_kept, holds_kept, looks_kept, sealed_kept}
 use Rattle.core_laws.proofs.journal.JournalFacts.{home_within, stopped_post}
 use Rattle.core_laws.proofs.kept.Spared.{mapping_by, honest_before}
-use Rattle.core_laws.proofs.kept.StandsOn.{AreElsewhere, IsCallOf, succeeded, failed, block_spared, journal_spared, write_spares, call_entries, spares_all, each_kept, rests_kept, way_kept}
+use Rattle.core_laws.proofs.kept.StandsOn.{AreElsewhere, IsCallOf, succeeded, failed, block_spared, journal_spared, write_spares, call_entries, spares_all, map_kept, map_more, new_kept, on_any, rests_kept, way_kept}
 use Rattle.blk_base.specs.Regions.{journal_slot_of, IsDataBlock}
 use Rattle.journal_codec.specs.Spelling.{block_bytes}
 use Rattle.stop_laws.specs.Journals.{HasEntry, block_of_slot}
@@ -102,7 +102,7 @@ module _ {s : Session} {t : Trace} {n : ℕ} {old : DeviceZone} {v : Vio} (known
         | inl same ↦ inl (subst (λ (z : ℕ). Mine s t (at.Device old) (item.Request v ∷ []) (OfBlock z)) same.1 (weighed (omega (arith, claim_one v x (rw store refl) to))))
         | inr other ↦ inr (λ inside. block_spared is y other.1)
       ])
-      (inr (call_entries s t is, journal_spared s is (data_misses s.sizes.geometry x v.bytes success fresh.is_data), write_spares is (entered t) (unnamed x store to)))
+      (inr (call_entries s t is, journal_spared s is (data_misses s.sizes.geometry x v.bytes success fresh.is_data), ((λ a y named. block_spared is y.0 (λ same. fresh.unnamed a y named (sym same))), write_spares is (entered t) (unnamed x store to))))
 
   -- what it carries then to the journal
   stored_carries : (u : Trace) (x : Pbn) (q : Asks) (m : Mapping) → q ≡ Write → m ≡ At x → IsFresh s x → ReadsAs s u x.0 v.bytes → MapsTo q v.bytes m × OnBlock (IsFresh s) m × OnBlock (λ y. ReadsAs s u y.0 v.bytes) m
@@ -118,7 +118,7 @@ module _ {s : Session} {t : Trace} {n : ℕ} {old : DeviceZone} {v : Vio} (known
   load_value x bytes is from honest =
       let carries = in_phase known phase.Load is in
       let maps = ap (λ o. mapped_by o (mapping_of s.window v.at.0)) carries.0.latest ∙ sym (mapping_by s.window (done t) v.at.0) ∙ sym carries.0.held.old_is ∙ from in
-      read_value s t known.session known.right v.at.0 v.latest x bytes carries.0.latest maps honest.0 honest.1 ∙ ap (value_from s v.at.0) carries.0.latest
+      read_value s t known.session known.right v.at.0 v.latest x bytes carries.0.held.quiet carries.0.latest maps honest.0 honest.1 ∙ ap (value_from s v.at.0) carries.0.latest
 
   pub device_serves : (new : DeviceZone) (made : Trace) (posts : List Post) → DeviceServes s.sizes old v new made posts → ActKept s t n (at.Device old) (item.Request v ∷ []) (at.Device new) made posts
   device_serves new made posts (device.stores x is to runs inside e m p) =
@@ -187,10 +187,10 @@ block_over s t {h} failed b next ok stands = (sealed_kept s h t b.vio b.sequence
 
 -- a flush keeps what stands, whether it fails or not
 flush_rest : (s : Session) (t : Trace) {h : Happening} {ok : Bool} (es : List Logged) → IsCallOf h (call.Flush ok) → AtRest s t es → AtRest s (h ∷ t) es
-flush_rest s t {h} es is k = rests_kept s h t es (journal_spared s is (λ slot below. tt)) (spares_all h (λ x. block_spared is x tt) es) k
+flush_rest s t {h} es is k = rests_kept s h t es (journal_spared s is (λ slot below. tt)) ((λ a x named. block_spared is x.0 tt), spares_all h (λ x. block_spared is x tt) es) k
 
 flush_way : (s : Session) (t : Trace) {h : Happening} {ok : Bool} (es : List Logged) (e : Logged) → IsCallOf h (call.Flush ok) → OnItsWay s t es e → OnItsWay s (h ∷ t) es e
-flush_way s t {h} es e is k = way_kept s h t es e (journal_spared s is (λ slot below. tt)) (spares_all h (λ x. block_spared is x tt) (e ∷ es)) k
+flush_way s t {h} es e is k = way_kept s h t es e (journal_spared s is (λ slot below. tt)) ((λ a x named. block_spared is x.0 tt), spares_all h (λ x. block_spared is x tt) (e ∷ es)) k
 
 below_logical : (s : Session) (v : Vio) (q : Asks) → IsChange q → HasAddress s.sizes v.at q → v.at.0 < s.sizes.geometry.logical
 below_logical s v Write is k = k
@@ -198,16 +198,15 @@ below_logical s v Discard is k = k
 below_logical s v Read is k = absurd is
 below_logical s v Flush is k = absurd is
 
--- what a request maps its address to gives it the bytes that it writes
-gives_now : (s : Session) (u : Trace) (q : Asks) (place : Lba) (bytes : List ℕ) (m : Mapping) → MapsTo q bytes m → OnBlock (IsFresh s) m → OnBlock (λ x. Stands s u x.0 bytes) m → GivesBytes s u m (value_written (Some (asked q place bytes)))
-gives_now s u Write place bytes (At x) maps fresh stands = (fresh, stands)
-gives_now s u Write place bytes Zero maps fresh stands = maps
-gives_now s u Write place bytes Unmapped maps fresh stands = absurd maps
-gives_now s u Discard place bytes Unmapped maps fresh stands = refl
-gives_now s u Discard place bytes Zero maps fresh stands = absurd maps
-gives_now s u Discard place bytes (At x) maps fresh stands = absurd maps
-gives_now s u Read place bytes m maps fresh stands = absurd maps
-gives_now s u Flush place bytes m maps fresh stands = absurd maps
+-- the block that a request maps its address to has the bytes that it writes
+written_now : (s : Session) (u : Trace) (q : Asks) (place : Lba) (bytes : List ℕ) (m : Mapping) → MapsTo q bytes m → OnBlock (λ x. Stands s u x.0 bytes) m
+    → OnBlock (λ x. Stands s u x.0 (value_written (Some (asked q place bytes)))) m
+written_now s u Write place bytes m maps stands = stands
+written_now s u Discard place bytes Unmapped maps stands = tt
+written_now s u Discard place bytes Zero maps stands = absurd maps
+written_now s u Discard place bytes (At x) maps stands = absurd maps
+written_now s u Read place bytes m maps stands = absurd maps
+written_now s u Flush place bytes m maps stands = absurd maps
 
 module _ (s : Session) (t : Trace) (b : SealedBlock) (session : IsSession s) (ok : IsSealed s t b.vio b.sequence) where
   abbrev count : ℕ
@@ -238,9 +237,9 @@ module _ (s : Session) (t : Trace) (b : SealedBlock) (session : IsSession s) (ok
   place_is : (slot : Pbn) → IsItsSlot s.sizes b slot → slot.0 ≡ block_of_slot (journal_slot_of s.sizes.geometry (s.sizes.start + count))
   place_is slot place = place ∙ ap (λ m. block_of_slot (journal_slot_of s.sizes.geometry m)) sequence_is
 
-  block_stands : StandsAt s t b.vio stage.Write → GivesBytes s t b.vio.new (bytes_of s (logged b.vio))
+  block_stands : StandsAt s t b.vio stage.Write → NewStands s t (logged b.vio)
   block_stands stands =
-      subst (GivesBytes s t b.vio.new) (ap value_written (sym ok.vio.asked)) (gives_now s t b.vio.asks b.vio.at b.vio.bytes b.vio.new ok.maps ok.fresh stands.1)
+      subst (λ (value : List ℕ). OnBlock (λ x. Stands s t x.0 value) b.vio.new) (ap value_written (sym ok.vio.asked)) (written_now s t b.vio.asks b.vio.at b.vio.bytes b.vio.new ok.maps stands.1)
 
   -- what a call leaves, at each stage
   pub record Made (h : Happening) (next : Stage) : Type 0 where
@@ -257,18 +256,20 @@ module _ (s : Session) (t : Trace) (b : SealedBlock) (session : IsSession s) (ok
         })
     makes_by stage.Write c slot place is right stands =
         let bytes = journal_bytes s.sizes b in
-        let way = slot_way s t (logged b.vio) slot bytes session spelled few_entries (place_is slot place) says stands.0 (block_stands stands) true in
+        let way = slot_way s t (logged b.vio) slot bytes session spelled few_entries (place_is slot place) says right stands.0 (block_stands stands) true in
         rw (sym (same_Some _ _ is)) (record {
-          right = slot_call s t (logged b.vio) slot bytes session spelled few_entries (place_is slot place) says stands.0 (block_stands stands) (Calls (call.Write slot bytes true)) true succeeded
-              (record { succeeds = refl; goes_on = λ writes. goes }) (inr way) ok.last right;
-          stands = (way, slot_reads s t (logged b.vio) slot bytes session spelled few_entries (place_is slot place) says stands.0 (block_stands stands));
+          right = slot_call s t (logged b.vio) slot bytes session spelled few_entries (place_is slot place) says right stands.0 (block_stands stands) (Calls (call.Write slot bytes true)) true succeeded
+              (record { succeeds = refl; goes_on = λ writes. goes }) (inr way) ok.last;
+          stands = (way, slot_reads s t (logged b.vio) slot bytes session spelled few_entries (place_is slot place) says right stands.0 (block_stands stands));
         })
     makes_by stage.Harden c slot place is right stands =
         rw (sym (same_Some _ _ is)) (record {
           right = quiet_call s t (call.Flush true) succeeded (record { succeeds = refl; goes_on = λ writes. goes }) (λ x. tt) right;
           stands = (
             hardens s.blocks (log s t) s.sizes.geometry s.sizes.start (entries_of s.window (committed t)) (entry_of (logged b.vio)) stands.0.0 stands.1,
-            each_kept s (Calls (call.Flush true)) t (logged b.vio ∷ committed t) (spares_all (Calls (call.Flush true)) (λ x. tt) (logged b.vio ∷ committed t)) stands.0.1,
+            map_more s (Calls (call.Flush true) ∷ t) (committed t) (logged b.vio)
+                (map_kept s (Calls (call.Flush true)) t (committed t) ((λ a x named. tt), spares_all (Calls (call.Flush true)) (λ x. tt) (committed t)) stands.0.1)
+                (new_kept s (Calls (call.Flush true)) t (logged b.vio) (on_any b.vio.new (λ x. tt)) stands.0.2),
           );
         })
     makes_by other c slot place is right stands = absurd cc
@@ -283,14 +284,14 @@ module _ (s : Session) (t : Trace) (b : SealedBlock) (session : IsSession s) (ok
     fails_by stage.Write c slot kept place is right stands =
         let bytes = journal_bytes s.sizes b in
         rw (sym (same_Some _ _ is)) (record {
-          right = slot_call s t (logged b.vio) slot bytes session spelled few_entries (place_is slot place) says stands.0 (block_stands stands) (Fails b.vio.request (call.Write slot bytes false) kept) false failed
-              (record { is_open = ok.vio.is_open; fails = refl; goes_on = λ writes. goes; made_for = tt }) (left kept) ok.last right;
+          right = slot_call s t (logged b.vio) slot bytes session spelled few_entries (place_is slot place) says right stands.0 (block_stands stands) (Fails b.vio.request (call.Write slot bytes false) kept) false failed
+              (record { is_open = ok.vio.is_open; fails = refl; goes_on = λ writes. goes; made_for = tt }) (left kept) ok.last;
           stands = (left kept, refl);
         })
       where
         left : (kept : Bool) → AtRest s (Fails b.vio.request (call.Write slot (journal_bytes s.sizes b) false) kept ∷ t) (committed t)
             ⊎ OnItsWay s (Fails b.vio.request (call.Write slot (journal_bytes s.sizes b) false) kept ∷ t) (committed t) (logged b.vio)
-        left true = inr (slot_way s t (logged b.vio) slot (journal_bytes s.sizes b) session spelled few_entries (place_is slot place) says stands.0 (block_stands stands) false)
+        left true = inr (slot_way s t (logged b.vio) slot (journal_bytes s.sizes b) session spelled few_entries (place_is slot place) says right stands.0 (block_stands stands) false)
         left false = inl stands.0
     fails_by stage.Harden c slot kept place is right stands =
         rw (sym (same_Some _ _ is)) (record {

@@ -10,7 +10,7 @@ use Rattle.core_laws.proofs.trace.DeskOfTrace.{shown_of}
 use Rattle.core_laws.proofs.trace.AbortsOfTrace.{unentered_abort}
 use Rattle.core_laws.proofs.kept.Keys.{Clears, Key, OfRequest, OfAddress, OfJournal, any, token_of, Spares, mine_or_spared, own_name, holder_one, idle_none}
 use Rattle.core_laws.proofs.kept.Spared.{mapping_same, of_same}
-use Rattle.core_laws.proofs.kept.StandsOn.{on_any, on_each, spares_all, reads_kept, rests_kept, opening_kept, SparesBlocks}
+use Rattle.core_laws.proofs.kept.StandsOn.{on_any, on_each, spares_all, reads_kept, rests_kept, stands_kept, SparesBlocks}
 use Rattle.core_laws.proofs.kept.Frame.{kept_on}
 use Rattle.core_laws.proofs.kept.Carried.{item_kept}
 use Rattle.blk_base.specs.declared.request.Answer.TheVariants as reply
@@ -94,17 +94,18 @@ module _ (s : Session) (t : Trace) (v : Vio) (right : RightTrace s t) (ok : VioO
     quiet = carries.0.quiet;
     below = carries.0.below;
     left = omega (arith, few, ap length idle);
+    new_data = on_each v.new (λ x to fresh. fresh.is_data) carries.2;
     old_is = carries.0.old_is ∙ mapping_same s.window (done t) (committed t) v.at.0 (sym carries.0.quiet.all_done);
   }
 
   rest_now : AtRest s (Enters (logged v) ∷ t) (committed t)
-  rest_now = rests_kept s (Enters (logged v)) t (committed t) tt (spares_all (Enters (logged v)) (λ x. tt) (committed t)) rest
+  rest_now = rests_kept s (Enters (logged v)) t (committed t) tt ((λ a x named. tt), spares_all (Enters (logged v)) (λ x. tt) (committed t)) rest
 
   pub enter_right : RightTrace s (Enters (logged v) ∷ t)
   enter_right = (
     may_enter,
     record {
-      kept = opening_kept s (Enters (logged v)) t tt (λ a y named. tt) (shown_of s t right).kept;
+      superblock = stands_kept s (Enters (logged v)) t 0 _ tt (shown_of s t right).superblock;
       journal = inr (record { entry = logged v; is_last = ap (λ es. logged v ∷ es) idle; stands = inl rest_now });
     },
     right,
@@ -213,13 +214,13 @@ module _ (s : Session) (t : Trace) (b : SealedBlock) (session : IsSession s) (ri
   after = Commits (logged b.vio) ∷ t
 
   rest_after : AtRest s after (committed after)
-  rest_after = rests_kept s (Commits (logged b.vio)) t (logged b.vio ∷ committed t) tt (commit_spares (logged b.vio) (logged b.vio ∷ committed t)) rest
+  rest_after = rests_kept s (Commits (logged b.vio)) t (logged b.vio ∷ committed t) tt ((λ a x named. tt), commit_spares (logged b.vio) (logged b.vio ∷ committed t)) rest
 
   commit_right : RightTrace s after
   commit_right = (
     record { is_open = ok.vio.is_open; last = ok.last },
     record {
-      kept = opening_kept s (Commits (logged b.vio)) t tt (λ a y named. tt) (shown_of s t right).kept;
+      superblock = stands_kept s (Commits (logged b.vio)) t 0 _ tt (shown_of s t right).superblock;
       journal = inl (ok.last, rest_after);
     },
     right,

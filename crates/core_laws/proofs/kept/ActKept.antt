@@ -13,7 +13,7 @@ use Rattle.core_laws.proofs.kept.Frame.{kept_on}
 use Rattle.core_laws.proofs.kept.Keys.{Key, OfRequest, OfAddress, OfJournal, token_of, Spares, happens_in, IfAny, Clears, clears_with, mine_or_spared, own_name, holder_one}
 use Rattle.core_laws.proofs.kept.Spared.{about}
 use Rattle.core_laws.proofs.tokens.Known.{LeasedIn}
-use Rattle.core_laws.proofs.kept.StandsOn.{spares_all, SparesBlock, SparesBlocks, SparesJournal, SparesEntries, rests_kept, opening_kept, pending_kept, AreElsewhere}
+use Rattle.core_laws.proofs.kept.StandsOn.{spares_all, SparesBlock, SparesMap, SparesJournal, SparesEntries, rests_kept, stands_kept, pending_kept, AreElsewhere}
 
 -- In the hands of an act is what the front of the inbox weighs for, and what the zone's own data does. A request that isn't
 -- begun is in nobody's.
@@ -75,16 +75,15 @@ plain_journal s t (Enters e) is = absurd is
 plain_journal s t (Commits e) is = absurd is
 plain_journal s t (Calls c) is = absurd is
 plain_journal s t (Fails w c kept) is = absurd is
-plain_journal s t other is = (record { entered_same = refl; committed_same = refl }, tt, spares_all other (λ x. tt) (entered t))
+plain_journal s t other is = (record { entered_same = refl; committed_same = refl }, tt, ((λ a x named. tt), spares_all other (λ x. tt) (entered t)))
 
 -- It stands after a happening that neither writes a block of it nor adds to the journal's entries.
-pub shown_kept : (s : Session) (h : Happening) (t : Trace) → SparesEntries s h t → SparesJournal s h → SparesBlocks h (entered t)
-    → SparesBlock h 0 → ((a : ℕ) (y : Pbn) → mapping_of s.window a ≡ At y → SparesBlock h y.0) → Shown s t → Shown s (h ∷ t)
-shown_kept s h t same journal blocks first mapped k = record { kept = opening_kept s h t first mapped k.kept; journal = entries k.journal }
+pub shown_kept : (s : Session) (h : Happening) (t : Trace) → SparesEntries s h t → SparesJournal s h → SparesMap s h (entered t) → SparesBlock h 0 → Shown s t → Shown s (h ∷ t)
+shown_kept s h t same journal blocks first k = record { superblock = stands_kept s h t 0 _ first k.superblock; journal = entries k.journal }
   where
     entries : ((entered t ≡ committed t) × AtRest s t (committed t)) ⊎ HasPending s t → ((entered (h ∷ t) ≡ committed (h ∷ t)) × AtRest s (h ∷ t) (committed (h ∷ t))) ⊎ HasPending s (h ∷ t)
     entries (inl rest) =
-        let there : SparesBlocks h (committed t) = subst (SparesBlocks h) rest.0 blocks in
+        let there : SparesMap s h (committed t) = subst (SparesMap s h) rest.0 blocks in
         inl (same.entered_same ∙ rest.0 ∙ sym same.committed_same, rw same.committed_same (rests_kept s h t (committed t) journal there rest.1))
     entries (inr pending) = inr (pending_kept s h t same journal blocks pending)
 
@@ -93,7 +92,7 @@ shown_plain s t (Enters e) is k = absurd is
 shown_plain s t (Commits e) is k = absurd is
 shown_plain s t (Calls c) is k = absurd is
 shown_plain s t (Fails w c kept) is k = absurd is
-shown_plain s t other is k = let same = plain_journal s t other tt in shown_kept s other t same.0 same.1 same.2 tt (λ a y there. tt) k
+shown_plain s t other is k = let same = plain_journal s t other tt in shown_kept s other t same.0 same.1 same.2 tt k
 
 -- a request whose line of the desk log is none of these is the same one
 pub vio_over : (s : Session) (h : Happening) (t : Trace) (v : Vio) → lines (h ∷ t) ≡ lines t → VioOk s t v → VioOk s (h ∷ t) v

@@ -10,7 +10,7 @@ use Rattle.core_model.specs.declared.items.Stage.TheVariants as stage
 use Rattle.core_model.specs.DeskRows.{is_marked, mark_of_vio}
 use Rattle.core_laws.proofs.kept.Keys.{Key, OfRequest, OfAddress, OfBlock, OfJournal, token_of, Spares, own_name, holder_one, claim_one}
 use Rattle.core_laws.proofs.kept.Spared.{SparesRequest, SparesAddress, open_kept, place_same, entry_same, slot_same, abort_same, gift_same, stop_kept, fault_kept, abort_kept, full_kept, journal_full_kept, mapping_same, quiet_kept, committed_kept, below_kept, mark_kept, honest_before, value_same, done_at, committed_at}
-use Rattle.core_laws.proofs.kept.StandsOn.{SparesBlocks, SparesJournal, SparesEntries, on_both, stands_kept, reads_kept, rests_kept, way_kept, entry_reads_kept}
+use Rattle.core_laws.proofs.kept.StandsOn.{SparesMap, SparesJournal, SparesEntries, on_both, stands_kept, reads_kept, rests_kept, way_kept, entry_reads_kept}
 
 -- the parts of the trace say the same of a request
 pub record SaysSame (h : Happening) (t : Trace) (w : Writer) : Type 0 where
@@ -130,15 +130,15 @@ module _ (s : Session) (h : Happening) (t : Trace) where
   kept_kept q v spares k = (vio_kept v (own_spared v spares) k.0, carries_kept v spares k.1, k.2)
 
   -- a sealed block
-  by_stage : (v : Vio) (q : Stage) → SparesEntries s h t → SparesJournal s h → SparesBlocks h (logged v ∷ committed t) → StandsAt s t v q → StandsAt s (h ∷ t) v q
-  by_stage v stage.Cover same journal blocks k = rw same.committed_same (rests_kept s h t (committed t) journal blocks.1 k.0, on_both v.new (λ x to apart reads. reads_kept s h t x.0 v.bytes apart reads) blocks.0 k.1)
-  by_stage v stage.Write same journal blocks k = rw same.committed_same (rests_kept s h t (committed t) journal blocks.1 k.0, on_both v.new (λ x to apart stands. stands_kept s h t x.0 v.bytes apart stands) blocks.0 k.1)
+  by_stage : (v : Vio) (q : Stage) → SparesEntries s h t → SparesJournal s h → SparesMap s h (logged v ∷ committed t) → StandsAt s t v q → StandsAt s (h ∷ t) v q
+  by_stage v stage.Cover same journal blocks k = rw same.committed_same (rests_kept s h t (committed t) journal (blocks.0, blocks.1.1) k.0, on_both v.new (λ x to apart reads. reads_kept s h t x.0 v.bytes apart reads) blocks.1.0 k.1)
+  by_stage v stage.Write same journal blocks k = rw same.committed_same (rests_kept s h t (committed t) journal (blocks.0, blocks.1.1) k.0, on_both v.new (λ x to apart stands. stands_kept s h t x.0 v.bytes apart stands) blocks.1.0 k.1)
   by_stage v stage.Harden same journal blocks k = rw same.committed_same (way_kept s h t (committed t) (logged v) journal blocks k.0, entry_reads_kept s h t (committed t) (logged v) journal k.0 k.1)
   by_stage v stage.Commit same journal blocks k = rw same.committed_same (rests_kept s h t (logged v ∷ committed t) journal blocks k)
   by_stage v stage.Fail same journal blocks k = (rw same.committed_same (failed k.0), stop_kept h t k.1)
     where
       failed : AtRest s t (committed t) ⊎ OnItsWay s t (committed t) (logged v) → AtRest s (h ∷ t) (committed t) ⊎ OnItsWay s (h ∷ t) (committed t) (logged v)
-      failed (inl rests) = inl (rests_kept s h t (committed t) journal blocks.1 rests)
+      failed (inl rests) = inl (rests_kept s h t (committed t) journal (blocks.0, blocks.1.1) rests)
       failed (inr way) = inr (way_kept s h t (committed t) (logged v) journal blocks way)
 
   pub sealed_kept : (v : Vio) (n : ℕ) → SparesRequest h v.request → SparesAddress h v.at.0 → SparesEntries s h t → IsSealed s t v n → IsSealed s (h ∷ t) v n
@@ -162,7 +162,7 @@ module _ (s : Session) (h : Happening) (t : Trace) where
       let own = spares (OfRequest v.request) (omega (arith, own_name v)) in
       let address = spares (OfAddress v.at.0) (omega (arith, holder_one v (rw k.0.phase refl))) in
       let journal = spares OfJournal (omega arith) in
-      let blocks : SparesBlocks h (logged v ∷ committed t) = subst (λ (es : List Logged). SparesBlocks h es) k.0.last journal.2 in
+      let blocks : SparesMap s h (logged v ∷ committed t) = subst (λ (es : List Logged). SparesMap s h es) k.0.last journal.2 in
       (sealed_kept v b.sequence own address journal.0 k.0, by_stage v b.stage journal.0 journal.1 blocks k.1)
 
   pub item_kept : (to : ℕ) (it : Item) → SparesItem it → ItemOk s t to it → ItemOk s (h ∷ t) to it

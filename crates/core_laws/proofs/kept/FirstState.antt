@@ -1,8 +1,8 @@
 -- A core at its start is legal, with an empty trace.
 use Rattle.std.proofs.Common.{◌≡◌, ℕ, suc, ◌≤◌, Bool, false, not, List, [], ◌∷◌, ◌++◌, length, refl, sym, ◌∙◌, ap, subst, inl, arith}
-use Rattle.core_laws.proofs.Common.{AllByRecursion, AtMost, AtRest, Balanced, DataOk, DeskLine, Each, IsFresh, IsSession, Item, ItemOk, KeptOk, Lba, Lock, LocksOk, Logged, LogicalZone, MapOk, Mapping, Pbn, RestsAt, Session, Shown, Token, Trace, Vio, Zone, ZoneData, ZoneOk, answers_of, arrival, as_items, begins_of, bit, block_token, blocks_at, desk_zone, entry_token, every-get, given, holder_token, in_log, is_answer, is_begin, is_block, is_entry, journal_token, kept_by, kept_phase, lease_token, lock_weight, logical_zone, made_by, newest, notice_token, notified_by, of_address, one_physical, queued, request_token, room_token, total, weight, zone_count}
+use Rattle.core_laws.proofs.Common.{AllByRecursion, AtMost, AtRest, Balanced, DataOk, DeskLine, Each, IsFresh, IsSession, Item, ItemOk, KeptOk, Lba, Lock, LocksOk, Logged, LogicalZone, MapOk, Mapping, Pbn, RestsAt, Session, Shown, Token, Trace, Vio, Zone, ZoneData, ZoneOk, answers_of, arrival, as_items, begins_of, bit, block_token, blocks_at, desk_zone, entry_token, every-get, given, holder_token, in_log, is_answer, is_begin, is_block, is_entry, journal_token, kept_by, kept_phase, lease_token, lock_weight, logical_zone, made_by, newest, notice_token, notified_by, of_address, one_physical, queued, request_token, room_token, total, weight, zone_count, OnBlock, Stands}
 use Rattle.blk_base.specs.declared.place.Mapping.TheVariants.{Unmapped, Zero, At}
-use Rattle.image_layout.specs.Window.{mapping_of}
+use Rattle.image_layout.specs.Window.{mapping_of, value_in}
 use Rattle.stop_laws.proofs.JournalLaws.{opened_at_rest}
 use Rattle.core_model.specs.declared.zones.ZoneData.TheVariants as at
 use Rattle.core_model.specs.Arrivals.{arrivals_at}
@@ -88,15 +88,18 @@ no_words s n other h = refl
 -- what the device has
 
 module _ (s : Session) (session : IsSession s) where
+  -- the block that the window maps an address to has its value
+  first_stands : (a : ℕ) (m : Mapping) → mapping_of s.window a ≡ m → OnBlock (λ x. Stands s [] x.0 (value_in s.image m)) m
+  first_stands a Unmapped e = tt
+  first_stands a Zero e = tt
+  first_stands a (At y) e = session.one_image.only y.0 (omega (arith, session.room, data_block_inside s.sizes.geometry y.0 (window_data s a y session e)))
+
   at_rest : AtRest s [] []
-  at_rest = (opened_at_rest s.blocks s.before s.sizes.geometry s.sizes.start s.image s.window (omega (arith, session.sizes.journal.0)) (omega (arith, session.room)) session.one_image session.is_window, tt)
+  at_rest = (opened_at_rest s.blocks s.before s.sizes.geometry s.sizes.start s.image s.window (omega (arith, session.sizes.journal.0)) (omega (arith, session.room)) session.one_image session.is_window, λ a. first_stands a (mapping_of s.window a) refl)
 
   pub shown_at_start : Shown s []
   shown_at_start = record {
-    kept = record {
-      superblock = session.one_image.only 0 (omega (arith, session.room));
-      mapped = λ a y e. session.one_image.only y.0 (omega (arith, session.room, data_block_inside s.sizes.geometry y.0 (window_data s a y session e)));
-    };
+    superblock = session.one_image.only 0 (omega (arith, session.room));
     journal = inl (refl, at_rest);
   }
 

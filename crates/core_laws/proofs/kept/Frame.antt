@@ -8,7 +8,7 @@ use Rattle.core_model.specs.declared.zones.ZoneData.TheVariants as at
 use Rattle.core_laws.proofs.kept.Carried.{kept_kept, item_kept}
 use Rattle.core_laws.proofs.kept.Keys.{Key, OfAddress, OfJournal, token_of, Spares, happens_in, Clears, mine_or_spared, free_one}
 use Rattle.core_laws.proofs.kept.Spared.{of_other, quiet_kept, stop_kept, abort_kept}
-use Rattle.core_laws.proofs.kept.StandsOn.{SparesBlocks, rests_kept, pending_kept}
+use Rattle.core_laws.proofs.kept.StandsOn.{SparesMap, rests_kept, pending_kept}
 use Rattle.core_laws.proofs.tokens.Lift.{items_total}
 
 -- What its own lists are parts of stays over what happens in another zone.
@@ -84,7 +84,7 @@ module _ (s : Session) (h : Happening) (t : Trace) where
   rests_on true broken spares k = k
   rests_on false false spares k =
       let same = spares refl in
-      let blocks : SparesBlocks h (committed t) = subst (SparesBlocks h) k.0 same.2 in
+      let blocks : SparesMap s h (committed t) = subst (SparesMap s h) k.0 same.2 in
       (same.0.entered_same ∙ k.0 ∙ sym same.0.committed_same, rw same.0.committed_same (rests_kept s h t (committed t) same.1 blocks k.1))
   rests_on false true spares k = let same = spares refl in pending_kept s h t same.0 same.1 same.2 k
 

@@ -7,7 +7,7 @@ use Rattle.core_model.specs.declared.items.Item.TheVariants.{Request}
 use Rattle.core_model.specs.declared.zones.ZoneData.TheVariants as at
 use Rattle.core_model.specs.LogicalRows.{is_among, is_held}
 use Rattle.core_laws.proofs.kept.Spared.{OffRequest, OffNumber, about, SparesRequest, SparesAddress}
-use Rattle.core_laws.proofs.kept.StandsOn.{SparesBlock, SparesBlocks, SparesJournal, SparesEntries}
+use Rattle.core_laws.proofs.kept.StandsOn.{SparesBlock, SparesMap, SparesJournal, SparesEntries}
 use Rattle.blk_base.specs.declared.place.Mapping.TheVariants.{At}
 
 pub data Key : Type 0 where
@@ -57,12 +57,12 @@ pub free_one : (b c d : Bool) → b ≡ true → c ≡ false → d ≡ false →
 free_one b c d p q r = rw (p, q, r) (omega arith)
 
 -- A happening spares a key that it isn't about. About a data block are the calls that write it; about the journal the
--- entries that it is handed or commits, and the calls that write a block of it or of its entries.
+-- entries that it is handed or commits, and the calls that write a block of it, of its entries or of the window.
 abbrev pub Spares : Session → Trace → Happening → Key → Type 0
 Spares s t h (OfRequest w) = SparesRequest h w
 Spares s t h (OfAddress a) = SparesAddress h a
 Spares s t h (OfBlock x) = IsDataBlock s.sizes.geometry x → SparesBlock h x
-Spares s t h OfJournal = SparesEntries s h t × SparesJournal s h × SparesBlocks h (entered t)
+Spares s t h OfJournal = SparesEntries s h t × SparesJournal s h × SparesMap s h (entered t)
 
 -- the zone where it happens
 abbrev pub happens_in : Sizes → Happening → ℕ

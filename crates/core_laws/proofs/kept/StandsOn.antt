@@ -1,7 +1,7 @@
 -- What stands on the device goes on over each call that misses it.
 use Rattle.std.proofs.Common.{◌≡◌, ◌≢◌, ◌⊎◌, ℕ, ◌+◌, ◌<◌, Bool, true, List, [], ◌∷◌, refl, inl, inr, subst, sym, ap, ◌∙◌, arith, length}
 use Rattle.std.proofs.Math.Nat.{mod-lt}
-use Rattle.core_laws.proofs.Common.{AllByRecursion, AtRest, Call, Calls, EachStands, Fails, GivesBytes, Happening, HasPending, Kept, Logged, Mapping, OnBlock, OnItsWay, Pbn, ReadsAs, ReadsEntry, Session, Stands, Trace, Writer, committed, entered, entries_of, entry_of, log}
+use Rattle.core_laws.proofs.Common.{AllByRecursion, AtRest, Call, Calls, Fails, Happening, HasPending, Logged, MapStands, Mapping, NewStands, OnBlock, OnItsWay, Pbn, ReadsAs, ReadsEntry, Session, Stands, Trace, Writer, committed, entered, entries_of, entry_of, eqb_tells, log}
 use Rattle.blk_base.specs.Regions.{journal_slot_of}
 use Rattle.blk_base.specs.declared.place.Mapping.TheVariants.{Unmapped, Zero, At}
 use Rattle.disk_model.specs.Log.{Misses}
@@ -37,6 +37,10 @@ pub on_each : {P Q : Pbn → Type 0} (m : Mapping) → ((x : Pbn) → m ≡ At x
 on_each (At x) so p = so x refl p
 on_each Unmapped so p = tt
 on_each Zero so p = tt
+
+-- nor one of a block that the window maps an address to
+abbrev pub SparesMap : Session → Happening → List Logged → Type 0
+SparesMap s h es = ((a : ℕ) (x : Pbn) → mapping_of s.window a ≡ At x → SparesBlock h x.0) × SparesBlocks h es
 
 -- one that writes no block at all
 pub spares_all : (h : Happening) → ((x : ℕ) → SparesBlock h x) → (es : List Logged) → SparesBlocks h es
@@ -81,28 +85,37 @@ module _ (s : Session) where
   reads_kept (Fails w c true) t x bytes apart k = subst (λ (options : List (List ℕ)). AllByRecursion (λ content. content ≡ bytes) options) (sym (settled-misses s.blocks (log s t) c x apart)) k
   reads_kept other t x bytes apart k = k
 
-  gives_kept : (h : Happening) (t : Trace) (m : Mapping) (bytes : List ℕ) → OnBlock (λ x. SparesBlock h x.0) m → GivesBytes s t m bytes → GivesBytes s (h ∷ t) m bytes
-  gives_kept h t (At x) bytes apart k = (k.0, stands_kept h t x.0 bytes apart k.1)
-  gives_kept h t Unmapped bytes apart k = k
-  gives_kept h t Zero bytes apart k = k
+  -- the block of a mapping that they give is spared
+  mapped_spared : (h : Happening) (es : List Logged) → SparesMap s h es → (a : ℕ) (x : Pbn) → mapping_of (entries_of s.window es) a ≡ At x → SparesBlock h x.0
+  mapped_spared h [] spares a x is = spares.0 a x is
+  mapped_spared h (e ∷ es) spares a x is = elim (eqb_tells e.at.0 a) [
+    | inl same ↦ let to : e.new ≡ At x = rw same.0 at is in subst (OnBlock (λ y. SparesBlock h y.0)) to spares.1.0
+    | inr other ↦ mapped_spared h es (spares.0, spares.1.1) a x (rw other.0 at is)
+  ]
 
-  pub each_kept : (h : Happening) (t : Trace) (es : List Logged) → SparesBlocks h es → EachStands s t es → EachStands s (h ∷ t) es
-  each_kept h t [] apart k = tt
-  each_kept h t (e ∷ older) apart k = (gives_kept h t e.new _ apart.0 k.0, each_kept h t older apart.1 k.1)
+  pub map_kept : (h : Happening) (t : Trace) (es : List Logged) → SparesMap s h es → MapStands s t es → MapStands s (h ∷ t) es
+  map_kept h t es spares k = λ a. on_each (mapping_of (entries_of s.window es) a) (λ x to stands. stands_kept h t x.0 _ (mapped_spared h es spares a x to) stands) (k a)
 
-  pub rests_kept : (h : Happening) (t : Trace) (es : List Logged) → SparesJournal s h → SparesBlocks h es → AtRest s t es → AtRest s (h ∷ t) es
+  pub new_kept : (h : Happening) (t : Trace) (e : Logged) → OnBlock (λ x. SparesBlock h x.0) e.new → NewStands s t e → NewStands s (h ∷ t) e
+  new_kept h t e apart k = on_both e.new (λ x to spared stands. stands_kept h t x.0 _ spared stands) apart k
+
+  pub rests_kept : (h : Happening) (t : Trace) (es : List Logged) → SparesJournal s h → SparesMap s h es → AtRest s t es → AtRest s (h ∷ t) es
   rests_kept (Calls c) t es journal apart k =
-      (rest_kept s.blocks (log s t) s.sizes.geometry s.sizes.start (entries_of s.window es) c journal k.0, each_kept (Calls c) t es apart k.1)
+      (rest_kept s.blocks (log s t) s.sizes.geometry s.sizes.start (entries_of s.window es) c journal k.0, map_kept (Calls c) t es apart k.1)
   rests_kept (Fails w c true) t es journal apart k =
-      (rest_kept s.blocks (log s t) s.sizes.geometry s.sizes.start (entries_of s.window es) c journal k.0, each_kept (Fails w c true) t es apart k.1)
-  rests_kept other t es journal apart k = (k.0, each_kept other t es apart k.1)
+      (rest_kept s.blocks (log s t) s.sizes.geometry s.sizes.start (entries_of s.window es) c journal k.0, map_kept (Fails w c true) t es apart k.1)
+  rests_kept other t es journal apart k = (k.0, map_kept other t es apart k.1)
 
-  pub way_kept : (h : Happening) (t : Trace) (es : List Logged) (e : Logged) → SparesJournal s h → SparesBlocks h (e ∷ es) → OnItsWay s t es e → OnItsWay s (h ∷ t) es e
+  pub way_kept : (h : Happening) (t : Trace) (es : List Logged) (e : Logged) → SparesJournal s h → SparesMap s h (e ∷ es) → OnItsWay s t es e → OnItsWay s (h ∷ t) es e
   way_kept (Calls c) t es e journal apart k =
-      (under_way_kept s.blocks (log s t) s.sizes.geometry s.sizes.start (entries_of s.window es) (entry_of e) c journal k.0, each_kept (Calls c) t (e ∷ es) apart k.1)
+      (under_way_kept s.blocks (log s t) s.sizes.geometry s.sizes.start (entries_of s.window es) (entry_of e) c journal k.0, map_kept (Calls c) t es (apart.0, apart.1.1) k.1, new_kept (Calls c) t e apart.1.0 k.2)
   way_kept (Fails w c true) t es e journal apart k =
-      (under_way_kept s.blocks (log s t) s.sizes.geometry s.sizes.start (entries_of s.window es) (entry_of e) c journal k.0, each_kept (Fails w c true) t (e ∷ es) apart k.1)
-  way_kept other t es e journal apart k = (k.0, each_kept other t (e ∷ es) apart k.1)
+      (under_way_kept s.blocks (log s t) s.sizes.geometry s.sizes.start (entries_of s.window es) (entry_of e) c journal k.0, map_kept (Fails w c true) t es (apart.0, apart.1.1) k.1, new_kept (Fails w c true) t e apart.1.0 k.2)
+  way_kept other t es e journal apart k = (k.0, map_kept other t es (apart.0, apart.1.1) k.1, new_kept other t e apart.1.0 k.2)
+
+  -- with one more entry, the map stands where what this one maps its address to does
+  pub map_more : (t : Trace) (es : List Logged) (e : Logged) → MapStands s t es → NewStands s t e → MapStands s t (e ∷ es)
+  map_more t es e k new = λ a. elim (eqb_tells e.at.0 a) [ inl same ↦ rw same.0 new | inr other ↦ rw other.0 (k a) ]
 
   -- the slot of the entry, over a call that misses the journal
   entry_missed : (c : Call) (t : Trace) (es : List Logged) (e : Logged) → MissesJournal s.sizes.geometry c → OnItsWay s t es e → ReadsEntry s t es e → ReadsEntry s (Calls c ∷ t) es e
@@ -118,16 +131,9 @@ module _ (s : Session) where
   entry_reads_kept (Fails w c true) t es e journal way k = entry_missed c t es e journal way k
   entry_reads_kept other t es e journal way k = k
 
-  -- what was there when the session began
-  pub opening_kept : (h : Happening) (t : Trace) → SparesBlock h 0 → ((a : ℕ) (y : Pbn) → mapping_of s.window a ≡ At y → SparesBlock h y.0) → Kept s t → Kept s (h ∷ t)
-  opening_kept h t first apart k = record {
-    superblock = stands_kept h t 0 _ first k.superblock;
-    mapped = λ a y is. stands_kept h t y.0 _ (apart a y is) (k.mapped a y is);
-  }
-
-  pending_stands : (h : Happening) (t : Trace) (es : List Logged) (e : Logged) → SparesJournal s h → SparesBlocks h (e ∷ es)
+  pending_stands : (h : Happening) (t : Trace) (es : List Logged) (e : Logged) → SparesJournal s h → SparesMap s h (e ∷ es)
       → AtRest s t es ⊎ OnItsWay s t es e ⊎ AtRest s t (e ∷ es) → AtRest s (h ∷ t) es ⊎ OnItsWay s (h ∷ t) es e ⊎ AtRest s (h ∷ t) (e ∷ es)
-  pending_stands h t es e journal apart (inl k) = inl (rests_kept h t es journal apart.1 k)
+  pending_stands h t es e journal apart (inl k) = inl (rests_kept h t es journal (apart.0, apart.1.1) k)
   pending_stands h t es e journal apart (inr (inl k)) = inr (inl (way_kept h t es e journal apart k))
   pending_stands h t es e journal apart (inr (inr k)) = inr (inr (rests_kept h t (e ∷ es) journal apart k))
 
@@ -141,9 +147,9 @@ module _ (s : Session) where
   call_entries t succeeded = record { entered_same = refl; committed_same = refl }
   call_entries t failed = record { entered_same = refl; committed_same = refl }
 
-  pub pending_kept : (h : Happening) (t : Trace) → SparesEntries h t → SparesJournal s h → SparesBlocks h (entered t) → HasPending s t → HasPending s (h ∷ t)
+  pub pending_kept : (h : Happening) (t : Trace) → SparesEntries h t → SparesJournal s h → SparesMap s h (entered t) → HasPending s t → HasPending s (h ∷ t)
   pending_kept h t same journal apart k =
-      let blocks : SparesBlocks h (k.entry ∷ committed t) = subst (λ (es : List Logged). SparesBlocks h es) k.is_last apart in
+      let blocks : SparesMap s h (k.entry ∷ committed t) = subst (λ (es : List Logged). SparesMap s h es) k.is_last apart in
       record {
         entry = k.entry;
         is_last = same.entered_same ∙ k.is_last ∙ ap (λ es. k.entry ∷ es) (sym same.committed_same);

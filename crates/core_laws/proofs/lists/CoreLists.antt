@@ -1,6 +1,6 @@
 -- Lists of items, of desk lines, of journal entries, and of locks.
 use Rattle.std.proofs.Common.{◌≡◌, ℕ, zero, suc, ◌+◌, ◌<◌, List, [], ◌∷◌, length, refl, ap, arith, ◌≤◌, true, Option, Some, None, IsSome, IsNone, ◌++◌, sym, ◌∙◌, subst, inl, inr, ◌==◌, ◌≢◌, ◌||◌, Bool, false}
-use Rattle.core_laws.proofs.Common.{AllByRecursion, Answer as Reply, DeskLine, IsDeskLog, Item, Lock, Logged, Pbn, Rises, Script, Vio, Writer, answer_of, before_begin, begun, cases_Bool, eqb_tells, every-append, lock_weight, logged_of, none_of, of_address, same_Some, same_tells, total, total-append}
+use Rattle.core_laws.proofs.Common.{newest, AllByRecursion, Answer as Reply, DeskLine, IsDeskLog, Item, Lock, Logged, Pbn, Rises, Script, Vio, Writer, answer_of, before_begin, begun, cases_Bool, eqb_tells, every-append, lock_weight, logged_of, none_of, of_address, same_Some, same_tells, total, total-append}
 use Rattle.blk_base.specs.declared.place.Mapping.TheVariants.{At}
 use Rattle.core_model.specs.Steps.{posted}
 use Rattle.vdo_model.specs.declared.report.DeskLine.TheVariants.{Begin, Answer}
@@ -277,3 +277,8 @@ rises_more (u ∷ us) v up below = (more us up.0, rises_more us v up.1 below.1)
     more : (ws : List Vio) → AllByRecursion (λ w. u.place < w.place) ws → AllByRecursion (λ w. u.place < w.place) (ws ++ v ∷ [])
     more [] all = (below.0, tt)
     more (w ∷ ws) all = (all.0, more ws all.1)
+
+-- what holds of all holds of the newest
+pub newest_has : (P : Logged → Type 0) (es : List Logged) (e : Logged) → newest es ≡ Some e → AllByRecursion P es → P e
+newest_has P [] e is all = absurd cc
+newest_has P (f ∷ es) e is all = let same : f ≡ e = cc in subst P same all.0

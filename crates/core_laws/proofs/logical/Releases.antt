@@ -17,10 +17,11 @@ use Rattle.core_laws.proofs.logical.LockLaws.{place_drawn, waits_behind, one_bac
 use Rattle.core_laws.proofs.tokens.Known.{Leased}
 use Rattle.core_laws.proofs.lists.CoreLists.{or_none, held_without, every_but_first, every_none_for, every_all_for, first_has}
 use Rattle.core_laws.proofs.tokens.Posts.{goes_by, IsGranted, nobody, somebody, is_granted}
-use Rattle.core_laws.proofs.device.DeviceCalls.{newest_has, write_whole}
+use Rattle.core_laws.proofs.device.DeviceCalls.{write_whole}
+use Rattle.core_laws.proofs.trace.ZeroWrites.{zeros_by}
 use Rattle.core_laws.proofs.lists.Zeros.{zeros_of}
 use Rattle.core_laws.proofs.kept.Spared.{mapping_by}
-use Rattle.core_laws.proofs.trace.DeskOfTrace.{done_writes, each_of_address}
+use Rattle.core_laws.proofs.trace.DeskOfTrace.{done_writes}
 
 -- below a greater place
 pub below_more : (t : Trace) (a m n : ℕ) → m ≤ n → AllBelow t a m → AllBelow t a n
@@ -32,18 +33,6 @@ below_more t a m n less k = record {
 -- a request is the one that it is, whatever a read has as its bytes
 pub asked_read : (asks : Asks) (v : Vio) (bytes : List ℕ) → asks ≡ Read → asked asks v.at v.bytes ≡ asked asks v.at bytes
 asked_read asks v bytes is = rw is refl
-
--- What an entry maps to no block gives its address zeros.
-maps_zero : (q : Asks) (bytes : List ℕ) (m : Mapping) (place : Lba) → ((x : Pbn) → m ≢ At x) → MapsTo q bytes m → value_written (Some (asked q place bytes)) ≡ zero_block
-maps_zero Write bytes Zero place off maps = maps
-maps_zero Write bytes (At x) place off maps = absurd (off x refl)
-maps_zero Write bytes Unmapped place off maps = absurd maps
-maps_zero Discard bytes m place off maps = refl
-maps_zero Read bytes m place off maps = absurd maps
-maps_zero Flush bytes m place off maps = absurd maps
-
-zero_written : (s : Session) (t : Trace) (e : Logged) → IsWrite s t e → (m : Mapping) → e.new ≡ m → ((x : Pbn) → m ≢ At x) → bytes_of s e ≡ zero_block
-zero_written s t e write m is off = ap value_written write.asked ∙ maps_zero write.asks write.bytes m e.at off (subst (MapsTo write.asks write.bytes) is write.maps)
 
 module _ (s : Session) (t : Trace) (n : ℕ) (l : LogicalZone) (session : IsSession s) (right : RightTrace s t) (k : DataOk s t n (at.Logical l)) (u : Vio) (ok : VioOk s t u) (place : IsPlaced s t u) (quiet : Quiet t u.at.0) (below : AllBelow t u.at.0 u.place)
     (home : u.home ≡ id.Logical l.zone) where
@@ -69,15 +58,10 @@ module _ (s : Session) (t : Trace) (n : ℕ) (l : LogicalZone) (session : IsSess
   }
 
   -- a read of zeros: what was done there last maps the address to no block, or the window does
-  zeros_by : (o : Option Logged) (m : Mapping) → ((x : Pbn) → m ≢ At x) → value_in s.image m ≡ zero_block → newest (of_address u.at.0 (done t)) ≡ o → mapped_by o (mapping_of s.window u.at.0) ≡ m
-      → value_from s u.at.0 o ≡ zero_block
-  zeros_by None m off zero is maps = ap (value_in s.image) maps ∙ zero
-  zeros_by (Some e) m off zero is maps = zero_written s t e (newest_has (IsWrite s t) (of_address u.at.0 (done t)) e is (each_of_address (IsWrite s t) u.at.0 (done t) (done_writes s t right))) m maps off
-
   zeros : (m : Mapping) → ((x : Pbn) → m ≢ At x) → value_in s.image m ≡ zero_block → mapping_at l u.at.0 ≡ m → zero_block ≡ value_at s t u.at.0
   zeros m off zero is =
       let maps = sym (ap (λ o. mapped_by o (mapping_of s.window u.at.0)) latest_is) ∙ sym mapping_is ∙ is in
-      sym (zeros_by (newest (of_address u.at.0 (done t))) m off zero refl maps)
+      sym (zeros_by s t (done t) u.at.0 (newest (of_address u.at.0 (done t))) m off zero refl (done_writes s t right) maps)
 
   module _ (is_read : u.asks ≡ Read) where
     looks : Looks s t (looked l u)

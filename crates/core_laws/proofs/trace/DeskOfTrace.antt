@@ -1,9 +1,10 @@
 -- The desk log of a right trace is well formed, and each done entry is a committed one, each committed one an entered
 -- one.
 use Rattle.std.proofs.Common.{ℕ, ◌≡◌, ◌<◌, ◌==◌, List, [], ◌∷◌, Some, IsNone, refl, sym, ◌∙◌, subst, inl, inr, arith}
-use Rattle.core_laws.proofs.Common.{AllByRecursion, Answer as Reply, DeskLine, Happening, IsDeskLog, IsWrite, Logged, MayFollow, RightTrace, Script, Session, Sets, Shown, Trace, Writer, answer_of, begun, cases_Bool, committed, done, each_at, entered, eqb_tells, every-map, lines, logged_of, none_is, not_both, of_address, option_cases, same_self, same_Some, same_tells}
+use Rattle.core_laws.proofs.Common.{OnBlock, AllByRecursion, Answer as Reply, DeskLine, Happening, IsDeskLog, IsWrite, Logged, MayFollow, RightTrace, Script, Session, Sets, Shown, Trace, Writer, answer_of, begun, cases_Bool, committed, done, each_at, entered, eqb_tells, every-map, lines, logged_of, none_is, not_both, of_address, option_cases, same_self, same_Some, same_tells}
 use Rattle.vdo_model.specs.declared.report.DeskLine.TheVariants.{Begin, Answer}
 use Rattle.core_laws.proofs.trace.Growth.{desk_grows, entered_grows, committed_grows, done_grows, begun_more, write_stays}
+use Rattle.blk_base.specs.Regions.{IsDataBlock}
 
 -- the desk log is well formed
 pub desk_log_right : (s : Session) (t : Trace) → RightTrace s t → IsDeskLog s.sizes.depth s.script (lines t)
@@ -191,3 +192,19 @@ committed_writes s t right = all_committed (IsWrite s t) s t right (entered_writ
 -- and each done one
 pub done_writes : (s : Session) (t : Trace) → RightTrace s t → AllByRecursion (IsWrite s t) (done t)
 done_writes s t right = all_done (IsWrite s t) s t right (committed_writes s t right)
+
+-- and each entry maps its address to a data block, or to none
+abbrev pub HasData : Session → Logged → Type 0
+HasData s e = OnBlock (λ x. IsDataBlock s.sizes.geometry x.0) e.new
+
+abbrev pub AreData : Session → List Logged → Type 0
+AreData s es = AllByRecursion (HasData s) es
+
+pub entered_data : (s : Session) (t : Trace) → RightTrace s t → AreData s (entered t)
+entered_data s [] right = tt
+entered_data s (h ∷ t) right =
+    let rest = entered_data s t right.2 in
+    entered_grows (AreData s) s h t right.0 rest (λ e came next. (next.new_data, rest))
+
+pub committed_data : (s : Session) (t : Trace) → RightTrace s t → AreData s (committed t)
+committed_data s t right = all_committed (HasData s) s t right (entered_data s t right)

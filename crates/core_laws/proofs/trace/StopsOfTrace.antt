@@ -1,6 +1,6 @@
 -- A stop before or after any call of a right trace is right.
 use Rattle.std.proofs.Common.{ℕ, ◌≡◌, ◌⊎◌, ◌<◌, false, Option, List, [], ◌∷◌, ◌++◌, length, refl, ◌∙◌, ap, inl, inr, arith, ◌≤◌, Bool, true, sym, subst, append_assoc, IsSome}
-use Rattle.core_laws.proofs.Common.{AllByRecursion, AtRest, Call, Calls, DeskLine, EachStands, FlushMark, HasPending, HistoryEntry, IsSession, IsWrite, Kept, Logged, Mapping, Mark, OnItsWay, Request, RightTrace, RunReport, Session, Shown, Trace, Writer, answer_of, append-nil, begun, bytes_of, calls, committed, done, each_both, entered, entries_of, entry_of, eqb_tells, every-append, every-map, lines, log, marks, newest, of_address, places, request_at, same_self, value_from, value_written, GivesBytes}
+use Rattle.core_laws.proofs.Common.{AllByRecursion, AtRest, Call, Calls, DeskLine, FlushMark, HasPending, HistoryEntry, IsSession, IsWrite, Logged, Mapping, Mark, OnItsWay, Request, RightTrace, RunReport, Session, Shown, Trace, Writer, answer_of, append-nil, begun, bytes_of, calls, committed, done, each_both, entered, entries_of, entry_of, eqb_tells, every-append, every-map, lines, log, marks, newest, of_address, places, request_at, same_self, value_from, value_written, MapStands, OnBlock, Pbn, Stands}
 use Rattle.blk_base.specs.declared.place.Mapping.TheVariants.{Unmapped, Zero, At}
 use Rattle.disk_model.specs.Images.{IsImage}
 use Rattle.disk_model.specs.Log.{Blocks, block_at}
@@ -8,7 +8,7 @@ use Rattle.disk_model.proofs.ImageLaws.{block_of_image}
 use Rattle.image_layout.specs.Window.{IsWindow, journal_of, mapping_of, value_in, value_of}
 use Rattle.stop_laws.proofs.JournalLaws.{window_at_rest, window_under_way}
 use Rattle.blk_base.proofs.RegionLaws.{data_block_inside}
-use Rattle.core_laws.proofs.device.DeviceCalls.{mapped_data, write_whole, whole_written}
+use Rattle.core_laws.proofs.device.DeviceCalls.{mapped_data, write_whole, whole_written, mapped_is_data, value_whole}
 use Rattle.stop_laws.specs.Histories.{is_lasting}
 use Rattle.vdo_model.specs.Stops.{is_covered, covered, MayLast, last_value, IsBegunBefore, before_answer, length_at, MayShow, RightAfterStops}
 use Rattle.vdo_model.specs.declared.report.Mark.TheVariants.{Settled, Unsettled, Refused}
@@ -20,9 +20,12 @@ use Rattle.core_laws.proofs.trace.Walks.{Walks, walks_front, walks_split}
 use Rattle.disk_model.specs.declared.call.Call.TheVariants.{Flush}
 use Rattle.vdo_model.specs.Histories.{history_of, is_settled}
 use Rattle.core_laws.proofs.trace.Cuts.{Cut, cut, cut_before_call, lines_append, entered_append, right_part}
-use Rattle.core_laws.proofs.trace.DeskOfTrace.{shown_of, each_of_address, entered_writes}
+use Rattle.core_laws.proofs.trace.DeskOfTrace.{shown_of, each_of_address, entered_writes, HasData, AreData, entered_data}
 use Rattle.core_laws.proofs.trace.HistoriesOfTrace.{entered_walks, settled_walks}
 use Rattle.core_laws.proofs.trace.MarksOfTrace.{HasMark, all_marks}
+use Rattle.core_laws.proofs.kept.StandsOn.{map_more}
+use Rattle.core_laws.proofs.kept.Spared.{mapping_by}
+use Rattle.core_laws.proofs.trace.ZeroWrites.{zeros_by}
 
 -- What an image shows of a trace: the entries of its window, and the value of each address.
 
@@ -34,7 +37,7 @@ pub record ImageEntries (s : Session) (u : Trace) (image : Blocks) : Type 0 wher
   pub of_entered : entered u ≡ more ++ es
   pub has_committed : es ≡ fewer ++ committed u
   pub is_window : IsWindow s.sizes.geometry s.sizes.start (journal_of s.sizes.geometry image) (entries_of s.window es)
-  pub stand : EachStands s u es
+  pub stand : MapStands s u es
 
 module _ (s : Session) (u : Trace) (image : Blocks) (session : IsSession s) (is : IsImage s.blocks (log s u) image) where
   rest_window : (es : List Logged) → AtRest s u es → IsWindow s.sizes.geometry s.sizes.start (journal_of s.sizes.geometry image) (entries_of s.window es)
@@ -69,7 +72,7 @@ module _ (s : Session) (u : Trace) (image : Blocks) (session : IsSession s) (is 
           of_entered = pending.is_last;
           has_committed = refl;
           is_window = new;
-          stand = way.1;
+          stand = map_more s u (committed u) pending.entry way.1 way.2;
         }
         | inr old ↦ record {
           es = committed u;
@@ -78,7 +81,7 @@ module _ (s : Session) (u : Trace) (image : Blocks) (session : IsSession s) (is 
           of_entered = pending.is_last;
           has_committed = refl;
           is_window = old;
-          stand = way.1.1;
+          stand = way.1;
         }
       ]
 
@@ -102,36 +105,21 @@ module _ (s : Session) (u : Trace) (image : Blocks) (session : IsSession s) (is 
   pub same_superblock : Shown s u → block_at image 0 ≡ block_at s.image 0
   same_superblock shown =
       let some : 0 < length s.blocks = omega (arith, session.room) in
-      block_of_image s.blocks (log s u) image 0 (block_at s.image 0) some (session.one_image.whole 0 some) shown.kept.superblock is
+      block_of_image s.blocks (log s u) image 0 (block_at s.image 0) some (session.one_image.whole 0 some) shown.superblock is
 
-  -- An address that no entry names has the value that it had.
-  old_value : (a : ℕ) (m : Mapping) → mapping_of s.window a ≡ m → Kept s u → value_in image m ≡ value_in s.image m
-  old_value a Unmapped maps kept = refl
-  old_value a Zero maps kept = refl
-  old_value a (At x) maps kept =
-      let below = data_block_inside s.sizes.geometry x.0 (mapped_data s.sizes.geometry s.sizes.start (journal_of s.sizes.geometry s.image) s.window a x session.is_window.written maps) in
-      let inside : x.0 < length s.blocks = omega (arith, below, session.room) in
-      block_of_image s.blocks (log s u) image x.0 (block_at s.image x.0) inside (session.one_image.whole x.0 inside) (kept.mapped a x maps) is
+  -- An address has the value of its newest entry, or that which it had.
+  module _ (right : RightTrace s u) (es : List Logged) (a : ℕ) (stand : MapStands s u es) (writes : AllByRecursion (IsWrite s u) es) (to_data : AreData s es) where
+    by_mapping : (m : Mapping) → mapping_of (entries_of s.window es) a ≡ m → value_in image m ≡ value_from s a (newest (of_address a es))
+    by_mapping (At x) maps =
+        let inside = data_block_inside s.sizes.geometry x.0 (mapped_is_data s es a x session to_data maps) in
+        let whole = value_whole s u session right es a x (newest (of_address a es)) writes refl (sym (mapping_by s.window es a) ∙ maps) in
+        let stands : Stands s u x.0 (value_from s a (newest (of_address a es))) = subst (OnBlock (λ y. Stands s u y.0 (value_from s a (newest (of_address a es))))) maps (stand a) in
+        block_of_image s.blocks (log s u) image x.0 _ (omega (arith, inside, session.room)) whole stands is
+    by_mapping Unmapped maps = sym (zeros_by s u es a (newest (of_address a es)) Unmapped (λ x off. cc) refl refl writes (sym (mapping_by s.window es a) ∙ maps))
+    by_mapping Zero maps = sym (zeros_by s u es a (newest (of_address a es)) Zero (λ x off. cc) refl refl writes (sym (mapping_by s.window es a) ∙ maps))
 
-  -- A mapping that gives its address bytes has them as its value.
-  new_value : (m : Mapping) (bytes : List ℕ) → length bytes ≡ 4096 → GivesBytes s u m bytes → value_in image m ≡ bytes
-  new_value (At x) bytes whole gives = block_of_image s.blocks (log s u) image x.0 bytes (omega (arith, gives.0.inside, session.room)) whole gives.1 is
-  new_value Unmapped bytes whole gives = sym gives
-  new_value Zero bytes whole gives = sym gives
-
-  -- And an address has the value of its newest entry.
-  pub shown_value : (es : List Logged) (a : ℕ) → Kept s u → EachStands s u es → AllByRecursion (λ (e : Logged). length (bytes_of s e) ≡ 4096) es
-      → value_of image (entries_of s.window es) a ≡ value_from s a (newest (of_address a es))
-  shown_value [] a kept stand whole = old_value a (mapping_of s.window a) refl kept
-  shown_value (e ∷ older) a kept stand whole = elim (eqb_tells e.at.0 a) [
-    | inl same ↦ rw same.0 (new_value e.new (bytes_of s e) whole.0 stand.0)
-    | inr other ↦ rw other.0 (shown_value older a kept stand.1 whole.1)
-  ]
-
--- what an entry writes is whole
-pub whole_entry : (s : Session) (t : Trace) (e : Logged) → IsSession s → IsWrite s t e → length (bytes_of s e) ≡ 4096
-whole_entry s t e session is =
-    ap (λ (o : Option Request). length (value_written o)) is.asked ∙ whole_written s e.request is.asks e.at is.bytes session is.asked
+    pub shown_value : value_of image (entries_of s.window es) a ≡ value_from s a (newest (of_address a es))
+    shown_value = by_mapping (mapping_of (entries_of s.window es) a) refl
 
 -- The part of a history that a stop shows: from the entry that stands for the newest of the shown ones back.
 
@@ -302,9 +290,10 @@ stops_right s t session right later prefix calls_are image is =
     let stands = shown_of s u right_cut in
     let is_cut : IsImage s.blocks (log s u) image = subst (λ (cs : List Call). IsImage s.blocks (cs ++ s.before) image) (sym c.calls_are) is in
     let entries = image_entries s u image session is_cut stands in
-    let whole = every-map {P = IsWrite s u} {Q = λ (e : Logged). length (bytes_of s e) ≡ 4096} (λ e write. whole_entry s u e session write) entries.es (each_older (IsWrite s u) entries.more entries.es (subst (AllByRecursion (IsWrite s u)) entries.of_entered (entered_writes s u right_cut))) in (
+    let writes = each_older (IsWrite s u) entries.more entries.es (subst (AllByRecursion (IsWrite s u)) entries.of_entered (entered_writes s u right_cut)) in
+    let to_data = each_older (HasData s) entries.more entries.es (subst (AreData s) entries.of_entered (entered_data s u right_cut)) in (
       value_of image (entries_of s.window entries.es),
       (same_superblock s u image session is_cut stands, record { window = entries_of s.window entries.es; is_window = entries.is_window; values_are = refl }),
       λ a below. may_show s t session right prefix c entries.es entries.more entries.fewer entries.of_entered entries.has_committed a below
-          (value_of image (entries_of s.window entries.es) a) (shown_value s u image session is_cut entries.es a stands.kept entries.stand whole),
+          (value_of image (entries_of s.window entries.es) a) (shown_value s u image session is_cut right_cut entries.es a entries.stand writes to_data),
     )

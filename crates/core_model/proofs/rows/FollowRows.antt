@@ -138,6 +138,7 @@ enters = record {
   quiet = record { all_committed = refl; all_done = refl };
   below = record { writes = ((λ same. omega arith), tt); reads = tt };
   left = omega arith;
+  new_data = record { slab = 0; offset = 7; inside = (omega arith, omega arith); stands = refl };
   old_is = refl;
 }
 
@@ -166,6 +167,7 @@ enters_zeros = record {
   quiet = record { all_committed = refl; all_done = refl };
   below = record { writes = tt; reads = tt };
   left = omega arith;
+  new_data = tt;
   old_is = refl;
 }
 
@@ -178,6 +180,7 @@ enters_a_discard = record {
   quiet = record { all_committed = refl; all_done = refl };
   below = record { writes = tt; reads = tt };
   left = omega arith;
+  new_data = tt;
   old_is = refl;
 }
 
@@ -220,6 +223,9 @@ enters_behind_a_read may = let below = may.below.reads.0 refl in absurd (omega (
 
 enters_while_a_block_is_left : May (Enters of_other) (Sets of_second ∷ Commits of_second ∷ Enters of_second ∷ set) → ⊥
 enters_while_a_block_is_left may = let left = may.left in absurd (omega (arith, left))
+
+enters_of_a_data_block : May (Enters (record of_second { new = At (block 78) })) set → ⊥
+enters_of_a_data_block may = let stands = may.new_data.stands in absurd (omega (arith, stands))
 
 enters_with_the_mapping : May (Enters (entry second 0 1 Unmapped 86)) set → ⊥
 enters_with_the_mapping may = let old = may.old_is in absurd cc
