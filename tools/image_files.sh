@@ -33,6 +33,25 @@ bytes() {
     od -An -v -tx1 -j "$2" -N "$3" "$1" | tr -d ' \n'
 }
 
+# put FILE PLACE BYTE: a byte of a file is changed; the byte in octal.
+put() {
+    printf "\\$3" | dd of="$1" bs=1 seek="$2" conv=notrunc 2>errors || exit 1
+}
+
+# agree FILE BLOCKS: the audit and the status of a file are those that the plain program finds, and leave it as it is.
+agree() {
+    cp "$1" before
+    for command in audit status; do
+        printed=$("$top/vdo" "$1" "$2" "$command" </dev/null 2>errors)
+        found=$?
+        if command -v python3 >errors; then
+            plain=$(python3 "$top/tools/whole_image.py" "$command" "$1" "$2")
+            same "$found $printed" "$? $plain" "$command of $1"
+        fi
+    done
+    cmp -s "$1" before || { echo "$1 was written"; wrong=1; }
+}
+
 # A file that isn't there is made, as large as what is written to it: the last block of the slab's journal is block 153.
 try 0 'formatted 154 blocks, 1 slab of 64, logical 1000' image 154 format
 same "$(wc -c <image | tr -d ' ')" 630784 'size of an image of 154 blocks'
@@ -49,6 +68,77 @@ same "$(wc -c <again | tr -d ' ')" 630784 'size of an image on a larger device'
 try 0 'formatted 223 blocks, 2 slabs of 64, logical 1000' again 223 format --slabs 2
 same "$(wc -c <again | tr -d ' ')" 913408 'size of an image of 223 blocks'
 
+# What they say of themselves, and their audit.
+try 0 'audit clean, used 0 of 64' image 154 audit
+try 0 'mode clean
+recovery none
+index 0 chapters
+compression refused
+used 0 of 64
+logical 1000' image 154 status
+try 0 'audit clean, used 0 of 128' again 223 audit
+agree image 154
+agree again 223
+
+# A byte is changed in each region: in the superblock, the recovery journal, a root and its last slot, the index, a data
+# block, the counter of the first block and that past its limit, and the slab's journal.
+cp image changed
+put changed 0 130
+try 4 'bad image: not an image' changed 154 audit
+try 4 'bad image: not an image' changed 154 status
+cp image changed
+put changed 36 007
+try 4 'bad image: field journal' changed 154 audit
+cp image changed
+put changed 4096 001
+try 0 'audit clean, used 0 of 64' changed 154 audit
+cp image changed
+put changed 36868 002
+try 4 'bad image: page 9 header' changed 154 audit
+cp image changed
+put changed 40955 002
+try 4 'bad image: page 9 slot 811 compressed' changed 154 status
+cp image changed
+put changed 282624 001
+put changed 348160 001
+try 0 'audit clean, used 0 of 64' changed 154 audit
+cp image changed
+put changed 610312 001
+try 6 'block 85 stored 1 mapped 0
+audit differs 1' changed 154 audit
+put changed 610375 376
+try 6 'block 85 stored 1 mapped 0
+block 148 stored 254 mapped 0
+audit differs 2' changed 154 audit
+put changed 610375 377
+try 4 'bad image: counter 148' changed 154 audit
+cp image changed
+put changed 614400 001
+try 0 'audit clean, used 0 of 64' changed 154 audit
+for place in 0 12 40 48 56 400 4096 32767 36864 36899 36900 69632 40959 282624 348160 610304 610312 614400 626688; do
+    for byte in 001 020 377; do
+        cp image changed
+        put changed "$place" "$byte"
+        agree changed 154
+    done
+done
+
+# Files without an image; one that is a block short, past whose end stand zeros, and fewer blocks than its image has.
+: >bare
+try 4 'bad image: not an image' bare 154 audit
+try 4 'bad image: not an image' bare 154 status
+same "$(wc -c <bare | tr -d ' ')" 0 'size of a file that was looked at'
+try 4 'bad image: not an image' bare 0 audit
+try 4 'bad image: not an image' absent 154 status
+dd if=image of=short bs=4096 count=153 2>errors
+try 0 'audit clean, used 0 of 64' short 154 audit
+agree short 154
+same "$(wc -c <short | tr -d ' ')" 626688 'size of a short file that was looked at'
+try 4 'bad image: field blocks' image 153 audit
+try 4 'bad image: field blocks' image 153 status
+dd if=image of=short bs=4096 count=40 2>errors
+try 4 'bad image: page 40 header' short 154 audit
+
 # Sizes that can't be had: nothing is written.
 try 8 'layout: needs 154 blocks, has 153' small 153 format
 same "$(wc -c <small | tr -d ' ')" 0 'size of a file on which no image was made'
@@ -60,6 +150,8 @@ cmp -s image kept || { echo 'an image that was refused was written'; wrong=1; }
 try 0 'formatted 154 blocks, 1 slab of 64, logical 1000
 formatted 223 blocks, 2 slabs of 64, logical 1000' - 223 format --slabs 2
 try 8 'layout: needs 154 blocks, has 153' - 153 format
+try 0 'formatted 154 blocks, 1 slab of 64, logical 1000
+audit clean, used 0 of 64' - 154 audit
 
 # Words that are no command line.
 try 2 usage image
@@ -68,10 +160,15 @@ try 2 usage image blocks format
 try 2 usage image +154 format
 try 2 usage image 154 erase
 try 2 usage image 154 run
+try 2 usage image 154 recover
+try 2 usage image 154 audit now
+try 2 usage image 154 status --logical 1
 
 # Files that can't be opened, or written.
 mkdir directory
 try 3 'device fault' directory 154 format
+try 3 'device fault' directory 154 audit
+try 3 'device fault' directory 154 status
 try 3 'device fault' missing/image 154 format
 if [ "$(id -u)" != 0 ]; then
     : >closed
@@ -79,6 +176,8 @@ if [ "$(id -u)" != 0 ]; then
     try 3 'device fault' closed 154 format
 fi
 if [ -c /dev/full ]; then
+    "$top/vdo" image 154 audit >/dev/full 2>errors
+    same "$?" 7 'status of an audit that could not be put'
     try 3 'device fault' /dev/full 154 format
 fi
 

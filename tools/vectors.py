@@ -17,6 +17,7 @@ import names
 import picks
 import slab
 import superblock
+import whole_image
 from rust_source import literals
 from vector import Vector, numbers
 
@@ -24,7 +25,7 @@ CRATES = Path(__file__).resolve().parent.parent / "crates"
 
 
 def vectors() -> Iterator[Vector]:
-    for module in (layout, superblock, journal, map_page, slab, names, picks, answers, chapters):
+    for module in (layout, superblock, journal, map_page, slab, names, picks, answers, chapters, whole_image):
         yield from module.vectors()
 
 

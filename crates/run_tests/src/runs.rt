@@ -1,6 +1,7 @@
 use blk_base::{Block, Geometry, Layout, Pbn};
 use disk_model::{Call, CallKind, FaultAt, MemDisk, MemSink, MemSource, OpenGate};
-use image_layout::{Field, ImageFault, SuperFault, first_image};
+use image_layout::{Field, SuperFault, first_image};
+use image_model::ImageFault;
 use std::alloc::{AllocError, Global};
 use std::process::Abort;
 use std::sync::Wait;
@@ -624,7 +625,7 @@ const NO_COMMANDS: [&[&str]; 9] = [
     &[],
     &["runs"],
     &["run", "run"],
-    &["status"],
+    &["status", "now"],
     &["run", "--threads"],
     &["run", "--schedule"],
     &["run", "--schedule", "x"],
@@ -653,7 +654,7 @@ fn is_put(alloc: Global, fault: &Fault, line: &str) -> Result<bool, AllocError> 
     Ok(put && sink.bytes() == line.as_bytes())
 }
 
-const FAULT_LINES: [(Fault, &str); 10] = [
+const FAULT_LINES: [(Fault, &str); 13] = [
     (Fault::Usage, "usage\n"),
     (
         Fault::Script(ScriptRefusal {
@@ -680,6 +681,19 @@ const FAULT_LINES: [(Fault, &str); 10] = [
         Fault::Image(ImageFault::Window { sequence: 12 }),
         "bad image: window 12\n",
     ),
+    (
+        Fault::Image(ImageFault::Counts {
+            at: Pbn(86),
+            stored: 2,
+            mapped: 1,
+        }),
+        "bad image: block 86 stored 2 mapped 1\n",
+    ),
+    (
+        Fault::Image(ImageFault::SharedPage { at: Pbn(85) }),
+        "bad image: shared page 85\n",
+    ),
+    (Fault::Differs(12), "audit differs 12\n"),
     (Fault::Memory, "no memory\n"),
     (Fault::Read, "read fault\n"),
 ];

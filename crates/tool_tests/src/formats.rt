@@ -40,7 +40,7 @@ fn device_of(alloc: Global, case: Case) -> Result<MemDisk, AllocError> {
     Ok(disk)
 }
 
-fn words_of(alloc: Global, texts: &[&str]) -> Result<Words, AllocError> {
+pub(crate) fn words_of(alloc: Global, texts: &[&str]) -> Result<Words, AllocError> {
     let mut words = Words::new(alloc);
     for text in texts {
         words.push(text)?;

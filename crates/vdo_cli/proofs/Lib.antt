@@ -11,6 +11,8 @@ pub mod TextPins
 pub mod PlayPins
 pub mod RunPins
 pub mod FormatPins
+pub mod AuditPins
+pub mod StatusPins
 pub mod EmptyScript
 pub mod SessionPins
 pub mod DrivenPins

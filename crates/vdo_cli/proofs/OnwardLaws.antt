@@ -58,6 +58,8 @@ served_goes_on : (s : Setting) (asked : Option Served) (before after : Outside) 
 served_goes_on s None before after status report ended ends = same_device s.device_tells before.device after.device ends.device
 served_goes_on s (Some (served.Script schedule)) before after status report ended ends = script_goes_on s schedule before after status report ended ends
 served_goes_on s (Some (served.Format sizes)) before after status report ended ends = format_goes_on s sizes before after status report ended ends
+served_goes_on s (Some served.Audit) before after status report ended ends = untouched s.device_tells before.device after.device ends.looks.untouched
+served_goes_on s (Some served.Status) before after status report ended ends = untouched s.device_tells before.device after.device ends.looks.untouched
 
 -- over a run
 pub run_goes_on : (s : Setting) (words : List (List ℕ)) (before after : Outside) (status : ℕ) (report : RunReport) (ended : Option Fault)

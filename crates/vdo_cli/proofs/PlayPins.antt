@@ -15,7 +15,7 @@ use Rattle.disk_model.proofs.SinceLaws.{reads_are_one}
 use Rattle.image_layout.specs.Opened.{IsHead}
 use Rattle.image_layout.specs.Superblock.{super_of}
 use Rattle.image_layout.specs.Window.{IsFaulty, IsWindow}
-use Rattle.image_layout.specs.declared.fault.ImageFault.TheVariants as image
+use Rattle.image_model.specs.declared.fault.ImageFault.TheVariants as image
 use Rattle.image_layout.specs.declared.fault.SuperFault.{SuperFault}
 use Rattle.image_layout.specs.declared.fault.SuperFault.TheVariants.{NotAnImage, Version}
 use Rattle.stream_text.specs.WholeScript.{first_discard, whole_script}

@@ -6,7 +6,7 @@ use Rattle.disk_model.specs.Seen.{Seen}
 use Rattle.disk_model.specs.Since.{OnlyReads}
 use Rattle.stream_text.specs.Texts.{answers_text}
 use Rattle.vdo_model.specs.declared.report.RunReport.{RunReport}
-use Rattle.image_layout.specs.declared.fault.ImageFault.TheVariants as image
+use Rattle.image_model.specs.declared.fault.ImageFault.TheVariants as image
 use Rattle.image_layout.specs.declared.fault.SuperFault.TheVariants.{NotAnImage}
 use Rattle.vdo_cli.specs.declared.fault.Fault.{Fault}
 use Rattle.vdo_cli.specs.declared.fault.Fault.TheVariants as fault

@@ -1,12 +1,14 @@
 -- The texts and the statuses of a run, computed: of each fault its line and its status, and of a desk log the session's.
 use Rattle.std.proofs.Common.{ℕ, ◌≡◌, ◌++◌, true, false, List, [], ◌∷◌, codes, refl}
 use Rattle.std.specs.Prelude.{decimal}
+use Rattle.blk_base.specs.declared.place.Pbn.{Pbn}
 use Rattle.blk_base.specs.declared.request.Answer.TheVariants as reply
-use Rattle.image_layout.specs.declared.fault.ImageFault.TheVariants as image
 use Rattle.image_layout.specs.declared.fault.LayoutFault.{LayoutFault}
 use Rattle.image_layout.specs.declared.fault.LayoutFault.TheVariants.{LogicalTooLarge}
 use Rattle.image_layout.specs.declared.fault.SuperFault.{SuperFault}
 use Rattle.image_layout.specs.declared.fault.SuperFault.TheVariants.{NotAnImage, Version}
+use Rattle.image_model.specs.declared.fault.ImageFault.TheVariants as image
+use Rattle.page_codec.specs.declared.fault.PageFault.{PageFault}
 use Rattle.stream_text.specs.declared.refusal.LineFault.TheVariants as line_fault
 use Rattle.vdo_model.specs.declared.report.DeskLine.TheVariants.{Begin, Answer}
 use Rattle.vdo_model.proofs.Example.{of_a, of_b, full_lines, desk}
@@ -66,6 +68,13 @@ version_line = refl
 window_line : fault_text (fault.Image (image.Window 12)) ≡ codes "bad image: " ++ (codes "window " ++ decimal 12) ++ codes "\n"
 window_line = refl
 
+counts_line : fault_text (fault.Image (image.Counts (record { 0 = 86 }) 2 1))
+    ≡ codes "bad image: " ++ (codes "block " ++ decimal 86 ++ codes " stored " ++ decimal 2 ++ codes " mapped " ++ decimal 1) ++ codes "\n"
+counts_line = refl
+
+differs_line : fault_text (fault.Differs 12) ≡ codes "audit differs " ++ decimal 12 ++ codes "\n"
+differs_line = refl
+
 memory_line : fault_text fault.Memory ≡ codes "no memory\n"
 memory_line = refl
 
@@ -93,6 +102,12 @@ device_status = refl
 
 super_status : (why : SuperFault) → fault_status (fault.Image (image.Super why)) ≡ 4
 super_status why = refl
+
+page_status : (at : Pbn) (why : PageFault) → fault_status (fault.Image (image.Page at why)) ≡ 4
+page_status at why = refl
+
+differs_status : (count : ℕ) → fault_status (fault.Differs count) ≡ 6
+differs_status count = refl
 
 window_status : fault_status (fault.Image (image.Window 12)) ≡ 4
 window_status = refl

@@ -6,5 +6,6 @@ pub mod Endings
 pub mod Texts
 pub mod Outsides
 pub mod NewImages
+pub mod Inspections
 pub mod Runs
 pub mod Onward

@@ -1,29 +1,21 @@
 -- How the making of an image ends.
-use Rattle.std.specs.Prelude.{ℕ, ◌≡◌, ◌++◌, Bool, IsTrue, List, Option, Some, None, Ok}
+use Rattle.std.specs.Prelude.{ℕ, ◌≡◌, Bool, IsTrue, List, Option, Some, None, Ok}
 use Rattle.blk_base.specs.Regions.{needed_blocks}
 use Rattle.blk_base.specs.declared.geometry.Geometry.{Geometry}
-use Rattle.disk_model.specs.Causes.{Rose}
 use Rattle.disk_model.specs.Seen.{Seen, Stays}
 use Rattle.image_format.specs.Formats.{FormatFails, LeavesEmpty, StopsAreRight}
 use Rattle.image_format.specs.declared.fault.FormatFault.TheVariants as format
 use Rattle.image_layout.specs.Planning.{plan_of}
 use Rattle.command_text.specs.Formats.{formatted_text}
 use Rattle.command_text.specs.declared.formats.Formatted.{Formatted}
-use Rattle.stream_text.specs.Puts.{PutsPart}
 use Rattle.vdo_model.specs.declared.report.RunReport.{RunReport}
 use Rattle.vdo_cli.specs.declared.fault.Fault.{Fault}
 use Rattle.vdo_cli.specs.declared.fault.Fault.TheVariants as fault
-use Rattle.vdo_cli.specs.Outsides.{Setting, Outside, Refuses, no_report}
+use Rattle.vdo_cli.specs.Outsides.{Setting, Outside, Refuses, Tells, no_report}
 
 -- what is told of an image of these sizes
 abbrev pub formatted_as : Geometry → Formatted
 formatted_as g = record { blocks = needed_blocks g; slabs = g.slabs; slab_blocks = g.slab_blocks; logical = g.logical }
-
--- a text is put, with status 0; or a first part of it and the sink failed, with status 7
-abbrev pub Tells : Bool → List ℕ → ℕ → Option Fault → List ℕ → ℕ → List ℕ → ℕ → Type 0
-Tells tells text status None held faults held' faults' = (status ≡ 0) × (IsTrue tells → held' ≡ held ++ text)
-Tells tells text status (Some fault.Sink) held faults held' faults' = (status ≡ 7) × Rose faults faults' × (IsTrue tells → PutsPart held held' text)
-Tells tells text status (Some other) held faults held' faults' = ⊥
 
 -- an image of these sizes was made, and its line was put
 pub record IsMade (tells sink_tells : Bool) (g : Geometry) (before after : Seen) (status : ℕ) (report : RunReport) (ended : Option Fault)

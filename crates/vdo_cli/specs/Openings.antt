@@ -4,9 +4,9 @@ use Rattle.blk_base.specs.declared.geometry.Super.{Super}
 use Rattle.blk_base.specs.declared.journal_entry.Entry.{Entry}
 use Rattle.disk_model.specs.Seen.{Seen}
 use Rattle.disk_model.specs.Since.{WereRead, NextFailed}
-use Rattle.image_layout.specs.declared.fault.ImageFault.TheVariants as image
 use Rattle.image_layout.specs.declared.fault.SuperFault.{SuperFault}
 use Rattle.image_layout.specs.declared.fault.SuperFault.TheVariants.{NotAnImage}
+use Rattle.image_model.specs.declared.fault.ImageFault.TheVariants as image
 use Rattle.image_layout.specs.Opened.{IsHead}
 use Rattle.image_layout.specs.Superblock.{super_of}
 use Rattle.image_layout.specs.Window.{IsWindow, IsFaulty}

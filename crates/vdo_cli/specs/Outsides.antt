@@ -1,10 +1,11 @@
 -- What contracts see of the outside of a run, and what a fault puts there.
-use Rattle.std.specs.Prelude.{ℕ, ◌≡◌, ◌⊎◌, ◌++◌, Bool, IsTrue, List, []}
+use Rattle.std.specs.Prelude.{ℕ, ◌≡◌, ◌⊎◌, ◌++◌, Bool, IsTrue, List, [], Option, Some, None}
 use Rattle.disk_model.specs.Causes.{Rose}
 use Rattle.disk_model.specs.Seen.{Seen}
 use Rattle.stream_text.specs.Puts.{PutsPart}
 use Rattle.vdo_model.specs.declared.report.RunReport.{RunReport}
 use Rattle.vdo_cli.specs.declared.fault.Fault.{Fault}
+use Rattle.vdo_cli.specs.declared.fault.Fault.TheVariants as fault
 use Rattle.vdo_cli.specs.Texts.{fault_text, fault_status}
 
 -- Which of the outside tell, and whether the device is honest.
@@ -35,6 +36,12 @@ outside device left source_faults held sink_faults =
 abbrev pub PutsOrFails : Bool → List ℕ → List ℕ → ℕ → List ℕ → ℕ → Type 0
 PutsOrFails tells text held faults held' faults' =
     (IsTrue tells → held' ≡ held ++ text) ⊎ (Rose faults faults' × (IsTrue tells → PutsPart held held' text))
+
+-- a text is put, with status 0; or a first part of it and the sink failed, with status 7
+abbrev pub Tells : Bool → List ℕ → ℕ → Option Fault → List ℕ → ℕ → List ℕ → ℕ → Type 0
+Tells tells text status None held faults held' faults' = (status ≡ 0) × (IsTrue tells → held' ≡ held ++ text)
+Tells tells text status (Some fault.Sink) held faults held' faults' = (status ≡ 7) × Rose faults faults' × (IsTrue tells → PutsPart held held' text)
+Tells tells text status (Some other) held faults held' faults' = ⊥
 
 -- the report where no session was begun
 abbrev pub no_report : RunReport

@@ -3,9 +3,7 @@ use Rattle.std.specs.List.{list_any}
 use Rattle.std.specs.Prelude.{ℕ, ◌++◌, Bool, true, false, List, [], codes, decimal, if◌then◌else◌}
 use Rattle.blk_base.specs.declared.request.Answer.{Answer as Reply}
 use Rattle.blk_base.specs.declared.request.Answer.TheVariants as reply
-use Rattle.image_layout.specs.declared.fault.ImageFault.TheVariants as image
-use Rattle.image_layout.specs.declared.fault.SuperFault.{SuperFault}
-use Rattle.image_layout.specs.Faults.{super_fault_text}
+use Rattle.command_text.specs.Faults.{image_fault_line}
 use Rattle.command_text.specs.Formats.{layout_line}
 use Rattle.stream_text.specs.declared.refusal.LineFault.{LineFault}
 use Rattle.stream_text.specs.declared.refusal.LineFault.TheVariants as line_fault
@@ -14,13 +12,9 @@ use Rattle.vdo_model.specs.declared.report.DeskLine.TheVariants.{Begin, Answer}
 use Rattle.vdo_cli.specs.declared.fault.Fault.{Fault}
 use Rattle.vdo_cli.specs.declared.fault.Fault.TheVariants as fault
 
--- the line of a superblock that is refused
-abbrev pub super_fault_line : SuperFault → List ℕ
-super_fault_line why = codes "bad image: " ++ super_fault_text why ++ codes "\n"
-
--- the line of a block of the window that isn't as a run leaves it
-abbrev pub window_fault_line : ℕ → List ℕ
-window_fault_line sequence = codes "bad image: " ++ (codes "window " ++ decimal sequence) ++ codes "\n"
+-- the line that says how many blocks differ
+abbrev pub differs_line : ℕ → List ℕ
+differs_line count = codes "audit differs " ++ (decimal count ++ codes "\n")
 
 -- what is wrong with a line
 abbrev pub line_fault_text : LineFault → List ℕ
@@ -43,9 +37,9 @@ fault_text (fault.Script why) = script_fault_line why.line (line_fault_text why.
 fault_text (fault.Later line) = script_fault_line line (codes "later")
 fault_text (fault.Layout why) = layout_line why
 fault_text fault.Device = codes "device fault\n"
-fault_text (fault.Image (image.Super why)) = super_fault_line why
-fault_text (fault.Image (image.Window sequence)) = window_fault_line sequence
+fault_text (fault.Image why) = image_fault_line why
 fault_text fault.Memory = codes "no memory\n"
+fault_text (fault.Differs count) = differs_line count
 fault_text fault.Read = codes "read fault\n"
 fault_text fault.Sink = []
 
@@ -58,6 +52,7 @@ fault_status (fault.Layout why) = 8
 fault_status fault.Device = 3
 fault_status (fault.Image why) = 4
 fault_status fault.Memory = 5
+fault_status (fault.Differs count) = 6
 fault_status fault.Read = 7
 fault_status fault.Sink = 7
 

@@ -1,13 +1,12 @@
 ghost use Rattle.std.specs.Prelude.{◌≡◌, ◌++◌, IsTrue, OnOk, OnErr, codes, decimal, reverse};
 ghost use Rattle.disk_model.specs.Causes.{HasCause};
 ghost use Rattle.stream_text.specs.Puts.{PutsPart};
-ghost use Rattle.vdo_cli.specs.Texts.{fault_text, fault_status, super_fault_line, window_fault_line, line_fault_text, lost_line, full_line, some_lost, some_full};
+ghost use Rattle.vdo_cli.specs.Texts.{fault_text, fault_status, differs_line, line_fault_text, lost_line, full_line, some_lost, some_full};
 
 use crate::Fault;
 use blk_base::Answer;
-use command_text::put_layout_fault;
+use command_text::{put_image_fault, put_layout_fault};
 use disk_model::{Failed, Sink};
-use image_layout::{ImageFault, SuperFault};
 use stream_text::LineFault;
 use vdo_model::DeskLine;
 
@@ -20,47 +19,6 @@ fn put_three<K: Sink>(out: &mut K, first: &[u8], second: &[u8], third: &[u8]) ->
     out.put(first)?;
     out.put(second)?;
     out.put(third)
-}
-
-// Puts the line of a superblock that is refused.
-fn put_super_fault<K: Sink>(fault: SuperFault, out: &mut K) -> Result<(), Failed>
-    ensures ok { IsTrue K.tells → OnOk result (K.holds out.new ≡ K.holds out.old ++ super_fault_line fault) }
-    ensures err { IsTrue K.tells → OnErr result (PutsPart (K.holds out.old) (K.holds out.new) (super_fault_line fault)) }
-    ensures cause { HasCause (K.faults out.old) (K.faults out.new) result }
-{
-    match fault {
-        SuperFault::NotAnImage => out.put(b"bad image: not an image\n"),
-        SuperFault::Version(found) => {
-            let mut buffer = itoa::Buffer::new();
-            put_three(
-                out,
-                b"bad image: version ",
-                buffer.format(found).as_bytes(),
-                b"\n",
-            )
-        }
-        SuperFault::BadField(field) => put_three(
-            out,
-            b"bad image: field ",
-            field.name().as_bytes(),
-            b"\n",
-        ),
-    }
-}
-
-// Puts the line of a block of the window that isn't as a run leaves it.
-fn put_window_fault<K: Sink>(sequence: u64, out: &mut K) -> Result<(), Failed>
-    ensures ok { IsTrue K.tells → OnOk result (K.holds out.new ≡ K.holds out.old ++ window_fault_line sequence) }
-    ensures err { IsTrue K.tells → OnErr result (PutsPart (K.holds out.old) (K.holds out.new) (window_fault_line sequence)) }
-    ensures cause { HasCause (K.faults out.old) (K.faults out.new) result }
-{
-    let mut buffer = itoa::Buffer::new();
-    put_three(
-        out,
-        b"bad image: window ",
-        buffer.format(sequence).as_bytes(),
-        b"\n",
-    )
 }
 
 // What the line of a script's fault ends with.
@@ -88,6 +46,21 @@ fn put_script_line<K: Sink>(line: u64, end: &[u8], out: &mut K) -> Result<(), Fa
     put_three(out, b"script line ", buffer.format(line).as_bytes(), end)
 }
 
+// Puts how many blocks differ.
+fn put_differs<K: Sink>(count: u32, out: &mut K) -> Result<(), Failed>
+    ensures ok { IsTrue K.tells → OnOk result (K.holds out.new ≡ K.holds out.old ++ differs_line count) }
+    ensures err { IsTrue K.tells → OnErr result (PutsPart (K.holds out.old) (K.holds out.new) (differs_line count)) }
+    ensures cause { HasCause (K.faults out.old) (K.faults out.new) result }
+{
+    let mut buffer = itoa::Buffer::new();
+    put_three(
+        out,
+        b"audit differs ",
+        buffer.format(count).as_bytes(),
+        b"\n",
+    )
+}
+
 /// Puts the line of a fault. Where the sink is the fault, nothing is put.
 pub fn put_fault<K: Sink>(fault: &Fault, out: &mut K) -> Result<(), Failed>
     ensures ok { IsTrue K.tells → OnOk result (K.holds out.new ≡ K.holds out.old ++ fault_text fault.now) }
@@ -97,8 +70,8 @@ pub fn put_fault<K: Sink>(fault: &Fault, out: &mut K) -> Result<(), Failed>
     let line: &[u8] = match fault {
         Fault::Script(why) => return put_script_line(why.line, script_fault_end(why.fault), out),
         Fault::Later { line } => return put_script_line(*line, b": later\n", out),
-        Fault::Image(ImageFault::Super(why)) => return put_super_fault(*why, out),
-        Fault::Image(ImageFault::Window { sequence }) => return put_window_fault(*sequence, out),
+        Fault::Image(why) => return put_image_fault(*why, out),
+        Fault::Differs(count) => return put_differs(*count, out),
         Fault::Layout(why) => return put_layout_fault(*why, out),
         Fault::Usage => b"usage\n",
         Fault::Device => b"device fault\n",
@@ -118,6 +91,7 @@ pub(crate) fn status_of(fault: &Fault) -> u8
         Fault::Device => 3,
         Fault::Image(_) => 4,
         Fault::Memory => 5,
+        Fault::Differs(_) => 6,
         Fault::Read | Fault::Sink => 7,
         Fault::Layout(_) => 8,
     }

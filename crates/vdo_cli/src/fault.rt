@@ -1,4 +1,5 @@
-use image_layout::{ImageFault, LayoutFault};
+use image_layout::LayoutFault;
+use image_model::ImageFault;
 use stream_text::ScriptRefusal;
 use thiserror::Error;
 
@@ -14,18 +15,22 @@ pub enum Fault {
     /// A line of the script asks for what isn't served yet: a discard. Status 2.
     #[error("script line {line}: later")]
     Later { line: u64 },
-    /// The device failed: a read before the script was read, or a call while an image was made. Status 3.
+    /// The device failed: a read before the script was read, or while an image was looked at, or a call while one was made.
+    /// Status 3.
     #[error("device fault")]
     Device,
     /// An image of the wanted sizes can't be had on the device. Status 8.
     #[error("layout: {0}")]
     Layout(LayoutFault),
-    /// The device has no image. Status 4.
+    /// The device has no image, or one with this fault. Status 4.
     #[error("bad image: {0}")]
     Image(ImageFault),
-    /// Memory ran out before the first request was served. Status 5.
+    /// Memory ran out before the first request was served, or while an image was looked at. Status 5.
     #[error("no memory")]
     Memory,
+    /// An audit found so many blocks whose stored count isn't the number of their mappings. Status 6.
+    #[error("audit differs {0}")]
+    Differs(u32),
     /// The script's source failed. Status 7.
     #[error("read fault")]
     Read,

@@ -4,6 +4,7 @@
 mod adapters;
 mod ending;
 mod fault;
+mod inspecting;
 mod laws;
 mod making;
 mod opening;

@@ -7,7 +7,8 @@ ghost use Rattle.vdo_cli.specs.Openings.{IsOpened, OpeningFails, JournalFails};
 use crate::Fault;
 use blk_base::{Block, Entry, Layout, Pbn, Super};
 use disk_model::Disk;
-use image_layout::{ImageFault, SuperFault, WindowFault, read_super, read_window};
+use image_layout::{SuperFault, WindowFault, read_super, read_window};
+use image_model::ImageFault;
 use std::alloc::Global;
 
 /// What a session starts with: the superblock, and the entries of the window, the oldest first.

@@ -1,19 +1,24 @@
-ghost use Rattle.std.specs.Prelude.{◌≡◌, Some, None, IsTrue};
+ghost use Rattle.std.specs.Prelude.{◌≡◌, ◌<◌, ◌^◌, Some, None, IsTrue, length};
 ghost use Rattle.stream_text.specs.AnswerRooms.{HasRoomFor};
 ghost use Rattle.command_text.specs.Formats.{formatted_text};
+ghost use Rattle.command_text.specs.Statuses.{status_text};
 ghost use Rattle.disk_model.specs.Seen.{Stays};
+ghost use Rattle.disk_model.specs.Since.{IsUntouched};
 ghost use Rattle.image_format.specs.Formats.{StopsAreRight};
-ghost use Rattle.vdo_cli.specs.NewImages.{IsMadeOrNot, Tells};
-ghost use Rattle.vdo_cli.specs.Outsides.{Refuses, no_report, outside, setting};
+ghost use Rattle.vdo_cli.specs.Inspections.{EndsAudit, EndsStatus, TellsReport};
+ghost use Rattle.vdo_cli.specs.NewImages.{IsMadeOrNot};
+ghost use Rattle.vdo_cli.specs.Outsides.{Refuses, Tells, no_report, outside, setting};
 ghost use Rattle.vdo_cli.specs.Runs.{EndsSo, Closes, RunsScript};
 
 use crate::ending::{has_full, has_lost, put_fault, status_of};
+use crate::inspecting::{audit_image, look_at};
 use crate::making::make_image;
 use crate::playing::{Played, play};
 use crate::words::Served;
 use crate::{Fault, Words};
+use audit::Report;
 use blk_base::Geometry;
-use command_text::{Formatted, put_formatted};
+use command_text::{Audit, Formatted, Space, Status, put_audit, put_formatted, put_status};
 use disk_model::{Disk, Sink, Source, ZoneGate};
 use std::alloc::Global;
 use std::sync::Wait;
@@ -103,6 +108,64 @@ fn tell<D: Disk, K: Sink>(alloc: Global, image: &Formatted, device: D, out: &mut
     }
 }
 
+// A command that ended so, without a session.
+fn end_with<D: Disk>(alloc: Global, status: u8, fault: Option<Fault>, device: D) -> Ended<D>
+    ensures status { result.status ≡ status }
+    ensures fault { result.fault ≡ fault }
+    ensures report { result.report ≡ no_report }
+    ensures device { result.device ≡ device }
+{
+    Ended {
+        status,
+        fault,
+        report: empty_report(alloc),
+        device,
+    }
+}
+
+// Puts the report of an audit. Where blocks differ the status is theirs, whatever becomes of the text.
+fn tell_report<D: Disk, K: Sink>(alloc: Global, report: &Report, device: D, out: &mut K) -> Ended<D>
+    requires { length report.now.differs.items < 2 ^ 32 }
+    ensures device { result.device ≡ device }
+    ensures report { result.report ≡ no_report }
+    ensures tells { TellsReport K.tells report.now result.status result.fault (K.holds out.old) (K.faults out.old) (K.holds out.new) (K.faults out.new) }
+{
+    let differ = report.differs.len() as u32;
+    let audit = Audit {
+        differences: &report.differs,
+        space: Space {
+            used: report.used,
+            total: report.total,
+        },
+    };
+    let put = put_audit(&audit, out);
+    if differ > 0 {
+        return end_with(alloc, 6, Some(Fault::Differs(differ)), device);
+    }
+    match put {
+        Ok(()) => end_with(alloc, 0, None, device),
+        Err(_) => end_with(alloc, 7, Some(Fault::Sink), device),
+    }
+}
+
+// Puts an image's status.
+fn tell_status<D: Disk, K: Sink>(alloc: Global, image: &Status, device: D, out: &mut K) -> Ended<D>
+    ensures device { result.device ≡ device }
+    ensures report { result.report ≡ no_report }
+    ensures tells { Tells K.tells (status_text image.now) result.status result.fault (K.holds out.old) (K.faults out.old) (K.holds out.new) (K.faults out.new) }
+{
+    let (status, fault) = match put_status(image, out) {
+        Ok(()) => (0, None),
+        Err(_) => (7, Some(Fault::Sink)),
+    };
+    Ended {
+        status,
+        fault,
+        report: empty_report(alloc),
+        device,
+    }
+}
+
 // Serves a script by the schedule of this number.
 fn run_script<R: Wait, D: Disk, S: Source, K: Sink>(
     rt: &R,
@@ -138,11 +201,51 @@ fn format<D: Disk, K: Sink>(alloc: Global, sizes: &Geometry, device: D, out: &mu
     }
 }
 
+// Compares the stored counts of the image with its mappings.
+fn audit_device<D: Disk, S: Source, K: Sink>(
+    alloc: Global,
+    device: D,
+    script: &S,
+    out: &mut K,
+) -> Ended<D>
+    ensures { EndsAudit (setting D.tells D.honest S.tells K.tells)
+        (outside (D.seen device) (S.left script.now) (S.faults script.now) (K.holds out.old) (K.faults out.old))
+        (outside (D.seen result.device) (S.left script.now) (S.faults script.now) (K.holds out.new) (K.faults out.new))
+        result.status result.report result.fault }
+{
+    let mut device = device;
+    match audit_image(alloc, &mut device) {
+        Ok(report) => tell_report(alloc, &report, device, out),
+        Err(fault) => refuse(alloc, fault, device, out),
+    }
+}
+
+// Asks the image what it says of itself.
+fn status_of_device<D: Disk, S: Source, K: Sink>(
+    alloc: Global,
+    device: D,
+    script: &S,
+    out: &mut K,
+) -> Ended<D>
+    ensures { EndsStatus (setting D.tells D.honest S.tells K.tells)
+        (outside (D.seen device) (S.left script.now) (S.faults script.now) (K.holds out.old) (K.faults out.old))
+        (outside (D.seen result.device) (S.left script.now) (S.faults script.now) (K.holds out.new) (K.faults out.new))
+        result.status result.report result.fault }
+{
+    let mut device = device;
+    match look_at(alloc, &mut device) {
+        Ok(status) => tell_status(alloc, &status, device, out),
+        Err(fault) => refuse(alloc, fault, device, out),
+    }
+}
+
 /// Does what the words say. `run`, or `run --schedule N`: the requests of the script, each stream's in its order, are
 /// served on the device's image by the zones of a core, whose steps and moves come in the order of the schedule N (0 where
 /// none is given). Their answers are put to `out`, one line for each. What earlier runs wrote is there again: it is read
 /// from the window of the recovery journal. `format`, with the sizes of an image as its options: an empty image is made on
-/// the device, and a line says so.
+/// the device, and a line says so. `audit`: each data block whose stored count isn't the number of its mappings is told, or
+/// how many are used where none differs; nothing is written. `status`: what the image says of itself is told, and nothing is
+/// written.
 ///
 /// A stop before or within any call of the device leaves an image that can be opened again. In it each address has the
 /// value of one of its writes: of none older than the last one that was answered before a flush was begun which was
@@ -151,12 +254,13 @@ fn format<D: Disk, K: Sink>(alloc: Global, sizes: &Geometry, device: D, out: &mu
 ///
 /// | Status | Comes where |
 /// |---|---|
-/// | 0 | each request was answered Ok, or with bytes; or the image was made |
+/// | 0 | each request was answered Ok, or with bytes; or the image was made; or no block differs, or the status was told |
 /// | 1 | a request was answered Full: all journal blocks or all data blocks were used |
 /// | 2 | the words are no command that is served (`Usage`), a line of the script has a fault (`Script`), or asks for a discard (`Later`) |
-/// | 3 | the device failed: before the script was read, or while an image was made (`Device`), or a request was answered Stopped or with a read fault |
-/// | 4 | the device has no image, or a block of its window isn't as a run leaves it (`Image`) |
-/// | 5 | memory ran out before the first request was served (`Memory`) |
+/// | 3 | the device failed: before the script was read, or while an image was made or looked at (`Device`), or a request was answered Stopped or with a read fault |
+/// | 4 | the device has no image, or a block of its window isn't as a run leaves it, or an audit or a status met a page or a count that can't be (`Image`) |
+/// | 5 | memory ran out before the first request was served, or while an image was looked at (`Memory`) |
+/// | 6 | an audit found blocks that differ (`Differs`) |
 /// | 7 | the source or the sink failed (`Read`, `Sink`) |
 /// | 8 | an image of these sizes can't be had on the device (`Layout`) |
 ///
@@ -178,6 +282,8 @@ pub fn run<R: Threads + Wait + Sync, D: Disk + Send + Drop, S: Source, K: Sink, 
     match words.served() {
         Some(Served::Script(schedule)) => run_script(rt, alloc, schedule, device, script, out),
         Some(Served::Format(sizes)) => format(alloc, &sizes, device, out),
+        Some(Served::Audit) => audit_device(alloc, device, script, out),
+        Some(Served::Status) => status_of_device(alloc, device, script, out),
         None => refuse(alloc, Fault::Usage, device, out),
     }
 }

@@ -25,6 +25,10 @@ pub(crate) enum Served {
     Script(u64),
     /// An image of these sizes is made.
     Format(Geometry),
+    /// An image's stored counts are compared with its mappings.
+    Audit,
+    /// An image is asked what it says of itself.
+    Status,
 }
 
 // The sizes that the options of `format` give.
@@ -53,6 +57,8 @@ fn served_in(command: Option<Command>) -> Option<Served>
             Drive::Threads => None,
         },
         Some(Command::Format(options)) => Some(Served::Format(sizes_of(&options))),
+        Some(Command::Audit) => Some(Served::Audit),
+        Some(Command::Status) => Some(Served::Status),
         _ => None,
     }
 }

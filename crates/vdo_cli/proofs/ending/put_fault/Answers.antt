@@ -41,3 +41,15 @@ returns-in-Script-clause-cause g c = c.put_script_line.ensures.cause
 
 pub returns-in-Later-clause-err : goal.returns-in-Later-clause-err
 returns-in-Later-clause-err g c tells = rw c.in-Later.is (c.put_script_line-in-Later.ensures.err tells)
+
+pub returns-in-Image-clause-ok : goal.returns-in-Image-clause-ok
+returns-in-Image-clause-ok g c tells = rw c.in-Image.is (c.put_image_fault.ensures.ok tells)
+
+pub returns-in-Image-clause-err : goal.returns-in-Image-clause-err
+returns-in-Image-clause-err g c tells = rw c.in-Image.is (c.put_image_fault.ensures.err tells)
+
+pub returns-in-Differs-clause-ok : goal.returns-in-Differs-clause-ok
+returns-in-Differs-clause-ok g c tells = rw c.in-Differs.is (c.put_differs.ensures.ok tells)
+
+pub returns-in-Differs-clause-err : goal.returns-in-Differs-clause-err
+returns-in-Differs-clause-err g c tells = rw c.in-Differs.is (c.put_differs.ensures.err tells)

@@ -1,4 +1,4 @@
-use Rattle.vdo_cli.proofs.ending.put_window_fault.Goals as goal
+use Rattle.vdo_cli.proofs.ending.put_differs.Goals as goal
 
 pub returns-clause-ok : goal.returns-clause-ok
 returns-clause-ok g c tells = rw (c.as_bytes.ensures.value, c.format.ensures.text) at (c.put_three.ensures.ok tells)

@@ -1,0 +1,94 @@
+-- How the commands end that look at an image: of what was read, and with nothing written.
+use Rattle.std.specs.Prelude.{ℕ, ◌≡◌, ◌⊎◌, ◌≤◌, Bool, List, [], length, Option, Some, if◌then◌else◌}
+use Rattle.audit.specs.Audits.{AuditFails, IsAudited}
+use Rattle.audit.specs.declared.forms.Report.{Report}
+use Rattle.command_text.specs.Audits.{findings_text}
+use Rattle.command_text.specs.Statuses.{status_text}
+use Rattle.command_text.specs.declared.parts.Space.{Space}
+use Rattle.command_text.specs.declared.statuses.Mode.TheVariants.{Clean, Unclean}
+use Rattle.command_text.specs.declared.statuses.Status.{Status}
+use Rattle.disk_model.specs.Since.{IsUntouched}
+use Rattle.image_model.specs.declared.fault.ImageFault.{ImageFault}
+use Rattle.image_model.specs.declared.fault.ImageFault.TheVariants as image
+use Rattle.image_status.specs.Statuses.{IsStatusRead}
+use Rattle.image_status.specs.declared.forms.ImageStatus.{ImageStatus}
+use Rattle.vdo_model.specs.declared.report.RunReport.{RunReport}
+use Rattle.vdo_cli.specs.declared.fault.Fault.{Fault}
+use Rattle.vdo_cli.specs.declared.fault.Fault.TheVariants as fault
+use Rattle.vdo_cli.specs.Outsides.{Setting, Outside, PutsOrFails, Refuses, Tells, no_report}
+
+-- Both commands.
+
+-- what was wrong with an image, as the fault of a run: a device that failed, and want of memory, aren't of the image
+abbrev pub told_as : ImageFault → Fault
+told_as image.Device = fault.Device
+told_as image.Memory = fault.Memory
+told_as other = fault.Image other
+
+-- nothing was found, for this cause, and the fault's line was put
+pub record FindsNothing (s : Setting) (Causes : ImageFault → Type 0) (before after : Outside) (status : ℕ) (report : RunReport) (ended : Option Fault) : Type 0 where
+  pub why : ImageFault
+  pub fault_is : ended ≡ Some (told_as why)
+  pub cause : Causes why
+  pub refuses : Refuses s.sink_tells (told_as why) status report before.held before.sink_faults after.held after.sink_faults
+
+-- the device was read and no more, and the script wasn't looked at
+pub record OnlyLooks (s : Setting) (before after : Outside) : Type 0 where
+  pub untouched : IsUntouched s.device_tells before.device after.device
+  pub left : after.left ≡ before.left
+  pub source_faults : after.source_faults ≡ before.source_faults
+
+-- The audit.
+
+-- how much of the space is used, by a report
+abbrev pub space_of : Report → Space
+space_of report = record { used = report.used; total = report.total }
+
+-- what is told of a report
+abbrev pub report_text : Report → List ℕ
+report_text report = findings_text report.differs.items (space_of report)
+
+-- its text is put: where blocks differ, with status 6 and their number, also where the sink failed; else with status 0, or
+-- with 7 where the sink failed
+abbrev pub TellsReport : Bool → Report → ℕ → Option Fault → List ℕ → ℕ → List ℕ → ℕ → Type 0
+TellsReport tells report status (Some (fault.Differs count)) held faults held' faults' =
+    (1 ≤ count) × (count ≡ length report.differs.items) × (status ≡ 6) × PutsOrFails tells (report_text report) held faults held' faults'
+TellsReport tells report status ended held faults held' faults' =
+    (report.differs.items ≡ []) × Tells tells (report_text report) status ended held faults held' faults'
+
+-- the image was audited, and the report was put
+pub record IsAuditTold (s : Setting) (before after : Outside) (status : ℕ) (report : RunReport) (ended : Option Fault) : Type 0 where
+  pub found : Report
+  pub audited : IsAudited s.device_tells s.device_honest before.device after.device found
+  pub report_is : report ≡ no_report
+  pub told : TellsReport s.sink_tells found status ended before.held before.sink_faults after.held after.sink_faults
+
+-- how an audit ends
+pub record EndsAudit (s : Setting) (before after : Outside) (status : ℕ) (report : RunReport) (ended : Option Fault) : Type 0 where
+  pub ends : IsAuditTold s before after status report ended
+      ⊎ FindsNothing s (AuditFails s.device_tells s.device_honest before.device after.device) before after status report ended
+  pub looks : OnlyLooks s before after
+
+-- The status.
+
+-- what is told of an image: of one whose last session was closed, no entries
+abbrev pub told_status : ImageStatus → Status
+told_status found = record {
+  mode = if found.clean then Clean else Unclean found.entries;
+  chapters = found.chapters;
+  space = record { used = found.used; total = found.total };
+  logical = found.logical;
+}
+
+-- the image was looked at, and its status was put, or a part of it and the sink failed
+pub record IsStatusTold (s : Setting) (before after : Outside) (status : ℕ) (report : RunReport) (ended : Option Fault) : Type 0 where
+  pub found : ImageStatus
+  pub read : IsStatusRead s.device_tells s.device_honest before.device after.device found
+  pub report_is : report ≡ no_report
+  pub told : Tells s.sink_tells (status_text (told_status found)) status ended before.held before.sink_faults after.held after.sink_faults
+
+-- how a status ends
+pub record EndsStatus (s : Setting) (before after : Outside) (status : ℕ) (report : RunReport) (ended : Option Fault) : Type 0 where
+  pub ends : IsStatusTold s before after status report ended
+      ⊎ FindsNothing s (AuditFails s.device_tells s.device_honest before.device after.device) before after status report ended
+  pub looks : OnlyLooks s before after
