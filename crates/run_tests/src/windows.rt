@@ -175,11 +175,7 @@ const READ_WINDOWS: [Case; 5] = [
         READ,
         ZEROS,
     ),
-    (
-        Device::With(&[(2, WRITTEN), (3, ZERO), VALUE]),
-        READ,
-        ZEROS,
-    ),
+    (Device::With(&[(2, WRITTEN), (3, ZERO), VALUE]), READ, ZEROS),
 ];
 
 #[test]

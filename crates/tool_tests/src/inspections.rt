@@ -325,7 +325,7 @@ fn inspect<R: Threads + Wait + Sync>(
     Ok(Outcome {
         status,
         text: sink.bytes() == text,
-        calls: device.calls().len() - before,
+        calls: device.calls().len().saturating_sub(before),
         reads: calls.all(|call| matches!(call, Call::Read { .. })),
     })
 }
