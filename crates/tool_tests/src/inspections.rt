@@ -401,7 +401,7 @@ fn other_failure<R: Threads + Wait + Sync>(
     word: &'static str,
 ) -> Result<Option<(usize, Outcome)>, AllocError> {
     for passes in [0, 1, 8, 9, 68, 69, 70, 73_usize] {
-        let mut device = device_with(rt, alloc, 154, &[])?;
+        let mut device = device_with(rt, alloc, 154, &[])?.pick_image(alloc, 1)?;
         device.set_fuse(passes as u64);
         let found = inspect(rt, alloc, word, device, 1000, b"device fault\n")?;
         if found.status != 3 || !found.text || found.calls != passes + 1 {
