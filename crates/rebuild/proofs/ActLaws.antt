@@ -8,14 +8,14 @@ use Rattle.disk_model.specs.declared.call.Failed.{Failed}
 use Rattle.disk_model.specs.Causes.{Rose}
 use Rattle.disk_model.specs.Log.{Blocks}
 use Rattle.disk_model.specs.Seen.{Seen}
-use Rattle.disk_model.specs.Since.{IsUntouched, OnlyReads, WereRead, NextFailed}
+use Rattle.disk_model.specs.Since.{IsUntouched, OnlyReads, WereRead, NextFailed, reads_of}
 use Rattle.disk_model.proofs.SeenLaws.{stays_on, later_on, stays_yet, later_yet}
 use Rattle.image_format.specs.Calls.{put}
 use Rattle.image_format.specs.Runs.{as_failed, Makes}
 use Rattle.image_model.specs.Maps.{Image}
 use Rattle.recovery_laws.specs.Calls.{IsPut, IsWritten}
 use Rattle.recovery_laws.specs.Kept.{image_in}
-use Rattle.rebuild.specs.Acts.{Acts, AreMade, IsStart, Recovers, Stopped, Went}
+use Rattle.rebuild.specs.Acts.{Acts, AreMade, Grows, IsStart, Recovers, Stopped, Went}
 use Rattle.rebuild.specs.Reads.{ReadsOne}
 
 -- What was written stays written.
@@ -47,6 +47,31 @@ read_made tells image first before now calls told made untouched =
 pub none_made : (image : Image) (first : Seen) → AreMade image first first []
 none_made image first = record { stays = stays_yet first; logged = refl; each = tt }
 
+-- A log grows over calls, however they end.
+pub grows_on : (tells : Bool) (before middle now : Seen) → Grows tells before middle → Grows tells middle now → Grows tells before now
+grows_on tells before middle now old new = λ told.
+    let older = old told in
+    let newer = new told in
+    (newer.0 ++ older.0, newer.1 ∙ ap (λ (log : List Call). newer.0 ++ log) older.1 ∙ sym (append_assoc newer.0 older.0 before.log))
+
+pub untouched_grows : (tells : Bool) (before now : Seen) → IsUntouched tells before now → Grows tells before now
+untouched_grows tells before now untouched = λ told. let since = untouched.reads told in (since.0, since.1)
+
+pub made_grows : (tells : Bool) (before now : Seen) (calls : List Call) (result : Result (Unit {0}) Failed) → Makes tells before now calls result → Grows tells before now
+made_grows tells before now calls (Ok _) made = λ told. (calls, made.logged told)
+made_grows tells before now calls (Err _) made = λ told. elim (made.logged told) [
+  | inl stands ↦ (as_failed made.call ∷ made.done, stands)
+  | inr lost ↦ (made.done, lost.0)
+]
+
+failed_grows : (tells honest : Bool) (from : ℕ) (before now : Seen) → NextFailed tells honest from before now [] → Grows tells before now
+failed_grows tells honest from before now failed = λ told.
+    let logged = failed.logged told in
+    elim logged.1 [
+      | inl stands ↦ (Read (record { 0 = from + 0 }) logged.0 false ∷ [], stands)
+      | inr lost ↦ ([], lost.0)
+    ]
+
 -- No call, where nothing is left to do.
 pub acts_yet : (tells honest : Bool) (seen : Seen) (Needs : Image → Type 0) (Done : Image → List Call → Type 0)
     → ((first : Seen) (blocks : Blocks) (start : IsStart tells honest first blocks) (calls : List Call) → AreMade (image_in blocks start.to.sound) first seen calls
@@ -55,6 +80,7 @@ pub acts_yet : (tells honest : Bool) (seen : Seen) (Needs : Image → Type 0) (D
 acts_yet tells honest seen Needs Done all = record {
   stays = stays_yet seen;
   later = later_yet seen;
+  grows = λ told. ([], refl);
   rose = tt;
   recovers = λ first blocks start calls made needs. ([], made, all first blocks start calls made needs);
 }
@@ -74,6 +100,7 @@ pub acts_as : (tells honest : Bool) (before now : Seen) (N N' : Image → Type 0
 acts_as tells honest before now N N' D D' result acts needs done = record {
   stays = acts.stays;
   later = acts.later;
+  grows = acts.grows;
   rose = acts.rose;
   recovers = recovers_as tells honest before now N N' D D' result acts.recovers needs done;
 }
@@ -107,6 +134,7 @@ module _ (tells honest : Bool) (before middle now : Seen) (N : Image → Type 0)
   then_acts result old new both = record {
     stays = stays_on before middle now old.stays new.stays;
     later = later_on before middle now old.later new.later;
+    grows = grows_on tells before middle now old.grows new.grows;
     rose = rose_on result old.later.faults new.rose;
     recovers = then_recovers result old.recovers new.recovers both;
   }
@@ -115,7 +143,7 @@ module _ (tells honest : Bool) (before middle now : Seen) (N : Image → Type 0)
 pub still_failed : (tells honest : Bool) (before now : Seen) (N : Image → Type 0) (D D' : Image → List Call → Type 0) (fault : Failed) (result : Result (Unit {0}) Failed) → IsErr result
     → Acts tells honest before now N D (Err fault) → Acts tells honest before now N D' result
 still_failed tells honest before now N D D' fault (Ok _) is acts = absurd (cc is)
-still_failed tells honest before now N D D' fault (Err _) is acts = record { stays = acts.stays; later = acts.later; rose = acts.rose; recovers = acts.recovers }
+still_failed tells honest before now N D D' fault (Err _) is acts = record { stays = acts.stays; later = acts.later; grows = acts.grows; rose = acts.rose; recovers = acts.recovers }
 
 -- A block is read, and then written.
 
@@ -177,17 +205,24 @@ module _ (tells honest : Bool) (before middle now : Seen) (at : Pbn) (given byte
         ];
       }
 
+  grows_both : (result : Result (Unit {0}) Failed) → WereRead tells honest at.0 before middle (given ∷ []) → Makes tells middle now (put at.0 bytes ∷ []) result
+      → Grows tells before now
+  grows_both result read made = grows_on tells before middle now
+      (λ told. (reads_of at.0 (given ∷ []), read.logged told)) (made_grows tells middle now (put at.0 bytes ∷ []) result made)
+
   pub written : (result : Result (Unit {0}) Failed) → WereRead tells honest at.0 before middle (given ∷ []) → Makes tells middle now (put at.0 bytes ∷ []) result → Puts
       → Acts tells honest before now N (λ image calls. IsWritten calls at.0) result
   written (Ok u) read made is = record {
     stays = stays_on before middle now read.stays made.stays;
     later = later_on before middle now read.later made.later;
+    grows = grows_both (Ok u) read made;
     rose = tt;
     recovers = written_recovers (Ok u) read made is;
   }
   written (Err e) read made is = record {
     stays = stays_on before middle now read.stays made.stays;
     later = later_on before middle now read.later made.later;
+    grows = grows_both (Err e) read made;
     rose = (let less = read.later.faults in let rose = made.rose in omega (arith, less, rose));
     recovers = written_recovers (Err e) read made is;
   }
@@ -212,6 +247,7 @@ pub read_stops : (tells honest : Bool) (before now : Seen) (at : Pbn) (N : Image
 read_stops tells honest before now at N D result is failed = record {
   stays = failed.stays;
   later = failed.later;
+  grows = failed_grows tells honest at.0 before now failed;
   rose = rose_err before now result failed.rose;
   recovers = recovers_err tells honest before now N D result is (read_failed tells honest before now at N failed);
 }

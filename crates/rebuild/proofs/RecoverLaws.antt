@@ -16,6 +16,7 @@ use Rattle.image_opening.specs.Heads.{HeadFails, IsHeadRead}
 use Rattle.recovery_laws.proofs.WholeLaws.{recovered}
 use Rattle.recovery_laws.specs.Calls.{recovery_calls}
 use Rattle.recovery_laws.specs.Kept.{image_in}
+use Rattle.rebuild.proofs.ActLaws.{grows_on, untouched_grows}
 use Rattle.rebuild.proofs.KeptLaws.{all_kept, untouched_kept}
 use Rattle.rebuild.proofs.ShownLaws.{clean_answer, entries_answer, head_refused, unclean_refused}
 use Rattle.rebuild.specs.Acts.{IsStart}
@@ -30,6 +31,7 @@ module _ (tells honest : Bool) (before : Seen) where
   head_failed now why told fails untouched = record {
     stays = untouched.stays;
     later = untouched.later;
+    grows = untouched_grows tells before now untouched;
     answers = tt;
     fails = inl fails;
     nothing = inr untouched;
@@ -42,6 +44,7 @@ module _ (tells honest : Bool) (before : Seen) where
   was_clean now head read clean untouched = record {
     stays = untouched.stays;
     later = untouched.later;
+    grows = untouched_grows tells before now untouched;
     answers = (head, read, clean, untouched);
     fails = tt;
     nothing = tt;
@@ -76,6 +79,7 @@ module _ (tells honest : Bool) (before : Seen) where
     was_recovered count is_so = record {
       stays = stays_on before middle now untouched.stays is_so.stays;
       later = later_on before middle now untouched.later is_so.later;
+      grows = grows_on tells before middle now (untouched_grows tells before middle untouched) is_so.grows;
       answers = (head, middle, read, unclean, is_so.entries);
       fails = tt;
       nothing = tt;
@@ -100,6 +104,7 @@ module _ (tells honest : Bool) (before : Seen) where
     was_refused why is_so = record {
       stays = stays_on before middle now untouched.stays is_so.stays;
       later = later_on before middle now untouched.later is_so.later;
+      grows = grows_on tells before middle now (untouched_grows tells before middle untouched) is_so.grows;
       answers = tt;
       fails = inr (head, middle, read, unclean, is_so.fails);
       nothing = elim is_so.nothing [ inl device ↦ inl device | inr more ↦ inr (untouched_on tells before middle now untouched more) ];

@@ -1,5 +1,5 @@
 -- For each definition a small case that it accepts, and one that it refuses.
-use Rattle.std.proofs.Common.{ℕ, ◌≡◌, true, false, List, [], ◌∷◌, ◌++◌, Ok, Err, length, refl, ap, inl, inr, arith}
+use Rattle.std.proofs.Common.{ℕ, ◌≡◌, true, false, List, [], ◌∷◌, ◌++◌, Ok, Err, length, length-append, refl, ap, inl, inr, arith}
 use Rattle.blk_base.specs.declared.geometry.Super.{Super as Superblock}
 use Rattle.disk_model.specs.declared.call.Call.{Call}
 use Rattle.disk_model.specs.declared.call.Call.TheVariants.{Read, Write, Flush}
@@ -12,7 +12,7 @@ use Rattle.image_model.specs.Maps.{Image}
 use Rattle.image_model.specs.declared.fault.ImageFault.TheVariants.{Device, Unclean, Memory}
 use Rattle.image_layout.specs.Opened.{super_of_image}
 use Rattle.rebuild.proofs.ActLaws.{none_made}
-use Rattle.rebuild.specs.Acts.{AreMade, HasStopped}
+use Rattle.rebuild.specs.Acts.{AreMade, Grows, HasStopped}
 use Rattle.rebuild.specs.Outcomes.{WritesNothing}
 use Rattle.rebuild.specs.Recoveries.{IsAnswer, IsRecovery, IsRefusal}
 use Rattle.rebuild.specs.declared.forms.Recovered.TheVariants.{Clean, Entries}
@@ -92,6 +92,13 @@ none_flushed [] same reads = absurd (cc same)
 none_flushed (Flush ok ∷ calls) same reads = reads
 none_flushed (Read at bytes ok ∷ calls) same reads = absurd (cc same)
 none_flushed (Write at bytes ok ∷ calls) same reads = reads
+
+-- grows: the log has what was in it before, whatever the device does
+log_grew : Grows true seen flushed
+log_grew = λ told. (Flush true ∷ [], refl)
+
+log_lost : IsRecovery true false flushed seen (Err Device) → ⊥
+log_lost is = let since = is.grows refl in let size = ap (λ (log : List Call). length log) since.1 in omega (arith, size, length-append since.0 (Flush true ∷ []))
 
 -- nothing: after another refusal than a device's nothing was written
 written_and_refused : IsRecovery true true seen flushed (Err Memory) → ⊥

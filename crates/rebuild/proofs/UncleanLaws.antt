@@ -31,7 +31,7 @@ use Rattle.replay_counts.specs.Recovered.{HasCounts}
 use Rattle.replay_map.specs.Changes.{AreNewest}
 use Rattle.replay_map.specs.Replayed.{HasMap}
 use Rattle.replay_map.specs.declared.changes.SlotId.{SlotId}
-use Rattle.rebuild.proofs.ActLaws.{none_made, read_made}
+use Rattle.rebuild.proofs.ActLaws.{grows_on, made_grows, none_made, read_made, untouched_grows}
 use Rattle.rebuild.proofs.KeptLaws.{closes_to, image_alike, made_kept, opened_alike, stopped_kept}
 use Rattle.rebuild.proofs.ReadLaws.{both_shown, still}
 use Rattle.rebuild.specs.Acts.{Acts, AreMade, IsStart}
@@ -55,6 +55,7 @@ pub blocks_failed : (tells honest : Bool) (before now : Seen) (N : Image → Typ
 blocks_failed tells honest before now N last fault result is acts = record {
   stays = acts.stays;
   later = acts.later;
+  grows = acts.grows;
   rose = rose_of before now result acts.rose;
   ends = λ first blocks start calls made has same.
       ends_failed (image_in blocks start.to.sound) start.to.sound.last first now result is
@@ -79,6 +80,7 @@ module _ (tells honest : Bool) (before middle now : Seen) (N : Image → Type 0)
       let parts = makes_stays (closing g) result makes in record {
         stays = stays_on before middle now acts.stays parts.0;
         later = later_on before middle now acts.later parts.1;
+        grows = grows_on tells before middle now acts.grows (made_grows tells middle now (closing g) result makes);
         rose = rose_behind result acts.later.faults parts.2;
         ends = λ first blocks start calls made has same.
             let image = image_in blocks start.to.sound in
@@ -96,6 +98,7 @@ pub read_refused : (tells honest : Bool) (head : Superblock) (before now : Seen)
 read_refused tells honest head before now why fails untouched = record {
   stays = untouched.stays;
   later = untouched.later;
+  grows = untouched_grows tells before now untouched;
   entries = tt;
   fails = fails;
   nothing = inr untouched;
@@ -158,6 +161,7 @@ module _ (tells honest : Bool) (head : Superblock) (before second third now : Se
   write_failed fault writes = record {
     stays = stays_on before third now all_read.stays writes.stays;
     later = later_on before third now all_read.later writes.later;
+    grows = grows_on tells before third now (untouched_grows tells before third all_read) writes.grows;
     entries = tt;
     fails = inr (inr (refl, let less = all_read.later.faults in let rose = writes.rose in omega (arith, less, rose)));
     nothing = inl refl;
@@ -168,6 +172,7 @@ module _ (tells honest : Bool) (head : Superblock) (before second third now : Se
   unclean_recovered writes = record {
     stays = stays_on before third now all_read.stays writes.stays;
     later = later_on before third now all_read.later writes.later;
+    grows = grows_on tells before third now (untouched_grows tells before third all_read) writes.grows;
     entries = (second, window, read, is.entries);
     fails = tt;
     nothing = tt;

@@ -13,6 +13,10 @@ use Rattle.image_model.specs.Maps.{Image}
 use Rattle.recovery_laws.specs.Calls.{IsPut}
 use Rattle.recovery_laws.specs.Kept.{IsToRecover, image_in}
 
+-- the log of a device that tells has these calls more, and what was in it before
+abbrev pub Grows : Bool → Seen → Seen → Type 0
+Grows tells before now = IsTrue tells → (calls : List Call) × (now.log ≡ calls ++ before.log)
+
 -- a device that tells and is honest, and that has an image to recover at this moment
 pub record IsStart (tells honest : Bool) (first : Seen) (blocks : Blocks) : Type 0 where
   pub told : IsTrue tells
@@ -55,5 +59,6 @@ Recovers tells honest before now Needs Done (Err _) = Stopped tells honest befor
 pub record Acts (tells honest : Bool) (before now : Seen) (Needs : Image → Type 0) (Done : Image → List Call → Type 0) (result : Result (Unit {0}) Failed) : Type 0 where
   pub stays : Stays before now
   pub later : Later before now
+  pub grows : Grows tells before now
   pub rose : OnErr result (Rose before.faults now.faults)
   pub recovers : Recovers tells honest before now Needs Done result

@@ -16,7 +16,7 @@ use Rattle.journal_window.specs.Reads.{IsWindowRead, Fails}
 use Rattle.journal_window.specs.States.{WindowState}
 use Rattle.recovery_laws.specs.Calls.{ArePuts, recovery_calls}
 use Rattle.recovery_laws.specs.Kept.{AreStopsKept, image_in}
-use Rattle.rebuild.specs.Acts.{AreMade, IsStart}
+use Rattle.rebuild.specs.Acts.{AreMade, Grows, IsStart}
 
 -- Of any device.
 
@@ -58,6 +58,7 @@ Ends image last first now (Err _) = IsKeptSince image first now
 pub record WritesAll (tells honest : Bool) (before now : Seen) (Needs : Image → Type 0) (last : ℕ) (result : Result (Unit {0}) Failed) : Type 0 where
   pub stays : Stays before now
   pub later : Later before now
+  pub grows : Grows tells before now
   pub rose : OnErr result (Rose before.faults now.faults)
   pub ends : (first : Seen) (blocks : Blocks) (start : IsStart tells honest first blocks) (calls : List Call) → AreMade (image_in blocks start.to.sound) first before calls
       → Needs (image_in blocks start.to.sound) → start.to.sound.last ≡ last → Ends (image_in blocks start.to.sound) start.to.sound.last first now result
@@ -66,6 +67,7 @@ pub record WritesAll (tells honest : Bool) (before now : Seen) (Needs : Image �
 pub record RecoversUnclean (tells honest : Bool) (head : Superblock) (before now : Seen) (result : Result ℕ ImageFault) : Type 0 where
   pub stays : Stays before now
   pub later : Later before now
+  pub grows : Grows tells before now
   pub entries : IfOk result (HasEntries tells honest head before)
   pub fails : IfErr result (UncleanFails tells honest head before now)
   pub nothing : IfErr result (WritesNothing tells before now)

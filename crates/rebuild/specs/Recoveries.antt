@@ -14,6 +14,7 @@ use Rattle.image_model.specs.declared.fault.ImageFault.{ImageFault}
 use Rattle.image_model.specs.declared.fault.ImageFault.TheVariants.{Super, Window, Page, Counter, SharedPage, Counts, Device, Unclean, Memory}
 use Rattle.image_opening.specs.Heads.{HeadFails, IsHeadRead}
 use Rattle.recovery_laws.specs.Kept.{IsRecovered, image_in}
+use Rattle.rebuild.specs.Acts.{Grows}
 use Rattle.rebuild.specs.Outcomes.{HasEntries, IsKeptSince, UncleanFails, WritesNothing}
 use Rattle.rebuild.specs.declared.forms.Recovered.{Recovered}
 use Rattle.rebuild.specs.declared.forms.Recovered.TheVariants.{Clean, Entries}
@@ -82,6 +83,7 @@ pub record IsRecovery (tells honest : Bool) (before now : Seen) (result : Result
   -- of any device
   pub stays : Stays before now
   pub later : Later before now
+  pub grows : Grows tells before now
   pub answers : IfOk result (Answers tells honest before now)
   pub fails : IfErr result (RecoverFails tells honest before now)
   pub nothing : IfErr result (WritesNothing tells before now)
