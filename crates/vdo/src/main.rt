@@ -1,4 +1,4 @@
-//! The program: it makes an image on a file, or looks at one, or serves a script on a fresh image in memory.
+//! The program: it makes an image on a file, recovers one, or looks at one, or serves a script on a fresh image in memory.
 #![tactic(auto)]
 
 mod arguments;

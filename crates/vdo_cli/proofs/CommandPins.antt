@@ -1,13 +1,14 @@
 -- Rows that pin which words are served, and as what, computed.
 use Rattle.std.proofs.Common.{ℕ, ◌≡◌, true, false, List, [], ◌∷◌, Some, None, codes, refl}
 use Rattle.blk_base.specs.declared.geometry.Geometry.{Geometry}
-use Rattle.vdo_words.specs.declared.commands.Command.TheVariants.{Recover, Run}
-use Rattle.vdo_words.specs.declared.commands.Command.TheVariants.{Audit as AuditCommand, Status as StatusCommand}
+use Rattle.vdo_words.specs.declared.commands.Command.TheVariants.{Run, Workload}
+use Rattle.vdo_words.specs.declared.commands.Command.TheVariants.{Audit as AuditCommand, Recover as RecoverCommand, Status as StatusCommand}
 use Rattle.vdo_words.specs.declared.commands.Command.TheVariants.{Format as FormatCommand}
 use Rattle.vdo_words.specs.declared.commands.FormatOptions.{FormatOptions}
 use Rattle.vdo_words.specs.declared.commands.CoreOptions.{CoreOptions}
+use Rattle.vdo_words.specs.declared.commands.WorkloadOptions.{WorkloadOptions}
 use Rattle.vdo_words.specs.declared.commands.Drive.TheVariants.{Schedule, Threads}
-use Rattle.vdo_cli.specs.declared.words.Served.TheVariants.{Audit, Script, Format, Status}
+use Rattle.vdo_cli.specs.declared.words.Served.TheVariants.{Audit, Script, Format, Recover, Status}
 use Rattle.vdo_cli.specs.Commands.{are_default, number_of, served_in, served_of, sizes_of}
 
 -- the options of a core that has none
@@ -37,7 +38,7 @@ each_size_is_its_option : sizes_of (record { logical = 1; slabs = 2; slab_blocks
     ≡ record { logical = 1; slabs = 2; slab_blocks = 3; journal = 4; index = 5; slab_journal = 6; height = 7; nonce = 8 }
 each_size_is_its_option = refl
 
--- served_in: `run` with such a core and a schedule, `format`, `audit` and `status`
+-- served_in: `run` with such a core and a schedule, `format`, `recover`, `audit` and `status`
 in_run : (number : ℕ) → served_in (Some (Run (record { drive = Schedule number; core = core }))) ≡ Some (Script number)
 in_run number = refl
 
@@ -50,14 +51,17 @@ not_with_another_core number = refl
 in_format : (options : FormatOptions) → served_in (Some (FormatCommand options)) ≡ Some (Format (sizes_of options))
 in_format options = refl
 
+in_recover : served_in (Some RecoverCommand) ≡ Some Recover
+in_recover = refl
+
 in_audit : served_in (Some AuditCommand) ≡ Some Audit
 in_audit = refl
 
 in_status : served_in (Some StatusCommand) ≡ Some Status
 in_status = refl
 
-not_in_another_command : served_in (Some Recover) ≡ None
-not_in_another_command = refl
+not_in_another_command : (options : WorkloadOptions) → served_in (Some (Workload options)) ≡ None
+not_in_another_command options = refl
 
 not_in_no_command : served_in None ≡ None
 not_in_no_command = refl
@@ -88,7 +92,17 @@ format_by_default = refl
 two_slabs : served_of (codes "format" ∷ codes "--slabs" ∷ codes "2" ∷ []) ≡ Some (Format (record default_sizes { slabs = 2 }))
 two_slabs = refl
 
--- the audit has no options
+-- a recovery has no options
+abbrev pub recover_words : List (List ℕ)
+recover_words = codes "recover" ∷ []
+
+pub recovered : served_of recover_words ≡ Some Recover
+recovered = refl
+
+recovered_with_an_option : served_of (codes "recover" ∷ codes "--schedule" ∷ codes "2" ∷ []) ≡ None
+recovered_with_an_option = refl
+
+-- nor has the audit
 abbrev pub audit_words : List (List ℕ)
 audit_words = codes "audit" ∷ []
 
@@ -121,8 +135,8 @@ deeper = refl
 no_number : served_of (codes "run" ∷ codes "--schedule" ∷ codes "seven" ∷ []) ≡ None
 no_number = refl
 
-recover : served_of (codes "recover" ∷ []) ≡ None
-recover = refl
+workload : served_of (codes "workload" ∷ []) ≡ None
+workload = refl
 
 twice : served_of (codes "run" ∷ codes "run" ∷ []) ≡ None
 twice = refl

@@ -13,6 +13,7 @@ pub mod RunPins
 pub mod FormatPins
 pub mod AuditPins
 pub mod StatusPins
+pub mod RecoveryPins
 pub mod EmptyScript
 pub mod SessionPins
 pub mod DrivenPins

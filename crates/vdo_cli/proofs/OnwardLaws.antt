@@ -1,5 +1,5 @@
 -- A device goes on over runs.
-use Rattle.std.proofs.Common.{ℕ, ◌≡◌, ◌++◌, Bool, List, [], Option, Some, None, refl, sym, ◌∙◌, ap, append_assoc}
+use Rattle.std.proofs.Common.{ℕ, ◌≡◌, ◌++◌, Bool, List, [], Option, Some, None, inl, inr, refl, sym, ◌∙◌, ap, append_assoc}
 use Rattle.blk_base.specs.declared.geometry.Geometry.{Geometry}
 use Rattle.disk_model.specs.declared.call.Call.{Call}
 use Rattle.disk_model.specs.Seen.{Seen}
@@ -14,6 +14,7 @@ use Rattle.vdo_cli.specs.declared.words.Served.{Served}
 use Rattle.vdo_cli.specs.declared.words.Served.TheVariants as served
 use Rattle.vdo_cli.specs.Commands.{served_of}
 use Rattle.vdo_cli.specs.NewImages.{MakesImage}
+use Rattle.vdo_cli.specs.Recoveries.{EndsRecovery}
 use Rattle.vdo_cli.specs.Outsides.{Setting, Outside}
 use Rattle.vdo_cli.specs.Runs.{EndsAs, EndsSo, NotBegun, PlayedOut, RunsScript}
 
@@ -49,6 +50,13 @@ format_goes_on s g before after status report ended makes = record {
   calls = λ told. let since = makes.stops told in (since.0, since.1);
 }
 
+recovery_goes_on : (s : Setting) (before after : Outside) (status : ℕ) (report : RunReport) (ended : Option Fault)
+    → EndsRecovery s before after status report ended → GoesOn s.device_tells before.device after.device
+recovery_goes_on s before after status report ended is = elim is.ends [
+  | inl done ↦ record { stays = done.recovery.stays; calls = done.recovery.grows }
+  | inr refused ↦ record { stays = refused.cause.stays; calls = refused.cause.grows }
+]
+
 same_device : (tells : Bool) (before after : Seen) → after ≡ before → GoesOn tells before after
 same_device tells before after same = rw same (record { stays = record { opening = refl; size = refl }; calls = λ told. ([], refl) })
 
@@ -58,6 +66,7 @@ served_goes_on : (s : Setting) (asked : Option Served) (before after : Outside) 
 served_goes_on s None before after status report ended ends = same_device s.device_tells before.device after.device ends.device
 served_goes_on s (Some (served.Script schedule)) before after status report ended ends = script_goes_on s schedule before after status report ended ends
 served_goes_on s (Some (served.Format sizes)) before after status report ended ends = format_goes_on s sizes before after status report ended ends
+served_goes_on s (Some served.Recover) before after status report ended ends = recovery_goes_on s before after status report ended ends
 served_goes_on s (Some served.Audit) before after status report ended ends = untouched s.device_tells before.device after.device ends.looks.untouched
 served_goes_on s (Some served.Status) before after status report ended ends = untouched s.device_tells before.device after.device ends.looks.untouched
 

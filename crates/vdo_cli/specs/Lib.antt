@@ -7,5 +7,6 @@ pub mod Texts
 pub mod Outsides
 pub mod NewImages
 pub mod Inspections
+pub mod Recoveries
 pub mod Runs
 pub mod Onward

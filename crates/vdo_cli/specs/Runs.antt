@@ -13,6 +13,7 @@ use Rattle.vdo_cli.specs.Commands.{served_of}
 use Rattle.vdo_cli.specs.Endings.{Plays, PlayFails}
 use Rattle.vdo_cli.specs.Inspections.{EndsAudit, EndsStatus}
 use Rattle.vdo_cli.specs.NewImages.{MakesImage}
+use Rattle.vdo_cli.specs.Recoveries.{EndsRecovery}
 use Rattle.vdo_cli.specs.Outsides.{Setting, Outside, PutsOrFails, Refuses}
 use Rattle.vdo_cli.specs.Texts.{some_lost, desk_status}
 
@@ -57,6 +58,7 @@ abbrev pub EndsAs : Setting → Option Served → Outside → Outside → ℕ �
 EndsAs s None before after status report ended = IsUsage s before after status report ended
 EndsAs s (Some (served.Script schedule)) before after status report ended = RunsScript s schedule before after status report ended
 EndsAs s (Some (served.Format sizes)) before after status report ended = MakesImage s sizes before after status report ended
+EndsAs s (Some served.Recover) before after status report ended = EndsRecovery s before after status report ended
 EndsAs s (Some served.Audit) before after status report ended = EndsAudit s before after status report ended
 EndsAs s (Some served.Status) before after status report ended = EndsStatus s before after status report ended
 

@@ -15,8 +15,8 @@ pub enum Fault {
     /// A line of the script asks for what isn't served yet: a discard. Status 2.
     #[error("script line {line}: later")]
     Later { line: u64 },
-    /// The device failed: a read before the script was read, or while an image was looked at, or a call while one was made.
-    /// Status 3.
+    /// The device failed: a read before the script was read, or while an image was looked at, or a call while one was made
+    /// or recovered. Status 3.
     #[error("device fault")]
     Device,
     /// An image of the wanted sizes can't be had on the device. Status 8.
@@ -25,7 +25,8 @@ pub enum Fault {
     /// The device has no image, or one with this fault. Status 4.
     #[error("bad image: {0}")]
     Image(ImageFault),
-    /// Memory ran out before the first request was served, or while an image was looked at. Status 5.
+    /// Memory ran out before the first request was served, or while an image was looked at, or before the first write of a
+    /// recovery. Status 5.
     #[error("no memory")]
     Memory,
     /// An audit found so many blocks whose stored count isn't the number of their mappings. Status 6.

@@ -9,6 +9,7 @@ mod laws;
 mod making;
 mod opening;
 mod playing;
+mod recovering;
 mod running;
 mod words;
 

@@ -1,6 +1,7 @@
 ghost use Rattle.std.specs.Prelude.{◌≡◌, ◌<◌, ◌^◌, Some, None, IsTrue, length};
 ghost use Rattle.stream_text.specs.AnswerRooms.{HasRoomFor};
 ghost use Rattle.command_text.specs.Formats.{formatted_text};
+ghost use Rattle.command_text.specs.Parts.{recovery_text};
 ghost use Rattle.command_text.specs.Statuses.{status_text};
 ghost use Rattle.disk_model.specs.Seen.{Stays};
 ghost use Rattle.disk_model.specs.Since.{IsUntouched};
@@ -8,17 +9,21 @@ ghost use Rattle.image_format.specs.Formats.{StopsAreRight};
 ghost use Rattle.vdo_cli.specs.Inspections.{EndsAudit, EndsStatus, TellsReport};
 ghost use Rattle.vdo_cli.specs.NewImages.{IsMadeOrNot};
 ghost use Rattle.vdo_cli.specs.Outsides.{Refuses, Tells, no_report, outside, setting};
+ghost use Rattle.vdo_cli.specs.Recoveries.{EndsRecovery};
 ghost use Rattle.vdo_cli.specs.Runs.{EndsSo, Closes, RunsScript};
 
 use crate::ending::{has_full, has_lost, put_fault, status_of};
 use crate::inspecting::{audit_image, look_at};
 use crate::making::make_image;
 use crate::playing::{Played, play};
+use crate::recovering::recover_image;
 use crate::words::Served;
 use crate::{Fault, Words};
 use audit::Report;
 use blk_base::Geometry;
-use command_text::{Audit, Formatted, Space, Status, put_audit, put_formatted, put_status};
+use command_text::{
+    Audit, Formatted, Recovery, Space, Status, put_audit, put_formatted, put_recovery, put_status,
+};
 use disk_model::{Disk, Sink, Source, ZoneGate};
 use std::alloc::Global;
 use std::sync::Wait;
@@ -123,6 +128,29 @@ fn end_with<D: Disk>(alloc: Global, status: u8, fault: Option<Fault>, device: D)
     }
 }
 
+// Puts the line of a recovery.
+fn tell_recovery<D: Disk, K: Sink>(
+    alloc: Global,
+    recovery: Recovery,
+    device: D,
+    out: &mut K,
+) -> Ended<D>
+    ensures device { result.device ≡ device }
+    ensures report { result.report ≡ no_report }
+    ensures tells { Tells K.tells (recovery_text recovery) result.status result.fault (K.holds out.old) (K.faults out.old) (K.holds out.new) (K.faults out.new) }
+{
+    let (status, fault) = match put_recovery(recovery, out) {
+        Ok(()) => (0, None),
+        Err(_) => (7, Some(Fault::Sink)),
+    };
+    Ended {
+        status,
+        fault,
+        report: empty_report(alloc),
+        device,
+    }
+}
+
 // Puts the report of an audit. Where blocks differ the status is theirs, whatever becomes of the text.
 fn tell_report<D: Disk, K: Sink>(alloc: Global, report: &Report, device: D, out: &mut K) -> Ended<D>
     requires { length report.now.differs.items < 2 ^ 32 }
@@ -201,6 +229,25 @@ fn format<D: Disk, K: Sink>(alloc: Global, sizes: &Geometry, device: D, out: &mu
     }
 }
 
+// Closes the image, if its last session wasn't closed.
+fn recover_device<D: Disk, S: Source, K: Sink>(
+    alloc: Global,
+    device: D,
+    script: &S,
+    out: &mut K,
+) -> Ended<D>
+    ensures { EndsRecovery (setting D.tells D.honest S.tells K.tells)
+        (outside (D.seen device) (S.left script.now) (S.faults script.now) (K.holds out.old) (K.faults out.old))
+        (outside (D.seen result.device) (S.left script.now) (S.faults script.now) (K.holds out.new) (K.faults out.new))
+        result.status result.report result.fault }
+{
+    let mut device = device;
+    match recover_image(alloc, &mut device) {
+        Ok(recovery) => tell_recovery(alloc, recovery, device, out),
+        Err(fault) => refuse(alloc, fault, device, out),
+    }
+}
+
 // Compares the stored counts of the image with its mappings.
 fn audit_device<D: Disk, S: Source, K: Sink>(
     alloc: Global,
@@ -240,26 +287,28 @@ fn status_of_device<D: Disk, S: Source, K: Sink>(
 }
 
 /// Does what the words say. `run`, or `run --schedule N`: the requests of the script, each stream's in its order, are
-/// served on the device's image by the zones of a core, whose steps and moves come in the order of the schedule N (0 where
-/// none is given). Their answers are put to `out`, one line for each. What earlier runs wrote is there again: it is read
-/// from the window of the recovery journal. `format`, with the sizes of an image as its options: an empty image is made on
-/// the device, and a line says so. `audit`: each data block whose stored count isn't the number of its mappings is told, or
-/// how many are used where none differs; nothing is written. `status`: what the image says of itself is told, and nothing is
-/// written.
+/// served on the device's image by the zones of a core, whose steps and moves come in the order of the schedule N (0
+/// where none is given). Their answers are put to `out`, one line for each. What earlier runs wrote is there again: it
+/// is read from the window of the recovery journal. `format`, with the sizes of an image as its options: an empty image
+/// is made on the device, and a line says so. `recover`: an image whose last session wasn't closed is closed, so that
+/// it says the same, and how many entries of its journal were used is told; nothing is written where it was closed.
+/// `audit`: each data block whose stored count isn't the number of its mappings is told, or how many are used where
+/// none differs; nothing is written. `status`: what the image says of itself is told, and nothing is written.
 ///
 /// A stop before or within any call of the device leaves an image that can be opened again. In it each address has the
 /// value of one of its writes: of none older than the last one that was answered before a flush was begun which was
 /// answered too (docs/DESIGN.md, "A stop"). The report's marks say which calls of the device made the flushes last. A stop
-/// while an image is made leaves what was there, or no image, or an empty one.
+/// while an image is made leaves what was there, or no image, or an empty one. One while a sound image is recovered leaves a
+/// sound one that says the same.
 ///
 /// | Status | Comes where |
 /// |---|---|
-/// | 0 | each request was answered Ok, or with bytes; or the image was made; or no block differs, or the status was told |
+/// | 0 | each request was answered Ok, or with bytes; or the image was made; or recovered, or was closed; or no block differs, or the status was told |
 /// | 1 | a request was answered Full: all journal blocks or all data blocks were used |
 /// | 2 | the words are no command that is served (`Usage`), a line of the script has a fault (`Script`), or asks for a discard (`Later`) |
-/// | 3 | the device failed: before the script was read, or while an image was made or looked at (`Device`), or a request was answered Stopped or with a read fault |
-/// | 4 | the device has no image, or a block of its window isn't as a run leaves it, or an audit or a status met a page or a count that can't be (`Image`) |
-/// | 5 | memory ran out before the first request was served, or while an image was looked at (`Memory`) |
+/// | 3 | the device failed: before the script was read, or while an image was made, recovered or looked at (`Device`), or a request was answered Stopped or with a read fault |
+/// | 4 | the device has no image, or a block of its window isn't as a run leaves it, or a recovery, an audit or a status met a page or a count that can't be (`Image`) |
+/// | 5 | memory ran out before the first request was served, or while an image was looked at, or before the first write of a recovery (`Memory`) |
 /// | 6 | an audit found blocks that differ (`Differs`) |
 /// | 7 | the source or the sink failed (`Read`, `Sink`) |
 /// | 8 | an image of these sizes can't be had on the device (`Layout`) |
@@ -282,6 +331,7 @@ pub fn run<R: Threads + Wait + Sync, D: Disk + Send + Drop, S: Source, K: Sink, 
     match words.served() {
         Some(Served::Script(schedule)) => run_script(rt, alloc, schedule, device, script, out),
         Some(Served::Format(sizes)) => format(alloc, &sizes, device, out),
+        Some(Served::Recover) => recover_device(alloc, device, script, out),
         Some(Served::Audit) => audit_device(alloc, device, script, out),
         Some(Served::Status) => status_of_device(alloc, device, script, out),
         None => refuse(alloc, Fault::Usage, device, out),

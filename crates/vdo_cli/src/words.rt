@@ -25,6 +25,8 @@ pub(crate) enum Served {
     Script(u64),
     /// An image of these sizes is made.
     Format(Geometry),
+    /// An image whose last session wasn't closed is closed.
+    Recover,
     /// An image's stored counts are compared with its mappings.
     Audit,
     /// An image is asked what it says of itself.
@@ -57,6 +59,7 @@ fn served_in(command: Option<Command>) -> Option<Served>
             Drive::Threads => None,
         },
         Some(Command::Format(options)) => Some(Served::Format(sizes_of(&options))),
+        Some(Command::Recover) => Some(Served::Recover),
         Some(Command::Audit) => Some(Served::Audit),
         Some(Command::Status) => Some(Served::Status),
         _ => None,

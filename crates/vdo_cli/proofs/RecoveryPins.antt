@@ -1,0 +1,155 @@
+-- Rows that pin how a recovery ends (`EndsSo` of the word `recover`, its part `IsRecoveryTold`): for each part some that it
+-- accepts, and some that break this part alone. What a refused image has in common with an audit's is pinned with the audit.
+use Rattle.std.proofs.Common.{ℕ, ◌≡◌, ◌++◌, true, false, List, [], ◌∷◌, length, take, Option, Some, None, Ok, Err, codes, refl, ◌∙◌, ap, inl, inr, arith}
+use Rattle.disk_model.specs.declared.call.Call.{Call}
+use Rattle.disk_model.specs.declared.call.Call.TheVariants.{Read, Write, Flush}
+use Rattle.disk_model.specs.Seen.{Seen}
+use Rattle.disk_model.specs.Since.{IsUntouched, OnlyReads}
+use Rattle.image_layout.specs.declared.fault.SuperFault.TheVariants.{NotAnImage}
+use Rattle.image_model.specs.declared.fault.ImageFault.{ImageFault}
+use Rattle.image_model.specs.declared.fault.ImageFault.TheVariants as image
+use Rattle.command_text.specs.Parts.{recovery_text}
+use Rattle.command_text.specs.declared.parts.Recovery.TheVariants as said
+use Rattle.rebuild.specs.Recoveries.{IsRecovery}
+use Rattle.rebuild.specs.declared.forms.Recovered.{Recovered}
+use Rattle.rebuild.specs.declared.forms.Recovered.TheVariants.{Clean, Entries}
+use Rattle.vdo_model.specs.declared.report.RunReport.{RunReport}
+use Rattle.vdo_cli.specs.declared.fault.Fault.{Fault}
+use Rattle.vdo_cli.specs.declared.fault.Fault.TheVariants as fault
+use Rattle.vdo_cli.specs.Inspections.{told_as}
+use Rattle.vdo_cli.specs.Outsides.{Outside, no_report, outside}
+use Rattle.vdo_cli.specs.Recoveries.{told_recovery}
+use Rattle.vdo_cli.specs.Texts.{fault_text}
+use Rattle.vdo_cli.proofs.AuditPins.{bare, begins, looks, no_image, status_in}
+use Rattle.vdo_cli.proofs.CommandPins.{recover_words}
+use Rattle.vdo_cli.proofs.PlayPins.{device}
+use Rattle.vdo_cli.proofs.RunPins.{Ends, some_report}
+
+-- told_recovery: a closed image as such, and else how many entries its window had
+clean_is_told : told_recovery Clean ≡ said.Clean
+clean_is_told = refl
+
+entries_are_told : told_recovery (Entries 30) ≡ said.Entries 30
+entries_are_told = refl
+
+-- Image. There is none, nothing was done,
+refused : IsRecovery true false begins.device begins.device (Err (image.Super NotAnImage))
+refused = record {
+  stays = looks.untouched.stays;
+  later = looks.untouched.later;
+  grows = λ told. ([], refl);
+  answers = tt;
+  fails = inl (inl (record { none = refl; fault_is = refl; same = refl }));
+  nothing = inr looks.untouched;
+  says = λ blocks is. let fair = is.fair in absurd cc;
+  stops = λ blocks is. let fair = is.fair in absurd cc;
+  closed = tt;
+}
+
+-- and the line says so
+image-refused : Ends recover_words begins (bare [] (7 ∷ []) (fault_text no_image) 0) 4 no_report (Some no_image)
+image-refused = record {
+  ends = inr (record {
+    why = image.Super NotAnImage;
+    fault_is = refl;
+    cause = refused;
+    refuses = record { status_is = refl; report_is = refl; puts = inl (λ told. refl) };
+  });
+  left = refl;
+  source_faults = refl;
+}
+
+image-not_another_status : (after : Outside) → Ends recover_words begins after 0 no_report (Some no_image) → ⊥
+image-not_another_status after ends = elim ends.ends [
+  | inl told ↦ told.line
+  | inr nothing ↦ let same = ap status_in nothing.fault_is in let status = nothing.refuses.status_is in omega (arith, same, status)
+]
+
+-- the calls that were made are no flush
+none_flushed : (calls : List Call) → Flush true ∷ [] ≡ calls ++ [] → OnlyReads calls → ⊥
+none_flushed [] is reads = absurd cc
+none_flushed (Read place bytes ok ∷ calls) is reads = absurd cc
+none_flushed (Write place bytes ok ∷ calls) is reads = reads
+none_flushed (Flush ok ∷ calls) is reads = reads
+
+abbrev flushed : Seen
+flushed = device [] (Flush true ∷ []) 0 0
+
+not_flushed : IsUntouched true begins.device flushed → ⊥
+not_flushed untouched = let since = untouched.reads refl in none_flushed since.0 since.1 since.2
+
+-- a refused image isn't written
+image-not_written : (held : List ℕ) → Ends recover_words begins (bare (Flush true ∷ []) (7 ∷ []) held 0) 4 no_report (Some no_image) → ⊥
+image-not_written held ends = elim ends.ends [
+  | inl told ↦ told.line
+  | inr nothing ↦ elim nothing.cause.nothing [
+    | inl failed ↦ no_device nothing.why nothing.fault_is failed
+    | inr untouched ↦ not_flushed untouched
+  ]
+]
+  where
+    no_device : (why : ImageFault) → Some no_image ≡ Some (told_as why) → why ≡ image.Device → ⊥
+    no_device why is failed = let same = ap status_in (is ∙ ap (λ (w : ImageFault). Some (told_as w)) failed) in omega (arith, same)
+
+-- the first byte of a line
+abbrev first_of : List ℕ → ℕ
+first_of [] = 0
+first_of (byte ∷ bytes) = byte
+
+-- nor is a closed one
+clean-not_written : Ends recover_words begins (bare (Flush true ∷ []) (7 ∷ []) (codes "clean\n") 0) 0 no_report None → ⊥
+clean-not_written ends = elim ends.ends [
+  | inl told ↦ by_what_was_found told.found told.recovery (told.line.1 refl)
+  | inr nothing ↦ let same = nothing.fault_is in absurd cc
+]
+  where
+    by_what_was_found : (found : Recovered) → IsRecovery true false begins.device flushed (Ok found) → codes "clean\n" ≡ recovery_text (told_recovery found) → ⊥
+    by_what_was_found Clean recovery put = not_flushed recovery.answers.3
+    by_what_was_found (Entries count) recovery put = let first : ◌≡◌ {A = ℕ} 99 114 = ap first_of put in omega (arith, first)
+
+-- The script isn't looked at
+script-not_taken : (held : List ℕ) (status : ℕ) (report : RunReport) (ended : Option Fault) → Ends recover_words begins (bare [] [] held 0) status report ended → ⊥
+script-not_taken held status report ended ends = let same = ap length ends.left in omega (arith, same)
+
+script-not_failed : (held : List ℕ) (status : ℕ) (report : RunReport) (ended : Option Fault)
+    → Ends recover_words begins (outside (device [] [] 0 0) (7 ∷ []) 1 held 0) status report ended → ⊥
+script-not_failed held status report ended ends = let same = ends.source_faults in omega (arith, same)
+
+-- Told. The image was recovered, or had nothing to recover, and the line was put, with status 0;
+module _ (before after : Seen) (found : Recovered) (recovery : IsRecovery true false before after (Ok found)) where
+  told-put : Ends recover_words (outside before [] 0 [] 0) (outside after [] 0 (recovery_text (told_recovery found)) 0) 0 no_report None
+  told-put = record {
+    ends = inl (record { found = found; recovery = recovery; report_is = refl; line = (refl, λ told. refl) });
+    left = refl;
+    source_faults = refl;
+  }
+
+  -- or a part of it, with 7
+  told-part : (n : ℕ) → Ends recover_words (outside before [] 0 [] 0) (outside after [] 0 (take n (recovery_text (told_recovery found))) 1) 7 no_report (Some fault.Sink)
+  told-part n = record {
+    ends = inl (record { found = found; recovery = recovery; report_is = refl; line = (refl, omega arith, λ told. (n, refl)) });
+    left = refl;
+    source_faults = refl;
+  }
+
+told-not_another_status : (before after : Outside) (report : RunReport) → Ends recover_words before after 4 report None → ⊥
+told-not_another_status before after report ends = elim ends.ends [
+  | inl told ↦ omega (arith, told.line.0)
+  | inr nothing ↦ let same = nothing.fault_is in absurd cc
+]
+
+told-not_reported : (before after : Outside) → Ends recover_words before after 0 some_report None → ⊥
+told-not_reported before after ends = elim ends.ends [
+  | inl told ↦ let same = ap (λ (report : RunReport). length report.requests) told.report_is in omega (arith, same)
+  | inr nothing ↦ let same = nothing.fault_is in absurd cc
+]
+
+told-not_silent : (before after : Seen) → Ends recover_words (outside before [] 0 [] 0) (outside after [] 0 [] 0) 0 no_report None → ⊥
+told-not_silent before after ends = elim ends.ends [
+  | inl told ↦ some told.found (told.line.1 refl)
+  | inr nothing ↦ let same = nothing.fault_is in absurd cc
+]
+  where
+    some : (found : Recovered) → [] ≡ recovery_text (told_recovery found) → ⊥
+    some Clean put = let first : ◌≡◌ {A = ℕ} 0 99 = ap first_of put in omega (arith, first)
+    some (Entries count) put = let first : ◌≡◌ {A = ℕ} 0 114 = ap first_of put in omega (arith, first)
