@@ -1,8 +1,10 @@
 #!/usr/bin/env python3
-"""What `audit` and `status` print of an image, found in the plainest way; and the images of the tests of these commands.
+"""What `audit`, `status` and `recover` print of an image, found in the plainest way; and the images of the tests of these
+commands. Nothing is written.
 
     python3 tools/whole_image.py audit FILE BLOCKS
     python3 tools/whole_image.py status FILE BLOCKS
+    python3 tools/whole_image.py recover FILE BLOCKS
 """
 
 from __future__ import annotations
@@ -24,6 +26,7 @@ from layout import DEFAULT, SLOTS_PER_PAGE, TREES, Geometry, point
 from vector import BLOCK_BYTES, SECTOR_BYTES, SECTORS, Literal, Vector
 
 FILE = "tool_tests/src/inspections.rt"
+RECOVERIES = "tool_tests/src/recoveries.rt"
 
 GREATEST_COUNT = 254
 INCREMENT = 0
@@ -393,6 +396,16 @@ def status(image: Image) -> tuple[str, int]:
     return mode + index + found.space() + f"logical {found.head.sizes.logical}\n", 0
 
 
+def recover(image: Image) -> tuple[str, int]:
+    """The text of `recover`, and its status: of a closed image the superblock alone is looked at."""
+    try:
+        if image.head().clean:
+            return "clean\n", 0
+        return f"recovered {len(look(image).window)} entries\n", 0
+    except BadImage as why:
+        return f"bad image: {why}\n", 4
+
+
 # The images of the tests: an empty one of the default sizes, with some bytes of it changed.
 
 Patch = tuple[int, int, bytes]
@@ -475,27 +488,64 @@ def cases() -> dict[str, tuple[Patch, ...]]:
     }
 
 
-def literals(patches: tuple[Patch, ...]) -> tuple[Literal, ...]:
-    image = patched(patches)
+def recovered_cases() -> dict[str, tuple[Patch, ...]]:
+    images = cases()
+    return {
+        "CLOSED": (),
+        "CLOSED_WITHOUT_A_ROOT": ((9, 0, b"X"),),
+        "EMPTY": ((0, 48, bytes([0])),),
+        "TWO_ENTRIES": images["STOPPED"],
+        "COUNTED_TOO_OFTEN": images["STOPPED_LATER"],
+    }
+
+
+def refused_cases() -> tuple[tuple[Patch, ...], ...]:
+    images = cases()
+    unclean: Patch = (0, 48, bytes([0]))
+    late: Patch = (0, 56, bytes([255] * 6 + [63]))
+    root = DEFAULT.root(0)
+    same = ("NOT_AN_IMAGE", "ANOTHER_VERSION", "SMALL_JOURNAL", "LATE_START", "BLOCK_IS_MISSING")
+    return (
+        *(images[name] for name in same),
+        (unclean, late),
+        (unclean, (root, 0, b"X")),
+        (unclean, slot(root, 3, bytes([2]))),
+        (unclean, slot(root, 3, mapping.at(84))),
+        (unclean, (149, 11, bytes([255]))),
+        (unclean, *images["SHARED_PAGE"]),
+    )
+
+
+def literals(patches: tuple[Patch, ...], *told: tuple[str, int]) -> tuple[Literal, ...]:
     flat: list[Literal] = [part for patch in patches for part in patch]
-    for text, found in (audit(image), status(image)):
+    for text, found in told:
         flat += [text.encode(), found]
     return tuple(flat)
 
 
 def vectors() -> Iterator[Vector]:
     for item, patches in cases().items():
-        yield Vector(FILE, item, literals(patches))
+        image = patched(patches)
+        yield Vector(FILE, item, literals(patches, audit(image), status(image)))
+    for item, patches in recovered_cases().items():
+        image = patched(patches)
+        yield Vector(RECOVERIES, item, literals(patches, recover(image), ("clean\n", 0), audit(image)))
+    for patches in refused_cases():
+        line, _ = recover(patched(patches))
+        yield Vector(RECOVERIES, "REFUSED", (*literals(patches), line.encode()))
+
+
+COMMANDS = {"audit": audit, "status": status, "recover": recover}
 
 
 def main() -> int:
     parser = argparse.ArgumentParser(description=__doc__)
-    parser.add_argument("command", choices=("audit", "status"))
+    parser.add_argument("command", choices=tuple(COMMANDS))
     parser.add_argument("file", type=Path)
     parser.add_argument("blocks", type=int)
     arguments = parser.parse_args()
     image = Image(arguments.file.read_bytes()[: arguments.blocks * BLOCK_BYTES], arguments.blocks)
-    text, found = audit(image) if arguments.command == "audit" else status(image)
+    text, found = COMMANDS[arguments.command](image)
     sys.stdout.write(text)
     return found
 

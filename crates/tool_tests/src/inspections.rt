@@ -9,7 +9,7 @@ use std::thread::Threads;
 use vdo_cli::{Ended, run};
 
 /// A block, a place in it, and the bytes that stand there.
-type Patch = (u32, usize, &'static [u8]);
+pub(crate) type Patch = (u32, usize, &'static [u8]);
 
 /// An empty image of the default sizes with some bytes changed, and what the audit and the status of it put, each with its
 /// status.
@@ -280,7 +280,7 @@ fn put_patch(device: &mut MemDisk, (at, place, bytes): Patch) {
 }
 
 // A device with an image that the command `format` made, of so many blocks, with some bytes changed.
-fn device_with<R: Threads + Wait + Sync>(
+pub(crate) fn device_with<R: Threads + Wait + Sync>(
     rt: &R,
     alloc: Global,
     blocks: u32,
@@ -300,14 +300,38 @@ fn device_with<R: Threads + Wait + Sync>(
 /// How a command ended: its status, whether the wanted text was put, how many calls the device had, and whether all of them
 /// were reads.
 #[derive(Clone, Copy, Debug, PartialEq, Eq)]
-struct Outcome {
-    status: u8,
-    text: bool,
-    calls: usize,
-    reads: bool,
+pub(crate) struct Outcome {
+    pub(crate) status: u8,
+    pub(crate) text: bool,
+    pub(crate) calls: usize,
+    pub(crate) reads: bool,
 }
 
-// Does a command on a device, with this room for its output.
+// Does a command on a device, with this room for its output; how it ended, and the device.
+pub(crate) fn end_on<R: Threads + Wait + Sync>(
+    rt: &R,
+    alloc: Global,
+    word: &str,
+    device: MemDisk,
+    room: usize,
+    text: &[u8],
+) -> Result<(Outcome, MemDisk), AllocError> {
+    let words = words_of(alloc, &[word])?;
+    let mut source = MemSource::new(Vec::new(alloc), None);
+    let mut sink = MemSink::new(alloc, room)?;
+    let before = device.calls().len();
+    let Ended { device, status, .. } = run(rt, &words, device, &mut source, &mut sink, &OpenGate);
+    let mut calls = device.calls().iter().skip(before);
+    let outcome = Outcome {
+        status,
+        text: sink.bytes() == text,
+        calls: device.calls().len().saturating_sub(before),
+        reads: calls.all(|call| matches!(call, Call::Read { .. })),
+    };
+    Ok((outcome, device))
+}
+
+// The same, without the device.
 fn inspect<R: Threads + Wait + Sync>(
     rt: &R,
     alloc: Global,
@@ -316,18 +340,8 @@ fn inspect<R: Threads + Wait + Sync>(
     room: usize,
     text: &[u8],
 ) -> Result<Outcome, AllocError> {
-    let words = words_of(alloc, &[word])?;
-    let mut source = MemSource::new(Vec::new(alloc), None);
-    let mut sink = MemSink::new(alloc, room)?;
-    let before = device.calls().len();
-    let Ended { device, status, .. } = run(rt, &words, device, &mut source, &mut sink, &OpenGate);
-    let mut calls = device.calls().iter().skip(before);
-    Ok(Outcome {
-        status,
-        text: sink.bytes() == text,
-        calls: device.calls().len().saturating_sub(before),
-        reads: calls.all(|call| matches!(call, Call::Read { .. })),
-    })
+    let (outcome, _device) = end_on(rt, alloc, word, device, room, text)?;
+    Ok(outcome)
 }
 
 // The first image of which the audit, or the status, isn't as wanted.

@@ -5,3 +5,5 @@
 mod formats;
 #[cfg(test)]
 mod inspections;
+#[cfg(test)]
+mod recoveries;
