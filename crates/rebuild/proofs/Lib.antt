@@ -10,3 +10,5 @@ pub mod RecoverLaws
 pub mod CheckLaws
 pub mod OpenLaws
 pub mod Rows
+pub mod DoneRows
+pub mod OpeningRows
