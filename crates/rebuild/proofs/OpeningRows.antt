@@ -1,5 +1,5 @@
 -- What is promised of opening an image: for each clause a small case that it accepts, and one that breaks it and is refused.
-use Rattle.std.proofs.Common.{ℕ, ◌≡◌, ◌+◌, ◌*◌, ◌<◌, ◌≤◌, true, false, List, [], ◌∷◌, All, length, Ok, Err, Contains, refl, ap, subst, inl, inr, arith}
+use Rattle.std.proofs.Common.{ℕ, ◌≡◌, ◌+◌, ◌*◌, ◌≤◌, true, false, List, [], ◌∷◌, All, length, Ok, Err, refl, ap, subst, arith}
 use Rattle.blk_base.specs.Counters.{limit_of}
 use Rattle.blk_base.specs.Sectors.{zero_block}
 use Rattle.blk_base.specs.declared.geometry.Super.{Super as Superblock}
@@ -7,20 +7,17 @@ use Rattle.blk_base.specs.declared.layout.DataPlace.{DataPlace}
 use Rattle.blk_base.specs.declared.opened.Opened.{Opened}
 use Rattle.blk_base.specs.declared.place.Mapping.TheVariants.{At}
 use Rattle.blk_base.specs.declared.place.Pbn.{Pbn}
-use Rattle.disk_model.proofs.SinceLaws.{untouched_yet}
 use Rattle.disk_model.specs.Log.{Blocks}
-use Rattle.disk_model.specs.Seen.{Seen}
 use Rattle.image_layout.specs.Opened.{super_of_image}
-use Rattle.image_layout.specs.declared.fault.SuperFault.TheVariants.{NotAnImage}
 use Rattle.image_model.proofs.CountLaws.{one_number, one_stored}
 use Rattle.image_model.proofs.Example.{pbn, small}
 use Rattle.image_model.proofs.MapRows.{bad_head, root, with_root}
 use Rattle.image_model.specs.Counts.{HasMappings, Stores, block_of_data}
 use Rattle.image_model.specs.Maps.{Image, IsTreePage, mapping_of}
 use Rattle.image_model.specs.Sound.{IsDataPlace}
-use Rattle.image_model.specs.declared.fault.ImageFault.TheVariants.{Super, Counts, Device, Unclean, Memory}
+use Rattle.image_model.specs.declared.fault.ImageFault.TheVariants.{Counts, Device, Unclean, Memory}
 use Rattle.rebuild.proofs.Rows.{flushed, none_flushed, seen}
-use Rattle.rebuild.specs.Openings.{CheckFails, Fits, HasWrongCount, IsOpening, IsOpeningRefusal, IsOpeningResult, IsRight, OpenWithFails, OpensRight}
+use Rattle.rebuild.specs.Openings.{CheckFails, Fits, HasWrongCount, IsOpening, IsOpeningRefusal, IsRight, OpenWithFails, OpensRight}
 use Rattle.rebuild.specs.declared.forms.Contents.{Contents}
 
 -- An image is right: its pages can be read, none is shared, each count is true.
