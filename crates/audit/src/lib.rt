@@ -10,5 +10,5 @@ mod comparing;
 mod forms;
 mod tallying;
 
-pub use auditing::{audit, audit_with};
+pub use auditing::{audit, audit_with, report_of};
 pub use forms::{Difference, Report};

@@ -7,4 +7,8 @@ pub mod KeptLaws
 pub mod ShownLaws
 pub mod UncleanLaws
 pub mod RecoverLaws
+pub mod CheckLaws
+pub mod OpenLaws
 pub mod Rows
+pub mod DoneRows
+pub mod OpeningRows

@@ -1,5 +1,5 @@
 -- What was read of an image, and what it shows of the one image of an honest device.
-use Rattle.std.proofs.Common.{ℕ, ◌≡◌, ◌+◌, ◌-◌, ◌<◌, ◌≤◌, ◌++◌, Bool, IsTrue, List, [], ◌∷◌, length, reverse, sym, ◌∙◌, ap, subst, inl, inr, arith}
+use Rattle.std.proofs.Common.{ℕ, ◌≡◌, ◌+◌, ◌-◌, ◌<◌, ◌≤◌, ◌++◌, Bool, IsTrue, List, [], ◌∷◌, All, length, reverse, sym, ◌∙◌, ap, subst, inl, inr, arith}
 use Rattle.std.proofs.lemmas.Bool.{cases_lt}
 use Rattle.std.proofs.lemmas.Bool.Decides.{eqb_tells}
 use Rattle.std.proofs.lemmas.Grind.{reverse_onto}
@@ -8,6 +8,7 @@ use Rattle.std.proofs.lemmas.Nat.{mul-add-lt}
 use Rattle.std.proofs.Math.ListN.{get_or-append}
 use Rattle.audit.proofs.AuditLaws.{counts_size, sectors_size}
 use Rattle.audit.specs.Audits.{BothShow}
+use Rattle.blk_base.specs.Counters.{limit_of}
 use Rattle.blk_base.specs.Regions.{needed_blocks, slab_stride_of}
 use Rattle.blk_base.specs.Sectors.{zero_block}
 use Rattle.blk_base.specs.declared.geometry.Geometry.{Geometry}
@@ -34,12 +35,14 @@ use Rattle.rebuild.specs.Reads.{AreContents}
 pub contents_read : (tells honest : Bool) (head : Superblock) (window : WindowState) (before middle now : Seen) (map : RecoveredMap) (counts : RecoveredCounts)
     → IsMapRead tells honest head.geometry window before middle map
     → AreCountsRead tells honest head.geometry window.entries middle now counts.counts.items counts.sectors.items
+    → All (λ count. count ≤ limit_of head.geometry) counts.counts.items
     → AreContents tells honest head window before now (record { map = map; counts = counts })
-contents_read tells honest head window before middle now map counts read slabs_read =
+contents_read tells honest head window before middle now map counts read slabs_read limit =
     let found = read.found in record {
       entries = read.entries;
       blocks = counts_size tells honest head.geometry window.entries middle now counts.counts.items counts.sectors.items slabs_read;
       sectors = sectors_size tells honest head.geometry window.entries middle now counts.counts.items counts.sectors.items slabs_read;
+      limit = limit;
       shown = (
         found.0,
         slabs_read.0,

@@ -17,11 +17,11 @@ use Rattle.rebuild.specs.Outcomes.{WritesNothing}
 use Rattle.rebuild.specs.Recoveries.{IsAnswer, IsRecovery, IsRefusal}
 use Rattle.rebuild.specs.declared.forms.Recovered.TheVariants.{Clean, Entries}
 
-abbrev seen : Seen
+abbrev pub seen : Seen
 seen = record { opening = []; size = 154; log = []; faults = 3; unkept = 0 }
 
 -- a flush, and a block of no page and no counters
-abbrev flushed : Seen
+abbrev pub flushed : Seen
 flushed = record seen { log = Flush true ∷ [] }
 
 -- logged, each: since a start only reads and recovery's writes were made, and these
@@ -87,7 +87,7 @@ a_call_failed blocks = omega arith
 never_unclean : (blocks : Blocks) → IsRefusal blocks seen seen Unclean → ⊥
 never_unclean blocks none = none
 
-none_flushed : (calls : List Call) → Flush true ∷ [] ≡ calls ++ [] → OnlyReads calls → ⊥
+pub none_flushed : (calls : List Call) → Flush true ∷ [] ≡ calls ++ [] → OnlyReads calls → ⊥
 none_flushed [] same reads = absurd (cc same)
 none_flushed (Flush ok ∷ calls) same reads = reads
 none_flushed (Read at bytes ok ∷ calls) same reads = absurd (cc same)

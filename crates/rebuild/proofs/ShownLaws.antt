@@ -32,7 +32,7 @@ use Rattle.rebuild.specs.declared.forms.Recovered.TheVariants.{Clean, Entries}
 
 -- A failed call has its cause.
 
-rose_behind : (before middle now : Seen) → Later before middle → Rose middle.faults now.faults → Rose before.faults now.faults
+pub rose_behind : (before middle now : Seen) → Later before middle → Rose middle.faults now.faults → Rose before.faults now.faults
 rose_behind before middle now later rose = let less = later.faults in omega (arith, less, rose)
 
 slabs_later : (tells honest : Bool) (g : Geometry) (before now : Seen) (reads : List Blocks) → SlabsRead tells honest g before now reads → IsUntouched tells before now
@@ -41,7 +41,7 @@ slabs_later tells honest g before now (read ∷ older) (middle, earlier, is) =
     untouched_on tells before middle now (slabs_later tells honest g before middle older earlier)
     (were_only_read tells honest (first_of_slab g (length older)) middle now (reverse read) is.reads)
 
-audit_rose : (tells honest : Bool) (head : Superblock) (window : WindowState) (before now : Seen) → AuditWithFails tells honest head window before now Device → Rose before.faults now.faults
+pub audit_rose : (tells honest : Bool) (head : Superblock) (window : WindowState) (before now : Seen) → AuditWithFails tells honest head window before now Device → Rose before.faults now.faults
 audit_rose tells honest head window before now (inl (reads, middle, at, read, failed)) =
     rose_behind before middle now (blocks_untouched tells honest before middle reads read).later failed.rose
 audit_rose tells honest head window before now (inr (pages, middle, read, (slabs, few, last, slabs_read, (blocks, short, failed)))) =
@@ -58,23 +58,23 @@ unclean_rose tells honest head before now (inr (inr (same, rose))) = rose
 
 module _ (tells honest : Bool) (before : Seen) (blocks : Blocks) (is : IsTold tells honest before blocks) where
   module _ (middle : Seen) (head : Superblock) (head_read : IsHeadRead tells honest before middle head) where
-    abbrev accepted : super_of_image blocks ≡ Ok head
+    abbrev pub accepted : super_of_image blocks ≡ Ok head
     accepted = head_shown tells honest before middle blocks is.told is.fair is.one head head_read
 
-    head_untouched : IsUntouched tells before middle
+    pub head_untouched : IsUntouched tells before middle
     head_untouched = were_only_read tells honest 0 before middle (head_read.block ∷ []) head_read.read
 
-    one_there : HasOneImage middle.opening middle.log blocks
+    pub one_there : HasOneImage middle.opening middle.log blocks
     one_there = still tells honest blocks is.told is.fair before middle head_untouched is.one
 
-    enough : needed_blocks head.geometry ≤ middle.size
+    pub enough : needed_blocks head.geometry ≤ middle.size
     enough = let room = head_read.is.room in let size = head_untouched.stays.size in omega (arith, room, size)
 
     module _ (second : Seen) (window : WindowState) (read : IsWindowRead tells honest middle second head window) where
       pub window_opens : Opens blocks head window.last window.entries
       window_opens = window_shown tells honest middle second blocks is.told is.fair one_there head enough accepted window read
 
-      window_untouched : IsUntouched tells middle second
+      pub window_untouched : IsUntouched tells middle second
       window_untouched = were_only_read tells honest 1 middle second (reverse read.0) read.1.read
 
       pub one_behind : HasOneImage second.opening second.log blocks
@@ -83,7 +83,7 @@ module _ (tells honest : Bool) (before : Seen) (blocks : Blocks) (is : IsTold te
       pub enough_behind : needed_blocks head.geometry ≤ second.size
       enough_behind = let room = enough in let size = window_untouched.stays.size in omega (arith, room, size)
 
-      opened : IsOpened blocks (image_of head blocks window.entries)
+      pub opened : IsOpened blocks (image_of head blocks window.entries)
       opened = record { head = head; last = window.last; opens = window_opens; is_image = refl }
 
       audit_fault : (now : Seen) (why : ImageFault) → AuditWithFails tells honest head window second now why → IsUnclean blocks → IsRefusal blocks before now why

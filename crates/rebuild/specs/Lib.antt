@@ -3,3 +3,4 @@ pub mod Acts
 pub mod Done
 pub mod Outcomes
 pub mod Recoveries
+pub mod Openings

@@ -1,13 +1,16 @@
-//! An image whose last session wasn't closed is made one that was, so that it says the same.
+//! An image whose last session wasn't closed is made one that was, so that it says the same; and one that was closed is
+//! opened for a session.
 #![tactic(auto)]
 
 mod calls;
 mod counters;
 mod forms;
+mod opening;
 mod pages;
 mod reading;
 mod recovering;
 mod unclean;
 
 pub use forms::Recovered;
+pub use opening::open_clean;
 pub use recovering::recover;

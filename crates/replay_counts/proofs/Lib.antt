@@ -1,3 +1,4 @@
 pub mod ImageLaws
 pub mod WindowLaws
+pub mod LimitLaws
 pub mod Rows

@@ -1,15 +1,12 @@
 -- For each definition a small case that it accepts, and one that it refuses.
-use Rattle.std.proofs.Common.{ℕ, ◌≡◌, ◌⊎◌, ◌+◌, ◌<◌, List, [], ◌∷◌, length, get_or, refl, sym, ◌∙◌, ap, ap₂, subst, inl, inr, arith}
-use Rattle.blk_base.specs.Sectors.{sector, zero_block}
+use Rattle.std.proofs.Common.{ℕ, ◌≡◌, ◌<◌, List, [], ◌∷◌, length, refl, ap, inl, arith}
+use Rattle.blk_base.specs.Sectors.{zero_block}
 use Rattle.blk_base.specs.declared.point.Point.{Point}
 use Rattle.byte_fields.specs.Fields.{number_at}
-use Rattle.count_updates.specs.Applied.{IsGreatest}
-use Rattle.disk_model.specs.Log.{Blocks, block_at}
-use Rattle.image_model.specs.Counts.{IsUpdate, commit_at}
-use Rattle.image_model.specs.Maps.{Image}
+use Rattle.image_model.specs.Counts.{commit_at}
 use Rattle.image_model.proofs.CountRows.{kept_is, updated}
 use Rattle.image_model.proofs.Example.{small}
-use Rattle.replay_counts.specs.Recovered.{ArePaired, ArePointsOf, HasCounts, Holds, IsInSector, image_with, no_points}
+use Rattle.replay_counts.specs.Recovered.{ArePaired, ArePointsOf, HasCounts, Holds, IsInSector, image_with}
 use Rattle.replay_counts.specs.declared.forms.SectorPoints.{SectorPoints}
 
 abbrev point : ℕ → Point

@@ -1,4 +1,5 @@
 ghost use Rattle.std.specs.Prelude.{◌≡◌, ◌%◌, ◌≤◌, IfOk, IfErr, All, length, reverse};
+ghost use Rattle.blk_base.specs.Counters.{limit_of};
 ghost use Rattle.blk_base.specs.Limits.{IsGeometry};
 ghost use Rattle.blk_base.specs.Regions.{needed_blocks};
 ghost use Rattle.count_updates.specs.Counted.{IsCountRefusal};
@@ -17,7 +18,7 @@ use image_model::ImageFault;
 use slab_reading::read_slabs;
 use std::alloc::{AllocError, Global};
 
-/// The counts of the image with this superblock and these entries of its window, the oldest first, each with the point of
+/// The counts, each of them 0 to 254, of the image with this superblock and these entries of its window, the oldest first, each with the point of
 /// its half that adds: one read of each reference block and of each block of a slab's journal, and nothing else. The
 /// device has the blocks that the image's sizes need.
 ///
@@ -34,6 +35,7 @@ pub fn counts_with<D: Disk>(
     requires halves { All (λ committed. committed.point.0 % 2 ≡ 0) window.now }
     ensures counts { IfOk result (λ counts. AreCountsRead D.tells D.honest head.now.geometry (reverse window.now)
         (D.seen device.old) (D.seen device.new) counts.counts.items counts.sectors.items) }
+    ensures limit { IfOk result (λ counts. All (λ count. count ≤ limit_of head.now.geometry) counts.counts.items) }
     ensures fault { IfErr result (CountsFail D.tells D.honest head.now.geometry (reverse window.now) (D.seen device.old) (D.seen device.new)) }
     ensures untouched { IsUntouched D.tells (D.seen device.old) (D.seen device.new) }
 {

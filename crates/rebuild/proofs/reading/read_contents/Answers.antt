@@ -33,6 +33,7 @@ returns-clause-contents g c =
     contents_read g.D.Disk.tells g.D.Disk.honest c.args.head.now c.args.window.now _ (g.D.Disk.seen c.replay_with.new.device) _ c.in-Ok.map c.in_ok-counts.counts c.in-Ok.ensures.map
     (subst (λ (entries : List CommittedEntry). AreCountsRead g.D.Disk.tells g.D.Disk.honest c.args.head.now.geometry entries (g.D.Disk.seen c.replay_with.new.device) (g.D.Disk.seen c.counts_with.new.device)
     c.in_ok-counts.counts.counts.items c.in_ok-counts.counts.sectors.items) (sym c.entries.ensures) c.in_ok-counts.ensures.counts)
+    c.in_ok-counts.ensures.limit
 
 pub returns-clause-untouched : goal.returns-clause-untouched
 returns-clause-untouched g c = untouched_on _ _ _ _ c.replay_with.ensures.untouched c.counts_with.ensures.untouched

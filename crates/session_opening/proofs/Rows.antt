@@ -1,0 +1,273 @@
+-- For each clause of the definitions a small case that it accepts, and one that breaks it alone and is refused.
+use Rattle.std.proofs.Common.{ℕ, ◌≡◌, ◌+◌, ◌*◌, ◌^◌, List, [], ◌∷◌, length, replicate, Option, Some, None, Ok, refl, sym, ◌∙◌, ap, subst, inr, arith, length-append}
+use Rattle.std.proofs.lemmas.List.{get_or-replicate}
+use Rattle.std.specs.BTreeMap.{get}
+use Rattle.std.specs.declared.cmp.Ordering.TheVariants.{Less, Equal}
+use Rattle.blk_base.specs.declared.geometry.Super.{Super}
+use Rattle.blk_base.specs.declared.layout.DataPlace.{DataPlace}
+use Rattle.blk_base.specs.declared.opened.Opened.{Opened}
+use Rattle.blk_base.specs.declared.opened.OpenedPage.{OpenedPage}
+use Rattle.blk_base.specs.declared.place.Mapping.{Mapping}
+use Rattle.blk_base.specs.declared.place.Mapping.TheVariants.{Unmapped, Zero, At}
+use Rattle.blk_base.specs.declared.place.Pbn.{Pbn}
+use Rattle.image_model.proofs.CountLaws.{is_first, none_in_nothing, one_stored}
+use Rattle.image_model.proofs.Example.{pbn, small}
+use Rattle.image_model.proofs.MapRows.{page, root, with_root}
+use Rattle.image_model.specs.Counts.{Stores, commit_at}
+use Rattle.image_model.specs.Empty.{HasNothing}
+use Rattle.image_model.specs.Maps.{Image, IsTreePage}
+use Rattle.page_codec.proofs.HeldLaws.{held_unmapped}
+use Rattle.page_codec.proofs.ReadLaws.{slots}
+use Rattle.page_codec.specs.Grammar.{IsPage}
+use Rattle.page_codec.specs.Spelling.{page_bytes}
+use Rattle.page_codec.specs.declared.forms.PageHead.{PageHead}
+use Rattle.replay_map.proofs.PageLaws.{read_as}
+use Rattle.replay_map.specs.Pages.{IsReadAs}
+use Rattle.replay_map.specs.declared.links.Link.{Link}
+use Rattle.session_opening.proofs.PageLaws.{none_added}
+use Rattle.session_opening.proofs.PlaceLaws.{inner_more, none_placed}
+use Rattle.session_opening.specs.declared.places.Places.{Places}
+use Rattle.session_opening.specs.Pages.{AreAdded, AreLinked, ArePages, root_link, roots_below}
+use Rattle.session_opening.specs.Places.{AreInner, AreLeading, ArePlaces, LeadsTo, block_by, page_order}
+use Rattle.session_opening.specs.Starts.{AreCommits, AreCounters, AreInnerPages, ArePageBlocks, IsInnerPage, IsStart}
+
+-- An image whose root of tree 0 has a page without mappings.
+abbrev head_of_root : PageHead
+head_of_root = record { geometry = small; page = root; at = pbn 9 }
+
+abbrev blank : List Mapping
+blank = replicate 812 Unmapped
+
+abbrev root_page : List ℕ
+root_page = page_bytes head_of_root blank
+
+abbrev rooted : Image
+rooted = with_root root_page []
+
+is_page : IsPage head_of_root root_page blank
+is_page = record { spelled = refl; held = held_unmapped small 1 }
+
+read_is : IsReadAs rooted head_of_root blank
+read_is =
+    read_as rooted head_of_root root_page [] (omega arith) (record { geometry = refl; there = refl; newest = λ other slot low. refl }) blank
+    (slots head_of_root root_page blank 0 is_page (omega arith)).headed (λ slot below. inr (refl, slots head_of_root root_page blank slot is_page below))
+
+-- A page of tree 0 by its level and index, at a block.
+abbrev link : ℕ → ℕ → ℕ → Link
+link level index at = record { page = page 0 level index; at = pbn at }
+
+-- Pages in their order.
+order_by_tree : page_order (page 0 1 9) (page 1 0 0) ≡ Less
+order_by_tree = refl
+
+order_by_level : page_order (page 0 0 9) (page 0 1 0) ≡ Less
+order_by_level = refl
+
+order_by_index : page_order (page 0 1 8) (page 0 1 9) ≡ Less
+order_by_index = refl
+
+order_of_one : page_order (page 0 1 9) (page 0 1 9) ≡ Equal
+order_of_one = refl
+
+-- The newest link of a page counts, and none of another page.
+newest_block : block_by (link 0 3 86 ∷ link 0 3 85 ∷ []) (page 0 0 3) ≡ Some (pbn 86)
+newest_block = refl
+
+only_block : block_by (link 0 4 86 ∷ link 0 3 85 ∷ []) (page 0 0 3) ≡ Some (pbn 85)
+only_block = refl
+
+no_block : block_by (link 0 4 86 ∷ link 1 3 86 ∷ []) (page 0 0 3) ≡ None
+no_block = refl
+
+-- Pages that are no leaves.
+none_inner : AreInner [] []
+none_inner = record {
+  each = λ one has. absurd (none_in_nothing one has);
+  every = λ other high some. absurd (cc some);
+  once = λ i j d less inside. absurd (omega (arith, inside));
+}
+
+one_inner : AreInner (link 1 3 86 ∷ []) (link 1 3 86 ∷ [])
+one_inner = inner_more [] (link 1 3 86) [] refl (omega arith) none_inner
+
+-- each: no leaf, and no page without a link
+a_leaf : AreInner (link 0 3 86 ∷ []) (link 0 3 86 ∷ []) → ⊥
+a_leaf are = let high = (are.each (link 0 3 86) (is_first (link 0 3 86) [])).0 in omega (arith, high)
+
+without_link : AreInner [] (link 1 3 86 ∷ []) → ⊥
+without_link are = none_in_nothing (link 1 3 86) (are.each (link 1 3 86) (is_first (link 1 3 86) [])).1
+
+-- every, and once
+forgotten : AreInner (link 1 3 86 ∷ []) [] → ⊥
+forgotten are = let found = are.every (page 0 1 3) (omega arith) refl in none_in_nothing found.0 found.1
+
+twice : AreInner (link 1 3 86 ∷ []) (link 1 3 86 ∷ link 1 3 86 ∷ []) → ⊥
+twice are = are.once 0 1 (link 1 3 86) (omega arith) (omega arith) refl
+
+-- The table: blocks, and inner
+module _ (places : Places) where
+  nothing_placed : ((q : _) → get page_order places.blocks q ≡ None) → places.inner.items ≡ [] → ArePlaces [] places
+  nothing_placed = none_placed places
+
+  block_left_out : get page_order places.blocks (page 0 0 3) ≡ None → ArePlaces (link 0 3 86 ∷ []) places → ⊥
+  block_left_out none are = let some = sym none ∙ are.blocks (page 0 0 3) in absurd (cc some)
+
+  page_left_out : places.inner.items ≡ [] → ArePlaces (link 1 3 86 ∷ []) places → ⊥
+  page_left_out none are = forgotten (rw none at are.inner)
+
+-- Where slots lead: to the page below it, or nowhere. Of numbers past 32 bits nothing is said.
+leads_down : LeadsTo (link 0 3 86 ∷ []) (page 0 1 0) 3 (At (pbn 86))
+leads_down few = refl
+
+leads_nowhere : LeadsTo (link 0 3 86 ∷ []) (page 0 1 0) 4 Unmapped
+leads_nowhere few = refl
+
+leads_not_down : LeadsTo (link 0 3 86 ∷ []) (page 0 1 0) 3 Unmapped → ⊥
+leads_not_down leads = let none = leads (omega arith) in absurd (cc none)
+
+leads_past_all : LeadsTo [] (page 0 1 (2 ^ 32)) 0 Zero
+leads_past_all few = absurd (omega (arith, few))
+
+-- size, and each
+first_leading : AreLeading [] (page 0 1 0) 1 blank
+first_leading = record { size = refl; each = λ slot below few. let here : slot ≡ 0 = omega (arith, below) in rw here refl }
+
+none_leading : AreLeading [] (page 0 1 0) 0 [] → ⊥
+none_leading are = let size = are.size in omega (arith, size)
+
+not_leading : AreLeading (link 0 0 86 ∷ []) (page 0 1 0) 1 blank → ⊥
+not_leading are = let none = are.each 0 (omega arith) (omega arith) in absurd (cc none)
+
+-- Roots.
+root_of_a_tree : root_link small 1 ≡ record { page = page 1 1 0; at = pbn 10 }
+root_of_a_tree = refl
+
+two_roots : roots_below small 2 ≡ root_link small 0 ∷ root_link small 1 ∷ []
+two_roots = refl
+
+-- Pages where links say.
+abbrev opened : ℕ → OpenedPage
+opened at = record { page = root; at = pbn at; mappings = blank }
+
+blank_leading : AreLeading [] root 812 blank
+blank_leading = record { size = refl; each = λ slot below few. get_or-replicate 812 slot Unmapped Unmapped below }
+
+one_linked : AreLinked [] (root_link small 0 ∷ []) (opened 9 ∷ [])
+one_linked = ((refl, refl, blank_leading), tt)
+
+other_block : AreLinked [] (root_link small 0 ∷ []) (opened 10 ∷ []) → ⊥
+other_block are = let at = ap (λ (b : Pbn). b.0) are.0.1 in omega (arith, at)
+
+other_page : AreLinked [] (root_link small 1 ∷ []) (record { page = root; at = pbn 10; mappings = blank } ∷ []) → ⊥
+other_page are = let tree = ap (λ (p : _). p.tree) are.0.0 in omega (arith, tree)
+
+one_missing : AreLinked [] (root_link small 0 ∷ []) [] → ⊥
+one_missing are = are
+
+one_too_many : AreLinked [] [] (opened 9 ∷ []) → ⊥
+one_too_many are = are
+
+nothing_added : AreAdded [] [] [] []
+nothing_added = none_added [] []
+
+one_lost : AreAdded [] [] (opened 9 ∷ []) [] → ⊥
+one_lost (pages, linked, grown) = let size = ap (λ (ps : List OpenedPage). length ps) grown ∙ length-append (opened 9 ∷ []) pages in omega (arith, size)
+
+no_pages : ArePages small [] [] → ⊥
+no_pages are = are.linked
+
+-- In that image.
+
+root_is_inner : IsInnerPage rooted (opened 9)
+root_is_inner = record { inner = omega arith; stands = refl; size = refl; slots = read_is.each }
+
+-- inner, stands, size and slots
+leaf_is_inner : IsInnerPage rooted (record { page = page 0 0 0; at = pbn 9; mappings = blank }) → ⊥
+leaf_is_inner is = let high = is.inner in omega (arith, high)
+
+elsewhere : IsInnerPage rooted (opened 10) → ⊥
+elsewhere is = let at = ap block_in is.stands in omega (arith, at)
+  where
+    block_in : Option Pbn → ℕ
+    block_in None = 0
+    block_in (Some b) = b.0
+
+shorter : IsInnerPage rooted (record { page = root; at = pbn 9; mappings = [] }) → ⊥
+shorter is = let size = is.size in omega (arith, size)
+
+other_slot : IsInnerPage rooted (record { page = root; at = pbn 9; mappings = Zero ∷ replicate 811 Unmapped }) → ⊥
+other_slot is = let same : Zero ≡ Unmapped = is.slots 0 (omega arith) ∙ sym (read_is.each 0 (omega arith)) in absurd (cc same)
+
+-- each, every and once; that pages which are made by the links are those of an image is a law (`StartLaws`, `inner_pages`)
+with_a_leaf : (pages : List OpenedPage) → AreInnerPages rooted (record { page = page 0 0 0; at = pbn 9; mappings = blank } ∷ pages) → ⊥
+with_a_leaf pages are = leaf_is_inner (are.each _ (is_first _ pages))
+
+without_a_root : AreInnerPages rooted [] → ⊥
+without_a_root are = let found = are.every root (pbn 9) (omega arith) refl in none_in_nothing found.0 found.1
+
+root_twice : (pages : List OpenedPage) → AreInnerPages rooted (opened 9 ∷ opened 9 ∷ pages) → ⊥
+root_twice pages are = are.once 0 1 (opened 9) (omega arith) (omega arith) refl
+
+-- Of an image of these sizes to which nothing was written.
+module _ (blocks : List (List ℕ)) (nothing : HasNothing (record { geometry = small; blocks = blocks; window = [] })) where
+  abbrev unused : Image
+  unused = record { geometry = small; blocks = blocks; window = [] }
+
+  abbrev first_block : DataPlace
+  first_block = record { slab = 0; offset = 0 }
+
+  counters_are : AreCounters unused (replicate 64 0)
+  counters_are = record {
+    size = refl;
+    each = λ place inside. let n = place.slab * 64 + place.offset in let slab = inside.0 in let offset = inside.1 in
+        subst (λ (count : ℕ). Stores unused place (Ok count)) (sym (get_or-replicate 64 n 0 0 (omega (arith, slab, offset)))) (nothing.stored place inside);
+  }
+
+  -- size, and each
+  fewer_counters : AreCounters unused [] → ⊥
+  fewer_counters are = let size = are.size in omega (arith, size)
+
+  other_counter : AreCounters unused (1 ∷ replicate 63 0) → ⊥
+  other_counter are =
+      let same = one_stored unused first_block (Ok 1) (Ok 0) (are.each first_block (omega arith, omega arith)) (nothing.stored first_block (omega arith, omega arith)) in
+      absurd (cc same)
+
+  -- a page's block is there where it has a page
+  no_page_blocks : ((at : Pbn) → IsTreePage unused at → ⊥) → ArePageBlocks unused []
+  no_page_blocks none at = (λ has. absurd (none_in_nothing at has), λ is. absurd (none at is))
+
+  a_page_block : ((at : Pbn) → IsTreePage unused at → ⊥) → ArePageBlocks unused (pbn 85 ∷ []) → ⊥
+  a_page_block none are = none (pbn 85) ((are (pbn 85)).0 (is_first (pbn 85) []))
+
+  page_block_left_out : IsTreePage unused (pbn 85) → ArePageBlocks unused [] → ⊥
+  page_block_left_out is are = none_in_nothing (pbn 85) ((are (pbn 85)).1 is)
+
+  -- the commit point of its one sector
+  commits_are : commit_at small blocks 0 0 ≡ 7 → AreCommits unused (record { 0 = 7 } ∷ [])
+  commits_are is = record {
+    size = refl;
+    each = λ slab n inside below. let first : slab ≡ 0 = omega (arith, inside) in let number : n ≡ 0 = omega (arith, below) in rw (first, number) (sym is);
+  }
+
+  fewer_commits : AreCommits unused [] → ⊥
+  fewer_commits are = let size = are.size in omega (arith, size)
+
+  other_commit : commit_at small blocks 0 0 ≡ 7 → AreCommits unused (record { 0 = 8 } ∷ []) → ⊥
+  other_commit is are = let same : 8 ≡ 7 = are.each 0 0 (omega arith) (omega arith) ∙ is in omega (arith, same)
+
+-- What a session starts with: another superblock, pages, counters, commit points or blocks of pages are refused.
+module _ (head : Super) (start : Opened) where
+  other_head : start.head.start ≡ head.start + 1 → IsStart rooted head start → ⊥
+  other_head next is = let same = ap (λ (h : Super). h.start) is.head_is in omega (arith, next, same)
+
+  no_inner_pages : start.pages.items ≡ [] → IsStart rooted head start → ⊥
+  no_inner_pages none is = without_a_root (rw none at is.pages)
+
+  no_counters : start.counters.items ≡ [] → IsStart rooted head start → ⊥
+  no_counters none is = let size = (rw none at is.counters).size in omega (arith, size)
+
+  no_commits : start.commits.items ≡ [] → IsStart rooted head start → ⊥
+  no_commits none is = let size = (rw none at is.commits).size in omega (arith, size)
+
+  no_blocks : IsTreePage rooted (pbn 85) → start.tree_pages.items ≡ [] → IsStart rooted head start → ⊥
+  no_blocks page_there none is = none_in_nothing (pbn 85) ((rw none at is.tree_pages (pbn 85)).1 page_there)

@@ -1,0 +1,93 @@
+ghost use Rattle.std.specs.Prelude.{◌≡◌, ◌<◌, ◌∷◌, [], ℕ, List, reverse, IfOk, OnOk, All};
+ghost use Rattle.blk_base.specs.declared.sizes.TheConstants.{PAGE_SLOTS, TREES};
+ghost use Rattle.replay_map.specs.declared.links.Link.{Link as Linked};
+ghost use Rattle.session_opening.specs.Pages.{AreAdded, ArePages, root_link, roots_below};
+ghost use Rattle.session_opening.specs.Places.{ArePlaces, AreLeading};
+
+use crate::places::{Places, mapping_below, places_of};
+use blk_base::{Layout, Mappings, OpenedPage, PAGE_SLOTS, PageId, TREES};
+use replay_map::Link;
+use std::alloc::{AllocError, Global};
+
+// The roots, and each of these pages that is no leaf, with the mappings that lead to those below it.
+pub(crate) fn pages_of(
+    alloc: Global,
+    layout: &Layout,
+    links: &[Link],
+) -> Result<Vec<OpenedPage>, AllocError>
+    ensures { IfOk result (λ pages. ArePages layout.now.geometry (reverse links.now) pages.items) }
+{
+    let places = places_of(alloc, links)?;
+    let mut pages = Vec::new(alloc);
+    push_roots(&mut pages, layout, &places)?;
+    push_inner(&mut pages, &places)?;
+    Ok(pages)
+}
+
+// Adds the roots.
+fn push_roots(
+    pages: &mut Vec<OpenedPage>,
+    layout: &Layout,
+    places: &Places,
+) -> Result<(), AllocError>
+    ensures { OnOk result ((links : List Linked) → ArePlaces links places.now
+        → AreAdded links (roots_below layout.now.geometry TREES) pages.old.items pages.new.items) }
+{
+    for tree in 0..TREES {
+        push_page(pages, places, root_of(layout, tree))?;
+    }
+    Ok(())
+}
+
+// The root of a tree.
+fn root_of(layout: &Layout, tree: u8) -> Link
+    requires { tree < TREES }
+    ensures root { result ≡ root_link layout.now.geometry tree }
+    ensures inner { 0 < result.page.level }
+{
+    Link {
+        page: PageId {
+            tree,
+            level: (layout.geometry.height - 1) as u8,
+            index: 0,
+        },
+        at: layout.root(tree),
+    }
+}
+
+// Adds the linked pages that are no leaves.
+fn push_inner(pages: &mut Vec<OpenedPage>, places: &Places) -> Result<(), AllocError>
+    requires { All (λ link. 0 < link.page.level) places.now.inner.items }
+    ensures { OnOk result ((links : List Linked) → ArePlaces links places.now
+        → AreAdded links places.now.inner.items pages.old.items pages.new.items) }
+{
+    for link in &places.inner {
+        push_page(pages, places, *link)?;
+    }
+    Ok(())
+}
+
+// Adds a page that is no leaf.
+fn push_page(pages: &mut Vec<OpenedPage>, places: &Places, link: Link) -> Result<(), AllocError>
+    requires { 0 < link.page.level }
+    ensures { OnOk result ((links : List Linked) → ArePlaces links places.now → AreAdded links (link ∷ []) pages.old.items pages.new.items) }
+{
+    pages.push(OpenedPage {
+        page: link.page,
+        at: link.at,
+        mappings: mappings_of(places, link.page),
+    })?;
+    Ok(())
+}
+
+// The mappings of a page that is no leaf.
+fn mappings_of(places: &Places, page: PageId) -> Mappings
+    requires { 0 < page.level }
+    ensures { (links : List Linked) → ArePlaces links places.now → AreLeading links page PAGE_SLOTS result }
+{
+    let mut mappings = Mappings::new();
+    for slot in 0..PAGE_SLOTS {
+        mappings.set(slot, mapping_below(places, page, slot));
+    }
+    mappings
+}
