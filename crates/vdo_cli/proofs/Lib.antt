@@ -3,6 +3,7 @@ pub mod WorkedRows
 pub mod StopLaws
 pub mod SessionLaws
 pub mod ScriptLaws
+pub mod ServeLaws
 pub mod OneLaws
 pub mod EndingLaws
 pub mod OnwardLaws
@@ -14,6 +15,7 @@ pub mod FormatPins
 pub mod AuditPins
 pub mod StatusPins
 pub mod EmptyScript
+pub mod ServePins
 pub mod SessionPins
 pub mod DrivenPins
 pub mod ValuePins

@@ -14,8 +14,8 @@ use image_model::ImageFault;
 use image_status::{ImageStatus, read_status};
 use std::alloc::Global;
 
-// The fault of a run for that of an image.
-fn fault_of(why: ImageFault) -> Fault
+/// The fault of a run for that of an image.
+pub(crate) fn fault_of(why: ImageFault) -> Fault
     ensures { result ≡ told_as why }
 {
     match why {
