@@ -89,14 +89,8 @@ def window_blocks() -> Iterator[Vector]:
     to_85 = remap(5, none, mapping.at(85))
     blocks = {
         "WRITTEN": beginning(1, 1, [to_85]),
-        "SECOND": beginning(2, 1, [to_85]),
+        "TWO": beginning(1, 1, [to_85, remap(5, mapping.at(85), mapping.at(86))]),
         "HEAD_0": beginning(1, 0, [to_85]),
-        "TWO": beginning(1, 1, [to_85, remap(6, none, mapping.at(86))]),
-        "NONE": beginning(2, 1, []),
-        "ADDRESS_1000": beginning(2, 1, [remap(1000, none, mapping.at(86))]),
-        "BLOCK_84": beginning(1, 1, [remap(5, none, mapping.at(84))]),
-        "BLOCK_149": beginning(1, 1, [remap(5, none, mapping.at(149))]),
-        "NO_BLOCK": beginning(1, 1, [remap(5, none, none)]),
         "PAGE": beginning(1, 1, [new_page(3, 1, 0, 86)]),
     }
     for item, content in blocks.items():

@@ -15,9 +15,9 @@ use Rattle.core_laws.proofs.trace.Growth.{entered_grows}
 use Rattle.core_laws.proofs.trace.DeskOfTrace.{shown_of}
 
 -- each entry that was handed in has its block of the journal
-entries_few : (s : Session) (t : Trace) → RightTrace s t → s.sizes.opened ≤ s.sizes.geometry.journal → s.sizes.opened + length (entered t) ≤ s.sizes.geometry.journal
-entries_few s [] right few = omega (arith, few)
-entries_few s (h ∷ t) right few = entered_grows (λ es. s.sizes.opened + length es ≤ s.sizes.geometry.journal) s h t right.0 (entries_few s t right.2 few) (λ e is may. omega (arith, may.left))
+entries_few : (s : Session) (t : Trace) → RightTrace s t → length (entered t) ≤ s.sizes.geometry.journal
+entries_few s [] right = omega arith
+entries_few s (h ∷ t) right = entered_grows (λ es. length es ≤ s.sizes.geometry.journal) s h t right.0 (entries_few s t right.2) (λ e is may. omega (arith, may.left))
 
 -- and no entry is committed that wasn't handed in
 committed_few : (s : Session) (t : Trace) → RightTrace s t → length (committed t) ≤ length (entered t)
@@ -68,10 +68,8 @@ module _ (s : Session) (core : Core) (legal : Legal s core) (n : ℕ) (z : Zone)
   module _ (session : IsSession s) where
     trace_few : length (entered core.trace) ≤ most_blocks
     trace_few =
-        let opened = session.opened in
-        let few = session.few in
         let blocks = session.sizes.journal.1 in
-        let entries = entries_few s core.trace legal.right (omega (arith, opened, few)) in
+        let entries = entries_few s core.trace legal.right in
         omega (arith, entries, blocks)
 
     pub entered_within : (j : JournalZone) → z.keeps ≡ at.Journal j → length j.entered ≤ most_blocks

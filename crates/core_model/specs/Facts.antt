@@ -193,8 +193,9 @@ pub record IsSealed (s : Session) (t : Trace) (v : Vio) (at : ℕ) : Type 0 wher
   pub maps : MapsTo v.asks v.bytes v.new
   pub fresh : OnBlock (IsFresh s) v.new
   pub old_held : HoldsMapping v.old
+  pub old_is : v.old ≡ mapping_of (entries_of s.window (committed t)) v.at.0
   pub sequence : at ≡ s.sizes.start + (s.sizes.opened + length (committed t))
-  pub few : s.sizes.opened + length (committed t) < s.sizes.geometry.journal
+  pub few : s.sizes.opened + length (committed t) + 1 < s.sizes.geometry.journal
 
 abbrev pub BlockOk : Session → Trace → SealedBlock → Type 0
 BlockOk s t b = IsSealed s t b.vio b.sequence × StandsAt s t b.vio b.stage

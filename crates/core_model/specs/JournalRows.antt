@@ -36,9 +36,9 @@ pub data PhysicalServes (sizes : Sizes) (old : PhysicalZone) (v : Vio) (new : Ph
 abbrev pub is_closed : JournalZone → Bool
 is_closed j = j.notified || j.broken
 
--- there is a block of the journal for one more entry
+-- there is a block of the journal for one more entry: one stays free, so that the newest durable block is never overwritten
 abbrev pub has_block : Sizes → JournalZone → Bool
-has_block sizes j = nat_lt (sizes.opened + length j.entered) sizes.geometry.journal
+has_block sizes j = nat_lt (sizes.opened + length j.entered + 1) sizes.geometry.journal
 
 -- the block that is sealed with a request's entry
 abbrev pub sealed : Sizes → JournalZone → Vio → SealedBlock

@@ -2,16 +2,18 @@
 use Rattle.std.specs.Prelude.{ℕ, ◌≡◌, Bool, true, false, Option, None, Some, List}
 use Rattle.blk_base.specs.declared.request.Writer.{Writer}
 use Rattle.disk_model.specs.Log.{Blocks, block_at}
-use Rattle.image_layout.specs.Opened.{HasValues}
-use Rattle.image_layout.specs.Window.{value_of}
+use Rattle.image_layout.specs.Window.{value_of, journal_of}
 use Rattle.vdo_model.specs.Histories.{Progress, histories_of}
 use Rattle.vdo_model.specs.ZoneOrder.{by_zone}
 use Rattle.vdo_model.specs.declared.report.HistoryEntry.{HistoryEntry}
 use Rattle.vdo_model.specs.declared.report.Placed.{Placed}
 use Rattle.vdo_model.specs.declared.report.RunReport.{RunReport}
 use Rattle.core_model.specs.declared.zones.Logged.{Logged}
-use Rattle.core_model.specs.Sessions.{Session}
+use Rattle.core_model.specs.Sessions.{Session, said_by}
 use Rattle.core_model.specs.Trace.{Trace, lines, marks, places, entered, done, logged_of}
+use Rattle.image_model.specs.Windows.{IsWindow}
+use Rattle.blk_base.specs.declared.journal_entry.CommittedEntry.{CommittedEntry}
+use Rattle.blk_base.specs.declared.geometry.Geometry.{Geometry}
 
 abbrev pub is_there : Option Logged → Bool
 is_there None = false
@@ -45,9 +47,16 @@ report_of s t = record {
   histories = histories_of s.script (lines t) (progress_of t) (listed_places s t);
 }
 
+-- an image has a window, whose entries give its addresses these values
+pub record GivesValues (g : Geometry) (start : ℕ) (image : Blocks) (values : ℕ → List ℕ) : Type 0 where
+  pub last : ℕ
+  pub window : List CommittedEntry
+  pub is_window : IsWindow g start (journal_of g image) last window
+  pub values_are : values ≡ value_of image (said_by window)
+
 -- an image has the superblock of the one that was opened, and its addresses these values
 abbrev pub ShowsValues : Session → Blocks → (ℕ → List ℕ) → Type 0
-ShowsValues s image values = (block_at image 0 ≡ block_at s.image 0) × HasValues s.sizes.geometry s.sizes.start image values
+ShowsValues s image values = (block_at image 0 ≡ block_at s.image 0) × GivesValues s.sizes.geometry s.sizes.start image values
 
 -- the value of each address when the session began
 abbrev pub opening_values : Session → ℕ → List ℕ

@@ -83,9 +83,9 @@ pub record FollowsAbort (s : Session) (t : Trace) (w : Writer) (a : ℕ) : Type 
   pub placed : HasPlace s t w a place
   pub behind : HasBelow a place (aborted t)
 
--- no block of the journal is left; or none, or no free data block
+-- no block of the journal is left but the one that stays free; or none, or no free data block
 abbrev pub HasFullJournal : Session → Trace → Type 0
-HasFullJournal s t = s.sizes.geometry.journal ≤ s.sizes.opened + length (entered t)
+HasFullJournal s t = s.sizes.geometry.journal ≤ s.sizes.opened + length (entered t) + 1
 
 abbrev pub IsFull : Session → Trace → Type 0
 IsFull s t = HasFullJournal s t ⊎ (length s.free ≤ taken t)
@@ -153,7 +153,7 @@ pub record EntryMayFollow (s : Session) (e : Logged) (t : Trace) : Type 0 where
   pub quiet : Quiet t e.at.0
   pub below : AllBelow t e.at.0 e.place
   -- a block of the journal is left for it
-  pub left : s.sizes.opened + length (entered t) < s.sizes.geometry.journal
+  pub left : s.sizes.opened + length (entered t) + 1 < s.sizes.geometry.journal
   -- it maps its address to a data block, or to none
   pub new_data : OnBlock (λ x. IsDataBlock s.sizes.geometry x.0) e.new
   -- it has what its address is mapped to by the committed entries

@@ -1,8 +1,8 @@
 -- What a session is over, what stands on its device, and which values its addresses have.
-use Rattle.std.specs.Prelude.{ℕ, ◌+◌, ◌≡◌, ◌≢◌, ◌⊎◌, ◌<◌, ◌≤◌, ◌^◌, true, false, Option, None, Some, List, [], ◌∷◌, ◌++◌, length}
+use Rattle.std.specs.Prelude.{ℕ, ◌+◌, ◌≡◌, ◌≢◌, ◌⊎◌, ◌<◌, ◌≤◌, ◌^◌, true, false, Option, None, Some, List, [], ◌∷◌, ◌++◌, length, map}
 use Rattle.std.specs.List.{AllByRecursion}
 use Rattle.blk_base.specs.Limits.{IsGeometry}
-use Rattle.blk_base.specs.Regions.{IsDataBlock, journal_slot_of, needed_blocks}
+use Rattle.blk_base.specs.Regions.{IsDataBlock, needed_blocks}
 use Rattle.blk_base.specs.declared.journal_entry.Entry.{Entry}
 use Rattle.blk_base.specs.declared.place.Mapping.{Mapping}
 use Rattle.blk_base.specs.declared.place.Mapping.TheVariants.{At}
@@ -13,8 +13,8 @@ use Rattle.disk_model.specs.Images.{HasOneImage, IsMixOf}
 use Rattle.disk_model.specs.Log as device
 use Rattle.disk_model.specs.declared.call.Call.{Call}
 use Rattle.disk_model.specs.declared.call.Call.TheVariants.{Read}
-use Rattle.image_layout.specs.Window.{IsWindow, journal_of, mapping_of, value_of}
-use Rattle.stop_laws.specs.Journals.{Surely, IsAtRest, IsUnderWay, HasEntry, block_of_slot}
+use Rattle.image_layout.specs.Window.{journal_of, mapping_of, value_of}
+use Rattle.stop_laws.specs.Journals.{Surely, block_of_slot}
 use Rattle.vdo_model.specs.Scripts.{Script, request_at, value_written}
 use Rattle.core_model.specs.declared.sizes.Sizes.{Sizes}
 use Rattle.core_model.specs.declared.zones.Logged.{Logged}
@@ -22,15 +22,22 @@ use Rattle.plain_laws.specs.Sums.{total}
 use Rattle.core_model.specs.SessionLimits.{IsLimited}
 use Rattle.core_model.specs.Tokens.{is_block}
 use Rattle.core_model.specs.Trace.{Calls, Trace, calls, entered, committed, done, of_address, newest, entry_of, entries_of}
+use Rattle.journal_stops.specs.Rings.{IsAtRest, IsUnderWay, IsWritten}
+use Rattle.journal_stops.specs.Sealed.{Sealed, head_of}
+use Rattle.image_model.specs.Windows.{IsOfImage, IsWindow}
+use Rattle.blk_base.specs.declared.journal_entry.CommittedEntry.{CommittedEntry}
+use Rattle.journal_stops.specs.Sealed as sealed
 
 -- What is fixed: the sizes, the script, the blocks that the device had when its log began, its log before the session,
--- the one image that a stop left then, the window of that image, and the data blocks that are free in it.
+-- the one image that a stop left then, the blocks that its journal has, the entries of these, and the data blocks that are
+-- free in it. The newest block and the newest entry stand first.
 pub record Session : Type 0 where
   pub sizes : Sizes
   pub script : Script
   pub blocks : device.Blocks
   pub before : List Call
   pub image : device.Blocks
+  pub sealed : List Sealed
   pub window : List Entry
   pub free : List Pbn
 
@@ -47,9 +54,28 @@ pub record IsFresh (s : Session) (x : Pbn) : Type 0 where
   pub unnamed : (a : ℕ) (y : Pbn) → mapping_of s.window a ≡ At y → y.0 ≢ x.0
   pub inside : x.0 < needed_blocks s.sizes.geometry
 
+-- the entries without their points
+abbrev pub said_by : List CommittedEntry → List Entry
+said_by committed = map (λ (c : CommittedEntry). c.entry) committed
+
 -- no block is there twice
 abbrev pub AreDistinct : List Pbn → Type 0
 AreDistinct blocks = (x : ℕ) → total (is_block x) blocks ≤ 1
+
+-- The journal of the opened image has these blocks, all of which are needed, and nothing later: it may go on behind them.
+pub record HasWholeBlocks (s : Session) : Type 0 where
+  pub at_rest : IsAtRest s.image [] s.sizes.geometry s.sizes.start s.sealed
+  pub all_needed : head_of s.sizes.start s.sealed ≡ s.sizes.start
+  pub window_is : s.window ≡ said_by (sealed.entries_of s.sizes.start s.sealed)
+  pub opened : s.sizes.opened ≡ length s.sealed
+
+-- The journal of the opened image has a window, and all its blocks count as used: none is left for more.
+pub record HasNoneLeft (s : Session) : Type 0 where
+  pub last : ℕ
+  pub committed : List CommittedEntry
+  pub is_window : IsWindow s.sizes.geometry s.sizes.start (journal_of s.sizes.geometry s.image) last committed
+  pub window_is : s.window ≡ said_by committed
+  pub full : s.sizes.opened ≡ s.sizes.geometry.journal
 
 -- the session can be served
 pub record IsSession (s : Session) : Type 0 where
@@ -61,9 +87,9 @@ pub record IsSession (s : Session) : Type 0 where
   pub room : needed_blocks s.sizes.geometry ≤ length s.blocks
   pub served : AllByRecursion (AllByRecursion IsServed) s.script
   pub one_image : HasOneImage s.blocks s.before s.image
-  pub is_window : IsWindow s.sizes.geometry s.sizes.start (journal_of s.sizes.geometry s.image) s.window
-  pub opened : s.sizes.opened ≡ length s.window
-  pub few : length s.window ≤ s.sizes.geometry.journal
+  -- the journal of the image has whole blocks, and may go on; or none is left
+  pub journal : HasWholeBlocks s ⊎ HasNoneLeft s
+  pub of_image : AllByRecursion (IsOfImage s.sizes.geometry) s.window
   pub free : AllByRecursion (IsFresh s) s.free
   pub distinct : AreDistinct s.free
 
@@ -102,9 +128,28 @@ value_from s a (Some e) = bytes_of s e
 abbrev pub MapStands : Session → Trace → List Logged → Type 0
 MapStands s t es = (a : ℕ) → OnBlock (λ x. Stands s t x.0 (value_from s a (newest (of_address a es)))) (mapping_of (entries_of s.window es) a)
 
--- the journal has their entries, and their map stands
+-- the block of the journal that is sealed with the entry of a write; it names the first sequence as its head
+abbrev pub sealed_with : Session → Logged → Sealed
+sealed_with s e = record { head = s.sizes.start; entries = entry_of e ∷ [] }
+
+-- the blocks of the journal with the entries of these writes, on those that it had
+abbrev pub blocks_of : Session → List Logged → List Sealed
+blocks_of s [] = s.sealed
+blocks_of s (e ∷ older) = sealed_with s e ∷ blocks_of s older
+
+-- no entry was handed in, since no block is left, and each block of the journal is as it was
+pub record StandsAsOpened (s : Session) (t : Trace) (es : List Logged) : Type 0 where
+  pub none : es ≡ []
+  pub opening : HasNoneLeft s
+  pub blocks : (slot : ℕ) → slot < s.sizes.geometry.journal → Stands s t (block_of_slot slot) (device.block_at s.image (block_of_slot slot))
+
+-- the journal has the blocks of these writes, on those that it had
+abbrev pub HasBlocks : Session → Trace → List Logged → Type 0
+HasBlocks s t es = (HasWholeBlocks s × IsAtRest s.blocks (log s t) s.sizes.geometry s.sizes.start (blocks_of s es)) ⊎ StandsAsOpened s t es
+
+-- and their map stands
 abbrev pub AtRest : Session → Trace → List Logged → Type 0
-AtRest s t es = IsAtRest s.blocks (log s t) s.sizes.geometry s.sizes.start (entries_of s.window es) × MapStands s t es
+AtRest s t es = HasBlocks s t es × MapStands s t es
 
 -- what a write maps its address to stands
 abbrev pub NewStands : Session → Trace → Logged → Type 0
@@ -112,13 +157,12 @@ NewStands s t e = OnBlock (λ x. Stands s t x.0 (bytes_of s e)) e.new
 
 -- besides, the block of one more entry is under way, and what it maps its address to stands
 abbrev pub OnItsWay : Session → Trace → List Logged → Logged → Type 0
-OnItsWay s t es e = IsUnderWay s.blocks (log s t) s.sizes.geometry s.sizes.start (entries_of s.window es) (entry_of e) × MapStands s t es × NewStands s t e
+OnItsWay s t es e =
+    (HasWholeBlocks s × IsUnderWay s.blocks (log s t) s.sizes.geometry s.sizes.start (blocks_of s es) (sealed_with s e)) × MapStands s t es × NewStands s t e
 
 -- and a read of that block's place gives it
 abbrev pub ReadsEntry : Session → Trace → List Logged → Logged → Type 0
-ReadsEntry s t es e =
-    AllByRecursion (HasEntry s.sizes.geometry s.sizes.start (s.sizes.start + length (entries_of s.window es)) (entry_of e))
-    (device.settled s.blocks (log s t) (block_of_slot (journal_slot_of s.sizes.geometry (s.sizes.start + length (entries_of s.window es)))))
+ReadsEntry s t es e = IsWritten s.blocks (log s t) s.sizes.geometry s.sizes.start (blocks_of s es) (sealed_with s e)
 
 -- The last entry was handed in and isn't committed: the journal has the committed ones, or the block of this one is under
 -- way, or is there too.

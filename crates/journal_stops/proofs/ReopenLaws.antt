@@ -22,7 +22,7 @@ use Rattle.journal_stops.specs.Sealed.{Sealed, next_of, head_of, lists_of, since
 use Rattle.journal_stops.proofs.ShownLaws.{slot_there, begins_anew}
 
 module _ (g : Geometry) (start : ℕ) (image : Blocks) (last first : ℕ) (low : start ≤ first) (slots : 0 < g.journal)
-    (whole_last : (head : ℕ) (entries : List Entry) (whole : Bool) → IsPrefix g.nonce (in_slot g (journal_of g image) last) last head entries whole → IsTrue whole) where
+    (whole_last : start ≤ last → (head : ℕ) (entries : List Entry) (whole : Bool) → IsPrefix g.nonce (in_slot g (journal_of g image) last) last head entries whole → IsTrue whole) where
   -- of the blocks before the window nothing is said
   abbrev reaped : List Sealed
   reaped = replicate (first - start) (record { head = start; entries = [] })
@@ -30,14 +30,14 @@ module _ (g : Geometry) (start : ℕ) (image : Blocks) (last first : ℕ) (low :
   reaped_size : length reaped ≡ first - start
   reaped_size = length-replicate (first - start) _
 
-  whole_block : (sequence : ℕ) (entries : List Entry) → sequence ≤ last → IsReplayable g (journal_of g image) last sequence entries
+  whole_block : (sequence : ℕ) (entries : List Entry) → first ≤ sequence → sequence ≤ last → IsReplayable g (journal_of g image) last sequence entries
       → (head : ℕ) × IsWhole g sequence (record { head = head; entries = entries }) (in_slot g (journal_of g image) sequence)
-  whole_block sequence entries within is =
+  whole_block sequence entries from within is =
       let prefix = is.has.1 in
       let whole : IsTrue is.whole = elim (cases_lt sequence last) [
         | inl earlier ↦ is.complete earlier
         | inr not_earlier ↦ let same : sequence ≡ last = omega (arith, within, not_earlier) in
-            whole_last is.has.0 entries is.whole (subst (λ (n : ℕ). IsPrefix g.nonce (in_slot g (journal_of g image) n) n is.has.0 entries is.whole) same prefix)
+            whole_last (omega (arith, from, within, low)) is.has.0 entries is.whole (subst (λ (n : ℕ). IsPrefix g.nonce (in_slot g (journal_of g image) n) n is.has.0 entries is.whole) same prefix)
       ] in
       (is.has.0, subst (λ (n : ℕ). IsRun g.nonce (in_slot g (journal_of g image) sequence) sequence is.has.0 n entries) (prefix.all.0 whole) prefix.run)
 
@@ -57,7 +57,7 @@ module _ (g : Geometry) (start : ℕ) (image : Blocks) (last first : ℕ) (low :
   blocks_stand (entries ∷ older) within are =
       let before = blocks_stand older (omega (arith, within)) are.1 in
       let sequence = first + length older in
-      let found = whole_block sequence entries (omega (arith, within)) are.0 in
+      let found = whole_block sequence entries (omega arith) (omega (arith, within)) are.0 in
       let block : Sealed = record { head = found.0; entries = entries } in
       let count : length before.0 ≡ length older = sym (length-map before.0 (λ (b : Sealed). b.entries)) ∙ ap length before.1 in
       let here : sequence ≡ next_of start (before.0 ++ reaped) = omega (arith, count, reaped_size, length-append before.0 reaped, low) in (
@@ -129,10 +129,11 @@ last_in_reach g start journal last is = elim is.there [
 -- The journal of an image that is opened with its window is at rest, with the blocks of the window.
 pub reopened : (image : Blocks) (g : Geometry) (start last : ℕ) (window : List CommittedEntry) (is : IsWindow g start (journal_of g image) last window)
     → 1 ≤ start → start ≤ is.first → last + 2 ≤ is.first + g.journal
-    → ((head : ℕ) (entries : List Entry) (whole : Bool) → IsPrefix g.nonce (in_slot g (journal_of g image) last) last head entries whole → IsTrue whole)
+    → (start ≤ last → (head : ℕ) (entries : List Entry) (whole : Bool) → IsPrefix g.nonce (in_slot g (journal_of g image) last) last head entries whole → IsTrue whole)
     → ((slot number sequence head : ℕ) (entries : List Entry) → slot < g.journal → number < 8
     → IsSector g.nonce number (sector number (get_or (journal_of g image) slot zero_block)) sequence head entries → sequence ≤ last)
-    → (blocks : List Sealed) × IsAtRest image [] g start blocks × (next_of start blocks ≡ last + 1) × (window_of start blocks ≡ window)
+    → (blocks : List Sealed) × IsAtRest image [] g start blocks × (next_of start blocks ≡ last + 1) × (head_of start blocks ≡ is.first)
+    × (window_of start blocks ≡ window)
 reopened image g start last window is some low ring whole_last timely =
     let first = is.first in
     let slots : 0 < g.journal = omega (arith, ring, is.count) in
@@ -146,6 +147,7 @@ reopened image g start last window is some low ring whole_last timely =
           (empty_from_start g start image last first low slots whole_last (length found.0) count is.is_first) head found.2
           (λ slot below number small sequence h entries has. let at_most = timely slot number sequence h entries below small has in omega (arith, at_most)),
       (let behind : length before ≡ first - start = length-replicate (first - start) _ in omega (arith, count, behind, length-append found.0 before, low)),
+      head,
       window_is g start image last first low slots whole_last found.0 is.blocks found.1 is.count head ∙ sym is.entries,
     )
 

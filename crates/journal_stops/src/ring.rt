@@ -37,10 +37,11 @@ pub fn a_journal_begins_at_rest()
         → IsUnderWay opening log g start blocks block → IsImage opening log image → next_of start blocks < later → IsAtRest image [] g later [] }
     ensures reopened { (image : Blocks) (g : Geometry) (start last : ℕ) (window : List CommittedEntry) (is : IsWindow g start (journal_of g image) last window)
         → 1 ≤ start → start ≤ is.first → last + 2 ≤ is.first + g.journal
-        → ((head : ℕ) (entries : List Entry) (whole : Bool) → IsPrefix g.nonce (in_slot g (journal_of g image) last) last head entries whole → IsTrue whole)
+        → (start ≤ last → (head : ℕ) (entries : List Entry) (whole : Bool) → IsPrefix g.nonce (in_slot g (journal_of g image) last) last head entries whole → IsTrue whole)
         → ((slot number sequence head : ℕ) (entries : List Entry) → slot < g.journal → number < 8
         → IsSector g.nonce number (sector number (get_or (journal_of g image) slot zero_block)) sequence head entries → sequence ≤ last)
-        → (blocks : List Sealed) × IsAtRest image [] g start blocks × (next_of start blocks ≡ last + 1) × (window_of start blocks ≡ window) }
+        → (blocks : List Sealed) × IsAtRest image [] g start blocks × (next_of start blocks ≡ last + 1) × (head_of start blocks ≡ is.first)
+        × (window_of start blocks ≡ window) }
 {}
 
 /// The blocks from the head on stand whole, whatever a stop leaves: over each call that writes no block of the journal,

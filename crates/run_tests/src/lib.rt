@@ -5,6 +5,8 @@
 #[cfg(test)]
 mod cores;
 #[cfg(test)]
+mod journals;
+#[cfg(test)]
 mod judging;
 #[cfg(test)]
 mod one_stream;
@@ -16,6 +18,8 @@ mod sessions;
 mod stops;
 #[cfg(test)]
 mod tables;
+#[cfg(test)]
+mod torn;
 #[cfg(test)]
 mod turns;
 #[cfg(test)]

@@ -1,6 +1,7 @@
-use blk_base::{Block, Geometry, Layout, Pbn};
+use crate::journals::{Standing, with_journal};
+use blk_base::{Block, Geometry, Layout, Pbn, Super};
 use disk_model::{Call, CallKind, FaultAt, MemDisk, MemSink, MemSource, OpenGate};
-use image_layout::{Field, SuperFault, first_image};
+use image_layout::{Field, SuperFault, first_image, write_super};
 use image_model::ImageFault;
 use std::alloc::{AllocError, Global};
 use std::process::Abort;
@@ -46,6 +47,8 @@ pub(crate) enum Device {
     Failing(CallKind, u32),
     /// A fresh image with other blocks.
     With(&'static [Part]),
+    /// A fresh image whose journal has blocks, with other blocks besides.
+    Journal(&'static [Standing], &'static [Part]),
     /// A fresh image with another byte in its superblock.
     Changed(usize, u8),
     /// So many blocks of zeros.
@@ -145,14 +148,14 @@ pub(crate) type End = (&'static [u8], u8, Calls);
 
 /// How a run ended: its status, and whether its text and the calls of its device are as wanted.
 #[derive(Clone, Copy, Debug, PartialEq, Eq)]
-struct Outcome {
+pub(crate) struct Outcome {
     status: u8,
     text: bool,
     calls: bool,
 }
 
 /// As wanted, with this status.
-fn all_right(status: u8) -> Outcome {
+pub(crate) fn all_right(status: u8) -> Outcome {
     Outcome {
         status,
         text: true,
@@ -215,9 +218,17 @@ fn put_parts(blocks: &mut [Block], parts: &[Part]) {
     }
 }
 
-fn with_parts(alloc: Global, parts: &[Part]) -> Result<MemDisk, AllocError> {
-    let mut blocks = first_image(alloc, &Geometry::DEFAULT, &Layout::of(&Geometry::DEFAULT))?;
+fn with_parts(alloc: Global, journal: &[Standing], parts: &[Part]) -> Result<MemDisk, AllocError> {
+    let mut blocks = with_journal(alloc, journal)?;
     put_parts(&mut blocks, parts);
+    MemDisk::from_blocks(alloc, blocks)
+}
+
+fn with_superblock(alloc: Global, head: &Super) -> Result<MemDisk, AllocError> {
+    let mut blocks = first_image(alloc, &Geometry::DEFAULT, &Layout::of(&Geometry::DEFAULT))?;
+    if let Some(first) = blocks.first_mut() {
+        write_super(head, first);
+    }
     MemDisk::from_blocks(alloc, blocks)
 }
 
@@ -239,7 +250,8 @@ fn made(alloc: Global, device: Device) -> Result<MemDisk, AllocError> {
     match device {
         Device::Fresh => fresh(alloc),
         Device::Failing(kind, at) => failing(alloc, kind, at),
-        Device::With(parts) => with_parts(alloc, parts),
+        Device::With(parts) => with_parts(alloc, &[], parts),
+        Device::Journal(journal, parts) => with_parts(alloc, journal, parts),
         Device::Changed(at, byte) => changed(alloc, at, byte),
         Device::Zeros(blocks) => MemDisk::zeroed(alloc, blocks),
     }
@@ -267,6 +279,19 @@ fn end_of_script<R: Threads + Wait + Sync>(
 ) -> Result<Outcome, AllocError> {
     let outside = outside_of(alloc, &["run"], script, None, 2000)?;
     end_of_run(rt, alloc, device, outside, end)
+}
+
+/// How a run on a fresh image with another superblock ends.
+pub(crate) fn end_of_superblock<R: Threads + Wait + Sync>(
+    rt: &R,
+    alloc: Global,
+    head: Super,
+    end: End,
+) -> Result<Outcome, AllocError> {
+    let outside = outside_of(alloc, &["run"], b"", None, 2000)?;
+    let (text, _, calls) = end;
+    let ran = run_in(rt, outside, with_superblock(alloc, &head)?);
+    Ok(found(&ran, text, calls))
 }
 
 /// A device, a script, and how the run of it ends.
@@ -318,13 +343,13 @@ const NINE_WRITES: [Case; 1] = [(
     Device::Fresh,
     b"0 write 0 4096*61\n0 write 1 4096*61\n0 write 2 4096*61\n0 write 3 4096*61\n0 write 4 4096*61\n0 write 5 4096*61\n0 write 6 4096*61\n0 write 7 4096*61\n0 write 8 4096*61\n",
     (
-        b"0 0 write 0 ok z0:0\n0 1 write 1 ok z0:1\n0 2 write 2 ok z0:2\n0 3 write 3 ok z0:3\n0 4 write 4 ok z0:4\n0 5 write 5 ok z0:5\n0 6 write 6 ok z0:6\n0 7 write 7 ok z0:7\n0 8 write 8 full z0:8\n",
+        b"0 0 write 0 ok z0:0\n0 1 write 1 ok z0:1\n0 2 write 2 ok z0:2\n0 3 write 3 ok z0:3\n0 4 write 4 ok z0:4\n0 5 write 5 ok z0:5\n0 6 write 6 ok z0:6\n0 7 write 7 full z0:7\n0 8 write 8 full z0:8\n",
         1,
         Calls::Any,
     ),
 )];
 
-// Each journal block has one entry.
+// Each journal block has one entry, and one block stays free.
 #[test]
 fn all_journal_blocks_are_used(rt: HostRuntime) -> Result<(), Fail> {
     each_is_right(&rt, rt.alloc(), &NINE_WRITES)

@@ -1,15 +1,17 @@
-ghost use Rattle.std.specs.Prelude.{◌≡◌, ◌≤◌, ◌<◌, IfOk, length, vec_len};
+ghost use Rattle.std.specs.Prelude.{◌≡◌, ◌≤◌, ◌<◌, IfOk, length, reverse, vec_len};
 ghost use Rattle.std.specs.List.{AllByRecursion};
 ghost use Rattle.blk_base.specs.Limits.{IsGeometry};
 ghost use Rattle.blk_base.specs.Regions.{needed_blocks};
-ghost use Rattle.core_model.specs.Sessions.{IsServed};
+ghost use Rattle.core_model.specs.Sessions.{IsServed, said_by};
 ghost use Rattle.steps_device.specs.DeviceCalls.{Fits};
 
 use crate::cores::{Ask, Unplayed, script};
-use blk_base::{Block, Geometry, Layout, Pbn, Super};
+use blk_base::{Block, CommittedEntry, Entry, Geometry, Layout, Pbn, Super};
 use core_model::is_limited;
 use disk_model::{Disk, FaultAt, MemDisk};
-use image_layout::{first_image, read_window};
+use image_layout::first_image;
+use journal_room::used_blocks;
+use journal_window::window_of;
 use schedule::{Schedule, drive};
 use std::alloc::{AllocError, Global};
 use std::sync::Wait;
@@ -100,6 +102,19 @@ fn read_journal<D: Disk>(alloc: Global, device: &mut D) -> Result<Vec<Block>, Un
     Ok(journal)
 }
 
+// The entries of a window, the oldest first, without their points.
+fn entries_of(alloc: Global, window: &[CommittedEntry]) -> Result<Vec<Entry>, Unplayed>
+    ensures { IfOk result (λ entries. reverse entries.items ≡ said_by (reverse window.now)) }
+{
+    let mut entries = Vec::new(alloc);
+    for committed in window {
+        let Ok(()) = entries.push(committed.entry) else {
+            return Err(Unplayed::Memory);
+        };
+    }
+    Ok(entries)
+}
+
 // A core over an image with this journal, if it may be as large.
 fn begin(
     alloc: Global,
@@ -118,10 +133,12 @@ fn begin(
     if !small || !is_limited(&requests) {
         return Err(Unplayed::TooLarge);
     }
-    let Ok(window) = read_window(alloc, journal, &HEAD) else {
+    let Ok(found) = window_of(alloc, &HEAD, journal) else {
         return Err(Unplayed::TooLarge);
     };
-    match Core::begin(alloc, setup, &HEAD, &window, requests) {
+    let used = used_blocks(&HEAD, journal, found.last());
+    let window = entries_of(alloc, found.entries())?;
+    match Core::begin(alloc, setup, &HEAD, used, &window, requests) {
         Ok(core) => Ok(core),
         Err(_) => Err(Unplayed::Memory),
     }

@@ -134,11 +134,11 @@ fn runs_without_a_fault(rt: HostRuntime) -> Result<(), Fail> {
             total = total.and(met_by(&rt, rt.alloc(), plan, number, Trouble::Nothing)?);
         }
     }
-    // The plans have 7, 4, 7 and 4 reads of addresses, 2 requests out of range, and 2 writes too many.
+    // The plans have 7, 4, 7 and 4 reads of addresses, 2 requests out of range, and 0, 0, 3 and 1 writes and discards too many.
     let want = Met {
         reads: 22 * 20,
         ranges: 2 * 20,
-        full: 2 * 20,
+        full: 4 * 20,
         ..Met::NOTHING
     };
     assert_eq!(rt; total, want);

@@ -1,4 +1,4 @@
-ghost use Rattle.std.specs.Prelude.{◌≡◌, ◌+◌, ◌≤◌, [], ◌∷◌, ◌++◌, length, OnOk, OnErr};
+ghost use Rattle.std.specs.Prelude.{◌≡◌, ◌+◌, ◌≤◌, [], ◌∷◌, ◌++◌, ◌<◌, ◌^◌, length, OnOk, OnErr};
 ghost use Rattle.blk_base.specs.declared.place.ZoneId.TheVariants as id;
 ghost use Rattle.core_model.specs.JournalRows as rows;
 ghost use Rattle.core_model.specs.JournalRows.{JournalServes};
@@ -19,18 +19,20 @@ use step_parts::{Posts, Stray};
 fn entry_count(sizes: &Sizes, zone: &JournalZone) -> u64
     requires counts { CanCount sizes.now }
     requires few { length zone.now.entered ≤ most_blocks }
-    ensures { result ≡ sizes.now.opened + length zone.now.entered }
+    ensures count { result ≡ sizes.now.opened + length zone.now.entered }
+    ensures small { result < 2 ^ 33 }
 {
     u64::from(sizes.opened) + zone.entered.len() as u64
 }
 
-/// Whether there is a block of the journal for one more entry.
+/// Whether there is a block of the journal for one more entry: one stays free, so that the newest durable block is never
+/// overwritten.
 pub(crate) fn has_block(sizes: &Sizes, zone: &JournalZone) -> bool
     requires counts { CanCount sizes.now }
     requires few { length zone.now.entered ≤ most_blocks }
     ensures { result ≡ rows.has_block sizes.now zone.now }
 {
-    entry_count(sizes, zone) < u64::from(sizes.geometry.journal)
+    entry_count(sizes, zone) + 1 < u64::from(sizes.geometry.journal)
 }
 
 // The sequence of the block that is sealed next.

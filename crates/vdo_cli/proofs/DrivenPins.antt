@@ -36,20 +36,20 @@ use Rattle.vdo_cli.proofs.PlayPins.{at, device}
 use Rattle.vdo_cli.proofs.SessionLaws.{answered}
 
 -- Accepted: of an image that was opened, all three parts of the session of no request.
-module _ (schedule : ℕ) (head : Super) (window : List Entry) (before opened : Seen) (is_opened : IsOpened true true before opened head window) where
-  driven-empty : IsDriven true true schedule head window no_requests [] opened opened
-  driven-empty = empty_driven true true schedule head window before opened is_opened
+module _ (schedule : ℕ) (head : Super) (window : List Entry) (used : ℕ) (before opened : Seen) (is_opened : IsOpened true true before opened head window used) where
+  driven-empty : IsDriven true true schedule head window used no_requests [] opened opened
+  driven-empty = empty_driven true true schedule head window used before opened is_opened
 
-  reported-empty : IsReported head window empty_report [] opened opened
-  reported-empty = empty_reported true true schedule head window before opened is_opened
+  reported-empty : IsReported head window used empty_report [] opened opened
+  reported-empty = empty_reported true true schedule head window used before opened is_opened
 
   happens-empty : Happens true head window [] empty_report before opened opened
-  happens-empty = empty_happens true true schedule head window before opened is_opened refl
+  happens-empty = empty_happens true true schedule head window used before opened is_opened refl
 
 -- IsDriven. By schedule 7 over some image.
-module _ (head : Super) (window : List Entry) (script : Script) (trace : Trace) (before after : Seen) (driven : IsDriven true false 7 head window script trace before after) where
+module _ (head : Super) (window : List Entry) (used : ℕ) (script : Script) (trace : Trace) (before after : Seen) (driven : IsDriven true false 7 head window used script trace before after) where
   abbrev some_session : Session
-  some_session = record { sizes = run_sizes head window; script = script; blocks = []; before = []; image = []; window = window; free = free_of head.geometry window }
+  some_session = record { sizes = run_sizes head used; script = script; blocks = []; before = []; image = []; sealed = []; window = window; free = free_of head.geometry window }
 
   -- the first core is one of the session: it has zones
   driven-not_from_no_zone : driven.first ≡ [] → ⊥
@@ -57,7 +57,7 @@ module _ (head : Super) (window : List Entry) (script : Script) (trace : Trace) 
 
   -- the turns begin with the number of this schedule; without any the core stays as it is; and a core that is done takes none
   abbrev Led : List Event → Type 0
-  Led events = Drives true false (run_sizes head window) 7 driven.state events driven.first driven.last before after
+  Led events = Drives true false (run_sizes head used) 7 driven.state events driven.first driven.last before after
 
   driven-not_by_schedule_8 : driven.events ≡ [] → driven.state ≡ 8 → ⊥
   driven-not_by_schedule_8 none is = let led : Led [] = subst Led none driven.drives in omega (arith, led.0, is)
@@ -72,27 +72,27 @@ module _ (head : Super) (window : List Entry) (script : Script) (trace : Trace) 
   driven-not_to_no_zone : driven.last ≡ [] → ⊥
   driven-not_to_no_zone none = let had = driven.done.had in let nothing : None ≡ Some driven.done.zone = rw none at had in absurd cc
 
-  driven-not_without_an_answer : CanBegin (run_sizes head window) script window → (w : Writer) → IsSome (request_at script w) → answer_of (lines trace) w ≡ None → ⊥
+  driven-not_without_an_answer : CanBegin (run_sizes head used) script window → (w : Writer) → IsSome (request_at script w) → answer_of (lines trace) w ≡ None → ⊥
   driven-not_without_an_answer can w asked none =
-      let all = answered true false head window script driven.first driven.last trace before after can driven.begins driven.leads driven.done driven.called in
+      let all = answered true false head window used script driven.first driven.last trace before after can driven.begins driven.leads driven.done driven.called in
       let has : IsSome (answer_of (lines trace) w) = all w asked in
       absurd (let unanswered = rw none at has in cc)
 
 -- the device has the calls that happened, and no other
-driven-not_called_besides : (head : Super) (window : List Entry) (script : Script) (opening : Blocks) → IsDriven true false 7 head window script [] (device opening [] 0 0) (device opening (Flush true ∷ []) 0 0) → ⊥
-driven-not_called_besides head window script opening driven = let size = ap length (driven.called.log refl) in omega (arith, size)
+driven-not_called_besides : (head : Super) (window : List Entry) (used : ℕ) (script : Script) (opening : Blocks) → IsDriven true false 7 head window used script [] (device opening [] 0 0) (device opening (Flush true ∷ []) 0 0) → ⊥
+driven-not_called_besides head window used script opening driven = let size = ap length (driven.called.log refl) in omega (arith, size)
 
 -- IsReported. The session is that of this image, with one logical zone
-reported-not_of_two_zones : (head : Super) (window : List Entry) (report : RunReport) (trace : Trace) (before after : Seen) (reported : IsReported head window report trace before after)
+reported-not_of_two_zones : (head : Super) (window : List Entry) (used : ℕ) (report : RunReport) (trace : Trace) (before after : Seen) (reported : IsReported head window used report trace before after)
     → reported.session.sizes.zones ≡ 2 → ⊥
-reported-not_of_two_zones head window report trace before after reported two = omega (arith, two, ap (λ (sizes : Sizes). sizes.zones) reported.is_over.sizes_is)
+reported-not_of_two_zones head window used report trace before after reported two = omega (arith, two, ap (λ (sizes : Sizes). sizes.zones) reported.is_over.sizes_is)
 
 -- the report has the places that were drawn, here none
 abbrev placed_report : RunReport
 placed_report = record empty_report { places = record { request = of_a 0; zone = 0; place = 0 } ∷ [] }
 
-reported-not_with_other_places : (head : Super) (window : List Entry) (before after : Seen) → IsReported head window placed_report [] before after → ⊥
-reported-not_with_other_places head window before after reported =
+reported-not_with_other_places : (head : Super) (window : List Entry) (used : ℕ) (before after : Seen) → IsReported head window used placed_report [] before after → ⊥
+reported-not_with_other_places head window used before after reported =
     let places = ap (λ (report : RunReport). length report.places) reported.report_is in
     let zones = ap (λ (sizes : Sizes). sizes.zones) reported.is_over.sizes_is in
     let none = rw zones at places in
@@ -102,16 +102,16 @@ reported-not_with_other_places head window before after reported =
 abbrev begun_report : RunReport
 begun_report = record empty_report { desk = Begin (of_a 0) ∷ [] }
 
-reported-not_another_desk : (head : Super) (window : List Entry) (trace : Trace) (before after : Seen) → IsReported head window begun_report trace before after → ⊥
-reported-not_another_desk head window trace before after reported = absurd (let asked = reported.run_right.desk_log.0.1 in cc)
+reported-not_another_desk : (head : Super) (window : List Entry) (used : ℕ) (trace : Trace) (before after : Seen) → IsReported head window used begun_report trace before after → ⊥
+reported-not_another_desk head window used trace before after reported = absurd (let asked = reported.run_right.desk_log.0.1 in cc)
 
 -- an answer has its cause: a read of address 1 isn't beyond a logical size of 2
 abbrev read_report : RunReport
 read_report = record empty_report { requests = (request.Read (address 1) ∷ []) ∷ replicate 15 []; desk = Answer (of_a 0) reply.Range ∷ Begin (of_a 0) ∷ [] }
 
-reported-not_beyond : (head : Super) (window : List Entry) (before after : Seen) → 1 < head.geometry.logical
-    → IsReported head window read_report (Says (Answer (of_a 0) reply.Range) ∷ Says (Begin (of_a 0)) ∷ []) before after → ⊥
-reported-not_beyond head window before after below reported =
+reported-not_beyond : (head : Super) (window : List Entry) (used : ℕ) (before after : Seen) → 1 < head.geometry.logical
+    → IsReported head window used read_report (Says (Answer (of_a 0) reply.Range) ∷ Says (Begin (of_a 0)) ∷ []) before after → ⊥
+reported-not_beyond head window used before after below reported =
     let beyond = reported.causes [] (Says (Begin (of_a 0)) ∷ []) (of_a 0) (request.Read (address 1)) reply.Range refl refl in
     let logical = ap (λ (sizes : Sizes). sizes.geometry.logical) reported.is_over.sizes_is in
     omega (arith, below, beyond, logical)
@@ -120,13 +120,13 @@ reported-not_beyond head window before after below reported =
 abbrev fault_report : RunReport
 fault_report = record read_report { desk = Answer (of_a 0) reply.ReadFault ∷ Begin (of_a 0) ∷ [] }
 
-reported-not_without_rise : (head : Super) (window : List Entry) (trace : Trace) (opening : Blocks) (log log' : List Call) → IsReported head window fault_report trace (device opening log 0 0) (device opening log' 0 0) → ⊥
-reported-not_without_rise head window trace opening log log' reported = let rose = reported.faults (of_a 0) (request.Read (address 1)) reply.ReadFault refl refl tt in omega (arith, rose)
+reported-not_without_rise : (head : Super) (window : List Entry) (used : ℕ) (trace : Trace) (opening : Blocks) (log log' : List Call) → IsReported head window used fault_report trace (device opening log 0 0) (device opening log' 0 0) → ⊥
+reported-not_without_rise head window used trace opening log log' reported = let rose = reported.faults (of_a 0) (request.Read (address 1)) reply.ReadFault refl refl tt in omega (arith, rose)
 
 -- no write follows a flush that failed
-reported-not_written_after : (head : Super) (window : List Entry) (report : RunReport) (before after : Seen) (w : Writer) (x : Pbn) (bytes : List ℕ) (kept : Bool)
-    → IsReported head window report (Calls (Write x bytes true) ∷ Fails w (Flush false) kept ∷ []) before after → ⊥
-reported-not_written_after head window report before after w x bytes kept reported = absurd (let goes_on = reported.stops.0 refl in cc)
+reported-not_written_after : (head : Super) (window : List Entry) (used : ℕ) (report : RunReport) (before after : Seen) (w : Writer) (x : Pbn) (bytes : List ℕ) (kept : Bool)
+    → IsReported head window used report (Calls (Write x bytes true) ∷ Fails w (Flush false) kept ∷ []) before after → ⊥
+reported-not_written_after head window used report before after w x bytes kept reported = absurd (let goes_on = reported.stops.0 refl in cc)
 
 -- Happens. Before the session the device was only read,
 happens-not_written_before : (head : Super) (window : List Entry) (moments : List Moment) (report : RunReport) (after : Seen) (opening : Blocks) (bytes : List ℕ)

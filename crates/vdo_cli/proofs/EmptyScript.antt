@@ -38,7 +38,7 @@ abbrev pub empty_report : RunReport
 empty_report = record { requests = no_requests; desk = []; marks = []; places = []; histories = [] }
 
 -- The first core over an image with this superblock and window, with this script.
-module _ (head : Super) (window : List Entry) (script : Script) where
+module _ (head : Super) (window : List Entry) (used : ℕ) (script : Script) where
   abbrev pub first_zone : ℕ → ZoneData → Zone
   first_zone number keeps = record { number = number; steps = 0; keeps = keeps; ports = record { inbox = []; outboxes = [] ∷ [] ∷ [] ∷ [] ∷ [] ∷ [] } }
 
@@ -51,7 +51,7 @@ module _ (head : Super) (window : List Entry) (script : Script) where
       ∷ first_zone 4 (at.Device (record { stopped = false; calls = 0 }))
       ∷ []
 
-  module _ (s : Session) (over : IsOver head window script s) where
+  module _ (s : Session) (over : IsOver head window used script s) where
     zones_are : s.sizes.zones ≡ 1
     zones_are = ap (λ (sizes : Sizes). sizes.zones) over.sizes_is
 
@@ -89,8 +89,8 @@ module _ (head : Super) (window : List Entry) (script : Script) where
     first_begins = record { count = omega (arith, zones_are); each = each; trace_is = refl }
 
 -- of a script without requests it is done, and the device isn't called
-pub first_done : (head : Super) (window : List Entry) → IsDone (first_zones head window no_requests)
-first_done head window = record { zone = _; desk = _; had = refl; keeps = refl; full = refl }
+pub first_done : (head : Super) (window : List Entry) (used : ℕ) → IsDone (first_zones head window used no_requests)
+first_done head window used = record { zone = _; desk = _; had = refl; keeps = refl; full = refl }
 
 pub not_called : (tells honest : Bool) (seen : Seen) → HasCalled tells honest seen seen []
 not_called tells honest seen = record {
@@ -107,39 +107,39 @@ no_request : (P : Request → Type 0) → AllByRecursion (AllByRecursion P) no_r
 no_request P = (tt, (tt, (tt, (tt, (tt, (tt, (tt, (tt, (tt, (tt, (tt, (tt, (tt, (tt, (tt, (tt, tt))))))))))))))))
 
 -- Over an image that was opened.
-module _ (tells honest : Bool) (schedule : ℕ) (head : Super) (window : List Entry) (before opened : Seen) (is_opened : IsOpened tells honest before opened head window) where
-  can : CanBegin (run_sizes head window) no_requests window
-  can = can_begin tells honest before opened head window no_requests is_opened (record { rows = refl; few = omega arith; writes = no_request HasWholeBlock }) (no_request IsServed)
+module _ (tells honest : Bool) (schedule : ℕ) (head : Super) (window : List Entry) (used : ℕ) (before opened : Seen) (is_opened : IsOpened tells honest before opened head window used) where
+  can : CanBegin (run_sizes head used) no_requests window
+  can = can_begin tells honest before opened head window used no_requests is_opened (record { rows = refl; few = omega arith; writes = no_request HasWholeBlock }) (no_request IsServed)
 
   -- a core begins and is done, tells an empty report, and calls no device
-  pub empty_driven : IsDriven tells honest schedule head window no_requests [] opened opened
+  pub empty_driven : IsDriven tells honest schedule head window used no_requests [] opened opened
   empty_driven = record {
-    first = first_zones head window no_requests;
-    last = first_zones head window no_requests;
-    begins = first_begins head window no_requests;
+    first = first_zones head window used no_requests;
+    last = first_zones head window used no_requests;
+    begins = first_begins head window used no_requests;
     events = [];
     state = schedule;
     drives = (refl, refl, refl);
-    done = first_done head window;
+    done = first_done head window used;
     leads = rests;
     called = not_called tells honest opened;
   }
 
-  pub empty_reported : IsReported head window empty_report [] opened opened
+  pub empty_reported : IsReported head window used empty_report [] opened opened
   empty_reported =
-      reported tells honest head window no_requests (first_zones head window no_requests) (first_zones head window no_requests) [] opened opened can
-      (first_begins head window no_requests) rests (first_done head window) (not_called tells honest opened)
+      reported tells honest head window used no_requests (first_zones head window used no_requests) (first_zones head window used no_requests) [] opened opened can
+      (first_begins head window used no_requests) rests (first_done head window used) (not_called tells honest opened)
 
   pub empty_happens : IsTrue tells → Happens honest head window [] empty_report before opened opened
   empty_happens =
-      happens tells honest head window no_requests (first_zones head window no_requests) (first_zones head window no_requests) [] opened opened can
-      (first_begins head window no_requests) rests (first_done head window) (not_called tells honest opened) before is_opened
+      happens tells honest head window used no_requests (first_zones head window used no_requests) (first_zones head window used no_requests) [] opened opened can
+      (first_begins head window used no_requests) rests (first_done head window used) (not_called tells honest opened) before is_opened
       (were_only_read tells honest 0 before opened _ is_opened.read.read)
 
   pub empty_plays : (source_tells : Bool) (left rest : List ℕ) → (IsTrue source_tells → (whole_script left ≡ Ok no_requests) × (first_discard left ≡ None)) → (IsTrue source_tells → rest ≡ [])
       → Plays tells honest source_tells schedule empty_report before opened left rest
   empty_plays source_tells left rest script_is whole =
-      plays tells honest head window no_requests (first_zones head window no_requests) (first_zones head window no_requests) [] opened opened can
-      (first_begins head window no_requests) rests (first_done head window) (not_called tells honest opened) before is_opened
+      plays tells honest head window used no_requests (first_zones head window used no_requests) (first_zones head window used no_requests) [] opened opened can
+      (first_begins head window used no_requests) rests (first_done head window used) (not_called tells honest opened) before is_opened
       (were_only_read tells honest 0 before opened _ is_opened.read.read) source_tells schedule schedule [] left rest
       (record { opening = refl; size = refl }) (refl, refl, refl) script_is whole

@@ -3,6 +3,7 @@ pub mod WorkedRows
 pub mod StopLaws
 pub mod SessionLaws
 pub mod ScriptLaws
+pub mod ServeLaws
 pub mod OneLaws
 pub mod EndingLaws
 pub mod OnwardLaws
@@ -15,6 +16,7 @@ pub mod AuditPins
 pub mod StatusPins
 pub mod RecoveryPins
 pub mod EmptyScript
+pub mod ServePins
 pub mod SessionPins
 pub mod DrivenPins
 pub mod ValuePins

@@ -1,15 +1,16 @@
 -- Of a device that tells, what was read is one, and so is what is wrong with it.
-use Rattle.std.proofs.Common.{ℕ, ◌≡◌, Bool, IsTrue, List, [], ◌∷◌, length, reverse, Ok, sym, ◌∙◌, ap, subst, inl, inr, arith}
+use Rattle.std.proofs.Common.{ℕ, ◌≡◌, ◌⊎◌, Bool, IsTrue, List, [], ◌∷◌, length, reverse, Ok, sym, ◌∙◌, ap, subst, inl, inr, arith}
 use Rattle.std.proofs.lemmas.List.{reverse-reverse, length-reverse}
 use Rattle.blk_base.specs.declared.geometry.Super.{Super}
 use Rattle.blk_base.specs.declared.journal_entry.Entry.{Entry}
 use Rattle.disk_model.specs.Seen.{Seen}
 use Rattle.disk_model.proofs.SinceLaws.{read_are_one}
 use Rattle.image_layout.specs.Superblock.{super_of}
-use Rattle.image_layout.specs.Window.{IsWindow, IsFaulty}
+use Rattle.image_model.specs.declared.fault.ImageFault.{ImageFault}
+use Rattle.image_model.specs.declared.fault.ImageFault.TheVariants.{Memory}
 use Rattle.image_layout.specs.declared.fault.SuperFault.{SuperFault}
-use Rattle.image_layout.proofs.WindowLaws.{window_is_one, fault_is_one, not_both}
-use Rattle.vdo_cli.specs.Openings.{IsRead, IsOpened, HasNoImage, HasFaulty}
+use Rattle.vdo_cli.specs.Openings.{CanServe, CantServe, IsRead, IsOpened, HasNoImage, HasFaulty}
+use Rattle.vdo_cli.proofs.ServeLaws.{one_reason, one_service, served_or_not}
 
 module _ (tells honest : Bool) (before now : Seen) (told : IsTrue tells) where
   same_first : (first first' : List ℕ) (journal journal' : List (List ℕ)) → reverse (first ∷ journal) ≡ reverse (first' ∷ journal') → first ∷ journal ≡ first' ∷ journal'
@@ -29,30 +30,32 @@ module _ (tells honest : Bool) (before now : Seen) (told : IsTrue tells) where
     pub journal_is : journal ≡ journal'
     journal_is = let all = front_is in cc
 
-  -- the window is one
-  pub opened_is_one : (head head' : Super) (window window' : List Entry) → IsOpened tells honest before now head window → IsOpened tells honest before now head' window' → (head ≡ head') × (window ≡ window')
-  opened_is_one head head' window window' opened opened' =
+  -- what a session is served with is one
+  pub opened_is_one : (head head' : Super) (window window' : List Entry) (used used' : ℕ) → IsOpened tells honest before now head window used → IsOpened tells honest before now head' window' used'
+      → (head ≡ head') × (window ≡ window') × (used ≡ used')
+  opened_is_one head head' window window' used used' opened opened' =
       let heads = head_is head head' opened.journal opened'.journal opened.read opened'.read in
       let journals = journal_is head head' opened.journal opened'.journal opened.read opened'.read in
-      let moved : IsWindow head.geometry head.start opened.journal window' =
-      subst (λ (journal : List (List ℕ)). IsWindow head.geometry head.start journal window') (sym journals) (subst (λ (h : Super). IsWindow h.geometry h.start opened'.journal window') (sym heads) opened'.is_window) in
-      (heads, window_is_one head.geometry head.start opened.journal window window' opened.is_window moved)
+      let moved : CanServe head opened.journal window' used' =
+      subst (λ (journal : List (List ℕ)). CanServe head journal window' used') (sym journals) (subst (λ (h : Super). CanServe h opened'.journal window' used') (sym heads) opened'.serves) in
+      let same = one_service head opened.journal window window' used used' opened.serves moved in
+      (heads, same.0, same.1)
 
-  -- and so is the faulty block
-  moved_fault : (head head' : Super) (journal journal' : List (List ℕ)) (sequence : ℕ) → head ≡ head' → journal ≡ journal' → IsFaulty head'.geometry head'.start journal' sequence → IsFaulty head.geometry head.start journal sequence
-  moved_fault head head' journal journal' sequence heads journals faulty =
-      subst (λ (blocks : List (List ℕ)). IsFaulty head.geometry head.start blocks sequence) (sym journals) (subst (λ (h : Super). IsFaulty h.geometry h.start journal' sequence) (sym heads) faulty)
+  -- and so is the reason why none is served
+  moved_cause : (head head' : Super) (journal journal' : List (List ℕ)) (why : ImageFault) → head ≡ head' → journal ≡ journal' → CantServe head' journal' why → CantServe head journal why
+  moved_cause head head' journal journal' why heads journals cause =
+      subst (λ (blocks : List (List ℕ)). CantServe head blocks why) (sym journals) (subst (λ (h : Super). CantServe h journal' why) (sym heads) cause)
 
-  pub faulty_is_one : (sequence sequence' : ℕ) → HasFaulty tells honest before now sequence → HasFaulty tells honest before now sequence' → sequence ≡ sequence'
-  faulty_is_one sequence sequence' one other =
-      fault_is_one one.head.geometry one.head.start one.journal sequence sequence' one.faulty
-      (moved_fault one.head other.head one.journal other.journal sequence' (head_is _ _ _ _ one.read other.read) (journal_is _ _ _ _ one.read other.read) other.faulty)
+  pub faulty_is_one : (why why' : ImageFault) → HasFaulty tells honest before now why → HasFaulty tells honest before now why' → (why ≡ why') ⊎ (why ≡ Memory) ⊎ (why' ≡ Memory)
+  faulty_is_one why why' one other =
+      one_reason one.head one.journal why why' one.cause
+      (moved_cause one.head other.head one.journal other.journal why' (head_is _ _ _ _ one.read other.read) (journal_is _ _ _ _ one.read other.read) other.cause)
 
-  -- a window is right or faulty
-  pub not_opened_and_faulty : (head : Super) (window : List Entry) (sequence : ℕ) → IsOpened tells honest before now head window → HasFaulty tells honest before now sequence → ⊥
-  not_opened_and_faulty head window sequence opened faulty =
-      not_both head.geometry head.start opened.journal window sequence opened.is_window
-      (moved_fault head faulty.head opened.journal faulty.journal sequence (head_is _ _ _ _ opened.read faulty.read) (journal_is _ _ _ _ opened.read faulty.read) faulty.faulty)
+  -- a journal can be served or not
+  pub not_opened_and_faulty : (head : Super) (window : List Entry) (used : ℕ) (why : ImageFault) → IsOpened tells honest before now head window used → HasFaulty tells honest before now why → why ≡ Memory
+  not_opened_and_faulty head window used why opened faulty =
+      served_or_not head opened.journal window used why opened.serves
+      (moved_cause head faulty.head opened.journal faulty.journal why (head_is _ _ _ _ opened.read faulty.read) (journal_is _ _ _ _ opened.read faulty.read) faulty.cause)
 
   -- a superblock is read or refused, for one reason
   single : (first first' : List ℕ) (journal : List (List ℕ)) → first ∷ [] ≡ reverse (first' ∷ journal) → first ≡ first'

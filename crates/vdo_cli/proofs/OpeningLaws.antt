@@ -11,11 +11,13 @@ use Rattle.disk_model.specs.Since.{WereRead}
 use Rattle.disk_model.proofs.SinceLaws.{read_on, failed_on, front_of_image}
 use Rattle.image_layout.specs.Opened.{IsHead, super_of_image}
 use Rattle.image_layout.specs.Superblock.{super_of}
-use Rattle.image_layout.specs.Window.{IsWindow, IsFaulty, journal_of}
+use Rattle.image_layout.specs.Window.{journal_of}
 use Rattle.image_layout.specs.declared.fault.SuperFault.{SuperFault}
+use Rattle.image_model.specs.declared.fault.ImageFault.{ImageFault}
+use Rattle.image_model.specs.declared.fault.ImageFault.TheVariants as image
 use Rattle.vdo_cli.specs.declared.fault.Fault.{Fault}
 use Rattle.vdo_cli.specs.declared.fault.Fault.TheVariants as fault
-use Rattle.vdo_cli.specs.Openings.{IsRead, IsOpened, HasNoImage, HasFaulty, JournalFails, OpeningFails}
+use Rattle.vdo_cli.specs.Openings.{CanServe, CantServe, IsRead, IsOpened, HasNoImage, HasFaulty, JournalFails, OpeningFails, ServingFails}
 
 module _ (tells honest : Bool) (before middle now : Seen) (head : Super) (first : List ℕ) (is_head : IsHead before.size first head) (was : WereRead tells honest 0 before middle (first ∷ [])) where
   -- the superblock and all of the journal
@@ -43,6 +45,20 @@ module _ (tells honest : Bool) (before middle now : Seen) (head : Super) (first 
   }
   journal_fails fault.Memory fails = tt
   journal_fails other fails = absurd fails
+
+-- How a journal that was read can be served, or why it can't.
+pub served_so : (tells honest : Bool) (before now : Seen) (head shown : Super) (journal same : List (List ℕ)) (window : List Entry) (used : ℕ) → IsRead tells honest before now head journal → same ≡ journal
+    → (shown ≡ head) × CanServe head same window used → IsOpened tells honest before now shown window used
+served_so tells honest before now head shown journal same window used read is serves =
+    subst (λ (h : Super). IsOpened tells honest before now h window used) (sym serves.0)
+    (record { journal = journal; read = read; serves = subst (λ (blocks : List (List ℕ)). CanServe head blocks window used) is serves.1 })
+
+pub serving_fails : (tells honest : Bool) (before now : Seen) (head : Super) (journal : List (List ℕ)) (why : Fault) → IsRead tells honest before now head journal → ServingFails head journal why
+    → OpeningFails tells honest before now why
+serving_fails tells honest before now head journal (fault.Image (image.Super why)) read cause = inr (record { head = head; journal = journal; read = read; cause = cause })
+serving_fails tells honest before now head journal (fault.Image (image.Window sequence)) read cause = record { head = head; journal = journal; read = read; cause = cause }
+serving_fails tells honest before now head journal fault.Memory read cause = tt
+serving_fails tells honest before now head journal other read cause = absurd cause
 
 -- What holds of the one image of an honest device where nothing is pending.
 
@@ -79,8 +95,13 @@ module _ (tells honest : Bool) (before now : Seen) (image : Blocks) (told : IsTr
     pub journal_is : journal_of head.geometry image ≡ journal
     journal_is = journal_behind image read.first journal head.geometry.journal front_is
 
-  pub opened_window : (head : Super) (window : List Entry) (opened : IsOpened tells honest before now head window) → IsWindow head.geometry head.start (journal_of head.geometry image) window
-  opened_window head window opened = subst (λ (journal : List (List ℕ)). IsWindow head.geometry head.start journal window) (sym (journal_is head opened.journal opened.read)) opened.is_window
+  -- and how it can be served
+  module _ (head : Super) (window : List Entry) (used : ℕ) (opened : IsOpened tells honest before now head window used) where
+    pub opened_serves : CanServe head (journal_of head.geometry image) window used
+    opened_serves = subst (λ (journal : List (List ℕ)). CanServe head journal window used) (sym (journal_is head opened.journal opened.read)) opened.serves
+
+    pub opened_count : length (journal_of head.geometry image) ≡ head.geometry.journal
+    opened_count = ap length (journal_is head opened.journal opened.read) ∙ opened.read.count
 
   -- a fault of the superblock, and one of the window
   pub says_none : (why : SuperFault) → HasNoImage tells honest before now why → super_of_image image ≡ Err why
@@ -91,9 +112,9 @@ module _ (tells honest : Bool) (before now : Seen) (image : Blocks) (told : IsTr
       empty (block ∷ blocks) count = absurd (omega arith)
   says_none why (inr (first, some, read, says)) = of_first image first [] before.size 0 (Err why) (front_read (first ∷ []) 1 read refl some) (size_is _ read) says
 
-  pub faulty_window : (sequence : ℕ) → (faulty : HasFaulty tells honest before now sequence)
-      → (super_of_image image ≡ Ok faulty.head) × IsFaulty faulty.head.geometry faulty.head.start (journal_of faulty.head.geometry image) sequence
-  faulty_window sequence faulty = (
+  pub faulty_journal : (why : ImageFault) → (faulty : HasFaulty tells honest before now why)
+      → (super_of_image image ≡ Ok faulty.head) × CantServe faulty.head (journal_of faulty.head.geometry image) why
+  faulty_journal why faulty = (
     says_head faulty.head faulty.journal faulty.read,
-    subst (λ (journal : List (List ℕ)). IsFaulty faulty.head.geometry faulty.head.start journal sequence) (sym (journal_is faulty.head faulty.journal faulty.read)) faulty.faulty,
+    subst (λ (journal : List (List ℕ)). CantServe faulty.head journal why) (sym (journal_is faulty.head faulty.journal faulty.read)) faulty.cause,
   )

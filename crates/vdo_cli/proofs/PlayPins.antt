@@ -14,7 +14,6 @@ use Rattle.disk_model.specs.Since.{reads_of, NextFailed}
 use Rattle.disk_model.proofs.SinceLaws.{reads_are_one}
 use Rattle.image_layout.specs.Opened.{IsHead}
 use Rattle.image_layout.specs.Superblock.{super_of}
-use Rattle.image_layout.specs.Window.{IsFaulty, IsWindow}
 use Rattle.image_model.specs.declared.fault.ImageFault.TheVariants as image
 use Rattle.image_layout.specs.declared.fault.SuperFault.{SuperFault}
 use Rattle.image_layout.specs.declared.fault.SuperFault.TheVariants.{NotAnImage, Version}
@@ -24,7 +23,7 @@ use Rattle.vdo_model.specs.Scripts.{Script}
 use Rattle.vdo_cli.specs.declared.fault.Fault.{Fault}
 use Rattle.vdo_cli.specs.declared.fault.Fault.TheVariants as fault
 use Rattle.vdo_cli.specs.Endings.{PlayFails}
-use Rattle.vdo_cli.specs.Openings.{IsRead, IsOpened, HasNoImage}
+use Rattle.vdo_cli.specs.Openings.{CanServe, CantServe, HasFaulty, IsRead, IsOpened, HasNoImage}
 use Rattle.vdo_cli.proofs.OneLaws.{not_opened_and_faulty, not_read_and_refused, faulty_is_one}
 
 -- a device with these opening blocks, after these calls, with these counts
@@ -106,7 +105,7 @@ module _ (block bytes : List ℕ) where
 
   -- Image, of a superblock: a device without blocks has none, for that reason alone;
   super-no_blocks : Fails (device [] [] 0 0) (device [] [] 0 0) (fault.Image (image.Super NotAnImage))
-  super-no_blocks = inl (
+  super-no_blocks = inl (inl (
     refl,
     record {
       told = λ told. refl;
@@ -116,15 +115,16 @@ module _ (block bytes : List ℕ) where
       logged = λ told. refl;
     },
     refl,
-  )
+  ))
 
   super-not_for_another_reason : Fails (device [] [] 0 0) (device [] [] 0 0) (fault.Image (image.Super (Version 9))) → ⊥
-  super-not_for_another_reason (inl (none, read, is)) = absurd cc
-  super-not_for_another_reason (inr (first, some, read, says)) = omega (arith, some)
+  super-not_for_another_reason (inl (inl (none, read, is))) = absurd cc
+  super-not_for_another_reason (inl (inr (first, some, read, says))) = omega (arith, some)
+  super-not_for_another_reason (inr faulty) = omega (arith, faulty.read.is_head.room)
 
   -- else the bytes that were read say it, and not without a read, nor of other bytes
   super-read : (why : SuperFault) → length bytes ≡ 4096 → super_of bytes 1 ≡ Err why → Fails fresh (device (block ∷ []) (Read (at 0) bytes true ∷ []) 0 0) (fault.Image (image.Super why))
-  super-read why whole says = inr (
+  super-read why whole says = inl (inr (
     bytes,
     omega arith,
     record {
@@ -135,16 +135,18 @@ module _ (block bytes : List ℕ) where
       logged = λ told. refl;
     },
     says,
-  )
+  ))
 
   super-not_unread : (why : SuperFault) → Fails fresh fresh (fault.Image (image.Super why)) → ⊥
-  super-not_unread why (inl (none, read, is)) = omega (arith, none)
-  super-not_unread why (inr (first, some, read, says)) = let is = read.logged refl in absurd cc
+  super-not_unread why (inl (inl (none, read, is))) = omega (arith, none)
+  super-not_unread why (inl (inr (first, some, read, says))) = let is = read.logged refl in absurd cc
+  super-not_unread why (inr faulty) = let some = faulty.read.is_head.sizes.journal.0 in omega (arith, faulty.read.is_head.room, some)
 
   super-not_of_other_bytes : (why : SuperFault) (head : Super) → super_of bytes 1 ≡ Ok head
       → Fails fresh (device (block ∷ []) (Read (at 0) bytes true ∷ []) 0 0) (fault.Image (image.Super why)) → ⊥
-  super-not_of_other_bytes why head is_head (inl (none, read, is)) = omega (arith, none)
-  super-not_of_other_bytes why head is_head (inr (first, some, read, says)) =
+  super-not_of_other_bytes why head is_head (inl (inl (none, read, is))) = omega (arith, none)
+  super-not_of_other_bytes why head is_head (inr faulty) = let many = faulty.read.is_head.sizes.journal.0 in omega (arith, faulty.read.is_head.room, many)
+  super-not_of_other_bytes why head is_head (inl (inr (first, some, read, says))) =
       let is = read.logged refl in
       let same : bytes ≡ first = cc in
       absurd (cc (is_head, says, ap (λ (b : List ℕ). super_of b 1) same))
@@ -189,33 +191,49 @@ module _ (honest : Bool) (before after : Seen) (head : Super) (journal : List (L
   abbrev Ends : ℕ → ℕ → Fault → Type 0
   Ends faults faults' why = PlayFails true honest true before after left faults faults' why
 
-  abbrev Right : List Entry → Type 0
-  Right window = IsWindow head.geometry head.start journal window
+  abbrev Right : List Entry → ℕ → Type 0
+  Right window used = CanServe head journal window used
 
   abbrev Wrong : ℕ → Type 0
-  Wrong sequence = IsFaulty head.geometry head.start journal sequence
+  Wrong sequence = CantServe head journal (image.Window sequence)
 
-  opened : (window : List Entry) → Right window → IsOpened true honest before after head window
-  opened window right = record { journal = journal; read = read; is_window = right }
+  opened : (window : List Entry) (used : ℕ) → Right window used → IsOpened true honest before after head window used
+  opened window used right = record { journal = journal; read = read; serves = right }
+
+  -- a journal that can be served isn't wrong
+  right_or_wrong : (other : Super) (window : List Entry) (used sequence : ℕ) → IsOpened true honest before after other window used → HasFaulty true honest before after (image.Window sequence) → ⊥
+  right_or_wrong other window used sequence is_opened faulty = absurd (let same = not_opened_and_faulty true honest before after refl other window used (image.Window sequence) is_opened faulty in cc)
+
+  -- Image, of the journal's sequences: they are used up, and not of a journal that can be served
+  sequences-used_up : (why : SuperFault) → CantServe head journal (image.Super why) → Ends 0 0 (fault.Image (image.Super why))
+  sequences-used_up why wrong = inr (record { head = head; journal = journal; read = read; cause = wrong })
+
+  sequences-not_right : (window : List Entry) (used : ℕ) (why : SuperFault) → Right window used → Ends 0 0 (fault.Image (image.Super why)) → ⊥
+  sequences-not_right window used why right (inl none) = not_read_and_refused true honest before after refl head journal why read none
+  sequences-not_right window used why right (inr faulty) =
+      absurd (let same = not_opened_and_faulty true honest before after refl head window used (image.Super why) (opened window used right) faulty in cc)
 
   -- Image, of a window: this block of it is the first faulty one, and not of a right window, nor another block
   window-faulty : (sequence : ℕ) → Wrong sequence → Ends 0 0 (fault.Image (image.Window sequence))
-  window-faulty sequence wrong = record { head = head; journal = journal; read = read; faulty = wrong }
+  window-faulty sequence wrong = record { head = head; journal = journal; read = read; cause = wrong }
 
-  window-not_right : (window : List Entry) (sequence : ℕ) → Right window → Ends 0 0 (fault.Image (image.Window sequence)) → ⊥
-  window-not_right window sequence right fails = not_opened_and_faulty true honest before after refl head window sequence (opened window right) fails
+  window-not_right : (window : List Entry) (used sequence : ℕ) → Right window used → Ends 0 0 (fault.Image (image.Window sequence)) → ⊥
+  window-not_right window used sequence right fails = right_or_wrong head window used sequence (opened window used right) fails
 
   window-not_another : (sequence other : ℕ) → Wrong sequence → sequence ≢ other → Ends 0 0 (fault.Image (image.Window other)) → ⊥
-  window-not_another sequence other wrong differ fails = differ (faulty_is_one true honest before after refl sequence other (window-faulty sequence wrong) fails)
+  window-not_another sequence other wrong differ fails = elim (faulty_is_one true honest before after refl (image.Window sequence) (image.Window other) (window-faulty sequence wrong) fails) [
+    | inl same ↦ differ cc
+    | inr memory ↦ elim memory [ inl is ↦ absurd (cc is) | inr is ↦ absurd (cc is) ]
+  ]
 
   -- Script: the window was right and this line is the first with a fault; and not where the window is faulty, where no line
   -- has a fault, or another line or fault is the first
-  script-refused : (window : List Entry) (refusal : ScriptRefusal) → Right window → whole_script left ≡ Err refusal → Ends 0 0 (fault.Script refusal)
-  script-refused window refusal right says = record { head = head; window = window; is_opened = opened window right; cause = λ told. says }
+  script-refused : (window : List Entry) (used : ℕ) (refusal : ScriptRefusal) → Right window used → whole_script left ≡ Err refusal → Ends 0 0 (fault.Script refusal)
+  script-refused window used refusal right says = record { head = head; window = window; used = used; is_opened = opened window used right; cause = λ told. says }
 
   script-not_before_the_window : (sequence : ℕ) (refusal : ScriptRefusal) → Wrong sequence → Ends 0 0 (fault.Script refusal) → ⊥
   script-not_before_the_window sequence refusal wrong fails =
-      not_opened_and_faulty true honest before after refl fails.head fails.window sequence fails.is_opened (window-faulty sequence wrong)
+      right_or_wrong fails.head fails.window fails.used sequence fails.is_opened (window-faulty sequence wrong)
 
   script-not_another : (refusal other : ScriptRefusal) → whole_script left ≡ Err refusal → refusal ≢ other → Ends 0 0 (fault.Script other) → ⊥
   script-not_another refusal other says differ fails =
@@ -231,12 +249,12 @@ module _ (honest : Bool) (before after : Seen) (head : Super) (journal : List (L
 
   -- Later: no line has a fault, and this one is the first that asks for a discard; and not where the window is faulty, where
   -- a line has a fault, another line is the first, or none asks for a discard
-  later-first : (window : List Entry) (script : Script) (line : ℕ) → Right window → whole_script left ≡ Ok script → first_discard left ≡ Some line → Ends 0 0 (fault.Later line)
-  later-first window script line right says asks = record { head = head; window = window; is_opened = opened window right; cause = λ told. ((script, says), asks) }
+  later-first : (window : List Entry) (used : ℕ) (script : Script) (line : ℕ) → Right window used → whole_script left ≡ Ok script → first_discard left ≡ Some line → Ends 0 0 (fault.Later line)
+  later-first window used script line right says asks = record { head = head; window = window; used = used; is_opened = opened window used right; cause = λ told. ((script, says), asks) }
 
   later-not_before_the_window : (sequence line : ℕ) → Wrong sequence → Ends 0 0 (fault.Later line) → ⊥
   later-not_before_the_window sequence line wrong fails =
-      not_opened_and_faulty true honest before after refl fails.head fails.window sequence fails.is_opened (window-faulty sequence wrong)
+      right_or_wrong fails.head fails.window fails.used sequence fails.is_opened (window-faulty sequence wrong)
 
   later-not_where_refused : (refusal : ScriptRefusal) (line : ℕ) → whole_script left ≡ Err refusal → Ends 0 0 (fault.Later line) → ⊥
   later-not_where_refused refusal line says fails = let said = (fails.cause refl).0.1 in absurd cc
@@ -251,15 +269,15 @@ module _ (honest : Bool) (before after : Seen) (head : Super) (journal : List (L
   later-not_without_a_discard line asks fails = let said = (fails.cause refl).1 in absurd cc
 
   -- Read: the window was right and the source's count rose; and not where the window is faulty, or no count rose
-  read-failed : (window : List Entry) → Right window → Ends 0 1 fault.Read
-  read-failed window right = record { head = head; window = window; is_opened = opened window right; cause = omega arith }
+  read-failed : (window : List Entry) (used : ℕ) → Right window used → Ends 0 1 fault.Read
+  read-failed window used right = record { head = head; window = window; used = used; is_opened = opened window used right; cause = omega arith }
 
   read-not_without_rise : Ends 3 3 fault.Read → ⊥
   read-not_without_rise fails = omega (arith, fails.cause)
 
   read-not_before_the_window : (sequence : ℕ) → Wrong sequence → Ends 0 1 fault.Read → ⊥
   read-not_before_the_window sequence wrong fails =
-      not_opened_and_faulty true honest before after refl fails.head fails.window sequence fails.is_opened (window-faulty sequence wrong)
+      right_or_wrong fails.head fails.window fails.used sequence fails.is_opened (window-faulty sequence wrong)
 
   -- Memory: free. Usage, Sink: never
   memory-free : Ends 0 0 fault.Memory

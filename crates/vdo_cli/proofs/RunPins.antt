@@ -133,8 +133,11 @@ device-not_without_rise ends = omega (arith, ends.cause.failed.rose)
 
 image-not_unread : Ends run_words begins (with [] [] (codes "bad image: not an image\n") 0) 4 no_report (Some (fault.Image (image.Super NotAnImage))) → ⊥
 image-not_unread ends = elim ends.cause [
-  | inl (none, read, is) ↦ omega (arith, none)
-  | inr (first, some, read, says) ↦ let size = ap length (read.logged refl) in omega (arith, size)
+  | inl none ↦ elim none [
+    | inl (empty, read, is) ↦ omega (arith, empty)
+    | inr (first, some, read, says) ↦ let size = ap length (read.logged refl) in omega (arith, size)
+  ]
+  | inr faulty ↦ let many = faulty.read.is_head.sizes.journal.0 in omega (arith, faulty.read.is_head.room, many)
 ]
 
 faults-not_other_words : (after : Outside) (status : ℕ) (report : RunReport) (why : Fault) → Ends [] begins after status report (Some why) → why ≡ fault.Usage

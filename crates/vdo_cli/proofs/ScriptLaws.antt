@@ -43,9 +43,9 @@ every_reverse : {X : Type 0} (P : X → Type 0) (xs : List X) → AllByRecursion
 every_reverse P [] all = tt
 every_reverse P (x ∷ xs) all = let parts = every-front P (reverse xs) (x ∷ []) (subst (AllByRecursion P) (reverse_onto xs x []) all) in (parts.1.0, every_reverse P xs parts.0)
 
-pub can_begin : (tells honest : Bool) (before now : Seen) (head : Super) (window : List Entry) (script : Script) → IsOpened tells honest before now head window → IsWholeScript script
-    → AllByRecursion (AllByRecursion IsServed) script → CanBegin (run_sizes head window) script window
-can_begin tells honest before now head window script opened whole served = record {
+pub can_begin : (tells honest : Bool) (before now : Seen) (head : Super) (window : List Entry) (used : ℕ) (script : Script) → IsOpened tells honest before now head window used → IsWholeScript script
+    → AllByRecursion (AllByRecursion IsServed) script → CanBegin (run_sizes head used) script window
+can_begin tells honest before now head window used script opened whole served = record {
   geometry = opened.read.is_head.sizes;
   start = opened.read.is_head.start;
   zones = omega arith;
@@ -56,9 +56,12 @@ can_begin tells honest before now head window script opened whole served = recor
     zones = omega arith;
   };
   served = served;
-  opened = refl;
   journal = opened.journal;
   count = opened.read.count;
   whole = (every_reverse (λ block. length block ≡ 4096) (opened.read.first ∷ opened.journal) (given_whole tells honest 0 before _ opened.read.read.given)).1;
-  is_window = opened.is_window;
+  last = opened.serves.found.last;
+  committed = opened.serves.found.entries;
+  is_window = opened.serves.is_window.is_window;
+  window_is = opened.serves.mapped.0;
+  opened = opened.serves.used_is;
 }

@@ -1,6 +1,6 @@
 -- What a session did, from what its core, its schedule and its report say.
 use Rattle.std.proofs.Common.{ℕ, ◌≡◌, ◌≤◌, ◌++◌, Bool, true, IsTrue, List, [], ◌∷◌, length, reverse, Some, None, Ok, refl, sym, ◌∙◌, ap, subst, arith, inl, inr}
-use Rattle.std.proofs.lemmas.List.{append-nil, length-reverse}
+use Rattle.std.proofs.lemmas.List.{append-nil}
 use Rattle.std.specs.List.{AllByRecursion}
 use Rattle.blk_base.specs.Regions.{needed_blocks}
 use Rattle.blk_base.specs.declared.geometry.Super.{Super}
@@ -21,8 +21,8 @@ use Rattle.disk_model.proofs.OneImageLaws.{one_image-unique}
 use Rattle.disk_model.proofs.SeenLaws.{stays_on}
 use Rattle.disk_model.proofs.SinceLaws.{image_since}
 use Rattle.image_layout.specs.Opened.{super_of_image}
-use Rattle.image_layout.specs.Window.{IsWindow, journal_of, value_of}
-use Rattle.image_layout.proofs.WindowLaws.{written_few}
+use Rattle.image_layout.specs.Window.{journal_of, value_of}
+use Rattle.image_model.specs.Windows.{IsOfImage}
 use Rattle.core_model.specs.declared.sizes.Sizes.{Sizes}
 use Rattle.core_model.specs.declared.zones.Zone.{Zone}
 use Rattle.core_model.specs.Legal.{Legal}
@@ -43,6 +43,7 @@ use Rattle.vdo_core.specs.FreeBlocks.{free_of}
 use Rattle.vdo_core.specs.Plays.{core_with}
 use Rattle.vdo_core.specs.Done.{IsDone}
 use Rattle.vdo_core.proofs.DoneLaws.{answered_when_done}
+use Rattle.vdo_core.proofs.JournalLaws.{sealed_from, stands, window_of_image}
 use Rattle.vdo_core.proofs.SessionLaws.{imagined, is_of, is_session}
 use Rattle.vdo_core.proofs.FreeLaws.{free_distinct, free_fresh}
 use Rattle.vdo_model.specs.DeskLog.{AllAnswered, answer_of}
@@ -62,9 +63,9 @@ use Rattle.vdo_cli.proofs.ScriptLaws.{can_begin}
 use Rattle.vdo_core.specs.declared.events.Event.{Event}
 use Rattle.stream_text.specs.WholeScript.{first_discard, whole_script}
 use Rattle.vdo_cli.specs.Endings.{Plays}
-use Rattle.vdo_cli.specs.Openings.{IsOpened}
+use Rattle.vdo_cli.specs.Openings.{CanServe, IsOpened}
 use Rattle.vdo_cli.specs.Stops.{Happens, OpensWith}
-use Rattle.vdo_cli.proofs.OpeningLaws.{opened_window, says_head}
+use Rattle.vdo_cli.proofs.OpeningLaws.{opened_count, opened_serves, says_head}
 use Rattle.vdo_cli.proofs.StopLaws.{same_super, some_blocks}
 
 -- what happened before a happening, of a right trace
@@ -148,23 +149,23 @@ reads_behind (Write at bytes ok ∷ newer) older reads = absurd reads
 reads_behind (Flush ok ∷ newer) older reads = absurd reads
 
 -- A core that began over what was read, and came to its end.
-module _ (tells honest : Bool) (head : Super) (window : List Entry) (script : Script) (first last : List Zone) (trace : Trace) (before after : Seen)
-    (can : CanBegin (run_sizes head window) script window) (begins : (s : Session) → IsOver head window script s → IsFirst s (core_with first []))
-    (leads : Leads (run_sizes head window) (core_with first []) (core_with last trace)) (done : IsDone last) (called : HasCalled tells honest before after trace) where
+module _ (tells honest : Bool) (head : Super) (window : List Entry) (used : ℕ) (script : Script) (first last : List Zone) (trace : Trace) (before after : Seen)
+    (can : CanBegin (run_sizes head used) script window) (begins : (s : Session) → IsOver head window used script s → IsFirst s (core_with first []))
+    (leads : Leads (run_sizes head used) (core_with first []) (core_with last trace)) (done : IsDone last) (called : HasCalled tells honest before after trace) where
   -- it is legal, of each session over that
-  legal_over : (s : Session) → IsSession s → IsOver head window script s → Legal s (core_with last trace)
+  legal_over : (s : Session) → IsSession s → IsOver head window used script s → Legal s (core_with last trace)
   legal_over s session over =
       legal_leads s (core_with first []) (core_with last trace) session (subst (λ (sizes : Sizes). Leads sizes (core_with first []) (core_with last trace)) (sym over.sizes_is) leads)
       (legal_first s (core_with first []) (begins s over) session)
 
   abbrev over : Session
-  over = imagined (run_sizes head window) script window can
+  over = imagined (run_sizes head used) script window can
 
   pub session : IsSession over
-  session = is_session (run_sizes head window) script window can
+  session = is_session (run_sizes head used) script window can
 
   pub legal : Legal over (core_with last trace)
-  legal = legal_over over session (is_of (run_sizes head window) script window can)
+  legal = legal_over over session (is_of (run_sizes head used) script window can)
 
   pub answered : AllAnswered script (lines trace)
   answered = answered_when_done over (core_with last trace) legal done
@@ -173,10 +174,10 @@ module _ (tells honest : Bool) (head : Super) (window : List Entry) (script : Sc
   abbrev pub report : RunReport
   report = report_of over trace
 
-  pub reported : IsReported head window report trace before after
+  pub reported : IsReported head window used report trace before after
   reported = record {
     session = over;
-    is_over = is_of (run_sizes head window) script window can;
+    is_over = is_of (run_sizes head used) script window can;
     report_is = refl;
     run_right = run_right over trace session legal.right answered;
     causes = λ newer older w r a is asked. (right_at over newer older (Says (line.Answer w a)) (subst (RightTrace over) is legal.right)).1 r asked;
@@ -186,14 +187,16 @@ module _ (tells honest : Bool) (head : Super) (window : List Entry) (script : Sc
 
   -- of an honest device, over the one image that there was
   module _ (image : Blocks) (told : IsTrue tells) (fair : IsTrue honest) (room : needed_blocks head.geometry ≤ length before.opening)
-      (one : HasOneImage before.opening before.log image) (is_window : IsWindow head.geometry head.start (journal_of head.geometry image) window) where
+      (one : HasOneImage before.opening before.log image) (count : length (journal_of head.geometry image) ≡ head.geometry.journal)
+      (serves : CanServe head (journal_of head.geometry image) window used) where
     abbrev real : Session
     real = record {
-      sizes = run_sizes head window;
+      sizes = run_sizes head used;
       script = script;
       blocks = before.opening;
       before = before.log;
       image = image;
+      sealed = sealed_from image head.geometry head.start serves.found.last serves.found.entries can.start.0 count serves.is_window.is_window used serves.used_is;
       window = window;
       free = free_of head.geometry window;
     }
@@ -207,9 +210,9 @@ module _ (tells honest : Bool) (head : Super) (window : List Entry) (script : Sc
       room = room;
       served = can.served;
       one_image = one;
-      is_window = is_window;
-      opened = refl;
-      few = written_few head.geometry head.start (journal_of head.geometry image) window (omega (arith, can.geometry.journal.0)) is_window.written;
+      journal = stands real serves.found.last serves.found.entries can.start.0 count serves.is_window.is_window serves.mapped.0 serves.used_is refl;
+      of_image = subst (AllByRecursion (IsOfImage head.geometry)) (sym serves.mapped.0)
+          (window_of_image head.geometry head.start serves.found.last (journal_of head.geometry image) serves.found.entries serves.is_window.is_window);
       free = free_fresh head.geometry can.geometry real refl;
       distinct = free_distinct head.geometry can.geometry window;
     }
@@ -230,7 +233,7 @@ module _ (tells honest : Bool) (head : Super) (window : List Entry) (script : Sc
         )
 
   -- what was read before it, and what a stop within these reads leaves
-  module _ (start : Seen) (opened : IsOpened tells honest start before head window) (untouched : IsUntouched tells start before) where
+  module _ (start : Seen) (opened : IsOpened tells honest start before head window used) (untouched : IsUntouched tells start before) where
     -- the device has the blocks of the image
     has_blocks : IsTrue tells → needed_blocks head.geometry ≤ length before.opening
     has_blocks told = rw untouched.stays.opening (let count = opened.read.read.told told in omega (arith, opened.read.is_head.room, count))
@@ -250,17 +253,19 @@ module _ (tells honest : Bool) (head : Super) (window : List Entry) (script : Sc
           lines = refl;
           calls = called.log told;
           flushes = marks_right over trace session legal.right;
-          stops = λ fair image one. rw (← untouched.stays.opening) (stops_of_image image told fair (has_blocks told) (of_start image one) (opened_window tells honest start before image told fair one head window opened)
+          stops = λ fair image one. rw (← untouched.stays.opening) (stops_of_image image told fair (has_blocks told) (of_start image one) (opened_count tells honest start before image told fair one head window used opened)
+              (opened_serves tells honest start before image told fair one head window used opened)
               (says_head tells honest start before image told fair one head opened.journal opened.read));
         }
 
     pub plays : (source_tells : Bool) (schedule state : ℕ) (events : List Event) (left rest : List ℕ) → Stays before after
-        → Drives tells honest (run_sizes head window) schedule state events first last before after
+        → Drives tells honest (run_sizes head used) schedule state events first last before after
         → (IsTrue source_tells → (whole_script left ≡ Ok script) × (first_discard left ≡ None)) → (IsTrue source_tells → rest ≡ [])
         → Plays tells honest source_tells schedule report start after left rest
     plays source_tells schedule state events left rest stays drives script_is whole = record {
       head = head;
       window = window;
+      used = used;
       opened = before;
       is_opened = opened;
       script_is = script_is;
@@ -281,34 +286,34 @@ module _ (tells honest : Bool) (head : Super) (window : List Entry) (script : Sc
       stays = stays_on start before after untouched.stays stays;
       reads_right = λ told fair image one.
           reads_of_image image told fair (has_blocks told) (rw untouched.stays.opening (image_since start.opening start.log before.log image (untouched.reads told) one))
-          (opened_window tells honest start before image told fair one head window opened);
+          (opened_count tells honest start before image told fair one head window used opened) (opened_serves tells honest start before image told fair one head window used opened);
       happens = happens;
     }
 
 -- what a core did that began with what was read, was driven to its end, and told its report
-pub played : (tells honest source_tells : Bool) (number state : ℕ) (head : Super) (entries : List Entry) (script : Script) (sizes : Sizes) (first last : List Zone) (start before after : Seen) (left rest : List ℕ)
-    (report : RunReport) → IsOpened tells honest start before head (reverse entries) → IsUntouched tells start before → IsWholeScript script → AllByRecursion (AllByRecursion IsServed) script
-    → sizes ≡ sizes_of run_setup head (length entries)
+pub played : (tells honest source_tells : Bool) (number state : ℕ) (head : Super) (entries : List Entry) (used : ℕ) (script : Script) (sizes : Sizes) (first last : List Zone) (start before after : Seen) (left rest : List ℕ)
+    (report : RunReport) → IsOpened tells honest start before head (reverse entries) used → IsUntouched tells start before → IsWholeScript script → AllByRecursion (AllByRecursion IsServed) script
+    → sizes ≡ sizes_of run_setup head used
     → ((s : Session) → IsOf s sizes script (reverse entries) (free_of head.geometry (reverse entries)) → IsFirst s (core_with first []))
     → ((events : List Event) × Drives tells honest sizes number state events first last before after) → IsDone last → Stays before after
     → (IsTrue source_tells → (whole_script left ≡ Ok script) × (first_discard left ≡ None)) → (IsTrue source_tells → rest ≡ [])
     → ((s : Session) (t : Trace) → IsSession s → Legal s (core_with last t) → IsDone last → report ≡ report_of s t)
     → Plays tells honest source_tells number report start after left rest × (report.requests ≡ script)
-played tells honest source_tells number state head entries script sizes first last start before after left rest report opened untouched shape served sizes_are begins driven done stays script_is whole says =
+played tells honest source_tells number state head entries used script sizes first last start before after left rest report opened untouched shape served sizes_are begins driven done stays script_is whole says =
     let window = reverse entries in
-    let sized : sizes ≡ run_sizes head window = sizes_are ∙ ap (λ (n : ℕ). sizes_of run_setup head n) (sym (length-reverse entries)) in
-    let can = can_begin tells honest start before head window script opened shape served in
-    let begins_so = (λ (s : Session) (over : IsOver head window script s). begins s (rw sized over)) in
+    let sized : sizes ≡ run_sizes head used = sizes_are in
+    let can = can_begin tells honest start before head window used script opened shape served in
+    let begins_so = (λ (s : Session) (over : IsOver head window used script s). begins s (rw sized over)) in
     let (events, drives_so) = driven in
-    let drives : Drives tells honest (run_sizes head window) number state events first last before after =
+    let drives : Drives tells honest (run_sizes head used) number state events first last before after =
     subst (λ (z : Sizes). Drives tells honest z number state events first last before after) sized drives_so in
-    let (made, leads_on, called) = driven_leads tells honest (run_sizes head window) number state events first last before after drives in
-    let leads : Leads (run_sizes head window) (core_with first []) (core_with last made) =
-    subst (λ (t : Trace). Leads (run_sizes head window) (core_with first []) (core_with last t)) (append-nil made) (leads_on []) in
-    let report_is = says (over tells honest head window script first last made before after can begins_so leads done called) made
-    (session tells honest head window script first last made before after can begins_so leads done called)
-    (legal tells honest head window script first last made before after can begins_so leads done called) done in (
+    let (made, leads_on, called) = driven_leads tells honest (run_sizes head used) number state events first last before after drives in
+    let leads : Leads (run_sizes head used) (core_with first []) (core_with last made) =
+    subst (λ (t : Trace). Leads (run_sizes head used) (core_with first []) (core_with last t)) (append-nil made) (leads_on []) in
+    let report_is = says (over tells honest head window used script first last made before after can begins_so leads done called) made
+    (session tells honest head window used script first last made before after can begins_so leads done called)
+    (legal tells honest head window used script first last made before after can begins_so leads done called) done in (
       subst (λ (r : RunReport). Plays tells honest source_tells number r start after left rest) (sym report_is)
-          (plays tells honest head window script first last made before after can begins_so leads done called start opened untouched source_tells number state events left rest stays drives script_is whole),
+          (plays tells honest head window used script first last made before after can begins_so leads done called start opened untouched source_tells number state events left rest stays drives script_is whole),
       ap (λ (r : RunReport). r.requests) report_is,
     )

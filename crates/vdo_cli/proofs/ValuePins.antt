@@ -9,8 +9,11 @@ use Rattle.disk_model.specs.declared.call.Call.{Call}
 use Rattle.disk_model.specs.Images.{HasOneImage, IsImage}
 use Rattle.disk_model.specs.Log.{Blocks}
 use Rattle.disk_model.specs.Seen.{Seen}
-use Rattle.image_layout.specs.Window.{IsWindow, journal_of, value_of}
-use Rattle.image_layout.proofs.WindowLaws.{window_is_one}
+use Rattle.blk_base.specs.declared.journal_entry.CommittedEntry.{CommittedEntry}
+use Rattle.core_model.specs.Sessions.{said_by}
+use Rattle.image_layout.specs.Window.{journal_of, value_of}
+use Rattle.image_model.specs.Windows.{IsWindow}
+use Rattle.image_model.proofs.WindowLaws.{one_window}
 use Rattle.core_model.specs.Trace.{calls}
 use Rattle.stop_laws.proofs.HistoryLaws.{length_at_within}
 use Rattle.stream_text.specs.Texts.{answers_text}
@@ -21,12 +24,13 @@ use Rattle.vdo_model.specs.declared.report.HistoryEntry.{HistoryEntry}
 use Rattle.vdo_model.specs.declared.report.Mark.TheVariants.{Settled}
 use Rattle.vdo_model.specs.declared.report.RunReport.{RunReport}
 use Rattle.vdo_model.proofs.Example.{address, of_a, placed, entry, block, blocks_tell}
-use Rattle.vdo_cli.specs.Openings.{IsOpened}
+use Rattle.vdo_cli.specs.Openings.{CanServe, IsOpened}
 use Rattle.vdo_cli.specs.Outsides.{Outside, outside, setting}
 use Rattle.vdo_cli.specs.Runs.{EndsSo}
 use Rattle.vdo_cli.proofs.CommandPins.{run_words}
 use Rattle.vdo_cli.proofs.EmptyScript.{empty_plays, empty_report}
-use Rattle.vdo_cli.proofs.OpeningLaws.{opened_window, says_head}
+use Rattle.vdo_cli.proofs.OpeningLaws.{opened_serves, says_head}
+use Rattle.vdo_cli.proofs.ServeLaws.{one_service}
 
 -- A run of a session that was served, over a source with these bytes left, where all of the outside tells and the device
 -- is honest.
@@ -60,23 +64,23 @@ write_report calls = record {
 }
 
 -- A device has this image and nothing is pending on it, and it was opened: address 1 has block 11 there.
-module _ (before opened : Seen) (head : Super) (window : List Entry) (is_opened : IsOpened true true before opened head window)
+module _ (before opened : Seen) (head : Super) (window : List Entry) (used : ℕ) (is_opened : IsOpened true true before opened head window used)
     (image : Blocks) (one : HasOneImage before.opening before.log image) (has_value : value_of image window 1 ≡ block 11)
     (below : 1 < head.geometry.logical) where
   -- what was read of it is what the image has
-  same_window : (opened' : Seen) (head' : Super) (window' : List Entry) → IsOpened true true before opened' head' window' → (head ≡ head') × (window ≡ window')
-  same_window opened' head' window' is_opened' =
+  same_window : (opened' : Seen) (head' : Super) (window' : List Entry) (used' : ℕ) → IsOpened true true before opened' head' window' used' → (head ≡ head') × (window ≡ window')
+  same_window opened' head' window' used' is_opened' =
       let says = says_head true true before opened image refl refl one head is_opened.journal is_opened.read in
       let says' = says_head true true before opened' image refl refl one head' is_opened'.journal is_opened'.read in
       let heads : head ≡ head' = cc (says, says') in
-      let is = opened_window true true before opened image refl refl one head window is_opened in
-      let is' = opened_window true true before opened' image refl refl one head' window' is_opened' in
-      (heads, window_is_one head.geometry head.start (journal_of head.geometry image) window window' is (subst (λ (h : Super). IsWindow h.geometry h.start (journal_of h.geometry image) window') (sym heads) is'))
+      let is = opened_serves true true before opened image refl refl one head window used is_opened in
+      let is' = opened_serves true true before opened' image refl refl one head' window' used' is_opened' in
+      (heads, (one_service head (journal_of head.geometry image) window window' used used' is (subst (λ (h : Super). CanServe h (journal_of h.geometry image) window' used') (sym heads) is')).0)
 
   -- a session that was served says nothing else of it, here that of no request
   served-empty : Served before [] (outside opened [] 0 (answers_text empty_report.requests [] []) 0) empty_report
   served-empty = record {
-    session = empty_plays true true 0 head window before opened is_opened true [] [] (λ told. (refl, refl)) (λ told. refl);
+    session = empty_plays true true 0 head window used before opened is_opened true [] [] (λ told. (refl, refl)) (λ told. refl);
     closes = (refl, λ told. refl);
   }
 
@@ -84,25 +88,25 @@ module _ (before opened : Seen) (head : Super) (window : List Entry) (is_opened 
   reads_right-not_another_block : (left : List ℕ) (after : Outside) → Served before left after (read_report 10) → ⊥
   reads_right-not_another_block left after ends =
       let it = ends.session in
-      let windows = (same_window it.opened it.head it.window it.is_opened).1 in
+      let windows = (same_window it.opened it.head it.window it.used it.is_opened).1 in
       let value : value_of image it.window 1 ≡ block 11 = ap (λ (entries : List Entry). value_of image entries 1) (sym windows) ∙ has_value in
       let right : block 10 ≡ value_of image it.window 1 = it.reads_right refl refl image one (of_a 0) (address 1) (block 10) (placed (of_a 0) 0 0) refl refl refl in
       let bytes = blocks_tell 10 11 (right ∙ value) in
       omega (arith, bytes)
 
   -- stops: a write was answered, and a flush behind it. A stop behind that flush leaves the address no older block
-  stops-not_an_older_block : (count : ℕ) (left : List ℕ) (after : Outside) (other : Blocks) (entries : List Entry) → IsImage before.opening after.device.log other
-      → IsWindow head.geometry head.start (journal_of head.geometry other) entries → value_of other entries 1 ≡ block 11 → Served before left after (write_report count) → ⊥
-  stops-not_an_older_block count left after other entries is_image is_window older ends =
+  stops-not_an_older_block : (count : ℕ) (left : List ℕ) (after : Outside) (other : Blocks) (last : ℕ) (entries : List CommittedEntry) → IsImage before.opening after.device.log other
+      → IsWindow head.geometry head.start (journal_of head.geometry other) last entries → value_of other (said_by entries) 1 ≡ block 11 → Served before left after (write_report count) → ⊥
+  stops-not_an_older_block count left after other last entries is_image is_window older ends =
       let it = ends.session in
-      let heads = (same_window it.opened it.head it.window it.is_opened).0 in
+      let heads = (same_window it.opened it.head it.window it.used it.is_opened).0 in
       let happened = it.happens refl in
       let since = calls it.trace in
       let stop = happened.stops refl image one [] since refl other (subst (λ (log : List Call). IsImage before.opening log other) happened.calls is_image) in
       let has = stop.1.has_values in
-      let windows : has.window ≡ entries = window_is_one head.geometry head.start (journal_of head.geometry other) has.window entries
-      (subst (λ (h : Super). IsWindow h.geometry h.start (journal_of h.geometry other) has.window) (sym heads) has.is_window) is_window in
-      let value : stop.0 1 ≡ block 11 = ap (λ (values : ℕ → List ℕ). values 1) has.values_are ∙ ap (λ (es : List Entry). value_of other es 1) windows ∙ older in
+      let windows : has.window ≡ entries = (one_window head.geometry head.start (journal_of head.geometry other) has.last last has.window entries
+      (subst (λ (h : Super). IsWindow h.geometry h.start (journal_of h.geometry other) has.last has.window) (sym heads) has.is_window) is_window).1 in
+      let value : stop.0 1 ≡ block 11 = ap (λ (values : ℕ → List ℕ). values 1) has.values_are ∙ ap (λ (es : List CommittedEntry). value_of other (said_by es) 1) windows ∙ older in
       let may = stop.2 1 (subst (λ (h : Super). 1 < h.geometry.logical) heads below) in
       of_part _ may.newer may.shown may.part (sym value ∙ may.value_is) (may.flushed.0 (length_at_within since count))
     where

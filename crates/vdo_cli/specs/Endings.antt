@@ -20,18 +20,19 @@ use Rattle.vdo_cli.specs.Stops.{Happens}
 
 -- what a session did, from the superblock on
 pub record Plays (tells honest source_tells : Bool) (schedule : ℕ) (report : RunReport) (before after : Seen) (left rest : List ℕ) : Type 0 where
-  -- the superblock and the window that were read, and what the device was then
+  -- the superblock and the window that were read, how many blocks of the journal are used, and what the device was then
   pub head : Super
   pub window : List Entry
+  pub used : ℕ
   pub opened : Seen
-  pub is_opened : IsOpened tells honest before opened head window
+  pub is_opened : IsOpened tells honest before opened head window used
   -- the requests are those of the script, which was read to its end
   pub script_is : IsTrue source_tells → (whole_script left ≡ Ok report.requests) × (first_discard left ≡ None)
   pub to_its_end : IsTrue source_tells → rest ≡ []
   -- a core served them by the schedule from then on
   pub trace : Trace
-  pub driven : IsDriven tells honest schedule head window report.requests trace opened after
-  pub reported : IsReported head window report trace opened after
+  pub driven : IsDriven tells honest schedule head window used report.requests trace opened after
+  pub reported : IsReported head window used report trace opened after
   pub stays : Stays before after
   -- before the first write of an address in the session, a read of it gives its value in the image that was opened
   pub reads_right : IsTrue tells → IsTrue honest → (image : Blocks) → HasOneImage before.opening before.log image
@@ -43,7 +44,8 @@ pub record Plays (tells honest source_tells : Bool) (schedule : ℕ) (report : R
 pub record FailsOpened (tells honest : Bool) (before after : Seen) (Cause : Type 0) : Type 0 where
   pub head : Super
   pub window : List Entry
-  pub is_opened : IsOpened tells honest before after head window
+  pub used : ℕ
+  pub is_opened : IsOpened tells honest before after head window used
   pub cause : Cause
 
 -- why a script can't be served

@@ -1,5 +1,5 @@
 -- What a session did: a core began over the image that was opened, and a schedule led it to its end.
-use Rattle.std.specs.Prelude.{ℕ, ◌≡◌, ◌++◌, ◌∷◌, [], Bool, List, Some, length}
+use Rattle.std.specs.Prelude.{ℕ, ◌≡◌, ◌++◌, ◌∷◌, [], Bool, List, Some}
 use Rattle.blk_base.specs.declared.geometry.Super.{Super}
 use Rattle.blk_base.specs.declared.journal_entry.Entry.{Entry}
 use Rattle.blk_base.specs.declared.request.Answer.{Answer as Reply}
@@ -31,25 +31,25 @@ use Rattle.vdo_model.specs.declared.report.DeskLine.TheVariants as line
 use Rattle.vdo_model.specs.declared.report.RunReport.{RunReport}
 use Rattle.vdo_cli.specs.Commands.{run_setup}
 
--- the sizes of a session over an image with this superblock and window
-abbrev pub run_sizes : Super → List Entry → Sizes
-run_sizes head window = sizes_of run_setup head (length window)
+-- the sizes of a session over an image with this superblock, of whose journal so many blocks are used
+abbrev pub run_sizes : Super → ℕ → Sizes
+run_sizes head used = sizes_of run_setup head used
 
 -- a session over such an image, with this script: all its data blocks that the window doesn't name are free
-abbrev pub IsOver : Super → List Entry → Script → Session → Type 0
-IsOver head window script s = IsOf s (run_sizes head window) script window (free_of head.geometry window)
+abbrev pub IsOver : Super → List Entry → ℕ → Script → Session → Type 0
+IsOver head window used script s = IsOf s (run_sizes head used) script window (free_of head.geometry window)
 
 -- A core began with the script over an image with this superblock and window, the turns of a schedule led it to its end, and
 -- this is what happened on the way, with what was seen of the device before and after.
-pub record IsDriven (tells honest : Bool) (schedule : ℕ) (head : Super) (window : List Entry) (script : Script) (trace : Trace) (before after : Seen) : Type 0 where
+pub record IsDriven (tells honest : Bool) (schedule : ℕ) (head : Super) (window : List Entry) (used : ℕ) (script : Script) (trace : Trace) (before after : Seen) : Type 0 where
   pub first : List Zone
   pub last : List Zone
-  pub begins : (s : Session) → IsOver head window script s → IsFirst s (core_with first [])
+  pub begins : (s : Session) → IsOver head window used script s → IsFirst s (core_with first [])
   pub events : List Event
   pub state : ℕ
-  pub drives : Drives tells honest (run_sizes head window) schedule state events first last before after
+  pub drives : Drives tells honest (run_sizes head used) schedule state events first last before after
   pub done : IsDone last
-  pub leads : Leads (run_sizes head window) (core_with first []) (core_with last trace)
+  pub leads : Leads (run_sizes head used) (core_with first []) (core_with last trace)
   pub called : HasCalled tells honest before after trace
 
 -- an answer that only a failed call of the device explains
@@ -60,9 +60,9 @@ HasFault other = ⊥
 
 -- Of what happened the report tells, and it is right: every request is answered, by the desk log, the places and the
 -- histories that belong to it, and each answer has its cause in what happened before.
-pub record IsReported (head : Super) (window : List Entry) (report : RunReport) (trace : Trace) (before after : Seen) : Type 0 where
+pub record IsReported (head : Super) (window : List Entry) (used : ℕ) (report : RunReport) (trace : Trace) (before after : Seen) : Type 0 where
   pub session : Session
-  pub is_over : IsOver head window report.requests session
+  pub is_over : IsOver head window used report.requests session
   pub report_is : report ≡ report_of session trace
   pub run_right : RunRight 1 1 head.geometry.logical (progress_of trace) report.requests report.desk report.places report.histories
   pub causes : (newer older : Trace) (w : Writer) (r : Request) (a : Reply) → trace ≡ newer ++ Says (line.Answer w a) ∷ older

@@ -7,7 +7,8 @@ use Rattle.disk_model.specs.Images.{HasOneImage, IsImage}
 use Rattle.disk_model.specs.Log.{Blocks}
 use Rattle.disk_model.specs.Seen.{Seen}
 use Rattle.disk_model.specs.Since.{OnlyReads}
-use Rattle.image_layout.specs.Opened.{HasValues, super_of_image}
+use Rattle.core_model.specs.Reports.{GivesValues}
+use Rattle.image_layout.specs.Opened.{super_of_image}
 use Rattle.image_layout.specs.Window.{value_of}
 use Rattle.vdo_model.specs.declared.report.RunReport.{RunReport}
 use Rattle.vdo_model.specs.FlushMarks.{Moment, lines_of, calls_of, AreFlushMarks}
@@ -16,7 +17,7 @@ use Rattle.vdo_model.specs.Stops.{RightAfterStops}
 -- an image can be opened with this superblock, and then its addresses have these values
 pub record OpensWith (head : Super) (image : Blocks) (values : ℕ → List ℕ) : Type 0 where
   pub superblock : super_of_image image ≡ Ok head
-  pub has_values : HasValues head.geometry head.start image values
+  pub has_values : GivesValues head.geometry head.start image values
 
 -- What happened in a run: the superblock and the window were read, and then the session went on, of which these are the
 -- moments.

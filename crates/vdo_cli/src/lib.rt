@@ -7,6 +7,7 @@ mod fault;
 mod inspecting;
 mod laws;
 mod making;
+mod mapped;
 mod opening;
 mod playing;
 mod recovering;

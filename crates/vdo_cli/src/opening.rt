@@ -1,20 +1,27 @@
-ghost use Rattle.std.specs.Prelude.{◌≡◌, ◌≤◌, ◌∷◌, [], ℕ, List, IfOk, IfErr, reverse, vec_len};
+ghost use Rattle.std.specs.Prelude.{◌≡◌, ◌≤◌, ◌<◌, ◌∷◌, ◌^◌, [], ℕ, List, IfOk, IfErr, length, reverse, vec_len};
+ghost use Rattle.blk_base.specs.Limits.{IsGeometry};
 ghost use Rattle.blk_base.specs.Regions.{needed_blocks};
 ghost use Rattle.disk_model.specs.Since.{IsUntouched, WereRead};
 ghost use Rattle.image_layout.specs.Opened.{IsHead};
-ghost use Rattle.vdo_cli.specs.Openings.{IsOpened, OpeningFails, JournalFails};
+ghost use Rattle.vdo_cli.specs.Openings.{CanServe, IsOpened, OpeningFails, JournalFails, ServingFails};
 
 use crate::Fault;
+use crate::inspecting::fault_of;
+use crate::mapped::mapped_entries;
 use blk_base::{Block, Entry, Layout, Pbn, Super};
 use disk_model::Disk;
-use image_layout::{SuperFault, WindowFault, read_super, read_window};
+use image_layout::{SuperFault, read_super};
 use image_model::ImageFault;
+use journal_room::used_blocks;
+use journal_window::window_of;
 use std::alloc::Global;
 
-/// What a session starts with: the superblock, and the entries of the window, the oldest first.
+/// What a session starts with: the superblock, how many blocks of the journal are used, and the entries of the window, the
+/// oldest first.
 #[derive(Drop)]
 pub(crate) struct Opened {
     pub(crate) head: Super,
+    pub(crate) used: u32,
     pub(crate) window: Vec<Entry>,
 }
 
@@ -71,21 +78,32 @@ fn read_journal<D: Disk>(
     Ok(journal)
 }
 
+// What a session starts with, by the blocks of the journal.
+fn serve(alloc: Global, head: Super, journal: &[Block]) -> Result<Opened, Fault>
+    requires sizes { IsGeometry head.geometry }
+    requires slots { length journal.now ≡ head.geometry.journal }
+    requires some { 1 ≤ head.start }
+    requires below { head.start < 2 ^ 54 }
+    ensures serves { IfOk result (λ opened. (opened.head ≡ head) × CanServe head journal.now (reverse opened.window.items) opened.used) }
+    ensures fault { IfErr result (ServingFails head journal.now) }
+{
+    let found = match window_of(alloc, &head, journal) {
+        Ok(found) => found,
+        Err(why) => return Err(fault_of(why)),
+    };
+    let used = used_blocks(&head, journal, found.last());
+    let window = mapped_entries(alloc, found.entries())?;
+    Ok(Opened { head, used, window })
+}
+
 /// Reads the superblock and the window.
 pub(crate) fn open<D: Disk>(alloc: Global, device: &mut D) -> Result<Opened, Fault>
-    ensures opened { IfOk result (λ opened. IsOpened D.tells D.honest (D.seen device.old) (D.seen device.new) opened.head (reverse opened.window.items)) }
-    ensures few { IfOk result (λ opened. vec_len opened.window ≤ 1024) }
+    ensures opened { IfOk result (λ opened. IsOpened D.tells D.honest (D.seen device.old) (D.seen device.new) opened.head (reverse opened.window.items) opened.used) }
     ensures fault { IfErr result (OpeningFails D.tells D.honest (D.seen device.old) (D.seen device.new)) }
     ensures untouched { IsUntouched D.tells (D.seen device.old) (D.seen device.new) }
 {
     let head = read_head(device)?;
     let layout = Layout::of(&head.geometry);
     let journal = read_journal(alloc, device, &layout)?;
-    match read_window(alloc, journal.as_slice(), &head) {
-        Ok(window) => Ok(Opened { head, window }),
-        Err(WindowFault::Faulty { sequence }) => {
-            Err(Fault::Image(ImageFault::Window { sequence }))
-        }
-        Err(WindowFault::Memory) => Err(Fault::Memory),
-    }
+    serve(alloc, head, journal.as_slice())
 }

@@ -65,12 +65,12 @@ pub(crate) fn play<R: Wait, D: Disk, S: Source>(
     ensures untouched { IfErr result (λ fault. IsUntouched D.tells (D.seen device.old) (D.seen device.new)) }
     ensures later { S.faults script.old ≤ S.faults script.new }
 {
-    let Opened { head, window } = open(alloc, device)?;
+    let Opened { head, used, window } = open(alloc, device)?;
     let requests = read_served(alloc, script)?;
     let Ok(room) = AnswerRoom::with_room_for(alloc, &requests) else {
         return Err(Fault::Memory);
     };
-    let Ok(mut core) = Core::begin(alloc, &SETUP, &head, &window, requests) else {
+    let Ok(mut core) = Core::begin(alloc, &SETUP, &head, used, &window, requests) else {
         return Err(Fault::Memory);
     };
     drive(rt, &mut core, &mut Schedule::from_number(number), device);

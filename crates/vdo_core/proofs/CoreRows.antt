@@ -1,7 +1,7 @@
 -- Rows that pin what a core is and begins with, when it is done, and what there is to move and room for: for each clause a
 -- small case that it accepts, and one that breaks it alone.
-use Rattle.std.proofs.Common.{ℕ, ◌≡◌, ◌≤◌, ◌-◌, ◌*◌, ◌^◌, Bool, true, false, List, [], ◌∷◌, length, replicate, Some, slice_get, refl, ap, sym, ◌∙◌, subst, arith}
-use Rattle.std.proofs.lemmas.List.{length-replicate}
+use Rattle.std.proofs.Common.{ℕ, ◌≡◌, ◌≤◌, ◌-◌, ◌*◌, ◌^◌, Bool, true, false, List, [], ◌∷◌, length, replicate, Some, slice_get, refl, ap, sym, ◌∙◌, subst, inl, inr, arith}
+use Rattle.std.proofs.lemmas.List.{length-replicate, nil_from_length}
 use Rattle.blk_base.specs.declared.geometry.Geometry.{Geometry}
 use Rattle.blk_base.specs.declared.journal_entry.Entry.{Entry}
 use Rattle.blk_base.specs.declared.journal_entry.Entry.TheVariants.{Remap}
@@ -10,6 +10,9 @@ use Rattle.blk_base.specs.declared.place.Mapping.{Mapping}
 use Rattle.blk_base.specs.declared.place.Mapping.TheVariants.{Unmapped, Zero, At}
 use Rattle.blk_base.specs.declared.place.Pbn.{Pbn}
 use Rattle.blk_base.specs.declared.request.Request.TheVariants as request
+use Rattle.image_model.specs.Windows.{entries_from}
+use Rattle.image_model.proofs.WindowLaws.{one_first}
+use Rattle.journal_room.specs.Room.{AreUsed, GoesOn}
 use Rattle.vdo_model.specs.Scripts.{Script}
 use Rattle.vdo_model.specs.declared.report.DeskLine.{DeskLine}
 use Rattle.core_model.specs.DeskData.{Desk}
@@ -21,6 +24,7 @@ use Rattle.core_model.specs.declared.zones.ZoneData.{ZoneData}
 use Rattle.core_model.specs.declared.zones.ZoneData.TheVariants as at
 use Rattle.core_model.specs.Limits.{HasRoomToBegin, IsWithin}
 use Rattle.core_model.specs.SessionLimits.{requests_in}
+use Rattle.core_model.specs.Sessions.{said_by}
 use Rattle.core_model.specs.Steps.{MayBegin}
 use Rattle.vdo_core.specs.Causes.{BeginsCrowded, CanStep, IsServedBy, IsSized}
 use Rattle.vdo_core.specs.Cores.{CanBegin}
@@ -188,4 +192,23 @@ module _ (g : Geometry) where
     begins-not_with_17_streams can = omega (arith, can.limits.streams)
 
     begins-not_with_more_entries : (script : Script) (entry : Entry) → CanBegin (sizes 1 1) script (entry ∷ window) → ⊥
-    begins-not_with_more_entries script entry can = let count = can.opened in omega (arith, count)
+    begins-not_with_more_entries script entry can = by can.opened
+      where
+        by : AreUsed g 1 can.journal can.last 0 → ⊥
+        by (inr none) = let some = can.geometry.journal.0 in omega (arith, none.1, some)
+        by (inl used) =
+            let is = can.is_window in
+            let first = one_first g 1 can.journal can.last is.first 1 is.is_first used.0.ends.first in
+            let none : is.blocks ≡ [] = nil_from_length is.blocks (omega (arith, is.count, first, used.1)) in
+            let size = ap length (can.window_is ∙ ap said_by (is.entries ∙ ap (entries_from is.first) none)) in
+            omega (arith, size)
+
+    begins-not_with_another_window : (script : Script) (can : CanBegin (sizes 1 1) script window) → can.committed ≡ [] → 1 ≤ length window → ⊥
+    begins-not_with_another_window script can none some = let size = ap length (can.window_is ∙ ap said_by none) in omega (arith, size, some)
+
+    -- all slots are used where no block may follow the last one
+    begins-not_behind_a_torn_block : (script : Script) (can : CanBegin (sizes 1 1) script window) → (GoesOn g 1 can.journal can.last → ⊥) → ⊥
+    begins-not_behind_a_torn_block script can torn = elim can.opened [
+      | inl used ↦ torn used.0
+      | inr none ↦ let some = can.geometry.journal.0 in omega (arith, none.1, some)
+    ]

@@ -9,5 +9,6 @@ mod CoreRows
 mod ToolRows
 mod LaneLaws
 mod NoFaults
+pub mod JournalLaws
 pub mod SessionLaws
 mod MoveLaws

@@ -1,5 +1,5 @@
 -- A session for what was read of an image, whatever else is on the device: that of an image that has only this.
-use Rattle.std.proofs.Common.{ℕ, zero, suc, ◌≡◌, ◌<◌, ◌^◌, Bool, List, [], ◌∷◌, ◌++◌, length, take, replicate, refl, sym, ◌∙◌, subst, arith, length-append}
+use Rattle.std.proofs.Common.{ℕ, zero, suc, ◌≡◌, Bool, List, [], ◌∷◌, ◌++◌, length, take, replicate, refl, sym, ◌∙◌, ap, subst, arith, length-append}
 use Rattle.std.proofs.lemmas.List.{length-replicate}
 use Rattle.std.proofs.Math.Seq.{take-append_seam}
 use Rattle.std.specs.List.{AllByRecursion}
@@ -8,8 +8,9 @@ use Rattle.blk_base.specs.Sectors.{zero_block}
 use Rattle.blk_base.specs.declared.journal_entry.Entry.{Entry}
 use Rattle.disk_model.specs.Log.{block_at}
 use Rattle.disk_model.specs.Seen.{Seen}
-use Rattle.image_layout.specs.Window.{IsWindow, journal_of}
-use Rattle.image_layout.proofs.WindowLaws.{written_few}
+use Rattle.image_layout.specs.Window.{journal_of}
+use Rattle.image_model.specs.Windows.{IsOfImage, IsWindow}
+use Rattle.journal_room.specs.Room.{AreUsed}
 use Rattle.vdo_model.specs.Scripts.{Script}
 use Rattle.plain_laws.proofs.ListLaws.{every-append}
 use Rattle.core_model.specs.declared.sizes.Sizes.{Sizes}
@@ -31,6 +32,7 @@ use Rattle.vdo_core.specs.FreeBlocks.{free_of}
 use Rattle.vdo_core.specs.Plays.{LeadsTo, core_with}
 use Rattle.vdo_core.specs.Starts.{IsOf}
 use Rattle.vdo_core.proofs.FreeLaws.{free_distinct, free_fresh}
+use Rattle.vdo_core.proofs.JournalLaws.{sealed_from, stands, window_of_image}
 use Rattle.vdo_core.proofs.NoFaults.{none_fails}
 
 zeros_length : length zero_block ≡ 4096
@@ -60,9 +62,14 @@ module _ (sizes : Sizes) (script : Script) (window : List Entry) (can : CanBegin
   journal_is : journal_of sizes.geometry image ≡ can.journal
   journal_is = subst (λ (n : ℕ). take n (can.journal ++ behind) ≡ can.journal) can.count (take-append_seam can.journal behind)
 
-  -- how many entries there are is a number of its type
-  pub few_entries : length window < 2 ^ 32
-  few_entries = let few = written_few sizes.geometry sizes.start can.journal window (omega (arith, can.geometry.journal.0)) can.is_window.written in omega (arith, few, can.geometry.journal.1)
+  pub is_window : IsWindow sizes.geometry sizes.start (journal_of sizes.geometry image) can.last can.committed
+  is_window = subst (λ (journal : List (List ℕ)). IsWindow sizes.geometry sizes.start journal can.last can.committed) (sym journal_is) can.is_window
+
+  pub opened : AreUsed sizes.geometry sizes.start (journal_of sizes.geometry image) can.last sizes.opened
+  opened = subst (λ (journal : List (List ℕ)). AreUsed sizes.geometry sizes.start journal can.last sizes.opened) (sym journal_is) can.opened
+
+  pub count : length (journal_of sizes.geometry image) ≡ sizes.geometry.journal
+  count = ap length journal_is ∙ can.count
 
   abbrev pub imagined : Session
   imagined = record {
@@ -71,6 +78,7 @@ module _ (sizes : Sizes) (script : Script) (window : List Entry) (can : CanBegin
     blocks = image;
     before = [];
     image = image;
+    sealed = sealed_from image sizes.geometry sizes.start can.last can.committed can.start.0 count is_window sizes.opened opened;
     window = window;
     free = free_of sizes.geometry window;
   }
@@ -87,9 +95,8 @@ module _ (sizes : Sizes) (script : Script) (window : List Entry) (can : CanBegin
     room = (let all = length-append can.journal behind in let some = length-replicate (needed_blocks sizes.geometry) zero_block in omega (arith, all, some));
     served = can.served;
     one_image = record { size = refl; whole = λ b below. whole_at image b whole; only = λ b below. (refl, tt) };
-    is_window = subst (λ (journal : List (List ℕ)). IsWindow sizes.geometry sizes.start journal window) (sym journal_is) can.is_window;
-    opened = can.opened;
-    few = written_few sizes.geometry sizes.start can.journal window (omega (arith, can.geometry.journal.0)) can.is_window.written;
+    journal = stands imagined can.last can.committed can.start.0 count is_window can.window_is opened refl;
+    of_image = subst (AllByRecursion (IsOfImage sizes.geometry)) (sym can.window_is) (window_of_image sizes.geometry sizes.start can.last can.journal can.committed can.is_window);
     free = free_fresh sizes.geometry can.geometry imagined refl;
     distinct = free_distinct sizes.geometry can.geometry window;
   }

@@ -3,14 +3,16 @@ use Rattle.std.specs.Prelude.{ℕ, ◌≡◌, ◌<◌, ◌≤◌, ◌^◌, List,
 use Rattle.std.specs.List.{AllByRecursion}
 use Rattle.blk_base.specs.Limits.{IsGeometry}
 use Rattle.blk_base.specs.declared.geometry.Super.{Super}
+use Rattle.blk_base.specs.declared.journal_entry.CommittedEntry.{CommittedEntry}
 use Rattle.blk_base.specs.declared.journal_entry.Entry.{Entry}
-use Rattle.image_layout.specs.Window.{IsWindow}
+use Rattle.image_model.specs.Windows.{IsWindow}
+use Rattle.journal_room.specs.Room.{AreUsed}
 use Rattle.vdo_model.specs.Scripts.{Script}
 use Rattle.core_model.specs.declared.sizes.Sizes.{Sizes}
 use Rattle.core_model.specs.declared.zones.Zone.{Zone}
 use Rattle.core_model.specs.Legal.{Legal}
 use Rattle.core_model.specs.SessionLimits.{IsLimited}
-use Rattle.core_model.specs.Sessions.{Session, IsSession, IsServed}
+use Rattle.core_model.specs.Sessions.{Session, IsSession, IsServed, said_by}
 use Rattle.core_model.specs.Trace.{Trace}
 use Rattle.core_reports.specs.Rooms.{IsRoomFor}
 use Rattle.vdo_core.specs.Plays.{core_with}
@@ -34,21 +36,24 @@ pub record IsWhole (sizes : Sizes) (zones : List Zone) (room : List ℕ) : Type 
   pub reached : IsReached sizes zones
   pub has_room : IsRoomFor room reached.session.script
 
--- the sizes of a session over an image with this superblock and so many entries in its window
+-- the sizes of a session over an image with this superblock, of whose journal so many blocks are used
 abbrev pub sizes_of : Setup → Super → ℕ → Sizes
-sizes_of setup head entries =
-    record { geometry = head.geometry; start = head.start; opened = entries; zones = setup.logical_zones; depth = setup.depth }
+sizes_of setup head used =
+    record { geometry = head.geometry; start = head.start; opened = used; zones = setup.logical_zones; depth = setup.depth }
 
 -- A core can begin with these sizes, this script and the entries of the window, the newest first: the session is no larger
--- than it may be, its requests are served, and the window is that of some blocks of a journal.
+-- than it may be, its requests are served, and the blocks of some journal have that window, and so many of them are used.
 pub record CanBegin (sizes : Sizes) (script : Script) (window : List Entry) : Type 0 where
   pub geometry : IsGeometry sizes.geometry
   pub start : (1 ≤ sizes.start) × (sizes.start < 2 ^ 54)
   pub zones : 1 ≤ sizes.zones
   pub limits : IsLimited sizes script
   pub served : AllByRecursion (AllByRecursion IsServed) script
-  pub opened : sizes.opened ≡ length window
   pub journal : List (List ℕ)
   pub count : length journal ≡ sizes.geometry.journal
   pub whole : AllByRecursion (λ block. length block ≡ 4096) journal
-  pub is_window : IsWindow sizes.geometry sizes.start journal window
+  pub last : ℕ
+  pub committed : List CommittedEntry
+  pub is_window : IsWindow sizes.geometry sizes.start journal last committed
+  pub window_is : window ≡ said_by committed
+  pub opened : AreUsed sizes.geometry sizes.start journal last sizes.opened

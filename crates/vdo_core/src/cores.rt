@@ -67,25 +67,27 @@ impl Model for Core {
 }
 
 impl Core {
-    /// The core at the start of a session over an image that was opened, with its superblock and the entries of its window,
-    /// the oldest first. It has the requests, no one of which is begun, and takes all the room that the session will need. It
-    /// fails where no memory is found for it.
+    /// The core at the start of a session over an image that was opened, with its superblock, how many blocks of its journal
+    /// are used (all of them where a session may not go on behind its last one), and the entries of its window, the oldest
+    /// first. It has the requests, no one of which is begun, and takes all the room that the session will need. It fails where
+    /// no memory is found for it.
     pub fn begin(
         alloc: Global,
         setup: &Setup,
         head: &Super,
+        used: u32,
         window: &[Entry],
         requests: Requests,
     ) -> Result<Core, AllocError>
-        requires { CanBegin (sizes_of setup.now head.now (length window.now)) requests (reverse window.now) }
-        ensures sizes { IfOk result (λ core. core.sizes ≡ sizes_of setup.now head.now (length window.now)) }
+        requires { CanBegin (sizes_of setup.now head.now used) requests (reverse window.now) }
+        ensures sizes { IfOk result (λ core. core.sizes ≡ sizes_of setup.now head.now used) }
         ensures first { IfOk result (λ core. (s : Session) → IsOf s core.sizes requests (reverse window.now) (free_of head.now.geometry (reverse window.now))
             → IsFirst s (core_with core.zones [])) }
     {
         let sizes = Sizes {
             geometry: head.geometry,
             start: head.start,
-            opened: window.len() as u32,
+            opened: used,
             zones: setup.logical_zones,
             depth: setup.depth,
         };

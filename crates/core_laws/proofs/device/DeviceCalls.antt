@@ -10,8 +10,8 @@ use Rattle.blk_base.specs.declared.journal_entry.Entry.TheVariants.{Remap, NewPa
 use Rattle.blk_base.specs.declared.place.Mapping.TheVariants.{Unmapped, Zero, At}
 use Rattle.disk_model.specs.Log.{block_at, Blocks, Misses, contents, settled}
 use Rattle.disk_model.specs.declared.call.Call.TheVariants.{Write, Flush}
-use Rattle.image_layout.specs.Window.{IsMapped, IsToData, AreWritten, journal_of, mapping_of, value_in, value_of}
-use Rattle.stop_laws.specs.Journals.{MissesJournal, block_of_slot, HasEntry, HasNone, IsAtRest, IsUnderWay}
+use Rattle.image_layout.specs.Window.{mapping_of, value_in, value_of}
+use Rattle.stop_laws.specs.Journals.{MissesJournal, block_of_slot}
 use Rattle.disk_model.specs.Images.{IsMixOf}
 use Rattle.disk_model.proofs.ImageLaws.{settled_are_contents, block_of_mix, all_weaker, settled-write}
 use Rattle.core_model.specs.LogicalRows.{mapped_by}
@@ -21,9 +21,6 @@ use Rattle.blk_base.specs.Sectors.{sector}
 use Rattle.byte_fields.specs.Mappings.{HoldsMapping}
 use Rattle.journal_codec.specs.Grammar.{HoldsEntry, HoldsBlock}
 use Rattle.journal_codec.specs.Spelling.{block_bytes}
-use Rattle.journal_codec.proofs.PrefixLaws.{written}
-use Rattle.journal_codec.proofs.ReadLaws.{one_reading}
-use Rattle.stop_laws.proofs.JournalLaws.{begins, under_way_kept}
 use Rattle.core_laws.proofs.kept.ActKept.{shown_kept}
 use Rattle.core_laws.proofs.kept.Keys.{Key, OfBlock, OfJournal, Spares, Clears}
 use Rattle.core_laws.proofs.kept.StandsOn.{AreElsewhere, SparesBlock, SparesBlocks, SparesEntries, IsCallOf, succeeded, failed, spares_all, write_spares, block_spared, journal_spared, call_entries, map_kept, new_kept, on_each, stands_kept}
@@ -32,6 +29,11 @@ use Rattle.disk_model.specs.Log as device
 use Rattle.core_model.specs.declared.items.Asks.TheVariants as asks
 use Rattle.core_laws.proofs.lists.CoreLists.{newest_has}
 use Rattle.core_laws.proofs.kept.Spared.{mapping_by}
+use Rattle.journal_stops.specs.Rings.{IsAtRest, IsWhole, place_of}
+use Rattle.journal_stops.specs.Sealed.{IsSealed, head_of, next_of}
+use Rattle.journal_stops.proofs.StepLaws.{begins, is_written}
+use Rattle.core_model.specs.Sessions.{HasBlocks, HasNoneLeft, HasWholeBlocks, blocks_of, sealed_with}
+use Rattle.image_model.specs.Windows.{IsOfImage, LeadsToData}
 
 -- Data blocks lie behind the journal and inside the image; the blocks that the window names are data blocks.
 
@@ -42,17 +44,17 @@ blocks_fit g sizes =
     let slabs : g.slabs * slab_stride_of g ≤ g.slabs * 40000 = mul-le-mul_left g.slabs stride in
     omega (arith, slabs, sizes.slabs, sizes.journal, sizes.index)
 
-pub mapped_data : (g : Geometry) (start : ℕ) (journal : List (List ℕ)) (entries : List Entry) (a : ℕ) (x : Pbn) → AreWritten g start journal entries → mapping_of entries a ≡ At x → IsDataBlock g x.0
-mapped_data g start journal [] a x written is = absurd cc
-mapped_data g start journal (Remap at old new ∷ older) a x written is = elim (eqb_tells at.0 a) [
-  | inl same ↦ let new_is : new ≡ At x = rw same.0 at is in subst (IsToData g) new_is written.0.1.1
-  | inr other ↦ let rest : mapping_of older a ≡ At x = rw other.0 at is in mapped_data g start journal older a x written.1 rest
+pub mapped_data : (g : Geometry) (entries : List Entry) (a : ℕ) (x : Pbn) → AllByRecursion (IsOfImage g) entries → mapping_of entries a ≡ At x → IsDataBlock g x.0
+mapped_data g [] a x each is = absurd cc
+mapped_data g (Remap at old new ∷ older) a x each is = elim (eqb_tells at.0 a) [
+  | inl same ↦ let new_is : new ≡ At x = rw same.0 at is in subst (LeadsToData g) new_is each.0.2
+  | inr other ↦ let rest : mapping_of older a ≡ At x = rw other.0 at is in mapped_data g older a x each.1 rest
 ]
-mapped_data g start journal (NewPage page at ∷ older) a x written is = absurd written.0.1
+mapped_data g (NewPage page at ∷ older) a x each is = mapped_data g older a x each.1 is
 
 -- Where the window maps an address is a data block.
 pub window_data : (s : Session) (a : ℕ) (x : Pbn) → IsSession s → mapping_of s.window a ≡ At x → IsDataBlock s.sizes.geometry x.0
-window_data s a x session is = mapped_data s.sizes.geometry s.sizes.start (journal_of s.sizes.geometry s.image) s.window a x session.is_window.written is
+window_data s a x session is = mapped_data s.sizes.geometry s.window a x session.of_image is
 
 -- A write of a data block is none of the journal, nor of the superblock; a write of the journal none of a data block.
 pub data_misses : (g : Geometry) (x : Pbn) (bytes : List ℕ) (ok : Bool) → IsDataBlock g x.0 → MissesJournal g (Write x bytes ok)
@@ -186,9 +188,28 @@ store_reads s t x bytes = subst (λ (options : List (List ℕ)). AllByRecursion 
 
 -- The block of an entry.
 
-pub entries_length : (window : List Entry) (es : List Logged) → length (entries_of window es) ≡ length window + length es
-entries_length window [] = omega arith
-entries_length window (e ∷ es) = omega (arith, entries_length window es)
+-- how many blocks the journal has
+pub blocks_length : (s : Session) (es : List Logged) → length (blocks_of s es) ≡ length s.sealed + length es
+blocks_length s [] = omega arith
+blocks_length s (e ∷ es) = omega (arith, blocks_length s es)
+
+-- each names the first sequence as its head
+pub heads_start : (s : Session) (es : List Logged) → HasWholeBlocks s → head_of s.sizes.start (blocks_of s es) ≡ s.sizes.start
+heads_start s [] whole = whole.all_needed
+heads_start s (e ∷ es) whole = refl
+
+-- where a block is left, the journal of the opened image has whole blocks, and those of the writes stand on them
+pub whole_opening : (s : Session) → IsSession s → s.sizes.opened + 1 < s.sizes.geometry.journal → HasWholeBlocks s
+whole_opening s session left = by session.journal
+  where
+    by : HasWholeBlocks s ⊎ HasNoneLeft s → HasWholeBlocks s
+    by (inl whole) = whole
+    by (inr none) = let full = none.full in absurd (omega (arith, full, left))
+
+pub blocks_rest : (s : Session) (t : Trace) (es : List Logged) → s.sizes.opened + 1 < s.sizes.geometry.journal → HasBlocks s t es
+    → HasWholeBlocks s × IsAtRest s.blocks (log s t) s.sizes.geometry s.sizes.start (blocks_of s es)
+blocks_rest s t es left (inl rest) = rest
+blocks_rest s t es left (inr k) = let full = k.opening.full in absurd (omega (arith, full, left))
 
 logical_small : (height : ℕ) → logical_limit height ≤ 4000000000
 logical_small height = elim (eqb_tells height 2) [ inl same ↦ rw same.0 (omega arith) | inr other ↦ rw other.0 (omega arith) ]
@@ -203,10 +224,16 @@ fresh_held s sizes (At x) fresh =
     let inside = fresh.inside in
     (omega (arith, high), omega (arith, inside, fits))
 
-fresh_data : (s : Session) (m : Mapping) → OnBlock (IsFresh s) m → IsToData s.sizes.geometry m
-fresh_data s Unmapped fresh = tt
-fresh_data s Zero fresh = tt
-fresh_data s (At x) fresh = fresh.is_data
+data_led : (g : Geometry) (m : Mapping) → OnBlock (λ x. IsDataBlock g x.0) m → LeadsToData g m
+data_led g Unmapped inside = tt
+data_led g Zero inside = tt
+data_led g (At x) inside = inside
+
+-- what the entries map an address to leads to a data block, or to none
+old_data : (s : Session) (es : List Logged) (a : ℕ) (m : Mapping) → IsSession s → AreData s es → mapping_of (entries_of s.window es) a ≡ m → LeadsToData s.sizes.geometry m
+old_data s es a Unmapped session to_data is = tt
+old_data s es a Zero session to_data is = tt
+old_data s es a (At x) session to_data is = mapped_is_data s es a x session to_data is
 
 -- what the form of the journal needs of an entry
 pub record IsSpelled (s : Session) (e : Logged) : Type 0 where
@@ -224,54 +251,38 @@ module _ (s : Session) (e : Logged) (is : IsSpelled s e) where
       let below = is.below in
       (omega (arith, below, limit, small), is.old_held, fresh_held s is.sizes e.new is.fresh)
 
-  pub spelled_mapped : IsMapped s.sizes.geometry (entry_of e)
-  spelled_mapped = (is.below, fresh_data s e.new is.fresh)
-
-  -- the bytes of its block say it
-  pub spelled_block : (count : ℕ) → count < s.sizes.geometry.journal
-      → HasEntry s.sizes.geometry s.sizes.start (s.sizes.start + count) (entry_of e) (block_bytes s.sizes.geometry.nonce (s.sizes.start + count) s.sizes.start (entry_of e ∷ []))
-  spelled_block count few =
+  -- its block can be sealed behind these
+  pub spelled_sealed : (es : List Logged) → IsSession s → HasWholeBlocks s → AreData s es → e.old ≡ mapping_of (entries_of s.window es) e.at.0 → length s.sealed + length es + 1 < s.sizes.geometry.journal
+      → IsSealed s.sizes.geometry s.sizes.start (blocks_of s es) (sealed_with s e)
+  spelled_sealed es session whole to_data old few =
       let some = is.start.0 in
       let low = is.start.1 in
       let most = is.sizes.journal.1 in
-      let holds : HoldsBlock (s.sizes.start + count) s.sizes.start (entry_of e ∷ []) = record {
-        named = (omega (arith, some), omega (arith, low, few, most));
-        head_below = omega arith;
-        few = omega arith;
-        each = All-cons HoldsEntry (entry_of e) [] spelled_entry (All-nil HoldsEntry);
-      } in
-      written s.sizes.geometry.nonce (s.sizes.start + count) s.sizes.start (entry_of e ∷ []) 0 holds (omega arith)
-
--- The block of an entry whose slot was written lasts once it is flushed, whatever else was called between.
-pub hardens : (opening : Blocks) (log : List Call) (g : Geometry) (start : ℕ) (entries : List Entry) (entry : Entry) → IsUnderWay opening log g start entries entry
-    → AllByRecursion (HasEntry g start (start + length entries) entry) (settled opening log (block_of_slot (journal_slot_of g (start + length entries))))
-    → IsAtRest opening (Flush true ∷ log) g start (entry ∷ entries)
-hardens opening log g start entries entry way reads =
-    let slot = journal_slot_of g (start + length entries) in
-    let later = under_way_kept opening log g start entries entry (Flush true) (λ other below. tt) way in
-    record {
-      few = let few = way.few in omega (arith, few);
-      committed = (way.mapped, reads, later.committed);
-      none = λ other below. elim (eqb_tells other slot) [
-        | inl same ↦ subst (λ (k : ℕ). AllByRecursion (HasNone g start (start + suc (length entries)) k) (contents opening (Flush true ∷ log) (block_of_slot k))) (sym same.1)
-            (all_weaker (HasEntry g start (start + length entries) entry) (HasNone g start (start + suc (length entries)) slot) (settled opening log (block_of_slot slot))
-            (λ content says sequence head others here from reach is.
-            let one = one_reading g.nonce 0 (sector 0 content) (start + length entries) start sequence head (entry ∷ []) others says is in
-            let equal = one.0 in omega (arith, from, equal)) reads)
-        | inr apart ↦ all_weaker (HasNone g start (start + length entries) other) (HasNone g start (start + suc (length entries)) other) (contents opening (Flush true ∷ log) (block_of_slot other))
-            (λ content none sequence head others here from reach is. none sequence head others here (omega (arith, from)) reach is)
-            (later.none other below apart.1)
-      ];
-    }
+      let count = blocks_length s es in
+      let head = heads_start s es whole in
+      record {
+        holds = record {
+          named = (omega (arith, some), omega (arith, low, few, most, count));
+          head_below = omega arith;
+          few = omega arith;
+          each = All-cons HoldsEntry (entry_of e) [] spelled_entry (All-nil HoldsEntry);
+        };
+        each = All-cons (IsOfImage s.sizes.geometry) (entry_of e) []
+            (is.below, subst (LeadsToData s.sizes.geometry) (sym old) (old_data s es e.at.0 _ session to_data refl), data_led s.sizes.geometry e.new (on_each e.new (λ x to fresh. fresh.is_data) is.fresh))
+            (All-nil (IsOfImage s.sizes.geometry));
+        rises = omega (arith, head);
+        ring = omega (arith, few, count);
+        reach = omega (arith, few, most, count);
+      }
 
 -- The slot of the next entry is written.
-module _ (s : Session) (t : Trace) (e : Logged) (slot : Pbn) (bytes : List ℕ) (session : IsSession s) (is : IsSpelled s e) (few : length (entries_of s.window (committed t)) < s.sizes.geometry.journal)
-    (place : slot.0 ≡ block_of_slot (journal_slot_of s.sizes.geometry (s.sizes.start + length (entries_of s.window (committed t)))))
-    (says : HasEntry s.sizes.geometry s.sizes.start (s.sizes.start + length (entries_of s.window (committed t))) (entry_of e) bytes)
-    (right : RightTrace s t) (rest : AtRest s t (committed t)) (keeps : NewStands s t e) where
+module _ (s : Session) (t : Trace) (e : Logged) (slot : Pbn) (bytes : List ℕ) (session : IsSession s) (is : IsSpelled s e) (can_seal : IsSealed s.sizes.geometry s.sizes.start (blocks_of s (committed t)) (sealed_with s e))
+    (place : slot.0 ≡ place_of s.sizes.geometry (next_of s.sizes.start (blocks_of s (committed t))))
+    (says : IsWhole s.sizes.geometry (next_of s.sizes.start (blocks_of s (committed t))) (sealed_with s e) bytes)
+    (right : RightTrace s t) (left : s.sizes.opened + 1 < s.sizes.geometry.journal) (rest : AtRest s t (committed t)) (keeps : NewStands s t e) where
   -- it is no data block
   misses : (x : ℕ) → IsDataBlock s.sizes.geometry x → slot.0 ≢ x
-  misses x held = slot_misses s.sizes.geometry (s.sizes.start + length (entries_of s.window (committed t))) slot.0 x (omega (arith, few)) place held
+  misses x held = let some = session.sizes.journal.0 in slot_misses s.sizes.geometry (next_of s.sizes.start (blocks_of s (committed t))) slot.0 x (omega (arith, some)) place held
 
   data_spared : (ok : Bool) (es : List Logged) → AreData s es → SparesBlocks (Calls (Write slot bytes ok)) es
   data_spared ok [] to_data = tt
@@ -281,17 +292,15 @@ module _ (s : Session) (t : Trace) (e : Logged) (slot : Pbn) (bytes : List ℕ) 
   window_spared a x named = misses x.0 (window_data s a x session named)
 
   pub slot_way : (ok : Bool) → OnItsWay s (Calls (Write slot bytes ok) ∷ t) (committed t) e
-  slot_way ok = (
-    begins s.blocks (log s t) s.sizes.geometry s.sizes.start (entries_of s.window (committed t)) (entry_of e) slot bytes place says (spelled_mapped s e is) few rest.0 ok,
-    map_kept s (Calls (Write slot bytes ok)) t (committed t) (window_spared, data_spared ok (committed t) (committed_data s t right)) rest.1,
-    new_kept s (Calls (Write slot bytes ok)) t e (on_each e.new (λ x to fresh. misses x.0 fresh.is_data) is.fresh) keeps,
-  )
+  slot_way ok =
+      let sealed_rest = blocks_rest s t (committed t) left rest.0 in (
+        (sealed_rest.0, begins s.blocks (log s t) s.sizes.geometry s.sizes.start (blocks_of s (committed t)) (sealed_with s e) slot bytes ok place can_seal says sealed_rest.1),
+        map_kept s (Calls (Write slot bytes ok)) t (committed t) (window_spared, data_spared ok (committed t) (committed_data s t right)) rest.1,
+        new_kept s (Calls (Write slot bytes ok)) t e (on_each e.new (λ x to fresh. misses x.0 fresh.is_data) is.fresh) keeps,
+      )
 
   pub slot_reads : ReadsEntry s (Calls (Write slot bytes true) ∷ t) (committed t) e
-  slot_reads =
-      subst (λ (b : ℕ). AllByRecursion (HasEntry s.sizes.geometry s.sizes.start (s.sizes.start + length (entries_of s.window (committed t))) (entry_of e)) (settled s.blocks (Write slot bytes true ∷ log s t) b)) place
-      (subst (λ (options : List (List ℕ)). AllByRecursion (HasEntry s.sizes.geometry s.sizes.start (s.sizes.start + length (entries_of s.window (committed t))) (entry_of e)) options)
-      (sym (settled-write s.blocks (log s t) slot bytes)) (says, tt))
+  slot_reads = is_written s.blocks (log s t) s.sizes.geometry s.sizes.start (blocks_of s (committed t)) (sealed_with s e) slot bytes place says
 
   pub slot_call : (h : Happening) (ok : Bool) → IsCallOf h (Write slot bytes ok) → MayFollow s h t → AtRest s (h ∷ t) (committed t) ⊎ OnItsWay s (h ∷ t) (committed t) e → entered t ≡ e ∷ committed t
       → RightTrace s (h ∷ t)

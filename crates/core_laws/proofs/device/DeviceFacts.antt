@@ -9,15 +9,15 @@ use Rattle.core_model.specs.DeviceRows.{DeviceServes, counted, halted, stop_noti
 use Rattle.core_model.specs.LogicalRows.{mapped_by}
 use Rattle.core_laws.proofs.kept.ActKept.{Known, Mine, weighed, PostOk, ActKept, act_none, act_one, vio_ok, in_phase}
 use Rattle.core_laws.proofs.kept.Keys.{OfBlock, Clears, claim_one}
-use Rattle.core_laws.proofs.device.DeviceCalls.{data_misses, slot_misses, call_clears, quiet_journal, quiet_call, store_call, store_reads, IsSpelled, spelled_block, entries_length, hardens, slot_way, slot_reads, slot_call, read_value}
+use Rattle.core_laws.proofs.device.DeviceCalls.{data_misses, slot_misses, call_clears, quiet_journal, quiet_call, store_call, store_reads, IsSpelled, slot_way, slot_reads, slot_call, read_value, blocks_length, spelled_sealed, whole_opening}
 use Rattle.disk_model.specs.Log.{Misses}
 use Rattle.core_laws.proofs.kept.Carried.{vio_kept, holds_kept, looks_kept, sealed_kept}
 use Rattle.core_laws.proofs.journal.JournalFacts.{home_within, stopped_post}
 use Rattle.core_laws.proofs.kept.Spared.{mapping_by, honest_before}
-use Rattle.core_laws.proofs.kept.StandsOn.{AreElsewhere, IsCallOf, succeeded, failed, block_spared, journal_spared, write_spares, call_entries, spares_all, map_kept, map_more, new_kept, on_any, rests_kept, way_kept}
+use Rattle.core_laws.proofs.kept.StandsOn.{AreElsewhere, IsCallOf, succeeded, failed, block_spared, journal_spared, write_spares, call_entries, spares_all, map_kept, map_more, new_kept, on_any, rests_kept, way_kept, rests_unlogged}
 use Rattle.blk_base.specs.Regions.{journal_slot_of, IsDataBlock}
 use Rattle.journal_codec.specs.Spelling.{block_bytes}
-use Rattle.stop_laws.specs.Journals.{HasEntry, block_of_slot}
+use Rattle.stop_laws.specs.Journals.{block_of_slot}
 use Rattle.blk_base.specs.declared.place.Mapping.TheVariants.{Unmapped, Zero, At}
 use Rattle.blk_base.specs.declared.place.ZoneId.TheVariants as id
 use Rattle.blk_base.specs.declared.request.Answer.TheVariants as reply
@@ -27,6 +27,12 @@ use Rattle.core_model.specs.declared.items.Phase.TheVariants as phase
 use Rattle.core_model.specs.declared.zones.ZoneData.TheVariants as at
 use Rattle.core_model.specs.DeviceRows as device
 use Rattle.core_model.specs.declared.items.Stage.TheVariants as stage
+use Rattle.journal_stops.specs.Rings.{IsWhole, place_of as slot_place}
+use Rattle.journal_stops.specs.Sealed.{Sealed, next_of}
+use Rattle.journal_stops.proofs.StepLaws.{spelled_whole, ends}
+use Rattle.core_model.specs.Sessions.{HasWholeBlocks, blocks_of, sealed_with}
+use Rattle.core_laws.proofs.trace.DeskOfTrace.{committed_data}
+use Rattle.journal_stops.specs.Sealed.{IsSealed as IsSealedBlock}
 
 -- a write changes its block
 write_changes : (q : Asks) → q ≡ Write → IsChange q
@@ -209,17 +215,17 @@ written_now s u Read place bytes m maps stands = absurd maps
 written_now s u Flush place bytes m maps stands = absurd maps
 
 module _ (s : Session) (t : Trace) (b : SealedBlock) (session : IsSession s) (ok : IsSealed s t b.vio b.sequence) where
-  abbrev count : ℕ
-  count = length (entries_of s.window (committed t))
+  abbrev blocks : List Sealed
+  blocks = blocks_of s (committed t)
 
-  counted_is : s.sizes.opened + length (committed t) ≡ count
-  counted_is = let opened = session.opened in omega (arith, opened, entries_length s.window (committed t))
+  left_before : s.sizes.opened + 1 < s.sizes.geometry.journal
+  left_before = let few = ok.few in omega (arith, few)
 
-  sequence_is : b.sequence ≡ s.sizes.start + count
-  sequence_is = ok.sequence ∙ ap (λ m. s.sizes.start + m) counted_is
+  whole : HasWholeBlocks s
+  whole = whole_opening s session left_before
 
-  few_entries : count < s.sizes.geometry.journal
-  few_entries = let few = ok.few in omega (arith, few, counted_is)
+  sequence_is : b.sequence ≡ next_of s.sizes.start blocks
+  sequence_is = let opened = whole.opened in let at = ok.sequence in omega (arith, at, opened, blocks_length s (committed t))
 
   spelled : IsSpelled s (logged b.vio)
   spelled = record {
@@ -230,11 +236,15 @@ module _ (s : Session) (t : Trace) (b : SealedBlock) (session : IsSession s) (ok
     fresh = ok.fresh;
   }
 
-  says : HasEntry s.sizes.geometry s.sizes.start (s.sizes.start + count) (entry_of (logged b.vio)) (journal_bytes s.sizes b)
-  says = subst (λ (m : ℕ). HasEntry s.sizes.geometry s.sizes.start (s.sizes.start + count) (entry_of (logged b.vio)) (block_bytes s.sizes.geometry.nonce m s.sizes.start (entry_of (logged b.vio) ∷ [])))
-      (sym sequence_is) (spelled_block s (logged b.vio) spelled count few_entries)
+  -- its block can be sealed behind those that are committed
+  can_seal : RightTrace s t → IsSealedBlock s.sizes.geometry s.sizes.start blocks (sealed_with s (logged b.vio))
+  can_seal right = let few = ok.few in let opened = whole.opened in spelled_sealed s (logged b.vio) spelled (committed t) session whole (committed_data s t right) ok.old_is (omega (arith, few, opened))
 
-  place_is : (slot : Pbn) → IsItsSlot s.sizes b slot → slot.0 ≡ block_of_slot (journal_slot_of s.sizes.geometry (s.sizes.start + count))
+  says : RightTrace s t → IsWhole s.sizes.geometry (next_of s.sizes.start blocks) (sealed_with s (logged b.vio)) (journal_bytes s.sizes b)
+  says right = subst (λ (m : ℕ). IsWhole s.sizes.geometry (next_of s.sizes.start blocks) (sealed_with s (logged b.vio)) (block_bytes s.sizes.geometry.nonce m s.sizes.start (entry_of (logged b.vio) ∷ [])))
+      (sym sequence_is) (spelled_whole s.sizes.geometry (next_of s.sizes.start blocks) (sealed_with s (logged b.vio)) (can_seal right).holds)
+
+  place_is : (slot : Pbn) → IsItsSlot s.sizes b slot → slot.0 ≡ slot_place s.sizes.geometry (next_of s.sizes.start blocks)
   place_is slot place = place ∙ ap (λ m. block_of_slot (journal_slot_of s.sizes.geometry m)) sequence_is
 
   block_stands : StandsAt s t b.vio stage.Write → NewStands s t (logged b.vio)
@@ -256,17 +266,17 @@ module _ (s : Session) (t : Trace) (b : SealedBlock) (session : IsSession s) (ok
         })
     makes_by stage.Write c slot place is right stands =
         let bytes = journal_bytes s.sizes b in
-        let way = slot_way s t (logged b.vio) slot bytes session spelled few_entries (place_is slot place) says right stands.0 (block_stands stands) true in
+        let way = slot_way s t (logged b.vio) slot bytes session spelled (can_seal right) (place_is slot place) (says right) right left_before stands.0 (block_stands stands) true in
         rw (sym (same_Some _ _ is)) (record {
-          right = slot_call s t (logged b.vio) slot bytes session spelled few_entries (place_is slot place) says right stands.0 (block_stands stands) (Calls (call.Write slot bytes true)) true succeeded
+          right = slot_call s t (logged b.vio) slot bytes session spelled (can_seal right) (place_is slot place) (says right) right left_before stands.0 (block_stands stands) (Calls (call.Write slot bytes true)) true succeeded
               (record { succeeds = refl; goes_on = λ writes. goes }) (inr way) ok.last;
-          stands = (way, slot_reads s t (logged b.vio) slot bytes session spelled few_entries (place_is slot place) says right stands.0 (block_stands stands));
+          stands = (way, slot_reads s t (logged b.vio) slot bytes session spelled (can_seal right) (place_is slot place) (says right) right left_before stands.0 (block_stands stands));
         })
     makes_by stage.Harden c slot place is right stands =
         rw (sym (same_Some _ _ is)) (record {
           right = quiet_call s t (call.Flush true) succeeded (record { succeeds = refl; goes_on = λ writes. goes }) (λ x. tt) right;
           stands = (
-            hardens s.blocks (log s t) s.sizes.geometry s.sizes.start (entries_of s.window (committed t)) (entry_of (logged b.vio)) stands.0.0 stands.1,
+            inl (stands.0.0.0, ends s.blocks (log s t) s.sizes.geometry s.sizes.start (blocks_of s (committed t)) (sealed_with s (logged b.vio)) stands.1 stands.0.0.1),
             map_more s (Calls (call.Flush true) ∷ t) (committed t) (logged b.vio)
                 (map_kept s (Calls (call.Flush true)) t (committed t) ((λ a x named. tt), spares_all (Calls (call.Flush true)) (λ x. tt) (committed t)) stands.0.1)
                 (new_kept s (Calls (call.Flush true)) t (logged b.vio) (on_any b.vio.new (λ x. tt)) stands.0.2),
@@ -284,15 +294,15 @@ module _ (s : Session) (t : Trace) (b : SealedBlock) (session : IsSession s) (ok
     fails_by stage.Write c slot kept place is right stands =
         let bytes = journal_bytes s.sizes b in
         rw (sym (same_Some _ _ is)) (record {
-          right = slot_call s t (logged b.vio) slot bytes session spelled few_entries (place_is slot place) says right stands.0 (block_stands stands) (Fails b.vio.request (call.Write slot bytes false) kept) false failed
+          right = slot_call s t (logged b.vio) slot bytes session spelled (can_seal right) (place_is slot place) (says right) right left_before stands.0 (block_stands stands) (Fails b.vio.request (call.Write slot bytes false) kept) false failed
               (record { is_open = ok.vio.is_open; fails = refl; goes_on = λ writes. goes; made_for = tt }) (left kept) ok.last;
           stands = (left kept, refl);
         })
       where
         left : (kept : Bool) → AtRest s (Fails b.vio.request (call.Write slot (journal_bytes s.sizes b) false) kept ∷ t) (committed t)
             ⊎ OnItsWay s (Fails b.vio.request (call.Write slot (journal_bytes s.sizes b) false) kept ∷ t) (committed t) (logged b.vio)
-        left true = inr (slot_way s t (logged b.vio) slot (journal_bytes s.sizes b) session spelled few_entries (place_is slot place) says right stands.0 (block_stands stands) false)
-        left false = inl stands.0
+        left true = inr (slot_way s t (logged b.vio) slot (journal_bytes s.sizes b) session spelled (can_seal right) (place_is slot place) (says right) right left_before stands.0 (block_stands stands) false)
+        left false = inl (rests_unlogged s b.vio.request (call.Write slot (journal_bytes s.sizes b) false) t (committed t) stands.0)
     fails_by stage.Harden c slot kept place is right stands =
         rw (sym (same_Some _ _ is)) (record {
           right = quiet_call s t {h = Fails b.vio.request (call.Flush false) kept} (call.Flush false) failed (record { is_open = ok.vio.is_open; fails = refl; goes_on = λ writes. goes; made_for = tt }) (λ x. tt) right;

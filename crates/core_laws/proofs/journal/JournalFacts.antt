@@ -78,7 +78,7 @@ module _ (s : Session) (t : Trace) where
 
 -- The entry of a write or a discard is handed in while no block is under way.
 module _ (s : Session) (t : Trace) (v : Vio) (right : RightTrace s t) (ok : VioOk s t v) (is : v.phase ≡ phase.Enter) (carries : Carries s t v phase.Enter)
-    (idle : entered t ≡ committed t) (rest : AtRest s t (committed t)) (few : s.sizes.opened + length (committed t) < s.sizes.geometry.journal) where
+    (idle : entered t ≡ committed t) (rest : AtRest s t (committed t)) (few : s.sizes.opened + length (committed t) + 1 < s.sizes.geometry.journal) where
   pub may_enter : EntryMayFollow s (logged v) t
   may_enter = record {
     is_open = ok.is_open;
@@ -130,6 +130,7 @@ module _ (s : Session) (t : Trace) (v : Vio) (right : RightTrace s t) (ok : VioO
       maps = carries.1;
       fresh = carries.2;
       old_held = carries.0.old_held;
+      old_is = carries.0.old_is ∙ mapping_same s.window (done t) (committed t) v.at.0 (sym carries.0.quiet.all_done);
       sequence = next;
       few = few;
     },
@@ -141,7 +142,7 @@ rests_idle s t busy broken p q k = let here : RestsAt s t false false = rw (p, q
 
 -- where there is no block for one more entry, the journal is full
 pub full_now : (s : Session) (t : Trace) (j : JournalZone) → JournalLists t j → has_block s.sizes j ≡ false → HasFullJournal s t
-full_now s t j lists none = (let less = ltb-false (s.sizes.opened + length j.entered) s.sizes.geometry.journal none in let same = ap length lists.entered_is in omega (arith, less, same))
+full_now s t j lists none = (let less = ltb-false (s.sizes.opened + length j.entered + 1) s.sizes.geometry.journal none in let same = ap length lists.entered_is in omega (arith, less, same))
 
 pub room_for : (n m : ℕ) → nat_lt n m ≡ true → n < m
 room_for n m is = ltb-true n m is

@@ -152,6 +152,7 @@ module _ (s : Session) (h : Happening) (t : Trace) where
     maps = k.maps;
     fresh = k.fresh;
     old_held = k.old_held;
+    old_is = rw same.committed_same k.old_is;
     sequence = rw same.committed_same k.sequence;
     few = rw same.committed_same k.few;
   }

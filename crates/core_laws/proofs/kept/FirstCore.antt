@@ -7,7 +7,7 @@ use Rattle.blk_base.specs.Limits.{IsGeometry}
 use Rattle.blk_base.specs.Sectors.{sector, zero_block}
 use Rattle.blk_base.specs.declared.request.Request.TheVariants as request
 use Rattle.disk_model.specs.Images.{HasOneImage}
-use Rattle.image_layout.specs.Window.{IsWindow, journal_of}
+use Rattle.image_layout.specs.Window.{journal_of}
 use Rattle.journal_codec.specs.Grammar.{IsSector}
 use Rattle.journal_codec.specs.Spelling.{head_bytes}
 use Rattle.journal_codec.proofs.ReadLaws.{head_of_sector}
@@ -17,6 +17,9 @@ use Rattle.core_model.specs.Start.{IsFirstLogical, IsFirstData, IsFirstZone, IsF
 use Rattle.core_model.specs.Steps.{Core}
 use Rattle.core_laws.proofs.kept.FirstState.{legal_first}
 use Rattle.core_laws.proofs.lists.Zeros.{zeros_length}
+use Rattle.journal_stops.specs.Rings.{IsAtRest}
+use Rattle.journal_stops.proofs.ShownLaws.{begins_anew}
+use Rattle.image_model.proofs.ZeroLaws.{no_journal_sector}
 
 -- a device of zeros
 
@@ -26,21 +29,6 @@ zeros_at n b = elim (cases_lt b n) [
   | inr past ↦ get_or_past (replicate n zero_block) b zero_block (omega (arith, length-replicate n zero_block, past))
 ]
 
--- a sector of zeros is no sector of a journal: the head of one ends with its magic
-head_end : (nonce sequence head number count : ℕ) → get_or (reverse (head_bytes nonce sequence head number count)) 0 0 ≡ 49
-unfolding head_bytes
-head_end nonce sequence head number count = simp reverse-append refl
-
-zeros_end : get_or (reverse (take 32 (sector 0 zero_block))) 0 0 ≡ 0
-unfolding zero_block
-zeros_end = refl
-
-no_sector : (nonce sequence head : ℕ) (entries : List Entry) → IsSector nonce 0 (sector 0 zero_block) sequence head entries → ⊥
-no_sector nonce sequence head entries is =
-    let e : 0 ≡ 49 = sym zeros_end ∙ ap (λ (bytes : List ℕ). get_or (reverse (take 32 bytes)) 0 0) is.spelled
-    ∙ ap (λ (bytes : List ℕ). get_or (reverse bytes) 0 0) (head_of_sector nonce sequence head 0 entries) ∙ head_end nonce sequence head 0 (length entries) in
-    absurd (omega (arith, e))
-
 -- it has one image, and an empty window
 zeros_image : (n : ℕ) → HasOneImage (replicate n zero_block) [] (replicate n zero_block)
 zeros_image n = record {
@@ -49,17 +37,10 @@ zeros_image n = record {
   only = λ b below. (refl, tt);
 }
 
-zeros_window : (g : Geometry) (start n : ℕ) → 0 < g.journal → IsWindow g start (journal_of g (replicate n zero_block)) []
-zeros_window g start n some = record {
-  count = record {
-    small = omega arith;
-    there = inl refl;
-    last = λ sequence head entries from reach has.
-        no_sector g.nonce sequence head entries
-        (subst (λ (block : List ℕ). IsSector g.nonce 0 (sector 0 block) sequence head entries) (journal_zeros (sequence % g.journal) (mod-lt sequence some)) has);
-  };
-  written = tt;
-}
+zeros_at_rest : (g : Geometry) (start n : ℕ) → 1 ≤ start → 0 < g.journal → IsAtRest (replicate n zero_block) [] g start []
+zeros_at_rest g start n low some =
+    begins_anew (replicate n zero_block) g start low some (λ slot number sequence head entries below few has.
+    absurd (no_journal_sector g.nonce number sequence head entries few (subst (λ (block : List ℕ). IsSector g.nonce number (sector number block) sequence head entries) (journal_zeros slot below) has)))
   where
     journal_zeros : (slot : ℕ) → slot < g.journal → get_or (journal_of g (replicate n zero_block)) slot zero_block ≡ zero_block
     journal_zeros slot below = get_or-take g.journal (drop 1 (replicate n zero_block)) slot zero_block below ∙ get_or_after_one (replicate n zero_block) slot zero_block ∙ zeros_at n (1 + slot)
@@ -84,7 +65,7 @@ run first zero = []
 run first (suc n) = record { 0 = first } ∷ run (suc first) n
 
 abbrev pub small_session : ℕ → Session
-small_session n = record { sizes = sizes; script = script; blocks = blocks n; before = []; image = blocks n; window = []; free = run 85 64 }
+small_session n = record { sizes = sizes; script = script; blocks = blocks n; before = []; image = blocks n; sealed = []; window = []; free = run 85 64 }
 
 geometry_ok : IsGeometry geometry
 geometry_ok = record {
@@ -132,9 +113,8 @@ small_served n room = record {
   room = omega (arith, room, length-replicate n zero_block);
   served = (((zeros_length, refl), (tt, (tt, tt))), tt);
   one_image = zeros_image n;
-  is_window = zeros_window geometry 1 n (omega arith);
-  opened = refl;
-  few = omega arith;
+  journal = inl (record { at_rest = zeros_at_rest geometry 1 n (omega arith) (omega arith); all_needed = refl; window_is = refl; opened = refl });
+  of_image = tt;
   free = run_fresh n 0 85 64 (omega arith) (omega arith);
   distinct = run_distinct 85 64;
 }

@@ -1,12 +1,14 @@
 -- A core at its start is legal, with an empty trace.
-use Rattle.std.proofs.Common.{◌≡◌, ℕ, suc, ◌≤◌, Bool, false, not, List, [], ◌∷◌, ◌++◌, length, refl, sym, ◌∙◌, ap, subst, inl, arith}
+use Rattle.std.proofs.Common.{◌≡◌, ℕ, suc, ◌⊎◌, ◌≤◌, Bool, false, not, List, [], ◌∷◌, ◌++◌, length, refl, sym, ◌∙◌, ap, subst, inl, inr, arith}
 use Rattle.core_laws.proofs.Common.{AllByRecursion, AtMost, AtRest, Balanced, DataOk, DeskLine, Each, IsFresh, IsSession, Item, ItemOk, KeptOk, Lba, Lock, LocksOk, Logged, LogicalZone, MapOk, Mapping, Pbn, RestsAt, Session, Shown, Token, Trace, Vio, Zone, ZoneData, ZoneOk, answers_of, arrival, as_items, begins_of, bit, block_token, blocks_at, desk_zone, entry_token, every-get, given, holder_token, in_log, is_answer, is_begin, is_block, is_entry, journal_token, kept_by, kept_phase, lease_token, lock_weight, logical_zone, made_by, newest, notice_token, notified_by, of_address, one_physical, queued, request_token, room_token, total, weight, zone_count, OnBlock, Stands}
 use Rattle.blk_base.specs.declared.place.Mapping.TheVariants.{Unmapped, Zero, At}
 use Rattle.image_layout.specs.Window.{mapping_of, value_in}
-use Rattle.stop_laws.proofs.JournalLaws.{opened_at_rest}
+use Rattle.journal_stops.proofs.StepLaws.{opened}
 use Rattle.core_model.specs.declared.zones.ZoneData.TheVariants as at
 use Rattle.core_model.specs.Arrivals.{arrivals_at}
 use Rattle.core_model.specs.Legal.{Legal}
+use Rattle.core_model.specs.Sessions.{HasBlocks, HasNoneLeft, HasWholeBlocks}
+use Rattle.stop_laws.specs.Journals.{block_of_slot}
 use Rattle.core_model.specs.Streams.{Flows, counted}
 use Rattle.core_model.specs.Start.{IsFirstData, IsFirstZone, IsFirst}
 use Rattle.core_model.specs.Steps.{Core}
@@ -94,8 +96,12 @@ module _ (s : Session) (session : IsSession s) where
   first_stands a Zero e = tt
   first_stands a (At y) e = session.one_image.only y.0 (omega (arith, session.room, data_block_inside s.sizes.geometry y.0 (window_data s a y session e)))
 
+  first_blocks : HasWholeBlocks s ⊎ HasNoneLeft s → HasBlocks s [] []
+  first_blocks (inl whole) = inl (whole, opened s.blocks s.before s.sizes.geometry s.sizes.start s.image s.sealed (omega (arith, session.room)) session.one_image whole.at_rest)
+  first_blocks (inr none) = inr (record { none = refl; opening = none; blocks = λ slot below. session.one_image.only (block_of_slot slot) (omega (arith, session.room, below)) })
+
   at_rest : AtRest s [] []
-  at_rest = (opened_at_rest s.blocks s.before s.sizes.geometry s.sizes.start s.image s.window (omega (arith, session.sizes.journal.0)) (omega (arith, session.room)) session.one_image session.is_window, λ a. first_stands a (mapping_of s.window a) refl)
+  at_rest = (first_blocks session.journal, λ a. first_stands a (mapping_of s.window a) refl)
 
   pub shown_at_start : Shown s []
   shown_at_start = record {

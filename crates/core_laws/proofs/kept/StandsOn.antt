@@ -1,6 +1,5 @@
 -- What stands on the device goes on over each call that misses it.
-use Rattle.std.proofs.Common.{◌≡◌, ◌≢◌, ◌⊎◌, ℕ, ◌+◌, ◌<◌, Bool, true, List, [], ◌∷◌, refl, inl, inr, subst, sym, ap, ◌∙◌, arith, length}
-use Rattle.std.proofs.Math.Nat.{mod-lt}
+use Rattle.std.proofs.Common.{◌≡◌, ◌≢◌, ◌⊎◌, ℕ, ◌+◌, ◌<◌, Bool, true, false, List, [], ◌∷◌, refl, inl, inr, subst, sym, ap, ◌∙◌, arith, length}
 use Rattle.core_laws.proofs.Common.{AllByRecursion, AtRest, Call, Calls, Fails, Happening, HasPending, Logged, MapStands, Mapping, NewStands, OnBlock, OnItsWay, Pbn, ReadsAs, ReadsEntry, Session, Stands, Trace, Writer, committed, entered, entries_of, entry_of, eqb_tells, log}
 use Rattle.blk_base.specs.Regions.{journal_slot_of}
 use Rattle.blk_base.specs.declared.place.Mapping.TheVariants.{Unmapped, Zero, At}
@@ -8,8 +7,10 @@ use Rattle.disk_model.specs.Log.{Misses}
 use Rattle.disk_model.specs.declared.call.Call.TheVariants.{Write}
 use Rattle.disk_model.proofs.ImageLaws.{kept, settled-misses}
 use Rattle.image_layout.specs.Window.{mapping_of}
-use Rattle.stop_laws.specs.Journals.{HasEntry, MissesJournal, block_of_slot}
-use Rattle.stop_laws.proofs.JournalLaws.{rest_kept, under_way_kept}
+use Rattle.stop_laws.specs.Journals.{MissesJournal, block_of_slot}
+use Rattle.journal_stops.proofs.StepLaws.{rest_kept, under_way_kept, written_kept}
+use Rattle.core_model.specs.Sessions.{HasBlocks, StandsAsOpened, blocks_of, sealed_with}
+use Rattle.journal_stops.specs.Rings.{IsAtRest}
 
 -- the happening is no write of the block
 abbrev pub SparesBlock : Happening → ℕ → Type 0
@@ -99,18 +100,40 @@ module _ (s : Session) where
   pub new_kept : (h : Happening) (t : Trace) (e : Logged) → OnBlock (λ x. SparesBlock h x.0) e.new → NewStands s t e → NewStands s (h ∷ t) e
   new_kept h t e apart k = on_both e.new (λ x to spared stands. stands_kept h t x.0 _ spared stands) apart k
 
+  -- so does each block of the journal, over one that misses the journal
+  opened_kept : (h : Happening) (t : Trace) (es : List Logged) → ((slot : ℕ) → slot < s.sizes.geometry.journal → SparesBlock h (block_of_slot slot)) → StandsAsOpened s t es → StandsAsOpened s (h ∷ t) es
+  opened_kept h t es apart k = record { none = k.none; opening = k.opening; blocks = λ slot below. stands_kept h t (block_of_slot slot) _ (apart slot below) (k.blocks slot below) }
+
+  blocks_kept : (c : Call) (t : Trace) (h : Happening) (es : List Logged) → MissesJournal s.sizes.geometry c → log s (h ∷ t) ≡ c ∷ log s t
+      → ((slot : ℕ) → slot < s.sizes.geometry.journal → SparesBlock h (block_of_slot slot)) → HasBlocks s t es → HasBlocks s (h ∷ t) es
+  blocks_kept c t h es journal logged apart (inl (opening, rest)) =
+      inl (opening, subst (λ (l : List Call). IsAtRest s.blocks l s.sizes.geometry s.sizes.start (blocks_of s es)) (sym logged) (rest_kept s.blocks (log s t) s.sizes.geometry s.sizes.start (blocks_of s es) c journal rest))
+  blocks_kept c t h es journal logged apart (inr k) = inr (opened_kept h t es apart k)
+
   pub rests_kept : (h : Happening) (t : Trace) (es : List Logged) → SparesJournal s h → SparesMap s h es → AtRest s t es → AtRest s (h ∷ t) es
   rests_kept (Calls c) t es journal apart k =
-      (rest_kept s.blocks (log s t) s.sizes.geometry s.sizes.start (entries_of s.window es) c journal k.0, map_kept (Calls c) t es apart k.1)
+      (blocks_kept c t (Calls c) es journal refl journal k.0, map_kept (Calls c) t es apart k.1)
   rests_kept (Fails w c true) t es journal apart k =
-      (rest_kept s.blocks (log s t) s.sizes.geometry s.sizes.start (entries_of s.window es) c journal k.0, map_kept (Fails w c true) t es apart k.1)
-  rests_kept other t es journal apart k = (k.0, map_kept other t es apart k.1)
+      (blocks_kept c t (Fails w c true) es journal refl journal k.0, map_kept (Fails w c true) t es apart k.1)
+  rests_kept other t es journal apart k = (same_blocks k.0, map_kept other t es apart k.1)
+    where
+      same_blocks : HasBlocks s t es → HasBlocks s (other ∷ t) es
+      same_blocks (inl rest) = inl rest
+      same_blocks (inr as_opened) = inr (record { none = as_opened.none; opening = as_opened.opening; blocks = as_opened.blocks })
+
+  -- what stands is so still after a call that failed and isn't in the log
+  pub rests_unlogged : (w : Writer) (c : Call) (t : Trace) (es : List Logged) → AtRest s t es → AtRest s (Fails w c false ∷ t) es
+  rests_unlogged w c t es k = (by k.0, k.1)
+    where
+      by : HasBlocks s t es → HasBlocks s (Fails w c false ∷ t) es
+      by (inl rest) = inl rest
+      by (inr as_opened) = inr (record { none = as_opened.none; opening = as_opened.opening; blocks = as_opened.blocks })
 
   pub way_kept : (h : Happening) (t : Trace) (es : List Logged) (e : Logged) → SparesJournal s h → SparesMap s h (e ∷ es) → OnItsWay s t es e → OnItsWay s (h ∷ t) es e
   way_kept (Calls c) t es e journal apart k =
-      (under_way_kept s.blocks (log s t) s.sizes.geometry s.sizes.start (entries_of s.window es) (entry_of e) c journal k.0, map_kept (Calls c) t es (apart.0, apart.1.1) k.1, new_kept (Calls c) t e apart.1.0 k.2)
+      ((k.0.0, under_way_kept s.blocks (log s t) s.sizes.geometry s.sizes.start (blocks_of s es) (sealed_with s e) c journal k.0.1), map_kept (Calls c) t es (apart.0, apart.1.1) k.1, new_kept (Calls c) t e apart.1.0 k.2)
   way_kept (Fails w c true) t es e journal apart k =
-      (under_way_kept s.blocks (log s t) s.sizes.geometry s.sizes.start (entries_of s.window es) (entry_of e) c journal k.0, map_kept (Fails w c true) t es (apart.0, apart.1.1) k.1, new_kept (Fails w c true) t e apart.1.0 k.2)
+      ((k.0.0, under_way_kept s.blocks (log s t) s.sizes.geometry s.sizes.start (blocks_of s es) (sealed_with s e) c journal k.0.1), map_kept (Fails w c true) t es (apart.0, apart.1.1) k.1, new_kept (Fails w c true) t e apart.1.0 k.2)
   way_kept other t es e journal apart k = (k.0, map_kept other t es (apart.0, apart.1.1) k.1, new_kept other t e apart.1.0 k.2)
 
   -- with one more entry, the map stands where what this one maps its address to does
@@ -120,11 +143,7 @@ module _ (s : Session) where
   -- the slot of the entry, over a call that misses the journal
   entry_missed : (c : Call) (t : Trace) (es : List Logged) (e : Logged) → MissesJournal s.sizes.geometry c → OnItsWay s t es e → ReadsEntry s t es e → ReadsEntry s (Calls c ∷ t) es e
   entry_missed c t es e journal way k =
-      let sequence = s.sizes.start + length (entries_of s.window es) in
-      let slot = journal_slot_of s.sizes.geometry sequence in
-      let below : slot < s.sizes.geometry.journal = mod-lt sequence (let few = way.0.few in omega (arith, few)) in
-      subst (λ (options : List (List ℕ)). AllByRecursion (HasEntry s.sizes.geometry s.sizes.start sequence (entry_of e)) options)
-      (sym (settled-misses s.blocks (log s t) c (block_of_slot slot) (journal slot below))) k
+      let ring = way.0.1.is_sealed.ring in written_kept s.blocks (log s t) s.sizes.geometry s.sizes.start (blocks_of s es) (sealed_with s e) c (omega (arith, ring)) journal k
 
   pub entry_reads_kept : (h : Happening) (t : Trace) (es : List Logged) (e : Logged) → SparesJournal s h → OnItsWay s t es e → ReadsEntry s t es e → ReadsEntry s (h ∷ t) es e
   entry_reads_kept (Calls c) t es e journal way k = entry_missed c t es e journal way k

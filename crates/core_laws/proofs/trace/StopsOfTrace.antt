@@ -1,14 +1,13 @@
 -- A stop before or after any call of a right trace is right.
-use Rattle.std.proofs.Common.{ℕ, ◌≡◌, ◌⊎◌, ◌<◌, false, Option, List, [], ◌∷◌, ◌++◌, length, refl, ◌∙◌, ap, inl, inr, arith, ◌≤◌, Bool, true, sym, subst, append_assoc, IsSome}
-use Rattle.core_laws.proofs.Common.{AllByRecursion, AtRest, Call, Calls, DeskLine, FlushMark, HasPending, HistoryEntry, IsSession, IsWrite, Logged, Mapping, Mark, OnItsWay, Request, RightTrace, RunReport, Session, Shown, Trace, Writer, answer_of, append-nil, begun, bytes_of, calls, committed, done, each_both, entered, entries_of, entry_of, eqb_tells, every-append, every-map, lines, log, marks, newest, of_address, places, request_at, same_self, value_from, value_written, MapStands, OnBlock, Pbn, Stands}
+use Rattle.std.proofs.Common.{ℕ, min, drop, length-drop, length-take, ◌+◌, ◌-◌, ◌*◌, ◌≡◌, ◌⊎◌, ◌<◌, false, Option, List, [], ◌∷◌, ◌++◌, length, refl, ◌∙◌, ap, inl, inr, arith, ◌≤◌, Bool, true, sym, subst, append_assoc, IsSome}
+use Rattle.core_laws.proofs.Common.{AllByRecursion, AtRest, Call, Calls, DeskLine, FlushMark, HasPending, HistoryEntry, IsSession, IsWrite, Logged, Mapping, Mark, OnItsWay, Request, RightTrace, RunReport, Session, Shown, Trace, Writer, answer_of, append-nil, begun, bytes_of, calls, committed, done, each_both, entered, entries_of, entry_of, eqb_tells, every-append, every-map, lines, log, marks, newest, of_address, places, request_at, same_self, value_from, value_written, MapStands, OnBlock, Pbn, Stands, Entry}
 use Rattle.blk_base.specs.declared.place.Mapping.TheVariants.{Unmapped, Zero, At}
 use Rattle.disk_model.specs.Images.{IsImage}
 use Rattle.disk_model.specs.Log.{Blocks, block_at}
 use Rattle.disk_model.proofs.ImageLaws.{block_of_image}
-use Rattle.image_layout.specs.Window.{IsWindow, journal_of, mapping_of, value_in, value_of}
-use Rattle.stop_laws.proofs.JournalLaws.{window_at_rest, window_under_way}
+use Rattle.image_layout.specs.Window.{journal_of, mapping_of, value_in, value_of}
 use Rattle.blk_base.proofs.RegionLaws.{data_block_inside}
-use Rattle.core_laws.proofs.device.DeviceCalls.{mapped_data, write_whole, whole_written, mapped_is_data, value_whole}
+use Rattle.core_laws.proofs.device.DeviceCalls.{mapped_data, write_whole, whole_written, mapped_is_data, value_whole, heads_start}
 use Rattle.stop_laws.specs.Histories.{is_lasting}
 use Rattle.vdo_model.specs.Stops.{is_covered, covered, MayLast, last_value, IsBegunBefore, before_answer, length_at, MayShow, RightAfterStops}
 use Rattle.vdo_model.specs.declared.report.Mark.TheVariants.{Settled, Unsettled, Refused}
@@ -26,8 +25,30 @@ use Rattle.core_laws.proofs.trace.MarksOfTrace.{HasMark, all_marks}
 use Rattle.core_laws.proofs.kept.StandsOn.{map_more}
 use Rattle.core_laws.proofs.kept.Spared.{mapping_by}
 use Rattle.core_laws.proofs.trace.ZeroWrites.{zeros_by}
+use Rattle.image_model.specs.Windows.{IsWindow}
+use Rattle.journal_stops.specs.Sealed.{Sealed, next_of, window_of, front_of}
+use Rattle.journal_stops.proofs.ShownLaws.{slot_there, window_at_rest, window_under_way}
+use Rattle.stop_laws.specs.Journals.{block_of_slot}
+use Rattle.blk_base.specs.Sectors.{zero_block}
+use Rattle.journal_stops.proofs.EntryLaws.{window_of_all}
+use Rattle.core_model.specs.Sessions.{HasBlocks, HasWholeBlocks, StandsAsOpened, blocks_of, sealed_with, said_by}
+use Rattle.blk_base.specs.declared.journal_entry.CommittedEntry.{CommittedEntry}
+use Rattle.std.proofs.lemmas.List.{ext_get_or, take_all}
+use Rattle.journal_stops.specs.Sealed as blocks
+
+-- the entries of the blocks are those of the writes, on those of the window
+said_by_blocks : (s : Session) (es : List Logged) → HasWholeBlocks s → entries_of s.window es ≡ said_by (blocks.entries_of s.sizes.start (blocks_of s es))
+said_by_blocks s [] whole = whole.window_is
+said_by_blocks s (e ∷ es) whole = ap (λ (rest : List Entry). entry_of e ∷ rest) (said_by_blocks s es whole)
 
 -- What an image shows of a trace: the entries of its window, and the value of each address.
+
+-- an image has a window with the entries of these writes, on those of the opened one
+pub record HasWindow (s : Session) (image : Blocks) (es : List Logged) : Type 0 where
+  pub last : ℕ
+  pub shown : List CommittedEntry
+  pub is_window : IsWindow s.sizes.geometry s.sizes.start (journal_of s.sizes.geometry image) last shown
+  pub said : entries_of s.window es ≡ said_by shown
 
 -- the entries of a window that a stop may leave: the committed ones, or those that were handed in
 pub record ImageEntries (s : Session) (u : Trace) (image : Blocks) : Type 0 where
@@ -36,13 +57,55 @@ pub record ImageEntries (s : Session) (u : Trace) (image : Blocks) : Type 0 wher
   pub fewer : List Logged
   pub of_entered : entered u ≡ more ++ es
   pub has_committed : es ≡ fewer ++ committed u
-  pub is_window : IsWindow s.sizes.geometry s.sizes.start (journal_of s.sizes.geometry image) (entries_of s.window es)
+  pub window : HasWindow s image es
   pub stand : MapStands s u es
 
 module _ (s : Session) (u : Trace) (image : Blocks) (session : IsSession s) (is : IsImage s.blocks (log s u) image) where
-  rest_window : (es : List Logged) → AtRest s u es → IsWindow s.sizes.geometry s.sizes.start (journal_of s.sizes.geometry image) (entries_of s.window es)
-  rest_window es rest =
-      window_at_rest s.blocks (log s u) s.sizes.geometry s.sizes.start (entries_of s.window es) image (omega (arith, session.sizes.journal.0)) session.sizes.journal.1 (omega (arith, session.room)) rest.0 is
+  -- a window whose blocks all name the first sequence has the entries of all
+  all_in_window : (es : List Logged) (last : ℕ) → HasWholeBlocks s → IsWindow s.sizes.geometry s.sizes.start (journal_of s.sizes.geometry image) last (window_of s.sizes.start (blocks_of s es)) → HasWindow s image es
+  all_in_window es last whole k = record {
+    last = last;
+    shown = blocks.entries_of s.sizes.start (blocks_of s es);
+    is_window = subst (IsWindow s.sizes.geometry s.sizes.start (journal_of s.sizes.geometry image) last) (window_of_all s.sizes.start (blocks_of s es) (heads_start s es whole)) k;
+    said = said_by_blocks s es whole;
+  }
+
+  abbrev last_of : List Logged → ℕ
+  last_of es = next_of s.sizes.start (blocks_of s es) - 1
+
+  last_is : (es : List Logged) → last_of es + 1 ≡ next_of s.sizes.start (blocks_of s es)
+  last_is es = let some = session.start.0 in omega (arith, some)
+
+  -- where the journal is as it was opened, it is that of the opened image
+  opened_journal : (es : List Logged) → StandsAsOpened s u es → journal_of s.sizes.geometry image ≡ journal_of s.sizes.geometry s.image
+  opened_journal es k =
+      let size : length image ≡ length s.image = is.size ∙ sym session.one_image.size in
+      ext_get_or zero_block (journal_of s.sizes.geometry image) (journal_of s.sizes.geometry s.image)
+      (length-take s.sizes.geometry.journal (drop 1 image) ∙ ap (min s.sizes.geometry.journal) (length-drop 1 image ∙ ap (λ (n : ℕ). n - 1) size ∙ sym (length-drop 1 s.image))
+      ∙ sym (length-take s.sizes.geometry.journal (drop 1 s.image)))
+      (λ slot below.
+      let there : slot < s.sizes.geometry.journal = omega (arith, below, length-take s.sizes.geometry.journal (drop 1 image)) in
+      let room : block_of_slot slot < length s.blocks = omega (arith, there, session.room) in
+      slot_there s.sizes.geometry image slot there
+      ∙ block_of_image s.blocks (log s u) image (block_of_slot slot) (block_at s.image (block_of_slot slot)) room (session.one_image.whole (block_of_slot slot) room) (k.blocks slot there) is
+      ∙ sym (slot_there s.sizes.geometry s.image slot there))
+
+  rest_window : (es : List Logged) → AtRest s u es → HasWindow s image es
+  rest_window es rest = by rest.0
+    where
+      by : HasBlocks s u es → HasWindow s image es
+      by (inl (whole, at_rest)) =
+          all_in_window es (last_of es) whole (window_at_rest s.blocks (log s u) s.sizes.geometry s.sizes.start (blocks_of s es) image (last_of es) (omega (arith, session.room)) at_rest is (last_is es))
+      by (inr k) = record {
+        last = k.opening.last;
+        shown = k.opening.committed;
+        is_window = subst (λ (journal : List (List ℕ)). IsWindow s.sizes.geometry s.sizes.start journal k.opening.last k.opening.committed) (sym (opened_journal es k)) k.opening.is_window;
+        said = ap (entries_of s.window) k.none ∙ k.opening.window_is;
+      }
+
+  -- the front of a block of one entry is the block
+  front_is_all : (n : ℕ) (e : Logged) → 1 ≤ n → front_of n (sealed_with s e) ≡ sealed_with s e
+  front_is_all n e some = ap (λ (entries : List Entry). record { head = s.sizes.start; entries = entries }) (take_all (24 * n) (entry_of e ∷ []) (omega (arith, some)))
 
   pending_entries : (pending : HasPending s u) → AtRest s u (committed u) ⊎ OnItsWay s u (committed u) pending.entry ⊎ AtRest s u (pending.entry ∷ committed u) → ImageEntries s u image
   pending_entries pending (inl rest) = record {
@@ -51,7 +114,7 @@ module _ (s : Session) (u : Trace) (image : Blocks) (session : IsSession s) (is 
     fewer = [];
     of_entered = pending.is_last;
     has_committed = refl;
-    is_window = rest_window (committed u) rest;
+    window = rest_window (committed u) rest;
     stand = rest.1;
   }
   pending_entries pending (inr (inr rest)) = record {
@@ -60,28 +123,30 @@ module _ (s : Session) (u : Trace) (image : Blocks) (session : IsSession s) (is 
     fewer = pending.entry ∷ [];
     of_entered = pending.is_last;
     has_committed = refl;
-    is_window = rest_window (pending.entry ∷ committed u) rest;
+    window = rest_window (pending.entry ∷ committed u) rest;
     stand = rest.1;
   }
   pending_entries pending (inr (inl way)) =
-      elim (window_under_way s.blocks (log s u) s.sizes.geometry s.sizes.start (entries_of s.window (committed u)) (entry_of pending.entry) image session.sizes.journal.1 (omega (arith, session.room)) way.0 is) [
-        | inl new ↦ record {
-          es = pending.entry ∷ committed u;
-          more = [];
-          fewer = pending.entry ∷ [];
-          of_entered = pending.is_last;
-          has_committed = refl;
-          is_window = new;
-          stand = map_more s u (committed u) pending.entry way.1 way.2;
-        }
-        | inr old ↦ record {
+      elim (window_under_way s.blocks (log s u) s.sizes.geometry s.sizes.start (blocks_of s (committed u)) (sealed_with s pending.entry) image (last_of (committed u)) (omega (arith, session.room)) way.0.1 is (last_is (committed u))) [
+        | inl old ↦ record {
           es = committed u;
           more = pending.entry ∷ [];
           fewer = [];
           of_entered = pending.is_last;
           has_committed = refl;
-          is_window = old;
+          window = all_in_window (committed u) (last_of (committed u)) way.0.0 old;
           stand = way.1;
+        }
+        | inr (n, some, few, new) ↦ record {
+          es = pending.entry ∷ committed u;
+          more = [];
+          fewer = pending.entry ∷ [];
+          of_entered = pending.is_last;
+          has_committed = refl;
+          window = all_in_window (pending.entry ∷ committed u) (last_of (committed u) + 1) way.0.0
+              (subst (λ (block : Sealed). IsWindow s.sizes.geometry s.sizes.start (journal_of s.sizes.geometry image) (last_of (committed u) + 1) (window_of s.sizes.start (block ∷ blocks_of s (committed u))))
+              (front_is_all n pending.entry some) new);
+          stand = map_more s u (committed u) pending.entry way.1 way.2;
         }
       ]
 
@@ -92,7 +157,7 @@ module _ (s : Session) (u : Trace) (image : Blocks) (session : IsSession s) (is 
     fewer = [];
     of_entered = all;
     has_committed = refl;
-    is_window = rest_window (committed u) rest;
+    window = rest_window (committed u) rest;
     stand = rest.1;
   }
   journal_entries (inr pending) = pending_entries pending pending.stands
@@ -293,7 +358,7 @@ stops_right s t session right later prefix calls_are image is =
     let writes = each_older (IsWrite s u) entries.more entries.es (subst (AllByRecursion (IsWrite s u)) entries.of_entered (entered_writes s u right_cut)) in
     let to_data = each_older (HasData s) entries.more entries.es (subst (AreData s) entries.of_entered (entered_data s u right_cut)) in (
       value_of image (entries_of s.window entries.es),
-      (same_superblock s u image session is_cut stands, record { window = entries_of s.window entries.es; is_window = entries.is_window; values_are = refl }),
+      (same_superblock s u image session is_cut stands, record { last = entries.window.last; window = entries.window.shown; is_window = entries.window.is_window; values_are = ap (value_of image) entries.window.said }),
       λ a below. may_show s t session right prefix c entries.es entries.more entries.fewer entries.of_entered entries.has_committed a below
           (value_of image (entries_of s.window entries.es) a) (shown_value s u image session is_cut right_cut entries.es a entries.stand writes to_data),
     )

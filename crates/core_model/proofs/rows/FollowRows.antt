@@ -19,9 +19,9 @@ use Rattle.core_model.specs.Vios.{asked}
 use Rattle.core_model.specs.Trace.{Says, Flushes, Draws, Enters, Commits, Sets, Gives, Takes, Aborts, Calls, Fails, Trace, Happening}
 use Rattle.core_model.proofs.rows.WorkedTraces.{address, block, writer, x, y, first, reader, second, other, late, flush, sizes, session, begun, drawn, took, handed_in, lasting, set, stopped, place, entry, of_first, of_second, of_other, given}
 
--- the session, with two blocks in its journal
+-- the session, with a journal that takes two blocks
 abbrev roomy : Session
-roomy = record session { sizes = record sizes { geometry = record sizes.geometry { journal = 2 } } }
+roomy = record session { sizes = record sizes { geometry = record sizes.geometry { journal = 3 } } }
 
 abbrev May : Happening → Trace → Type 0
 May h t = MayFollow roomy h t
@@ -138,7 +138,7 @@ enters = record {
   quiet = record { all_committed = refl; all_done = refl };
   below = record { writes = ((λ same. omega arith), tt); reads = tt };
   left = omega arith;
-  new_data = record { slab = 0; offset = 7; inside = (omega arith, omega arith); stands = refl };
+  new_data = record { slab = 0; offset = 6; inside = (omega arith, omega arith); stands = refl };
   old_is = refl;
 }
 

@@ -193,19 +193,19 @@ enters_full = enters (JournalServes.is_full refl refl refl refl refl refl refl)
 
 -- Cover, Write, Harden: each call leads to the next stage, or to Fail
 covers : Acts (device false 7) (Block (sealed stage.Cover) ∷ []) (device false 8) (Calls (Flush true) ∷ []) ((id.Device, Block (sealed stage.Write)) ∷ [])
-covers = works (DeviceWorks.makes (Flush true) (block 1) refl refl refl refl refl refl)
+covers = works (DeviceWorks.makes (Flush true) (block 2) refl refl refl refl refl refl)
 
 hardens : Acts (device false 9) (Block (sealed stage.Harden) ∷ []) (device false 10) (Calls (Flush true) ∷ []) ((id.Journal, Block (sealed stage.Commit)) ∷ [])
-hardens = works (DeviceWorks.makes (Flush true) (block 1) refl refl refl refl refl refl)
+hardens = works (DeviceWorks.makes (Flush true) (block 2) refl refl refl refl refl refl)
 
-writes_a_block : Acts (device false 8) (Block (sealed stage.Write) ∷ []) (device false 9) (Calls (Write (block 1) (journal_bytes sizes (sealed stage.Write)) true) ∷ []) ((id.Device, Block (sealed stage.Harden)) ∷ [])
-writes_a_block = works (DeviceWorks.makes (Write (block 1) (journal_bytes sizes (sealed stage.Write)) true) (block 1) refl refl refl refl refl refl)
+writes_a_block : Acts (device false 8) (Block (sealed stage.Write) ∷ []) (device false 9) (Calls (Write (block 2) (journal_bytes sizes (sealed stage.Write)) true) ∷ []) ((id.Device, Block (sealed stage.Harden)) ∷ [])
+writes_a_block = works (DeviceWorks.makes (Write (block 2) (journal_bytes sizes (sealed stage.Write)) true) (block 2) refl refl refl refl refl refl)
 
 hardens_in_vain : Acts (device false 9) (Block (sealed stage.Harden) ∷ []) (device true 9) (Fails first (Flush false) false ∷ []) ((id.Journal, Block (sealed stage.Fail)) ∷ notify)
-hardens_in_vain = works (DeviceWorks.fails (Flush false) (block 1) false refl refl refl refl refl refl)
+hardens_in_vain = works (DeviceWorks.fails (Flush false) (block 2) false refl refl refl refl refl refl)
 
 hardens_no_more : Acts (device true 9) (Block (sealed stage.Harden) ∷ []) (device true 9) [] ((id.Journal, Block (sealed stage.Fail)) ∷ [])
-hardens_no_more = works (DeviceWorks.unmade (Flush false) (block 1) refl refl refl refl refl)
+hardens_no_more = works (DeviceWorks.unmade (Flush false) (block 2) refl refl refl refl refl)
 
 -- Commit, Fail: the entry goes to its slot, or is aborted; those that wait have no block, or are stopped
 commits : Acts (journal true [] [] []) (Block (sealed stage.Commit) ∷ []) (journal false [] [] (of_first ∷ [])) (Commits of_first ∷ []) ((id.Logical 0, Request (writes phase.Settle)) ∷ [])

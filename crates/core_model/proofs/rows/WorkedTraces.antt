@@ -1,5 +1,5 @@
 -- A small session of three streams and two zones, and what happens in it: at these the definitions of a right trace are
--- computed. Its journal has one block, and two data blocks are free.
+-- computed. Its journal takes one block, and two data blocks are free.
 use Rattle.std.specs.Prelude.{ℕ, true, false, List, [], ◌∷◌}
 use Rattle.blk_base.specs.declared.place.Lba.{Lba}
 use Rattle.blk_base.specs.declared.place.Mapping.{Mapping}
@@ -60,7 +60,7 @@ flush = writer 2 0
 
 abbrev pub sizes : Sizes
 sizes = record {
-  geometry = record { logical = 1000; slabs = 1; slab_blocks = 64; journal = 1; index = 16; slab_journal = 4; height = 2; nonce = 1 };
+  geometry = record { logical = 1000; slabs = 1; slab_blocks = 64; journal = 2; index = 16; slab_journal = 4; height = 2; nonce = 1 };
   start = 1;
   opened = 0;
   zones = 2;
@@ -68,7 +68,7 @@ sizes = record {
 }
 
 abbrev pub session : Session
-session = record { sizes = sizes; script = script; blocks = []; before = []; image = []; window = []; free = block 85 ∷ block 86 ∷ [] }
+session = record { sizes = sizes; script = script; blocks = []; before = []; image = []; sealed = []; window = []; free = block 85 ∷ block 86 ∷ [] }
 
 -- the first three requests and the flush are begun; those of blocks have their places
 abbrev pub begun : Trace

@@ -1,4 +1,4 @@
-use Rattle.std.proofs.Common.{[], ◌∷◌, length, refl, sym, ap, inr, arith}
+use Rattle.std.proofs.Common.{[], ◌∷◌, length, refl, sym, ap, inl, inr, arith}
 use Rattle.disk_model.proofs.SinceLaws.{one_read, one_failed, were_only_read, next_only_read}
 use Rattle.vdo_cli.proofs.opening.read_head.Goals as goal
 
@@ -25,14 +25,14 @@ returns-in-Ok-read_super-clause-untouched g c =
 pub returns-in-Err-clause-fault : goal.returns-in-Err-clause-fault
 returns-in-Err-clause-fault g c =
     let size = c.blocks-blocks.ensures.size in
-    inr (
+    inl (inr (
       c.read.new.into,
       omega (arith, size),
       one_read _ _ 0 _ _ _ c.read.new.into refl (λ tells. c.blocks-blocks.ensures.told tells) c.read.ensures.stays
           (record { faults = c.read.ensures.cause.later; unkept = c.read.ensures.unkept }) (omega (arith, ap length c.block.view_is))
           c.in-Ok.ensures.given c.in-Ok.ensures.ok,
       rw size at (sym c.in-Err.ensures.read),
-    )
+    ))
 
 pub returns-in-Err-clause-untouched : goal.returns-in-Err-clause-untouched
 returns-in-Err-clause-untouched g c =

@@ -1,9 +1,6 @@
-use Rattle.std.proofs.Common.{◌≡◌, ℕ, reverse, subst, sym}
-use Rattle.std.proofs.lemmas.List.{length-reverse}
+use Rattle.std.proofs.Common.{◌≡◌, reverse, subst, sym}
 use Rattle.stream_text.specs.AnswerRooms.{HasRoomFor}
-use Rattle.vdo_core.specs.Cores.{CanBegin, sizes_of}
 use Rattle.vdo_model.specs.Scripts.{Script}
-use Rattle.vdo_cli.specs.Commands.{run_setup}
 use Rattle.vdo_cli.specs.Endings.{Plays}
 use Rattle.vdo_cli.proofs.ScriptLaws.{can_begin}
 use Rattle.vdo_cli.proofs.SessionLaws.{played}
@@ -13,9 +10,9 @@ pub begin-requires : goal.begin-requires
 begin-requires g c =
     let entries = c.in_ok-head.field-0.window.items in
     let head = c.in_ok-head.field-0.head in
-    let can = can_begin g.D.Disk.tells g.D.Disk.honest (g.D.Disk.seen c.args.device.now) (g.D.Disk.seen c.open.new.device) head (reverse entries) c.in_ok-requests.requests
+    let can = can_begin g.D.Disk.tells g.D.Disk.honest (g.D.Disk.seen c.args.device.now) (g.D.Disk.seen c.open.new.device) head (reverse entries) c.in_ok-head.field-0.used c.in_ok-requests.requests
     c.in_ok-head.ensures.opened c.in_ok-requests.ensures.shape c.in_ok-requests.ensures.served in
-    rw c.deref.ensures.value (subst (λ (n : ℕ). CanBegin (sizes_of run_setup head n) c.in_ok-requests.requests (reverse entries)) (length-reverse entries) can)
+    rw c.deref.ensures.value can
 
 -- what was played, and of which requests
 both : (g : _) (c : goal.After-drop-window-2 g)
@@ -24,10 +21,10 @@ both : (g : _) (c : goal.After-drop-window-2 g)
 both g c =
     let disk = g.D.Disk in
     let script = c.in_ok-requests.ensures.script in
-    played disk.tells disk.honest g.S.Source.tells c.args.number c.drive.new.schedule c.in_ok-head.field-0.head c.in_ok-head.field-0.window.items c.in_ok-requests.requests c.in-Ok-begin.core.sizes
+    played disk.tells disk.honest g.S.Source.tells c.args.number c.drive.new.schedule c.in_ok-head.field-0.head c.in_ok-head.field-0.window.items c.in_ok-head.field-0.used c.in_ok-requests.requests c.in-Ok-begin.core.sizes
     c.in-Ok-begin.core.zones c.drive.new.core.zones (disk.seen c.args.device.now) (disk.seen c.open.new.device) (disk.seen c.drive.new.device) _ _ c.report.result
     c.in_ok-head.ensures.opened c.open.ensures.untouched c.in_ok-requests.ensures.shape c.in_ok-requests.ensures.served
-    (rw c.deref.ensures.value at c.in-Ok-begin.ensures.sizes) (rw c.deref.ensures.value at c.in-Ok-begin.ensures.first) (rw c.from_number.ensures at c.drive.ensures.drives)
+    c.in-Ok-begin.ensures.sizes (rw c.deref.ensures.value at c.in-Ok-begin.ensures.first) (rw c.from_number.ensures at c.drive.ensures.drives)
     c.drive.ensures.done c.drive.ensures.stays (λ told. let is = script told in (is.0, is.1)) (λ told. (script told).2) c.report.ensures
 
 pub returns-clause-session : goal.returns-clause-session
