@@ -1,40 +1,65 @@
 -- How long the lists of a legal core get: its locks by the requests that are under way, its slots and retired addresses by the
 -- entries of the journal, and those by the journal's blocks.
-use Rattle.std.proofs.Common.{ℕ, ◌+◌, ◌≡◌, ◌≤◌, ◌⊎◌, Bool, true, false, Some, List, [], ◌∷◌, length, slice_get, refl, ap, ◌∙◌, subst, inl, inr, arith}
-use Rattle.core_laws.proofs.Common.{AtRest, DataOk, DeviceZone, HasPending, IsSession, Item, JournalZone, LogicalZone, RightTrace, Session, Trace, Zone, ZoneData, bit, committed, entered, entered_at, entry_token, given, held_at, holder_token, holds, journal_zone, made_by, room_token, total, total-get, total_alone, weight, ended_at}
+use Rattle.std.proofs.Common.{ℕ, ◌≡◌, ◌≤◌, Bool, true, false, Some, List, [], ◌∷◌, IsNone, length, length-append, slice_get, refl, ap, ◌∙◌, subst, inl, inr, arith}
+use Rattle.core_laws.proofs.Common.{bit, committed, DataOk, DeviceZone, ended_at, entered, entered_at, entry_token, every-map, given, held_at, holder_token, holds, IsSession, IsWrite, Item, journal_zone, JournalZone, Logged, logged_of, LogicalZone, made_by, RightTrace, room_token, same_tells, sealed, Seals, Session, some_is, total, total-get, total_alone, Trace, Vio, weight, Writer, Zone, ZoneData}
 use Rattle.core_model.specs.declared.items.Item.TheVariants as item
 use Rattle.core_model.specs.declared.zones.ZoneData.TheVariants as at
 use Rattle.core_model.specs.Legal.{Legal, share}
-use Rattle.core_model.specs.Limits.{most_blocks}
+use Rattle.core_model.specs.Limits.{most_blocks, most_requests, requests_in}
 use Rattle.core_model.specs.Steps.{Core}
 use Rattle.core_model.specs.Tokens.{kept_items}
 use Rattle.core_laws.proofs.kept.FirstState.{total_at_most}
 use Rattle.core_laws.proofs.kept.ZoneKinds.{journal_sits}
 use Rattle.core_limits.proofs.Rooms.{all_requests, carried}
-use Rattle.core_laws.proofs.trace.Growth.{entered_grows}
-use Rattle.core_laws.proofs.trace.DeskOfTrace.{shown_of}
+use Rattle.core_laws.proofs.trace.DeskOfTrace.{AreApart, committed_part, entered_apart, entered_writes}
+use Rattle.core_limits.proofs.DeskLimits.{asked_inside, requests_of}
+use Rattle.core_limits.proofs.StreamSums.{Apart, Inside, named, names_few, over_script}
 
--- each entry that was handed in has its block of the journal
-entries_few : (s : Session) (t : Trace) → RightTrace s t → length (entered t) ≤ s.sizes.geometry.journal
-entries_few s [] right = omega arith
-entries_few s (h ∷ t) right = entered_grows (λ es. length es ≤ s.sizes.geometry.journal) s h t right.0 (entries_few s t right.2) (λ e is may. omega (arith, may.left))
+-- who handed in an entry
+abbrev enterer : Logged → Writer
+enterer e = e.request
+
+-- a request without an entry handed in none of these
+none_entered : (es : List Logged) (w : Writer) → IsNone (logged_of es w) → named enterer w es ≡ 0
+none_entered [] w none = refl
+none_entered (e ∷ es) w none = elim (same_tells e.request w) [
+  | inl same ↦ let one : IsNone (Some e) = rw same.0 at none in absurd cc
+  | inr other ↦ let rest = none_entered es w (rw other.0 at none) in rw other.0 (omega (arith, rest))
+]
+
+apart_entries : (es : List Logged) → AreApart es → Apart enterer es
+apart_entries [] apart = tt
+apart_entries (e ∷ es) apart = (none_entered es e.request apart.0, apart_entries es apart.1)
+
+-- each request of the script hands in one entry at most
+entries_few : (s : Session) (t : Trace) → RightTrace s t → length (entered t) ≤ requests_in s.script
+entries_few s t right =
+    let inside = every-map {P = IsWrite s t} {Q = λ e. Inside (length s.script) (requests_of s.script) (enterer e)} (λ e write. asked_inside s.script e.request (some_is _ _ write.asked)) (entered t) (entered_writes s t right) in
+    let names = names_few enterer (length s.script) (requests_of s.script) (entered t) (apart_entries (entered t) (entered_apart s t right)) inside in
+    omega (arith, names, over_script s.script)
+
+-- no more blocks are sealed than the journal has
+pub blocks_few : (s : Session) (t : Trace) → RightTrace s t → length (sealed t) ≤ s.sizes.geometry.journal
+blocks_few s [] right = omega arith
+blocks_few s (Seals ∷ t) right = let left = right.0.left in omega (arith, left)
+blocks_few s (other ∷ t) right = blocks_few s t right.2
 
 -- and no entry is committed that wasn't handed in
 committed_few : (s : Session) (t : Trace) → RightTrace s t → length (committed t) ≤ length (entered t)
-committed_few s t right = by (shown_of s t right).journal
-  where
-    by : ((entered t ≡ committed t) × AtRest s t (committed t)) ⊎ HasPending s t → length (committed t) ≤ length (entered t)
-    by (inl rest) = omega (arith, ap length rest.0)
-    by (inr pending) = omega (arith, ap length pending.is_last)
+committed_few s t right = let part = committed_part s t right in let all = ap length part.1 in let both = length-append part.0 (committed t) in omega (arith, all, both)
 
 -- an item that holds a lock is a request that is under way
 bit_most : (b : Bool) → bit b ≤ 1
 bit_most true = omega arith
 bit_most false = omega arith
 
+holders_in : (vs : List Vio) → total (λ v. bit (holds v.phase)) vs ≤ total (λ v. 1) vs
+holders_in [] = omega arith
+holders_in (v ∷ vs) = omega (arith, bit_most (holds v.phase), holders_in vs)
+
 holder_most : (it : Item) → holder_token.item it ≤ room_token.item it
 holder_most (item.Request v) = bit_most (holds v.phase)
-holder_most (item.Block b) = bit_most (holds b.vio.phase)
+holder_most (item.Block b) = holders_in b.vios
 holder_most other = omega arith
 
 holders_most : (items : List Item) → total holder_token.item items ≤ total room_token.item items
@@ -66,16 +91,19 @@ module _ (s : Session) (core : Core) (legal : Legal s core) (n : ℕ) (z : Zone)
       omega (arith, here, same, most, balance, all_requests s core legal)
 
   module _ (session : IsSession s) where
-    trace_few : length (entered core.trace) ≤ most_blocks
-    trace_few =
-        let blocks = session.sizes.journal.1 in
-        let entries = entries_few s core.trace legal.right in
-        omega (arith, entries, blocks)
+    trace_few : length (entered core.trace) ≤ most_requests
+    trace_few = omega (arith, entries_few s core.trace legal.right, session.limits.requests)
 
-    pub entered_within : (j : JournalZone) → z.keeps ≡ at.Journal j → length j.entered ≤ most_blocks
+    pub blocks_within : (j : JournalZone) → z.keeps ≡ at.Journal j → j.blocks ≤ most_blocks
+    blocks_within j keeps = let same = (own_ok (at.Journal j) keeps).lists.blocks_is in omega (arith, same, blocks_few s core.trace legal.right, session.sizes.journal.1)
+
+    pub filling_within : (j : JournalZone) → z.keeps ≡ at.Journal j → length j.filling ≤ 192
+    filling_within j keeps = (own_ok (at.Journal j) keeps).sound
+
+    pub entered_within : (j : JournalZone) → z.keeps ≡ at.Journal j → length j.entered ≤ most_requests
     entered_within j keeps = let same = ap length (own_ok (at.Journal j) keeps).lists.entered_is in omega (arith, same, trace_few)
 
-    pub committed_within : (j : JournalZone) → z.keeps ≡ at.Journal j → length j.committed ≤ most_blocks
+    pub committed_within : (j : JournalZone) → z.keeps ≡ at.Journal j → length j.committed ≤ most_requests
     committed_within j keeps =
         let same = ap length (own_ok (at.Journal j) keeps).lists.committed_is in
         let less = committed_few s core.trace legal.right in
@@ -93,14 +121,14 @@ module _ (s : Session) (core : Core) (legal : Legal s core) (n : ℕ) (z : Zone)
         none_given j (at.Journal x) ne k = absurd (ne k.number_is)
         none_given j other ne k = refl
 
-    ended_within : ended_at z.keeps ≤ most_blocks
+    ended_within : ended_at z.keeps ≤ most_requests
     ended_within =
         let here = total-get (weight entry_token) core.zones n z had in
         let balance = legal.entries in
         omega (arith, here, balance, all_entries, trace_few)
 
-    pub slots_within : (l : LogicalZone) → z.keeps ≡ at.Logical l → length l.slots ≤ most_blocks
+    pub slots_within : (l : LogicalZone) → z.keeps ≡ at.Logical l → length l.slots ≤ most_requests
     slots_within l keeps = let same = ap ended_at keeps in omega (arith, same, ended_within)
 
-    pub retired_within : (l : LogicalZone) → z.keeps ≡ at.Logical l → length l.retired ≤ most_blocks
+    pub retired_within : (l : LogicalZone) → z.keeps ≡ at.Logical l → length l.retired ≤ most_requests
     retired_within l keeps = let same = ap ended_at keeps in omega (arith, same, ended_within)

@@ -1,6 +1,6 @@
 -- In a legal core no lane and no list of a zone has more than its share.
 use Rattle.std.proofs.Common.{◌≡◌, ℕ, zero, suc, ◌+◌, ◌*◌, ◌<◌, ◌≤◌, Bool, true, false, cond, Some, List, [], ◌∷◌, length, slice_get, get_or, refl, ap, ◌∙◌, subst, inl, inr, arith}
-use Rattle.core_laws.proofs.Common.{DataOk, DeskLine, IsDeskLog, Item, Script, Session, Token, Zone, ZoneData, answered, begun, desk_zone, device_zone, eqb_tells, given, in_log, is_answer, is_begin, is_word, kept_by, lines, notice_token, notified_by, notified_zones, queued, room_token, some_of, total, total-get, total_alone, weight}
+use Rattle.core_laws.proofs.Common.{answered, begun, DataOk, desk_zone, DeskLine, device_zone, eqb_tells, given, in_log, is_answer, is_begin, is_sealed, is_word, IsDeskLog, Item, journal_token, kept_by, lines, notice_token, notified_by, notified_zones, queued, room_token, Script, Session, some_of, Token, total, total-get, total_alone, weight, Zone, ZoneData}
 use Rattle.std.proofs.lemmas.Option.{slice_get_within}
 use Rattle.vdo_model.specs.declared.report.DeskLine.TheVariants.{Begin, Answer}
 use Rattle.core_model.specs.declared.items.Item.TheVariants as item
@@ -10,7 +10,7 @@ use Rattle.core_model.specs.Steps.{Core}
 use Rattle.core_limits.proofs.StreamSums.{over, over_more, over_none}
 use Rattle.core_laws.proofs.tokens.Lift.{items_total}
 use Rattle.core_laws.proofs.trace.DeskOfTrace.{desk_log_right}
-use Rattle.core_laws.proofs.kept.ZoneKinds.{desk_sits, device_sits, no_words}
+use Rattle.core_laws.proofs.kept.ZoneKinds.{desk_sits, device_sits, journal_once, no_words}
 
 -- Each stream has at most so many requests under way.
 stream_bound : (depth : ℕ) (script : Script) (desk : List DeskLine) (stream : ℕ) → IsDeskLog depth script desk → begun stream desk ≤ answered stream desk + depth
@@ -74,7 +74,7 @@ split_sum : (t : Token) (zones : List Zone) → total (weight t) zones ≡ total
 split_sum t [] = refl
 split_sum t (z ∷ zones) = omega (arith, split_sum t zones)
 
-counted : (items : List Item) → length items ≤ total room_token.item items + total is_word items
+counted : (items : List Item) → length items ≤ total room_token.item items + total is_word items + total is_sealed items
 counted [] = omega arith
 counted (item.Request v ∷ items) = omega (arith, counted items)
 counted (other ∷ items) = omega (arith, counted items)
@@ -134,12 +134,20 @@ module _ (s : Session) (core : Core) (legal : Legal s core) where
       let balance = legal.stop_notices in
       omega (arith, here, balance, few_words)
 
+  -- there is one block of the journal, or none
+  few_blocks : (n : ℕ) (z : Zone) → slice_get core.zones n ≡ Some z → total is_sealed z.ports.inbox + total (total is_sealed) z.ports.outboxes ≤ 1
+  few_blocks n z had =
+      let here = total-get (weight journal_token) core.zones n z had in
+      let balance = legal.journal in
+      omega (arith, here, balance, journal_once s core.trace core.zones legal.each)
+
   pub inbox_room : (n : ℕ) (z : Zone) → slice_get core.zones n ≡ Some z → length z.ports.inbox ≤ share s
   inbox_room n z had =
       let a = few_requests n z had in
       let b = few_notices n z had in
       let c = counted z.ports.inbox in
-      omega (arith, a, b, c)
+      let d = few_blocks n z had in
+      omega (arith, a, b, c, d)
 
   pub lane_room : (n : ℕ) (z : Zone) (to : ℕ) (lane : List Item) → slice_get core.zones n ≡ Some z → slice_get z.ports.outboxes to ≡ Some lane → length lane ≤ share s
   lane_room n z to lane had there =
@@ -148,7 +156,9 @@ module _ (s : Session) (core : Core) (legal : Legal s core) where
       let c = counted lane in
       let d = lane_of room_token.item z.ports.outboxes to lane there in
       let e = lane_of is_word z.ports.outboxes to lane there in
-      omega (arith, a, b, c, d, e)
+      let f = lane_of is_sealed z.ports.outboxes to lane there in
+      let g = few_blocks n z had in
+      omega (arith, a, b, c, d, e, f, g)
 
   pub queue_room : (n : ℕ) (z : Zone) → slice_get core.zones n ≡ Some z → queued (λ it. 1) z.keeps ≤ share s
   queue_room n z had =

@@ -11,7 +11,7 @@ ghost use Rattle.vdo_model.specs.declared.report.DeskLine.TheVariants as line;
 ghost use Rattle.core_model.specs.declared.zones.ZoneData.TheVariants.{Desk, Device, Journal, Logical};
 ghost use Rattle.core_model.specs.DeskData.{Desk as DeskData};
 ghost use Rattle.core_model.specs.declared.zones.DeviceZone.{DeviceZone};
-ghost use Rattle.core_model.specs.declared.zones.JournalZone.{JournalZone};
+ghost use Rattle.core_model.specs.JournalData.{JournalZone};
 ghost use Rattle.core_model.specs.LogicalData.{LogicalZone};
 ghost use Rattle.core_model.specs.declared.zones.Zone.{Zone};
 ghost use Rattle.core_model.specs.declared.items.Item.{Item};
@@ -63,20 +63,22 @@ pub fn a_legal_core_is_within_limits()
 {}
 
 /// In a legal core a logical zone drew no more places than it made steps, and the device's zone made no more calls. A logical
-/// zone has a lock for each request under way at most. The journal has no more entries than an image's journal has blocks, and
-/// so no zone has more slots that were set, or more addresses that are never released.
+/// zone has a lock for each request under way at most. The journal has no more entries than there are requests, and so no zone
+/// has more slots that were set, or more addresses that are never released; and it sealed no more blocks than it may have.
 pub fn a_legal_core_counts_within_limits()
     ensures next { (s : Session) (core : Core) (n : ℕ) (z : Zone) (l : LogicalZone) → Legal s core → slice_get core.zones n ≡ Some z → z.keeps ≡ Logical l → l.next ≤ z.steps }
     ensures calls { (s : Session) (core : Core) (n : ℕ) (z : Zone) (d : DeviceZone) → Legal s core → slice_get core.zones n ≡ Some z → z.keeps ≡ Device d → d.calls ≤ z.steps }
     ensures held { (s : Session) (core : Core) (n : ℕ) (z : Zone) (l : LogicalZone) → Legal s core → slice_get core.zones n ≡ Some z → z.keeps ≡ Logical l → length l.held ≤ share s }
     ensures entered { (s : Session) (core : Core) (n : ℕ) (z : Zone) (j : JournalZone) → IsSession s → Legal s core → slice_get core.zones n ≡ Some z → z.keeps ≡ Journal j
-        → length j.entered ≤ most_blocks }
+        → length j.entered ≤ most_requests }
+    ensures blocks { (s : Session) (core : Core) (n : ℕ) (z : Zone) (j : JournalZone) → IsSession s → Legal s core → slice_get core.zones n ≡ Some z → z.keeps ≡ Journal j
+        → j.blocks ≤ most_blocks }
     ensures committed { (s : Session) (core : Core) (n : ℕ) (z : Zone) (j : JournalZone) → IsSession s → Legal s core → slice_get core.zones n ≡ Some z → z.keeps ≡ Journal j
-        → length j.committed ≤ most_blocks }
+        → length j.committed ≤ most_requests }
     ensures slots { (s : Session) (core : Core) (n : ℕ) (z : Zone) (l : LogicalZone) → IsSession s → Legal s core → slice_get core.zones n ≡ Some z → z.keeps ≡ Logical l
-        → length l.slots ≤ most_blocks }
+        → length l.slots ≤ most_requests }
     ensures retired { (s : Session) (core : Core) (n : ℕ) (z : Zone) (l : LogicalZone) → IsSession s → Legal s core → slice_get core.zones n ≡ Some z → z.keeps ≡ Logical l
-        → length l.retired ≤ most_blocks }
+        → length l.retired ≤ most_requests }
 {}
 
 /// In a legal core each zone keeps within its room: room for that, taken at the start, suffices for the whole session.

@@ -1,5 +1,5 @@
 -- What the device zone does: one call of the device. A failed read has any bytes.
-use Rattle.std.specs.Prelude.{ℕ, ◌+◌, ◌≡◌, ◌<◌, Bool, true, false, Option, Some, List, [], ◌∷◌}
+use Rattle.std.specs.Prelude.{ℕ, ◌+◌, ◌≡◌, ◌<◌, Bool, true, false, Option, Some, List, [], ◌∷◌, map}
 use Rattle.blk_base.specs.Regions.{journal_slot_of, needed_blocks}
 use Rattle.blk_base.specs.declared.place.Mapping.TheVariants.{At}
 use Rattle.blk_base.specs.declared.place.Pbn.{Pbn}
@@ -72,9 +72,9 @@ pub data DeviceServes (sizes : Sizes) (old : DeviceZone) (v : Vio) (new : Device
       → new ≡ old → made ≡ [] → posts ≡ (id.Desk, item.Request (ended phase.Reply reply.Stopped v)) ∷ []
       → DeviceServes sizes old v new made posts
 
--- the bytes of a sealed block: its one entry, with the first sequence of the window as its head
+-- the bytes of a sealed block: its entries, the oldest first, with the first sequence of the window as its head
 abbrev pub journal_bytes : Sizes → SealedBlock → List ℕ
-journal_bytes sizes b = block_bytes sizes.geometry.nonce b.sequence sizes.start (entry_of (logged b.vio) ∷ [])
+journal_bytes sizes b = block_bytes sizes.geometry.nonce b.sequence sizes.start (map (λ (v : Vio). entry_of (logged v)) b.vios)
 
 -- the block of the journal where it stands
 abbrev pub IsItsSlot : Sizes → SealedBlock → Pbn → Type 0
@@ -93,13 +93,14 @@ next_stage now = (stage_row now).next
 abbrev pub next_zone : Stage → ZoneId
 next_zone now = (stage_row (next_stage now)).zone
 
+-- A block without an entry is none of these. A failure is told to the oldest of its requests.
 pub data DeviceWorks (sizes : Sizes) (old : DeviceZone) (b : SealedBlock) (new : DeviceZone) (made : Trace) (posts : List Post) : Type 0 where
-  makes : (call : Call) (slot : Pbn) → IsItsSlot sizes b slot → call_of sizes b slot true b.stage ≡ Some call → old.stopped ≡ false
+  makes : (call : Call) (slot : Pbn) (v : Vio) (vs : List Vio) → b.vios ≡ v ∷ vs → IsItsSlot sizes b slot → call_of sizes b slot true b.stage ≡ Some call → old.stopped ≡ false
       → new ≡ counted old → made ≡ Calls call ∷ [] → posts ≡ (next_zone b.stage, item.Block (staged (next_stage b.stage) b)) ∷ []
       → DeviceWorks sizes old b new made posts
-  fails : (call : Call) (slot : Pbn) (kept : Bool) → IsItsSlot sizes b slot → call_of sizes b slot false b.stage ≡ Some call → old.stopped ≡ false
-      → new ≡ halted old → made ≡ Fails b.vio.request call kept ∷ [] → posts ≡ (id.Journal, item.Block (staged stage.Fail b)) ∷ stop_notices (notified sizes)
+  fails : (call : Call) (slot : Pbn) (kept : Bool) (v : Vio) (vs : List Vio) → b.vios ≡ v ∷ vs → IsItsSlot sizes b slot → call_of sizes b slot false b.stage ≡ Some call → old.stopped ≡ false
+      → new ≡ halted old → made ≡ Fails v.request call kept ∷ [] → posts ≡ (id.Journal, item.Block (staged stage.Fail b)) ∷ stop_notices (notified sizes)
       → DeviceWorks sizes old b new made posts
-  unmade : (call : Call) (slot : Pbn) → call_of sizes b slot false b.stage ≡ Some call → old.stopped ≡ true
+  unmade : (call : Call) (slot : Pbn) (v : Vio) (vs : List Vio) → b.vios ≡ v ∷ vs → call_of sizes b slot false b.stage ≡ Some call → old.stopped ≡ true
       → new ≡ old → made ≡ [] → posts ≡ (id.Journal, item.Block (staged stage.Fail b)) ∷ []
       → DeviceWorks sizes old b new made posts

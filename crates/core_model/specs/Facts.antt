@@ -1,5 +1,5 @@
 -- What a request carries, and what a zone keeps: facts on their own fields and on the trace.
-use Rattle.std.specs.Prelude.{ℕ, ◌+◌, ◌≡◌, ◌⊎◌, ◌<◌, ◌≤◌, Bool, true, false, Option, None, Some, IsNone, List, [], ◌∷◌, length, drop, if◌then◌else◌}
+use Rattle.std.specs.Prelude.{ℕ, ◌+◌, ◌≡◌, ◌⊎◌, ◌<◌, ◌≤◌, Bool, true, false, Option, None, Some, IsNone, List, [], ◌∷◌, ◌++◌, length, drop, if◌then◌else◌}
 use Rattle.std.specs.List.{AllByRecursion}
 use Rattle.blk_base.specs.declared.journal_entry.Entry.{Entry}
 use Rattle.blk_base.specs.declared.place.Lba.{Lba}
@@ -36,7 +36,7 @@ use Rattle.core_model.specs.declared.zones.ZoneData.{ZoneData}
 use Rattle.core_model.specs.declared.zones.ZoneData.TheVariants as at
 use Rattle.core_model.specs.DeskData.{Desk}
 use Rattle.core_model.specs.declared.zones.DeviceZone.{DeviceZone}
-use Rattle.core_model.specs.declared.zones.JournalZone.{JournalZone}
+use Rattle.core_model.specs.JournalData.{JournalZone}
 use Rattle.core_model.specs.LogicalData.{Lock}
 use Rattle.core_model.specs.declared.zones.Logged.{Logged}
 use Rattle.core_model.specs.LogicalData.{LogicalZone}
@@ -48,12 +48,12 @@ use Rattle.core_model.specs.JournalRows.{is_closed}
 use Rattle.core_model.specs.LogicalRows.{is_among, is_held, mapped_by}
 use Rattle.core_model.specs.Phases.{row, number_at, stage_row}
 use Rattle.core_model.specs.Zones.{zone_number, zone_count, notified_zones}
-use Rattle.core_model.specs.RightTraces.{IsOpen, MapsTo, Quiet, IsCommitted, AllBelow, HasPlace, HasBelow, HasCause}
-use Rattle.core_model.specs.Sessions.{Session, HasHonestReads, IsFresh, OnBlock, Stands, ReadsAs, AtRest, OnItsWay, ReadsEntry, HasPending, value_at}
+use Rattle.core_model.specs.RightTraces.{IsOpen, IsPending, MapsTo, Quiet, IsCommitted, AllBelow, HasPlace, HasBelow, HasCause}
+use Rattle.core_model.specs.Sessions.{Session, HasHonestReads, IsFresh, OnBlock, NewReads, NewStands, ReadsAs, AtRest, OnItsWay, ReadsBlock, value_at}
 use Rattle.plain_laws.specs.Sums.{total, Each}
-use Rattle.core_model.specs.Tokens.{lock_weight, kept_by}
-use Rattle.core_model.specs.Trace.{Trace, moments, lines, calls, marks, places, entered, committed, done, aborted, taken, has_stopped, of_address, newest, logged_of, entries_of}
-use Rattle.core_model.specs.Vios.{asked, request_of, logged}
+use Rattle.core_model.specs.Tokens.{lock_weight}
+use Rattle.core_model.specs.Trace.{Trace, all_of, filled, sealed, moments, lines, calls, marks, places, entered, committed, done, aborted, taken, has_stopped, of_address, newest, logged_of, entries_of}
+use Rattle.core_model.specs.Vios.{all_logged, asked, request_of, logged}
 
 -- the number of the zone where a phase, and a stage, is done
 abbrev pub zone_at : Sizes → ZoneId → Phase → ℕ
@@ -136,6 +136,16 @@ pub record HasEntered (s : Session) (t : Trace) (asks : Asks) (e : Logged) : Typ
 abbrev pub IsEntered : Session → Trace → Vio → Type 0
 IsEntered s t v = HasEntered s t v.asks (logged v)
 
+-- and that is neither committed nor aborted
+pub record HasPendingEntry (s : Session) (t : Trace) (asks : Asks) (bytes : List ℕ) (e : Logged) : Type 0 where
+  pub is_entered : HasEntered s t asks e
+  pub pending : IsPending t e
+  pub below : AllBelow t e.at.0 e.place
+  pub maps : MapsTo asks bytes e.new
+  pub fresh : OnBlock (IsFresh s) e.new
+  pub old_held : HoldsMapping e.old
+  pub old_is : e.old ≡ mapping_of (entries_of s.window (done t)) e.at.0
+
 -- its answer is one that it may have: the mark of a flush that returned, or a cause
 abbrev pub IsEarned : Session → Trace → FlushMark → Request → Answer → Bool → Type 0
 IsEarned s t m r a true = IsMark (moments t) m
@@ -164,6 +174,7 @@ Carries s t v phase.Wait = IsPlaced s t v
 Carries s t v phase.Claim = Holds s t v × (v.asks ≡ Write)
 Carries s t v phase.Store = Holds s t v × (v.asks ≡ Write) × IsToFresh s v.new
 Carries s t v phase.Enter = Holds s t v × MapsTo v.asks v.bytes v.new × OnBlock (IsFresh s) v.new × OnBlock (λ x. ReadsAs s t x.0 v.bytes) v.new
+Carries s t v phase.Pending = HasPendingEntry s t v.asks v.bytes (logged v)
 Carries s t v phase.Settle = IsEntered s t v × IsCommitted t (logged v) × AllBelow t v.at.0 v.place × OnBlock (IsFresh s) v.new
 Carries s t v phase.Load = Looks s t v × IsToInside s v.old
 Carries s t v phase.Loaded = Looks s t v × (HasHonestReads s t → v.bytes ≡ value_at s t v.at.0)
@@ -174,31 +185,31 @@ Carries s t v phase.AbortEntered = IsEntered s t v × MayReply s t v v.answer ×
 Carries s t v phase.Flush = v.asks ≡ Flush
 Carries s t v phase.Reply = MayReply s t v v.answer
 
--- What stands on the device while a sealed block is at a stage: its entry is the last that was handed in.
-abbrev pub StandsAt : Session → Trace → Vio → Stage → Type 0
-StandsAt s t v stage.Cover = AtRest s t (committed t) × OnBlock (λ x. ReadsAs s t x.0 v.bytes) v.new
-StandsAt s t v stage.Write = AtRest s t (committed t) × OnBlock (λ x. Stands s t x.0 v.bytes) v.new
-StandsAt s t v stage.Harden = OnItsWay s t (committed t) (logged v) × ReadsEntry s t (committed t) (logged v)
-StandsAt s t v stage.Commit = AtRest s t (logged v ∷ committed t)
-StandsAt s t v stage.Fail = (AtRest s t (committed t) ⊎ OnItsWay s t (committed t) (logged v)) × (has_stopped t ≡ true)
+-- A block that was sealed last with the entries of these requests, at this sequence of the journal: all others are committed.
+pub record IsSealed (s : Session) (t : Trace) (vios : List Vio) (at : ℕ) : Type 0 where
+  pub older : List (List Logged)
+  pub sealed_is : sealed t ≡ all_logged vios ∷ older
+  pub committed_is : committed t ≡ all_of older
+  pub some : 0 < length vios
+  pub few : length vios ≤ 192
+  pub sequence : at ≡ s.sizes.start + (s.sizes.opened + length older)
+  pub left : s.sizes.opened + length older + 1 < s.sizes.geometry.journal
 
--- A request that is sealed with its entry, at this sequence of the journal.
-pub record IsSealed (s : Session) (t : Trace) (v : Vio) (at : ℕ) : Type 0 where
-  pub vio : VioOk s t v
-  pub phase : v.phase ≡ phase.Enter
-  pub is_entered : IsEntered s t v
-  pub last : entered t ≡ logged v ∷ committed t
-  pub others : of_address v.at.0 (committed t) ≡ of_address v.at.0 (done t)
-  pub below : AllBelow t v.at.0 v.place
-  pub maps : MapsTo v.asks v.bytes v.new
-  pub fresh : OnBlock (IsFresh s) v.new
-  pub old_held : HoldsMapping v.old
-  pub old_is : v.old ≡ mapping_of (entries_of s.window (committed t)) v.at.0
-  pub sequence : at ≡ s.sizes.start + (s.sizes.opened + length (committed t))
-  pub few : s.sizes.opened + length (committed t) + 1 < s.sizes.geometry.journal
+-- What stands on the device while a block with these requests is at a stage.
+abbrev pub StandsAt : Session → Trace → List Vio → ℕ → Stage → Type 0
+StandsAt s t vios at stage.Cover = (k : IsSealed s t vios at) × AtRest s t k.older × NewReads s t (all_logged vios)
+StandsAt s t vios at stage.Write = (k : IsSealed s t vios at) × AtRest s t k.older × NewStands s t (all_logged vios)
+StandsAt s t vios at stage.Harden = (k : IsSealed s t vios at) × OnItsWay s t k.older (all_logged vios) × ReadsBlock s t k.older (all_logged vios)
+StandsAt s t vios at stage.Commit = (all_of (sealed t) ≡ all_logged vios ++ committed t) × AtRest s t (sealed t)
+StandsAt s t vios at stage.Fail = (k : IsSealed s t vios at) × (AtRest s t k.older ⊎ OnItsWay s t k.older (all_logged vios)) × (has_stopped t ≡ true)
 
+-- a request that a zone keeps, or that is in a block, is in one phase
+abbrev pub KeptOk : Session → Trace → Phase → Vio → Type 0
+KeptOk s t one v = VioOk s t v × Carries s t v v.phase × (v.phase ≡ one)
+
+-- each request of a block has its entry there, and this stands on the device
 abbrev pub BlockOk : Session → Trace → SealedBlock → Type 0
-BlockOk s t b = IsSealed s t b.vio b.sequence × StandsAt s t b.vio b.stage
+BlockOk s t b = AllByRecursion (KeptOk s t phase.Pending) b.vios × StandsAt s t b.vios b.sequence b.stage
 
 -- an item in a lane to the zone of this number
 abbrev pub ItemOk : Session → Trace → ℕ → Item → Type 0
@@ -206,20 +217,17 @@ ItemOk s t to (item.Request v) = VioOk s t v × Carries s t v v.phase × (to ≡
 ItemOk s t to (item.Block b) = BlockOk s t b × (to ≡ zone_of_stage s.sizes b.stage)
 ItemOk s t to item.StopNotice = (has_stopped t ≡ true) × (to ≤ notified_zones s.sizes)
 
--- a request that a zone keeps is in one phase
-abbrev pub KeptOk : Session → Trace → Phase → Vio → Type 0
-KeptOk s t one v = VioOk s t v × Carries s t v v.phase × (v.phase ≡ one)
-
 -- places rise from each that waits to those behind it
 abbrev pub Rises : List Vio → Type 0
 Rises [] = Unit {0}
 Rises (v ∷ behind) = AllByRecursion (λ w. v.place < w.place) behind × Rises behind
 
--- the phase that the requests are in that a zone keeps
-abbrev pub kept_phase : ZoneData → Phase
-kept_phase (at.Logical l) = phase.Wait
-kept_phase (at.Journal j) = phase.Enter
-kept_phase other = phase.Reply
+-- this holds of each request that a zone keeps, with the phase that it is in
+abbrev pub KeptEach : (Phase → Vio → Type 0) → ZoneData → Type 0
+KeptEach P (at.Desk desk) = AllByRecursion (P phase.Reply) desk.parked
+KeptEach P (at.Logical l) = AllByRecursion (P phase.Wait) l.waiting
+KeptEach P (at.Journal j) = AllByRecursion (P phase.Pending) j.filling × AllByRecursion (P phase.Enter) j.waiting
+KeptEach P other = Unit {0}
 
 -- the name of a zone
 abbrev pub name_of : ZoneData → ZoneId
@@ -248,6 +256,9 @@ pub record PhysicalLists (s : Session) (t : Trace) (p : PhysicalZone) : Type 0 w
 pub record JournalLists (t : Trace) (j : JournalZone) : Type 0 where
   pub entered_is : j.entered ≡ entered t
   pub committed_is : j.committed ≡ committed t
+  -- while none failed
+  pub filled_is : j.broken ≡ false → all_logged j.filling ≡ filled t
+  pub blocks_is : j.blocks ≡ length (sealed t)
 
 pub record DeviceLists (t : Trace) (d : DeviceZone) : Type 0 where
   pub calls_is : d.calls ≡ successes (calls t)
@@ -308,13 +319,15 @@ abbrev pub IsSound : Session → ZoneData → Type 0
 IsSound s (at.Desk desk) = IsSoundDesk s desk
 IsSound s (at.Logical l) = IsSoundLogical s l
 IsSound s (at.Physical p) = AllByRecursion (IsFresh s) p.free
+-- the block being filled has no more entries than a block may
+IsSound s (at.Journal j) = length j.filling ≤ 192
 IsSound s other = Unit {0}
 
--- What stands on the device while no sealed block is under way.
+-- What stands on the device while no block is under way.
 abbrev pub RestsAt : Session → Trace → (busy broken : Bool) → Type 0
 RestsAt s t true broken = broken ≡ false
-RestsAt s t false false = (entered t ≡ committed t) × AtRest s t (committed t)
-RestsAt s t false true = HasPending s t
+RestsAt s t false false = (all_of (sealed t) ≡ committed t) × AtRest s t (sealed t)
+RestsAt s t false true = Unit {0}
 
 -- What it answers for: a logical zone for its addresses that are free (all entries of them are done), the journal for
 -- the device while it is idle.
@@ -337,7 +350,7 @@ pub record DataOk (s : Session) (t : Trace) (number : ℕ) (d : ZoneData) : Type
   pub number_is : number ≡ zone_number s.sizes (name_of d)
   pub lists : HasLists s t d
   pub sound : IsSound s d
-  pub kept : AllByRecursion (KeptOk s t (kept_phase d)) (kept_by d)
+  pub kept : KeptEach (KeptOk s t) d
   pub answers : Answers s t d
   pub told : WasTold t d
 

@@ -8,12 +8,13 @@ use Rattle.blk_base.specs.declared.request.Answer.TheVariants as reply
 use Rattle.core_model.specs.declared.items.Item.TheVariants as item
 use Rattle.core_model.specs.declared.items.Phase.TheVariants as phase
 use Rattle.core_model.specs.declared.items.SealedBlock.{SealedBlock}
+use Rattle.core_model.specs.declared.items.Stage.{Stage}
 use Rattle.core_model.specs.declared.items.Stage.TheVariants as stage
 use Rattle.core_model.specs.declared.items.Vio.{Vio}
 use Rattle.core_model.specs.declared.sizes.Sizes.{Sizes}
-use Rattle.core_model.specs.declared.zones.JournalZone.{JournalZone}
+use Rattle.core_model.specs.JournalData.{JournalZone}
 use Rattle.core_model.specs.declared.zones.PhysicalZone.{PhysicalZone}
-use Rattle.core_model.specs.Trace.{Trace, Enters, Commits, Takes}
+use Rattle.core_model.specs.Trace.{Trace, Enters, Seals, Commits, Takes}
 use Rattle.core_model.specs.Vios.{Post, turned, ended, logged}
 
 pub data PhysicalServes (sizes : Sizes) (old : PhysicalZone) (v : Vio) (new : PhysicalZone) (made : Trace) (posts : List Post) : Type 0 where
@@ -36,13 +37,18 @@ pub data PhysicalServes (sizes : Sizes) (old : PhysicalZone) (v : Vio) (new : Ph
 abbrev pub is_closed : JournalZone → Bool
 is_closed j = j.notified || j.broken
 
--- there is a block of the journal for one more entry: one stays free, so that the newest durable block is never overwritten
+-- there is a block of the journal for the one being filled: one stays free, so that the newest durable block is never
+-- overwritten
 abbrev pub has_block : Sizes → JournalZone → Bool
-has_block sizes j = nat_lt (sizes.opened + length j.entered + 1) sizes.geometry.journal
+has_block sizes j = nat_lt (sizes.opened + j.blocks + 1) sizes.geometry.journal
 
--- the block that is sealed with a request's entry
-abbrev pub sealed : Sizes → JournalZone → Vio → SealedBlock
-sealed sizes j v = record { stage = stage.Cover; sequence = sizes.start + (sizes.opened + length j.entered); vio = v }
+-- and the block being filled has room for one more entry
+abbrev pub has_room : JournalZone → Bool
+has_room j = nat_lt (length j.filling) 192
+
+-- the next block, with these requests
+abbrev pub next_block : Sizes → JournalZone → Stage → List Vio → SealedBlock
+next_block sizes j at vios = record { stage = at; sequence = sizes.start + (sizes.opened + j.blocks); vios = vios }
 
 -- a request is aborted, by way of the physical zone
 abbrev pub refused : Sizes → Answer → Vio → Post
@@ -52,25 +58,47 @@ abbrev pub all_refused : Sizes → Answer → List Vio → List Post
 all_refused sizes answer [] = []
 all_refused sizes answer (v ∷ vs) = refused sizes answer v ∷ all_refused sizes answer vs
 
-abbrev pub entered_by : Vio → JournalZone → JournalZone
-entered_by v j = record j { busy = true; entered = logged v ∷ j.entered }
+-- one whose entry was handed in is aborted so too
+abbrev pub dropped : Vio → Post
+dropped v = (id.Physical 0, item.Request (ended phase.AbortEnteredClaim reply.Stopped v))
 
+abbrev pub all_dropped : List Vio → List Post
+all_dropped [] = []
+all_dropped (v ∷ vs) = dropped v ∷ all_dropped vs
+
+-- those that waited come again
+abbrev pub all_again : List Vio → List Post
+all_again [] = []
+all_again (v ∷ vs) = (id.Journal, item.Request v) ∷ all_again vs
+
+-- an entry is handed in: it stands in the block being filled
+abbrev pub entered_by : Vio → JournalZone → JournalZone
+entered_by v j = record j { filling = j.filling ++ turned phase.Pending v ∷ []; entered = logged v ∷ j.entered }
+
+-- it is committed
 abbrev pub committed_by : Vio → JournalZone → JournalZone
-committed_by v j = record j { busy = false; committed = logged v ∷ j.committed }
+committed_by v j = record j { committed = logged v ∷ j.committed }
+
+-- the block being filled is sealed, and those that waited for the next one come again
+abbrev pub sealed_by : JournalZone → JournalZone
+sealed_by j = record j { blocks = j.blocks + 1; filling = []; waiting = [] }
 
 pub data JournalServes (sizes : Sizes) (old : JournalZone) (v : Vio) (new : JournalZone) (made : Trace) (posts : List Post) : Type 0 where
-  -- an entry is refused, or waits for the block under way, or is handed in
+  -- an entry is refused, or waits for the next block, or is handed in; with the first one the block goes round that is sealed
   is_stopped : v.phase ≡ phase.Enter → is_closed old ≡ true
       → new ≡ old → made ≡ [] → posts ≡ refused sizes reply.Stopped v ∷ []
       → JournalServes sizes old v new made posts
-  waits : v.phase ≡ phase.Enter → is_closed old ≡ false → old.busy ≡ true
-      → new ≡ record old { waiting = old.waiting ++ v ∷ [] } → made ≡ [] → posts ≡ []
-      → JournalServes sizes old v new made posts
-  is_full : v.phase ≡ phase.Enter → is_closed old ≡ false → old.busy ≡ false → has_block sizes old ≡ false
+  is_full : v.phase ≡ phase.Enter → is_closed old ≡ false → has_block sizes old ≡ false
       → new ≡ old → made ≡ [] → posts ≡ refused sizes reply.Full v ∷ []
       → JournalServes sizes old v new made posts
-  enters : v.phase ≡ phase.Enter → is_closed old ≡ false → old.busy ≡ false → has_block sizes old ≡ true
-      → new ≡ entered_by v old → made ≡ Enters (logged v) ∷ [] → posts ≡ (id.Device, item.Block (sealed sizes old v)) ∷ []
+  waits : v.phase ≡ phase.Enter → is_closed old ≡ false → has_block sizes old ≡ true → has_room old ≡ false
+      → new ≡ record old { waiting = old.waiting ++ v ∷ [] } → made ≡ [] → posts ≡ []
+      → JournalServes sizes old v new made posts
+  enters : v.phase ≡ phase.Enter → is_closed old ≡ false → has_block sizes old ≡ true → has_room old ≡ true → old.busy ≡ true
+      → new ≡ entered_by v old → made ≡ Enters (logged v) ∷ [] → posts ≡ []
+      → JournalServes sizes old v new made posts
+  enters_first : v.phase ≡ phase.Enter → is_closed old ≡ false → has_block sizes old ≡ true → has_room old ≡ true → old.busy ≡ false
+      → new ≡ record (entered_by v old) { busy = true } → made ≡ Enters (logged v) ∷ [] → posts ≡ (id.Journal, item.Block (next_block sizes old stage.Commit [])) ∷ []
       → JournalServes sizes old v new made posts
 
 -- a committed entry goes to its slot
@@ -78,20 +106,21 @@ abbrev pub hands_out : Vio → Post
 hands_out v = (v.home, item.Request (turned phase.Settle v))
 
 pub data JournalEnds (sizes : Sizes) (old : JournalZone) (b : SealedBlock) (new : JournalZone) (made : Trace) (posts : List Post) : Type 0 where
-  -- the block is committed, and the next entry is handed in, or nobody waits, or there is no block for those that wait
-  commits_next : (w : Vio) (ws : List Vio) → b.stage ≡ stage.Commit → old.waiting ≡ w ∷ ws → has_block sizes old ≡ true
-      → new ≡ entered_by w (record (committed_by b.vio old) { waiting = ws }) → made ≡ Enters (logged w) ∷ Commits (logged b.vio) ∷ []
-      → posts ≡ hands_out b.vio ∷ (id.Device, item.Block (sealed sizes old w)) ∷ []
+  -- the oldest entry of the block is committed
+  commits : (v : Vio) (vs : List Vio) → b.stage ≡ stage.Commit → b.vios ≡ v ∷ vs
+      → new ≡ committed_by v old → made ≡ Commits (logged v) ∷ []
+      → posts ≡ hands_out v ∷ (id.Journal, item.Block (record b { vios = vs })) ∷ []
       → JournalEnds sizes old b new made posts
-  commits_alone : b.stage ≡ stage.Commit → old.waiting ≡ [] → has_block sizes old ≡ true
-      → new ≡ committed_by b.vio old → made ≡ Commits (logged b.vio) ∷ [] → posts ≡ hands_out b.vio ∷ []
+  -- all are: the next block is sealed, or there is none
+  seals : (v : Vio) (vs : List Vio) → b.stage ≡ stage.Commit → b.vios ≡ [] → old.filling ≡ v ∷ vs
+      → new ≡ sealed_by old → made ≡ Seals ∷ []
+      → posts ≡ (id.Device, item.Block (next_block sizes old stage.Cover (v ∷ vs))) ∷ all_again old.waiting
       → JournalEnds sizes old b new made posts
-  commits_last : b.stage ≡ stage.Commit → has_block sizes old ≡ false
-      → new ≡ record (committed_by b.vio old) { waiting = [] } → made ≡ Commits (logged b.vio) ∷ []
-      → posts ≡ hands_out b.vio ∷ all_refused sizes reply.Full old.waiting
+  rests : b.stage ≡ stage.Commit → b.vios ≡ [] → old.filling ≡ []
+      → new ≡ record old { busy = false; waiting = [] } → made ≡ [] → posts ≡ all_again old.waiting
       → JournalEnds sizes old b new made posts
   -- the block failed
   fails : b.stage ≡ stage.Fail
-      → new ≡ record old { busy = false; broken = true; waiting = [] } → made ≡ []
-      → posts ≡ (id.Physical 0, item.Request (ended phase.AbortEnteredClaim reply.Stopped b.vio)) ∷ all_refused sizes reply.Stopped old.waiting
+      → new ≡ record old { busy = false; broken = true; filling = []; waiting = [] } → made ≡ []
+      → posts ≡ all_dropped b.vios ++ (all_dropped old.filling ++ all_refused sizes reply.Stopped old.waiting)
       → JournalEnds sizes old b new made posts

@@ -17,9 +17,10 @@ use Rattle.core_model.specs.Tokens.{Balanced, AtMost, request_token, lease_token
 abbrev pub ComesAfter : ℕ → Writer → Placed → Type 0
 ComesAfter zone w p = p.zone ≡ zone → p.request.stream ≡ w.stream → p.request.number < w.number
 
--- how many items a lane has at most, and how many requests a zone keeps: those under way, and the stop notices
+-- how many items a lane has at most, and how many requests a zone keeps: those under way, the stop notices, and a block of
+-- the journal
 abbrev pub share : Session → ℕ
-share s = length s.script * s.sizes.depth + notified_zones s.sizes
+share s = length s.script * s.sizes.depth + notified_zones s.sizes + 1
 
 -- A legal core: balances of tokens, what each zone with its lanes keeps and carries, and a right trace.
 pub record Legal (s : Session) (core : Core) : Type 0 where
@@ -35,7 +36,7 @@ pub record Legal (s : Session) (core : Core) : Type 0 where
   pub entries : Balanced entry_token core.zones
   -- no data block is taken twice
   pub blocks : (x : ℕ) → AtMost (block_token x) core.zones
-  -- one sealed block is under way, or the journal is idle
+  -- one block is under way, or the journal is idle
   pub journal : Balanced journal_token core.zones
   -- no request and no stop notice is lost or doubled
   pub room : Balanced room_token core.zones

@@ -6,6 +6,7 @@ pub mod Zones
 pub mod Phases
 pub mod Trace
 pub mod LogicalData
+pub mod JournalData
 pub mod SlotOrder
 pub mod Vios
 pub mod DeskRows

@@ -7,7 +7,7 @@ use Rattle.core_model.specs.DeskLines.{AreBegunFirst, is_answer, is_begin}
 use Rattle.core_model.specs.declared.zones.ZoneData.{ZoneData}
 use Rattle.core_model.specs.declared.zones.ZoneData.TheVariants as at
 use Rattle.core_model.specs.declared.zones.DeviceZone.{DeviceZone}
-use Rattle.core_model.specs.declared.zones.JournalZone.{JournalZone}
+use Rattle.core_model.specs.JournalData.{JournalZone}
 use Rattle.core_model.specs.LogicalData.{LogicalZone}
 use Rattle.core_model.specs.declared.zones.Zone.{Zone}
 use Rattle.plain_laws.specs.Sums.{total}
@@ -35,14 +35,16 @@ pub record IsLogicalWithin (steps : ℕ) (l : LogicalZone) : Type 0 where
   pub places : length l.places ≤ most_requests
   pub held : IsShort l.held
   pub waiting : IsShort l.waiting
-  pub retired : length l.retired ≤ most_blocks
-  pub slots : length l.slots ≤ most_blocks
+  pub retired : length l.retired ≤ most_requests
+  pub slots : length l.slots ≤ most_requests
 
--- Those of the journal: each of its blocks has one entry.
+-- Those of the journal: each request hands in one entry at most.
 pub record IsJournalWithin (j : JournalZone) : Type 0 where
+  pub blocks : j.blocks ≤ most_blocks
+  pub filling : length j.filling ≤ 192
   pub waiting : IsShort j.waiting
-  pub entered : length j.entered ≤ most_blocks
-  pub committed : length j.committed ≤ most_blocks
+  pub entered : length j.entered ≤ most_requests
+  pub committed : length j.committed ≤ most_requests
 
 -- The device's zone makes one call a step at most.
 abbrev pub IsDeviceWithin : ℕ → DeviceZone → Type 0

@@ -33,6 +33,7 @@ row phase.Wait = record { zone = InNoLane; locks = false; claims = false; arrive
 row phase.Claim = record { zone = AtPhysical; locks = true; claims = false; arrives = false; entered = false }
 row phase.Store = record { zone = AtDevice; locks = true; claims = true; arrives = false; entered = false }
 row phase.Enter = record { zone = AtJournal; locks = true; claims = true; arrives = false; entered = false }
+row phase.Pending = record { zone = InNoLane; locks = true; claims = false; arrives = false; entered = true }
 row phase.Settle = record { zone = AtHome; locks = true; claims = false; arrives = false; entered = true }
 row phase.Load = record { zone = AtDevice; locks = true; claims = false; arrives = false; entered = false }
 row phase.Loaded = record { zone = AtHome; locks = true; claims = false; arrives = false; entered = false }

@@ -16,9 +16,9 @@ items_of queue = queue.items
 abbrev pub ports_of : Boxes Item → Ports
 ports_of boxes = record { inbox = items_of boxes.inbox; outboxes = map items_of boxes.outboxes }
 
--- the room of a lane: twice as many items as are under way, and sixteen more
+-- the room of a lane: twice as many items as are under way, as many as two blocks have, and sixteen more
 abbrev pub lane_room : ℕ
-lane_room = 2 * most_items + 16
+lane_room = 2 * most_items + 400
 
 -- a list has that room, and no more in it
 pub record IsLane (queue : Queue Item) : Type 0 where

@@ -1,5 +1,5 @@
 -- A right trace: each happening may follow those before it, and at each moment a stop leaves what it may.
-use Rattle.std.specs.Prelude.{ℕ, ◌+◌, ◌≡◌, ◌⊎◌, ◌<◌, ◌≤◌, true, false, Some, IsNone, IsSome, List, [], ◌∷◌, length, slice_get}
+use Rattle.std.specs.Prelude.{ℕ, ◌+◌, ◌≡◌, ◌⊎◌, ◌<◌, ◌≤◌, true, false, Some, IsNone, IsSome, List, [], ◌∷◌, ◌++◌, length, slice_get}
 use Rattle.std.specs.List.{AllByRecursion}
 use Rattle.blk_base.specs.Regions.{IsDataBlock}
 use Rattle.blk_base.specs.declared.place.Lba.{Lba}
@@ -27,7 +27,7 @@ use Rattle.core_model.specs.declared.items.Asks.{Asks}
 use Rattle.core_model.specs.declared.items.Asks.TheVariants as asks
 use Rattle.core_model.specs.Sessions.{OnBlock, Session, Shown, value_at}
 use Rattle.core_model.specs.Vios.{asked}
-use Rattle.core_model.specs.Trace.{Happening, Says, Flushes, Draws, Enters, Commits, Sets, Gives, Takes, Aborts, Calls, Fails, Trace, Gift, moments, lines, places, entered, committed, done, aborted, gifts, taken, is_read, is_ok, has_stopped, has_read_fault, of_address, logged_of, gift_of, entries_of}
+use Rattle.core_model.specs.Trace.{Happening, Says, Flushes, Draws, Enters, Seals, Commits, Sets, Gives, Takes, Aborts, Calls, Fails, Trace, Gift, moments, lines, places, entered, filled, sealed, all_of, committed, done, aborted, gifts, taken, is_read, is_ok, has_stopped, has_read_fault, of_address, logged_of, gift_of, entries_of}
 
 -- a request is begun and not answered
 pub record IsOpen (t : Trace) (w : Writer) : Type 0 where
@@ -85,7 +85,7 @@ pub record FollowsAbort (s : Session) (t : Trace) (w : Writer) (a : ℕ) : Type 
 
 -- no block of the journal is left but the one that stays free; or none, or no free data block
 abbrev pub HasFullJournal : Session → Trace → Type 0
-HasFullJournal s t = s.sizes.geometry.journal ≤ s.sizes.opened + length (entered t) + 1
+HasFullJournal s t = s.sizes.geometry.journal ≤ s.sizes.opened + length (sealed t) + 1
 
 abbrev pub IsFull : Session → Trace → Type 0
 IsFull s t = HasFullJournal s t ⊎ (length s.free ≤ taken t)
@@ -149,11 +149,11 @@ pub record EntryMayFollow (s : Session) (e : Logged) (t : Trace) : Type 0 where
   pub is_open : IsOpen t e.request
   pub is_write : IsWrite s t e
   pub once : IsNone (logged_of (entered t) e.request)
-  pub idle : entered t ≡ committed t
   pub quiet : Quiet t e.at.0
   pub below : AllBelow t e.at.0 e.place
-  -- a block of the journal is left for it
-  pub left : s.sizes.opened + length (entered t) + 1 < s.sizes.geometry.journal
+  -- a block of the journal is left for it, and that has room
+  pub left : s.sizes.opened + length (sealed t) + 1 < s.sizes.geometry.journal
+  pub room : length (filled t) < 192
   -- it maps its address to a data block, or to none
   pub new_data : OnBlock (λ x. IsDataBlock s.sizes.geometry x.0) e.new
   -- it has what its address is mapped to by the committed entries
@@ -161,7 +161,14 @@ pub record EntryMayFollow (s : Session) (e : Logged) (t : Trace) : Type 0 where
 
 pub record CommitMayFollow (s : Session) (e : Logged) (t : Trace) : Type 0 where
   pub is_open : IsOpen t e.request
-  pub last : entered t ≡ e ∷ committed t
+  -- it is the oldest that isn't committed, and it is in a sealed block
+  pub rest : List Logged
+  pub next : all_of (sealed t) ≡ rest ++ e ∷ committed t
+
+-- the block being filled may be sealed: all entries of the others are committed, and a block of the journal is left for it
+pub record SealMayFollow (s : Session) (t : Trace) : Type 0 where
+  pub all_committed : all_of (sealed t) ≡ committed t
+  pub left : s.sizes.opened + length (sealed t) + 1 < s.sizes.geometry.journal
 
 pub record SlotMayFollow (s : Session) (e : Logged) (t : Trace) : Type 0 where
   pub is_open : IsOpen t e.request
@@ -218,6 +225,7 @@ MayFollow s (Flushes mark) t =
 MayFollow s (Draws p) t = PlaceMayFollow s p t
 MayFollow s (Enters e) t = EntryMayFollow s e t
 MayFollow s (Commits e) t = CommitMayFollow s e t
+MayFollow s Seals t = SealMayFollow s t
 MayFollow s (Sets e) t = SlotMayFollow s e t
 MayFollow s (Gives g) t = GiftMayFollow s g t
 MayFollow s (Takes w x) t = TakeMayFollow s w x t

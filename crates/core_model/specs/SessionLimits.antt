@@ -22,7 +22,7 @@ abbrev pub most_blocks : ℕ
 most_blocks = 1024
 
 -- how many requests are under way at most, how many zones are notified of a stop, and how many items there are: requests,
--- and stop notices
+-- stop notices, and a block of the journal
 abbrev pub most_under_way : ℕ
 most_under_way = most_streams * most_depth
 
@@ -30,7 +30,7 @@ abbrev pub most_notices : ℕ
 most_notices = 2 + most_zones
 
 abbrev pub most_items : ℕ
-most_items = most_under_way + most_notices
+most_items = most_under_way + most_notices + 1
 
 -- how many requests a script has
 abbrev pub requests_in : Script → ℕ

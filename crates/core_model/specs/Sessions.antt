@@ -1,5 +1,5 @@
 -- What a session is over, what stands on its device, and which values its addresses have.
-use Rattle.std.specs.Prelude.{ℕ, ◌+◌, ◌≡◌, ◌≢◌, ◌⊎◌, ◌<◌, ◌≤◌, ◌^◌, true, false, Option, None, Some, List, [], ◌∷◌, ◌++◌, length, map}
+use Rattle.std.specs.Prelude.{ℕ, ◌≡◌, ◌≢◌, ◌⊎◌, ◌<◌, ◌≤◌, ◌^◌, true, false, Option, None, Some, List, [], ◌∷◌, ◌++◌, length, map, reverse}
 use Rattle.std.specs.List.{AllByRecursion}
 use Rattle.blk_base.specs.Limits.{IsGeometry}
 use Rattle.blk_base.specs.Regions.{IsDataBlock, needed_blocks}
@@ -21,12 +21,12 @@ use Rattle.core_model.specs.declared.zones.Logged.{Logged}
 use Rattle.plain_laws.specs.Sums.{total}
 use Rattle.core_model.specs.SessionLimits.{IsLimited}
 use Rattle.core_model.specs.Tokens.{is_block}
-use Rattle.core_model.specs.Trace.{Calls, Trace, calls, entered, committed, done, of_address, newest, entry_of, entries_of}
+use Rattle.core_model.specs.Trace.{Calls, Trace, all_of, calls, committed, done, filled, sealed, of_address, newest, entry_of, entries_of}
 use Rattle.journal_stops.specs.Rings.{IsAtRest, IsUnderWay, IsWritten}
 use Rattle.journal_stops.specs.Sealed.{Sealed, head_of}
 use Rattle.image_model.specs.Windows.{IsOfImage, IsWindow}
 use Rattle.blk_base.specs.declared.journal_entry.CommittedEntry.{CommittedEntry}
-use Rattle.journal_stops.specs.Sealed as sealed
+use Rattle.journal_stops.specs.Sealed as blocks
 
 -- What is fixed: the sizes, the script, the blocks that the device had when its log began, its log before the session,
 -- the one image that a stop left then, the blocks that its journal has, the entries of these, and the data blocks that are
@@ -66,7 +66,7 @@ AreDistinct blocks = (x : ℕ) → total (is_block x) blocks ≤ 1
 pub record HasWholeBlocks (s : Session) : Type 0 where
   pub at_rest : IsAtRest s.image [] s.sizes.geometry s.sizes.start s.sealed
   pub all_needed : head_of s.sizes.start s.sealed ≡ s.sizes.start
-  pub window_is : s.window ≡ said_by (sealed.entries_of s.sizes.start s.sealed)
+  pub window_is : s.window ≡ said_by (blocks.entries_of s.sizes.start s.sealed)
   pub opened : s.sizes.opened ≡ length s.sealed
 
 -- The journal of the opened image has a window, and all its blocks count as used: none is left for more.
@@ -128,54 +128,66 @@ value_from s a (Some e) = bytes_of s e
 abbrev pub MapStands : Session → Trace → List Logged → Type 0
 MapStands s t es = (a : ℕ) → OnBlock (λ x. Stands s t x.0 (value_from s a (newest (of_address a es)))) (mapping_of (entries_of s.window es) a)
 
--- the block of the journal that is sealed with the entry of a write; it names the first sequence as its head
-abbrev pub sealed_with : Session → Logged → Sealed
-sealed_with s e = record { head = s.sizes.start; entries = entry_of e ∷ [] }
+-- the block of the journal that is sealed with the entries of these writes, the newest first; it names the first sequence as
+-- its head
+abbrev pub sealed_with : Session → List Logged → Sealed
+sealed_with s es = record { head = s.sizes.start; entries = reverse (map entry_of es) }
 
--- the blocks of the journal with the entries of these writes, on those that it had
-abbrev pub blocks_of : Session → List Logged → List Sealed
+-- the blocks of the journal with the entries of these writes, block by block, on those that it had
+abbrev pub blocks_of : Session → List (List Logged) → List Sealed
 blocks_of s [] = s.sealed
-blocks_of s (e ∷ older) = sealed_with s e ∷ blocks_of s older
+blocks_of s (es ∷ older) = sealed_with s es ∷ blocks_of s older
 
--- no entry was handed in, since no block is left, and each block of the journal is as it was
-pub record StandsAsOpened (s : Session) (t : Trace) (es : List Logged) : Type 0 where
-  pub none : es ≡ []
+-- none was sealed, since no block is left, and each block of the journal is as it was
+pub record StandsAsOpened (s : Session) (t : Trace) (blocks : List (List Logged)) : Type 0 where
+  pub none : blocks ≡ []
   pub opening : HasNoneLeft s
-  pub blocks : (slot : ℕ) → slot < s.sizes.geometry.journal → Stands s t (block_of_slot slot) (device.block_at s.image (block_of_slot slot))
+  pub same : (slot : ℕ) → slot < s.sizes.geometry.journal → Stands s t (block_of_slot slot) (device.block_at s.image (block_of_slot slot))
 
 -- the journal has the blocks of these writes, on those that it had
-abbrev pub HasBlocks : Session → Trace → List Logged → Type 0
-HasBlocks s t es = (HasWholeBlocks s × IsAtRest s.blocks (log s t) s.sizes.geometry s.sizes.start (blocks_of s es)) ⊎ StandsAsOpened s t es
+abbrev pub HasBlocks : Session → Trace → List (List Logged) → Type 0
+HasBlocks s t blocks = (HasWholeBlocks s × IsAtRest s.blocks (log s t) s.sizes.geometry s.sizes.start (blocks_of s blocks)) ⊎ StandsAsOpened s t blocks
 
 -- and their map stands
-abbrev pub AtRest : Session → Trace → List Logged → Type 0
-AtRest s t es = HasBlocks s t es × MapStands s t es
+abbrev pub AtRest : Session → Trace → List (List Logged) → Type 0
+AtRest s t blocks = HasBlocks s t blocks × MapStands s t (all_of blocks)
 
--- what a write maps its address to stands
-abbrev pub NewStands : Session → Trace → Logged → Type 0
-NewStands s t e = OnBlock (λ x. Stands s t x.0 (bytes_of s e)) e.new
+-- what each of these writes maps its address to stands; and a read gives it
+abbrev pub NewStands : Session → Trace → List Logged → Type 0
+NewStands s t es = AllByRecursion (λ (e : Logged). OnBlock (λ x. Stands s t x.0 (bytes_of s e)) e.new) es
 
--- besides, the block of one more entry is under way, and what it maps its address to stands
-abbrev pub OnItsWay : Session → Trace → List Logged → Logged → Type 0
-OnItsWay s t es e =
-    (HasWholeBlocks s × IsUnderWay s.blocks (log s t) s.sizes.geometry s.sizes.start (blocks_of s es) (sealed_with s e)) × MapStands s t es × NewStands s t e
+abbrev pub NewReads : Session → Trace → List Logged → Type 0
+NewReads s t es = AllByRecursion (λ (e : Logged). OnBlock (λ x. ReadsAs s t x.0 (bytes_of s e)) e.new) es
+
+-- besides, the block of these writes is under way, and what they map their addresses to stands
+abbrev pub OnItsWay : Session → Trace → List (List Logged) → List Logged → Type 0
+OnItsWay s t older es =
+    (HasWholeBlocks s × IsUnderWay s.blocks (log s t) s.sizes.geometry s.sizes.start (blocks_of s older) (sealed_with s es)) × MapStands s t (all_of older) × NewStands s t es
 
 -- and a read of that block's place gives it
-abbrev pub ReadsEntry : Session → Trace → List Logged → Logged → Type 0
-ReadsEntry s t es e = IsWritten s.blocks (log s t) s.sizes.geometry s.sizes.start (blocks_of s es) (sealed_with s e)
+abbrev pub ReadsBlock : Session → Trace → List (List Logged) → List Logged → Type 0
+ReadsBlock s t older es = IsWritten s.blocks (log s t) s.sizes.geometry s.sizes.start (blocks_of s older) (sealed_with s es)
 
--- The last entry was handed in and isn't committed: the journal has the committed ones, or the block of this one is under
--- way, or is there too.
-pub record HasPending (s : Session) (t : Trace) : Type 0 where
-  pub entry : Logged
-  pub is_last : entered t ≡ entry ∷ committed t
-  pub stands : AtRest s t (committed t) ⊎ OnItsWay s t (committed t) entry ⊎ AtRest s t (entry ∷ committed t)
+-- All blocks that were sealed are there; of the last one some may not be committed.
+pub record AreAllThere (s : Session) (t : Trace) : Type 0 where
+  pub rest : List Logged
+  pub all : all_of (sealed t) ≡ rest ++ committed t
+  pub stands : AtRest s t (sealed t)
 
--- What stands on the device: the superblock, and in the journal the entries that are committed, or these and the one that was
--- handed in last; and what they map the addresses to.
+-- The last one comes: the others are there and committed, and it wasn't written, or is under way.
+pub record ComesLast (s : Session) (t : Trace) : Type 0 where
+  pub block : List Logged
+  pub older : List (List Logged)
+  pub sealed_is : sealed t ≡ block ∷ older
+  pub committed_is : committed t ≡ all_of older
+  pub stands : AtRest s t older ⊎ OnItsWay s t older block
+
+-- What stands on the device: the superblock, the blocks that were sealed, of which the last may be coming, with the map of
+-- their entries; and a read of each block to which an entry of the block being filled maps its address gives its value.
 pub record Shown (s : Session) (t : Trace) : Type 0 where
   pub superblock : Stands s t 0 (device.block_at s.image 0)
-  pub journal : ((entered t ≡ committed t) × AtRest s t (committed t)) ⊎ HasPending s t
+  pub journal : AreAllThere s t ⊎ ComesLast s t
+  pub filling : NewReads s t (filled t)
 
 abbrev pub value_at : Session → Trace → ℕ → List ℕ
 value_at s t a = value_from s a (newest (of_address a (done t)))

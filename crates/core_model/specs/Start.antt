@@ -5,7 +5,7 @@ use Rattle.core_model.specs.declared.zones.ZoneData.{ZoneData}
 use Rattle.core_model.specs.declared.zones.ZoneData.TheVariants as at
 use Rattle.core_model.specs.DeskData.{Desk}
 use Rattle.core_model.specs.declared.zones.DeviceZone.{DeviceZone}
-use Rattle.core_model.specs.declared.zones.JournalZone.{JournalZone}
+use Rattle.core_model.specs.JournalData.{JournalZone}
 use Rattle.core_model.specs.LogicalData.{LogicalZone}
 use Rattle.core_model.specs.declared.zones.PhysicalZone.{PhysicalZone}
 use Rattle.core_model.specs.declared.zones.Zone.{Zone}
@@ -47,6 +47,8 @@ pub record IsFirstJournal (s : Session) (number : ℕ) (j : JournalZone) : Type 
   pub notified : j.notified ≡ false
   pub busy : j.busy ≡ false
   pub broken : j.broken ≡ false
+  pub blocks : j.blocks ≡ 0
+  pub filling : j.filling ≡ []
   pub waiting : j.waiting ≡ []
   pub entered : j.entered ≡ []
   pub committed : j.committed ≡ []

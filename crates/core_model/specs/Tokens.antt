@@ -1,5 +1,5 @@
 -- Tokens: what is given out once and held once. Of each token as many are held as were given.
-use Rattle.std.specs.Prelude.{ℕ, ◌+◌, ◌≡◌, ◌≤◌, ◌==◌, Bool, false, ◌&&◌, not, List, [], ◌∷◌, length, cond}
+use Rattle.std.specs.Prelude.{ℕ, ◌+◌, ◌≡◌, ◌≤◌, ◌==◌, Bool, false, ◌&&◌, not, List, [], ◌∷◌, ◌++◌, length, cond}
 use Rattle.blk_base.specs.declared.place.Mapping.{Mapping}
 use Rattle.blk_base.specs.declared.place.Mapping.TheVariants.{At}
 use Rattle.blk_base.specs.declared.place.Pbn.{Pbn}
@@ -32,7 +32,7 @@ pub record Token : Type 0 where
 abbrev pub kept_by : ZoneData → List Vio
 kept_by (at.Desk desk) = desk.parked
 kept_by (at.Logical l) = l.waiting
-kept_by (at.Journal j) = j.waiting
+kept_by (at.Journal j) = j.filling ++ j.waiting
 kept_by other = []
 
 abbrev pub as_items : List Vio → List Item
@@ -59,10 +59,10 @@ Balanced t zones = total (weight t) zones ≡ total (given t) zones
 abbrev pub AtMost : Token → List Zone → Type 0
 AtMost t zones = total (weight t) zones ≤ total (given t) zones
 
--- a number of the request that an item has
+-- a number of the requests that an item has
 abbrev pub of_vio : (Vio → ℕ) → Item → ℕ
 of_vio f (Request v) = f v
-of_vio f (Block b) = f b.vio
+of_vio f (Block b) = total f b.vios
 of_vio f other = 0
 
 -- a number of the data of one kind of zone
@@ -110,15 +110,9 @@ held_at other = 0
 abbrev pub holder_token : Token
 holder_token = record { item = of_vio (λ v. bit (holds v.phase)); own = none; gave = held_at }
 
--- Entries: one that was handed in is in its sealed block, or on its way to its slot, until the slot is set or the address
--- retired.
+-- Entries: one that was handed in is in its block, or on its way to its slot, until the slot is set or the address retired.
 abbrev pub has_entry : Phase → Bool
 has_entry p = (row p).entered
-
-abbrev pub entry_weight : Item → ℕ
-entry_weight (Request v) = bit (has_entry v.phase)
-entry_weight (Block b) = 1
-entry_weight other = 0
 
 abbrev pub ended_at : ZoneData → ℕ
 ended_at (at.Logical l) = length l.slots + length l.retired
@@ -129,7 +123,7 @@ entered_at (at.Journal j) = length j.entered
 entered_at other = 0
 
 abbrev pub entry_token : Token
-entry_token = record { item = entry_weight; own = ended_at; gave = entered_at }
+entry_token = record { item = of_vio (λ v. bit (has_entry v.phase)); own = ended_at; gave = entered_at }
 
 -- Data blocks: one that is free, or taken by a write whose entry wasn't handed in, or named by an entry, is so once.
 abbrev pub claims : Phase → Bool
@@ -140,9 +134,8 @@ abbrev pub names : ℕ → Mapping → Bool
 names x (At p) = p.0 == x
 names x other = false
 
-abbrev pub claim_weight : ℕ → Item → ℕ
-claim_weight x (Request v) = bit (claims v.phase && names x v.new)
-claim_weight x other = 0
+abbrev pub claim_weight : ℕ → Vio → ℕ
+claim_weight x v = bit (claims v.phase && names x v.new)
 
 abbrev pub is_block : ℕ → Pbn → ℕ
 is_block x p = bit (p.0 == x)
@@ -160,9 +153,9 @@ one_physical (at.Physical p) = 1
 one_physical other = 0
 
 abbrev pub block_token : ℕ → Token
-block_token x = record { item = claim_weight x; own = blocks_at x; gave = one_physical }
+block_token x = record { item = of_vio (claim_weight x); own = blocks_at x; gave = one_physical }
 
--- The journal: one sealed block is under way, or none.
+-- The journal: one block is under way, sealed or to be sealed, or none.
 abbrev pub is_sealed : Item → ℕ
 is_sealed (Block b) = 1
 is_sealed other = 0

@@ -1,6 +1,6 @@
 -- What happens in a session, in order: its trace. The newest happening stands first. Each list that a zone only adds to
 -- is a part of the trace.
-use Rattle.std.specs.Prelude.{ℕ, suc, ◌==◌, Bool, true, false, not, ◌&&◌, ◌||◌, Option, None, Some, List, [], ◌∷◌, if◌then◌else◌}
+use Rattle.std.specs.Prelude.{ℕ, suc, ◌==◌, Bool, true, false, not, ◌&&◌, ◌||◌, Option, None, Some, List, [], ◌∷◌, ◌++◌, if◌then◌else◌}
 use Rattle.blk_base.specs.declared.journal_entry.Entry.{Entry}
 use Rattle.blk_base.specs.declared.journal_entry.Entry.TheVariants.{Remap}
 use Rattle.blk_base.specs.declared.place.Lba.{Lba}
@@ -35,6 +35,8 @@ pub data Happening : Type 0 where
   Enters : Logged → Happening
   Commits : Logged → Happening
   Sets : Logged → Happening
+  -- the block being filled is sealed, with the entries that were handed in since the one before
+  Seals : Happening
   -- a read is given its bytes
   Gives : Gift → Happening
   -- a write takes a free data block
@@ -86,6 +88,23 @@ abbrev pub entered : Trace → List Logged
 entered [] = []
 entered (Enters e ∷ t) = e ∷ entered t
 entered (other ∷ t) = entered t
+
+-- those of them in the block being filled, which isn't sealed, and those of each sealed block, the newest block first
+abbrev pub filled : Trace → List Logged
+filled [] = []
+filled (Enters e ∷ t) = e ∷ filled t
+filled (Seals ∷ t) = []
+filled (other ∷ t) = filled t
+
+abbrev pub sealed : Trace → List (List Logged)
+sealed [] = []
+sealed (Seals ∷ t) = filled t ∷ sealed t
+sealed (other ∷ t) = sealed t
+
+-- those of blocks, one block's behind the other's
+abbrev pub all_of : List (List Logged) → List Logged
+all_of [] = []
+all_of (block ∷ older) = block ++ all_of older
 
 -- those whose entry was committed
 abbrev pub committed : Trace → List Logged

@@ -1,5 +1,5 @@
 -- A request under way: what it asked, and what becomes of it.
-use Rattle.std.specs.Prelude.{ℕ, false, None, Some, List}
+use Rattle.std.specs.Prelude.{ℕ, false, None, Some, List, [], ◌∷◌, ◌++◌}
 use Rattle.blk_base.specs.declared.place.Lba.{Lba}
 use Rattle.blk_base.specs.declared.place.Mapping.TheVariants.{Unmapped}
 use Rattle.blk_base.specs.declared.place.ZoneId.{ZoneId}
@@ -64,6 +64,11 @@ ended next answer v = record v { phase = next; answer = Some answer }
 -- the entry that it hands in
 abbrev pub logged : Vio → Logged
 logged v = record { request = v.request; at = v.at; place = v.place; old = v.old; new = v.new }
+
+-- the entries that requests hand in, the oldest request first: the newest entry first
+abbrev pub all_logged : List Vio → List Logged
+all_logged [] = []
+all_logged (v ∷ vs) = all_logged vs ++ logged v ∷ []
 
 -- what it was given
 abbrev pub gift : Vio → Gift

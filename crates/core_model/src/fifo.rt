@@ -1,4 +1,4 @@
-ghost use Rattle.std.specs.Prelude.{◌≡◌, ◌+◌, ◌<◌, ◌≤◌, ◌↔◌, [], ◌∷◌, ◌++◌, IfOk, IfSome, IfNone, IsTrue, length};
+ghost use Rattle.std.specs.Prelude.{◌≡◌, ◌+◌, ◌<◌, ◌≤◌, ◌↔◌, [], ◌∷◌, ◌++◌, IfOk, IfSome, IfNone, IsTrue, Some, length, slice_get};
 
 use std::alloc::{AllocError, Global};
 use std::marker::Model;
@@ -53,6 +53,14 @@ impl<T: Drop, const ROOM: u32> Fifo<T, ROOM> {
         ensures none { IfNone result ((self.old ≡ []) × (self.new ≡ [])) }
     {
         self.items.take()
+    }
+
+    /// The item of this number, from 0 at the front; `None` where there are no more.
+    pub fn get(&self, index: usize) -> Option<&T>
+        ensures some { IfSome result (λ item. slice_get self.now index ≡ Some item.now) }
+        ensures none { IfNone result (length self.now ≤ index) }
+    {
+        self.items.get(index)
     }
 
     /// All items leave the list.

@@ -1,4 +1,4 @@
-use crate::{BoxedVio, Logged};
+use crate::{BLOCK_ENTRIES, BoxedVio, Fifo, Logged};
 use blk_base::{Answer, Block, Lba, Mapping, Writer, ZoneId};
 
 /// What a request asks for.
@@ -22,8 +22,10 @@ pub enum Phase {
     Claim,
     /// Device: the data of a write is written to its block.
     Store,
-    /// Journal: the entry of a write or a discard is handed in, or waits until it can be.
+    /// Journal: the entry of a write or a discard is handed in, or waits until there is room for it.
     Enter,
+    /// Journal: its entry stands in the block being filled, or in one that is sealed and not committed.
+    Pending,
     /// Logical: the entry is committed: the slot of the address is set, and the lock released.
     Settle,
     /// Device: the block of a read is read.
@@ -74,24 +76,24 @@ pub struct Vio {
 /// How far a sealed block of the journal has come.
 #[derive(Clone, Copy)]
 pub enum Stage {
-    /// Device: the flush is made by which the data of its entry lasts.
+    /// Device: the flush is made by which the data of its entries lasts.
     Cover,
     /// Device: it is written.
     Write,
     /// Device: the flush is made by which it lasts itself.
     Harden,
-    /// Journal: it is committed.
+    /// Journal: it is committed, entry after entry, and then the next block is sealed.
     Commit,
     /// Journal: a write or flush of the device failed before it was.
     Fail,
 }
 
-/// A sealed block of the journal, with the request of its entry.
+/// A sealed block of the journal: its sequence, and the requests of its entries that aren't committed, the oldest first.
 #[derive(Drop)]
 pub struct SealedBlock {
     pub stage: Stage,
     pub sequence: u64,
-    pub vio: BoxedVio,
+    pub vios: Fifo<BoxedVio, BLOCK_ENTRIES>,
 }
 
 /// What the zones pass to each other.

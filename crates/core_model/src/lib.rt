@@ -7,6 +7,7 @@ mod counts;
 mod desk;
 mod fifo;
 mod items;
+mod journal;
 mod limits;
 mod logical;
 mod ports;
@@ -21,8 +22,9 @@ pub use boxed::BoxedVio;
 pub use desk::{Desk, DeskRows};
 pub use fifo::Fifo;
 pub use items::{Asks, Item, Phase, SealedBlock, Stage, Vio};
+pub use journal::JournalZone;
 pub use limits::{
-    BLOCK_ROOM, LANE_ROOM, LOCK_ROOM, MOST_BLOCKS, MOST_DEPTH, MOST_ITEMS, MOST_NOTICES,
+    BLOCK_ENTRIES, LANE_ROOM, LOCK_ROOM, MOST_BLOCKS, MOST_DEPTH, MOST_ITEMS, MOST_NOTICES,
     MOST_REQUESTS, MOST_STREAMS, MOST_UNDER_WAY, MOST_ZONES, POST_ROOM, REQUEST_ROOM,
 };
 pub use logical::LogicalZone;
@@ -32,4 +34,4 @@ pub use scripts::is_limited;
 pub use sizes::Sizes;
 pub use slots::Slots;
 pub use supply::Supply;
-pub use zones::{DeviceZone, JournalZone, Logged, PhysicalZone, Zone, ZoneData};
+pub use zones::{DeviceZone, Logged, PhysicalZone, Zone, ZoneData};

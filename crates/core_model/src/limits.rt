@@ -16,20 +16,20 @@ pub const MOST_UNDER_WAY: usize = MOST_STREAMS * MOST_DEPTH;
 /// How many zones may be notified of a stop: the logical zones, the physical zone and the journal.
 pub const MOST_NOTICES: u32 = 6;
 
-/// How many items may be under way: requests, and stop notices.
-pub const MOST_ITEMS: usize = MOST_UNDER_WAY + MOST_NOTICES as usize;
+/// How many items may be under way: requests, stop notices, and a block of the journal.
+pub const MOST_ITEMS: usize = MOST_UNDER_WAY + MOST_NOTICES as usize + 1;
 
 /// How many blocks the recovery journal may have.
 pub const MOST_BLOCKS: usize = 1_024;
 
-/// The room of the list of what one step posts: each request that the zone keeps, and a few items more.
-pub const POST_ROOM: u32 = MOST_ITEMS as u32 + 16;
+/// How many entries a block of the journal has at most.
+pub const BLOCK_ENTRIES: u32 = 192;
+
+/// The room of the list of what one step posts: each request that the zone keeps, those of a block, and a few items more.
+pub const POST_ROOM: u32 = MOST_ITEMS as u32 + 2 * BLOCK_ENTRIES + 16;
 
 /// The room of a lane: for all items that are under way, and then for what one step posts, or a move brings.
 pub const LANE_ROOM: u32 = MOST_ITEMS as u32 + POST_ROOM;
-
-/// The room of a list with an item for each block of the journal, and one more.
-pub const BLOCK_ROOM: usize = MOST_BLOCKS + 1;
 
 /// The room of a list with an item for each request.
 pub const REQUEST_ROOM: usize = MOST_REQUESTS + 1;

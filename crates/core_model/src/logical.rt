@@ -2,14 +2,13 @@ ghost use Rattle.std.specs.Prelude.{◌↔◌, IsTrue, ◌≡◌, ◌+◌, ◌-�
 ghost use Rattle.logical_locks.specs.Holders.{HasRoom};
 ghost use Rattle.core_model.specs.Limits.{IsLogicalWithin, IsShort};
 ghost use Rattle.core_model.specs.LogicalRows as rows;
-ghost use Rattle.core_model.specs.SessionLimits.{most_blocks};
+ghost use Rattle.core_model.specs.SessionLimits.{most_requests};
 ghost use Rattle.core_model.specs.Waiters.{AreOwn, IsFree, vios};
 ghost use Rattle.core_model.specs.Vios.{turned};
 ghost use Rattle.core_model.specs.declared.items.Phase.TheVariants as phase;
 
 use crate::{
-    BLOCK_ROOM, BoxedVio, LOCK_ROOM, Logged, MOST_BLOCKS, MOST_ITEMS, MOST_REQUESTS, Phase,
-    REQUEST_ROOM, Register, Slots,
+    BoxedVio, LOCK_ROOM, Logged, MOST_ITEMS, MOST_REQUESTS, Phase, REQUEST_ROOM, Register, Slots,
 };
 use blk_base::{Entry, Lba};
 use logical_locks::Locks;
@@ -27,7 +26,7 @@ pub struct LogicalZone {
     places: Register<Placed, REQUEST_ROOM>,
     locks: Locks<BoxedVio>,
     // The addresses whose locks are never released. The parts hold none of these: that no request gets one is seen here.
-    retired: Register<Lba, BLOCK_ROOM>,
+    retired: Register<Lba, REQUEST_ROOM>,
     // The entries of the journal when the session began.
     window: Rows<Entry>,
     slots: Slots,
@@ -132,8 +131,8 @@ impl LogicalZone {
     {
         are_within(&self.locks, steps)
             && self.places.len() <= MOST_REQUESTS
-            && self.retired.len() <= MOST_BLOCKS
-            && self.slots.len() <= MOST_BLOCKS
+            && self.retired.len() <= MOST_REQUESTS
+            && self.slots.len() <= MOST_REQUESTS
     }
 
     /// The stop notice has come.
@@ -145,7 +144,7 @@ impl LogicalZone {
 
     /// A write sets the slot of its address.
     pub fn set(&mut self, write: Logged)
-        requires { length self.old.slots ≤ most_blocks }
+        requires { length self.old.slots ≤ most_requests }
         ensures { self.new ≡ record self.old { slots = write ∷ self.old.slots } }
     {
         self.slots.push(write);
@@ -191,7 +190,7 @@ impl LogicalZone {
 
     /// The lock of an address that nobody holds and nobody waits for is never taken any more.
     pub fn retire(&mut self, at: Lba)
-        requires room { length self.old.retired ≤ most_blocks }
+        requires room { length self.old.retired ≤ most_requests }
         requires free { IsFree self.old.held self.old.waiting at.0 }
         ensures { self.new ≡ record self.old { retired = at ∷ self.old.retired } }
     {

@@ -2,23 +2,23 @@ ghost use Rattle.std.specs.Prelude.{ℕ, ◌≡◌, ◌+◌, ◌<◌, ◌≤◌,
 ghost use Rattle.core_model.specs.SlotOrder.{AreInOrder, IsGapFor, IsPlaceOf};
 ghost use Rattle.core_model.specs.Trace.{newest, of_address};
 
-use crate::{BLOCK_ROOM, Logged, Register};
+use crate::{Logged, REQUEST_ROOM, Register};
 use blk_base::Lba;
 use std::alloc::{AllocError, Global};
 use std::marker::Model;
 
-/// The slots that were set, each with the write that set it. Their room, for `BLOCK_ROOM` writes, is taken when they are
+/// The slots that were set, each with the write that set it. Their room, for `REQUEST_ROOM` writes, is taken when they are
 /// made. A contract sees the newest write first.
 #[derive(Drop)]
 pub struct Slots {
-    writes: Register<Logged, BLOCK_ROOM>,
+    writes: Register<Logged, REQUEST_ROOM>,
     // The newest write of each address that was set, in the order of the addresses.
     by_address: Vec<Logged>,
 }
 
 impl Model for Slots {
     ghost use Rattle.std.specs.Prelude.{ℕ, ◌≡◌, ◌<◌, ◌≤◌, List, length, vec_capacity, vec_len};
-    ghost use Rattle.core_model.specs.SessionLimits.{most_blocks};
+    ghost use Rattle.core_model.specs.SessionLimits.{most_requests};
     ghost use Rattle.core_model.specs.SlotOrder.{AreInOrder};
     ghost use Rattle.core_model.specs.Trace.{newest, of_address};
     ghost use Rattle.core_model.specs.declared.zones.Logged.{Logged};
@@ -28,7 +28,7 @@ impl Model for Slots {
     ghost view = { λ s. s.writes };
 
     ghost invariant = { λ s. record {
-      room : most_blocks < vec_capacity s.by_address;
+      room : most_requests < vec_capacity s.by_address;
       fewer : vec_len s.by_address ≤ length s.writes;
       order : AreInOrder s.by_address.items;
       newest : (a : ℕ) → newest (of_address a s.by_address.items) ≡ newest (of_address a s.writes);
@@ -41,13 +41,13 @@ impl Slots {
         ensures { IfOk result (λ slots. slots ≡ []) }
     {
         let writes = Register::new(alloc)?;
-        let by_address = Vec::with_capacity(alloc, BLOCK_ROOM)?;
+        let by_address = Vec::with_capacity(alloc, REQUEST_ROOM)?;
         Ok(Slots { writes, by_address })
     }
 
     /// A write sets the slot of its address.
     pub fn push(&mut self, write: Logged)
-        requires { length self.old < BLOCK_ROOM }
+        requires { length self.old < REQUEST_ROOM }
         ensures { self.new ≡ write ∷ self.old }
     {
         put(&mut self.by_address, write);

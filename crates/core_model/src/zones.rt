@@ -1,4 +1,4 @@
-use crate::{BLOCK_ROOM, BoxedVio, Desk, Fifo, LANE_ROOM, LogicalZone, Ports, Register, Supply};
+use crate::{Desk, JournalZone, LogicalZone, Ports, Supply};
 use blk_base::{Lba, Mapping, Writer};
 
 /// A write or a discard whose journal entry was handed in.
@@ -20,23 +20,6 @@ pub struct PhysicalZone {
     pub notified: bool,
     /// The blocks that nobody has taken.
     pub free: Supply,
-}
-
-/// The recovery journal.
-#[derive(Drop)]
-pub struct JournalZone {
-    /// The stop notice has come.
-    pub notified: bool,
-    /// A sealed block is under way.
-    pub busy: bool,
-    /// A sealed block failed, and no entry is handed in any more.
-    pub broken: bool,
-    /// Who waits until the block under way is committed.
-    pub waiting: Fifo<BoxedVio, LANE_ROOM>,
-    /// The entries that were handed in.
-    pub entered: Register<Logged, BLOCK_ROOM>,
-    /// Those that are committed.
-    pub committed: Register<Logged, BLOCK_ROOM>,
 }
 
 /// The device.

@@ -15,7 +15,7 @@ use Rattle.vdo_model.specs.Histories.{Progress}
 use Rattle.core_model.specs.DeskData.{Desk}
 use Rattle.core_model.specs.Reports.{is_there}
 use Rattle.core_model.specs.Trace.{logged_of}
-use Rattle.core_model.specs.declared.zones.JournalZone.{JournalZone}
+use Rattle.core_model.specs.JournalData.{JournalZone}
 use Rattle.core_model.specs.declared.zones.Logged.{Logged}
 use Rattle.core_model.specs.declared.zones.Zone.{Zone}
 use Rattle.core_model.specs.declared.zones.ZoneData.{ZoneData}
@@ -49,7 +49,7 @@ abbrev front : Zone
 front = zone 0 (desk [] [] 0 [])
 
 abbrev of_journal : List Logged → Zone
-of_journal entries = zone 4 (journal false [] entries [])
+of_journal entries = zone 4 (journal false 0 [] [] entries [])
 
 abbrev zones : List Zone
 zones = front ∷ zone 1 (logical 2 near [] [] [] []) ∷ zone 2 (logical 1 far [] [] [] []) ∷ zone 3 (physical []) ∷ of_journal (of_first ∷ []) ∷ zone 5 (device false 0) ∷ []
@@ -61,7 +61,7 @@ places_at_logical = refl
 places_at_desk : places_at (desk [] [] 0 []) ≡ []
 places_at_desk = refl
 
-places_at_journal : places_at (journal false [] (of_first ∷ []) []) ≡ []
+places_at_journal : places_at (journal false 0 [] [] (of_first ∷ []) []) ≡ []
 places_at_journal = refl
 
 -- those of the second zone stand before those of the first one, which are older
@@ -105,7 +105,7 @@ entered_there : HasEntered (of_first ∷ []) zones
 entered_there = record {
   number = 4;
   zone = of_journal (of_first ∷ []);
-  journal = record { notified = false; busy = false; broken = false; waiting = []; entered = of_first ∷ []; committed = [] };
+  journal = record { notified = false; busy = false; broken = false; blocks = 0; filling = []; waiting = []; entered = of_first ∷ []; committed = [] };
   had = refl;
   keeps = refl;
   each = λ n z j had keeps. every-get (Enters (of_first ∷ [])) zones n z all_enter had j keeps;

@@ -43,7 +43,7 @@ pub(crate) fn entries(zones: &[Zone]) -> &[Logged]
 {
     for zone in zones {
         if let ZoneData::Journal(journal) = &zone.keeps {
-            return journal.entered.as_slice();
+            return journal.entered();
         }
     }
     &[]

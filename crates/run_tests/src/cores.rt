@@ -89,7 +89,8 @@ fn request(ask: Ask) -> Request
     }
 }
 
-fn requests(alloc: Global, asks: &[Ask]) -> Result<Vec<Request>, AllocError>
+/// The requests of a stream.
+pub(crate) fn requests(alloc: Global, asks: &[Ask]) -> Result<Vec<Request>, AllocError>
     ensures { IfOk result (λ requests. AllByRecursion IsServed requests.items) }
 {
     let mut requests = Vec::new(alloc);

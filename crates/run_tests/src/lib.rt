@@ -5,6 +5,8 @@
 #[cfg(test)]
 mod cores;
 #[cfg(test)]
+mod full_blocks;
+#[cfg(test)]
 mod journals;
 #[cfg(test)]
 mod judging;

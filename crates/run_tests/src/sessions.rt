@@ -35,19 +35,24 @@ pub(crate) enum Trouble {
     Cut(u64),
 }
 
-const HEAD: Super = Super {
-    geometry: Geometry::DEFAULT,
-    clean: false,
-    start: 1,
-};
-
 /// How many calls read the superblock and the journal, or the journal alone.
 pub(crate) const JOURNAL_READS: u64 = 8;
 
-/// A device with a fresh image, with which this goes wrong.
+/// A device with a fresh image of the default sizes, with which this goes wrong.
 pub(crate) fn troubled(alloc: Global, trouble: Trouble) -> Result<MemDisk, AllocError> {
-    let layout = Layout::of(&Geometry::DEFAULT);
-    let blocks = first_image(alloc, &Geometry::DEFAULT, &layout)?;
+    troubled_of(alloc, &Geometry::DEFAULT, trouble)
+}
+
+/// A device with a fresh image of these sizes, with which this goes wrong.
+pub(crate) fn troubled_of(
+    alloc: Global,
+    geometry: &Geometry,
+    trouble: Trouble,
+) -> Result<MemDisk, AllocError>
+    requires { IsGeometry geometry.now }
+{
+    let layout = Layout::of(geometry);
+    let blocks = first_image(alloc, geometry, &layout)?;
     let mut plan = Vec::new(alloc);
     if let Trouble::Fault(fault) = trouble {
         plan.push(fault)?;
@@ -87,15 +92,18 @@ fn push_block(blocks: &mut Vec<Block>, block: Block) -> Result<(), Unplayed>
     }
 }
 
-// The blocks of the journal.
-fn read_journal<D: Disk>(alloc: Global, device: &mut D) -> Result<Vec<Block>, Unplayed>
-    requires { needed_blocks Geometry.DEFAULT ≤ (D.seen device.old).size }
+/// The blocks of the journal.
+pub(crate) fn read_journal<D: Disk>(
+    alloc: Global,
+    layout: &Layout,
+    device: &mut D,
+) -> Result<Vec<Block>, Unplayed>
+    requires { needed_blocks layout.now.geometry ≤ (D.seen device.old).size }
     ensures whole { IfOk result (λ journal. AllByRecursion (λ block. length block ≡ 4096) journal.items) }
     ensures size { (D.seen device.new).size ≡ (D.seen device.old).size }
 {
-    let layout = Layout::of(&Geometry::DEFAULT);
     let mut journal = Vec::new(alloc);
-    for slot in 0..JOURNAL_READS {
+    for slot in 0..u64::from(layout.geometry.journal) {
         let block = read_block(device, layout.journal_slot(slot))?;
         push_block(&mut journal, block)?;
     }
@@ -115,36 +123,63 @@ fn entries_of(alloc: Global, window: &[CommittedEntry]) -> Result<Vec<Entry>, Un
     Ok(entries)
 }
 
-// A core over an image with this journal, if it may be as large.
+// A core over an image of these sizes with this journal, if it may be as large.
 fn begin(
     alloc: Global,
+    geometry: &Geometry,
     setup: &Setup,
     journal: &[Block],
     requests: Requests,
 ) -> Result<Core, Unplayed>
+    requires sizes { IsGeometry geometry.now }
     requires whole { AllByRecursion (λ block. length block ≡ 4096) journal.now }
     requires served { AllByRecursion (AllByRecursion IsServed) requests }
-    ensures { IfOk result (λ core. core.sizes.geometry ≡ Geometry.DEFAULT) }
+    ensures { IfOk result (λ core. core.sizes.geometry ≡ geometry.now) }
 {
-    let small = journal.len() == 8
+    let small = journal.len() == geometry.journal as usize
         && 0 < setup.logical_zones
         && setup.logical_zones <= 4
         && setup.depth <= 16;
     if !small || !is_limited(&requests) {
         return Err(Unplayed::TooLarge);
     }
-    let Ok(found) = window_of(alloc, &HEAD, journal) else {
+    let head = Super {
+        geometry: *geometry,
+        clean: false,
+        start: 1,
+    };
+    let Ok(found) = window_of(alloc, &head, journal) else {
         return Err(Unplayed::TooLarge);
     };
-    let used = used_blocks(&HEAD, journal, found.last());
+    let used = used_blocks(&head, journal, found.last());
     let window = entries_of(alloc, found.entries())?;
-    match Core::begin(alloc, setup, &HEAD, used, &window, requests) {
+    match Core::begin(alloc, setup, &head, used, &window, requests) {
         Ok(core) => Ok(core),
         Err(_) => Err(Unplayed::Memory),
     }
 }
 
-/// A core over the image on a device.
+/// A core over the image of these sizes on a device.
+pub(crate) fn open_over<D: Disk>(
+    alloc: Global,
+    geometry: &Geometry,
+    setup: &Setup,
+    requests: Requests,
+    device: &mut D,
+) -> Result<Core, Unplayed>
+    requires sizes { IsGeometry geometry.now }
+    requires served { AllByRecursion (AllByRecursion IsServed) requests }
+    ensures { IfOk result (λ core. Fits core.sizes (D.seen device.new)) }
+{
+    let layout = Layout::of(geometry);
+    if device.blocks() < layout.needed() {
+        return Err(Unplayed::TooLarge);
+    }
+    let journal = read_journal(alloc, &layout, device)?;
+    begin(alloc, geometry, setup, &journal, requests)
+}
+
+/// A core over the image of the default sizes on a device.
 pub(crate) fn open_core<D: Disk>(
     alloc: Global,
     plan: &Plan,
@@ -152,12 +187,8 @@ pub(crate) fn open_core<D: Disk>(
 ) -> Result<Core, Unplayed>
     ensures { IfOk result (λ core. Fits core.sizes (D.seen device.new)) }
 {
-    if device.blocks() < Layout::of(&Geometry::DEFAULT).needed() {
-        return Err(Unplayed::TooLarge);
-    }
-    let journal = read_journal(alloc, device)?;
     let requests = script(alloc, plan.streams)?;
-    begin(alloc, &plan.setup, &journal, requests)
+    open_over(alloc, &Geometry::DEFAULT, &plan.setup, requests, device)
 }
 
 /// The report of a session by the schedule of a number.

@@ -1,10 +1,10 @@
-ghost use Rattle.std.specs.Prelude.{◌≡◌, ◌<◌, ◌≤◌, ◌^◌, ◌-◌, [], ◌∷◌, true, false, Some, OnOk, OnErr};
+ghost use Rattle.std.specs.Prelude.{◌≡◌, ◌<◌, ◌≤◌, ◌^◌, ◌-◌, [], ◌∷◌, true, false, Some, map, OnOk, OnErr};
 ghost use Rattle.disk_model.specs.declared.call.Call.{Call};
 ghost use Rattle.disk_model.specs.Seen.{Stays};
 ghost use Rattle.core_model.specs.DeviceRows as rows;
 ghost use Rattle.core_model.specs.DeviceRows.{DeviceWorks, call_of, journal_bytes};
 ghost use Rattle.core_model.specs.SessionLimits.{most_zones};
-ghost use Rattle.core_model.specs.Trace.{Trace, Calls};
+ghost use Rattle.core_model.specs.Trace.{Trace, Calls, entry_of};
 ghost use Rattle.core_model.specs.Vios as vios;
 ghost use Rattle.step_parts.specs.Causes.{NoRule};
 ghost use Rattle.step_parts.specs.DeviceLog.{HasCalled};
@@ -14,21 +14,41 @@ ghost use Rattle.steps_device.specs.DeviceCalls.{Fits, HasFailed};
 use crate::calling::{flush, write_block};
 use crate::stopping::halt;
 use blk_base::{Block, Entry, Layout, Pbn, ZoneId};
-use core_model::{DeviceZone, Item, SealedBlock, Sizes, Stage};
+use core_model::{DeviceZone, Item, SealedBlock, Sizes, Stage, Vio};
 use disk_model::{Disk, Failed};
 use journal_codec::{Entries, JournalBlock, encode};
 use step_parts::{Posts, Stray};
+
+// The entry of a request.
+fn entry_of(vio: &Vio) -> Entry
+    ensures { result ≡ entry_of (vios.logged vio.now) }
+{
+    Entry::Remap {
+        at: vio.at,
+        old: vio.old,
+        new: vio.new,
+    }
+}
+
+// The entries of a sealed block, the oldest first.
+fn sealed_entries(block: &SealedBlock) -> Entries<192>
+    ensures { result ≡ map (λ v. entry_of (vios.logged v)) block.now.vios }
+{
+    let mut entries = Entries::new();
+    for index in 0..block.vios.len() {
+        let Some(vio) = block.vios.get(index) else {
+            unreachable!();
+        };
+        entries.push(entry_of(vio.get()));
+    }
+    entries
+}
 
 // The bytes of a sealed block.
 fn sealed_bytes(sizes: &Sizes, block: &SealedBlock) -> Block
     ensures { result ≡ journal_bytes sizes.now block.now }
 {
-    let mut entries = Entries::new();
-    entries.push(Entry::Remap {
-        at: block.vio.get().at,
-        old: block.vio.get().old,
-        new: block.vio.get().new,
-    });
+    let entries = sealed_entries(block);
     let mut bytes = Block::zero();
     encode(
         &JournalBlock {
@@ -123,6 +143,9 @@ pub(crate) fn work_block<D: Disk>(
         × HasCalled D.tells D.honest (D.seen disk.old) (D.seen disk.new) made) }
     ensures err { OnErr result (NoRule (DeviceWorks sizes.now zone.old block)) }
 {
+    if block.vios.is_empty() {
+        return Err(Stray);
+    }
     if !needs_call(block.stage) {
         return Err(Stray);
     }

@@ -7,10 +7,10 @@ use Rattle.core_model.specs.declared.items.SealedBlock.{SealedBlock}
 use Rattle.core_model.specs.declared.items.Vio.{Vio}
 use Rattle.core_model.specs.declared.sizes.Sizes.{Sizes}
 use Rattle.core_model.specs.declared.zones.ZoneData.TheVariants as at
-use Rattle.core_model.specs.declared.zones.JournalZone.{JournalZone}
+use Rattle.core_model.specs.JournalData.{JournalZone}
 use Rattle.core_model.specs.JournalRows.{JournalServes, JournalEnds, all_refused}
-use Rattle.core_model.specs.JournalRows.JournalServes.{is_stopped, waits, is_full, enters as hands_in}
-use Rattle.core_model.specs.JournalRows.JournalEnds.{commits_next, commits_alone, commits_last, fails}
+use Rattle.core_model.specs.JournalRows.JournalServes.{is_stopped, waits, is_full, enters as hands_in, enters_first}
+use Rattle.core_model.specs.JournalRows.JournalEnds.{commits, seals, rests, fails}
 use Rattle.core_model.specs.Steps.{Act}
 use Rattle.core_model.specs.Steps.Act.{enters, ends, enters_notice}
 use Rattle.core_model.specs.Trace.{Trace}
@@ -21,18 +21,19 @@ use Rattle.step_parts.proofs.SilentLaws.{Silent, none_called, silent}
 
 serves_silently : (sizes : Sizes) (old new : JournalZone) (v : Vio) (made : Trace) (posts : List Post) → JournalServes sizes old v new made posts → Silent made
 serves_silently sizes old new v made posts (is_stopped h1 h2 h3 is h5) = silent _ _ is refl refl refl
-serves_silently sizes old new v made posts (waits h1 h2 h3 h4 is h6) = silent _ _ is refl refl refl
-serves_silently sizes old new v made posts (is_full h1 h2 h3 h4 h5 is h7) = silent _ _ is refl refl refl
-serves_silently sizes old new v made posts (hands_in h1 h2 h3 h4 h5 is h7) = silent _ _ is refl refl refl
+serves_silently sizes old new v made posts (is_full h1 h2 h3 h4 is h6) = silent _ _ is refl refl refl
+serves_silently sizes old new v made posts (waits h1 h2 h3 h4 h5 is h7) = silent _ _ is refl refl refl
+serves_silently sizes old new v made posts (hands_in h1 h2 h3 h4 h5 h6 is h8) = silent _ _ is refl refl refl
+serves_silently sizes old new v made posts (enters_first h1 h2 h3 h4 h5 h6 is h8) = silent _ _ is refl refl refl
 
 pub acts : (sizes : Sizes) (old new : JournalZone) (v : Vio) (posts : List Post)
     → ((made : Trace) × JournalServes sizes old v new made posts) → ActsAlone sizes (at.Journal old) (item.Request v ∷ []) (at.Journal new) posts
 acts sizes old new v posts (made, row) = (made, enters row, serves_silently sizes old new v made posts row)
 
 ends_silently : (sizes : Sizes) (old new : JournalZone) (b : SealedBlock) (made : Trace) (posts : List Post) → JournalEnds sizes old b new made posts → Silent made
-ends_silently sizes old new b made posts (commits_next w ws h1 h2 h3 h4 is h6) = silent _ _ is refl refl refl
-ends_silently sizes old new b made posts (commits_alone h1 h2 h3 h4 is h6) = silent _ _ is refl refl refl
-ends_silently sizes old new b made posts (commits_last h1 h2 h3 is h5) = silent _ _ is refl refl refl
+ends_silently sizes old new b made posts (commits v vs h1 h2 h3 is h5) = silent _ _ is refl refl refl
+ends_silently sizes old new b made posts (seals v vs h1 h2 h3 h4 is h6) = silent _ _ is refl refl refl
+ends_silently sizes old new b made posts (rests h1 h2 h3 h4 is h6) = silent _ _ is refl refl refl
 ends_silently sizes old new b made posts (fails h1 h2 is h4) = silent _ _ is refl refl refl
 
 pub ends_block : (sizes : Sizes) (old new : JournalZone) (b : SealedBlock) (posts : List Post)

@@ -1,2 +1,2 @@
 mod ActLaws
-mod Ends
+mod Oldest

@@ -1,69 +1,98 @@
-ghost use Rattle.std.specs.Prelude.{◌≡◌, [], ◌∷◌, true, OnOk, OnErr};
+ghost use Rattle.std.specs.Prelude.{◌≡◌, [], ◌∷◌, false, true, OnOk, OnErr};
 ghost use Rattle.blk_base.specs.declared.place.ZoneId.TheVariants as id;
 ghost use Rattle.blk_base.specs.declared.request.Answer.TheVariants.{Stopped};
 ghost use Rattle.core_model.specs.JournalRows as rows;
 ghost use Rattle.core_model.specs.JournalRows.{JournalEnds};
 ghost use Rattle.core_model.specs.Limits.{IsJournalWithin};
 ghost use Rattle.core_model.specs.Trace.{Trace};
-ghost use Rattle.core_model.specs.declared.items.Item.TheVariants.{StopNotice};
-ghost use Rattle.core_model.specs.declared.items.Stage.TheVariants.{Commit, Fail};
+ghost use Rattle.core_model.specs.declared.items.Item.TheVariants.{Block, Request, StopNotice};
+ghost use Rattle.core_model.specs.declared.items.Phase.TheVariants.{Settle};
+ghost use Rattle.core_model.specs.declared.items.Stage.TheVariants.{Commit, Cover, Fail};
+ghost use Rattle.core_model.specs.Vios.{turned};
 ghost use Rattle.step_parts.specs.Causes.{NoRule};
 ghost use Rattle.steps_journal.specs.Counts.{CanCount};
 
-use crate::entering::{hand_in, has_block};
-use crate::refusing::{Refusal, refuse_all};
-use blk_base::{Answer, ZoneId};
+use crate::dropping::{drop_block, drop_filling};
+use crate::entering::next_sequence;
+use crate::refusing::{refuse_waiting, send_again};
+use blk_base::ZoneId;
 use core_model::{BoxedVio, Item, JournalZone, Phase, SealedBlock, Sizes, Stage};
 use step_parts::{Posts, Stray};
 
-// The entry of a block is committed.
-fn commit(zone: &mut JournalZone, vio: &BoxedVio)
-    requires { IsJournalWithin zone.old }
-    ensures { zone.new ≡ rows.committed_by vio.now zone.old }
+// The oldest entry of a block is committed, and the block goes round with the others.
+fn commit(zone: &mut JournalZone, vio: BoxedVio, block: SealedBlock, posts: &mut Posts)
+    requires within { IsJournalWithin zone.old }
+    requires none { posts.old ≡ [] }
+    ensures zone { zone.new ≡ rows.committed_by vio zone.old }
+    ensures posts { posts.new ≡ rows.hands_out vio ∷ (id.Journal, Block block) ∷ [] }
 {
-    zone.committed.push(vio.logged());
-    zone.busy = false;
+    zone.commit(&vio);
+    let home = vio.get().home;
+    posts.first(home, Item::Request(vio.turn(Phase::Settle)));
+    posts.push(ZoneId::Journal, Item::Block(block));
 }
 
-// A block is committed, and the next entry is handed in; where there is no block for it, all that wait are aborted.
-fn end_committed(sizes: &Sizes, zone: &mut JournalZone, block: SealedBlock, posts: &mut Posts)
+// No block is filled: none goes round any more.
+fn come_to_rest(zone: &mut JournalZone, block: SealedBlock, posts: &mut Posts)
+    requires done { block.vios ≡ [] }
+    requires within { IsJournalWithin zone.old }
+    requires none { posts.old ≡ [] }
+    ensures zone { zone.new ≡ record zone.old { busy = false; waiting = [] } }
+    ensures posts { posts.new ≡ rows.all_again zone.old.waiting }
+{
+    zone.rest(block);
+    send_again(zone, posts);
+}
+
+// The next block is sealed, and those that waited for it come again.
+fn seal_next(sizes: &Sizes, zone: &mut JournalZone, block: SealedBlock, posts: &mut Posts)
+    requires done { block.vios ≡ [] }
+    requires counts { CanCount sizes.now }
+    requires within { IsJournalWithin zone.old }
+    requires none { posts.old ≡ [] }
+    ensures zone { zone.new ≡ rows.sealed_by zone.old }
+    ensures posts { posts.new ≡ (id.Device, Block (rows.next_block sizes.now zone.old Cover zone.old.filling)) ∷ rows.all_again zone.old.waiting }
+{
+    let sequence = next_sequence(sizes, zone);
+    let sealed = zone.seal(block, sequence);
+    posts.first(ZoneId::Device, Item::Block(sealed));
+    send_again(zone, posts);
+}
+
+// The entries of a block are all committed: the next one is sealed, or there is none.
+fn go_on(sizes: &Sizes, zone: &mut JournalZone, block: SealedBlock, posts: &mut Posts)
     requires stage { block.stage ≡ Commit }
+    requires done { block.vios ≡ [] }
     requires counts { CanCount sizes.now }
     requires within { IsJournalWithin zone.old }
     requires none { posts.old ≡ [] }
     ensures { (made : Trace) × JournalEnds sizes.now zone.old block zone.new made posts.new }
 {
-    commit(zone, &block.vio);
-    let home = block.vio.get().home;
-    posts.first(home, Item::Request(block.vio.turn(Phase::Settle)));
-    if !has_block(sizes, zone) {
-        refuse_all(sizes, Refusal::Full, &mut zone.waiting, posts);
-        return;
-    }
-    if let Some(next) = zone.waiting.pop() {
-        hand_in(sizes, zone, next, posts);
+    if zone.is_unfilled() {
+        come_to_rest(zone, block, posts);
+    } else {
+        seal_next(sizes, zone, block, posts);
     }
 }
 
 // A block failed: no entry is handed in any more.
-fn end_failed(sizes: &Sizes, zone: &mut JournalZone, block: SealedBlock, posts: &mut Posts)
+fn end_failed(sizes: &Sizes, zone: &mut JournalZone, mut block: SealedBlock, posts: &mut Posts)
     requires stage { block.stage ≡ Fail }
     requires within { IsJournalWithin zone.old }
     requires none { posts.old ≡ [] }
     ensures { JournalEnds sizes.now zone.old block zone.new [] posts.new }
 {
-    zone.busy = false;
-    zone.broken = true;
-    let aborted = block.vio.end(Phase::AbortEnteredClaim, Answer::Stopped);
-    posts.first(ZoneId::Physical(0), Item::Request(aborted));
-    refuse_all(sizes, Refusal::Stopped, &mut zone.waiting, posts);
+    drop_block(&mut block.vios, posts);
+    drop_filling(zone, posts);
+    refuse_waiting(sizes, zone, posts);
+    zone.fail(block);
 }
 
-/// What the journal does with a sealed block in front of its inbox.
+/// What the journal does with a block in front of its inbox.
 pub(crate) fn end_block(
     sizes: &Sizes,
     zone: &mut JournalZone,
-    block: SealedBlock,
+    mut block: SealedBlock,
     posts: &mut Posts,
 ) -> Result<(), Stray>
     requires counts { CanCount sizes.now }
@@ -74,7 +103,10 @@ pub(crate) fn end_block(
 {
     match block.stage {
         Stage::Commit => {
-            end_committed(sizes, zone, block, posts);
+            match block.vios.pop() {
+                Some(vio) => commit(zone, vio, block, posts),
+                None => go_on(sizes, zone, block, posts),
+            }
             Ok(())
         }
         Stage::Fail => {
@@ -92,7 +124,7 @@ pub(crate) fn hear_stop(sizes: &Sizes, zone: &mut JournalZone, posts: &mut Posts
     ensures zone { zone.new ≡ record zone.old { notified = true; waiting = [] } }
     ensures posts { posts.new ≡ (id.Desk, StopNotice) ∷ rows.all_refused sizes.now Stopped zone.old.waiting }
 {
-    zone.notified = true;
+    zone.hear_stop();
     posts.first(ZoneId::Desk, Item::StopNotice);
-    refuse_all(sizes, Refusal::Stopped, &mut zone.waiting, posts);
+    refuse_waiting(sizes, zone, posts);
 }

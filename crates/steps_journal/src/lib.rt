@@ -2,6 +2,7 @@
 #![tactic(auto)]
 
 mod acting;
+mod dropping;
 mod ending;
 mod entering;
 mod refusing;

@@ -3,7 +3,7 @@ ghost use Rattle.core_model.specs.JournalRows as rows;
 ghost use Rattle.steps_journal.specs.Refusals.{answer_for};
 
 use blk_base::{Answer, ZoneId};
-use core_model::{BoxedVio, Fifo, Item, LANE_ROOM, POST_ROOM, Phase, Sizes};
+use core_model::{BoxedVio, Item, JournalZone, POST_ROOM, Phase, Sizes};
 use step_parts::Posts;
 
 /// Why an entry isn't handed in.
@@ -32,18 +32,24 @@ pub(crate) fn refuse(sizes: &Sizes, refusal: Refusal, vio: BoxedVio, posts: &mut
     posts.push(ZoneId::Physical(0), Item::Request(refused));
 }
 
-/// Those that wait are aborted.
-pub(crate) fn refuse_all(
-    sizes: &Sizes,
-    refusal: Refusal,
-    waiting: &mut Fifo<BoxedVio, LANE_ROOM>,
-    posts: &mut Posts,
-)
-    requires { length posts.old + length waiting.old ≤ POST_ROOM }
-    ensures waiting { waiting.new ≡ [] }
-    ensures posts { posts.new ≡ posts.old ++ rows.all_refused sizes.now (answer_for refusal) waiting.old }
+/// Those that wait are aborted, since the session is stopped.
+pub(crate) fn refuse_waiting(sizes: &Sizes, zone: &mut JournalZone, posts: &mut Posts)
+    requires { length posts.old + length zone.old.waiting ≤ POST_ROOM }
+    ensures zone { zone.new ≡ record zone.old { waiting = [] } }
+    ensures posts { posts.new ≡ posts.old ++ rows.all_refused sizes.now (answer_for Refusal.Stopped) zone.old.waiting }
 {
-    while let Some(vio) = waiting.pop() {
-        refuse(sizes, refusal, vio, posts);
+    while let Some(vio) = zone.pop_waiting() {
+        refuse(sizes, Refusal::Stopped, vio, posts);
+    }
+}
+
+/// Those that waited come again.
+pub(crate) fn send_again(zone: &mut JournalZone, posts: &mut Posts)
+    requires { length posts.old + length zone.old.waiting ≤ POST_ROOM }
+    ensures zone { zone.new ≡ record zone.old { waiting = [] } }
+    ensures posts { posts.new ≡ posts.old ++ rows.all_again zone.old.waiting }
+{
+    while let Some(vio) = zone.pop_waiting() {
+        posts.push(ZoneId::Journal, Item::Request(vio));
     }
 }

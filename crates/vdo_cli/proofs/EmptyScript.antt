@@ -47,7 +47,7 @@ module _ (head : Super) (window : List Entry) (used : ℕ) (script : Script) whe
       first_zone 0 (at.Desk (record { requests = script; log = []; marks = []; notices = 0; parked = [] }))
       ∷ first_zone 1 (at.Logical (record { zone = 0; notified = false; next = 0; places = []; held = []; waiting = []; retired = []; window = window; slots = [] }))
       ∷ first_zone 2 (at.Physical (record { notified = false; free = free_of head.geometry window }))
-      ∷ first_zone 3 (at.Journal (record { notified = false; busy = false; broken = false; waiting = []; entered = []; committed = [] }))
+      ∷ first_zone 3 (at.Journal (record { notified = false; busy = false; broken = false; blocks = 0; filling = []; waiting = []; entered = []; committed = [] }))
       ∷ first_zone 4 (at.Device (record { stopped = false; calls = 0 }))
       ∷ []
 
@@ -78,6 +78,8 @@ module _ (head : Super) (window : List Entry) (used : ℕ) (script : Script) whe
       notified = refl;
       busy = refl;
       broken = refl;
+      blocks = refl;
+      filling = refl;
       waiting = refl;
       entered = refl;
       committed = refl;

@@ -121,14 +121,14 @@ moves-not_nothing some = none some.source some.had_source some.posted
         absurd cc
 
 -- HasRoomFor: up to the room of a lane, in the inbox and in each outbox
-room-up_to_the_last : (z : Zone) → HasRoomFor 1 (record z { ports = record z.ports { inbox = replicate 539 StopNotice; outboxes = replicate 539 StopNotice ∷ [] } })
-room-up_to_the_last z = let count = length-replicate 539 StopNotice in record { inbox = omega (arith, count); outboxes = (omega (arith, count), tt) }
+room-up_to_the_last : (z : Zone) → HasRoomFor 1 (record z { ports = record z.ports { inbox = replicate 925 StopNotice; outboxes = replicate 925 StopNotice ∷ [] } })
+room-up_to_the_last z = let count = length-replicate 925 StopNotice in record { inbox = omega (arith, count); outboxes = (omega (arith, count), tt) }
 
-room-not_past_it : (z : Zone) → HasRoomFor 1 (record z { ports = record z.ports { inbox = replicate 540 StopNotice; outboxes = [] } }) → ⊥
-room-not_past_it z room = let count = length-replicate 540 StopNotice in omega (arith, count, room.inbox)
+room-not_past_it : (z : Zone) → HasRoomFor 1 (record z { ports = record z.ports { inbox = replicate 926 StopNotice; outboxes = [] } }) → ⊥
+room-not_past_it z room = let count = length-replicate 926 StopNotice in omega (arith, count, room.inbox)
 
-room-not_past_it_in_an_outbox : (z : Zone) → HasRoomFor 1 (record z { ports = record z.ports { inbox = []; outboxes = [] ∷ replicate 540 StopNotice ∷ [] } }) → ⊥
-room-not_past_it_in_an_outbox z room = let count = length-replicate 540 StopNotice in omega (arith, count, room.outboxes.1.0)
+room-not_past_it_in_an_outbox : (z : Zone) → HasRoomFor 1 (record z { ports = record z.ports { inbox = []; outboxes = [] ∷ replicate 926 StopNotice ∷ [] } }) → ⊥
+room-not_past_it_in_an_outbox z room = let count = length-replicate 926 StopNotice in omega (arith, count, room.outboxes.1.0)
 
 -- IsSized: one logical zone at least, four at most, and sequences that are numbers of their type
 module _ (g : Geometry) where
@@ -160,7 +160,7 @@ module _ (g : Geometry) where
       let limited = subst (λ (kept : ZoneData). IsServedBy (sizes 1 4) kept) keeps can.served in
       omega (arith, limited.streams, many, ap (λ (s : Script). length s) is)
 
-  can_step-not_past_its_room : (z : Zone) → 263 ≤ length z.ports.inbox → CanStep (sizes 1 4) z → ⊥
+  can_step-not_past_its_room : (z : Zone) → 264 ≤ length z.ports.inbox → CanStep (sizes 1 4) z → ⊥
   can_step-not_past_its_room z many can = omega (arith, can.within.inbox, many)
 
   -- BeginsCrowded: a stream of the desk may begin a request, and there is no room for it

@@ -7,7 +7,7 @@ use Rattle.core_model.specs.declared.zones.Zone.{Zone}
 
 -- how many items a step posts at most
 abbrev pub most_posts : ℕ
-most_posts = most_items + 16
+most_posts = most_items + 400
 
 -- there is room for so many items in each lane
 abbrev pub HasRoomIn : {T : Type 0} → ℕ → List T → Type 0

@@ -1,12 +1,11 @@
 ghost use Rattle.std.specs.Prelude.{◌≡◌, ◌+◌, ◌^◌, ◌<◌, ◌≤◌, ◌↔◌, IsTrue, true, false};
-ghost use Rattle.core_model.specs.Limits.{IsDataWithin, IsJournalWithin, IsWithin};
+ghost use Rattle.core_model.specs.Limits.{IsDataWithin, IsWithin};
 ghost use Rattle.core_model.specs.SessionLimits.{IsLimited, most_blocks};
 ghost use Rattle.core_model.specs.Steps.{step_limit};
 ghost use Rattle.vdo_core.specs.Causes.{CanStep, IsServedBy, IsSized};
 
 use core_model::{
-    Desk, JournalZone, MOST_BLOCKS, MOST_DEPTH, MOST_ITEMS, MOST_REQUESTS, MOST_STREAMS,
-    MOST_ZONES, Sizes, Zone, ZoneData,
+    Desk, MOST_BLOCKS, MOST_DEPTH, MOST_REQUESTS, MOST_STREAMS, MOST_ZONES, Sizes, Zone, ZoneData,
 };
 
 /// Whether a zone may step once more: it made fewer than 2^64 - 1 steps.
@@ -45,15 +44,6 @@ fn is_served_by(sizes: &Sizes, desk: &Desk) -> bool
         && usize::from(sizes.zones) <= MOST_ZONES
 }
 
-// Whether the journal keeps within its room.
-fn is_journal_within(zone: &JournalZone) -> bool
-    ensures { IsTrue result ↔ IsJournalWithin zone.now }
-{
-    zone.waiting.len() <= MOST_ITEMS
-        && zone.entered.len() <= MOST_BLOCKS
-        && zone.committed.len() <= MOST_BLOCKS
-}
-
 // Whether what a zone keeps is within its room.
 fn is_data_within(steps: u64, keeps: &ZoneData) -> bool
     ensures { IsTrue result ↔ IsDataWithin steps keeps.now }
@@ -61,7 +51,7 @@ fn is_data_within(steps: u64, keeps: &ZoneData) -> bool
     match keeps {
         ZoneData::Desk(desk) => desk.is_within(),
         ZoneData::Logical(zone) => zone.is_within(steps),
-        ZoneData::Journal(zone) => is_journal_within(zone),
+        ZoneData::Journal(zone) => zone.is_within(),
         ZoneData::Device(zone) => zone.calls <= steps,
         _ => true,
     }

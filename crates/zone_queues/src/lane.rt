@@ -1,4 +1,4 @@
-ghost use Rattle.std.specs.Prelude.{◌≡◌, ◌∷◌, ◌++◌, [], length, IfOk, IfSome, IfNone, IsTrue, ◌↔◌};
+ghost use Rattle.std.specs.Prelude.{◌≡◌, ◌∷◌, ◌++◌, ◌≤◌, [], Some, length, slice_get, IfOk, IfSome, IfNone, IsTrue, ◌↔◌};
 ghost use Rattle.zone_queues.specs.Queues.{empty, HasRoom, HasRoomFor, with_more};
 
 use std::alloc::{AllocError, Global};
@@ -73,6 +73,14 @@ impl<V: Drop> Lane<V> {
         ensures none { IfNone result ((self.old.items ≡ []) × (self.new ≡ self.old)) }
     {
         self.items.pop_front()
+    }
+
+    /// The item of this number, from 0 at the front; `None` exactly where there are no more.
+    pub fn get(&self, index: usize) -> Option<&V>
+        ensures some { IfSome result (λ item. slice_get self.now.items index ≡ Some item.now) }
+        ensures none { IfNone result (length self.now.items ≤ index) }
+    {
+        self.items.get(index)
     }
 
     /// All items leave the list.

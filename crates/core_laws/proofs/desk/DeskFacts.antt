@@ -1,5 +1,5 @@
 -- What the acts of the desk owe.
-use Rattle.std.proofs.Common.{◌≡◌, ◌⊎◌, ℕ, ◌+◌, ◌<◌, ◌≤◌, if◌then◌else◌, Bool, true, false, nat_lt, Option, None, Some, IsNone, List, [], ◌∷◌, refl, ap, sym, ◌∙◌, subst, inl, inr, arith}
+use Rattle.std.proofs.Common.{◌≡◌, ℕ, ◌+◌, ◌<◌, ◌≤◌, if◌then◌else◌, Bool, true, false, nat_lt, Option, None, Some, IsNone, List, [], ◌∷◌, refl, ap, sym, ◌∙◌, subst, inl, inr, arith}
 use Rattle.core_laws.proofs.Common.{AllByRecursion, Answer as Reply, Asks, Desk, DeskLine, Flushes, FlushMark, HasAddress, HasCause, IsEarned, IsNextLine, IsOpen, IsSession, KeptOk, Lba, MayAnswer, MayReply, Phase, Post, Request, RightTrace, Says, Session, Sizes, Trace, Vio, Writer, answer_of, asked, begun, begun_vio, cases_Bool, desk_zone, done, eqb_tells, every-append, has_stopped, lines, logged_of, ltb-false, ltb-true, moments, none_is, notified_zones, option_cases, request_at, request_of, same_Some, same_tells, zone_at, zone_of, IsForBlock}
 use Rattle.blk_base.specs.Sectors.{zero_block}
 use Rattle.blk_base.specs.declared.place.ZoneId.TheVariants as id

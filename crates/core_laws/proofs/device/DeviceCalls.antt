@@ -1,38 +1,37 @@
 -- The device's calls: what they write, what reads give, and which data blocks they are of.
-use Rattle.std.proofs.Common.{◌≡◌, ◌≢◌, ◌==◌, ℕ, zero, suc, ◌*◌, ◌<◌, ◌≤◌, ◌^◌, Bool, Some, List, [], ◌∷◌, length, get_or, subst, inl, inr, arith, ◌⊎◌, false, Option, None, ap, sym, ◌∙◌, ◌+◌, true, refl}
-use Rattle.core_laws.proofs.Common.{AllByRecursion, Asks, AtRest, Call, Calls, Entry, Geometry, Happening, HasPending, IsFresh, IsServed, IsSession, IsWrite, Lba, Logged, Mapping, MayFollow, OnBlock, OnItsWay, Pbn, ReadsAs, ReadsEntry, Request, RightTrace, Session, Stands, Trace, Writer, asked, bytes_of, committed, device_zone, done, entered, entries_of, entry_of, eqb_tells, every-get, log, newest, of_address, request_at, value_from, value_written, Quiet, NewStands, MapStands}
+use Rattle.std.proofs.Common.{◌≡◌, ◌≢◌, ℕ, zero, suc, ◌*◌, ◌<◌, ◌≤◌, ◌^◌, Bool, Some, List, [], ◌∷◌, ◌++◌, length, length-append, get_or, subst, inl, inr, arith, ◌⊎◌, false, Option, None, ap, sym, ◌∙◌, ◌+◌, true, refl}
+use Rattle.core_laws.proofs.Common.{all_of, AllByRecursion, AreAllThere, asked, Asks, AtRest, Call, Calls, ComesLast, committed, device_zone, done, entered, entries_of, Entry, entry_of, eqb_tells, every-front, every-get, every-map, filled, Geometry, Happening, HasBlocks, HasWholeBlocks, IsFresh, IsServed, IsSession, IsWrite, Lba, log, Logged, Mapping, MayFollow, newest, NewStands, of_address, OnBlock, OnItsWay, Pbn, Quiet, ReadsAs, ReadsBlock, Request, request_at, RightTrace, sealed, Session, Stands, Trace, value_from, value_written, Writer}
 use Rattle.std.proofs.Math.Nat.{mod-lt, mul-le-mul_left}
-use Rattle.std.proofs.lemmas.List.Elements.{All-nil, All-cons}
+use Rattle.std.proofs.lemmas.List.Elements.{All-from_recursion}
 use Rattle.blk_base.specs.Limits.{IsGeometry, logical_limit}
 use Rattle.blk_base.specs.Regions.{IsDataBlock, journal_slot_of, needed_blocks, slab_stride_of}
 use Rattle.blk_base.proofs.RegionLaws.{data_block_high, data_block_inside}
 use Rattle.blk_base.specs.declared.journal_entry.Entry.TheVariants.{Remap, NewPage}
 use Rattle.blk_base.specs.declared.place.Mapping.TheVariants.{Unmapped, Zero, At}
 use Rattle.disk_model.specs.Log.{block_at, Blocks, Misses, contents, settled}
-use Rattle.disk_model.specs.declared.call.Call.TheVariants.{Write, Flush}
+use Rattle.disk_model.specs.declared.call.Call.TheVariants.{Write}
 use Rattle.image_layout.specs.Window.{mapping_of, value_in, value_of}
 use Rattle.stop_laws.specs.Journals.{MissesJournal, block_of_slot}
 use Rattle.disk_model.specs.Images.{IsMixOf}
-use Rattle.disk_model.proofs.ImageLaws.{settled_are_contents, block_of_mix, all_weaker, settled-write}
+use Rattle.disk_model.proofs.ImageLaws.{settled_are_contents, block_of_mix, settled-write}
 use Rattle.core_model.specs.LogicalRows.{mapped_by}
 use Rattle.core_laws.proofs.lists.Zeros.{zeros_length}
-use Rattle.core_laws.proofs.trace.DeskOfTrace.{all_done, each_of_address, done_writes, shown_of, AreData, committed_data}
-use Rattle.blk_base.specs.Sectors.{sector}
+use Rattle.core_laws.proofs.trace.DeskOfTrace.{AreData, HasData, done_writes, each_of_address, entered_data, of_address_append, shown_of}
 use Rattle.byte_fields.specs.Mappings.{HoldsMapping}
-use Rattle.journal_codec.specs.Grammar.{HoldsEntry, HoldsBlock}
-use Rattle.journal_codec.specs.Spelling.{block_bytes}
+use Rattle.journal_codec.specs.Grammar.{HoldsEntry}
 use Rattle.core_laws.proofs.kept.ActKept.{shown_kept}
 use Rattle.core_laws.proofs.kept.Keys.{Key, OfBlock, OfJournal, Spares, Clears}
-use Rattle.core_laws.proofs.kept.StandsOn.{AreElsewhere, SparesBlock, SparesBlocks, SparesEntries, IsCallOf, succeeded, failed, spares_all, write_spares, block_spared, journal_spared, call_entries, map_kept, new_kept, on_each, stands_kept}
+use Rattle.core_laws.proofs.kept.StandsOn.{AreElsewhere, IsCallOf, SparesBlocks, block_spared, call_sealed, entered_parts, failed, journal_spared, map_kept, new_kept, new_reads_kept, on_each, spares_all, stands_kept, succeeded, write_spares}
 use Rattle.blk_base.specs.declared.request.Request.TheVariants as request
 use Rattle.disk_model.specs.Log as device
 use Rattle.core_model.specs.declared.items.Asks.TheVariants as asks
+use Rattle.core_laws.proofs.journal.SealedBlocks.{block_has, block_length, blocks_length, heads_start}
 use Rattle.core_laws.proofs.lists.CoreLists.{newest_has}
-use Rattle.core_laws.proofs.kept.Spared.{mapping_by}
+use Rattle.core_laws.proofs.kept.Spared.{mapping_by, mapping_same}
 use Rattle.journal_stops.specs.Rings.{IsAtRest, IsWhole, place_of}
-use Rattle.journal_stops.specs.Sealed.{IsSealed, head_of, next_of}
+use Rattle.journal_stops.specs.Sealed.{IsSealed, next_of}
 use Rattle.journal_stops.proofs.StepLaws.{begins, is_written}
-use Rattle.core_model.specs.Sessions.{HasBlocks, HasNoneLeft, HasWholeBlocks, blocks_of, sealed_with}
+use Rattle.core_model.specs.Sessions.{HasNoneLeft, blocks_of, sealed_with}
 use Rattle.image_model.specs.Windows.{IsOfImage, LeadsToData}
 
 -- Data blocks lie behind the journal and inside the image; the blocks that the window names are data blocks.
@@ -108,6 +107,15 @@ mapped_is_data s (e ∷ es) a x session to_data is = elim (eqb_tells e.at.0 a) [
   | inr other ↦ mapped_is_data s es a x session to_data.1 (rw other.0 at is)
 ]
 
+-- a list in front of another that is no longer is empty
+none_between : (front between behind : List Logged) → front ++ (between ++ behind) ≡ behind → between ≡ []
+none_between front [] behind is = refl
+none_between front (e ∷ between) behind is =
+    let longer = ap length is in
+    let all = length-append front ((e ∷ between) ++ behind) in
+    let rest = length-append between behind in
+    absurd (omega (arith, longer, all, rest))
+
 -- What an address has, by its last write or the window.
 module _ (s : Session) (t : Trace) (session : IsSession s) (right : RightTrace s t) where
   newest_of : (P : Logged → Type 0) (es : List Logged) (a : ℕ) (e : Logged) → newest (of_address a es) ≡ Some e → AllByRecursion P es → P e
@@ -124,23 +132,27 @@ module _ (s : Session) (t : Trace) (session : IsSession s) (right : RightTrace s
   abbrev StandsHere : ℕ → List Logged → Type 0
   StandsHere a es = OnBlock (λ x. Stands s t x.0 (value_from s a (newest (of_address a es)))) (mapping_of (entries_of s.window es) a)
 
-  quiet_stands : (a : ℕ) → Quiet t a → ((entered t ≡ committed t) × AtRest s t (committed t)) ⊎ HasPending s t → StandsHere a (committed t)
-  quiet_stands a quiet (inl k) = k.1.1 a
-  quiet_stands a quiet (inr k) = by k.stands
-    where
-      apart : (k.entry.at.0 == a) ≡ false
-      apart = elim (eqb_tells k.entry.at.0 a) [
-        | inl same ↦
-            let more : of_address a (k.entry ∷ committed t) ≡ of_address a (committed t) = ap (of_address a) (sym k.is_last) ∙ quiet.all_committed in
-            let longer : k.entry ∷ of_address a (committed t) ≡ of_address a (committed t) = rw same.0 at more in
-            absurd (let count = ap length longer in omega (arith, count))
-        | inr other ↦ other.0
-      ]
+  -- it is said by the entries of the address alone
+  stands_same : (a : ℕ) (es fs : List Logged) → of_address a es ≡ of_address a fs → StandsHere a es → StandsHere a fs
+  stands_same a es fs same k =
+      subst (λ (m : Mapping). OnBlock (λ x. Stands s t x.0 (value_from s a (newest (of_address a fs)))) m) (mapping_same s.window es fs a same)
+      (subst (λ (xs : List Logged). OnBlock (λ x. Stands s t x.0 (value_from s a (newest xs))) (mapping_of (entries_of s.window es) a)) same k)
 
-      by : AtRest s t (committed t) ⊎ OnItsWay s t (committed t) k.entry ⊎ AtRest s t (k.entry ∷ committed t) → StandsHere a (committed t)
+  quiet_stands : (a : ℕ) → Quiet t a → AreAllThere s t ⊎ ComesLast s t → StandsHere a (committed t)
+  quiet_stands a quiet (inl k) = stands_same a (all_of (sealed t)) (committed t) same (k.stands.1 a)
+    where
+      all : of_address a (filled t) ++ (of_address a k.rest ++ of_address a (committed t)) ≡ of_address a (committed t)
+      all = ap (λ (xs : List Logged). of_address a (filled t) ++ xs) (sym (of_address_append a k.rest (committed t))) ∙ sym (of_address_append a (filled t) (k.rest ++ committed t))
+          ∙ ap (of_address a) (sym (entered_parts t ∙ ap (λ (es : List Logged). filled t ++ es) k.all)) ∙ quiet.all_committed
+
+      same : of_address a (all_of (sealed t)) ≡ of_address a (committed t)
+      same = ap (of_address a) k.all ∙ of_address_append a k.rest (committed t)
+          ∙ ap (λ (xs : List Logged). xs ++ of_address a (committed t)) (none_between (of_address a (filled t)) (of_address a k.rest) (of_address a (committed t)) all)
+  quiet_stands a quiet (inr k) = subst (StandsHere a) (sym k.committed_is) (by k.stands)
+    where
+      by : AtRest s t k.older ⊎ OnItsWay s t k.older k.block → StandsHere a (all_of k.older)
       by (inl rest) = rest.1 a
-      by (inr (inl way)) = way.1 a
-      by (inr (inr rest)) = rw apart at (rest.1 a)
+      by (inr way) = way.1 a
 
   -- a read of the block that an address is mapped to gives its value, where the device is honest
   pub read_value : (a : ℕ) (latest : Option Logged) (x : Pbn) (bytes : List ℕ) → Quiet t a → latest ≡ newest (of_address a (done t)) → mapped_by latest (mapping_of s.window a) ≡ At x
@@ -163,21 +175,26 @@ pub call_clears : {s : Session} {t : Trace} {n : ℕ} {mine : Key → Type 0} {h
 call_clears succeeded here block journal = record { zone = here; request = tt; address = tt; block = block; journal = journal }
 call_clears failed here block journal = record { zone = here; request = tt; address = tt; block = block; journal = journal }
 
+-- a call hands in no entry
+pub call_filled : (t : Trace) {h : Happening} {c : Call} → IsCallOf h c → filled (h ∷ t) ≡ filled t
+call_filled t succeeded = refl
+call_filled t failed = refl
+
 -- a call that writes nothing
 pub quiet_journal : (s : Session) (t : Trace) {h : Happening} (c : Call) → IsCallOf h c → ((x : ℕ) → Misses c x) → Spares s t h OfJournal
-quiet_journal s t {h} c is misses = (call_entries s t is, journal_spared s is (λ slot below. misses (block_of_slot slot)), ((λ a x named. block_spared is x.0 (misses x.0)), spares_all h (λ x. block_spared is x (misses x)) (entered t)))
+quiet_journal s t {h} c is misses = (call_sealed s t is, journal_spared s is (λ slot below. misses (block_of_slot slot)), ((λ a x named. block_spared is x.0 (misses x.0)), spares_all h (λ x. block_spared is x (misses x)) (entered t)))
 
 pub quiet_call : (s : Session) (t : Trace) {h : Happening} (c : Call) → IsCallOf h c → MayFollow s h t → ((x : ℕ) → Misses c x) → RightTrace s t → RightTrace s (h ∷ t)
 quiet_call s t {h} c is may misses right =
     let same = quiet_journal s t c is misses in
-    (may, shown_kept s h t same.0 same.1 same.2 (block_spared is 0 (misses 0)) (shown_of s t right), right)
+    (may, shown_kept s h t same.0 (call_filled t is) same.1 same.2 (block_spared is 0 (misses 0)) (shown_of s t right), right)
 
 -- the data of a write
 pub store_call : (s : Session) (t : Trace) {h : Happening} (x : Pbn) (bytes : List ℕ) (ok : Bool) → IsCallOf h (Write x bytes ok) → MayFollow s h t → IsFresh s x → AreElsewhere x.0 (entered t)
     → RightTrace s t → RightTrace s (h ∷ t)
 store_call s t {h} x bytes ok is may fresh apart right = (
   may,
-  shown_kept s h t (call_entries s t is) (journal_spared s is (data_misses s.sizes.geometry x bytes ok fresh.is_data)) ((λ a y named. block_spared is y.0 (λ same. fresh.unnamed a y named (sym same))), write_spares is (entered t) apart)
+  shown_kept s h t (call_sealed s t is) (call_filled t is) (journal_spared s is (data_misses s.sizes.geometry x bytes ok fresh.is_data)) ((λ a y named. block_spared is y.0 (λ same. fresh.unnamed a y named (sym same))), write_spares is (entered t) apart)
       (block_spared is 0 (data_not_first s.sizes.geometry x.0 fresh.is_data)) (shown_of s t right),
   right,
 )
@@ -186,17 +203,7 @@ store_call s t {h} x bytes ok is may fresh apart right = (
 pub store_reads : (s : Session) (t : Trace) (x : Pbn) (bytes : List ℕ) → ReadsAs s (Calls (Write x bytes true) ∷ t) x.0 bytes
 store_reads s t x bytes = subst (λ (options : List (List ℕ)). AllByRecursion (λ content. content ≡ bytes) options) (sym (settled-write s.blocks (log s t) x bytes)) (refl, tt)
 
--- The block of an entry.
-
--- how many blocks the journal has
-pub blocks_length : (s : Session) (es : List Logged) → length (blocks_of s es) ≡ length s.sealed + length es
-blocks_length s [] = omega arith
-blocks_length s (e ∷ es) = omega (arith, blocks_length s es)
-
--- each names the first sequence as its head
-pub heads_start : (s : Session) (es : List Logged) → HasWholeBlocks s → head_of s.sizes.start (blocks_of s es) ≡ s.sizes.start
-heads_start s [] whole = whole.all_needed
-heads_start s (e ∷ es) whole = refl
+-- The block of some entries.
 
 -- where a block is left, the journal of the opened image has whole blocks, and those of the writes stand on them
 pub whole_opening : (s : Session) → IsSession s → s.sizes.opened + 1 < s.sizes.geometry.journal → HasWholeBlocks s
@@ -206,10 +213,10 @@ whole_opening s session left = by session.journal
     by (inl whole) = whole
     by (inr none) = let full = none.full in absurd (omega (arith, full, left))
 
-pub blocks_rest : (s : Session) (t : Trace) (es : List Logged) → s.sizes.opened + 1 < s.sizes.geometry.journal → HasBlocks s t es
-    → HasWholeBlocks s × IsAtRest s.blocks (log s t) s.sizes.geometry s.sizes.start (blocks_of s es)
-blocks_rest s t es left (inl rest) = rest
-blocks_rest s t es left (inr k) = let full = k.opening.full in absurd (omega (arith, full, left))
+pub blocks_rest : (s : Session) (t : Trace) (blocks : List (List Logged)) → s.sizes.opened + 1 < s.sizes.geometry.journal → HasBlocks s t blocks
+    → HasWholeBlocks s × IsAtRest s.blocks (log s t) s.sizes.geometry s.sizes.start (blocks_of s blocks)
+blocks_rest s t blocks left (inl rest) = rest
+blocks_rest s t blocks left (inr k) = let full = k.opening.full in absurd (omega (arith, full, left))
 
 logical_small : (height : ℕ) → logical_limit height ≤ 4000000000
 logical_small height = elim (eqb_tells height 2) [ inl same ↦ rw same.0 (omega arith) | inr other ↦ rw other.0 (omega arith) ]
@@ -230,96 +237,96 @@ data_led g Zero inside = tt
 data_led g (At x) inside = inside
 
 -- what the entries map an address to leads to a data block, or to none
-old_data : (s : Session) (es : List Logged) (a : ℕ) (m : Mapping) → IsSession s → AreData s es → mapping_of (entries_of s.window es) a ≡ m → LeadsToData s.sizes.geometry m
+pub old_data : (s : Session) (es : List Logged) (a : ℕ) (m : Mapping) → IsSession s → AreData s es → mapping_of (entries_of s.window es) a ≡ m → LeadsToData s.sizes.geometry m
 old_data s es a Unmapped session to_data is = tt
 old_data s es a Zero session to_data is = tt
 old_data s es a (At x) session to_data is = mapped_is_data s es a x session to_data is
 
 -- what the form of the journal needs of an entry
 pub record IsSpelled (s : Session) (e : Logged) : Type 0 where
-  pub sizes : IsGeometry s.sizes.geometry
-  pub start : (1 ≤ s.sizes.start) × (s.sizes.start < 2 ^ 54)
   pub below : e.at.0 < s.sizes.geometry.logical
   pub old_held : HoldsMapping e.old
+  pub old_led : LeadsToData s.sizes.geometry e.old
   pub fresh : OnBlock (IsFresh s) e.new
 
-module _ (s : Session) (e : Logged) (is : IsSpelled s e) where
-  spelled_entry : HoldsEntry (entry_of e)
-  spelled_entry =
+module _ (s : Session) (session : IsSession s) where
+  spelled_entry : (e : Logged) → IsSpelled s e → HoldsEntry (entry_of e)
+  spelled_entry e is =
       let small = logical_small s.sizes.geometry.height in
-      let limit = is.sizes.logical.1 in
+      let limit = session.sizes.logical.1 in
       let below = is.below in
-      (omega (arith, below, limit, small), is.old_held, fresh_held s is.sizes e.new is.fresh)
+      (omega (arith, below, limit, small), is.old_held, fresh_held s session.sizes e.new is.fresh)
 
-  -- its block can be sealed behind these
-  pub spelled_sealed : (es : List Logged) → IsSession s → HasWholeBlocks s → AreData s es → e.old ≡ mapping_of (entries_of s.window es) e.at.0 → length s.sealed + length es + 1 < s.sizes.geometry.journal
-      → IsSealed s.sizes.geometry s.sizes.start (blocks_of s es) (sealed_with s e)
-  spelled_sealed es session whole to_data old few =
-      let some = is.start.0 in
-      let low = is.start.1 in
-      let most = is.sizes.journal.1 in
-      let count = blocks_length s es in
-      let head = heads_start s es whole in
+  spelled_of_image : (e : Logged) → IsSpelled s e → IsOfImage s.sizes.geometry (entry_of e)
+  spelled_of_image e is = (is.below, is.old_led, data_led s.sizes.geometry e.new (on_each e.new (λ x to fresh. fresh.is_data) is.fresh))
+
+  -- their block can be sealed behind these
+  pub spelled_sealed : (older : List (List Logged)) (es : List Logged) → HasWholeBlocks s → AllByRecursion (IsSpelled s) es → length es ≤ 192 → s.sizes.opened + length older + 1 < s.sizes.geometry.journal
+      → IsSealed s.sizes.geometry s.sizes.start (blocks_of s older) (sealed_with s es)
+  spelled_sealed older es whole each few left =
+      let some = session.start.0 in
+      let low = session.start.1 in
+      let most = session.sizes.journal.1 in
+      let opened = whole.opened in
+      let count = blocks_length s older in
+      let head = heads_start s older whole in
       record {
         holds = record {
-          named = (omega (arith, some), omega (arith, low, few, most, count));
+          named = (omega (arith, some), omega (arith, low, left, most, count, opened));
           head_below = omega arith;
-          few = omega arith;
-          each = All-cons HoldsEntry (entry_of e) [] spelled_entry (All-nil HoldsEntry);
+          few = omega (arith, few, block_length s es);
+          each = All-from_recursion HoldsEntry (sealed_with s es).entries (block_has s HoldsEntry es (every-map {P = IsSpelled s} {Q = λ e. HoldsEntry (entry_of e)} spelled_entry es each));
         };
-        each = All-cons (IsOfImage s.sizes.geometry) (entry_of e) []
-            (is.below, subst (LeadsToData s.sizes.geometry) (sym old) (old_data s es e.at.0 _ session to_data refl), data_led s.sizes.geometry e.new (on_each e.new (λ x to fresh. fresh.is_data) is.fresh))
-            (All-nil (IsOfImage s.sizes.geometry));
+        each = All-from_recursion (IsOfImage s.sizes.geometry) (sealed_with s es).entries
+            (block_has s (IsOfImage s.sizes.geometry) es (every-map {P = IsSpelled s} {Q = λ e. IsOfImage s.sizes.geometry (entry_of e)} spelled_of_image es each));
         rises = omega (arith, head);
-        ring = omega (arith, few, count);
-        reach = omega (arith, few, most, count);
+        ring = omega (arith, left, count, opened);
+        reach = omega (arith, left, most, count, opened);
       }
 
--- The slot of the next entry is written.
-module _ (s : Session) (t : Trace) (e : Logged) (slot : Pbn) (bytes : List ℕ) (session : IsSession s) (is : IsSpelled s e) (can_seal : IsSealed s.sizes.geometry s.sizes.start (blocks_of s (committed t)) (sealed_with s e))
-    (place : slot.0 ≡ place_of s.sizes.geometry (next_of s.sizes.start (blocks_of s (committed t))))
-    (says : IsWhole s.sizes.geometry (next_of s.sizes.start (blocks_of s (committed t))) (sealed_with s e) bytes)
-    (right : RightTrace s t) (left : s.sizes.opened + 1 < s.sizes.geometry.journal) (rest : AtRest s t (committed t)) (keeps : NewStands s t e) where
+-- The slot of the next block is written.
+module _ (s : Session) (t : Trace) (older : List (List Logged)) (es : List Logged) (slot : Pbn) (bytes : List ℕ) (session : IsSession s) (fresh : AllByRecursion (λ (e : Logged). OnBlock (IsFresh s) e.new) es)
+    (can_seal : IsSealed s.sizes.geometry s.sizes.start (blocks_of s older) (sealed_with s es))
+    (place : slot.0 ≡ place_of s.sizes.geometry (next_of s.sizes.start (blocks_of s older)))
+    (says : IsWhole s.sizes.geometry (next_of s.sizes.start (blocks_of s older)) (sealed_with s es) bytes)
+    (right : RightTrace s t) (left : s.sizes.opened + 1 < s.sizes.geometry.journal) (sealed_is : sealed t ≡ es ∷ older) (rest : AtRest s t older) (keeps : NewStands s t es) where
   -- it is no data block
   misses : (x : ℕ) → IsDataBlock s.sizes.geometry x → slot.0 ≢ x
-  misses x held = let some = session.sizes.journal.0 in slot_misses s.sizes.geometry (next_of s.sizes.start (blocks_of s (committed t))) slot.0 x (omega (arith, some)) place held
+  misses x held = let some = session.sizes.journal.0 in slot_misses s.sizes.geometry (next_of s.sizes.start (blocks_of s older)) slot.0 x (omega (arith, some)) place held
 
-  data_spared : (ok : Bool) (es : List Logged) → AreData s es → SparesBlocks (Calls (Write slot bytes ok)) es
-  data_spared ok [] to_data = tt
-  data_spared ok (f ∷ es) to_data = (on_each f.new (λ x to inside. misses x.0 inside) to_data.0, data_spared ok es to_data.1)
+  data_spared : (h : Happening) (ok : Bool) → IsCallOf h (Write slot bytes ok) → (fs : List Logged) → AreData s fs → SparesBlocks h fs
+  data_spared h ok is [] to_data = tt
+  data_spared h ok is (f ∷ fs) to_data = (on_each f.new (λ x to inside. block_spared is x.0 (misses x.0 inside)) to_data.0, data_spared h ok is fs to_data.1)
 
   window_spared : (a : ℕ) (x : Pbn) → mapping_of s.window a ≡ At x → slot.0 ≢ x.0
   window_spared a x named = misses x.0 (window_data s a x session named)
 
-  pub slot_way : (ok : Bool) → OnItsWay s (Calls (Write slot bytes ok) ∷ t) (committed t) e
+  -- the entries, those of the block being filled, and those of the older blocks
+  abbrev parts : AreData s (filled t) × AreData s (es ++ all_of older)
+  parts = every-front (HasData s) (filled t) (es ++ all_of older) (subst (AreData s) (entered_parts t ∙ ap (λ (all : List (List Logged)). filled t ++ all_of all) sealed_is) (entered_data s t right))
+
+  older_data : AreData s (all_of older)
+  older_data = (every-front (HasData s) es (all_of older) parts.1).1
+
+  pub slot_way : (ok : Bool) → OnItsWay s (Calls (Write slot bytes ok) ∷ t) older es
   slot_way ok =
-      let sealed_rest = blocks_rest s t (committed t) left rest.0 in (
-        (sealed_rest.0, begins s.blocks (log s t) s.sizes.geometry s.sizes.start (blocks_of s (committed t)) (sealed_with s e) slot bytes ok place can_seal says sealed_rest.1),
-        map_kept s (Calls (Write slot bytes ok)) t (committed t) (window_spared, data_spared ok (committed t) (committed_data s t right)) rest.1,
-        new_kept s (Calls (Write slot bytes ok)) t e (on_each e.new (λ x to fresh. misses x.0 fresh.is_data) is.fresh) keeps,
+      let sealed_rest = blocks_rest s t older left rest.0 in
+      let h = Calls (Write slot bytes ok) in (
+        (sealed_rest.0, begins s.blocks (log s t) s.sizes.geometry s.sizes.start (blocks_of s older) (sealed_with s es) slot bytes ok place can_seal says sealed_rest.1),
+        map_kept s h t (all_of older) (window_spared, data_spared h ok succeeded (all_of older) older_data) rest.1,
+        new_kept s h t es (data_spared h ok succeeded es (every-map {P = λ (e : Logged). OnBlock (IsFresh s) e.new} {Q = HasData s} (λ e has. on_each e.new (λ x to free. free.is_data) has) es fresh)) keeps,
       )
 
-  pub slot_reads : ReadsEntry s (Calls (Write slot bytes true) ∷ t) (committed t) e
-  slot_reads = is_written s.blocks (log s t) s.sizes.geometry s.sizes.start (blocks_of s (committed t)) (sealed_with s e) slot bytes place says
+  pub slot_reads : ReadsBlock s (Calls (Write slot bytes true) ∷ t) older es
+  slot_reads = is_written s.blocks (log s t) s.sizes.geometry s.sizes.start (blocks_of s older) (sealed_with s es) slot bytes place says
 
-  pub slot_call : (h : Happening) (ok : Bool) → IsCallOf h (Write slot bytes ok) → MayFollow s h t → AtRest s (h ∷ t) (committed t) ⊎ OnItsWay s (h ∷ t) (committed t) e → entered t ≡ e ∷ committed t
-      → RightTrace s (h ∷ t)
-  slot_call h ok is may stands last = (
+  pub slot_call : (h : Happening) (ok : Bool) → IsCallOf h (Write slot bytes ok) → MayFollow s h t → AtRest s (h ∷ t) older ⊎ OnItsWay s (h ∷ t) older es → committed t ≡ all_of older → RightTrace s (h ∷ t)
+  slot_call h ok is may stands committed_is = (
     may,
     record {
       superblock = stands_kept s h t 0 _ (block_spared is 0 (λ same. omega (arith, same, place))) (shown_of s t right).superblock;
-      journal = inr (record {
-        entry = e;
-        is_last = same.entered_same ∙ last ∙ ap (λ es. e ∷ es) (sym same.committed_same);
-        stands = subst (λ (es : List Logged). AtRest s (h ∷ t) es ⊎ OnItsWay s (h ∷ t) es e ⊎ AtRest s (h ∷ t) (e ∷ es)) (sym same.committed_same) (either stands);
-      });
+      journal = inr (record { block = es; older = older; sealed_is = (call_sealed s t is).sealed_same ∙ sealed_is; committed_is = (call_sealed s t is).committed_same ∙ committed_is; stands = stands });
+      filling = rw (call_filled t is) (new_reads_kept s h t (filled t) (data_spared h ok is (filled t) parts.0) (shown_of s t right).filling);
     },
     right,
   )
-    where
-      same : SparesEntries s h t
-      same = call_entries s t is
-
-      either : AtRest s (h ∷ t) (committed t) ⊎ OnItsWay s (h ∷ t) (committed t) e → AtRest s (h ∷ t) (committed t) ⊎ OnItsWay s (h ∷ t) (committed t) e ⊎ AtRest s (h ∷ t) (e ∷ committed t)
-      either (inl rests) = inl rests
-      either (inr way) = inr (inl way)

@@ -1,24 +1,26 @@
 -- What the acts of the device zone owe: it stores, loads and flushes for requests, and flushes and writes for sealed blocks.
-use Rattle.std.proofs.Common.{◌≡◌, ◌≢◌, ℕ, zero, suc, ◌+◌, ◌<◌, ◌≤◌, Bool, true, false, Some, IsSome, List, [], ◌∷◌, refl, ap, sym, ◌∙◌, subst, inl, inr, arith, ◌⊎◌, length}
-use Rattle.core_laws.proofs.Common.{AllByRecursion, Asks, AtRest, BlockOk, Call, Calls, DataOk, DeviceZone, Fails, FailureMayFollow, Happening, HasAddress, HasCause, HasHonestReads, IsEarned, IsFresh, IsMadeFor, IsSealed, IsSession, Lba, Logged, OnItsWay, Pbn, Post, RightTrace, SealedBlock, Session, Sizes, Stage, Stands, StandsAt, Trace, Vio, VioOk, Writer, asked, bytes_of, calls, committed, done, ended, entered, entries_of, entry_of, eqb_tells, has_read_fault, has_stopped, is_ok, is_read, log, logged, logical_zones, moments, notified, place_of, places, request_of, same_self, same_Some, some_is, staged, value_at, value_from, value_written, zone_count, zone_number, IsToFresh, IsChange, NewStands, Mapping, ReadsAs, MapsTo, OnBlock}
+use Rattle.std.proofs.Common.{◌≡◌, ℕ, zero, suc, ◌+◌, ◌<◌, ◌≤◌, Bool, true, false, Some, IsSome, List, [], ◌∷◌, ◌++◌, refl, ap, sym, ◌∙◌, subst, inl, inr, arith, ◌⊎◌}
+use Rattle.core_laws.proofs.Common.{all_logged, all_of, AllByRecursion, asked, Asks, AtRest, Call, calls, Calls, DataOk, DeviceZone, done, each_at, ended, entered, Entry, eqb_tells, every-map, Fails, FailureMayFollow, Happening, has_read_fault, has_stopped, HasAddress, HasCause, HasHonestReads, HasWholeBlocks, is_ok, is_read, IsChange, IsEarned, IsFresh, IsMadeFor, IsOpen, IsSealed, IsSession, IsToFresh, KeptOk, Lba, log, logged, Logged, logical_zones, Mapping, MapsTo, MayFollow, moments, NewReads, NewStands, notified, OnBlock, OnItsWay, Pbn, place_of, places, Post, ReadsAs, ReadsBlock, request_of, RightTrace, same_self, same_Some, SealedBlock, Session, Sizes, some_is, Stage, StandsAt, Trace, value_at, value_from, Vio, VioOk, Writer, zone_count, zone_number}
 use Rattle.image_layout.specs.Window.{mapping_of}
 use Rattle.vdo_model.specs.FlushMarks.{IsMark, successes}
 use Rattle.core_model.specs.declared.items.Asks.TheVariants.{Read, Write, Discard, Flush}
 use Rattle.core_model.specs.DeskRows.{is_marked, mark_of_vio}
 use Rattle.core_model.specs.DeviceRows.{DeviceServes, counted, halted, stop_notices, DeviceWorks, journal_bytes, IsItsSlot, call_of, next_stage, next_zone}
 use Rattle.core_model.specs.LogicalRows.{mapped_by}
-use Rattle.core_laws.proofs.kept.ActKept.{Known, Mine, weighed, PostOk, ActKept, act_none, act_one, vio_ok, in_phase}
+use Rattle.core_laws.proofs.kept.ActKept.{Known, Mine, weighed, PostOk, ActKept, act_none, act_one, vio_ok, in_phase, carries_at}
 use Rattle.core_laws.proofs.kept.Keys.{OfBlock, Clears, claim_one}
-use Rattle.core_laws.proofs.device.DeviceCalls.{data_misses, slot_misses, call_clears, quiet_journal, quiet_call, store_call, store_reads, IsSpelled, slot_way, slot_reads, slot_call, read_value, blocks_length, spelled_sealed, whole_opening}
+use Rattle.core_laws.proofs.device.DeviceCalls.{IsSpelled, call_clears, data_misses, old_data, quiet_call, quiet_journal, read_value, slot_call, slot_misses, slot_reads, slot_way, spelled_sealed, store_call, store_reads, whole_opening}
+use Rattle.core_laws.proofs.journal.SealedBlocks.{blocks_length, entries_in_order, every_logged, logged_length}
+use Rattle.image_model.specs.Windows.{LeadsToData}
 use Rattle.disk_model.specs.Log.{Misses}
-use Rattle.core_laws.proofs.kept.Carried.{vio_kept, holds_kept, looks_kept, sealed_kept}
+use Rattle.core_laws.proofs.kept.Carried.{holds_kept, looks_kept, pending_over, sealed_kept, vio_kept}
 use Rattle.core_laws.proofs.journal.JournalFacts.{home_within, stopped_post}
 use Rattle.core_laws.proofs.kept.Spared.{mapping_by, honest_before}
-use Rattle.core_laws.proofs.kept.StandsOn.{AreElsewhere, IsCallOf, succeeded, failed, block_spared, journal_spared, write_spares, call_entries, spares_all, map_kept, map_more, new_kept, on_any, rests_kept, way_kept, rests_unlogged}
+use Rattle.core_laws.proofs.kept.StandsOn.{AreElsewhere, IsCallOf, block_spared, call_sealed, failed, journal_spared, map_kept, map_more, new_kept, on_each, rests_kept, rests_unlogged, spares_all, succeeded, way_kept, write_spares}
 use Rattle.blk_base.specs.Regions.{journal_slot_of, IsDataBlock}
 use Rattle.journal_codec.specs.Spelling.{block_bytes}
 use Rattle.stop_laws.specs.Journals.{block_of_slot}
-use Rattle.blk_base.specs.declared.place.Mapping.TheVariants.{Unmapped, Zero, At}
+use Rattle.blk_base.specs.declared.place.Mapping.TheVariants.{At}
 use Rattle.blk_base.specs.declared.place.ZoneId.TheVariants as id
 use Rattle.blk_base.specs.declared.request.Answer.TheVariants as reply
 use Rattle.disk_model.specs.declared.call.Call.TheVariants as call
@@ -28,10 +30,10 @@ use Rattle.core_model.specs.declared.zones.ZoneData.TheVariants as at
 use Rattle.core_model.specs.DeviceRows as device
 use Rattle.core_model.specs.declared.items.Stage.TheVariants as stage
 use Rattle.journal_stops.specs.Rings.{IsWhole, place_of as slot_place}
-use Rattle.journal_stops.specs.Sealed.{Sealed, next_of}
+use Rattle.journal_stops.specs.Sealed.{next_of}
 use Rattle.journal_stops.proofs.StepLaws.{spelled_whole, ends}
-use Rattle.core_model.specs.Sessions.{HasWholeBlocks, blocks_of, sealed_with}
-use Rattle.core_laws.proofs.trace.DeskOfTrace.{committed_data}
+use Rattle.core_model.specs.Sessions.{blocks_of, sealed_with}
+use Rattle.core_laws.proofs.trace.DeskOfTrace.{HasData, all_done, committed_data}
 use Rattle.journal_stops.specs.Sealed.{IsSealed as IsSealedBlock}
 
 -- a write changes its block
@@ -108,7 +110,7 @@ module _ {s : Session} {t : Trace} {n : ℕ} {old : DeviceZone} {v : Vio} (known
         | inl same ↦ inl (subst (λ (z : ℕ). Mine s t (at.Device old) (item.Request v ∷ []) (OfBlock z)) same.1 (weighed (omega (arith, claim_one v x (rw store refl) to))))
         | inr other ↦ inr (λ inside. block_spared is y other.1)
       ])
-      (inr (call_entries s t is, journal_spared s is (data_misses s.sizes.geometry x v.bytes success fresh.is_data), ((λ a y named. block_spared is y.0 (λ same. fresh.unnamed a y named (sym same))), write_spares is (entered t) (unnamed x store to))))
+      (inr (call_sealed s t is, journal_spared s is (data_misses s.sizes.geometry x v.bytes success fresh.is_data), ((λ a y named. block_spared is y.0 (λ same. fresh.unnamed a y named (sym same))), write_spares is (entered t) (unnamed x store to))))
 
   -- what it carries then to the journal
   stored_carries : (u : Trace) (x : Pbn) (q : Asks) (m : Mapping) → q ≡ Write → m ≡ At x → IsFresh s x → ReadsAs s u x.0 v.bytes → MapsTo q v.bytes m × OnBlock (IsFresh s) m × OnBlock (λ y. ReadsAs s u y.0 v.bytes) m
@@ -186,17 +188,28 @@ module _ {s : Session} {t : Trace} {n : ℕ} {old : DeviceZone} {v : Vio} (known
   device_serves new made posts (device.flush_unmade is halts e m p) =
       rw (e, m, p) (act_none known known.own (unflushed_post s t v (sym known.own.lists.stopped_is ∙ halts) (vio_ok known) (in_phase known phase.Flush is), tt))
 
--- a block that has come further by a call
-block_over : (s : Session) (t : Trace) {h : Happening} {c : Call} → IsCallOf h c → (b : SealedBlock) (next : Stage) → IsSealed s t b.vio b.sequence → StandsAt s (h ∷ t) b.vio next → BlockOk s (h ∷ t) (staged next b)
-block_over s t {h} succeeded b next ok stands = (sealed_kept s h t b.vio b.sequence tt tt (record { entered_same = refl; committed_same = refl }) ok, stands)
-block_over s t {h} failed b next ok stands = (sealed_kept s h t b.vio b.sequence tt tt (record { entered_same = refl; committed_same = refl }) ok, stands)
+-- the requests of a block over a call
+vios_over : (s : Session) (t : Trace) {h : Happening} {c : Call} → IsCallOf h c → (vs : List Vio) → AllByRecursion (KeptOk s t phase.Pending) vs → AllByRecursion (KeptOk s (h ∷ t) phase.Pending) vs
+vios_over s t {h} is vs all = every-map {P = KeptOk s t phase.Pending} {Q = KeptOk s (h ∷ t) phase.Pending} (λ v k. over is v k) vs all
+  where
+    over : {h : Happening} {c : Call} → IsCallOf h c → (v : Vio) → KeptOk s t phase.Pending v → KeptOk s (h ∷ t) phase.Pending v
+    over {h} succeeded v k = pending_over s h t v tt tt k
+    over {h} failed v k = pending_over s h t v tt tt k
+
+abbrev sealed_over : (s : Session) (t : Trace) {h : Happening} {c : Call} → IsCallOf h c → (vs : List Vio) (n : ℕ) → IsSealed s t vs n → IsSealed s (h ∷ t) vs n
+sealed_over s t {h} is vs n k = sealed_kept s h t vs n (call_sealed s t is) k
 
 -- a flush keeps what stands, whether it fails or not
-flush_rest : (s : Session) (t : Trace) {h : Happening} {ok : Bool} (es : List Logged) → IsCallOf h (call.Flush ok) → AtRest s t es → AtRest s (h ∷ t) es
-flush_rest s t {h} es is k = rests_kept s h t es (journal_spared s is (λ slot below. tt)) ((λ a x named. block_spared is x.0 tt), spares_all h (λ x. block_spared is x tt) es) k
+flush_rest : (s : Session) (t : Trace) {h : Happening} {ok : Bool} (blocks : List (List Logged)) → IsCallOf h (call.Flush ok) → AtRest s t blocks → AtRest s (h ∷ t) blocks
+flush_rest s t {h} blocks is k = rests_kept s h t blocks (journal_spared s is (λ slot below. tt)) ((λ a x named. block_spared is x.0 tt), spares_all h (λ x. block_spared is x tt) (all_of blocks)) k
 
-flush_way : (s : Session) (t : Trace) {h : Happening} {ok : Bool} (es : List Logged) (e : Logged) → IsCallOf h (call.Flush ok) → OnItsWay s t es e → OnItsWay s (h ∷ t) es e
-flush_way s t {h} es e is k = way_kept s h t es e (journal_spared s is (λ slot below. tt)) ((λ a x named. block_spared is x.0 tt), spares_all h (λ x. block_spared is x tt) (e ∷ es)) k
+flush_way : (s : Session) (t : Trace) {h : Happening} {ok : Bool} (older : List (List Logged)) (es : List Logged) → IsCallOf h (call.Flush ok) → OnItsWay s t older es → OnItsWay s (h ∷ t) older es
+flush_way s t {h} older es is k = way_kept s h t older es (journal_spared s is (λ slot below. tt)) ((λ a x named. block_spared is x.0 tt), spares_all h (λ x. block_spared is x tt) (es ++ all_of older)) k
+
+-- one that returns makes what reads give stand
+flushed : (s : Session) (t : Trace) (es : List Logged) → NewReads s t es → NewStands s (Calls (call.Flush true) ∷ t) es
+flushed s t [] reads = tt
+flushed s t (e ∷ es) reads = (on_each e.new (λ x to k. k) reads.0, flushed s t es reads.1)
 
 below_logical : (s : Session) (v : Vio) (q : Asks) → IsChange q → HasAddress s.sizes v.at q → v.at.0 < s.sizes.geometry.logical
 below_logical s v Write is k = k
@@ -204,117 +217,128 @@ below_logical s v Discard is k = k
 below_logical s v Read is k = absurd is
 below_logical s v Flush is k = absurd is
 
--- the block that a request maps its address to has the bytes that it writes
-written_now : (s : Session) (u : Trace) (q : Asks) (place : Lba) (bytes : List ℕ) (m : Mapping) → MapsTo q bytes m → OnBlock (λ x. Stands s u x.0 bytes) m
-    → OnBlock (λ x. Stands s u x.0 (value_written (Some (asked q place bytes)))) m
-written_now s u Write place bytes m maps stands = stands
-written_now s u Discard place bytes Unmapped maps stands = tt
-written_now s u Discard place bytes Zero maps stands = absurd maps
-written_now s u Discard place bytes (At x) maps stands = absurd maps
-written_now s u Read place bytes m maps stands = absurd maps
-written_now s u Flush place bytes m maps stands = absurd maps
+-- what the form of the journal needs of the entry of a request in a block
+spelled : (s : Session) (t : Trace) (v : Vio) → IsSession s → RightTrace s t → KeptOk s t phase.Pending v → IsSpelled s (logged v)
+spelled s t v session right k =
+    let has = carries_at s t v phase.Pending k.2 k.1 in
+    record {
+      below = below_logical s v v.asks has.is_entered.is_change k.0.address;
+      old_held = has.old_held;
+      old_led = subst (LeadsToData s.sizes.geometry) (sym has.old_is) (old_data s (done t) v.at.0 _ session (all_done (HasData s) s t right (committed_data s t right)) refl);
+      fresh = has.fresh;
+    }
 
-module _ (s : Session) (t : Trace) (b : SealedBlock) (session : IsSession s) (ok : IsSealed s t b.vio b.sequence) where
-  abbrev blocks : List Sealed
-  blocks = blocks_of s (committed t)
+module _ (s : Session) (t : Trace) (b : SealedBlock) (session : IsSession s) (vios : AllByRecursion (KeptOk s t phase.Pending) b.vios) (right : RightTrace s t) (k : IsSealed s t b.vios b.sequence) where
+  abbrev es : List Logged
+  es = all_logged b.vios
 
   left_before : s.sizes.opened + 1 < s.sizes.geometry.journal
-  left_before = let few = ok.few in omega (arith, few)
+  left_before = let left = k.left in omega (arith, left)
 
   whole : HasWholeBlocks s
   whole = whole_opening s session left_before
 
-  sequence_is : b.sequence ≡ next_of s.sizes.start blocks
-  sequence_is = let opened = whole.opened in let at = ok.sequence in omega (arith, at, opened, blocks_length s (committed t))
+  sequence_is : b.sequence ≡ next_of s.sizes.start (blocks_of s k.older)
+  sequence_is = let opened = whole.opened in let at = k.sequence in omega (arith, at, opened, blocks_length s k.older)
 
-  spelled : IsSpelled s (logged b.vio)
-  spelled = record {
-    sizes = session.sizes;
-    start = session.start;
-    below = below_logical s b.vio b.vio.asks ok.is_entered.is_change ok.vio.address;
-    old_held = ok.old_held;
-    fresh = ok.fresh;
-  }
+  all_spelled : AllByRecursion (IsSpelled s) es
+  all_spelled = every_logged (IsSpelled s) b.vios (every-map {P = KeptOk s t phase.Pending} {Q = λ v. IsSpelled s (logged v)} (λ v ok. spelled s t v session right ok) b.vios vios)
+
+  all_fresh : AllByRecursion (λ (e : Logged). OnBlock (IsFresh s) e.new) es
+  all_fresh = every-map {P = IsSpelled s} {Q = λ (e : Logged). OnBlock (IsFresh s) e.new} (λ e is. is.fresh) es all_spelled
 
   -- its block can be sealed behind those that are committed
-  can_seal : RightTrace s t → IsSealedBlock s.sizes.geometry s.sizes.start blocks (sealed_with s (logged b.vio))
-  can_seal right = let few = ok.few in let opened = whole.opened in spelled_sealed s (logged b.vio) spelled (committed t) session whole (committed_data s t right) ok.old_is (omega (arith, few, opened))
+  can_seal : IsSealedBlock s.sizes.geometry s.sizes.start (blocks_of s k.older) (sealed_with s es)
+  can_seal = let few = k.few in let left = k.left in spelled_sealed s session k.older es whole all_spelled (omega (arith, few, logged_length b.vios)) left
 
-  says : RightTrace s t → IsWhole s.sizes.geometry (next_of s.sizes.start blocks) (sealed_with s (logged b.vio)) (journal_bytes s.sizes b)
-  says right = subst (λ (m : ℕ). IsWhole s.sizes.geometry (next_of s.sizes.start blocks) (sealed_with s (logged b.vio)) (block_bytes s.sizes.geometry.nonce m s.sizes.start (entry_of (logged b.vio) ∷ [])))
-      (sym sequence_is) (spelled_whole s.sizes.geometry (next_of s.sizes.start blocks) (sealed_with s (logged b.vio)) (can_seal right).holds)
+  says : IsWhole s.sizes.geometry (next_of s.sizes.start (blocks_of s k.older)) (sealed_with s es) (journal_bytes s.sizes b)
+  says =
+      subst (λ (entries : List Entry). IsWhole s.sizes.geometry (next_of s.sizes.start (blocks_of s k.older)) (sealed_with s es) (block_bytes s.sizes.geometry.nonce b.sequence s.sizes.start entries)) (entries_in_order b.vios)
+      (subst (λ (m : ℕ). IsWhole s.sizes.geometry (next_of s.sizes.start (blocks_of s k.older)) (sealed_with s es) (block_bytes s.sizes.geometry.nonce m s.sizes.start (sealed_with s es).entries)) (sym sequence_is)
+      (spelled_whole s.sizes.geometry (next_of s.sizes.start (blocks_of s k.older)) (sealed_with s es) can_seal.holds))
 
-  place_is : (slot : Pbn) → IsItsSlot s.sizes b slot → slot.0 ≡ slot_place s.sizes.geometry (next_of s.sizes.start blocks)
+  place_is : (slot : Pbn) → IsItsSlot s.sizes b slot → slot.0 ≡ slot_place s.sizes.geometry (next_of s.sizes.start (blocks_of s k.older))
   place_is slot place = place ∙ ap (λ m. block_of_slot (journal_slot_of s.sizes.geometry m)) sequence_is
 
-  block_stands : StandsAt s t b.vio stage.Write → NewStands s t (logged b.vio)
-  block_stands stands =
-      subst (λ (value : List ℕ). OnBlock (λ x. Stands s t x.0 value) b.vio.new) (ap value_written (sym ok.vio.asked)) (written_now s t b.vio.asks b.vio.at b.vio.bytes b.vio.new ok.maps stands.1)
-
+module _ (s : Session) (t : Trace) (b : SealedBlock) (session : IsSession s) (vios : AllByRecursion (KeptOk s t phase.Pending) b.vios) where
   -- what a call leaves, at each stage
   pub record Made (h : Happening) (next : Stage) : Type 0 where
     pub right : RightTrace s (h ∷ t)
-    pub stands : StandsAt s (h ∷ t) b.vio next
+    pub stands : StandsAt s (h ∷ t) b.vios b.sequence next
+
+  -- the slot is written
+  module _ (right : RightTrace s t) (k : IsSealed s t b.vios b.sequence) (slot : Pbn) (place : IsItsSlot s.sizes b slot) (rest : AtRest s t k.older) (new : NewStands s t (all_logged b.vios)) where
+    way_on : (ok : Bool) → OnItsWay s (Calls (call.Write slot (journal_bytes s.sizes b) ok) ∷ t) k.older (all_logged b.vios)
+    way_on ok = slot_way s t k.older (all_logged b.vios) slot (journal_bytes s.sizes b) session (all_fresh s t b session vios right k) (can_seal s t b session vios right k) (place_is s t b session vios right k slot place)
+        (says s t b session vios right k) right (left_before s t b session vios right k) k.sealed_is rest new ok
+
+    reads_on : ReadsBlock s (Calls (call.Write slot (journal_bytes s.sizes b) true) ∷ t) k.older (all_logged b.vios)
+    reads_on = slot_reads s t k.older (all_logged b.vios) slot (journal_bytes s.sizes b) session (all_fresh s t b session vios right k) (can_seal s t b session vios right k) (place_is s t b session vios right k slot place)
+        (says s t b session vios right k) right (left_before s t b session vios right k) k.sealed_is rest new
+
+    right_on : (h : Happening) (ok : Bool) → IsCallOf h (call.Write slot (journal_bytes s.sizes b) ok) → MayFollow s h t → AtRest s (h ∷ t) k.older ⊎ OnItsWay s (h ∷ t) k.older (all_logged b.vios) → RightTrace s (h ∷ t)
+    right_on h ok is may stands = slot_call s t k.older (all_logged b.vios) slot (journal_bytes s.sizes b) session (all_fresh s t b session vios right k) (can_seal s t b session vios right k)
+        (place_is s t b session vios right k slot place) (says s t b session vios right k) right (left_before s t b session vios right k) k.sealed_is rest new h ok is may stands k.committed_is
 
   module _ (goes : has_stopped t ≡ false) where
     -- one that succeeds
-    makes_by : (q : Stage) (c : Call) (slot : Pbn) → IsItsSlot s.sizes b slot → call_of s.sizes b slot true q ≡ Some c → RightTrace s t → StandsAt s t b.vio q → Made (Calls c) (next_stage q)
-    makes_by stage.Cover c slot place is right stands =
+    makes_by : (q : Stage) (c : Call) (slot : Pbn) → IsItsSlot s.sizes b slot → call_of s.sizes b slot true q ≡ Some c → RightTrace s t → StandsAt s t b.vios b.sequence q → Made (Calls c) (next_stage q)
+    makes_by stage.Cover c slot place is right (k, rest, reads) =
         rw (sym (same_Some _ _ is)) (record {
           right = quiet_call s t (call.Flush true) succeeded (record { succeeds = refl; goes_on = λ writes. goes }) (λ x. tt) right;
-          stands = (flush_rest s t (committed t) succeeded stands.0, stands.1);
+          stands = (sealed_over s t succeeded b.vios b.sequence k, flush_rest s t k.older succeeded rest, flushed s t (all_logged b.vios) reads);
         })
-    makes_by stage.Write c slot place is right stands =
-        let bytes = journal_bytes s.sizes b in
-        let way = slot_way s t (logged b.vio) slot bytes session spelled (can_seal right) (place_is slot place) (says right) right left_before stands.0 (block_stands stands) true in
+    makes_by stage.Write c slot place is right (k, rest, new) =
+        let way = way_on right k slot place rest new true in
         rw (sym (same_Some _ _ is)) (record {
-          right = slot_call s t (logged b.vio) slot bytes session spelled (can_seal right) (place_is slot place) (says right) right left_before stands.0 (block_stands stands) (Calls (call.Write slot bytes true)) true succeeded
-              (record { succeeds = refl; goes_on = λ writes. goes }) (inr way) ok.last;
-          stands = (way, slot_reads s t (logged b.vio) slot bytes session spelled (can_seal right) (place_is slot place) (says right) right left_before stands.0 (block_stands stands));
+          right = right_on right k slot place rest new (Calls (call.Write slot (journal_bytes s.sizes b) true)) true succeeded (record { succeeds = refl; goes_on = λ writes. goes }) (inr way);
+          stands = (sealed_over s t succeeded b.vios b.sequence k, way, reads_on right k slot place rest new);
         })
-    makes_by stage.Harden c slot place is right stands =
+    makes_by stage.Harden c slot place is right (k, way, reads) =
+        let h = Calls (call.Flush true) in
+        let stands : AtRest s (h ∷ t) (all_logged b.vios ∷ k.older) = (
+          inl (way.0.0, ends s.blocks (log s t) s.sizes.geometry s.sizes.start (blocks_of s k.older) (sealed_with s (all_logged b.vios)) reads way.0.1),
+          map_more s (h ∷ t) (all_logged b.vios) (all_of k.older) (map_kept s h t (all_of k.older) ((λ a x named. tt), spares_all h (λ x. tt) (all_of k.older)) way.1)
+              (new_kept s h t (all_logged b.vios) (spares_all h (λ x. tt) (all_logged b.vios)) way.2),
+        ) in
         rw (sym (same_Some _ _ is)) (record {
           right = quiet_call s t (call.Flush true) succeeded (record { succeeds = refl; goes_on = λ writes. goes }) (λ x. tt) right;
-          stands = (
-            inl (stands.0.0.0, ends s.blocks (log s t) s.sizes.geometry s.sizes.start (blocks_of s (committed t)) (sealed_with s (logged b.vio)) stands.1 stands.0.0.1),
-            map_more s (Calls (call.Flush true) ∷ t) (committed t) (logged b.vio)
-                (map_kept s (Calls (call.Flush true)) t (committed t) ((λ a x named. tt), spares_all (Calls (call.Flush true)) (λ x. tt) (committed t)) stands.0.1)
-                (new_kept s (Calls (call.Flush true)) t (logged b.vio) (on_any b.vio.new (λ x. tt)) stands.0.2),
-          );
+          stands = (ap all_of k.sealed_is ∙ ap (λ (es : List Logged). all_logged b.vios ++ es) (sym k.committed_is), rw k.sealed_is stands);
         })
     makes_by other c slot place is right stands = absurd cc
 
     -- and one that fails, kept in the log or not
-    fails_by : (q : Stage) (c : Call) (slot : Pbn) (kept : Bool) → IsItsSlot s.sizes b slot → call_of s.sizes b slot false q ≡ Some c → RightTrace s t → StandsAt s t b.vio q → Made (Fails b.vio.request c kept) stage.Fail
-    fails_by stage.Cover c slot kept place is right stands =
+    fails_by : (q : Stage) (c : Call) (slot : Pbn) (kept : Bool) (w : Writer) → IsOpen t w → IsItsSlot s.sizes b slot → call_of s.sizes b slot false q ≡ Some c → RightTrace s t → StandsAt s t b.vios b.sequence q
+        → Made (Fails w c kept) stage.Fail
+    fails_by stage.Cover c slot kept w is_open place is right (k, rest, reads) =
         rw (sym (same_Some _ _ is)) (record {
-          right = quiet_call s t {h = Fails b.vio.request (call.Flush false) kept} (call.Flush false) failed (record { is_open = ok.vio.is_open; fails = refl; goes_on = λ writes. goes; made_for = tt }) (λ x. tt) right;
-          stands = (inl (flush_rest s t {h = Fails b.vio.request (call.Flush false) kept} (committed t) failed stands.0), refl);
+          right = quiet_call s t {h = Fails w (call.Flush false) kept} (call.Flush false) failed (record { is_open = is_open; fails = refl; goes_on = λ writes. goes; made_for = tt }) (λ x. tt) right;
+          stands = (sealed_over s t {h = Fails w (call.Flush false) kept} failed b.vios b.sequence k, inl (flush_rest s t {h = Fails w (call.Flush false) kept} k.older failed rest), refl);
         })
-    fails_by stage.Write c slot kept place is right stands =
-        let bytes = journal_bytes s.sizes b in
+    fails_by stage.Write c slot kept w is_open place is right (k, rest, new) =
+        let h = Fails w (call.Write slot (journal_bytes s.sizes b) false) kept in
         rw (sym (same_Some _ _ is)) (record {
-          right = slot_call s t (logged b.vio) slot bytes session spelled (can_seal right) (place_is slot place) (says right) right left_before stands.0 (block_stands stands) (Fails b.vio.request (call.Write slot bytes false) kept) false failed
-              (record { is_open = ok.vio.is_open; fails = refl; goes_on = λ writes. goes; made_for = tt }) (left kept) ok.last;
-          stands = (left kept, refl);
+          right = right_on right k slot place rest new h false failed (record { is_open = is_open; fails = refl; goes_on = λ writes. goes; made_for = tt }) (left kept);
+          stands = (sealed_over s t {h = h} failed b.vios b.sequence k, left kept, refl);
         })
       where
-        left : (kept : Bool) → AtRest s (Fails b.vio.request (call.Write slot (journal_bytes s.sizes b) false) kept ∷ t) (committed t)
-            ⊎ OnItsWay s (Fails b.vio.request (call.Write slot (journal_bytes s.sizes b) false) kept ∷ t) (committed t) (logged b.vio)
-        left true = inr (slot_way s t (logged b.vio) slot (journal_bytes s.sizes b) session spelled (can_seal right) (place_is slot place) (says right) right left_before stands.0 (block_stands stands) false)
-        left false = inl (rests_unlogged s b.vio.request (call.Write slot (journal_bytes s.sizes b) false) t (committed t) stands.0)
-    fails_by stage.Harden c slot kept place is right stands =
+        left : (kept : Bool) → AtRest s (Fails w (call.Write slot (journal_bytes s.sizes b) false) kept ∷ t) k.older
+            ⊎ OnItsWay s (Fails w (call.Write slot (journal_bytes s.sizes b) false) kept ∷ t) k.older (all_logged b.vios)
+        left true = inr (way_on right k slot place rest new false)
+        left false = inl (rests_unlogged s w (call.Write slot (journal_bytes s.sizes b) false) t k.older rest)
+    fails_by stage.Harden c slot kept w is_open place is right (k, way, reads) =
         rw (sym (same_Some _ _ is)) (record {
-          right = quiet_call s t {h = Fails b.vio.request (call.Flush false) kept} (call.Flush false) failed (record { is_open = ok.vio.is_open; fails = refl; goes_on = λ writes. goes; made_for = tt }) (λ x. tt) right;
-          stands = (inr (flush_way s t {h = Fails b.vio.request (call.Flush false) kept} (committed t) (logged b.vio) failed stands.0), refl);
+          right = quiet_call s t {h = Fails w (call.Flush false) kept} (call.Flush false) failed (record { is_open = is_open; fails = refl; goes_on = λ writes. goes; made_for = tt }) (λ x. tt) right;
+          stands = (sealed_over s t {h = Fails w (call.Flush false) kept} failed b.vios b.sequence k, inr (flush_way s t {h = Fails w (call.Flush false) kept} k.older (all_logged b.vios) failed way), refl);
         })
-    fails_by other c slot kept place is right stands = absurd cc
+    fails_by other c slot kept w is_open place is right stands = absurd cc
 
 -- where it is not made
-unmade_by : (s : Session) (t : Trace) (b : SealedBlock) (q : Stage) (c : Call) (slot : Pbn) → has_stopped t ≡ true → call_of s.sizes b slot false q ≡ Some c → StandsAt s t b.vio q → StandsAt s t b.vio stage.Fail
-unmade_by s t b stage.Cover c slot stopped is stands = (inl stands.0, stopped)
-unmade_by s t b stage.Write c slot stopped is stands = (inl stands.0, stopped)
-unmade_by s t b stage.Harden c slot stopped is stands = (inr stands.0, stopped)
+unmade_by : (s : Session) (t : Trace) (b : SealedBlock) (q : Stage) (c : Call) (slot : Pbn) → has_stopped t ≡ true → call_of s.sizes b slot false q ≡ Some c → StandsAt s t b.vios b.sequence q
+    → StandsAt s t b.vios b.sequence stage.Fail
+unmade_by s t b stage.Cover c slot stopped is (k, rest, reads) = (k, inl rest, stopped)
+unmade_by s t b stage.Write c slot stopped is (k, rest, new) = (k, inl rest, stopped)
+unmade_by s t b stage.Harden c slot stopped is (k, way, reads) = (k, inr way, stopped)
 unmade_by s t b other c slot stopped is stands = absurd cc
 
 zone_is : (s : Session) (b : SealedBlock) (q : Stage) (c : Call) (slot : Pbn) → call_of s.sizes b slot true q ≡ Some c → zone_number s.sizes (next_zone q) < zone_count s.sizes
@@ -338,31 +362,32 @@ misses_data s b other slot success c some place is x inside = absurd cc
 
 -- The device zone makes the next call of a sealed block.
 module _ {s : Session} {t : Trace} {n : ℕ} {old : DeviceZone} {b : SealedBlock} (known : Known s t n (at.Device old) (item.Block b ∷ [])) where
-  sealed : IsSealed s t b.vio b.sequence
-  sealed = known.front_ok.0.0.0
+  vios_ok : AllByRecursion (KeptOk s t phase.Pending) b.vios
+  vios_ok = known.front_ok.0.0.0
 
-  stands : StandsAt s t b.vio b.stage
+  stands : StandsAt s t b.vios b.sequence b.stage
   stands = known.front_ok.0.0.1
 
   clears : {h : Happening} (slot : Pbn) (success : Bool) (c : Call) → IsCallOf h c → IsItsSlot s.sizes b slot → call_of s.sizes b slot success b.stage ≡ Some c → Clears s n (Mine s t (at.Device old) (item.Block b ∷ [])) h t
   clears slot success c is place of_stage = call_clears is known.own.number_is
-      (λ x. inr (λ inside. block_spared is x (misses_data s b b.stage slot success c (let few = sealed.few in omega (arith, few)) place of_stage x inside))) (inl (weighed (omega arith)))
+      (λ x. inr (λ inside. block_spared is x (misses_data s b b.stage slot success c (let some = known.session.sizes.journal.0 in omega (arith, some)) place of_stage x inside))) (inl (weighed (omega arith)))
 
   pub device_works : (new : DeviceZone) (made : Trace) (posts : List Post) → DeviceWorks s.sizes old b new made posts → ActKept s t n (at.Device old) (item.Block b ∷ []) (at.Device new) made posts
-  device_works new made posts (device.makes c slot place is runs e m p) =
+  device_works new made posts (device.makes c slot v vs first place is runs e m p) =
       let k = known.own in
-      let now = makes_by s t b known.session sealed (sym k.lists.stopped_is ∙ runs) b.stage c slot place is known.right stands in
+      let now = makes_by s t b known.session vios_ok (sym k.lists.stopped_is ∙ runs) b.stage c slot place is known.right stands in
       rw (e, m, p) (act_one known (Calls c) (clears slot true c succeeded place is) (λ g honest. g (honest_before s (Calls c) t honest)) now.right
       (after_call k c (call_is s.sizes b b.stage c slot true is).0)
-      ((zone_is s b b.stage c slot is, (block_over s t succeeded b (next_stage b.stage) sealed now.stands, refl)), tt))
-  device_works new made posts (device.fails c slot kept place is runs e m p) =
+      ((zone_is s b b.stage c slot is, ((vios_over s t succeeded b.vios vios_ok, now.stands), refl)), tt))
+  device_works new made posts (device.fails c slot kept v vs first place is runs e m p) =
       let k = known.own in
-      let h = Fails b.vio.request c kept in
-      let now = fails_by s t b known.session sealed (sym k.lists.stopped_is ∙ runs) b.stage c slot kept place is known.right stands in
+      let h = Fails v.request c kept in
+      let is_open = (each_at (KeptOk s t phase.Pending) v vs b.vios first vios_ok).0.0.is_open in
+      let now = fails_by s t b known.session vios_ok (sym k.lists.stopped_is ∙ runs) b.stage c slot kept v.request is_open place is known.right stands in
       let says_so = call_is s.sizes b b.stage c slot false is in
       let stops : has_stopped (h ∷ t) ≡ true = rw says_so.1 refl in
       rw (e, m, p) (act_one known h (clears slot false c failed place is) (λ g honest. g honest) now.right
-      (after_failure k b.vio.request c kept true says_so.0 (sym stops))
-      ((omega arith, (block_over s t {h = h} failed b stage.Fail sealed now.stands, refl)), notices_ok s (h ∷ t) stops))
-  device_works new made posts (device.unmade c slot is halts e m p) =
-      rw (e, m, p) (act_none known known.own ((omega arith, ((sealed, unmade_by s t b b.stage c slot (sym known.own.lists.stopped_is ∙ halts) is stands), refl)), tt))
+      (after_failure k v.request c kept true says_so.0 (sym stops))
+      ((omega arith, ((vios_over s t {h = h} failed b.vios vios_ok, now.stands), refl)), notices_ok s (h ∷ t) stops))
+  device_works new made posts (device.unmade c slot v vs first is halts e m p) =
+      rw (e, m, p) (act_none known known.own ((omega arith, ((vios_ok, unmade_by s t b b.stage c slot (sym known.own.lists.stopped_is ∙ halts) is stands), refl)), tt))

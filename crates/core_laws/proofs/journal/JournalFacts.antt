@@ -1,18 +1,20 @@
--- What the acts of the journal owe: entries are handed in, wait, or are refused, and a sealed block is committed, or failed.
-use Rattle.std.proofs.Common.{◌≡◌, ℕ, ◌<◌, true, Some, IsNone, IsSome, List, [], ◌∷◌, refl, ap, arith, ◌+◌, Bool, false, length, nat_lt, sym, ◌∙◌, inl, inr, ◌⊎◌, subst}
-use Rattle.core_laws.proofs.Common.{AllByRecursion, Asks, AtRest, BlockOk, Carries, Commits, DataOk, Enters, EntryMayFollow, HasCause, HasFullJournal, HasPlace, Holds, IsChange, IsFull, IsPlaced, IsSealed, IsSession, JournalLists, JournalZone, KeptOk, Lba, Logged, MayReply, OnItsWay, Post, RestsAt, RightTrace, SealedBlock, Session, Stage, StandsAt, Trace, Vio, VioOk, Writer, asked, committed, done, each_at, entered, every-append, has_stopped, holder_weight, holds, logged, logged_of, ltb-false, ltb-true, of_address, or_parts, place_of, places, same_self, some_is, turned, zone_count, zone_number, zone_of}
+-- What the acts of the journal owe: entries are handed in, wait, or are refused; a block is sealed, and its entries are
+-- committed, or it failed.
+use Rattle.std.proofs.Common.{◌≡◌, ◌≢◌, ◌++◌, ◌≤◌, suc, Option, append_assoc, length-append, ℕ, ◌<◌, true, Some, IsNone, IsSome, List, [], ◌∷◌, refl, ap, arith, ◌+◌, Bool, false, length, sym, ◌∙◌, inl, inr, subst}
+use Rattle.core_laws.proofs.Common.{all_logged, all_of, AllByRecursion, asked, Asks, AtRest, bit, BlockOk, Carries, Commits, committed, DataOk, done, each_at, entered, Enters, every-append, filled, Happening, has_stopped, HasCause, HasFullJournal, HasPendingEntry, HasPlace, holder_weight, Holds, IsChange, IsFull, IsPlaced, IsSession, JournalLists, JournalZone, KeptEach, KeptOk, Lba, Logged, logged, logged_of, ltb-false, ltb-true, Mapping, MapsTo, MayReply, NewReads, OnBlock, or_parts, place_of, places, Post, ReadsAs, Request, RestsAt, RightTrace, same_self, same_tells, same_writer, sealed, SealedBlock, Seals, Session, some_is, Stage, StandsAt, total, Trace, turned, value_written, Vio, VioOk, Writer, zone_count, zone_number, zone_of, zone_of_stage}
 use Rattle.std.proofs.Math.Nat.{mod-lt}
 use Rattle.core_model.specs.declared.items.Asks.TheVariants.{Read, Write, Discard, Flush}
-use Rattle.core_model.specs.JournalRows.{refused, all_refused, JournalServes, is_closed, has_block, sealed, entered_by, JournalEnds, committed_by, hands_out}
-use Rattle.core_laws.proofs.kept.ActKept.{PostOk, carries_at, unentered_slot, Known, Mine, weighed, ActKept, act_none, act_one, own_request, own_address, line_kept, vio_over, vio_ok, in_phase, Reached, in_hand, in_line, line_of, reaches}
+use Rattle.core_model.specs.JournalRows.{JournalEnds, JournalServes, all_again, all_dropped, all_refused, committed_by, entered_by, hands_out, has_block, has_room, is_closed, next_block, refused, sealed_by}
+use Rattle.core_laws.proofs.kept.ActKept.{PostOk, carries_at, unentered_slot, Known, Mine, weighed, ActKept, act_none, act_one, own_request, own_address, line_kept, vio_over, vio_ok, in_phase}
 use Rattle.core_laws.proofs.lists.Changes.{maps_change}
 use Rattle.core_laws.proofs.trace.DeskOfTrace.{shown_of}
 use Rattle.core_laws.proofs.trace.AbortsOfTrace.{unentered_abort}
-use Rattle.core_laws.proofs.kept.Keys.{Clears, Key, OfRequest, OfAddress, OfJournal, any, token_of, Spares, mine_or_spared, own_name, holder_one, idle_none}
+use Rattle.core_laws.proofs.kept.Keys.{Clears, Key, OfAddress, OfJournal, OfRequest, any, holder_one, idle_none, own_name, token_of}
+use Rattle.core_laws.proofs.journal.SealedBlocks.{logged_length}
 use Rattle.core_laws.proofs.kept.Spared.{mapping_same, of_same}
-use Rattle.core_laws.proofs.kept.StandsOn.{on_any, on_each, spares_all, reads_kept, rests_kept, stands_kept, SparesBlocks}
-use Rattle.core_laws.proofs.kept.Frame.{kept_on}
-use Rattle.core_laws.proofs.kept.Carried.{item_kept}
+use Rattle.core_laws.proofs.kept.StandsOn.{SparesBlock, SparesMap, journal_kept, new_reads_kept, on_each, reads_kept, rests_kept, spares_all, stands_kept}
+use Rattle.core_laws.proofs.kept.Carried.{pending_over}
+use Rattle.blk_base.specs.declared.place.Mapping.TheVariants.{At, Unmapped, Zero}
 use Rattle.blk_base.specs.declared.request.Answer.TheVariants as reply
 use Rattle.core_model.specs.declared.items.Phase.TheVariants as phase
 use Rattle.blk_base.specs.declared.place.ZoneId.TheVariants as id
@@ -76,47 +78,75 @@ module _ (s : Session) (t : Trace) where
   full_posts [] full all = tt
   full_posts (v ∷ vs) full all = let k = carries_at s t v phase.Enter all.0.2 all.0.1 in (full_post v full all.0.0 k.0 (maps_change v.asks v.bytes v.new k.1), full_posts vs full all.1)
 
--- The entry of a write or a discard is handed in while no block is under way.
-module _ (s : Session) (t : Trace) (v : Vio) (right : RightTrace s t) (ok : VioOk s t v) (is : v.phase ≡ phase.Enter) (carries : Carries s t v phase.Enter)
-    (idle : entered t ≡ committed t) (rest : AtRest s t (committed t)) (few : s.sizes.opened + length (committed t) + 1 < s.sizes.geometry.journal) where
-  pub may_enter : EntryMayFollow s (logged v) t
-  may_enter = record {
-    is_open = ok.is_open;
-    is_write = record {
-      asks = v.asks;
-      bytes = v.bytes;
-      asked = ok.asked;
-      maps = carries.1;
-      placed = carries.0.is_placed.placed;
-    };
-    once = carries.0.is_placed.not_entered;
-    idle = idle;
-    quiet = carries.0.quiet;
-    below = carries.0.below;
-    left = omega (arith, few, ap length idle);
-    new_data = on_each v.new (λ x to fresh. fresh.is_data) carries.2;
-    old_is = carries.0.old_is ∙ mapping_same s.window (done t) (committed t) v.at.0 (sym carries.0.quiet.all_done);
-  }
+-- The block being filled.
 
-  rest_now : AtRest s (Enters (logged v) ∷ t) (committed t)
-  rest_now = rests_kept s (Enters (logged v)) t (committed t) tt ((λ a x named. tt), spares_all (Enters (logged v)) (λ x. tt) (committed t)) rest
+-- where it has entries, a block of the journal is left for it, and it has no more than it may
+pub filled_left : (s : Session) (t : Trace) → RightTrace s t → 0 < length (filled t) → s.sizes.opened + length (sealed t) + 1 < s.sizes.geometry.journal
+filled_left s [] right some = absurd (omega (arith, some))
+filled_left s (Enters e ∷ t) right some = right.0.left
+filled_left s (Seals ∷ t) right some = absurd (omega (arith, some))
+filled_left s (other ∷ t) right some = filled_left s t right.2 some
 
-  pub enter_right : RightTrace s (Enters (logged v) ∷ t)
+pub filled_few : (s : Session) (t : Trace) → RightTrace s t → length (filled t) ≤ 192
+filled_few s [] right = omega arith
+filled_few s (Enters e ∷ t) right = let room = right.0.room in omega (arith, room)
+filled_few s (Seals ∷ t) right = omega arith
+filled_few s (other ∷ t) right = filled_few s t right.2
+
+-- one more request, whose entry is the newest
+logged_last : (vs : List Vio) (v : Vio) → all_logged (vs ++ v ∷ []) ≡ logged v ∷ all_logged vs
+logged_last [] v = refl
+logged_last (u ∷ vs) v = ap (λ (es : List Logged). es ++ logged u ∷ []) (logged_last vs v)
+
+-- a happening that is about none of the blocks of the device
+silent : (s : Session) (t : Trace) (h : Happening) → ((x : ℕ) → SparesBlock h x) → (es : List Logged) → SparesMap s h es
+silent s t h none es = ((λ a x named. none x.0), spares_all h none es)
+
+-- what a request writes is read, by the script
+reads_now : (s : Session) (t : Trace) (q : Asks) (place : Lba) (bytes : List ℕ) (m : Mapping) → MapsTo q bytes m → OnBlock (λ x. ReadsAs s t x.0 bytes) m
+    → OnBlock (λ x. ReadsAs s t x.0 (value_written (Some (asked q place bytes)))) m
+reads_now s t Write place bytes m maps reads = reads
+reads_now s t Discard place bytes Unmapped maps reads = tt
+reads_now s t Discard place bytes Zero maps reads = absurd maps
+reads_now s t Discard place bytes (At x) maps reads = absurd maps
+reads_now s t Read place bytes m maps reads = absurd maps
+reads_now s t Flush place bytes m maps reads = absurd maps
+
+-- The entry of a write or a discard is handed in.
+module _ (s : Session) (t : Trace) (v : Vio) (right : RightTrace s t) (ok : VioOk s t v) (carries : Carries s t v phase.Enter)
+    (left : s.sizes.opened + length (sealed t) + 1 < s.sizes.geometry.journal) (room : length (filled t) < 192) where
+  abbrev enters : Happening
+  enters = Enters (logged v)
+
+  pub enter_right : RightTrace s (enters ∷ t)
   enter_right = (
-    may_enter,
     record {
-      superblock = stands_kept s (Enters (logged v)) t 0 _ tt (shown_of s t right).superblock;
-      journal = inr (record { entry = logged v; is_last = ap (λ es. logged v ∷ es) idle; stands = inl rest_now });
+      is_open = ok.is_open;
+      is_write = record { asks = v.asks; bytes = v.bytes; asked = ok.asked; maps = carries.1; placed = carries.0.is_placed.placed };
+      once = carries.0.is_placed.not_entered;
+      quiet = carries.0.quiet;
+      below = carries.0.below;
+      left = left;
+      room = room;
+      new_data = on_each v.new (λ x to fresh. fresh.is_data) carries.2;
+      old_is = carries.0.old_is ∙ mapping_same s.window (done t) (committed t) v.at.0 (sym carries.0.quiet.all_done);
+    },
+    record {
+      superblock = stands_kept s enters t 0 _ tt (shown_of s t right).superblock;
+      journal = journal_kept s enters t (record { sealed_same = refl; committed_same = refl }) tt (silent s t enters (λ x. tt) (all_of (sealed t))) (shown_of s t right).journal;
+      filling = (
+        on_each v.new (λ x to reads. reads_kept s enters t x.0 _ tt reads)
+            (subst (λ (r : Option Request). OnBlock (λ x. ReadsAs s t x.0 (value_written r)) v.new) (sym ok.asked) (reads_now s t v.asks v.at v.bytes v.new carries.1 carries.3)),
+        new_reads_kept s enters t (filled t) (spares_all enters (λ x. tt) (filled t)) (shown_of s t right).filling,
+      );
     },
     right,
   )
 
-  pub enter_block : (sequence : ℕ) → sequence ≡ s.sizes.start + (s.sizes.opened + length (committed t))
-      → BlockOk s (Enters (logged v) ∷ t) (record { stage = stage.Cover; sequence = sequence; vio = v })
-  enter_block sequence next = (
+  pub enter_pending : KeptOk s (enters ∷ t) phase.Pending (turned phase.Pending v)
+  enter_pending = (
+    vio_over s enters t v refl ok,
     record {
-      vio = vio_over s (Enters (logged v)) t v refl ok;
-      phase = is;
       is_entered = record {
         is_change = maps_change v.asks v.bytes v.new carries.1;
         placed = carries.0.is_placed.placed;
@@ -124,73 +154,105 @@ module _ (s : Session) (t : Trace) (v : Vio) (right : RightTrace s t) (ok : VioO
         unset = unentered_slot s t v.request right carries.0.is_placed.not_entered;
         unaborted = unentered_abort s t v.request right carries.0.is_placed.not_entered;
       };
-      last = ap (λ es. logged v ∷ es) idle;
-      others = carries.0.quiet.all_done;
+      pending = record { last = of_same (logged v) (entered t) ∙ ap (λ es. logged v ∷ es) carries.0.quiet.all_committed; others = carries.0.quiet.all_done };
       below = record { writes = carries.0.below.writes; reads = carries.0.below.reads };
       maps = carries.1;
       fresh = carries.2;
       old_held = carries.0.old_held;
-      old_is = carries.0.old_is ∙ mapping_same s.window (done t) (committed t) v.at.0 (sym carries.0.quiet.all_done);
-      sequence = next;
-      few = few;
+      old_is = carries.0.old_is;
     },
-    (rest_now, on_each v.new (λ x to reads. reads_kept s (Enters (logged v)) t x.0 v.bytes tt reads) carries.3),
+    refl,
   )
 
-rests_idle : (s : Session) (t : Trace) (busy broken : Bool) → busy ≡ false → broken ≡ false → RestsAt s t busy broken → (entered t ≡ committed t) × AtRest s t (committed t)
+rests_idle : (s : Session) (t : Trace) (busy broken : Bool) → busy ≡ false → broken ≡ false → RestsAt s t busy broken → (all_of (sealed t) ≡ committed t) × AtRest s t (sealed t)
 rests_idle s t busy broken p q k = let here : RestsAt s t false false = rw (p, q) at k in here
+
+-- a journal that is busy goes on so, and didn't fail
+busy_on : (s : Session) (t u : Trace) (busy broken : Bool) → busy ≡ true → RestsAt s t busy broken → RestsAt s u busy broken
+busy_on s t u true broken is k = k
+busy_on s t u false broken is k = absurd cc
+
+busy_sound : (s : Session) (t : Trace) (busy broken : Bool) → busy ≡ true → RestsAt s t busy broken → broken ≡ false
+busy_sound s t true broken is k = k
+busy_sound s t false broken is k = absurd cc
 
 -- where there is no block for one more entry, the journal is full
 pub full_now : (s : Session) (t : Trace) (j : JournalZone) → JournalLists t j → has_block s.sizes j ≡ false → HasFullJournal s t
-full_now s t j lists none = (let less = ltb-false (s.sizes.opened + length j.entered + 1) s.sizes.geometry.journal none in let same = ap length lists.entered_is in omega (arith, less, same))
-
-pub room_for : (n m : ℕ) → nat_lt n m ≡ true → n < m
-room_for n m is = ltb-true n m is
+full_now s t j lists none = (let less = ltb-false (s.sizes.opened + j.blocks + 1) s.sizes.geometry.journal none in let same = lists.blocks_is in omega (arith, less, same))
 
 -- The journal serves a request.
 module _ {s : Session} {t : Trace} {n : ℕ} {old : JournalZone} {v : Vio} (known : Known s t n (at.Journal old) (item.Request v ∷ [])) where
+  -- its entry is handed in
+  module _ (is : v.phase ≡ phase.Enter) (closed : is_closed old ≡ false) (block : has_block s.sizes old ≡ true) (room : has_room old ≡ true) where
+    sound : old.broken ≡ false
+    sound = (or_parts old.notified old.broken closed).1
+
+    block_left : s.sizes.opened + length (sealed t) + 1 < s.sizes.geometry.journal
+    block_left = let less = ltb-true (s.sizes.opened + old.blocks + 1) s.sizes.geometry.journal block in let same = known.own.lists.blocks_is in omega (arith, less, same)
+
+    room_left : length (filled t) < 192
+    room_left = let less = ltb-true (length old.filling) 192 room in let same = ap length (known.own.lists.filled_is sound) in omega (arith, less, same, logged_length old.filling)
+
+    entry_clears : Clears s n (Mine s t (at.Journal old) (item.Request v ∷ [])) (Enters (logged v)) t
+    entry_clears = record {
+      zone = known.own.number_is;
+      request = own_request known;
+      address = own_address known phase.Enter is refl;
+      block = λ x. inr (λ inside. tt);
+      journal = inr (record { sealed_same = refl; committed_same = refl }, tt, silent s t (Enters (logged v)) (λ x. tt) (entered t));
+    }
+
+    entry_right : RightTrace s (Enters (logged v) ∷ t)
+    entry_right = enter_right s t v known.right (vio_ok known) (in_phase known phase.Enter is) block_left room_left
+
+    -- what the zone keeps then
+    entry_data : (busy : Bool) → RestsAt s (Enters (logged v) ∷ t) busy old.broken → DataOk s (Enters (logged v) ∷ t) n (at.Journal (record (entered_by v old) { busy = busy }))
+    entry_data busy answers =
+        let k = known.own in
+        let kept = line_kept known (Enters (logged v)) t entry_clears k.kept in
+        record {
+          number_is = k.number_is;
+          lists = record {
+            entered_is = ap (λ es. logged v ∷ es) k.lists.entered_is;
+            committed_is = k.lists.committed_is;
+            filled_is = λ whole. logged_last old.filling (turned phase.Pending v) ∙ ap (λ es. logged v ∷ es) (k.lists.filled_is whole);
+            blocks_is = k.lists.blocks_is;
+          };
+          sound = let less = ltb-true (length old.filling) 192 room in omega (arith, less, length-append old.filling (turned phase.Pending v ∷ []));
+          kept = (
+            every-append (KeptOk s (Enters (logged v) ∷ t) phase.Pending) old.filling (turned phase.Pending v ∷ []) kept.0
+                (enter_pending s t v known.right (vio_ok known) (in_phase known phase.Enter is) block_left room_left, tt),
+            kept.1,
+          );
+          answers = answers;
+          told = k.told;
+        }
+
   pub journal_serves : (new : JournalZone) (made : Trace) (posts : List Post) → JournalServes s.sizes old v new made posts → ActKept s t n (at.Journal old) (item.Request v ∷ []) (at.Journal new) made posts
   journal_serves new made posts (journal.is_stopped is closed e m p) =
       rw (e, m, p) (act_none known known.own (stopped_post s t v known.right (known.own.told closed) (vio_ok known) (in_phase known phase.Enter is).0 (maps_change v.asks v.bytes v.new (in_phase known phase.Enter is).1), tt))
-  journal_serves new made posts (journal.is_full is closed busy full e m p) =
+  journal_serves new made posts (journal.is_full is closed full e m p) =
       rw (e, m, p) (act_none known known.own (full_post s t v (full_now s t old known.own.lists full) (vio_ok known) (in_phase known phase.Enter is).0 (maps_change v.asks v.bytes v.new (in_phase known phase.Enter is).1), tt))
-  journal_serves new made posts (journal.waits is closed busy e m p) =
+  journal_serves new made posts (journal.waits is closed block full e m p) =
       let k = known.own in
       rw (e, m, p) (act_none known (record {
         number_is = k.number_is;
-        lists = record { entered_is = k.lists.entered_is; committed_is = k.lists.committed_is };
-        sound = tt;
-        kept = every-append (KeptOk s t phase.Enter) old.waiting (v ∷ []) k.kept (((vio_ok known), known.front_ok.0.1, is), tt);
+        lists = record { entered_is = k.lists.entered_is; committed_is = k.lists.committed_is; filled_is = k.lists.filled_is; blocks_is = k.lists.blocks_is };
+        sound = k.sound;
+        kept = (k.kept.0, every-append (KeptOk s t phase.Enter) old.waiting (v ∷ []) k.kept.1 ((vio_ok known, known.front_ok.0.1, is), tt));
         answers = k.answers;
         told = k.told;
       }) tt)
-  journal_serves new made posts (journal.enters is closed busy has e m p) =
-      let k = known.own in
+  journal_serves new made posts (journal.enters is closed block room busy e m p) =
+      let same : record (entered_by v old) { busy = old.busy } ≡ entered_by v old = refl in
+      rw (e, m, p) (act_one known (Enters (logged v)) (entry_clears is closed block room) (λ g honest. g honest) (entry_right is closed block room)
+      (entry_data is closed block room old.busy (busy_on s t (Enters (logged v) ∷ t) old.busy old.broken busy known.own.answers)) tt)
+  journal_serves new made posts (journal.enters_first is closed block room idle e m p) =
       let h = Enters (logged v) in
-      let sound = (or_parts old.notified old.broken closed).1 in
-      let idle = rests_idle s t old.busy old.broken busy sound k.answers in
-      let same : length old.entered ≡ length (committed t) = ap length (k.lists.entered_is ∙ idle.0) in
-      let room = room_for _ _ has in
-      let clears : Clears s n (Mine s t (at.Journal old) (item.Request v ∷ [])) h t
-      = record { zone = k.number_is; request = own_request known; address = own_address known phase.Enter is refl; block = λ x. inr (λ inside. tt); journal = inl (weighed (rw busy (omega arith))) } in
-      rw (e, m, p) (act_one known h clears (λ g honest. g honest) (enter_right s t v known.right (vio_ok known) is (in_phase known phase.Enter is) idle.0 idle.1 (omega (arith, room, same)))
-      (record {
-        number_is = k.number_is;
-        lists = record { entered_is = ap (λ es. logged v ∷ es) k.lists.entered_is; committed_is = k.lists.committed_is };
-        sound = tt;
-        kept = line_kept known h t clears k.kept;
-        answers = sound;
-        told = k.told;
-      }) (
-        (
-          omega arith,
-          (
-            enter_block s t v known.right (vio_ok known) is (in_phase known phase.Enter is) idle.0 idle.1 (omega (arith, room, same)) (s.sizes.start + (s.sizes.opened + length old.entered)) (ap (λ m. s.sizes.start + (s.sizes.opened + m)) same),
-            refl,
-          ),
-        ),
-        tt,
-      ))
+      let rest = rests_idle s t old.busy old.broken idle (sound is closed block room) known.own.answers in
+      rw (e, m, p) (act_one known h (entry_clears is closed block room) (λ g honest. g honest) (entry_right is closed block room)
+      (entry_data is closed block room true (sound is closed block room))
+      ((omega arith, ((tt, (rest.0, rests_kept s h t (sealed t) tt (silent s t h (λ x. tt) (all_of (sealed t))) rest.1)), refl)), tt))
 
 -- The journal hears that the session is stopped.
 pub journal_notified : {s : Session} {t : Trace} {n : ℕ} {old : JournalZone} → Known s t n (at.Journal old) (item.StopNotice ∷ [])
@@ -198,198 +260,239 @@ pub journal_notified : {s : Session} {t : Trace} {n : ℕ} {old : JournalZone} �
 journal_notified {s} {t} {n} {old} known =
     let k = known.own in
     let stopped = known.front_ok.0.0 in
-    act_none known (record { number_is = k.number_is; lists = record { entered_is = k.lists.entered_is; committed_is = k.lists.committed_is }; sound = tt; kept = tt; answers = k.answers; told = λ closed. stopped })
-    ((omega arith, (stopped, omega arith)), stopped_posts s t old.waiting known.right stopped k.kept)
+    act_none known (record {
+      number_is = k.number_is;
+      lists = record { entered_is = k.lists.entered_is; committed_is = k.lists.committed_is; filled_is = k.lists.filled_is; blocks_is = k.lists.blocks_is };
+      sound = k.sound;
+      kept = (k.kept.0, tt);
+      answers = k.answers;
+      told = λ closed. stopped;
+    })
+    ((omega arith, (stopped, omega arith)), stopped_posts s t old.waiting known.right stopped k.kept.1)
 
--- a commit writes no block
-commit_spares : (e : Logged) (es : List Logged) → SparesBlocks (Commits e) es
-commit_spares e [] = tt
-commit_spares e (f ∷ es) = (on_any f.new (λ x. tt), commit_spares e es)
+-- A block comes back to the journal.
 
--- The block of an entry is committed.
-module _ (s : Session) (t : Trace) (b : SealedBlock) (session : IsSession s) (right : RightTrace s t) (ok : IsSealed s t b.vio b.sequence) (rest : AtRest s t (logged b.vio ∷ committed t)) where
-  abbrev v : Vio
-  v = b.vio
+-- the requests of it that stay, over the commit of another's entry
+others_kept : (s : Session) (t : Trace) (v : Vio) (vs : List Vio) → total (λ w. (token_of s.sizes (OfRequest v.request)).item (item.Request w)) vs ≡ 0 → total (λ w. (token_of s.sizes (OfAddress v.at.0)).item (item.Request w)) vs ≡ 0
+    → AllByRecursion (KeptOk s t phase.Pending) vs → AllByRecursion (KeptOk s (Commits (logged v) ∷ t) phase.Pending) vs
+others_kept s t v [] names addresses all = tt
+others_kept s t v (w ∷ vs) names addresses all = (
+  pending_over s (Commits (logged v)) t w apart elsewhere all.0,
+  others_kept s t v vs (omega (arith, names)) (omega (arith, addresses)) all.1,
+)
+  where
+    apart : same_writer v.request w.request ≡ false
+    apart = elim (same_tells v.request w.request) [
+      | inl same ↦ absurd (let one : bit (same_writer w.request v.request) ≡ 1 = subst (λ (x : Writer). bit (same_writer x v.request) ≡ 1) same.1 (ap bit (same_self v.request)) in omega (arith, names, one))
+      | inr other ↦ other.0
+    ]
 
-  abbrev after : Trace
-  after = Commits (logged b.vio) ∷ t
+    elsewhere : v.at.0 ≢ w.at.0
+    elsewhere same = let one = holder_one w (rw all.0.2 refl) in let here : holder_weight v.at.0 any w ≡ 1 = subst (λ (a : ℕ). holder_weight a any w ≡ 1) (sym same) one in omega (arith, addresses, here)
 
-  rest_after : AtRest s after (committed after)
-  rest_after = rests_kept s (Commits (logged b.vio)) t (logged b.vio ∷ committed t) tt ((λ a x named. tt), commit_spares (logged b.vio) (logged b.vio ∷ committed t)) rest
+-- one whose entry was handed in is aborted
+dropped_posts : (s : Session) (t : Trace) (vs : List Vio) → has_stopped t ≡ true → AllByRecursion (KeptOk s t phase.Pending) vs → AllByRecursion (PostOk s t) (all_dropped vs)
+dropped_posts s t [] stopped all = tt
+dropped_posts s t (v ∷ vs) stopped all =
+    let has = carries_at s t v phase.Pending all.0.2 all.0.1 in
+    ((omega arith, (all.0.0, (has.is_entered, may_stop s t v has.is_entered.is_change stopped has.is_entered.placed has.is_entered.unset, stopped), refl)), dropped_posts s t vs stopped all.1)
 
-  commit_right : RightTrace s after
-  commit_right = (
-    record { is_open = ok.vio.is_open; last = ok.last },
-    record {
-      superblock = stands_kept s (Commits (logged b.vio)) t 0 _ tt (shown_of s t right).superblock;
-      journal = inl (ok.last, rest_after);
-    },
-    right,
-  )
+-- those that waited come again
+again_posts : (s : Session) (t : Trace) (vs : List Vio) → AllByRecursion (KeptOk s t phase.Enter) vs → AllByRecursion (PostOk s t) (all_again vs)
+again_posts s t [] all = tt
+again_posts s t (v ∷ vs) all = ((omega arith, (all.0.0, all.0.1, rw all.0.2 refl)), again_posts s t vs all.1)
 
-  -- its request goes to its slot
-  settle_post : PostOk s after (hands_out b.vio)
-  settle_post = (
-    home_within s t b.vio session ok.vio,
-    (
-      vio_over s (Commits (logged b.vio)) t b.vio refl ok.vio,
-      (
-        record { is_change = ok.is_entered.is_change; placed = ok.is_entered.placed; entry = ok.is_entered.entry; unset = ok.is_entered.unset; unaborted = ok.is_entered.unaborted },
-        record {
-          all_committed = ap (of_address b.vio.at.0) ok.last;
-          last = of_same (logged b.vio) (committed t) ∙ ap (λ es. logged b.vio ∷ es) ok.others;
-        },
-        record { writes = ok.below.writes; reads = ok.below.reads },
-        ok.fresh,
-      ),
-      refl,
-    ),
-  )
-
--- A sealed block comes back to the journal.
 module _ {s : Session} {t : Trace} {n : ℕ} {old : JournalZone} {b : SealedBlock} (known : Known s t n (at.Journal old) (item.Block b ∷ [])) where
   abbrev After : JournalZone → Trace → List Post → Type 0
   After new made posts = ActKept s t n (at.Journal old) (item.Block b ∷ []) (at.Journal new) made posts
 
-  ok : IsSealed s t b.vio b.sequence
-  ok = known.front_ok.0.0.0
+  vios_ok : AllByRecursion (KeptOk s t phase.Pending) b.vios
+  vios_ok = known.front_ok.0.0.0
 
-  stands_as : (q : Stage) → b.stage ≡ q → StandsAt s t b.vio q
-  stands_as q is = subst (StandsAt s t b.vio) is known.front_ok.0.0.1
+  stands_as : (q : Stage) → b.stage ≡ q → StandsAt s t b.vios b.sequence q
+  stands_as q is = subst (StandsAt s t b.vios b.sequence) is known.front_ok.0.0.1
 
   -- the journal is busy, and didn't fail
-  sound : old.broken ≡ false
-  sound =
-      let most = known.most OfJournal in
-      let busy = idle_none old.busy (omega (arith, most)) in
-      subst (λ (b : Bool). RestsAt s t b old.broken) busy known.own.answers
+  busy : old.busy ≡ true
+  busy = let most = known.most OfJournal in idle_none old.busy (omega (arith, most))
 
-  clears : Clears s n (Mine s t (at.Journal old) (item.Block b ∷ [])) (Commits (logged b.vio)) t
-  clears = record {
-    zone = known.own.number_is;
-    request = weighed (omega (arith, own_name b.vio));
-    address = weighed (omega (arith, holder_one b.vio (rw ok.phase refl)));
-    block = λ x. inr (λ inside. tt);
-    journal = inl (weighed (omega arith));
-  }
+  whole : old.broken ≡ false
+  whole = busy_sound s t old.busy old.broken busy known.own.answers
 
-  waiting_on : AllByRecursion (KeptOk s (Commits (logged b.vio) ∷ t) phase.Enter) old.waiting
-  waiting_on = line_kept known (Commits (logged b.vio)) t clears known.own.kept
+  -- the oldest entry of it is committed
+  module _ (v : Vio) (vs : List Vio) (is : b.stage ≡ stage.Commit) (vios : b.vios ≡ v ∷ vs) where
+    abbrev commits : Happening
+    commits = Commits (logged v)
 
-  -- the journal once the block is committed, with these that wait
-  idle_journal : (vs : List Vio) → b.stage ≡ stage.Commit → AllByRecursion (KeptOk s (Commits (logged b.vio) ∷ t) phase.Enter) vs → DataOk s (Commits (logged b.vio) ∷ t) n (at.Journal (record (committed_by b.vio old) { waiting = vs }))
-  idle_journal vs is all =
-      let k = known.own in
+    mine : KeptOk s t phase.Pending v × AllByRecursion (KeptOk s t phase.Pending) vs
+    mine = each_at (KeptOk s t phase.Pending) v vs b.vios vios vios_ok
+
+    has : HasPendingEntry s t v.asks v.bytes (logged v)
+    has = carries_at s t v phase.Pending mine.0.2 mine.0.1
+
+    stands : (all_of (sealed t) ≡ all_logged b.vios ++ committed t) × AtRest s t (sealed t)
+    stands = stands_as stage.Commit is
+
+    next : all_of (sealed t) ≡ all_logged vs ++ (logged v ∷ committed t)
+    next = stands.0 ∙ ap (λ (us : List Vio). all_logged us ++ committed t) vios ∙ append_assoc (all_logged vs) (logged v ∷ []) (committed t)
+
+    rest_on : AtRest s (commits ∷ t) (sealed t)
+    rest_on = rests_kept s commits t (sealed t) tt (silent s t commits (λ x. tt) (all_of (sealed t))) stands.1
+
+    commit_right : RightTrace s (commits ∷ t)
+    commit_right = (
+      record { is_open = mine.0.0.is_open; rest = all_logged vs; next = next },
       record {
-        number_is = k.number_is;
-        lists = record { entered_is = k.lists.entered_is; committed_is = ap (λ es. logged b.vio ∷ es) k.lists.committed_is };
-        sound = tt;
-        kept = all;
-        answers = subst (RestsAt s (Commits (logged b.vio) ∷ t) false) (sym sound) (ok.last, rest_after s t b known.session known.right ok (stands_as stage.Commit is));
-        told = k.told;
-      }
+        superblock = stands_kept s commits t 0 _ tt (shown_of s t known.right).superblock;
+        journal = inl (record { rest = all_logged vs; all = next; stands = rest_on });
+        filling = new_reads_kept s commits t (filled t) (spares_all commits (λ x. tt) (filled t)) (shown_of s t known.right).filling;
+      },
+      known.right,
+    )
 
-  -- the first that waits is handed in next: neither those behind it nor the one that is committed have anything of it
-  module _ (w : Vio) (ws : List Vio) (waits : old.waiting ≡ w ∷ ws) where
-    first_waits : KeptOk s (Commits (logged b.vio) ∷ t) phase.Enter w × AllByRecursion (KeptOk s (Commits (logged b.vio) ∷ t) phase.Enter) ws
-    first_waits = each_at (KeptOk s (Commits (logged b.vio) ∷ t) phase.Enter) w ws old.waiting waits waiting_on
+    weighs : (k : Key) → total (λ w. (token_of s.sizes k).item (item.Request w)) b.vios ≡ (token_of s.sizes k).item (item.Request v) + total (λ w. (token_of s.sizes k).item (item.Request w)) vs
+    weighs k = ap (total (λ w. (token_of s.sizes k).item (item.Request w))) vios
 
-    enters_phase : holds w.phase ≡ true
-    enters_phase = rw first_waits.0.2 refl
-
-    line_is : (k : Key) → line_of s k old.waiting ≡ (token_of s.sizes k).item (item.Request w) + line_of s k ws
-    line_is k = ap (line_of s k) waits
-
-    next_reached : Clears s n (Reached s t (at.Journal old) (item.Block b ∷ [])) (Enters (logged w)) (Commits (logged b.vio) ∷ t)
-    next_reached = record {
+    clears : Clears s n (Mine s t (at.Journal old) (item.Block b ∷ [])) commits t
+    clears = record {
       zone = known.own.number_is;
-      request = in_line (omega (arith, own_name w, line_is (OfRequest w.request)));
-      address = in_line (omega (arith, holder_one w enters_phase, line_is (OfAddress w.at.0)));
+      request = weighed (omega (arith, own_name v, weighs (OfRequest v.request)));
+      address = weighed (omega (arith, holder_one v (rw mine.0.2 refl), weighs (OfAddress v.at.0)));
       block = λ x. inr (λ inside. tt);
-      journal = inl (in_hand (weighed (omega arith)));
+      journal = inl (weighed (omega arith));
     }
 
-    abbrev Nothing : Key → Type 0
-    Nothing k = (token_of s.sizes k).item (item.Request (turned phase.Settle b.vio)) + line_of s k ws ≡ 0
+    settle_post : PostOk s (commits ∷ t) (hands_out v)
+    settle_post = (
+      home_within s t v known.session mine.0.0,
+      (
+        vio_over s commits t v refl mine.0.0,
+        (
+          record { is_change = has.is_entered.is_change; placed = has.is_entered.placed; entry = has.is_entered.entry; unset = has.is_entered.unset; unaborted = has.is_entered.unaborted },
+          record { all_committed = has.pending.last ∙ sym (of_same (logged v) (committed t)); last = of_same (logged v) (committed t) ∙ ap (λ es. logged v ∷ es) has.pending.others },
+          record { writes = has.below.writes; reads = has.below.reads },
+          has.fresh,
+        ),
+        refl,
+      ),
+    )
 
-    settles_weight : holder_weight w.at.0 any (turned phase.Settle b.vio) ≡ holder_weight w.at.0 any b.vio
-    settles_weight = rw ok.phase refl
+    others : AllByRecursion (KeptOk s (commits ∷ t) phase.Pending) vs
+    others =
+        let names = known.most (OfRequest v.request) in
+        let addresses = known.most (OfAddress v.at.0) in
+        others_kept s t v vs (omega (arith, names, own_name v, weighs (OfRequest v.request))) (omega (arith, addresses, holder_one v (rw mine.0.2 refl), weighs (OfAddress v.at.0))) mine.1
 
-    next_apart : Clears s n Nothing (Enters (logged w)) (Commits (logged b.vio) ∷ t)
-    next_apart = record {
-      zone = known.own.number_is;
-      request = let most = known.most (OfRequest w.request) in omega (arith, own_name w, line_is (OfRequest w.request), most);
-      address = let most = known.most (OfAddress w.at.0) in omega (arith, holder_one w enters_phase, line_is (OfAddress w.at.0), most, settles_weight);
-      block = λ x. inr (λ inside. tt);
-      journal = inl (let most = known.most OfJournal in omega (arith, line_is OfJournal, most));
-    }
+  -- The next block is sealed.
+  module _ (v : Vio) (vs : List Vio) (is : b.stage ≡ stage.Commit) (done_with : b.vios ≡ []) (filling : old.filling ≡ v ∷ vs) where
+    all_there : (all_of (sealed t) ≡ committed t) × AtRest s t (sealed t)
+    all_there = let k = stands_as stage.Commit is in (k.0 ∙ ap (λ (us : List Vio). all_logged us ++ committed t) done_with, k.1)
 
-    spared : (k : Key) → Nothing k ⊎ Spares s (Commits (logged b.vio) ∷ t) (Enters (logged w)) k
-    spared k = mine_or_spared next_apart k
+    filled_is : filled t ≡ all_logged (v ∷ vs)
+    filled_is = sym (known.own.lists.filled_is whole) ∙ ap all_logged filling
+
+    count : length (filled t) ≡ suc (length vs)
+    count = ap length filled_is ∙ logged_length (v ∷ vs)
+
+    left : s.sizes.opened + length (sealed t) + 1 < s.sizes.geometry.journal
+    left = filled_left s t known.right (omega (arith, count))
+
+    rest_sealed : AtRest s (Seals ∷ t) (sealed t)
+    rest_sealed = rests_kept s Seals t (sealed t) tt (silent s t Seals (λ x. tt) (all_of (sealed t))) all_there.1
+
+    seal_right : RightTrace s (Seals ∷ t)
+    seal_right = (
+      record { all_committed = all_there.0; left = left },
+      record {
+        superblock = stands_kept s Seals t 0 _ tt (shown_of s t known.right).superblock;
+        journal = inr (record { block = filled t; older = sealed t; sealed_is = refl; committed_is = sym all_there.0; stands = inl rest_sealed });
+        filling = tt;
+      },
+      known.right,
+    )
+
+    seal_clears : Clears s n (Mine s t (at.Journal old) (item.Block b ∷ [])) Seals t
+    seal_clears = record { zone = known.own.number_is; request = tt; address = tt; block = λ x. inr (λ inside. tt); journal = inl (weighed (omega arith)) }
+
+    kept_sealed : KeptEach (KeptOk s (Seals ∷ t)) (at.Journal old)
+    kept_sealed = line_kept known Seals t seal_clears known.own.kept
+
+    block_sealed : BlockOk s (Seals ∷ t) (next_block s.sizes old stage.Cover (v ∷ vs))
+    block_sealed =
+        let blocks = known.own.lists.blocks_is in
+        let few = filled_few s t known.right in (
+          subst (AllByRecursion (KeptOk s (Seals ∷ t) phase.Pending)) filling kept_sealed.0,
+          (
+            record {
+              older = sealed t;
+              sealed_is = ap (λ (es : List Logged). es ∷ sealed t) filled_is;
+              committed_is = sym all_there.0;
+              some = omega arith;
+              few = omega (arith, few, count);
+              sequence = omega (arith, blocks);
+              left = left;
+            },
+            rest_sealed,
+            subst (NewReads s (Seals ∷ t)) filled_is (new_reads_kept s Seals t (filled t) (spares_all Seals (λ x. tt) (filled t)) (shown_of s t known.right).filling),
+          ),
+        )
 
   pub journal_ends : (new : JournalZone) (made : Trace) (posts : List Post) → JournalEnds s.sizes old b new made posts → After new made posts
-  journal_ends new made posts (journal.commits_next w ws is waits has e m p) =
+  journal_ends new made posts (journal.commits v vs is vios e m p) =
       let k = known.own in
-      let rest = stands_as stage.Commit is in
-      let first = Commits (logged b.vio) in
-      let next = Enters (logged w) in
-      let mine = first_waits w ws waits in
-      let carries = carries_at s (first ∷ t) w phase.Enter mine.0.2 mine.0.1 in
-      let now = commit_right s t b known.session known.right ok rest in
-      let rest_now = rest_after s t b known.session known.right ok rest in
-      let settles = settle_post s t b known.session known.right ok rest in
-      let same : length old.entered ≡ length (committed (first ∷ t)) = ap length (k.lists.entered_is ∙ ok.last) in
-      let room = room_for _ _ has in
-      rw (e, m, p) (record {
-        right = enter_right s (first ∷ t) w now mine.0.0 mine.0.2 carries ok.last rest_now (omega (arith, room, same));
-        gives = λ g honest. g honest;
-        owns = (next_reached w ws waits, (reaches known clears, tt));
-        own = record {
-          number_is = k.number_is;
-          lists = record { entered_is = ap (λ es. logged w ∷ es) k.lists.entered_is; committed_is = ap (λ es. logged b.vio ∷ es) k.lists.committed_is };
-          sound = tt;
-          kept = kept_on s next (first ∷ t) phase.Enter ws (λ key. elim (spared w ws waits key) [ inl none ↦ inl (omega (arith, none)) | inr off ↦ inr off ]) mine.1;
-          answers = sound;
-          told = k.told;
-        };
-        posts_ok = (
-          (
-            settles.0,
-            item_kept s next (first ∷ t) (zone_number s.sizes b.vio.home) (item.Request (turned phase.Settle b.vio)) (λ key some. elim (spared w ws waits key) [ inl none ↦ absurd (omega (arith, none, some)) | inr off ↦ off ]) settles.1,
-          ),
-          (
-            (
-              omega arith,
-              (
-                enter_block s (first ∷ t) w now mine.0.0 mine.0.2 carries ok.last rest_now (omega (arith, room, same)) (s.sizes.start + (s.sizes.opened + length old.entered))
-                    (ap (λ m. s.sizes.start + (s.sizes.opened + m)) same),
-                refl,
-              ),
-            ),
-            tt,
-          ),
-        );
+      let h = Commits (logged v) in
+      rw (e, m, p) (act_one known h (clears v vs is vios) (λ g honest. g honest) (commit_right v vs is vios)
+      (record {
+        number_is = k.number_is;
+        lists = record { entered_is = k.lists.entered_is; committed_is = ap (λ es. logged v ∷ es) k.lists.committed_is; filled_is = k.lists.filled_is; blocks_is = k.lists.blocks_is };
+        sound = k.sound;
+        kept = line_kept known h t (clears v vs is vios) k.kept;
+        answers = busy_on s t (h ∷ t) old.busy old.broken busy k.answers;
+        told = k.told;
       })
-  journal_ends new made posts (journal.commits_alone is waits has e m p) =
-      let rest = stands_as stage.Commit is in
-      rw (e, m, p) (act_one known (Commits (logged b.vio)) clears (λ g honest. g honest) (commit_right s t b known.session known.right ok rest) (idle_journal old.waiting is waiting_on) (settle_post s t b known.session known.right ok rest, tt))
-  journal_ends new made posts (journal.commits_last is has e m p) =
-      let rest = stands_as stage.Commit is in
-      rw (e, m, p) (act_one known (Commits (logged b.vio)) clears (λ g honest. g honest) (commit_right s t b known.session known.right ok rest) (idle_journal [] is tt)
-      (settle_post s t b known.session known.right ok rest, full_posts s (Commits (logged b.vio) ∷ t) old.waiting (full_now s t old known.own.lists has) waiting_on))
+      (settle_post v vs is vios, ((omega arith, ((others v vs is vios, subst (StandsAt s (h ∷ t) vs b.sequence) (sym is) (next v vs is vios, rest_on v vs is vios)), ap (zone_of_stage s.sizes) (sym is))), tt)))
+  journal_ends new made posts (journal.seals v vs is done_with filling e m p) =
+      let k = known.own in
+      let kept = kept_sealed v vs is done_with filling in
+      rw (e, m, p) (act_one known Seals (seal_clears v vs is done_with filling) (λ g honest. g honest) (seal_right v vs is done_with filling)
+      (record {
+        number_is = k.number_is;
+        lists = record {
+          entered_is = k.lists.entered_is;
+          committed_is = k.lists.committed_is;
+          filled_is = λ sound. refl;
+          blocks_is = let blocks = k.lists.blocks_is in omega (arith, blocks);
+        };
+        sound = omega arith;
+        kept = (tt, tt);
+        answers = busy_on s t (Seals ∷ t) old.busy old.broken busy k.answers;
+        told = k.told;
+      })
+      ((omega arith, (block_sealed v vs is done_with filling, refl)), again_posts s (Seals ∷ t) old.waiting kept.1))
+  journal_ends new made posts (journal.rests is done_with filling e m p) =
+      let k = known.own in
+      let stands = stands_as stage.Commit is in
+      let there = stands.0 ∙ ap (λ (us : List Vio). all_logged us ++ committed t) done_with in
+      rw (e, m, p) (act_none known (record {
+        number_is = k.number_is;
+        lists = record { entered_is = k.lists.entered_is; committed_is = k.lists.committed_is; filled_is = k.lists.filled_is; blocks_is = k.lists.blocks_is };
+        sound = k.sound;
+        kept = (k.kept.0, tt);
+        answers = subst (RestsAt s t false) (sym whole) (there, stands.1);
+        told = k.told;
+      })
+      (again_posts s t old.waiting k.kept.1))
   journal_ends new made posts (journal.fails is e m p) =
       let k = known.own in
       let fails = stands_as stage.Fail is in
+      let stopped = fails.2 in
       rw (e, m, p) (act_none known (record {
         number_is = k.number_is;
-        lists = record { entered_is = k.lists.entered_is; committed_is = k.lists.committed_is };
-        sound = tt;
-        kept = tt;
-        answers = record { entry = logged b.vio; is_last = ok.last; stands = failed fails.0 };
-        told = λ closed. fails.1;
+        lists = record { entered_is = k.lists.entered_is; committed_is = k.lists.committed_is; filled_is = λ sound. absurd cc; blocks_is = k.lists.blocks_is };
+        sound = omega arith;
+        kept = (tt, tt);
+        answers = tt;
+        told = λ closed. stopped;
       })
-      ((omega arith, (ok.vio, (ok.is_entered, may_stop s t b.vio ok.is_entered.is_change fails.1 ok.is_entered.placed ok.is_entered.unset, fails.1), refl)), stopped_posts s t old.waiting known.right fails.1 k.kept))
-    where
-      failed : AtRest s t (committed t) ⊎ OnItsWay s t (committed t) (logged b.vio) → AtRest s t (committed t) ⊎ OnItsWay s t (committed t) (logged b.vio) ⊎ AtRest s t (logged b.vio ∷ committed t)
-      failed (inl k) = inl k
-      failed (inr k) = inr (inl k)
+      (every-append (PostOk s t) (all_dropped b.vios) (all_dropped old.filling ++ all_refused s.sizes reply.Stopped old.waiting) (dropped_posts s t b.vios stopped vios_ok)
+      (every-append (PostOk s t) (all_dropped old.filling) (all_refused s.sizes reply.Stopped old.waiting) (dropped_posts s t old.filling stopped k.kept.0) (stopped_posts s t old.waiting known.right stopped k.kept.1))))

@@ -1,19 +1,18 @@
 -- What each act may use and what it owes.
-use Rattle.std.proofs.Common.{◌≡◌, ◌≢◌, ◌⊎◌, ℕ, ◌+◌, ◌<◌, ◌≤◌, true, Some, IsNone, List, [], ◌∷◌, ◌++◌, refl, sym, ◌∙◌, subst, inl, inr, arith}
-use Rattle.core_laws.proofs.Common.{AllByRecursion, AtRest, Calls, Carries, Commits, DataOk, DeviceZone, Enters, Fails, GivesRight, Happening, HasHonestReads, HasPending, IsSession, IsWrite, Item, ItemOk, KeptOk, Logged, LogicalZone, Pbn, Phase, Placed, Post, RightTrace, Session, Shown, Trace, Vio, VioOk, Writer, ZoneData, begun, claims, committed, done, entered, holds, kept_by, kept_phase, lines, logged_of, none_is, not_both, option_cases, place_of, places, same_Some, same_tells, total, zone_count, zone_number}
+use Rattle.std.proofs.Common.{◌≡◌, ℕ, ◌+◌, ◌<◌, ◌≤◌, true, Some, IsNone, List, [], ◌∷◌, ◌++◌, refl, subst, inl, inr, arith}
+use Rattle.core_laws.proofs.Common.{all_of, AllByRecursion, begun, Calls, Carries, claims, Commits, DataOk, DeviceZone, done, entered, Enters, Fails, filled, GivesRight, Happening, HasHonestReads, holds, IsSession, IsWrite, Item, ItemOk, kept_by, KeptEach, KeptOk, lines, logged_of, LogicalZone, none_is, not_both, option_cases, Pbn, Phase, place_of, Placed, places, Post, RightTrace, same_Some, same_tells, sealed, Seals, Session, Shown, total, Trace, Vio, VioOk, Writer, zone_count, zone_number, ZoneData}
 use Rattle.blk_base.specs.declared.place.Mapping.TheVariants.{At}
-use Rattle.image_layout.specs.Window.{mapping_of}
 use Rattle.core_model.specs.declared.items.Item.TheVariants as item
 use Rattle.core_model.specs.declared.items.Phase.TheVariants as phase
 use Rattle.core_model.specs.declared.zones.ZoneData.TheVariants as at
 use Rattle.core_model.specs.Legal.{ComesAfter}
 use Rattle.core_laws.proofs.trace.DeskOfTrace.{logged_has, entered_writes, done_is_entered}
 use Rattle.core_laws.proofs.trace.PlacesOfTrace.{IsBegun, places_begun}
-use Rattle.core_laws.proofs.kept.Frame.{kept_on}
+use Rattle.core_laws.proofs.kept.Frame.{kept_each}
 use Rattle.core_laws.proofs.kept.Keys.{Key, OfRequest, OfAddress, OfJournal, token_of, Spares, happens_in, IfAny, Clears, clears_with, mine_or_spared, own_name, holder_one}
 use Rattle.core_laws.proofs.kept.Spared.{about}
 use Rattle.core_laws.proofs.tokens.Known.{LeasedIn}
-use Rattle.core_laws.proofs.kept.StandsOn.{spares_all, SparesBlock, SparesMap, SparesJournal, SparesEntries, rests_kept, stands_kept, pending_kept, AreElsewhere}
+use Rattle.core_laws.proofs.kept.StandsOn.{AreElsewhere, SparesBlock, SparesBlocks, SparesJournal, SparesMap, SparesSealed, entered_parts, journal_kept, new_reads_kept, spares_all, spares_parts, stands_kept}
 
 -- In the hands of an act is what the front of the inbox weighs for, and what the zone's own data does. A request that isn't
 -- begun is in nobody's.
@@ -66,6 +65,7 @@ pub record ActKept (s : Session) (t : Trace) (n : ℕ) (d : ZoneData) (front : L
 abbrev pub IsPlain : Happening → Type 0
 IsPlain (Enters e) = ⊥
 IsPlain (Commits e) = ⊥
+IsPlain Seals = ⊥
 IsPlain (Calls c) = ⊥
 IsPlain (Fails w c kept) = ⊥
 IsPlain other = Unit {0}
@@ -73,26 +73,28 @@ IsPlain other = Unit {0}
 pub plain_journal : (s : Session) (t : Trace) (h : Happening) → IsPlain h → Spares s t h OfJournal
 plain_journal s t (Enters e) is = absurd is
 plain_journal s t (Commits e) is = absurd is
+plain_journal s t Seals is = absurd is
 plain_journal s t (Calls c) is = absurd is
 plain_journal s t (Fails w c kept) is = absurd is
-plain_journal s t other is = (record { entered_same = refl; committed_same = refl }, tt, ((λ a x named. tt), spares_all other (λ x. tt) (entered t)))
+plain_journal s t other is = (record { sealed_same = refl; committed_same = refl }, tt, ((λ a x named. tt), spares_all other (λ x. tt) (entered t)))
 
--- It stands after a happening that neither writes a block of it nor adds to the journal's entries.
-pub shown_kept : (s : Session) (h : Happening) (t : Trace) → SparesEntries s h t → SparesJournal s h → SparesMap s h (entered t) → SparesBlock h 0 → Shown s t → Shown s (h ∷ t)
-shown_kept s h t same journal blocks first k = record { superblock = stands_kept s h t 0 _ first k.superblock; journal = entries k.journal }
-  where
-    entries : ((entered t ≡ committed t) × AtRest s t (committed t)) ⊎ HasPending s t → ((entered (h ∷ t) ≡ committed (h ∷ t)) × AtRest s (h ∷ t) (committed (h ∷ t))) ⊎ HasPending s (h ∷ t)
-    entries (inl rest) =
-        let there : SparesMap s h (committed t) = subst (SparesMap s h) rest.0 blocks in
-        inl (same.entered_same ∙ rest.0 ∙ sym same.committed_same, rw same.committed_same (rests_kept s h t (committed t) journal there rest.1))
-    entries (inr pending) = inr (pending_kept s h t same journal blocks pending)
+-- It stands after a happening that writes no block of it, and adds nothing to the journal.
+pub shown_kept : (s : Session) (h : Happening) (t : Trace) → SparesSealed s h t → filled (h ∷ t) ≡ filled t → SparesJournal s h → SparesMap s h (entered t) → SparesBlock h 0 → Shown s t → Shown s (h ∷ t)
+shown_kept s h t same filling journal blocks first k =
+    let entries = spares_parts h (filled t) (all_of (sealed t)) (subst (SparesBlocks h) (entered_parts t) blocks.1) in
+    record {
+      superblock = stands_kept s h t 0 _ first k.superblock;
+      journal = journal_kept s h t same journal (blocks.0, entries.1) k.journal;
+      filling = rw filling (new_reads_kept s h t (filled t) entries.0 k.filling);
+    }
 
 pub shown_plain : (s : Session) (t : Trace) (h : Happening) → IsPlain h → Shown s t → Shown s (h ∷ t)
 shown_plain s t (Enters e) is k = absurd is
 shown_plain s t (Commits e) is k = absurd is
+shown_plain s t Seals is k = absurd is
 shown_plain s t (Calls c) is k = absurd is
 shown_plain s t (Fails w c kept) is k = absurd is
-shown_plain s t other is k = let same = plain_journal s t other tt in shown_kept s other t same.0 same.1 same.2 tt k
+shown_plain s t other is k = let same = plain_journal s t other tt in shown_kept s other t same.0 refl same.1 same.2 tt k
 
 -- a request whose line of the desk log is none of these is the same one
 pub vio_over : (s : Session) (h : Happening) (t : Trace) (v : Vio) → lines (h ∷ t) ≡ lines t → VioOk s t v → VioOk s (h ∷ t) v
@@ -109,8 +111,8 @@ module _ {s : Session} {t : Trace} {n : ℕ} {d : ZoneData} {front : List Item} 
   alone k (unborn {w = w} late) = known.none_unborn w late
 
   -- over a happening that is its own, those that it keeps have what they had
-  pub line_kept : (h : Happening) (u : Trace) → Clears s n (Mine s t d front) h u → AllByRecursion (KeptOk s u (kept_phase d)) (kept_by d) → AllByRecursion (KeptOk s (h ∷ u) (kept_phase d)) (kept_by d)
-  line_kept h u clears has = kept_on s h u (kept_phase d) (kept_by d) (λ k. elim (mine_or_spared clears k) [ inl own ↦ inl (alone k own) | inr spared ↦ inr spared ]) has
+  pub line_kept : (h : Happening) (u : Trace) → Clears s n (Mine s t d front) h u → KeptEach (KeptOk s u) d → KeptEach (KeptOk s (h ∷ u)) d
+  line_kept h u clears has = kept_each s h u d (λ k. elim (mine_or_spared clears k) [ inl own ↦ inl (alone k own) | inr spared ↦ inr spared ]) has
 
   pub reaches : {h : Happening} {u : Trace} → Clears s n (Mine s t d front) h u → Clears s n (Reached s t d front) h u
   reaches clears = clears_with (λ k. in_hand) clears

@@ -15,7 +15,7 @@ use Rattle.core_model.specs.DeskRows.{DeskBegins, DeskServes, first_zone, is_mar
 use Rattle.core_model.specs.DeviceRows as device
 use Rattle.core_model.specs.DeviceRows.{DeviceServes, DeviceWorks, stop_notices}
 use Rattle.core_model.specs.JournalRows as journal
-use Rattle.core_model.specs.JournalRows.{PhysicalServes, JournalServes, JournalEnds, all_refused}
+use Rattle.core_model.specs.JournalRows.{PhysicalServes, JournalServes, JournalEnds, all_again, all_dropped, all_refused}
 use Rattle.core_model.specs.LogicalRows as logical
 use Rattle.core_model.specs.LogicalRows.{LogicalServes, goes_on, read_next, looked, mapping_at, first_for, all_for, all_stopped, with_slot, placed, place_of_vio}
 use Rattle.core_model.specs.Legal.{ComesAfter}
@@ -66,6 +66,14 @@ refused_still sizes answer (v ∷ vs) = (refl, refused_still sizes answer vs)
 notices_still : (ids : List ZoneId) → AllByRecursion Still (stop_notices ids)
 notices_still [] = tt
 notices_still (to ∷ ids) = (refl, notices_still ids)
+
+dropped_still : (vs : List Vio) → AllByRecursion Still (all_dropped vs)
+dropped_still [] = tt
+dropped_still (v ∷ vs) = (refl, dropped_still vs)
+
+again_still : (vs : List Vio) → AllByRecursion (IsIn phase.Enter) vs → AllByRecursion Still (all_again vs)
+again_still [] h = tt
+again_still (v ∷ vs) h = (arrives v phase.Enter h.0, again_still vs h.1)
 
 woken_still : (vs : List Vio) → AllByRecursion (IsIn phase.Reply) vs → AllByRecursion Still (woken vs)
 woken_still [] h = tt
@@ -121,15 +129,19 @@ module _ (s : Session) (t : Trace) where
 
   journal_course : (old : JournalZone) (v : Vio) (new : JournalZone) (made : Trace) (posts : List Post) → JournalServes s.sizes old v new made posts → Course s t (at.Journal old) (item.Request v ∷ []) made posts
   journal_course old v new made posts (journal.is_stopped p c n m q) = still (past v p) (rw q (refl, tt)) (rw m refl) (λ zone. rw m refl)
-  journal_course old v new made posts (journal.waits p c b n m q) = still (past v p) (rw q tt) (rw m refl) (λ zone. rw m refl)
-  journal_course old v new made posts (journal.is_full p c b h n m q) = still (past v p) (rw q (refl, tt)) (rw m refl) (λ zone. rw m refl)
-  journal_course old v new made posts (journal.enters p c b h n m q) = still (past v p) (rw q (refl, tt)) (rw m refl) (λ zone. rw m refl)
+  journal_course old v new made posts (journal.is_full p c h n m q) = still (past v p) (rw q (refl, tt)) (rw m refl) (λ zone. rw m refl)
+  journal_course old v new made posts (journal.waits p c h r n m q) = still (past v p) (rw q tt) (rw m refl) (λ zone. rw m refl)
+  journal_course old v new made posts (journal.enters p c h r b n m q) = still (past v p) (rw q tt) (rw m refl) (λ zone. rw m refl)
+  journal_course old v new made posts (journal.enters_first p c h r b n m q) = still (past v p) (rw q (refl, tt)) (rw m refl) (λ zone. rw m refl)
 
-  end_course : (old : JournalZone) (b : SealedBlock) (new : JournalZone) (made : Trace) (posts : List Post) → JournalEnds s.sizes old b new made posts → Course s t (at.Journal old) (item.Block b ∷ []) made posts
-  end_course old b new made posts (journal.commits_next w ws c f h n m q) = still refl (rw q (refl, (refl, tt))) (rw m refl) (λ zone. rw m refl)
-  end_course old b new made posts (journal.commits_alone c f h n m q) = still refl (rw q (refl, tt)) (rw m refl) (λ zone. rw m refl)
-  end_course old b new made posts (journal.commits_last c h n m q) = still refl (rw q (refl, refused_still s.sizes _ old.waiting)) (rw m refl) (λ zone. rw m refl)
-  end_course old b new made posts (journal.fails c n m q) = still refl (rw q (refl, refused_still s.sizes _ old.waiting)) (rw m refl) (λ zone. rw m refl)
+  end_course : (old : JournalZone) (b : SealedBlock) (new : JournalZone) (made : Trace) (posts : List Post) → KeptIn (at.Journal old) → JournalEnds s.sizes old b new made posts
+      → Course s t (at.Journal old) (item.Block b ∷ []) made posts
+  end_course old b new made posts kept (journal.commits v vs c f n m q) = still refl (rw q (refl, (refl, tt))) (rw m refl) (λ zone. rw m refl)
+  end_course old b new made posts kept (journal.seals v vs c f g n m q) = still refl (rw q (refl, again_still old.waiting kept.1)) (rw m refl) (λ zone. rw m refl)
+  end_course old b new made posts kept (journal.rests c f g n m q) = still refl (rw q (again_still old.waiting kept.1)) (rw m refl) (λ zone. rw m refl)
+  end_course old b new made posts kept (journal.fails c n m q) =
+      still refl (rw q (every-append Still (all_dropped b.vios) (all_dropped old.filling ++ all_refused s.sizes _ old.waiting) (dropped_still b.vios)
+      (every-append Still (all_dropped old.filling) (all_refused s.sizes _ old.waiting) (dropped_still old.filling) (refused_still s.sizes _ old.waiting)))) (rw m refl) (λ zone. rw m refl)
 
   device_course : (old : DeviceZone) (v : Vio) (new : DeviceZone) (made : Trace) (posts : List Post) → DeviceServes s.sizes old v new made posts → Course s t (at.Device old) (item.Request v ∷ []) made posts
   device_course old v new made posts (device.stores x p to s inside n m q) = still (past v p) (rw q (refl, tt)) (rw m refl) (λ zone. rw m refl)
@@ -142,9 +154,9 @@ module _ (s : Session) (t : Trace) where
   device_course old v new made posts (device.flush_unmade p s n m q) = still (past v p) (rw q (refl, tt)) (rw m refl) (λ zone. rw m refl)
 
   work_course : (old : DeviceZone) (b : SealedBlock) (new : DeviceZone) (made : Trace) (posts : List Post) → DeviceWorks s.sizes old b new made posts → Course s t (at.Device old) (item.Block b ∷ []) made posts
-  work_course old b new made posts (device.makes call slot i c s n m q) = still refl (rw q (refl, tt)) (rw m refl) (λ zone. rw m refl)
-  work_course old b new made posts (device.fails call slot kept i c up n m q) = still refl (rw q (refl, notices_still (notified s.sizes))) (rw m refl) (λ zone. rw m refl)
-  work_course old b new made posts (device.unmade call slot c s n m q) = still refl (rw q (refl, tt)) (rw m refl) (λ zone. rw m refl)
+  work_course old b new made posts (device.makes call slot v vs first i c s n m q) = still refl (rw q (refl, tt)) (rw m refl) (λ zone. rw m refl)
+  work_course old b new made posts (device.fails call slot kept v vs w i c up n m q) = still refl (rw q (refl, notices_still (notified s.sizes))) (rw m refl) (λ zone. rw m refl)
+  work_course old b new made posts (device.unmade call slot v vs first c s n m q) = still refl (rw q (refl, tt)) (rw m refl) (λ zone. rw m refl)
 
 -- a request that goes to its home is posted to one logical zone
 at_home : (sizes : Sizes) (zone z : ℕ) (w : Writer) (x : Item) → arrival x ≡ w ∷ [] → only_of zone (Some z) w ≡ counted arrival (items_to sizes (logical_zone zone) ((id.Logical z, x) ∷ []))
@@ -217,7 +229,7 @@ module _ (s : Session) (t : Trace) (right : RightTrace s t) where
   course n old front new made posts (steps.takes act) ok fronts kept = physical_course s t _ _ _ _ _ act
   course n old front new made posts steps.takes_notice ok fronts kept = still refl (refl, tt) refl (λ zone. refl)
   course n old front new made posts (steps.enters act) ok fronts kept = journal_course s t _ _ _ _ _ act
-  course n old front new made posts (steps.ends act) ok fronts kept = end_course s t _ _ _ _ _ act
+  course n old front new made posts (steps.ends act) ok fronts kept = end_course s t _ _ _ _ _ kept act
   course n old front new made posts (steps.enters_notice {old = j}) ok fronts kept = still refl (refl, refused_still s.sizes _ j.waiting) refl (λ zone. refl)
   course n old front new made posts (steps.calls act) ok fronts kept = device_course s t _ _ _ _ _ act
   course n old front new made posts (steps.works act) ok fronts kept = work_course s t _ _ _ _ _ act

@@ -1,16 +1,29 @@
 -- What requests and sealed blocks carry stays where the next happening is about something else.
-use Rattle.std.proofs.Common.{◌≡◌, ◌⊎◌, ℕ, ◌≤◌, Bool, true, false, Option, None, Some, List, ◌∷◌, refl, ap, sym, ◌∙◌, subst, inl, inr, arith}
-use Rattle.core_laws.proofs.Common.{Answer, AtRest, BlockOk, Carries, Happening, HasCause, Holds, IsEarned, IsEntered, IsPlaced, IsSealed, IsUndrawn, Item, ItemOk, KeptOk, Logged, Looks, MayReply, OnItsWay, Pbn, Phase, Request, SealedBlock, Session, Stage, StandsAt, Trace, Vio, VioOk, Writer, committed, done, entered, gift_of, gifts, holds, logged, logged_of, newest, place_of, places, request_of}
+use Rattle.std.proofs.Common.{◌≡◌, ℕ, ◌≤◌, Bool, true, false, Option, None, Some, List, [], ◌∷◌, ◌++◌, refl, ap, sym, ◌∙◌, subst, arith}
+use Rattle.core_laws.proofs.Common.{AllByRecursion, Answer, BlockOk, Carries, Happening, HasCause, Holds, IsEarned, IsEntered, IsPlaced, IsSealed, IsUndrawn, Item, ItemOk, KeptOk, Logged, Looks, MayReply, Pbn, Phase, Request, SealedBlock, Session, Stage, StandsAt, Trace, Vio, VioOk, Writer, all_logged, all_of, done, entered, gift_of, gifts, holds, logged, logged_of, newest, place_of, places, request_of, sealed, total}
 use Rattle.blk_base.specs.declared.place.Mapping.TheVariants.{At}
 use Rattle.blk_base.specs.declared.request.Answer.TheVariants as reply
 use Rattle.blk_base.specs.declared.request.Request.TheVariants as request
+use Rattle.image_layout.specs.Window.{mapping_of}
 use Rattle.core_model.specs.declared.items.Item.TheVariants as item
 use Rattle.core_model.specs.declared.items.Phase.TheVariants as phase
 use Rattle.core_model.specs.declared.items.Stage.TheVariants as stage
 use Rattle.core_model.specs.DeskRows.{is_marked, mark_of_vio}
 use Rattle.core_laws.proofs.kept.Keys.{Key, OfRequest, OfAddress, OfBlock, OfJournal, token_of, Spares, own_name, holder_one, claim_one}
-use Rattle.core_laws.proofs.kept.Spared.{SparesRequest, SparesAddress, open_kept, place_same, entry_same, slot_same, abort_same, gift_same, stop_kept, fault_kept, abort_kept, full_kept, journal_full_kept, mapping_same, quiet_kept, committed_kept, below_kept, mark_kept, honest_before, value_same, done_at, committed_at}
-use Rattle.core_laws.proofs.kept.StandsOn.{SparesMap, SparesJournal, SparesEntries, on_both, stands_kept, reads_kept, rests_kept, way_kept, entry_reads_kept}
+use Rattle.core_laws.proofs.kept.Spared.{SparesRequest, SparesAddress, open_kept, place_same, entry_same, slot_same, abort_same, gift_same, stop_kept, fault_kept, abort_kept, full_kept, journal_full_kept, mapping_same, quiet_kept, committed_kept, below_kept, pending_kept, mark_kept, honest_before, value_same, done_at}
+use Rattle.core_laws.proofs.kept.StandsOn.{SparesBlock, SparesBlocks, SparesJournal, SparesMap, SparesSealed, block_reads_kept, comes_stands, new_kept, new_reads_kept, on_both, reads_kept, rests_kept, sealed_spared, spares_parts, way_kept}
+
+none_weigh : (vs : List Vio) → total (λ v. 0) vs ≡ 0
+none_weigh [] = refl
+none_weigh (v ∷ vs) = omega (arith, none_weigh vs)
+
+-- What spares all sealed blocks spares the last one and the others.
+last_spared : (s : Session) (h : Happening) (t : Trace) (vs : List Vio) (n : ℕ) (k : IsSealed s t vs n) → SparesMap s h (all_of (sealed t)) → SparesMap s h (all_logged vs ++ all_of k.older)
+last_spared s h t vs n k map = subst (λ (blocks : List (List Logged)). SparesMap s h (all_of blocks)) k.sealed_is map
+
+blocks_spared : (s : Session) (h : Happening) (t : Trace) (vs : List Vio) (n : ℕ) (k : IsSealed s t vs n) → SparesMap s h (all_of (sealed t))
+    → ((a : ℕ) (x : Pbn) → mapping_of s.window a ≡ At x → SparesBlock h x.0) × (SparesBlocks h (all_logged vs) × SparesBlocks h (all_of k.older))
+blocks_spared s h t vs n k map = let last = last_spared s h t vs n k map in (last.0, spares_parts h (all_logged vs) (all_of k.older) last.1)
 
 -- the parts of the trace say the same of a request
 pub record SaysSame (h : Happening) (t : Trace) (w : Writer) : Type 0 where
@@ -104,6 +117,15 @@ module _ (s : Session) (h : Happening) (t : Trace) where
   by_phase v phase.Claim r a b k = (holds_kept v r (a refl) k.0, k.1)
   by_phase v phase.Store r a b k = (holds_kept v r (a refl) k.0, k.1, k.2)
   by_phase v phase.Enter r a b k = (holds_kept v r (a refl) k.0, k.1, k.2, on_both v.new (λ x to fresh reads. reads_kept s h t x.0 v.bytes (b refl x to fresh.is_data) reads) k.2 k.3)
+  by_phase v phase.Pending r a b k = record {
+    is_entered = entered_kept v r k.is_entered;
+    pending = pending_kept h t (logged v) (a refl) k.pending;
+    below = below_kept h t v.at.0 v.place (a refl) k.below;
+    maps = k.maps;
+    fresh = k.fresh;
+    old_held = k.old_held;
+    old_is = k.old_is ∙ sym (mapping_same s.window (done (h ∷ t)) (done t) v.at.0 (done_at h t v.at.0 (a refl)));
+  }
   by_phase v phase.Settle r a b k = (entered_kept v r k.0, committed_kept h t (logged v) (a refl) k.1, below_kept h t v.at.0 v.place (a refl) k.2, k.3)
   by_phase v phase.Load r a b k = (looks_kept v r (a refl) k.0, k.1)
   by_phase v phase.Loaded r a b k = (looks_kept v r (a refl) k.0, λ honest. k.1 (honest_before s h t honest) ∙ sym (value_same s h t v.at.0 (a refl)))
@@ -129,42 +151,55 @@ module _ (s : Session) (h : Happening) (t : Trace) where
   pub kept_kept : (q : Phase) (v : Vio) → SparesItem (item.Request v) → KeptOk s t q v → KeptOk s (h ∷ t) q v
   kept_kept q v spares k = (vio_kept v (own_spared v spares) k.0, carries_kept v spares k.1, k.2)
 
-  -- a sealed block
-  by_stage : (v : Vio) (q : Stage) → SparesEntries s h t → SparesJournal s h → SparesMap s h (logged v ∷ committed t) → StandsAt s t v q → StandsAt s (h ∷ t) v q
-  by_stage v stage.Cover same journal blocks k = rw same.committed_same (rests_kept s h t (committed t) journal (blocks.0, blocks.1.1) k.0, on_both v.new (λ x to apart reads. reads_kept s h t x.0 v.bytes apart reads) blocks.1.0 k.1)
-  by_stage v stage.Write same journal blocks k = rw same.committed_same (rests_kept s h t (committed t) journal (blocks.0, blocks.1.1) k.0, on_both v.new (λ x to apart stands. stands_kept s h t x.0 v.bytes apart stands) blocks.1.0 k.1)
-  by_stage v stage.Harden same journal blocks k = rw same.committed_same (way_kept s h t (committed t) (logged v) journal blocks k.0, entry_reads_kept s h t (committed t) (logged v) journal k.0 k.1)
-  by_stage v stage.Commit same journal blocks k = rw same.committed_same (rests_kept s h t (logged v ∷ committed t) journal blocks k)
-  by_stage v stage.Fail same journal blocks k = (rw same.committed_same (failed k.0), stop_kept h t k.1)
-    where
-      failed : AtRest s t (committed t) ⊎ OnItsWay s t (committed t) (logged v) → AtRest s (h ∷ t) (committed t) ⊎ OnItsWay s (h ∷ t) (committed t) (logged v)
-      failed (inl rests) = inl (rests_kept s h t (committed t) journal (blocks.0, blocks.1.1) rests)
-      failed (inr way) = inr (way_kept s h t (committed t) (logged v) journal blocks way)
+  -- one whose entry is pending, where the happening is about another request and another address
+  pub pending_over : (v : Vio) → SparesRequest h v.request → SparesAddress h v.at.0 → KeptOk s t phase.Pending v → KeptOk s (h ∷ t) phase.Pending v
+  pending_over v own address k = (
+    vio_kept v own k.0,
+    subst (λ (q : Phase). Carries s (h ∷ t) v q) (sym k.2) (by_phase v phase.Pending own (λ held. address) (λ is. absurd cc) (subst (λ (q : Phase). Carries s t v q) k.2 k.1)),
+    k.2,
+  )
 
-  pub sealed_kept : (v : Vio) (n : ℕ) → SparesRequest h v.request → SparesAddress h v.at.0 → SparesEntries s h t → IsSealed s t v n → IsSealed s (h ∷ t) v n
-  sealed_kept v n own address same k = record {
-    vio = vio_kept v own k.vio;
-    phase = k.phase;
-    is_entered = entered_kept v own k.is_entered;
-    last = same.entered_same ∙ k.last ∙ ap (λ es. logged v ∷ es) (sym same.committed_same);
-    others = committed_at h t v.at.0 address ∙ k.others ∙ sym (done_at h t v.at.0 address);
-    below = below_kept h t v.at.0 v.place address k.below;
-    maps = k.maps;
-    fresh = k.fresh;
-    old_held = k.old_held;
-    old_is = rw same.committed_same k.old_is;
-    sequence = rw same.committed_same k.sequence;
-    few = rw same.committed_same k.few;
+  -- the requests of a block, and the block
+  vios_kept : (vs : List Vio) → ((k : Key) → 1 ≤ total (λ v. (token_of s.sizes k).item (item.Request v)) vs → Spares s t h k) → AllByRecursion (KeptOk s t phase.Pending) vs
+      → AllByRecursion (KeptOk s (h ∷ t) phase.Pending) vs
+  vios_kept [] spares all = tt
+  vios_kept (v ∷ vs) spares all = (kept_kept phase.Pending v (λ k some. spares k (omega (arith, some))) all.0, vios_kept vs (λ k some. spares k (omega (arith, some))) all.1)
+
+  abbrev pub sealed_kept : (vs : List Vio) (n : ℕ) → SparesSealed s h t → IsSealed s t vs n → IsSealed s (h ∷ t) vs n
+  sealed_kept vs n same k = record {
+    older = k.older;
+    sealed_is = same.sealed_same ∙ k.sealed_is;
+    committed_is = same.committed_same ∙ k.committed_is;
+    some = k.some;
+    few = k.few;
+    sequence = k.sequence;
+    left = k.left;
   }
+
+  by_stage : (vs : List Vio) (n : ℕ) (q : Stage) → SparesSealed s h t → SparesJournal s h → SparesMap s h (all_of (sealed t)) → StandsAt s t vs n q → StandsAt s (h ∷ t) vs n q
+  by_stage vs n stage.Cover same journal map (k, stands, reads) =
+      let apart = blocks_spared s h t vs n k map in
+      (sealed_kept vs n same k, rests_kept s h t k.older journal (apart.0, apart.1.1) stands, new_reads_kept s h t (all_logged vs) apart.1.0 reads)
+  by_stage vs n stage.Write same journal map (k, stands, new) =
+      let apart = blocks_spared s h t vs n k map in
+      (sealed_kept vs n same k, rests_kept s h t k.older journal (apart.0, apart.1.1) stands, new_kept s h t (all_logged vs) apart.1.0 new)
+  by_stage vs n stage.Harden same journal map (k, way, reads) =
+      (sealed_kept vs n same k, way_kept s h t k.older (all_logged vs) journal (last_spared s h t vs n k map) way, block_reads_kept s h t k.older (all_logged vs) journal way reads)
+  by_stage vs n stage.Commit same journal map (all, stands) =
+      (ap all_of same.sealed_same ∙ all ∙ ap (λ es. all_logged vs ++ es) (sym same.committed_same), rw same.sealed_same (rests_kept s h t (sealed t) journal map stands))
+  by_stage vs n stage.Fail same journal map (k, stands, stopped) =
+      (sealed_kept vs n same k, comes_stands s h t k.older (all_logged vs) journal (last_spared s h t vs n k map) stands, stop_kept h t stopped)
+
+  block_weighs : (b : SealedBlock) (k : Key) → total (λ v. (token_of s.sizes k).item (item.Request v)) b.vios ≤ (token_of s.sizes k).item (item.Block b)
+  block_weighs b (OfRequest w) = omega arith
+  block_weighs b (OfAddress a) = omega arith
+  block_weighs b (OfBlock x) = omega arith
+  block_weighs b OfJournal = omega (arith, none_weigh b.vios)
 
   block_kept : (b : SealedBlock) → SparesItem (item.Block b) → BlockOk s t b → BlockOk s (h ∷ t) b
   block_kept b spares k =
-      let v = b.vio in
-      let own = spares (OfRequest v.request) (omega (arith, own_name v)) in
-      let address = spares (OfAddress v.at.0) (omega (arith, holder_one v (rw k.0.phase refl))) in
       let journal = spares OfJournal (omega arith) in
-      let blocks : SparesMap s h (logged v ∷ committed t) = subst (λ (es : List Logged). SparesMap s h es) k.0.last journal.2 in
-      (sealed_kept v b.sequence own address journal.0 k.0, by_stage v b.stage journal.0 journal.1 blocks k.1)
+      (vios_kept b.vios (λ key some. spares key (omega (arith, some, block_weighs b key))) k.0, by_stage b.vios b.sequence b.stage journal.0 journal.1 (sealed_spared s h t journal.2) k.1)
 
   pub item_kept : (to : ℕ) (it : Item) → SparesItem it → ItemOk s t to it → ItemOk s (h ∷ t) to it
   item_kept to (item.Request v) spares k = (vio_kept v (own_spared v spares) k.0, carries_kept v spares k.1, k.2)

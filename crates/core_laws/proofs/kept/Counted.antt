@@ -33,9 +33,9 @@ module _ (sizes : Sizes) where
   device_once old v new made posts (device.flush_unmade p stopped n m q) = rw n (omega arith)
 
   work_once : (old : DeviceZone) (b : SealedBlock) (new : DeviceZone) (made : Trace) (posts : List Post) → DeviceWorks sizes old b new made posts → new.calls ≤ old.calls + 1
-  work_once old b new made posts (device.makes call slot place needs going n m q) = rw n (omega arith)
-  work_once old b new made posts (device.fails call slot kept place needs going n m q) = rw n (omega arith)
-  work_once old b new made posts (device.unmade call slot needs stopped n m q) = rw n (omega arith)
+  work_once old b new made posts (device.makes call slot v vs first place needs going n m q) = rw n (omega arith)
+  work_once old b new made posts (device.fails call slot kept v vs vios place needs going n m q) = rw n (omega arith)
+  work_once old b new made posts (device.unmade call slot v vs first needs stopped n m q) = rw n (omega arith)
 
   pub made_once : {old new : ZoneData} {front : List Item} {made : Trace} {posts : List Post} → Act sizes old front new made posts → made_by new ≤ made_by old + 1
   made_once (steps.serves act) = logical_once _ _ _ _ _ act

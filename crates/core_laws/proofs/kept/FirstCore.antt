@@ -1,7 +1,6 @@
 -- One session that can be served, over a device of zeros, and the core at its start: so that there is a legal core.
-use Rattle.std.proofs.Common.{◌≡◌, ℕ, zero, suc, ◌+◌, ◌<◌, ◌≤◌, ◌%◌, false, List, [], ◌∷◌, length, get_or, replicate, take, drop, reverse, refl, sym, ◌∙◌, ap, subst, inl, inr, arith}
-use Rattle.core_laws.proofs.Common.{AllByRecursion, AreDistinct, Desk, DeviceZone, Each, Entry, Geometry, IsFresh, IsSession, Item, JournalZone, LogicalZone, Pbn, PhysicalZone, Request, Session, Sizes, Zone, ZoneData, cases_lt, eqb_tells, get_or-replicate, get_or-take, get_or_past, is_block, length-replicate, reverse-append, same_Some, total, zone_count}
-use Rattle.std.proofs.Math.Nat.{mod-lt}
+use Rattle.std.proofs.Common.{◌≡◌, ℕ, zero, suc, ◌+◌, ◌<◌, ◌≤◌, false, List, [], ◌∷◌, length, get_or, replicate, drop, refl, sym, ◌∙◌, ap, subst, inl, inr, arith}
+use Rattle.core_laws.proofs.Common.{AllByRecursion, AreDistinct, Desk, DeviceZone, Each, Geometry, IsFresh, IsSession, Item, JournalZone, LogicalZone, Pbn, PhysicalZone, Request, Session, Sizes, Zone, ZoneData, cases_lt, eqb_tells, get_or-replicate, get_or-take, get_or_past, is_block, length-replicate, same_Some, total, zone_count}
 use Rattle.std.proofs.lemmas.Grind.{get_or_after_one}
 use Rattle.blk_base.specs.Limits.{IsGeometry}
 use Rattle.blk_base.specs.Sectors.{sector, zero_block}
@@ -9,8 +8,6 @@ use Rattle.blk_base.specs.declared.request.Request.TheVariants as request
 use Rattle.disk_model.specs.Images.{HasOneImage}
 use Rattle.image_layout.specs.Window.{journal_of}
 use Rattle.journal_codec.specs.Grammar.{IsSector}
-use Rattle.journal_codec.specs.Spelling.{head_bytes}
-use Rattle.journal_codec.proofs.ReadLaws.{head_of_sector}
 use Rattle.core_model.specs.declared.zones.ZoneData.TheVariants as at
 use Rattle.core_model.specs.Legal.{Legal}
 use Rattle.core_model.specs.Start.{IsFirstLogical, IsFirstData, IsFirstZone, IsFirst}
@@ -141,7 +138,7 @@ abbrev small_physical : PhysicalZone
 small_physical = record { notified = false; free = run 85 64 }
 
 abbrev small_journal : JournalZone
-small_journal = record { notified = false; busy = false; broken = false; waiting = []; entered = []; committed = [] }
+small_journal = record { notified = false; busy = false; broken = false; blocks = 0; filling = []; waiting = []; entered = []; committed = [] }
 
 abbrev small_device : DeviceZone
 small_device = record { stopped = false; calls = 0 }
@@ -188,7 +185,7 @@ small_first n = record {
         (
           empty_first n 3 (at.Physical small_physical) (record { number_is = refl; notified = refl; free = refl }),
           (
-            empty_first n 4 (at.Journal small_journal) (record { number_is = refl; notified = refl; busy = refl; broken = refl; waiting = refl; entered = refl; committed = refl }),
+            empty_first n 4 (at.Journal small_journal) (record { number_is = refl; notified = refl; busy = refl; broken = refl; blocks = refl; filling = refl; waiting = refl; entered = refl; committed = refl }),
             (empty_first n 5 (at.Device small_device) (record { number_is = refl; stopped = refl; calls = refl }), tt),
           ),
         ),

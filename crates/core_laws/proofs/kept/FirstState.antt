@@ -1,13 +1,13 @@
 -- A core at its start is legal, with an empty trace.
 use Rattle.std.proofs.Common.{◌≡◌, ℕ, suc, ◌⊎◌, ◌≤◌, Bool, false, not, List, [], ◌∷◌, ◌++◌, length, refl, sym, ◌∙◌, ap, subst, inl, inr, arith}
-use Rattle.core_laws.proofs.Common.{AllByRecursion, AtMost, AtRest, Balanced, DataOk, DeskLine, Each, IsFresh, IsSession, Item, ItemOk, KeptOk, Lba, Lock, LocksOk, Logged, LogicalZone, MapOk, Mapping, Pbn, RestsAt, Session, Shown, Token, Trace, Vio, Zone, ZoneData, ZoneOk, answers_of, arrival, as_items, begins_of, bit, block_token, blocks_at, desk_zone, entry_token, every-get, given, holder_token, in_log, is_answer, is_begin, is_block, is_entry, journal_token, kept_by, kept_phase, lease_token, lock_weight, logical_zone, made_by, newest, notice_token, notified_by, of_address, one_physical, queued, request_token, room_token, total, weight, zone_count, OnBlock, Stands}
+use Rattle.core_laws.proofs.Common.{all_logged, AllByRecursion, answers_of, arrival, as_items, AtMost, AtRest, Balanced, begins_of, bit, block_token, blocks_at, DataOk, desk_zone, DeskLine, Each, entry_token, every-get, given, HasBlocks, HasWholeBlocks, holder_token, in_log, is_answer, is_begin, is_block, is_entry, IsFresh, IsSession, Item, ItemOk, journal_token, KeptEach, KeptOk, Lba, lease_token, Lock, lock_weight, LocksOk, Logged, logical_zone, LogicalZone, made_by, MapOk, Mapping, newest, notice_token, notified_by, of_address, OnBlock, one_physical, Pbn, queued, request_token, RestsAt, room_token, Session, Shown, Stands, Token, total, Trace, Vio, weight, Zone, zone_count, ZoneData, ZoneOk}
 use Rattle.blk_base.specs.declared.place.Mapping.TheVariants.{Unmapped, Zero, At}
 use Rattle.image_layout.specs.Window.{mapping_of, value_in}
 use Rattle.journal_stops.proofs.StepLaws.{opened}
 use Rattle.core_model.specs.declared.zones.ZoneData.TheVariants as at
 use Rattle.core_model.specs.Arrivals.{arrivals_at}
 use Rattle.core_model.specs.Legal.{Legal}
-use Rattle.core_model.specs.Sessions.{HasBlocks, HasNoneLeft, HasWholeBlocks}
+use Rattle.core_model.specs.Sessions.{HasNoneLeft}
 use Rattle.stop_laws.specs.Journals.{block_of_slot}
 use Rattle.core_model.specs.Streams.{Flows, counted}
 use Rattle.core_model.specs.Start.{IsFirstData, IsFirstZone, IsFirst}
@@ -40,7 +40,7 @@ none_made s n other h = refl
 none_queued : (w : Item → ℕ) (s : Session) (n : ℕ) (d : ZoneData) → IsFirstData s n d → queued w d ≡ 0
 none_queued w s n (at.Desk d) h = ap (λ vs. total w (as_items vs)) h.parked
 none_queued w s n (at.Logical l) h = ap (λ vs. total w (as_items vs)) h.waiting
-none_queued w s n (at.Journal j) h = ap (λ vs. total w (as_items vs)) h.waiting
+none_queued w s n (at.Journal j) h = ap (λ vs. total w (as_items (vs ++ j.waiting))) h.filling ∙ ap (λ vs. total w (as_items vs)) h.waiting
 none_queued w s n other h = refl
 
 -- at the start a zone weighs what its data weighs
@@ -98,7 +98,7 @@ module _ (s : Session) (session : IsSession s) where
 
   first_blocks : HasWholeBlocks s ⊎ HasNoneLeft s → HasBlocks s [] []
   first_blocks (inl whole) = inl (whole, opened s.blocks s.before s.sizes.geometry s.sizes.start s.image s.sealed (omega (arith, session.room)) session.one_image whole.at_rest)
-  first_blocks (inr none) = inr (record { none = refl; opening = none; blocks = λ slot below. session.one_image.only (block_of_slot slot) (omega (arith, session.room, below)) })
+  first_blocks (inr none) = inr (record { none = refl; opening = none; same = λ slot below. session.one_image.only (block_of_slot slot) (omega (arith, session.room, below)) })
 
   at_rest : AtRest s [] []
   at_rest = (first_blocks session.journal, λ a. first_stands a (mapping_of s.window a) refl)
@@ -106,7 +106,8 @@ module _ (s : Session) (session : IsSession s) where
   pub shown_at_start : Shown s []
   shown_at_start = record {
     superblock = session.one_image.only 0 (omega (arith, session.room));
-    journal = inl (refl, at_rest);
+    journal = inl (record { rest = []; all = refl; stands = at_rest });
+    filling = tt;
   }
 
   -- an address is mapped to a block of the window
@@ -137,14 +138,15 @@ module _ (s : Session) (session : IsSession s) where
   locks_at_start : (zone next : ℕ) (held : List Lock) (waiting : List Vio) → held ≡ [] → waiting ≡ [] → LocksOk s zone next held waiting
   locks_at_start zone next held waiting none nobody = rw (none, nobody) (record { locks_are = tt; once = λ a. omega arith; waits = tt; in_line = tt; in_order = tt })
 
-  kept_at_start : (n : ℕ) (d : ZoneData) → IsFirstData s n d → kept_by d ≡ []
-  kept_at_start n (at.Desk d) h = h.parked
-  kept_at_start n (at.Logical l) h = h.waiting
-  kept_at_start n (at.Journal j) h = h.waiting
-  kept_at_start n other h = refl
+  nobody : (P : Vio → Type 0) (vs : List Vio) → vs ≡ [] → AllByRecursion P vs
+  nobody P vs none = subst (λ (us : List Vio). AllByRecursion P us) (sym none) tt
 
-  nobody_at_start : (n : ℕ) (d : ZoneData) → IsFirstData s n d → AllByRecursion (KeptOk s [] (kept_phase d)) (kept_by d)
-  nobody_at_start n d h = subst (λ (vs : List Vio). AllByRecursion (KeptOk s [] (kept_phase d)) vs) (sym (kept_at_start n d h)) tt
+  nobody_at_start : (n : ℕ) (d : ZoneData) → IsFirstData s n d → KeptEach (KeptOk s []) d
+  nobody_at_start n (at.Desk d) h = nobody _ d.parked h.parked
+  nobody_at_start n (at.Logical l) h = nobody _ l.waiting h.waiting
+  nobody_at_start n (at.Journal j) h = (nobody _ j.filling h.filling, nobody _ j.waiting h.waiting)
+  nobody_at_start n (at.Physical p) h = tt
+  nobody_at_start n (at.Device d) h = tt
 
   data_at_start : (n : ℕ) (d : ZoneData) → IsFirstData s n d → DataOk s [] n d
   data_at_start n (at.Desk d) h = record {
@@ -167,8 +169,8 @@ module _ (s : Session) (session : IsSession s) where
       record { number_is = h.number_is; lists = record { left = h.free }; sound = subst (λ (xs : List Pbn). AllByRecursion (IsFresh s) xs) (sym h.free) session.free; kept = tt; answers = tt; told = tt }
   data_at_start n (at.Journal j) h = record {
     number_is = h.number_is;
-    lists = record { entered_is = h.entered; committed_is = h.committed };
-    sound = tt;
+    lists = record { entered_is = h.entered; committed_is = h.committed; filled_is = λ sound. ap all_logged h.filling; blocks_is = h.blocks };
+    sound = let none = ap length h.filling in omega (arith, none);
     kept = nobody_at_start n (at.Journal j) h;
     answers = subst (λ (b : Bool). RestsAt s [] b j.broken) (sym h.busy) (subst (λ (b : Bool). RestsAt s [] false b) (sym h.broken) (refl, at_rest));
     told = λ closed. absurd (let notified = h.notified in let broken = h.broken in let opened : is_closed j ≡ false = rw (notified, broken) refl in cc);

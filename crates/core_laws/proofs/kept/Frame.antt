@@ -1,14 +1,15 @@
 -- A zone that weighs nothing for what a happening is about keeps all its facts. Paid once for all kinds of zone and item.
-use Rattle.std.proofs.Common.{◌≡◌, ◌≢◌, ◌⊎◌, ℕ, ◌≤◌, ◌==◌, Bool, true, false, Some, List, [], ◌∷◌, ◌++◌, slice_get, refl, ap, sym, ◌∙◌, subst, inl, inr, arith}
-use Rattle.core_laws.proofs.Common.{AllBelow, AllByRecursion, Answers, Calls, Commits, Draws, Each, Enters, Fails, Flushes, Gives, Happening, HasLists, Item, ItemOk, KeptOk, Phase, RestsAt, Says, Session, Sets, Sizes, Takes, Token, Trace, Vio, WasTold, Zone, ZoneData, ZoneOk, calls, committed, desk_zone, device_zone, done, drawn, entered, eq-eqb, eqb_tells, every-front, has_stopped, journal_zone, kept_by, kept_phase, lines, logical_zone, marks, name_of, of_address, physical_zone, places, taken, total, total-get, weight, zone_number, zone_of}
+use Rattle.std.proofs.Common.{◌≡◌, ◌≢◌, ◌⊎◌, ℕ, ◌≤◌, ◌==◌, Bool, true, false, Some, List, [], ◌∷◌, ◌++◌, slice_get, length, refl, ap, sym, ◌∙◌, subst, inl, inr, arith}
+use Rattle.core_laws.proofs.Common.{all_of, AllBelow, AllByRecursion, Answers, calls, Calls, Commits, committed, desk_zone, device_zone, done, drawn, Draws, Each, entered, Enters, eq-eqb, eqb_tells, every-front, Fails, filled, Flushes, Gives, Happening, has_stopped, HasLists, Item, ItemOk, journal_zone, kept_by, KeptEach, KeptOk, lines, logical_zone, marks, name_of, of_address, Phase, physical_zone, places, RestsAt, Says, sealed, Seals, Session, Sets, Sizes, taken, Takes, Token, total, total-append, total-get, Trace, Vio, WasTold, weight, Zone, zone_number, zone_of, ZoneData, ZoneOk}
 use Rattle.vdo_model.specs.FlushMarks.{successes}
 use Rattle.vdo_model.specs.ZoneOrder.{places_in}
 use Rattle.core_model.specs.declared.items.Item.TheVariants.{Request}
+use Rattle.core_model.specs.declared.items.Phase.TheVariants as phase
 use Rattle.core_model.specs.declared.zones.ZoneData.TheVariants as at
 use Rattle.core_laws.proofs.kept.Carried.{kept_kept, item_kept}
 use Rattle.core_laws.proofs.kept.Keys.{Key, OfAddress, OfJournal, token_of, Spares, happens_in, Clears, mine_or_spared, free_one}
 use Rattle.core_laws.proofs.kept.Spared.{of_other, quiet_kept, stop_kept, abort_kept}
-use Rattle.core_laws.proofs.kept.StandsOn.{SparesMap, rests_kept, pending_kept}
+use Rattle.core_laws.proofs.kept.StandsOn.{rests_kept, sealed_spared}
 use Rattle.core_laws.proofs.tokens.Lift.{items_total}
 
 -- What its own lists are parts of stays over what happens in another zone.
@@ -46,10 +47,12 @@ module _ (sizes : Sizes) where
   taken_same (Takes w x) t off = absurd (off refl)
   taken_same other t off = refl
 
-  entries_same : (h : Happening) (t : Trace) → journal_zone sizes ≢ happens_in sizes h → (entered (h ∷ t) ≡ entered t) × (committed (h ∷ t) ≡ committed t)
+  entries_same : (h : Happening) (t : Trace) → journal_zone sizes ≢ happens_in sizes h
+      → (entered (h ∷ t) ≡ entered t) × (committed (h ∷ t) ≡ committed t) × (filled (h ∷ t) ≡ filled t) × (sealed (h ∷ t) ≡ sealed t)
   entries_same (Enters e) t off = absurd (off refl)
   entries_same (Commits e) t off = absurd (off refl)
-  entries_same other t off = (refl, refl)
+  entries_same Seals t off = absurd (off refl)
+  entries_same other t off = (refl, refl, refl, refl)
 
   device_same : (h : Happening) (t : Trace) → device_zone sizes ≢ happens_in sizes h → (calls (h ∷ t) ≡ calls t) × (has_stopped (h ∷ t) ≡ has_stopped t)
   device_same (Calls c) t off = absurd (off refl)
@@ -69,7 +72,12 @@ module _ (s : Session) (h : Happening) (t : Trace) where
       at_home : (a : ℕ) → zone_of s.sizes.zones a ≡ l.zone → logical_zone (zone_of s.sizes.zones a) ≢ happens_in s.sizes h
       at_home a zone is = off (ap logical_zone (sym zone) ∙ is)
   lists_kept (at.Physical p) off k = record { left = rw (taken_same s.sizes h t off) k.left }
-  lists_kept (at.Journal j) off k = let same = entries_same s.sizes h t off in record { entered_is = k.entered_is ∙ sym same.0; committed_is = k.committed_is ∙ sym same.1 }
+  lists_kept (at.Journal j) off k = let same = entries_same s.sizes h t off in record {
+    entered_is = k.entered_is ∙ sym same.0;
+    committed_is = k.committed_is ∙ sym same.1;
+    filled_is = λ sound. k.filled_is sound ∙ sym same.2;
+    blocks_is = k.blocks_is ∙ ap length (sym same.3);
+  }
   lists_kept (at.Device d) off k = let same = device_same s.sizes h t off in record { calls_is = k.calls_is ∙ ap successes (sym same.0); stopped_is = k.stopped_is ∙ sym same.1 }
 
   -- What it was told stays over everything.
@@ -84,9 +92,9 @@ module _ (s : Session) (h : Happening) (t : Trace) where
   rests_on true broken spares k = k
   rests_on false false spares k =
       let same = spares refl in
-      let blocks : SparesMap s h (committed t) = subst (SparesMap s h) k.0 same.2 in
-      (same.0.entered_same ∙ k.0 ∙ sym same.0.committed_same, rw same.0.committed_same (rests_kept s h t (committed t) same.1 blocks k.1))
-  rests_on false true spares k = let same = spares refl in pending_kept s h t same.0 same.1 same.2 k
+      let blocks = sealed_spared s h t same.2 in
+      (ap all_of same.0.sealed_same ∙ k.0 ∙ sym same.0.committed_same, rw same.0.sealed_same (rests_kept s h t (sealed t) same.1 blocks k.1))
+  rests_on false true spares k = tt
 
   pub answers_kept : (d : ZoneData) → ((k : Key) → 1 ≤ (token_of s.sizes k).own d → Spares s t h k) → Answers s t d → Answers s (h ∷ t) d
   answers_kept (at.Logical l) spares k = λ a zone free alive. quiet_kept h t a (spares (OfAddress a) (free_one _ _ _ (eq-eqb _ _ zone) free alive)) (k a zone free alive)
@@ -111,6 +119,17 @@ module _ (s : Session) (h : Happening) (t : Trace) where
   pub kept_on : (q : Phase) (vs : List Vio) → Weighs (λ k. total (λ v. (token_of s.sizes k).item (Request v)) vs) → AllByRecursion (KeptOk s t q) vs → AllByRecursion (KeptOk s (h ∷ t) q) vs
   kept_on q vs spares has = each_on (KeptOk s t q) (KeptOk s (h ∷ t) q) (λ k v. (token_of s.sizes k).item (Request v)) (kept_kept s h t q) vs spares has
 
+  -- the requests that a zone keeps
+  pub kept_each : (d : ZoneData) → Weighs (λ k. total (λ v. (token_of s.sizes k).item (Request v)) (kept_by d)) → KeptEach (KeptOk s t) d → KeptEach (KeptOk s (h ∷ t)) d
+  kept_each (at.Desk desk) spares has = kept_on phase.Reply desk.parked spares has
+  kept_each (at.Logical l) spares has = kept_on phase.Wait l.waiting spares has
+  kept_each (at.Journal j) spares has = (
+    kept_on phase.Pending j.filling (λ k. elim (spares k) [ inl none ↦ let both = total-append (λ v. (token_of s.sizes k).item (Request v)) j.filling j.waiting in inl (omega (arith, none, both)) | inr spared ↦ inr spared ]) has.0,
+    kept_on phase.Enter j.waiting (λ k. elim (spares k) [ inl none ↦ let both = total-append (λ v. (token_of s.sizes k).item (Request v)) j.filling j.waiting in inl (omega (arith, none, both)) | inr spared ↦ inr spared ]) has.1,
+  )
+  kept_each (at.Physical p) spares has = tt
+  kept_each (at.Device d) spares has = tt
+
   pub lanes_on : (lanes : List (List Item)) → Weighs (λ k. total (total (token_of s.sizes k).item) lanes) → Each (λ to. AllByRecursion (ItemOk s t to)) lanes → Each (λ to. AllByRecursion (ItemOk s (h ∷ t) to)) lanes
   lanes_on lanes spares has to lane there = items_on to lane (λ k. elim (spares k) [
     | inl none ↦ let part = total-get (total (token_of s.sizes k).item) lanes to lane there in inl (omega (arith, none, part))
@@ -128,7 +147,7 @@ module _ (s : Session) (h : Happening) (t : Trace) where
       number_is = ok.own.number_is;
       lists = lists_kept z.keeps (λ is. off (ok.own.number_is ∙ is)) ok.own.lists;
       sound = ok.own.sound;
-      kept = kept_on (kept_phase z.keeps) (kept_by z.keeps) (part (λ k. total (λ v. (token_of s.sizes k).item (Request v)) (kept_by z.keeps)) (λ k. omega (arith, items_total (token_of s.sizes k).item (kept_by z.keeps)))) ok.own.kept;
+      kept = kept_each z.keeps (part (λ k. total (λ v. (token_of s.sizes k).item (Request v)) (kept_by z.keeps)) (λ k. omega (arith, items_total (token_of s.sizes k).item (kept_by z.keeps)))) ok.own.kept;
       answers = answers_kept z.keeps (λ k some. elim (spares k) [ inl none ↦ absurd (omega (arith, none, some)) | inr spared ↦ spared ]) ok.own.answers;
       told = told_kept z.keeps ok.own.told;
     };

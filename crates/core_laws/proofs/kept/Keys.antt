@@ -1,13 +1,13 @@
 -- The keys that facts are on: a request, an address, a data block, the journal. Whoever weighs for a key has facts on it,
 -- and of each key at most one is held in the whole core. Each happening is about some keys, and spares the others.
 use Rattle.std.proofs.Common.{◌≡◌, ◌⊎◌, ℕ, ◌≤◌, ◌==◌, ◌&&◌, Bool, true, false, not, Option, None, Some, refl, ap, subst, inl, inr, arith}
-use Rattle.core_laws.proofs.Common.{Aborts, Calls, Commits, Draws, Enters, Fails, Flushes, Gives, Happening, Says, Session, Sets, Sizes, Takes, Token, Trace, Vio, Writer, ZoneData, bit, block_token, claims, desk_zone, device_zone, entered, eqb_tells, holder_weight, holds, journal_token, journal_zone, logical_zone, of_vio, physical_zone, request_token, same_self, same_tells, zone_of, Pbn}
+use Rattle.core_laws.proofs.Common.{Aborts, Calls, Commits, Draws, Enters, Fails, Flushes, Gives, Happening, Says, Seals, Session, Sets, Sizes, Takes, Token, Trace, Vio, Writer, ZoneData, bit, block_token, claims, desk_zone, device_zone, entered, eqb_tells, holder_weight, holds, journal_token, journal_zone, logical_zone, of_vio, physical_zone, request_token, same_self, same_tells, zone_of, Pbn}
 use Rattle.blk_base.specs.Regions.{IsDataBlock}
 use Rattle.core_model.specs.declared.items.Item.TheVariants.{Request}
 use Rattle.core_model.specs.declared.zones.ZoneData.TheVariants as at
 use Rattle.core_model.specs.LogicalRows.{is_among, is_held}
 use Rattle.core_laws.proofs.kept.Spared.{OffRequest, OffNumber, about, SparesRequest, SparesAddress}
-use Rattle.core_laws.proofs.kept.StandsOn.{SparesBlock, SparesMap, SparesJournal, SparesEntries}
+use Rattle.core_laws.proofs.kept.StandsOn.{SparesBlock, SparesMap, SparesJournal, SparesSealed}
 use Rattle.blk_base.specs.declared.place.Mapping.TheVariants.{At}
 
 pub data Key : Type 0 where
@@ -56,13 +56,13 @@ idle_none false h = absurd (omega (arith, h))
 pub free_one : (b c d : Bool) → b ≡ true → c ≡ false → d ≡ false → 1 ≤ bit (b && (not c && not d))
 free_one b c d p q r = rw (p, q, r) (omega arith)
 
--- A happening spares a key that it isn't about. About a data block are the calls that write it; about the journal the
--- entries that it is handed or commits, and the calls that write a block of it, of its entries or of the window.
+-- A happening spares a key that it isn't about. About a data block are the calls that write it; about the journal that a
+-- block is sealed or an entry committed, and the calls that write a block of it, of its entries or of the window.
 abbrev pub Spares : Session → Trace → Happening → Key → Type 0
 Spares s t h (OfRequest w) = SparesRequest h w
 Spares s t h (OfAddress a) = SparesAddress h a
 Spares s t h (OfBlock x) = IsDataBlock s.sizes.geometry x → SparesBlock h x
-Spares s t h OfJournal = SparesEntries s h t × SparesJournal s h × SparesMap s h (entered t)
+Spares s t h OfJournal = SparesSealed s h t × SparesJournal s h × SparesMap s h (entered t)
 
 -- the zone where it happens
 abbrev pub happens_in : Sizes → Happening → ℕ
@@ -71,6 +71,7 @@ happens_in sizes (Flushes m) = desk_zone
 happens_in sizes (Draws p) = logical_zone p.zone
 happens_in sizes (Enters e) = journal_zone sizes
 happens_in sizes (Commits e) = journal_zone sizes
+happens_in sizes Seals = journal_zone sizes
 happens_in sizes (Sets e) = logical_zone (zone_of sizes.zones e.at.0)
 happens_in sizes (Gives g) = logical_zone (zone_of sizes.zones g.at.0)
 happens_in sizes (Takes w x) = physical_zone sizes

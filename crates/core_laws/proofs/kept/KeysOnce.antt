@@ -1,6 +1,6 @@
 -- Of each key at most one is held in a legal core; so whoever has it in hand has it alone.
 use Rattle.std.proofs.Common.{◌≡◌, ◌≢◌, ℕ, zero, suc, ◌+◌, ◌≤◌, ◌==◌, ◌&&◌, ◌++◌, Bool, true, false, not, List, [], ◌∷◌, Some, slice_get, refl, sym, ◌∙◌, ap, subst, inl, inr, arith}
-use Rattle.core_laws.proofs.Common.{AllByRecursion, DataOk, Item, Logged, Session, Trace, Writer, Zone, ZoneData, begins_of, begun, bit, block_token, blocks_at, cases_Bool, entered, eqb_tells, given, in_log, is_entry, journal_zone, kept_by, lease_token, lines, lock_weight, locks_at, nobody_else, request_token, total, total-append, total-get, total_zero, weight, zone_of, Mapping, names, OnBlock}
+use Rattle.core_laws.proofs.Common.{DataOk, Item, Logged, Session, Trace, Writer, Zone, ZoneData, begins_of, begun, bit, block_token, blocks_at, cases_Bool, entered, eqb_tells, given, in_log, is_entry, journal_zone, kept_by, lease_token, lines, lock_weight, locks_at, nobody_else, request_token, total, total-append, total-get, total_zero, weight, zone_of, Mapping, names, OnBlock}
 use Rattle.blk_base.specs.declared.place.Mapping.TheVariants.{Unmapped, Zero, At}
 use Rattle.core_model.specs.declared.zones.ZoneData.TheVariants as at
 use Rattle.core_model.specs.Legal.{Legal}

@@ -1,6 +1,6 @@
 -- Each step and each move keeps a core legal, and so does each list of events.
 use Rattle.std.proofs.Common.{◌≡◌, ℕ, zero, suc, ◌+◌, ◌<◌, ◌≤◌, Bool, true, false, Some, List, [], ◌∷◌, ◌++◌, length, nat_eq, slice_get, slice_set, refl, ap, sym, ◌∙◌, subst, arith}
-use Rattle.core_laws.proofs.Common.{AllByRecursion, Balanced, Each, Each-put_other, GivesRight, HasHonestReads, IsSession, Item, ItemOk, KeptOk, Post, RightTrace, Session, Token, Trace, Writer, Zone, ZoneData, ZoneOk, block_token, entry_token, eqb-true, every-append, every-map, holder_token, idle_at, is_sealed, journal_token, kept_by, kept_phase, lease_token, length-put, made_by, notice_token, request_token, room_token, same_Some, total, zone_number}
+use Rattle.core_laws.proofs.Common.{AllByRecursion, Balanced, Each, Each-put_other, GivesRight, HasHonestReads, IsSession, Item, ItemOk, Post, RightTrace, Session, Token, Trace, Writer, Zone, ZoneData, ZoneOk, block_token, entry_token, eqb-true, every-append, every-map, holder_token, idle_at, is_sealed, journal_token, lease_token, length-put, made_by, notice_token, request_token, room_token, same_Some, total, zone_number}
 use Rattle.core_model.specs.Arrivals.{arrivals_at}
 use Rattle.core_model.specs.Legal.{Legal}
 use Rattle.core_model.specs.Steps.{Act, Core, StepOf, sent_to, sent, delivered, posted}
@@ -12,7 +12,8 @@ use Rattle.core_laws.proofs.kept.Arrivals.{arrivals_kept, course}
 use Rattle.core_laws.proofs.kept.Streams.{flows_step}
 use Rattle.core_laws.proofs.kept.Counted.{made_once}
 use Rattle.core_laws.proofs.tokens.ActSums.{IsRow, act_row}
-use Rattle.core_laws.proofs.tokens.Known.{IsIn, KeptIn}
+use Rattle.core_laws.proofs.tokens.Known.{KeptIn, kept_in, phases}
+use Rattle.core_model.specs.declared.items.Phase.TheVariants as phase
 use Rattle.core_laws.proofs.tokens.Known as tokens
 use Rattle.core_laws.proofs.tokens.Lift.{Within, Conserves, balance_step, at_most_step}
 use Rattle.core_laws.proofs.tokens.TokenLaws.{requests_law, room_law, notices_law, journal_law, blocks_law, leases_law, holders_law, entries_law}
@@ -100,13 +101,13 @@ module _ (s : Session) (session : IsSession s) (old new : Core) (legal : Legal s
       each_other zones i z z' had others ok' = Each-put_other {P = λ j y. (j ≡ i → ⊥) → ZoneOk s t' j y} {Q = ZoneOk s t'} zones i z z' had others (λ j y ne f. f ne) ok'
 
   -- what the laws of the tokens ask, and the row that the act is
-  kept_in : KeptIn st.zone.keeps
-  kept_in = every-map {P = KeptOk s old.trace (kept_phase st.zone.keeps)} {Q = IsIn (kept_phase st.zone.keeps)} (λ v k. k.2) (kept_by st.zone.keeps) zone_ok.own.kept
+  kept_here : KeptIn st.zone.keeps
+  kept_here = kept_in s old.trace st.zone.keeps zone_ok.own.kept
 
   for_tokens : tokens.Known st.zone.keeps st.step.front
   for_tokens = record {
-    kept = kept_in;
-    sealed = λ b is. (subst (λ (items : List Item). AllByRecursion (ItemOk s old.trace st.number) items) is here.front_ok).0.0.0.phase;
+    kept = kept_here;
+    sealed = λ b is. phases s old.trace phase.Pending b.vios (subst (λ (items : List Item). AllByRecursion (ItemOk s old.trace st.number) items) is here.front_ok).0.0.0;
     busy = λ b j is keeps. (
         let most = here.most OfJournal in
         let sealed = ap (total is_sealed) is in
@@ -135,7 +136,7 @@ module _ (s : Session) (session : IsSession s) (old new : Core) (legal : Legal s
     stop_notices = balanced (notice_token s.sizes) (notices_law s.sizes the_row.row) legal.stop_notices;
     in_order = λ zone below. flows_step Writer (arrivals_at s zone) s.sizes (λ e. absurd (omega (arith, e))) old new st zone_ok.number_is
         (arrivals_kept s old.trace zone st.number st.zone.keeps st.step.front st.made st.step.posts zone_ok.own
-        (course s old.trace legal.right st.number st.zone.keeps st.step.front st.zone'.keeps st.made st.step.posts st.step.act zone_ok.own here.front_ok kept_in))
+        (course s old.trace legal.right st.number st.zone.keeps st.step.front st.zone'.keeps st.made st.step.posts st.step.act zone_ok.own here.front_ok kept_here))
         (legal.in_order zone below);
     right = subst (RightTrace s) (sym trace_is) stepped.right;
     gives_right = subst (λ (t : Trace). HasHonestReads s t → GivesRight s t) (sym trace_is) (stepped.gives legal.gives_right);

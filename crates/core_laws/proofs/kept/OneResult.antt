@@ -1,7 +1,7 @@
 -- What a zone does with an item is fixed, and at the device by how it answered: two acts on the same item keep, make and post
 -- the same.
 use Rattle.std.proofs.Common.{ℕ, ◌+◌, ◌≡◌, Bool, true, false, not, ◌&&◌, Option, None, Some, List, [], ◌∷◌, ◌++◌, refl, sym, ap, ◌∙◌}
-use Rattle.core_laws.proofs.Common.{Aborts, Answer, Calls, Commits, Desk, DeviceZone, Draws, Enters, Flushes, Gives, Item, JournalZone, LogicalZone, Pbn, Phase, PhysicalZone, Post, Says, SealedBlock, Sets, Sizes, Stage, Takes, Trace, Vio, ZoneData, ended, gift, logged, notified, staged, turned}
+use Rattle.core_laws.proofs.Common.{Aborts, Answer, Calls, Commits, Desk, DeviceZone, Draws, Enters, Flushes, Gives, Item, JournalZone, LogicalZone, Pbn, Phase, PhysicalZone, Post, Says, SealedBlock, Seals, Sets, Sizes, Stage, Takes, Trace, Vio, ZoneData, ended, gift, logged, notified, staged, turned}
 use Rattle.blk_base.specs.declared.place.ZoneId.TheVariants as id
 use Rattle.blk_base.specs.declared.request.Answer.TheVariants as reply
 use Rattle.disk_model.specs.declared.call.Call.TheVariants.{Read}
@@ -12,7 +12,7 @@ use Rattle.core_model.specs.declared.items.Stage.TheVariants as stage
 use Rattle.core_model.specs.declared.zones.ZoneData.TheVariants as at
 use Rattle.core_model.specs.DeskRows.{DeskServes, parks, answers, marks, is_notified, is_stopped, is_marked, mark_of_vio}
 use Rattle.core_model.specs.DeviceRows.{DeviceServes, DeviceWorks, counted, halted, stop_notices, next_stage, next_zone}
-use Rattle.core_model.specs.JournalRows.{PhysicalServes, JournalServes, JournalEnds, is_closed, has_block, sealed, refused, all_refused, entered_by, committed_by, hands_out}
+use Rattle.core_model.specs.JournalRows.{PhysicalServes, JournalServes, JournalEnds, is_closed, has_block, has_room, next_block, refused, all_refused, all_again, all_dropped, entered_by, committed_by, sealed_by, hands_out}
 use Rattle.core_model.specs.LogicalRows.{LogicalServes, is_among, is_held, lock_of, all_for, placed, place_of_vio, drawn_by, goes_on, granted, released, retire, all_stopped, with_slot}
 use Rattle.core_model.specs.Steps.{Act, CallsDevice}
 use Rattle.core_model.specs.Steps as steps
@@ -94,44 +94,36 @@ logical_is sizes l v new made posts (LogicalServes.aborts more is next n m q) = 
 logical_is sizes l v new made posts (LogicalServes.aborts_entered is n m q) = rw (n, m, q, is) refl
 
 -- the journal
-abbrev entry_at : Sizes → JournalZone → Vio → (closed busy room : Bool) → Result JournalZone
-entry_at sizes j v true busy room = (j, [], refused sizes reply.Stopped v ∷ [])
-entry_at sizes j v false true room = (record j { waiting = j.waiting ++ v ∷ [] }, [], [])
-entry_at sizes j v false false false = (j, [], refused sizes reply.Full v ∷ [])
-entry_at sizes j v false false true = (entered_by v j, Enters (logged v) ∷ [], (id.Device, item.Block (sealed sizes j v)) ∷ [])
+abbrev entry_at : Sizes → JournalZone → Vio → (closed block room busy : Bool) → Result JournalZone
+entry_at sizes j v true block room busy = (j, [], refused sizes reply.Stopped v ∷ [])
+entry_at sizes j v false false room busy = (j, [], refused sizes reply.Full v ∷ [])
+entry_at sizes j v false true false busy = (record j { waiting = j.waiting ++ v ∷ [] }, [], [])
+entry_at sizes j v false true true true = (entered_by v j, Enters (logged v) ∷ [], [])
+entry_at sizes j v false true true false = (record (entered_by v j) { busy = true }, Enters (logged v) ∷ [], (id.Journal, item.Block (next_block sizes j stage.Commit [])) ∷ [])
 
 journal_is : (sizes : Sizes) (j : JournalZone) (v : Vio) (new : JournalZone) (made : Trace) (posts : List Post) → JournalServes sizes j v new made posts
-    → (new, made, posts) ≡ entry_at sizes j v (is_closed j) j.busy (has_block sizes j)
+    → (new, made, posts) ≡ entry_at sizes j v (is_closed j) (has_block sizes j) (has_room j) j.busy
 journal_is sizes j v new made posts (JournalServes.is_stopped is closed n m q) = rw (n, m, q, closed) refl
-journal_is sizes j v new made posts (JournalServes.waits is open_yet busy n m q) = rw (n, m, q, open_yet, busy) refl
-journal_is sizes j v new made posts (JournalServes.is_full is open_yet idle room n m q) = rw (n, m, q, open_yet, idle, room) refl
-journal_is sizes j v new made posts (JournalServes.enters is open_yet idle room n m q) = rw (n, m, q, open_yet, idle, room) refl
+journal_is sizes j v new made posts (JournalServes.is_full is open_yet none n m q) = rw (n, m, q, open_yet, none) refl
+journal_is sizes j v new made posts (JournalServes.waits is open_yet block full n m q) = rw (n, m, q, open_yet, block, full) refl
+journal_is sizes j v new made posts (JournalServes.enters is open_yet block room busy n m q) = rw (n, m, q, open_yet, block, room, busy) refl
+journal_is sizes j v new made posts (JournalServes.enters_first is open_yet block room idle n m q) = rw (n, m, q, open_yet, block, room, idle) refl
 
-abbrev commit_at : Sizes → JournalZone → SealedBlock → List Vio → (room : Bool) → Result JournalZone
-commit_at sizes j b (w ∷ ws) true =
-    (entered_by w (record (committed_by b.vio j) { waiting = ws }), Enters (logged w) ∷ Commits (logged b.vio) ∷ [], hands_out b.vio ∷ (id.Device, item.Block (sealed sizes j w)) ∷ [])
-commit_at sizes j b [] true = (committed_by b.vio j, Commits (logged b.vio) ∷ [], hands_out b.vio ∷ [])
-commit_at sizes j b waiting false = (record (committed_by b.vio j) { waiting = [] }, Commits (logged b.vio) ∷ [], hands_out b.vio ∷ all_refused sizes reply.Full j.waiting)
+abbrev commit_at : Sizes → JournalZone → SealedBlock → (vios filling : List Vio) → Result JournalZone
+commit_at sizes j b (v ∷ vs) filling = (committed_by v j, Commits (logged v) ∷ [], hands_out v ∷ (id.Journal, item.Block (record b { vios = vs })) ∷ [])
+commit_at sizes j b [] [] = (record j { busy = false; waiting = [] }, [], all_again j.waiting)
+commit_at sizes j b [] (v ∷ vs) = (sealed_by j, Seals ∷ [], (id.Device, item.Block (next_block sizes j stage.Cover (v ∷ vs))) ∷ all_again j.waiting)
 
 abbrev end_at : Sizes → JournalZone → SealedBlock → Stage → Result JournalZone
-end_at sizes j b stage.Commit = commit_at sizes j b j.waiting (has_block sizes j)
-end_at sizes j b stage.Fail = (
-  record j { busy = false; broken = true; waiting = [] },
-  [],
-  (id.Physical 0, item.Request (ended phase.AbortEnteredClaim reply.Stopped b.vio)) ∷ all_refused sizes reply.Stopped j.waiting,
-)
+end_at sizes j b stage.Commit = commit_at sizes j b b.vios j.filling
+end_at sizes j b stage.Fail = (record j { busy = false; broken = true; filling = []; waiting = [] }, [], all_dropped b.vios ++ (all_dropped j.filling ++ all_refused sizes reply.Stopped j.waiting))
 end_at sizes j b other = (j, [], [])
 
 end_is : (sizes : Sizes) (j : JournalZone) (b : SealedBlock) (new : JournalZone) (made : Trace) (posts : List Post) → JournalEnds sizes j b new made posts
     → (new, made, posts) ≡ end_at sizes j b b.stage
-end_is sizes j b new made posts (JournalEnds.commits_next w ws is waiting room n m q) = rw (n, m, q, is, waiting, room) refl
-end_is sizes j b new made posts (JournalEnds.commits_alone is waiting room n m q) = rw (n, m, q, is, waiting, room) refl
-end_is sizes j b new made posts (JournalEnds.commits_last is room n m q) = rw (n, m, q, is, room) (full j.waiting)
-  where
-    full : (waiting : List Vio) → (record (committed_by b.vio j) { waiting = [] }, Commits (logged b.vio) ∷ [], hands_out b.vio ∷ all_refused sizes reply.Full j.waiting)
-        ≡ commit_at sizes j b waiting false
-    full [] = refl
-    full (w ∷ ws) = refl
+end_is sizes j b new made posts (JournalEnds.commits v vs is vios n m q) = rw (n, m, q, is, vios) refl
+end_is sizes j b new made posts (JournalEnds.seals v vs is vios filling n m q) = rw (n, m, q, is, vios, filling) refl
+end_is sizes j b new made posts (JournalEnds.rests is vios filling n m q) = rw (n, m, q, is, vios, filling) refl
 end_is sizes j b new made posts (JournalEnds.fails is n m q) = rw (n, m, q, is) refl
 
 -- the device: what it keeps and posts, by what was made
@@ -176,9 +168,9 @@ work_at sizes d b false other = (halted d, (id.Journal, item.Block (staged stage
 
 work_is : (sizes : Sizes) (d : DeviceZone) (b : SealedBlock) (new : DeviceZone) (made : Trace) (posts : List Post) → DeviceWorks sizes d b new made posts
     → (new, posts) ≡ work_at sizes d b d.stopped made
-work_is sizes d b new made posts (DeviceWorks.makes call slot its calls goes n m q) = rw (n, m, q, goes) refl
-work_is sizes d b new made posts (DeviceWorks.fails call slot kept its calls goes n m q) = rw (n, m, q, goes) refl
-work_is sizes d b new made posts (DeviceWorks.unmade call slot calls stops n m q) = rw (n, m, q, stops) refl
+work_is sizes d b new made posts (DeviceWorks.makes call slot v vs first its calls goes n m q) = rw (n, m, q, goes) refl
+work_is sizes d b new made posts (DeviceWorks.fails call slot kept v vs vios its calls goes n m q) = rw (n, m, q, goes) refl
+work_is sizes d b new made posts (DeviceWorks.unmade call slot v vs first calls stops n m q) = rw (n, m, q, stops) refl
 
 -- two results are the same
 abbrev Same : ZoneData → ZoneData → Trace → Trace → List Post → List Post → Type 0

@@ -1,7 +1,7 @@
 -- In a legal core a rule applies to the item in front of each inbox, and each post of a rule has a lane.
-use Rattle.std.proofs.Common.{◌⊎◌, ◌≡◌, ℕ, ◌<◌, ◌≤◌, true, false, None, Some, Option, List, [], ◌∷◌, ◌++◌, length, slice_get, refl, ap, sym, ◌∙◌, subst, inl, inr, arith}
+use Rattle.std.proofs.Common.{◌≡◌, ℕ, ◌<◌, ◌≤◌, true, false, None, Some, Option, List, [], ◌∷◌, ◌++◌, length, slice_get, refl, ap, sym, ◌∙◌, subst, inl, inr, arith}
 use Rattle.std.proofs.lemmas.Option.{slice_get_within}
-use Rattle.core_laws.proofs.Common.{AllByRecursion, Answer, Asks, Call, Carries, DataOk, Desk, DeviceZone, IsServed, IsSession, Item, ItemOk, JournalZone, KeptOk, LogicalZone, MayReply, Pbn, Phase, PhysicalZone, Post, Request, Script, SealedBlock, Session, Stage, Trace, Vio, VioOk, Writer, Zone, ZoneData, cases_Bool, desk_zone, device_zone, eqb_tells, every-map, journal_zone, logical_zone, notified_zones, option_cases, physical_zone, request_at, some_of, zone_at, zone_count, zone_number, zone_of, zone_of_stage, Mapping, IsForBlock, IsToInside, IsToFresh}
+use Rattle.core_laws.proofs.Common.{AllByRecursion, Answer, Asks, Call, Carries, cases_Bool, DataOk, Desk, desk_zone, device_zone, DeviceZone, eqb_tells, every-map, IsForBlock, IsServed, IsSession, IsToFresh, IsToInside, Item, ItemOk, journal_zone, JournalZone, KeptOk, logical_zone, LogicalZone, Mapping, MayReply, notified_zones, option_cases, Pbn, Phase, physical_zone, PhysicalZone, Post, Request, request_at, Script, SealedBlock, Session, some_of, Stage, StandsAt, Trace, Vio, VioOk, Writer, Zone, zone_at, zone_count, zone_number, zone_of, zone_of_stage, ZoneData}
 use Rattle.blk_base.specs.Regions.{journal_slot_of}
 use Rattle.blk_base.specs.declared.request.Answer.TheVariants as reply
 use Rattle.blk_base.specs.declared.request.Request.TheVariants as request
@@ -14,7 +14,7 @@ use Rattle.core_model.specs.declared.items.Stage.TheVariants as stage
 use Rattle.core_model.specs.declared.zones.ZoneData.TheVariants as at
 use Rattle.core_model.specs.DeskRows.{DeskBegins, DeskServes, at_once, vio_of, is_marked, is_stopped, is_notified}
 use Rattle.core_model.specs.DeviceRows.{DeviceServes, DeviceWorks, IsInside, call_of, journal_bytes}
-use Rattle.core_model.specs.JournalRows.{PhysicalServes, JournalServes, JournalEnds, is_closed, has_block}
+use Rattle.core_model.specs.JournalRows.{PhysicalServes, JournalServes, JournalEnds, is_closed, has_block, has_room}
 use Rattle.core_model.specs.Legal.{Legal}
 use Rattle.core_model.specs.LogicalRows.{LogicalServes, is_among, is_held, first_for, placed, next_for, goes_on, passes_on, with_slot}
 use Rattle.core_model.specs.Steps as steps
@@ -108,24 +108,22 @@ module _ (s : Session) (session : IsSession s) (t : Trace) where
   enters : (j : JournalZone) (v : Vio) → v.phase ≡ phase.Enter → HasAct s.sizes (at.Journal j) (item.Request v ∷ [])
   enters j v is = elim (cases_Bool (is_closed j)) [
     | inl closed ↦ (_, _, _, steps.enters (JournalServes.is_stopped is closed refl refl refl))
-    | inr opened ↦ elim (cases_Bool j.busy) [
-      | inl busy ↦ (_, _, _, steps.enters (JournalServes.waits is opened busy refl refl refl))
-      | inr idle ↦ elim (cases_Bool (has_block s.sizes j)) [
-        | inl block ↦ (_, _, _, steps.enters (JournalServes.enters is opened idle block refl refl refl))
-        | inr none ↦ (_, _, _, steps.enters (JournalServes.is_full is opened idle none refl refl refl))
+    | inr opened ↦ elim (cases_Bool (has_block s.sizes j)) [
+      | inr none ↦ (_, _, _, steps.enters (JournalServes.is_full is opened none refl refl refl))
+      | inl block ↦ elim (cases_Bool (has_room j)) [
+        | inr full ↦ (_, _, _, steps.enters (JournalServes.waits is opened block full refl refl refl))
+        | inl room ↦ elim (cases_Bool j.busy) [
+          | inl busy ↦ (_, _, _, steps.enters (JournalServes.enters is opened block room busy refl refl refl))
+          | inr idle ↦ (_, _, _, steps.enters (JournalServes.enters_first is opened block room idle refl refl refl))
+        ]
       ]
     ]
   ]
 
-  commits : (j : JournalZone) (b : SealedBlock) (waiting : List Vio) → j.waiting ≡ waiting → b.stage ≡ stage.Commit → HasAct s.sizes (at.Journal j) (item.Block b ∷ [])
-  commits j b waiting are is = elim (cases_Bool (has_block s.sizes j)) [
-    | inl block ↦ next waiting are block
-    | inr none ↦ (_, _, _, steps.ends (JournalEnds.commits_last is none refl refl refl))
-  ]
-    where
-      next : (waiting : List Vio) → j.waiting ≡ waiting → has_block s.sizes j ≡ true → HasAct s.sizes (at.Journal j) (item.Block b ∷ [])
-      next [] none block = (_, _, _, steps.ends (JournalEnds.commits_alone is none block refl refl refl))
-      next (w ∷ ws) some block = (_, _, _, steps.ends (JournalEnds.commits_next w ws is some block refl refl refl))
+  commits : (j : JournalZone) (b : SealedBlock) (vios filling : List Vio) → b.vios ≡ vios → j.filling ≡ filling → b.stage ≡ stage.Commit → HasAct s.sizes (at.Journal j) (item.Block b ∷ [])
+  commits j b (v ∷ vs) filling are fills is = (_, _, _, steps.ends (JournalEnds.commits v vs is are refl refl refl))
+  commits j b [] [] are fills is = (_, _, _, steps.ends (JournalEnds.rests is are fills refl refl refl))
+  commits j b [] (v ∷ vs) are fills is = (_, _, _, steps.ends (JournalEnds.seals v vs is are fills refl refl refl))
 
   -- the device
   stores : (d : DeviceZone) (v : Vio) (x : Pbn) → v.phase ≡ phase.Store → v.new ≡ At x → IsInside s.sizes x → HasAct s.sizes (at.Device d) (item.Request v ∷ [])
@@ -154,16 +152,22 @@ module _ (s : Session) (session : IsSession s) (t : Trace) where
     abbrev slot : Pbn
     slot = record { 0 = block_of_slot (journal_slot_of s.sizes.geometry b.sequence) }
 
-    works : (made unmade : Call) → call_of s.sizes b slot true b.stage ≡ Some made → call_of s.sizes b slot false b.stage ≡ Some unmade → HasAct s.sizes (at.Device d) (item.Block b ∷ [])
-    works made unmade does fails = elim (cases_Bool d.stopped) [
-      | inl stopped ↦ (_, _, _, steps.works (DeviceWorks.unmade unmade slot fails stopped refl refl refl))
-      | inr goes ↦ (_, _, _, steps.works (DeviceWorks.makes made slot refl does goes refl refl refl))
+    works : (made unmade : Call) (vios : List Vio) → b.vios ≡ vios → 0 < length vios → call_of s.sizes b slot true b.stage ≡ Some made → call_of s.sizes b slot false b.stage ≡ Some unmade
+        → HasAct s.sizes (at.Device d) (item.Block b ∷ [])
+    works made unmade [] are some does fails = absurd (omega (arith, some))
+    works made unmade (v ∷ vs) are some does fails = elim (cases_Bool d.stopped) [
+      | inl stopped ↦ (_, _, _, steps.works (DeviceWorks.unmade unmade slot v vs are fails stopped refl refl refl))
+      | inr goes ↦ (_, _, _, steps.works (DeviceWorks.makes made slot v vs are refl does goes refl refl refl))
     ]
 
-    writes_block : b.stage ≡ stage.Write → HasAct s.sizes (at.Device d) (item.Block b ∷ [])
-    writes_block is =
+    flushes_block : (stage_is : Stage) → b.stage ≡ stage_is → call_of s.sizes b slot true stage_is ≡ Some (call.Flush true) → call_of s.sizes b slot false stage_is ≡ Some (call.Flush false) → 0 < length b.vios
+        → HasAct s.sizes (at.Device d) (item.Block b ∷ [])
+    flushes_block q is does fails some = works (call.Flush true) (call.Flush false) b.vios refl some (ap (call_of s.sizes b slot true) is ∙ does) (ap (call_of s.sizes b slot false) is ∙ fails)
+
+    writes_block : b.stage ≡ stage.Write → 0 < length b.vios → HasAct s.sizes (at.Device d) (item.Block b ∷ [])
+    writes_block is some =
         let bytes = journal_bytes s.sizes b in
-        works (call.Write slot bytes true) (call.Write slot bytes false) (ap (call_of s.sizes b slot true) is) (ap (call_of s.sizes b slot false) is)
+        works (call.Write slot bytes true) (call.Write slot bytes false) b.vios refl some (ap (call_of s.sizes b slot true) is) (ap (call_of s.sizes b slot false) is)
 
   -- The zone of this number, with the item in front of its inbox.
   module _ (n : ℕ) (d : ZoneData) (own : DataOk s t n d) (there : n < zone_count s.sizes) where
@@ -215,12 +219,12 @@ module _ (s : Session) (session : IsSession s) (t : Trace) where
     by_phase v other is ok carries to = absurd (omega (arith, to, there))
 
     -- a sealed block, by its stage
-    by_stage : (b : SealedBlock) (q : Stage) → b.stage ≡ q → n ≡ zone_of_stage s.sizes q → Has (item.Block b)
-    by_stage b stage.Cover is to = in_device _ to (λ dev. works dev b (call.Flush true) (call.Flush false) (ap (call_of s.sizes b (slot dev b) true) is) (ap (call_of s.sizes b (slot dev b) false) is))
-    by_stage b stage.Write is to = in_device _ to (λ dev. writes_block dev b is)
-    by_stage b stage.Harden is to = in_device _ to (λ dev. works dev b (call.Flush true) (call.Flush false) (ap (call_of s.sizes b (slot dev b) true) is) (ap (call_of s.sizes b (slot dev b) false) is))
-    by_stage b stage.Commit is to = in_journal _ to (λ j. commits j b j.waiting refl is)
-    by_stage b stage.Fail is to = in_journal _ to (λ j. (_, _, _, steps.ends (JournalEnds.fails is refl refl refl)))
+    by_stage : (b : SealedBlock) (q : Stage) → b.stage ≡ q → StandsAt s t b.vios b.sequence q → n ≡ zone_of_stage s.sizes q → Has (item.Block b)
+    by_stage b stage.Cover is stands to = in_device _ to (λ dev. flushes_block dev b stage.Cover is refl refl stands.0.some)
+    by_stage b stage.Write is stands to = in_device _ to (λ dev. writes_block dev b is stands.0.some)
+    by_stage b stage.Harden is stands to = in_device _ to (λ dev. flushes_block dev b stage.Harden is refl refl stands.0.some)
+    by_stage b stage.Commit is stands to = in_journal _ to (λ j. commits j b b.vios j.filling refl refl is)
+    by_stage b stage.Fail is stands to = in_journal _ to (λ j. (_, _, _, steps.ends (JournalEnds.fails is refl refl refl)))
 
     -- a stop notice, by the kind of zone
     by_kind : (k : ZoneData) → DataOk s t n k → n ≤ notified_zones s.sizes → HasAct s.sizes k (item.StopNotice ∷ [])
@@ -232,7 +236,7 @@ module _ (s : Session) (session : IsSession s) (t : Trace) where
 
     item_rule : (it : Item) → ItemOk s t n it → Has it
     item_rule (item.Request v) ok = by_phase v v.phase refl ok.0 ok.1 ok.2
-    item_rule (item.Block b) ok = by_stage b b.stage refl ok.1
+    item_rule (item.Block b) ok = by_stage b b.stage refl ok.0.1 ok.1
     item_rule item.StopNotice ok = by_kind d own ok.1
 
 module _ (s : Session) (session : IsSession s) (core : Core) (legal : Legal s core) (n : ℕ) (z : Zone) (had : slice_get core.zones n ≡ Some z) where

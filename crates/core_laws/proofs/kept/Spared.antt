@@ -1,6 +1,6 @@
 -- Facts on the trace stay where the next happening is about something else.
 use Rattle.std.proofs.Common.{◌≡◌, ◌≢◌, ℕ, ◌+◌, ◌<◌, ◌==◌, Bool, true, false, not, ◌&&◌, ◌||◌, if◌then◌else◌, Option, None, Some, List, [], ◌∷◌, refl, ap, sym, ◌∙◌, inl, inr, arith}
-use Rattle.core_laws.proofs.Common.{Aborts, AllBelow, Calls, Commits, DeskLine, Draws, Enters, Entry, Fails, Flushes, FlushMark, Gives, Happening, HasBelow, HasHonestReads, IsCommitted, HasFullJournal, IsFull, IsOpen, Logged, Quiet, Says, Session, Sets, Takes, Trace, Writer, aborted, begun, committed, done, entered, entries_of, eqb_tells, gift_of, gifts, has_read_fault, has_stopped, is_read, lines, logged_of, moments, newest, of_address, place_of, places, same_writer, value_at}
+use Rattle.core_laws.proofs.Common.{Aborts, AllBelow, Calls, Commits, DeskLine, Draws, Enters, Entry, Fails, Flushes, FlushMark, Gives, Happening, HasBelow, HasHonestReads, IsCommitted, HasFullJournal, IsFull, IsOpen, IsPending, Logged, Quiet, Says, Seals, Session, Sets, Takes, Trace, Writer, aborted, begun, committed, done, entered, entries_of, eqb_tells, gift_of, gifts, has_read_fault, has_stopped, is_read, lines, logged_of, moments, newest, of_address, place_of, places, same_writer, value_at}
 use Rattle.blk_base.specs.declared.request.Answer.TheVariants as reply
 use Rattle.disk_model.specs.declared.call.Call.TheVariants.{Read}
 use Rattle.image_layout.specs.Window.{mapping_of}
@@ -106,6 +106,12 @@ committed_kept h t e apart q = record {
   last = committed_at h t e.at.0 apart ∙ q.last ∙ ap (λ es. e ∷ es) (sym (done_at h t e.at.0 apart));
 }
 
+pub pending_kept : (h : Happening) (t : Trace) (e : Logged) → SparesAddress h e.at.0 → IsPending t e → IsPending (h ∷ t) e
+pending_kept h t e apart q = record {
+  last = entered_at h t e.at.0 apart ∙ q.last ∙ ap (λ es. e ∷ es) (sym (committed_at h t e.at.0 apart));
+  others = committed_at h t e.at.0 apart ∙ q.others ∙ sym (done_at h t e.at.0 apart);
+}
+
 pub below_kept : (h : Happening) (t : Trace) (a place : ℕ) → SparesAddress h a → AllBelow t a place → AllBelow (h ∷ t) a place
 below_kept (Sets e) t a place apart b = record { writes = ((λ same. absurd (apart same)), b.writes); reads = b.reads }
 below_kept (Gives g) t a place apart b = record { writes = b.writes; reads = ((λ same. absurd (apart same)), b.reads) }
@@ -147,13 +153,13 @@ abort_kept (Aborts e) t a place is = inr is
 abort_kept other t a place is = is
 
 pub journal_full_kept : (s : Session) (h : Happening) (t : Trace) → HasFullJournal s t → HasFullJournal s (h ∷ t)
-journal_full_kept s (Enters e) t full = omega (arith, full)
+journal_full_kept s Seals t full = omega (arith, full)
 journal_full_kept s other t full = full
 
 pub full_kept : (s : Session) (h : Happening) (t : Trace) → IsFull s t → IsFull s (h ∷ t)
-full_kept s (Enters e) t (inl full) = inl (omega (arith, full))
+full_kept s Seals t (inl full) = inl (omega (arith, full))
 full_kept s (Takes w x) t (inr full) = inr (omega (arith, full))
-full_kept s (Enters e) t (inr full) = inr full
+full_kept s Seals t (inr full) = inr full
 full_kept s (Takes w x) t (inl full) = inl full
 full_kept s other t full = full
 

@@ -1,7 +1,6 @@
 -- What stands on the device goes on over each call that misses it.
-use Rattle.std.proofs.Common.{◌≡◌, ◌≢◌, ◌⊎◌, ℕ, ◌+◌, ◌<◌, Bool, true, false, List, [], ◌∷◌, refl, inl, inr, subst, sym, ap, ◌∙◌, arith, length}
-use Rattle.core_laws.proofs.Common.{AllByRecursion, AtRest, Call, Calls, Fails, Happening, HasPending, Logged, MapStands, Mapping, NewStands, OnBlock, OnItsWay, Pbn, ReadsAs, ReadsEntry, Session, Stands, Trace, Writer, committed, entered, entries_of, entry_of, eqb_tells, log}
-use Rattle.blk_base.specs.Regions.{journal_slot_of}
+use Rattle.std.proofs.Common.{◌≡◌, ◌≢◌, ◌⊎◌, ℕ, ◌<◌, Bool, true, false, List, [], ◌∷◌, ◌++◌, refl, inl, inr, subst, sym, ap, ◌∙◌, arith}
+use Rattle.core_laws.proofs.Common.{AllByRecursion, AreAllThere, AtRest, Call, Calls, ComesLast, Enters, Fails, Happening, HasBlocks, Logged, MapStands, Mapping, NewReads, NewStands, OnBlock, OnItsWay, Pbn, ReadsAs, ReadsBlock, Seals, Session, Stands, Trace, Writer, all_of, committed, entered, entries_of, eqb_tells, filled, log, sealed}
 use Rattle.blk_base.specs.declared.place.Mapping.TheVariants.{Unmapped, Zero, At}
 use Rattle.disk_model.specs.Log.{Misses}
 use Rattle.disk_model.specs.declared.call.Call.TheVariants.{Write}
@@ -9,8 +8,8 @@ use Rattle.disk_model.proofs.ImageLaws.{kept, settled-misses}
 use Rattle.image_layout.specs.Window.{mapping_of}
 use Rattle.stop_laws.specs.Journals.{MissesJournal, block_of_slot}
 use Rattle.journal_stops.proofs.StepLaws.{rest_kept, under_way_kept, written_kept}
-use Rattle.core_model.specs.Sessions.{HasBlocks, StandsAsOpened, blocks_of, sealed_with}
-use Rattle.journal_stops.specs.Rings.{IsAtRest}
+use Rattle.core_model.specs.Sessions.{StandsAsOpened, blocks_of, sealed_with}
+use Rattle.journal_stops.specs.Rings.{IsAtRest, IsUnderWay}
 
 -- the happening is no write of the block
 abbrev pub SparesBlock : Happening → ℕ → Type 0
@@ -42,6 +41,11 @@ on_each Zero so p = tt
 -- nor one of a block that the window maps an address to
 abbrev pub SparesMap : Session → Happening → List Logged → Type 0
 SparesMap s h es = ((a : ℕ) (x : Pbn) → mapping_of s.window a ≡ At x → SparesBlock h x.0) × SparesBlocks h es
+
+-- nor one of a block of the first of them, or of the others
+pub spares_parts : (h : Happening) (es older : List Logged) → SparesBlocks h (es ++ older) → SparesBlocks h es × SparesBlocks h older
+spares_parts h [] older apart = (tt, apart)
+spares_parts h (e ∷ es) older apart = let rest = spares_parts h es older apart.1 in ((apart.0, rest.0), rest.1)
 
 -- one that writes no block at all
 pub spares_all : (h : Happening) → ((x : ℕ) → SparesBlock h x) → (es : List Logged) → SparesBlocks h es
@@ -75,6 +79,13 @@ pub journal_spared : (s : Session) {h : Happening} {c : Call} → IsCallOf h c �
 journal_spared s succeeded misses = misses
 journal_spared s failed misses = misses
 
+-- an entry that was handed in is in the block being filled, or in a sealed one
+pub entered_parts : (t : Trace) → entered t ≡ filled t ++ all_of (sealed t)
+entered_parts [] = refl
+entered_parts (Enters e ∷ t) = ap (λ es. e ∷ es) (entered_parts t)
+entered_parts (Seals ∷ t) = entered_parts t
+entered_parts (other ∷ t) = entered_parts t
+
 module _ (s : Session) where
   pub stands_kept : (h : Happening) (t : Trace) (x : ℕ) (bytes : List ℕ) → SparesBlock h x → Stands s t x bytes → Stands s (h ∷ t) x bytes
   stands_kept (Calls c) t x bytes apart k = kept (λ content. content ≡ bytes) s.blocks (log s t) c x apart k
@@ -97,81 +108,96 @@ module _ (s : Session) where
   pub map_kept : (h : Happening) (t : Trace) (es : List Logged) → SparesMap s h es → MapStands s t es → MapStands s (h ∷ t) es
   map_kept h t es spares k = λ a. on_each (mapping_of (entries_of s.window es) a) (λ x to stands. stands_kept h t x.0 _ (mapped_spared h es spares a x to) stands) (k a)
 
-  pub new_kept : (h : Happening) (t : Trace) (e : Logged) → OnBlock (λ x. SparesBlock h x.0) e.new → NewStands s t e → NewStands s (h ∷ t) e
-  new_kept h t e apart k = on_both e.new (λ x to spared stands. stands_kept h t x.0 _ spared stands) apart k
+  pub new_kept : (h : Happening) (t : Trace) (es : List Logged) → SparesBlocks h es → NewStands s t es → NewStands s (h ∷ t) es
+  new_kept h t [] apart k = tt
+  new_kept h t (e ∷ es) apart k = (on_both e.new (λ x to spared stands. stands_kept h t x.0 _ spared stands) apart.0 k.0, new_kept h t es apart.1 k.1)
+
+  pub new_reads_kept : (h : Happening) (t : Trace) (es : List Logged) → SparesBlocks h es → NewReads s t es → NewReads s (h ∷ t) es
+  new_reads_kept h t [] apart k = tt
+  new_reads_kept h t (e ∷ es) apart k = (on_both e.new (λ x to spared reads. reads_kept h t x.0 _ spared reads) apart.0 k.0, new_reads_kept h t es apart.1 k.1)
 
   -- so does each block of the journal, over one that misses the journal
-  opened_kept : (h : Happening) (t : Trace) (es : List Logged) → ((slot : ℕ) → slot < s.sizes.geometry.journal → SparesBlock h (block_of_slot slot)) → StandsAsOpened s t es → StandsAsOpened s (h ∷ t) es
-  opened_kept h t es apart k = record { none = k.none; opening = k.opening; blocks = λ slot below. stands_kept h t (block_of_slot slot) _ (apart slot below) (k.blocks slot below) }
+  opened_kept : (h : Happening) (t : Trace) (blocks : List (List Logged)) → ((slot : ℕ) → slot < s.sizes.geometry.journal → SparesBlock h (block_of_slot slot)) → StandsAsOpened s t blocks → StandsAsOpened s (h ∷ t) blocks
+  opened_kept h t blocks apart k = record { none = k.none; opening = k.opening; same = λ slot below. stands_kept h t (block_of_slot slot) _ (apart slot below) (k.same slot below) }
 
-  blocks_kept : (c : Call) (t : Trace) (h : Happening) (es : List Logged) → MissesJournal s.sizes.geometry c → log s (h ∷ t) ≡ c ∷ log s t
-      → ((slot : ℕ) → slot < s.sizes.geometry.journal → SparesBlock h (block_of_slot slot)) → HasBlocks s t es → HasBlocks s (h ∷ t) es
-  blocks_kept c t h es journal logged apart (inl (opening, rest)) =
-      inl (opening, subst (λ (l : List Call). IsAtRest s.blocks l s.sizes.geometry s.sizes.start (blocks_of s es)) (sym logged) (rest_kept s.blocks (log s t) s.sizes.geometry s.sizes.start (blocks_of s es) c journal rest))
-  blocks_kept c t h es journal logged apart (inr k) = inr (opened_kept h t es apart k)
+  blocks_kept : (c : Call) (t : Trace) (h : Happening) (blocks : List (List Logged)) → MissesJournal s.sizes.geometry c → log s (h ∷ t) ≡ c ∷ log s t
+      → ((slot : ℕ) → slot < s.sizes.geometry.journal → SparesBlock h (block_of_slot slot)) → HasBlocks s t blocks → HasBlocks s (h ∷ t) blocks
+  blocks_kept c t h blocks journal logged apart (inl (opening, rest)) =
+      inl (
+        opening,
+        subst (λ (l : List Call). IsAtRest s.blocks l s.sizes.geometry s.sizes.start (blocks_of s blocks)) (sym logged)
+            (rest_kept s.blocks (log s t) s.sizes.geometry s.sizes.start (blocks_of s blocks) c journal rest),
+      )
+  blocks_kept c t h blocks journal logged apart (inr k) = inr (opened_kept h t blocks apart k)
 
-  pub rests_kept : (h : Happening) (t : Trace) (es : List Logged) → SparesJournal s h → SparesMap s h es → AtRest s t es → AtRest s (h ∷ t) es
-  rests_kept (Calls c) t es journal apart k =
-      (blocks_kept c t (Calls c) es journal refl journal k.0, map_kept (Calls c) t es apart k.1)
-  rests_kept (Fails w c true) t es journal apart k =
-      (blocks_kept c t (Fails w c true) es journal refl journal k.0, map_kept (Fails w c true) t es apart k.1)
-  rests_kept other t es journal apart k = (same_blocks k.0, map_kept other t es apart k.1)
-    where
-      same_blocks : HasBlocks s t es → HasBlocks s (other ∷ t) es
-      same_blocks (inl rest) = inl rest
-      same_blocks (inr as_opened) = inr (record { none = as_opened.none; opening = as_opened.opening; blocks = as_opened.blocks })
+  -- where nothing is in the log, the journal has the same blocks
+  blocks_unlogged : (h : Happening) (t : Trace) (blocks : List (List Logged)) → log s (h ∷ t) ≡ log s t → HasBlocks s t blocks → HasBlocks s (h ∷ t) blocks
+  blocks_unlogged h t blocks same (inl rest) = inl (rest.0, rw same rest.1)
+  blocks_unlogged h t blocks same (inr k) = inr (record { none = k.none; opening = k.opening; same = λ slot below. rw same (k.same slot below) })
+
+  pub rests_kept : (h : Happening) (t : Trace) (blocks : List (List Logged)) → SparesJournal s h → SparesMap s h (all_of blocks) → AtRest s t blocks → AtRest s (h ∷ t) blocks
+  rests_kept (Calls c) t blocks journal apart k = (blocks_kept c t (Calls c) blocks journal refl journal k.0, map_kept (Calls c) t (all_of blocks) apart k.1)
+  rests_kept (Fails w c true) t blocks journal apart k = (blocks_kept c t (Fails w c true) blocks journal refl journal k.0, map_kept (Fails w c true) t (all_of blocks) apart k.1)
+  rests_kept other t blocks journal apart k = (blocks_unlogged other t blocks refl k.0, map_kept other t (all_of blocks) apart k.1)
 
   -- what stands is so still after a call that failed and isn't in the log
-  pub rests_unlogged : (w : Writer) (c : Call) (t : Trace) (es : List Logged) → AtRest s t es → AtRest s (Fails w c false ∷ t) es
-  rests_unlogged w c t es k = (by k.0, k.1)
+  pub rests_unlogged : (w : Writer) (c : Call) (t : Trace) (blocks : List (List Logged)) → AtRest s t blocks → AtRest s (Fails w c false ∷ t) blocks
+  rests_unlogged w c t blocks k = (blocks_unlogged (Fails w c false) t blocks refl k.0, k.1)
+
+  pub way_kept : (h : Happening) (t : Trace) (older : List (List Logged)) (es : List Logged) → SparesJournal s h → SparesMap s h (es ++ all_of older) → OnItsWay s t older es → OnItsWay s (h ∷ t) older es
+  way_kept h t older es journal apart k =
+      let parts = spares_parts h es (all_of older) apart.1 in
+      ((k.0.0, way h journal k.0.1), map_kept h t (all_of older) (apart.0, parts.1) k.1, new_kept h t es parts.0 k.2)
     where
-      by : HasBlocks s t es → HasBlocks s (Fails w c false ∷ t) es
-      by (inl rest) = inl rest
-      by (inr as_opened) = inr (record { none = as_opened.none; opening = as_opened.opening; blocks = as_opened.blocks })
+      way : (h : Happening) → SparesJournal s h → IsUnderWay s.blocks (log s t) s.sizes.geometry s.sizes.start (blocks_of s older) (sealed_with s es)
+          → IsUnderWay s.blocks (log s (h ∷ t)) s.sizes.geometry s.sizes.start (blocks_of s older) (sealed_with s es)
+      way (Calls c) misses under = under_way_kept s.blocks (log s t) s.sizes.geometry s.sizes.start (blocks_of s older) (sealed_with s es) c misses under
+      way (Fails w c true) misses under = under_way_kept s.blocks (log s t) s.sizes.geometry s.sizes.start (blocks_of s older) (sealed_with s es) c misses under
+      way other misses under = under
 
-  pub way_kept : (h : Happening) (t : Trace) (es : List Logged) (e : Logged) → SparesJournal s h → SparesMap s h (e ∷ es) → OnItsWay s t es e → OnItsWay s (h ∷ t) es e
-  way_kept (Calls c) t es e journal apart k =
-      ((k.0.0, under_way_kept s.blocks (log s t) s.sizes.geometry s.sizes.start (blocks_of s es) (sealed_with s e) c journal k.0.1), map_kept (Calls c) t es (apart.0, apart.1.1) k.1, new_kept (Calls c) t e apart.1.0 k.2)
-  way_kept (Fails w c true) t es e journal apart k =
-      ((k.0.0, under_way_kept s.blocks (log s t) s.sizes.geometry s.sizes.start (blocks_of s es) (sealed_with s e) c journal k.0.1), map_kept (Fails w c true) t es (apart.0, apart.1.1) k.1, new_kept (Fails w c true) t e apart.1.0 k.2)
-  way_kept other t es e journal apart k = (k.0, map_kept other t es (apart.0, apart.1.1) k.1, new_kept other t e apart.1.0 k.2)
+  -- with more entries, the map stands where what these map their addresses to does
+  pub map_more : (t : Trace) (es : List Logged) (older : List Logged) → MapStands s t older → NewStands s t es → MapStands s t (es ++ older)
+  map_more t [] older k new = k
+  map_more t (e ∷ es) older k new = λ a. elim (eqb_tells e.at.0 a) [ inl same ↦ rw same.0 new.0 | inr other ↦ rw other.0 (map_more t es older k new.1 a) ]
 
-  -- with one more entry, the map stands where what this one maps its address to does
-  pub map_more : (t : Trace) (es : List Logged) (e : Logged) → MapStands s t es → NewStands s t e → MapStands s t (e ∷ es)
-  map_more t es e k new = λ a. elim (eqb_tells e.at.0 a) [ inl same ↦ rw same.0 new | inr other ↦ rw other.0 (k a) ]
+  -- the slot of the block, over a call that misses the journal
+  block_missed : (c : Call) (t : Trace) (older : List (List Logged)) (es : List Logged) → MissesJournal s.sizes.geometry c → OnItsWay s t older es → ReadsBlock s t older es → ReadsBlock s (Calls c ∷ t) older es
+  block_missed c t older es journal way k =
+      let ring = way.0.1.is_sealed.ring in written_kept s.blocks (log s t) s.sizes.geometry s.sizes.start (blocks_of s older) (sealed_with s es) c (omega (arith, ring)) journal k
 
-  -- the slot of the entry, over a call that misses the journal
-  entry_missed : (c : Call) (t : Trace) (es : List Logged) (e : Logged) → MissesJournal s.sizes.geometry c → OnItsWay s t es e → ReadsEntry s t es e → ReadsEntry s (Calls c ∷ t) es e
-  entry_missed c t es e journal way k =
-      let ring = way.0.1.is_sealed.ring in written_kept s.blocks (log s t) s.sizes.geometry s.sizes.start (blocks_of s es) (sealed_with s e) c (omega (arith, ring)) journal k
+  pub block_reads_kept : (h : Happening) (t : Trace) (older : List (List Logged)) (es : List Logged) → SparesJournal s h → OnItsWay s t older es → ReadsBlock s t older es → ReadsBlock s (h ∷ t) older es
+  block_reads_kept (Calls c) t older es journal way k = block_missed c t older es journal way k
+  block_reads_kept (Fails w c true) t older es journal way k = block_missed c t older es journal way k
+  block_reads_kept other t older es journal way k = k
 
-  pub entry_reads_kept : (h : Happening) (t : Trace) (es : List Logged) (e : Logged) → SparesJournal s h → OnItsWay s t es e → ReadsEntry s t es e → ReadsEntry s (h ∷ t) es e
-  entry_reads_kept (Calls c) t es e journal way k = entry_missed c t es e journal way k
-  entry_reads_kept (Fails w c true) t es e journal way k = entry_missed c t es e journal way k
-  entry_reads_kept other t es e journal way k = k
-
-  pending_stands : (h : Happening) (t : Trace) (es : List Logged) (e : Logged) → SparesJournal s h → SparesMap s h (e ∷ es)
-      → AtRest s t es ⊎ OnItsWay s t es e ⊎ AtRest s t (e ∷ es) → AtRest s (h ∷ t) es ⊎ OnItsWay s (h ∷ t) es e ⊎ AtRest s (h ∷ t) (e ∷ es)
-  pending_stands h t es e journal apart (inl k) = inl (rests_kept h t es journal (apart.0, apart.1.1) k)
-  pending_stands h t es e journal apart (inr (inl k)) = inr (inl (way_kept h t es e journal apart k))
-  pending_stands h t es e journal apart (inr (inr k)) = inr (inr (rests_kept h t (e ∷ es) journal apart k))
-
-  -- a happening that neither hands in an entry nor commits one
-  pub record SparesEntries (h : Happening) (t : Trace) : Type 0 where
-    pub entered_same : entered (h ∷ t) ≡ entered t
+  -- a happening that neither seals a block nor commits an entry
+  pub record SparesSealed (h : Happening) (t : Trace) : Type 0 where
+    pub sealed_same : sealed (h ∷ t) ≡ sealed t
     pub committed_same : committed (h ∷ t) ≡ committed t
 
   -- a call does neither
-  pub call_entries : (t : Trace) {h : Happening} {c : Call} → IsCallOf h c → SparesEntries h t
-  call_entries t succeeded = record { entered_same = refl; committed_same = refl }
-  call_entries t failed = record { entered_same = refl; committed_same = refl }
+  pub call_sealed : (t : Trace) {h : Happening} {c : Call} → IsCallOf h c → SparesSealed h t
+  call_sealed t succeeded = record { sealed_same = refl; committed_same = refl }
+  call_sealed t failed = record { sealed_same = refl; committed_same = refl }
 
-  pub pending_kept : (h : Happening) (t : Trace) → SparesEntries h t → SparesJournal s h → SparesMap s h (entered t) → HasPending s t → HasPending s (h ∷ t)
-  pending_kept h t same journal apart k =
-      let blocks : SparesMap s h (k.entry ∷ committed t) = subst (λ (es : List Logged). SparesMap s h es) k.is_last apart in
-      record {
-        entry = k.entry;
-        is_last = same.entered_same ∙ k.is_last ∙ ap (λ es. k.entry ∷ es) (sym same.committed_same);
-        stands = subst (λ (es : List Logged). AtRest s (h ∷ t) es ⊎ OnItsWay s (h ∷ t) es k.entry ⊎ AtRest s (h ∷ t) (k.entry ∷ es)) (sym same.committed_same)
-            (pending_stands h t (committed t) k.entry journal blocks k.stands);
-      }
+  -- it spares the entries of the sealed blocks, where it spares all
+  pub sealed_spared : (h : Happening) (t : Trace) → SparesMap s h (entered t) → SparesMap s h (all_of (sealed t))
+  sealed_spared h t apart = (apart.0, (spares_parts h (filled t) (all_of (sealed t)) (subst (SparesBlocks h) (entered_parts t) apart.1)).1)
+
+  all_there_kept : (h : Happening) (t : Trace) → SparesSealed h t → SparesJournal s h → SparesMap s h (all_of (sealed t)) → AreAllThere s t → AreAllThere s (h ∷ t)
+  all_there_kept h t same journal apart k =
+      record { rest = k.rest; all = ap all_of same.sealed_same ∙ k.all ∙ ap (λ es. k.rest ++ es) (sym same.committed_same); stands = rw same.sealed_same (rests_kept h t (sealed t) journal apart k.stands) }
+
+  pub comes_stands : (h : Happening) (t : Trace) (older : List (List Logged)) (es : List Logged) → SparesJournal s h → SparesMap s h (es ++ all_of older)
+      → AtRest s t older ⊎ OnItsWay s t older es → AtRest s (h ∷ t) older ⊎ OnItsWay s (h ∷ t) older es
+  comes_stands h t older es journal apart (inl k) = inl (rests_kept h t older journal (apart.0, (spares_parts h es (all_of older) apart.1).1) k)
+  comes_stands h t older es journal apart (inr k) = inr (way_kept h t older es journal apart k)
+
+  comes_last_kept : (h : Happening) (t : Trace) → SparesSealed h t → SparesJournal s h → SparesMap s h (all_of (sealed t)) → ComesLast s t → ComesLast s (h ∷ t)
+  comes_last_kept h t same journal apart k =
+      let blocks : SparesMap s h (k.block ++ all_of k.older) = subst (λ (all : List (List Logged)). SparesMap s h (all_of all)) k.sealed_is apart in
+      record { block = k.block; older = k.older; sealed_is = same.sealed_same ∙ k.sealed_is; committed_is = same.committed_same ∙ k.committed_is; stands = comes_stands h t k.older k.block journal blocks k.stands }
+
+  pub journal_kept : (h : Happening) (t : Trace) → SparesSealed h t → SparesJournal s h → SparesMap s h (all_of (sealed t)) → AreAllThere s t ⊎ ComesLast s t → AreAllThere s (h ∷ t) ⊎ ComesLast s (h ∷ t)
+  journal_kept h t same journal apart (inl k) = inl (all_there_kept h t same journal apart k)
+  journal_kept h t same journal apart (inr k) = inr (comes_last_kept h t same journal apart k)

@@ -1,6 +1,6 @@
 -- Over an act of a legal core: what its zone owes, and everything beside what is served stays as it was.
-use Rattle.std.proofs.Common.{◌≡◌, ◌≢◌, ℕ, true, Some, List, [], ◌∷◌, ◌++◌, slice_get, refl, ap, ◌∙◌, subst, arith}
-use Rattle.core_laws.proofs.Common.{AllByRecursion, DataOk, DeviceZone, IsSession, Item, ItemOk, Logged, LogicalZone, Phase, Post, Session, Trace, Vio, Writer, Zone, ZoneData, arrival, arriving, block_token, claims, desk_zone, entered, every-front, places, total, Pbn}
+use Rattle.std.proofs.Common.{◌≡◌, ℕ, true, Some, List, [], ◌∷◌, ◌++◌, slice_get, refl, ap, ◌∙◌, subst, arith}
+use Rattle.core_laws.proofs.Common.{AllByRecursion, DataOk, DeviceZone, IsSession, Item, ItemOk, LogicalZone, Phase, Post, Session, Trace, Vio, Writer, Zone, ZoneData, arrival, arriving, block_token, claims, desk_zone, entered, every-front, places, total, Pbn}
 use Rattle.core_model.specs.declared.items.Item.TheVariants as item
 use Rattle.core_model.specs.declared.items.Phase.TheVariants as phase
 use Rattle.core_model.specs.declared.zones.ZoneData.TheVariants as at

@@ -99,14 +99,6 @@ pub each_newer : {X : Type 0} (P : X → Type 0) (newer older : List X) → AllB
 each_newer P [] older all = tt
 each_newer P (x ∷ newer) older all = (all.0, each_newer P newer older all.1)
 
--- Those of an address are those of the newer part before those of the older one.
-pub of_address_append : (a : ℕ) (newer older : List Logged) → of_address a (newer ++ older) ≡ of_address a newer ++ of_address a older
-of_address_append a [] older = refl
-of_address_append a (e ∷ newer) older = elim (cases_Bool (e.at.0 == a)) [
-  | inl taken ↦ rw taken (ap (λ (xs : List Logged). e ∷ xs) (of_address_append a newer older))
-  | inr passed ↦ rw passed (of_address_append a newer older)
-]
-
 -- there is an entry of this request
 abbrev pub Has : List Logged → Writer → Type 0
 Has es w = is_there (logged_of es w) ≡ true

@@ -1,6 +1,6 @@
 -- A lock is passed on to the first that waits for it, or released, or never released.
-use Rattle.std.proofs.Common.{◌≡◌, ◌≢◌, ◌⊎◌, ℕ, ◌+◌, ◌<◌, ◌≤◌, ◌==◌, true, false, Option, None, Some, List, [], ◌∷◌, refl, ap, sym, ◌∙◌, subst, inl, inr, arith}
-use Rattle.core_laws.proofs.Common.{AllBelow, AllByRecursion, Asks, DataOk, Gift, HasBelow, HasCause, Holds, IsForBlock, IsPlaced, IsSession, IsToInside, IsWrite, KeptOk, Lba, Logged, LogicalZone, Looks, Mapping, MapsTo, Pbn, Post, Quiet, Request, RightTrace, Session, Trace, Vio, VioOk, WaitsOk, aborted, asked, bytes_of, done, each_both, ended, eqb_tells, every-map, gifts, has_stopped, newest, of_address, request_at, some_is, value_at, value_from, value_written, zone_count, zone_number, zone_of}
+use Rattle.std.proofs.Common.{◌≡◌, ◌≢◌, ℕ, ◌+◌, ◌<◌, ◌≤◌, ◌==◌, true, false, Option, None, Some, List, [], ◌∷◌, refl, ap, sym, ◌∙◌, subst, inl, inr, arith}
+use Rattle.core_laws.proofs.Common.{AllBelow, AllByRecursion, Asks, DataOk, Gift, HasBelow, HasCause, Holds, IsForBlock, IsPlaced, IsSession, IsToInside, KeptOk, Logged, LogicalZone, Looks, Mapping, MapsTo, Pbn, Post, Quiet, Request, RightTrace, Session, Trace, Vio, VioOk, WaitsOk, aborted, asked, done, each_both, ended, eqb_tells, every-map, gifts, has_stopped, newest, of_address, request_at, some_is, value_at, zone_count, zone_number, zone_of}
 use Rattle.blk_base.specs.Sectors.{zero_block}
 use Rattle.blk_base.specs.declared.place.Mapping.TheVariants.{Unmapped, Zero, At}
 use Rattle.blk_base.specs.declared.place.ZoneId.TheVariants as id

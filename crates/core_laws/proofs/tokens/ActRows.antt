@@ -1,15 +1,16 @@
 -- The rows of the table of phases as the tokens see them: what a zone's data was and is, and the items that were there
 -- (the front, and those that are kept) and are there (those that are posted, and those that are kept), by their sum.
-use Rattle.std.proofs.Common.{◌≡◌, ℕ, ◌+◌, ◌*◌, true, false, Option, Some, List, [], ◌∷◌, length, ◌&&◌}
+use Rattle.std.proofs.Common.{◌≡◌, ℕ, ◌+◌, ◌*◌, true, false, Option, Some, List, [], ◌∷◌, length, map, ◌&&◌}
 use Rattle.core_laws.proofs.Common.{Answer, Desk, DeviceZone, FlushMark, Item, JournalZone, Logged, LogicalZone, Mapping, Pbn, Phase, PhysicalZone, SealedBlock, Sizes, Stage, Vio, Writer, ZoneData, bit, claims, ended, has_entry, holds, notified_zones, staged, total, turned, names}
 use Rattle.blk_base.specs.declared.request.Answer.TheVariants as reply
 use Rattle.vdo_model.specs.declared.report.DeskLine.TheVariants as line
 use Rattle.core_model.specs.declared.items.Item.TheVariants.{Request, Block, StopNotice}
 use Rattle.core_model.specs.declared.items.Phase.TheVariants as phase
+use Rattle.core_model.specs.declared.items.Stage.TheVariants as stage
 use Rattle.core_model.specs.declared.zones.ZoneData.TheVariants as at
 use Rattle.core_model.specs.DeskRows.{with_notice}
 use Rattle.core_model.specs.DeviceRows.{counted, halted}
-use Rattle.core_model.specs.JournalRows.{entered_by, committed_by, sealed}
+use Rattle.core_model.specs.JournalRows.{committed_by, entered_by, next_block, sealed_by}
 use Rattle.core_model.specs.LogicalRows.{drawn_by, placed, lock_of, without, all_for, none_for, retire}
 use Rattle.core_laws.proofs.tokens.Known.{Leased}
 use Rattle.blk_base.specs.declared.place.Mapping.TheVariants.{At}
@@ -24,6 +25,13 @@ all_in q vs f = total (λ v. f (Request (turned q v))) vs
 
 abbrev pub all_ended : Phase → Answer → List Vio → Sum
 all_ended q a vs f = total (λ v. f (Request (ended q a v))) vs
+
+-- requests as they are, and those that the journal keeps
+abbrev pub all_there : List Vio → Sum
+all_there vs f = total (λ v. f (Request v)) vs
+
+abbrev pub kept_of : JournalZone → Sum
+kept_of j f = all_there j.filling f + all_there j.waiting f
 
 -- how a request goes on that has the lock of its address
 pub record Onward : Type 0 where
@@ -83,24 +91,28 @@ pub data Row (sizes : Sizes) : ZoneData → ZoneData → Sum → Sum → Type 0 
   aborts_entered_claim : (p : PhysicalZone) (v : Vio) → Row sizes (at.Physical p) (at.Physical p) (λ f. f (Request (turned phase.AbortEnteredClaim v))) (λ f. f (Request (turned phase.AbortEntered v)))
   tells_physical : (p : PhysicalZone) → Row sizes (at.Physical p) (at.Physical (record p { notified = true })) (λ f. f StopNotice) (λ f. f StopNotice)
   -- the journal
-  refuses : (j : JournalZone) (v : Vio) (a : Answer)
-      → Row sizes (at.Journal j) (at.Journal j) (λ f. f (Request (turned phase.Enter v)) + all_in phase.Enter j.waiting f) (λ f. f (Request (ended phase.AbortClaim a v)) + all_in phase.Enter j.waiting f)
+  refuses : (j : JournalZone) (v : Vio) (a : Answer) → Row sizes (at.Journal j) (at.Journal j) (λ f. f (Request (turned phase.Enter v)) + kept_of j f) (λ f. f (Request (ended phase.AbortClaim a v)) + kept_of j f)
   waits : (j : JournalZone) (v : Vio) (waiting : List Vio)
-      → Row sizes (at.Journal j) (at.Journal (record j { waiting = waiting })) (λ f. f (Request (turned phase.Enter v)) + all_in phase.Enter j.waiting f) (λ f. f (Request (turned phase.Enter v)) + all_in phase.Enter j.waiting f)
+      → Row sizes (at.Journal j) (at.Journal (record j { waiting = waiting })) (λ f. f (Request (turned phase.Enter v)) + kept_of j f) (λ f. f (Request (turned phase.Enter v)) + kept_of j f)
   enters : (j : JournalZone) (v : Vio)
-      → Row sizes (at.Journal (record j { busy = false })) (at.Journal (entered_by v j)) (λ f. f (Request (turned phase.Enter v)) + all_in phase.Enter j.waiting f) (λ f. f (Block (sealed sizes j (turned phase.Enter v))) + all_in phase.Enter j.waiting f)
-  commits : (j : JournalZone) (b : SealedBlock) (v : Vio) (a : Answer)
-      → Row sizes (at.Journal (record j { busy = true })) (at.Journal (record (committed_by v j) { waiting = [] })) (λ f. f (Block (record b { vio = turned phase.Enter v })) + all_in phase.Enter j.waiting f)
-      (λ f. f (Request (turned phase.Settle v)) + all_ended phase.AbortClaim a j.waiting f)
-  commits_next : (j : JournalZone) (b : SealedBlock) (v w : Vio) (ws : List Vio)
-      → Row sizes (at.Journal (record j { busy = true })) (at.Journal (entered_by w (record (committed_by v j) { waiting = ws })))
-      (λ f. f (Block (record b { vio = turned phase.Enter v })) + (f (Request (turned phase.Enter w)) + all_in phase.Enter ws f))
-      (λ f. f (Request (turned phase.Settle v)) + (f (Block (sealed sizes j (turned phase.Enter w))) + all_in phase.Enter ws f))
-  fails : (j : JournalZone) (b : SealedBlock) (v : Vio)
-      → Row sizes (at.Journal (record j { busy = true })) (at.Journal (record j { busy = false; broken = true; waiting = [] })) (λ f. f (Block (record b { vio = turned phase.Enter v })) + all_in phase.Enter j.waiting f)
-      (λ f. f (Request (ended phase.AbortEnteredClaim reply.Stopped v)) + all_ended phase.AbortClaim reply.Stopped j.waiting f)
+      → Row sizes (at.Journal j) (at.Journal (entered_by v j)) (λ f. f (Request (turned phase.Enter v)) + kept_of j f) (λ f. f (Request (turned phase.Pending v)) + kept_of j f)
+  enters_first : (j : JournalZone) (v : Vio)
+      → Row sizes (at.Journal (record j { busy = false })) (at.Journal (record (entered_by v j) { busy = true })) (λ f. f (Request (turned phase.Enter v)) + kept_of j f)
+      (λ f. f (Request (turned phase.Pending v)) + (f (Block (next_block sizes j stage.Commit [])) + kept_of j f))
+  commits : (j : JournalZone) (b : SealedBlock) (v : Vio) (vs : List Vio)
+      → Row sizes (at.Journal j) (at.Journal (committed_by v j)) (λ f. f (Block (record b { vios = turned phase.Pending v ∷ vs })) + kept_of j f)
+      (λ f. f (Request (turned phase.Settle v)) + (f (Block (record b { vios = vs })) + kept_of j f))
+  seals : (j : JournalZone) (b : SealedBlock)
+      → Row sizes (at.Journal j) (at.Journal (sealed_by j)) (λ f. f (Block (record b { vios = [] })) + kept_of j f) (λ f. f (Block (next_block sizes j stage.Cover j.filling)) + all_there j.waiting f)
+  rests : (j : JournalZone) (b : SealedBlock)
+      → Row sizes (at.Journal (record j { busy = true })) (at.Journal (record j { busy = false; waiting = [] })) (λ f. f (Block (record b { vios = [] })) + kept_of j f) (kept_of j)
+  fails : (j : JournalZone) (b : SealedBlock)
+      → Row sizes (at.Journal (record j { busy = true })) (at.Journal (record j { busy = false; broken = true; filling = []; waiting = [] }))
+      (λ f. f (Block (record b { vios = map (turned phase.Pending) b.vios })) + (all_in phase.Pending j.filling f + all_in phase.Enter j.waiting f))
+      (λ f. all_ended phase.AbortEnteredClaim reply.Stopped b.vios f + (all_ended phase.AbortEnteredClaim reply.Stopped j.filling f + all_ended phase.AbortClaim reply.Stopped j.waiting f))
   tells_journal : (j : JournalZone)
-      → Row sizes (at.Journal j) (at.Journal (record j { notified = true; waiting = [] })) (λ f. f StopNotice + all_in phase.Enter j.waiting f) (λ f. f StopNotice + all_ended phase.AbortClaim reply.Stopped j.waiting f)
+      → Row sizes (at.Journal j) (at.Journal (record j { notified = true; waiting = [] })) (λ f. f StopNotice + (all_there j.filling f + all_in phase.Enter j.waiting f))
+      (λ f. f StopNotice + (all_there j.filling f + all_ended phase.AbortClaim reply.Stopped j.waiting f))
   -- the device
   stores : (d : DeviceZone) (v : Vio) → Row sizes (at.Device d) (at.Device (counted d)) (λ f. f (Request (turned phase.Store v))) (λ f. f (Request (turned phase.Enter v)))
   store_fails : (d : DeviceZone) (v : Vio)

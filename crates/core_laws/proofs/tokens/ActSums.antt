@@ -1,6 +1,6 @@
 -- Each act is one of the rows that the tokens see.
-use Rattle.std.proofs.Common.{◌≡◌, ℕ, suc, ◌+◌, ◌*◌, true, false, Option, None, Some, List, [], ◌∷◌, ◌++◌, length, refl, ap, ◌∙◌, subst, inl, inr, arith, ◌&&◌}
-use Rattle.core_laws.proofs.Common.{AllByRecursion, Answer, Desk, DeviceZone, Item, JournalZone, Logged, LogicalZone, Mapping, Pbn, Phase, PhysicalZone, Post, SealedBlock, Sizes, Trace, Vio, ZoneData, ZoneId, as_items, claims, eqb_tells, every-map, has_entry, holds, notified, notified_zones, queued, same_Some, total, turned, names}
+use Rattle.std.proofs.Common.{◌≡◌, ℕ, suc, ◌+◌, ◌*◌, true, false, Option, None, Some, List, [], ◌∷◌, ◌++◌, length, map, refl, ap, ◌∙◌, subst, inl, inr, arith, ◌&&◌}
+use Rattle.core_laws.proofs.Common.{AllByRecursion, Answer, Desk, DeviceZone, Item, JournalZone, Logged, LogicalZone, Mapping, Phase, PhysicalZone, Post, SealedBlock, Sizes, Trace, Vio, ZoneData, ZoneId, as_items, claims, eqb_tells, every-map, has_entry, holds, notified, notified_zones, queued, same_Some, total, turned, names}
 use Rattle.blk_base.specs.Sectors.{zero_block}
 use Rattle.blk_base.specs.declared.place.Mapping.TheVariants.{Unmapped, Zero, At}
 use Rattle.blk_base.specs.declared.place.ZoneId.TheVariants as id
@@ -14,7 +14,7 @@ use Rattle.core_model.specs.DeskRows.{DeskBegins, DeskServes, woken}
 use Rattle.core_model.specs.DeviceRows as device
 use Rattle.core_model.specs.DeviceRows.{DeviceServes, DeviceWorks, halted, stop_notices}
 use Rattle.core_model.specs.JournalRows as journal
-use Rattle.core_model.specs.JournalRows.{PhysicalServes, JournalServes, JournalEnds, all_refused, sealed, committed_by, hands_out}
+use Rattle.core_model.specs.JournalRows.{PhysicalServes, JournalServes, JournalEnds, all_again, all_dropped, all_refused}
 use Rattle.core_model.specs.LogicalRows as logical
 use Rattle.core_model.specs.LogicalRows.{LogicalServes, placed, with_slot, first_for, but_first_for, all_for, none_for, looked, read_next, latest_at, mapping_at, goes_on, passed_to, passes_on, all_stopped}
 use Rattle.core_model.specs.Steps as steps
@@ -22,7 +22,7 @@ use Rattle.core_model.specs.Steps.{Act}
 use Rattle.core_laws.proofs.lists.CoreLists.{every_but_first, every_none_for}
 use Rattle.core_laws.proofs.lists.ZoneNames.{notified_count}
 use Rattle.core_laws.proofs.tokens.ActRows as row
-use Rattle.core_laws.proofs.tokens.ActRows.{Row, Sum, all_in, all_ended, Onward, onward, replied, IsSetBy}
+use Rattle.core_laws.proofs.tokens.ActRows.{Row, Sum, all_in, all_ended, all_there, Onward, onward, replied, IsSetBy}
 use Rattle.core_laws.proofs.tokens.Known.{Known, IsIn, KeptIn, Leased}
 use Rattle.core_laws.proofs.tokens.Posts.{begun_request, begun_phase, goes_by, IsGranted, nobody, somebody, is_granted}
 
@@ -179,46 +179,85 @@ module _ (sizes : Sizes) where
   physical_row old v new made posts (journal.aborts_claim p n m q) = rw (n, q) (is_row (row.aborts_claim old v) (λ f. omega (arith, in_phase f v phase.AbortClaim p)) (λ f. omega arith))
   physical_row old v new made posts (journal.aborts_entered_claim p n m q) = rw (n, q) (is_row (row.aborts_entered_claim old v) (λ f. omega (arith, in_phase f v phase.AbortEnteredClaim p)) (λ f. omega arith))
 
-  -- the journal
-  journal_row : (old : JournalZone) (v : Vio) (new : JournalZone) (made : Trace) (posts : List Post) → KeptIn (at.Journal old) → JournalServes sizes old v new made posts → IsRow sizes (at.Journal old) (Request v ∷ []) (at.Journal new) posts
-  journal_row old v new made posts kept (journal.is_stopped p closed n m q) =
-      rw (n, q) (is_row (row.refuses old v reply.Stopped) (λ f. omega (arith, in_phase f v phase.Enter p, all_are f phase.Enter old.waiting kept)) (λ f. omega (arith, all_are f phase.Enter old.waiting kept)))
-  journal_row old v new made posts kept (journal.waits p closed busy n m q) =
-      rw (n, q) (is_row (row.waits old v (old.waiting ++ v ∷ [])) (λ f. omega (arith, in_phase f v phase.Enter p, all_are f phase.Enter old.waiting kept))
-      (λ f. omega (arith, in_phase f v phase.Enter p, items_more f old.waiting v, all_are f phase.Enter old.waiting kept)))
-  journal_row old v new made posts kept (journal.is_full p closed busy has n m q) =
-      rw (n, q) (is_row (row.refuses old v reply.Full) (λ f. omega (arith, in_phase f v phase.Enter p, all_are f phase.Enter old.waiting kept)) (λ f. omega (arith, all_are f phase.Enter old.waiting kept)))
-  journal_row old v new made posts kept (journal.enters p closed busy has n m q) =
-      let is : record old { busy = false } ≡ old = rw (← busy) refl in
+  -- the journal: what it keeps
+  there_sum : (f : Item → ℕ) (vs ws : List Vio) → total f (as_items (vs ++ ws)) ≡ all_there vs f + all_there ws f
+  there_sum f [] [] = refl
+  there_sum f [] (w ∷ ws) = omega (arith, there_sum f [] ws)
+  there_sum f (v ∷ vs) ws = omega (arith, there_sum f vs ws)
+
+  there_more : (f : Item → ℕ) (vs : List Vio) (v : Vio) → all_there (vs ++ v ∷ []) f ≡ f (Request v) + all_there vs f
+  there_more f [] v = refl
+  there_more f (u ∷ vs) v = omega (arith, there_more f vs v)
+
+  there_in : (f : Item → ℕ) (q : Phase) (vs : List Vio) → AllByRecursion (IsIn q) vs → all_there vs f ≡ all_in q vs f
+  there_in f q [] all = refl
+  there_in f q (v ∷ vs) all = omega (arith, in_phase f v q all.0, there_in f q vs all.1)
+
+  again_sum : (f : Item → ℕ) (vs : List Vio) → posts_sum (all_again vs) f ≡ all_there vs f
+  again_sum f [] = refl
+  again_sum f (v ∷ vs) = omega (arith, again_sum f vs)
+
+  dropped_sum : (f : Item → ℕ) (vs : List Vio) → posts_sum (all_dropped vs) f ≡ all_ended phase.AbortEnteredClaim reply.Stopped vs f
+  dropped_sum f [] = refl
+  dropped_sum f (v ∷ vs) = omega (arith, dropped_sum f vs)
+
+  sum_append : (f : Item → ℕ) (ps qs : List Post) → posts_sum (ps ++ qs) f ≡ posts_sum ps f + posts_sum qs f
+  sum_append f [] qs = omega arith
+  sum_append f (p ∷ ps) qs = omega (arith, sum_append f ps qs)
+
+  journal_row : (old : JournalZone) (v : Vio) (new : JournalZone) (made : Trace) (posts : List Post) → JournalServes sizes old v new made posts → IsRow sizes (at.Journal old) (Request v ∷ []) (at.Journal new) posts
+  journal_row old v new made posts (journal.is_stopped p closed n m q) =
+      rw (n, q) (is_row (row.refuses old v reply.Stopped) (λ f. omega (arith, in_phase f v phase.Enter p, there_sum f old.filling old.waiting)) (λ f. omega (arith, there_sum f old.filling old.waiting)))
+  journal_row old v new made posts (journal.is_full p closed none n m q) =
+      rw (n, q) (is_row (row.refuses old v reply.Full) (λ f. omega (arith, in_phase f v phase.Enter p, there_sum f old.filling old.waiting)) (λ f. omega (arith, there_sum f old.filling old.waiting)))
+  journal_row old v new made posts (journal.waits p closed block none n m q) =
+      rw (n, q) (is_row (row.waits old v (old.waiting ++ v ∷ [])) (λ f. omega (arith, in_phase f v phase.Enter p, there_sum f old.filling old.waiting))
+      (λ f. omega (arith, in_phase f v phase.Enter p, there_more f old.waiting v, there_sum f old.filling (old.waiting ++ v ∷ []))))
+  journal_row old v new made posts (journal.enters p closed block room busy n m q) =
+      rw (n, q) (is_row (row.enters old v) (λ f. omega (arith, in_phase f v phase.Enter p, there_sum f old.filling old.waiting))
+      (λ f. omega (arith, there_more f old.filling (turned phase.Pending v), there_sum f (old.filling ++ turned phase.Pending v ∷ []) old.waiting)))
+  journal_row old v new made posts (journal.enters_first p closed block room idle n m q) =
+      let is : record old { busy = false } ≡ old = rw (← idle) refl in
       subst (λ (o : JournalZone). IsRow sizes (at.Journal o) (Request v ∷ []) (at.Journal new) posts) is
-      (rw (n, q) (is_row (row.enters old v) (λ f. omega (arith, in_phase f v phase.Enter p, all_are f phase.Enter old.waiting kept))
-      (λ f. omega (arith, ap (λ (u : Vio). f (Block (sealed sizes old u))) (turned_is v phase.Enter p), all_are f phase.Enter old.waiting kept))))
+      (rw (n, q) (is_row (row.enters_first old v) (λ f. omega (arith, in_phase f v phase.Enter p, there_sum f old.filling old.waiting))
+      (λ f. omega (arith, there_more f old.filling (turned phase.Pending v), there_sum f (old.filling ++ turned phase.Pending v ∷ []) old.waiting))))
 
-  -- a sealed block with the request of its entry in its phase
-  block_in : (f : Item → ℕ) (b : SealedBlock) → b.vio.phase ≡ phase.Enter → f (Block b) ≡ f (Block (record b { vio = turned phase.Enter b.vio }))
-  block_in f b p = ap (λ (u : Vio). f (Block (record b { vio = u }))) (turned_is b.vio phase.Enter p)
+  -- a block by its requests, which are in their phase
+  block_with : (f : Item → ℕ) (b : SealedBlock) (vs : List Vio) → b.vios ≡ vs → f (Block b) ≡ f (Block (record b { vios = vs }))
+  block_with f b vs is = rw (← is) refl
 
-  module _ (old : JournalZone) (b : SealedBlock) (kept : KeptIn (at.Journal old)) (p : b.vio.phase ≡ phase.Enter) where
-    ends_busy : (new : JournalZone) (made : Trace) (posts : List Post) → JournalEnds sizes old b new made posts → IsRow sizes (at.Journal (record old { busy = true })) (Block b ∷ []) (at.Journal new) posts
-    ends_busy new made posts (journal.commits_next w ws is waits has n m q) =
-        let waiting = subst (λ vs. AllByRecursion (IsIn phase.Enter) vs) waits kept in
-        rw (n, q) (is_row (row.commits_next old b b.vio w ws)
-        (λ f. omega (arith, block_in f b p, ap (λ vs. total f (as_items vs)) waits, in_phase f w phase.Enter waiting.0, all_are f phase.Enter ws waiting.1))
-        (λ f. omega (arith, ap (λ (u : Vio). f (Block (sealed sizes old u))) (turned_is w phase.Enter waiting.0), all_are f phase.Enter ws waiting.1)))
-    ends_busy new made posts (journal.commits_alone is none has n m q) =
-        let alone : (f : Item → ℕ) → all_ended phase.AbortClaim reply.Full old.waiting f ≡ 0 = λ f. ap (λ vs. all_ended phase.AbortClaim reply.Full vs f) none in
-        let empty : record (committed_by b.vio old) { waiting = [] } ≡ committed_by b.vio old = rw (← none) refl in
-        rw (n, q) (subst (λ (j : JournalZone). IsRow sizes (at.Journal (record old { busy = true })) (Block b ∷ []) (at.Journal j) (hands_out b.vio ∷ [])) empty
-        (is_row (row.commits old b b.vio reply.Full) (λ f. omega (arith, block_in f b p, all_are f phase.Enter old.waiting kept)) (λ f. omega (arith, alone f))))
-    ends_busy new made posts (journal.commits_last is has n m q) =
-        rw (n, q) (is_row (row.commits old b b.vio reply.Full) (λ f. omega (arith, block_in f b p, all_are f phase.Enter old.waiting kept)) (λ f. omega (arith, refused_sum f reply.Full old.waiting)))
-    ends_busy new made posts (journal.fails is n m q) =
-        rw (n, q) (is_row (row.fails old b b.vio) (λ f. omega (arith, block_in f b p, all_are f phase.Enter old.waiting kept)) (λ f. omega (arith, refused_sum f reply.Stopped old.waiting)))
+  all_turned : (q : Phase) (vs : List Vio) → AllByRecursion (IsIn q) vs → vs ≡ map (turned q) vs
+  all_turned q [] all = refl
+  all_turned q (v ∷ vs) all = ap (λ (u : Vio). u ∷ vs) (turned_is v q all.0) ∙ ap (λ (us : List Vio). turned q v ∷ us) (all_turned q vs all.1)
 
-    ends_row : (new : JournalZone) (made : Trace) (posts : List Post) → old.busy ≡ true → JournalEnds sizes old b new made posts → IsRow sizes (at.Journal old) (Block b ∷ []) (at.Journal new) posts
-    ends_row new made posts busy act =
-        let is : record old { busy = true } ≡ old = rw (← busy) refl in
-        subst (λ (o : JournalZone). IsRow sizes (at.Journal o) (Block b ∷ []) (at.Journal new) posts) is (ends_busy new made posts act)
+  module _ (old : JournalZone) (b : SealedBlock) (kept : KeptIn (at.Journal old)) (p : AllByRecursion (IsIn phase.Pending) b.vios) (busy : old.busy ≡ true) where
+    busy_is : record old { busy = true } ≡ old
+    busy_is = rw (← busy) refl
+
+    ends_row : (new : JournalZone) (made : Trace) (posts : List Post) → JournalEnds sizes old b new made posts → IsRow sizes (at.Journal old) (Block b ∷ []) (at.Journal new) posts
+    ends_row new made posts (journal.commits v vs is vios n m q) =
+        let pending = (subst (AllByRecursion (IsIn phase.Pending)) vios p).0 in
+        rw (n, q) (is_row (row.commits old b v vs)
+        (λ f. omega (arith, block_with f b (turned phase.Pending v ∷ vs) (vios ∙ ap (λ (u : Vio). u ∷ vs) (turned_is v phase.Pending pending)), there_sum f old.filling old.waiting))
+        (λ f. omega (arith, there_sum f old.filling old.waiting)))
+    ends_row new made posts (journal.seals v vs is vios filling n m q) =
+        rw (n, q) (is_row (row.seals old b) (λ f. omega (arith, block_with f b [] vios, there_sum f old.filling old.waiting))
+        (λ f. omega (arith, ap (λ (us : List Vio). f (Block (journal.next_block sizes old stage.Cover us))) filling, again_sum f old.waiting)))
+    ends_row new made posts (journal.rests is vios filling n m q) =
+        subst (λ (o : JournalZone). IsRow sizes (at.Journal o) (Block b ∷ []) (at.Journal new) posts) busy_is
+        (rw (n, q) (is_row (row.rests old b) (λ f. omega (arith, block_with f b [] vios, there_sum f old.filling old.waiting)) (λ f. omega (arith, there_sum f old.filling [], again_sum f old.waiting))))
+    ends_row new made posts (journal.fails is n m q) =
+        subst (λ (o : JournalZone). IsRow sizes (at.Journal o) (Block b ∷ []) (at.Journal new) posts) busy_is
+        (rw (n, q) (is_row (row.fails old b)
+        (λ f. omega (arith, block_with f b (map (turned phase.Pending) b.vios) (all_turned phase.Pending b.vios p), there_sum f old.filling old.waiting, there_in f phase.Pending old.filling kept.0, there_in f phase.Enter old.waiting kept.1))
+        (λ f. omega (
+          arith,
+          sum_append f (all_dropped b.vios) (all_dropped old.filling ++ all_refused sizes reply.Stopped old.waiting),
+          sum_append f (all_dropped old.filling) (all_refused sizes reply.Stopped old.waiting),
+          dropped_sum f b.vios,
+          dropped_sum f old.filling,
+          refused_sum f reply.Stopped old.waiting,
+        ))))
 
   -- the device, which runs, or goes on as it is
   runs : (old : DeviceZone) (front : List Item) (new : DeviceZone) (posts : List Post) → old.stopped ≡ false
@@ -240,10 +279,10 @@ module _ (sizes : Sizes) where
   device_row old v new made posts (device.flush_unmade p stopped n m q) = rw (n, q) (is_row (row.flush_unmade old v) (λ f. omega (arith, in_phase f v phase.Flush p)) (λ f. omega arith))
 
   work_row : (old : DeviceZone) (b : SealedBlock) (new : DeviceZone) (made : Trace) (posts : List Post) → DeviceWorks sizes old b new made posts → IsRow sizes (at.Device old) (Block b ∷ []) (at.Device new) posts
-  work_row old b new made posts (device.makes call slot place needs going n m q) = rw (n, q) (is_row (row.works old _ b (device.next_stage b.stage)) (λ f. omega arith) (λ f. omega arith))
-  work_row old b new made posts (device.fails call slot known place needs going n m q) =
+  work_row old b new made posts (device.makes call slot v vs first place needs going n m q) = rw (n, q) (is_row (row.works old _ b (device.next_stage b.stage)) (λ f. omega arith) (λ f. omega arith))
+  work_row old b new made posts (device.fails call slot known v vs vios place needs going n m q) =
       rw (n, q) (runs old _ _ _ going (is_row (row.work_fails old b stage.Fail) (λ f. omega arith) (λ f. omega (arith, all_notices f))))
-  work_row old b new made posts (device.unmade call slot needs stopped n m q) = rw (n, q) (is_row (row.works old old.calls b stage.Fail) (λ f. omega arith) (λ f. omega arith))
+  work_row old b new made posts (device.unmade call slot v vs first needs stopped n m q) = rw (n, q) (is_row (row.works old old.calls b stage.Fail) (λ f. omega arith) (λ f. omega arith))
 
   -- each act, of what a legal core knows
   pub act_row : (old : ZoneData) (front : List Item) (new : ZoneData) (made : Trace) (posts : List Post) → Act sizes old front new made posts → Known old front → IsRow sizes old front new posts
@@ -255,9 +294,10 @@ module _ (sizes : Sizes) where
       is_row (row.tells_logical l) (λ f. omega (arith, all_are f phase.Wait l.waiting known.kept)) (λ f. omega (arith, all_are f phase.Wait l.waiting known.kept))
   act_row old front new made posts (steps.takes act) known = physical_row _ _ _ _ _ act
   act_row old front new made posts (steps.takes_notice {old = p}) known = is_row (row.tells_physical p) (λ f. omega arith) (λ f. omega arith)
-  act_row old front new made posts (steps.enters act) known = journal_row _ _ _ _ _ known.kept act
-  act_row old front new made posts (steps.ends {old = j} {b = b} act) known = ends_row j b known.kept (known.sealed b refl) _ _ _ (known.busy b j refl refl) act
+  act_row old front new made posts (steps.enters act) known = journal_row _ _ _ _ _ act
+  act_row old front new made posts (steps.ends {old = j} {b = b} act) known = ends_row j b known.kept (known.sealed b refl) (known.busy b j refl refl) _ _ _ act
   act_row old front new made posts (steps.enters_notice {old = j}) known =
-      is_row (row.tells_journal j) (λ f. omega (arith, all_are f phase.Enter j.waiting known.kept)) (λ f. omega (arith, refused_sum f reply.Stopped j.waiting))
+      is_row (row.tells_journal j) (λ f. omega (arith, there_sum f j.filling j.waiting, there_in f phase.Enter j.waiting known.kept.1))
+      (λ f. omega (arith, there_sum f j.filling [], refused_sum f reply.Stopped j.waiting))
   act_row old front new made posts (steps.calls act) known = device_row _ _ _ _ _ act
   act_row old front new made posts (steps.works act) known = work_row _ _ _ _ _ act

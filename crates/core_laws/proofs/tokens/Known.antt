@@ -1,7 +1,7 @@
 -- What a legal core knows of a zone that acts, beside its tokens: the phases of the requests that it keeps, and, of the item at
 -- the front, that its lock is held and its block is under way.
 use Rattle.std.proofs.Common.{◌≡◌, ℕ, Bool, true, List, [], ◌∷◌}
-use Rattle.core_laws.proofs.Common.{AllByRecursion, Item, JournalZone, LogicalZone, Phase, SealedBlock, Vio, ZoneData, bit, holds, kept_by, kept_phase, lock_weight, total}
+use Rattle.core_laws.proofs.Common.{AllByRecursion, Item, JournalZone, LogicalZone, Phase, SealedBlock, Vio, ZoneData, KeptEach, KeptOk, Session, Trace, bit, every-map, holds, lock_weight, total}
 use Rattle.core_model.specs.declared.items.Item.TheVariants as item
 use Rattle.core_model.specs.declared.items.Phase.TheVariants as phase
 use Rattle.core_model.specs.declared.zones.ZoneData.TheVariants as at
@@ -10,15 +10,26 @@ use Rattle.core_model.specs.declared.zones.ZoneData.TheVariants as at
 abbrev pub IsIn : Phase → Vio → Type 0
 IsIn one v = v.phase ≡ one
 
--- the requests that a zone keeps are each in its one phase
+-- each of these is, of what a legal core knows of it
+pub phases : (s : Session) (t : Trace) (q : Phase) (vs : List Vio) → AllByRecursion (KeptOk s t q) vs → AllByRecursion (IsIn q) vs
+phases s t q vs all = every-map {P = KeptOk s t q} {Q = IsIn q} (λ v k. k.2) vs all
+
+-- the requests that a zone keeps are each in its phase
 abbrev pub KeptIn : ZoneData → Type 0
-KeptIn d = AllByRecursion (IsIn (kept_phase d)) (kept_by d)
+KeptIn d = KeptEach IsIn d
 
--- the request of a sealed block is in phase Enter
+pub kept_in : (s : Session) (t : Trace) (d : ZoneData) → KeptEach (KeptOk s t) d → KeptIn d
+kept_in s t (at.Desk desk) all = phases s t phase.Reply desk.parked all
+kept_in s t (at.Logical l) all = phases s t phase.Wait l.waiting all
+kept_in s t (at.Journal j) all = (phases s t phase.Pending j.filling all.0, phases s t phase.Enter j.waiting all.1)
+kept_in s t (at.Physical p) all = tt
+kept_in s t (at.Device d) all = tt
+
+-- those of a block are in phase Pending
 abbrev pub SealedIn : List Item → Type 0
-SealedIn front = (b : SealedBlock) → front ≡ item.Block b ∷ [] → b.vio.phase ≡ phase.Enter
+SealedIn front = (b : SealedBlock) → front ≡ item.Block b ∷ [] → AllByRecursion (IsIn phase.Pending) b.vios
 
--- where a sealed block is at the front of the journal zone, the journal is busy
+-- where a block is at the front of the journal zone, the journal is busy
 abbrev pub IsBusy : ZoneData → List Item → Type 0
 IsBusy old front = (b : SealedBlock) (j : JournalZone) → front ≡ item.Block b ∷ [] → old ≡ at.Journal j → j.busy ≡ true
 

@@ -1,6 +1,6 @@
 -- The marks of a right trace: an answer says of a write no more than whether its entry was handed in and its slot set.
 use Rattle.std.proofs.Common.{ℕ, ◌≡◌, ◌<◌, ◌++◌, Bool, true, false, List, [], ◌∷◌, Option, Some, None, IsSome, IsNone, refl, sym, ◌∙◌, ap, subst, inl, inr, arith}
-use Rattle.core_laws.proofs.Common.{Answer as Reply, AreDrawn, DeskLine, Enters, Fails, Flushes, HistoryEntry, Lba, Logged, Mark, MayAnswer, Placed, Request, RightTrace, Says, Session, Sets, Trace, Writer, address_of, answer_of, done, entered, lines, logged_of, none_of, places, request_at, same_Some, same_tells}
+use Rattle.core_laws.proofs.Common.{Answer as Reply, AreDrawn, DeskLine, Enters, Fails, Flushes, HistoryEntry, Logged, Mark, MayAnswer, Placed, Request, RightTrace, Says, Session, Sets, Trace, Writer, address_of, answer_of, done, entered, lines, logged_of, none_of, places, request_at, same_Some, same_tells}
 use Rattle.blk_base.specs.declared.request.Answer.TheVariants as reply
 use Rattle.blk_base.specs.declared.request.Request.TheVariants as request
 use Rattle.vdo_model.specs.Histories.{mark_of, histories_of}

@@ -1,9 +1,10 @@
 -- The desk log of a right trace is well formed, and each done entry is a committed one, each committed one an entered
 -- one.
-use Rattle.std.proofs.Common.{ℕ, ◌≡◌, ◌<◌, ◌==◌, List, [], ◌∷◌, Some, IsNone, refl, sym, ◌∙◌, subst, inl, inr, arith}
-use Rattle.core_laws.proofs.Common.{OnBlock, AllByRecursion, Answer as Reply, DeskLine, Happening, IsDeskLog, IsWrite, Logged, MayFollow, RightTrace, Script, Session, Sets, Shown, Trace, Writer, answer_of, begun, cases_Bool, committed, done, each_at, entered, eqb_tells, every-map, lines, logged_of, none_is, not_both, of_address, option_cases, same_self, same_Some, same_tells}
+use Rattle.std.proofs.Common.{ℕ, ◌≡◌, ◌<◌, ◌==◌, List, [], ◌∷◌, ◌++◌, append_assoc, Some, IsNone, ap, refl, sym, ◌∙◌, subst, inl, inr, arith}
+use Rattle.core_laws.proofs.Common.{all_of, AllByRecursion, Answer as Reply, answer_of, begun, cases_Bool, committed, DeskLine, done, each_at, entered, eqb_tells, every-map, filled, Happening, IsDeskLog, IsWrite, lines, Logged, logged_of, MayFollow, none_is, not_both, of_address, OnBlock, option_cases, RightTrace, same_self, same_Some, same_tells, Script, Session, Sets, Shown, Trace, Writer}
 use Rattle.vdo_model.specs.declared.report.DeskLine.TheVariants.{Begin, Answer}
 use Rattle.core_laws.proofs.trace.Growth.{desk_grows, entered_grows, committed_grows, done_grows, begun_more, write_stays}
+use Rattle.core_laws.proofs.kept.StandsOn.{entered_parts}
 use Rattle.blk_base.specs.Regions.{IsDataBlock}
 
 -- the desk log is well formed
@@ -60,6 +61,14 @@ each_of_address P a (e ∷ es) all = elim (cases_Bool (e.at.0 == a)) [
   | inr passed ↦ rw passed (each_of_address P a es all.1)
 ]
 
+-- Those of an address are those of the newer part before those of the older one.
+pub of_address_append : (a : ℕ) (newer older : List Logged) → of_address a (newer ++ older) ≡ of_address a newer ++ of_address a older
+of_address_append a [] older = refl
+of_address_append a (e ∷ newer) older = elim (cases_Bool (e.at.0 == a)) [
+  | inl taken ↦ rw taken (ap (λ (xs : List Logged). e ∷ xs) (of_address_append a newer older))
+  | inr passed ↦ rw passed (of_address_append a newer older)
+]
+
 -- each of them is of the address
 pub are_of_address : (a : ℕ) (es : List Logged) → AllByRecursion (λ (e : Logged). e.at.0 ≡ a) (of_address a es)
 are_of_address a [] = tt
@@ -86,12 +95,25 @@ entered_apart s (h ∷ t) right =
     let rest = entered_apart s t right.2 in
     entered_grows AreApart s h t right.0 rest (λ e came next. (next.once, rest))
 
+-- the committed entries are the oldest of those that were handed in
+pub committed_part : (s : Session) (t : Trace) → RightTrace s t → (newer : List Logged) × (entered t ≡ newer ++ committed t)
+committed_part s t right = elim (shown_of s t right).journal [
+  | inl there ↦ (filled t ++ there.rest, entered_parts t ∙ ap (λ (es : List Logged). filled t ++ es) there.all ∙ sym (append_assoc (filled t) there.rest (committed t)))
+  | inr comes ↦ (
+    filled t ++ comes.block,
+    entered_parts t ∙ ap (λ (es : List Logged). filled t ++ es) (ap all_of comes.sealed_is ∙ ap (λ (es : List Logged). comes.block ++ es) (sym comes.committed_is))
+        ∙ sym (append_assoc (filled t) comes.block (committed t)),
+  )
+]
+
+-- what holds of a list without its first element holds of each of its ends
+end_has : (P : List Logged → Type 0) → ((e : Logged) (es : List Logged) → P (e ∷ es) → P es) → (newer older : List Logged) → P (newer ++ older) → P older
+end_has P tail [] older all = all
+end_has P tail (e ∷ newer) older all = end_has P tail newer older (tail e (newer ++ older) all)
+
 -- what holds of all entered entries holds of all committed ones
 pub each_committed : (P : List Logged → Type 0) (s : Session) (t : Trace) → ((e : Logged) (es : List Logged) → P (e ∷ es) → P es) → RightTrace s t → P (entered t) → P (committed t)
-each_committed P s t tail right all = elim (shown_of s t right).journal [
-  | inl idle ↦ subst P idle.0 all
-  | inr pending ↦ tail pending.entry (committed t) (subst P pending.is_last all)
-]
+each_committed P s t tail right all = let part = committed_part s t right in end_has P tail part.0 (committed t) (subst P part.1 all)
 
 -- nor two committed ones
 pub committed_apart : (s : Session) (t : Trace) → RightTrace s t → AreApart (committed t)
@@ -116,7 +138,8 @@ committed_known s t right = apart_known (committed t) (committed_apart s t right
 -- a committed entry stays committed
 pub committed_stays : (s : Session) (h : Happening) (t : Trace) (w : Writer) (e : Logged) → RightTrace s t → MayFollow s h t → logged_of (committed t) w ≡ Some e → logged_of (committed (h ∷ t)) w ≡ Some e
 committed_stays s h t w e right may is = committed_grows (λ es. logged_of es w ≡ Some e) s h t may is (λ f came next.
-    let apart : AreApart (f ∷ committed t) = subst AreApart next.last (entered_apart s t right) in
+    let parts : entered t ≡ (filled t ++ next.rest) ++ (f ∷ committed t) = entered_parts t ∙ ap (λ (es : List Logged). filled t ++ es) next.next ∙ sym (append_assoc (filled t) next.rest (f ∷ committed t)) in
+    let apart : AreApart (f ∷ committed t) = end_has AreApart (λ g es all. all.1) (filled t ++ next.rest) (f ∷ committed t) (subst AreApart parts (entered_apart s t right)) in
     elim (same_tells f.request w) [
       | inl same ↦ absurd (not_both (logged_of (committed t) w) e (subst (λ (x : Writer). IsNone (logged_of (committed t) x)) same.1 apart.0) is)
       | inr other ↦ rw other.0 is

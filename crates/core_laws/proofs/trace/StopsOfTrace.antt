@@ -1,45 +1,41 @@
 -- A stop before or after any call of a right trace is right.
-use Rattle.std.proofs.Common.{ℕ, min, drop, length-drop, length-take, ◌+◌, ◌-◌, ◌*◌, ◌≡◌, ◌⊎◌, ◌<◌, false, Option, List, [], ◌∷◌, ◌++◌, length, refl, ◌∙◌, ap, inl, inr, arith, ◌≤◌, Bool, true, sym, subst, append_assoc, IsSome}
-use Rattle.core_laws.proofs.Common.{AllByRecursion, AtRest, Call, Calls, DeskLine, FlushMark, HasPending, HistoryEntry, IsSession, IsWrite, Logged, Mapping, Mark, OnItsWay, Request, RightTrace, RunReport, Session, Shown, Trace, Writer, answer_of, append-nil, begun, bytes_of, calls, committed, done, each_both, entered, entries_of, entry_of, eqb_tells, every-append, every-map, lines, log, marks, newest, of_address, places, request_at, same_self, value_from, value_written, MapStands, OnBlock, Pbn, Stands, Entry}
+use Rattle.std.proofs.Common.{ℕ, min, drop, length-drop, length-take, ◌+◌, ◌-◌, ◌≡◌, ◌⊎◌, ◌<◌, false, List, [], ◌∷◌, ◌++◌, length, refl, ◌∙◌, ap, inl, inr, arith, ◌≤◌, Bool, true, sym, subst, append_assoc, IsSome}
+use Rattle.core_laws.proofs.Common.{all_of, AllByRecursion, answer_of, append-nil, AreAllThere, AtRest, begun, bytes_of, Call, calls, Calls, ComesLast, committed, DeskLine, done, each_both, entered, entries_of, every-append, every-front, every-map, filled, FlushMark, HasBlocks, HasWholeBlocks, HistoryEntry, IsSession, IsWrite, lines, log, Logged, Mapping, MapStands, Mark, marks, newest, NewStands, of_address, OnBlock, OnItsWay, places, request_at, RightTrace, RunReport, same_self, sealed, Session, Shown, Stands, Trace, value_from, value_written, Writer}
 use Rattle.blk_base.specs.declared.place.Mapping.TheVariants.{Unmapped, Zero, At}
 use Rattle.disk_model.specs.Images.{IsImage}
 use Rattle.disk_model.specs.Log.{Blocks, block_at}
 use Rattle.disk_model.proofs.ImageLaws.{block_of_image}
 use Rattle.image_layout.specs.Window.{journal_of, mapping_of, value_in, value_of}
 use Rattle.blk_base.proofs.RegionLaws.{data_block_inside}
-use Rattle.core_laws.proofs.device.DeviceCalls.{mapped_data, write_whole, whole_written, mapped_is_data, value_whole, heads_start}
+use Rattle.core_laws.proofs.device.DeviceCalls.{mapped_is_data, value_whole}
+use Rattle.core_laws.proofs.journal.SealedBlocks.{front_part, heads_start, said_by_blocks}
 use Rattle.stop_laws.specs.Histories.{is_lasting}
 use Rattle.vdo_model.specs.Stops.{is_covered, covered, MayLast, last_value, IsBegunBefore, before_answer, length_at, MayShow, RightAfterStops}
 use Rattle.vdo_model.specs.declared.report.Mark.TheVariants.{Settled, Unsettled, Refused}
 use Rattle.stop_laws.proofs.HistoryLaws.{covered_within}
 use Rattle.core_model.specs.Reports.{opening_values, ShowsValues, report_of, drawn_histories}
 use Rattle.core_laws.proofs.trace.CoveredEntries.{IsBegunBy, entered_begun, not_covered}
-use Rattle.core_laws.proofs.lists.CoreLists.{Has, has_older, each_older, each_newer, of_address_append, begun_later, before_answer_part}
+use Rattle.core_laws.proofs.lists.CoreLists.{Has, has_older, each_older, each_newer, begun_later, before_answer_part}
 use Rattle.core_laws.proofs.trace.Walks.{Walks, walks_front, walks_split}
 use Rattle.disk_model.specs.declared.call.Call.TheVariants.{Flush}
 use Rattle.vdo_model.specs.Histories.{history_of, is_settled}
 use Rattle.core_laws.proofs.trace.Cuts.{Cut, cut, cut_before_call, lines_append, entered_append, right_part}
-use Rattle.core_laws.proofs.trace.DeskOfTrace.{shown_of, each_of_address, entered_writes, HasData, AreData, entered_data}
+use Rattle.core_laws.proofs.trace.DeskOfTrace.{of_address_append, shown_of, each_of_address, entered_writes, HasData, AreData, entered_data}
 use Rattle.core_laws.proofs.trace.HistoriesOfTrace.{entered_walks, settled_walks}
 use Rattle.core_laws.proofs.trace.MarksOfTrace.{HasMark, all_marks}
-use Rattle.core_laws.proofs.kept.StandsOn.{map_more}
+use Rattle.core_laws.proofs.kept.StandsOn.{entered_parts, map_more}
 use Rattle.core_laws.proofs.kept.Spared.{mapping_by}
 use Rattle.core_laws.proofs.trace.ZeroWrites.{zeros_by}
 use Rattle.image_model.specs.Windows.{IsWindow}
-use Rattle.journal_stops.specs.Sealed.{Sealed, next_of, window_of, front_of}
+use Rattle.journal_stops.specs.Sealed.{Sealed, next_of, window_of}
 use Rattle.journal_stops.proofs.ShownLaws.{slot_there, window_at_rest, window_under_way}
 use Rattle.stop_laws.specs.Journals.{block_of_slot}
 use Rattle.blk_base.specs.Sectors.{zero_block}
 use Rattle.journal_stops.proofs.EntryLaws.{window_of_all}
-use Rattle.core_model.specs.Sessions.{HasBlocks, HasWholeBlocks, StandsAsOpened, blocks_of, sealed_with, said_by}
+use Rattle.core_model.specs.Sessions.{StandsAsOpened, blocks_of, said_by, sealed_with}
 use Rattle.blk_base.specs.declared.journal_entry.CommittedEntry.{CommittedEntry}
-use Rattle.std.proofs.lemmas.List.{ext_get_or, take_all}
+use Rattle.std.proofs.lemmas.List.{ext_get_or}
 use Rattle.journal_stops.specs.Sealed as blocks
-
--- the entries of the blocks are those of the writes, on those of the window
-said_by_blocks : (s : Session) (es : List Logged) → HasWholeBlocks s → entries_of s.window es ≡ said_by (blocks.entries_of s.sizes.start (blocks_of s es))
-said_by_blocks s [] whole = whole.window_is
-said_by_blocks s (e ∷ es) whole = ap (λ (rest : List Entry). entry_of e ∷ rest) (said_by_blocks s es whole)
 
 -- What an image shows of a trace: the entries of its window, and the value of each address.
 
@@ -60,25 +56,31 @@ pub record ImageEntries (s : Session) (u : Trace) (image : Blocks) : Type 0 wher
   pub window : HasWindow s image es
   pub stand : MapStands s u es
 
+-- the newer and the older of some entries
+pub record FrontOf (es : List Logged) : Type 0 where
+  pub newer : List Logged
+  pub older : List Logged
+  pub parts : es ≡ newer ++ older
+
 module _ (s : Session) (u : Trace) (image : Blocks) (session : IsSession s) (is : IsImage s.blocks (log s u) image) where
   -- a window whose blocks all name the first sequence has the entries of all
-  all_in_window : (es : List Logged) (last : ℕ) → HasWholeBlocks s → IsWindow s.sizes.geometry s.sizes.start (journal_of s.sizes.geometry image) last (window_of s.sizes.start (blocks_of s es)) → HasWindow s image es
-  all_in_window es last whole k = record {
+  all_in_window : (older : List (List Logged)) (last : ℕ) → HasWholeBlocks s → IsWindow s.sizes.geometry s.sizes.start (journal_of s.sizes.geometry image) last (window_of s.sizes.start (blocks_of s older)) → HasWindow s image (all_of older)
+  all_in_window older last whole k = record {
     last = last;
-    shown = blocks.entries_of s.sizes.start (blocks_of s es);
-    is_window = subst (IsWindow s.sizes.geometry s.sizes.start (journal_of s.sizes.geometry image) last) (window_of_all s.sizes.start (blocks_of s es) (heads_start s es whole)) k;
-    said = said_by_blocks s es whole;
+    shown = blocks.entries_of s.sizes.start (blocks_of s older);
+    is_window = subst (IsWindow s.sizes.geometry s.sizes.start (journal_of s.sizes.geometry image) last) (window_of_all s.sizes.start (blocks_of s older) (heads_start s older whole)) k;
+    said = said_by_blocks s older whole;
   }
 
-  abbrev last_of : List Logged → ℕ
-  last_of es = next_of s.sizes.start (blocks_of s es) - 1
+  abbrev last_of : List (List Logged) → ℕ
+  last_of older = next_of s.sizes.start (blocks_of s older) - 1
 
-  last_is : (es : List Logged) → last_of es + 1 ≡ next_of s.sizes.start (blocks_of s es)
-  last_is es = let some = session.start.0 in omega (arith, some)
+  last_is : (older : List (List Logged)) → last_of older + 1 ≡ next_of s.sizes.start (blocks_of s older)
+  last_is older = let some = session.start.0 in omega (arith, some)
 
   -- where the journal is as it was opened, it is that of the opened image
-  opened_journal : (es : List Logged) → StandsAsOpened s u es → journal_of s.sizes.geometry image ≡ journal_of s.sizes.geometry s.image
-  opened_journal es k =
+  opened_journal : (older : List (List Logged)) → StandsAsOpened s u older → journal_of s.sizes.geometry image ≡ journal_of s.sizes.geometry s.image
+  opened_journal older k =
       let size : length image ≡ length s.image = is.size ∙ sym session.one_image.size in
       ext_get_or zero_block (journal_of s.sizes.geometry image) (journal_of s.sizes.geometry s.image)
       (length-take s.sizes.geometry.journal (drop 1 image) ∙ ap (min s.sizes.geometry.journal) (length-drop 1 image ∙ ap (λ (n : ℕ). n - 1) size ∙ sym (length-drop 1 s.image))
@@ -87,80 +89,85 @@ module _ (s : Session) (u : Trace) (image : Blocks) (session : IsSession s) (is 
       let there : slot < s.sizes.geometry.journal = omega (arith, below, length-take s.sizes.geometry.journal (drop 1 image)) in
       let room : block_of_slot slot < length s.blocks = omega (arith, there, session.room) in
       slot_there s.sizes.geometry image slot there
-      ∙ block_of_image s.blocks (log s u) image (block_of_slot slot) (block_at s.image (block_of_slot slot)) room (session.one_image.whole (block_of_slot slot) room) (k.blocks slot there) is
+      ∙ block_of_image s.blocks (log s u) image (block_of_slot slot) (block_at s.image (block_of_slot slot)) room (session.one_image.whole (block_of_slot slot) room) (k.same slot there) is
       ∙ sym (slot_there s.sizes.geometry s.image slot there))
 
-  rest_window : (es : List Logged) → AtRest s u es → HasWindow s image es
-  rest_window es rest = by rest.0
+  rest_window : (older : List (List Logged)) → AtRest s u older → HasWindow s image (all_of older)
+  rest_window older rest = by rest.0
     where
-      by : HasBlocks s u es → HasWindow s image es
+      by : HasBlocks s u older → HasWindow s image (all_of older)
       by (inl (whole, at_rest)) =
-          all_in_window es (last_of es) whole (window_at_rest s.blocks (log s u) s.sizes.geometry s.sizes.start (blocks_of s es) image (last_of es) (omega (arith, session.room)) at_rest is (last_is es))
+          all_in_window older (last_of older) whole (window_at_rest s.blocks (log s u) s.sizes.geometry s.sizes.start (blocks_of s older) image (last_of older) (omega (arith, session.room)) at_rest is (last_is older))
       by (inr k) = record {
         last = k.opening.last;
         shown = k.opening.committed;
-        is_window = subst (λ (journal : List (List ℕ)). IsWindow s.sizes.geometry s.sizes.start journal k.opening.last k.opening.committed) (sym (opened_journal es k)) k.opening.is_window;
-        said = ap (entries_of s.window) k.none ∙ k.opening.window_is;
+        is_window = subst (λ (journal : List (List ℕ)). IsWindow s.sizes.geometry s.sizes.start journal k.opening.last k.opening.committed) (sym (opened_journal older k)) k.opening.is_window;
+        said = ap (λ (blocks : List (List Logged)). entries_of s.window (all_of blocks)) k.none ∙ k.opening.window_is;
       }
 
-  -- the front of a block of one entry is the block
-  front_is_all : (n : ℕ) (e : Logged) → 1 ≤ n → front_of n (sealed_with s e) ≡ sealed_with s e
-  front_is_all n e some = ap (λ (entries : List Entry). record { head = s.sizes.start; entries = entries }) (take_all (24 * n) (entry_of e ∷ []) (omega (arith, some)))
+  -- where the last block comes, the image has the others, or its first sectors too
+  coming_window : (older : List (List Logged)) (es : List Logged) → OnItsWay s u older es → HasWindow s image (all_of older) ⊎ ((part : FrontOf es) × HasWindow s image (part.older ++ all_of older))
+  coming_window older es way =
+      elim (window_under_way s.blocks (log s u) s.sizes.geometry s.sizes.start (blocks_of s older) (sealed_with s es) image (last_of older) (omega (arith, session.room)) way.0.1 is (last_is older)) [
+        | inl old ↦ inl (all_in_window older (last_of older) way.0.0 old)
+        | inr (n, some, few, new) ↦
+            let front = front_part s n es in
+            inr (
+              record { newer = front.newer; older = front.older; parts = front.parts },
+              all_in_window (front.older ∷ older) (last_of older + 1) way.0.0
+                  (subst (λ (block : Sealed). IsWindow s.sizes.geometry s.sizes.start (journal_of s.sizes.geometry image) (last_of older + 1) (window_of s.sizes.start (block ∷ blocks_of s older))) front.front new),
+            )
+      ]
 
-  pending_entries : (pending : HasPending s u) → AtRest s u (committed u) ⊎ OnItsWay s u (committed u) pending.entry ⊎ AtRest s u (pending.entry ∷ committed u) → ImageEntries s u image
-  pending_entries pending (inl rest) = record {
-    es = committed u;
-    more = pending.entry ∷ [];
-    fewer = [];
-    of_entered = pending.is_last;
-    has_committed = refl;
-    window = rest_window (committed u) rest;
-    stand = rest.1;
+  -- the blocks that were sealed, and those that were handed in
+  all_there : AreAllThere s u → ImageEntries s u image
+  all_there k = record {
+    es = all_of (sealed u);
+    more = filled u;
+    fewer = k.rest;
+    of_entered = entered_parts u;
+    has_committed = k.all;
+    window = rest_window (sealed u) k.stands;
+    stand = k.stands.1;
   }
-  pending_entries pending (inr (inr rest)) = record {
-    es = pending.entry ∷ committed u;
-    more = [];
-    fewer = pending.entry ∷ [];
-    of_entered = pending.is_last;
-    has_committed = refl;
-    window = rest_window (pending.entry ∷ committed u) rest;
-    stand = rest.1;
-  }
-  pending_entries pending (inr (inl way)) =
-      elim (window_under_way s.blocks (log s u) s.sizes.geometry s.sizes.start (blocks_of s (committed u)) (sealed_with s pending.entry) image (last_of (committed u)) (omega (arith, session.room)) way.0.1 is (last_is (committed u))) [
-        | inl old ↦ record {
-          es = committed u;
-          more = pending.entry ∷ [];
-          fewer = [];
-          of_entered = pending.is_last;
-          has_committed = refl;
-          window = all_in_window (committed u) (last_of (committed u)) way.0.0 old;
-          stand = way.1;
-        }
-        | inr (n, some, few, new) ↦ record {
-          es = pending.entry ∷ committed u;
-          more = [];
-          fewer = pending.entry ∷ [];
-          of_entered = pending.is_last;
-          has_committed = refl;
-          window = all_in_window (pending.entry ∷ committed u) (last_of (committed u) + 1) way.0.0
-              (subst (λ (block : Sealed). IsWindow s.sizes.geometry s.sizes.start (journal_of s.sizes.geometry image) (last_of (committed u) + 1) (window_of s.sizes.start (block ∷ blocks_of s (committed u))))
-              (front_is_all n pending.entry some) new);
-          stand = map_more s u (committed u) pending.entry way.1 way.2;
+
+  comes_last : (k : ComesLast s u) → AtRest s u k.older ⊎ OnItsWay s u k.older k.block → ImageEntries s u image
+  comes_last k stands = by stands
+    where
+      parts : entered u ≡ filled u ++ (k.block ++ all_of k.older)
+      parts = entered_parts u ∙ ap (λ (all : List (List Logged)). filled u ++ all_of all) k.sealed_is
+
+      old_entries : HasWindow s image (all_of k.older) → MapStands s u (all_of k.older) → ImageEntries s u image
+      old_entries window stand = record {
+        es = all_of k.older;
+        more = filled u ++ k.block;
+        fewer = [];
+        of_entered = parts ∙ sym (append_assoc (filled u) k.block (all_of k.older));
+        has_committed = sym k.committed_is;
+        window = window;
+        stand = stand;
+      }
+
+      by : AtRest s u k.older ⊎ OnItsWay s u k.older k.block → ImageEntries s u image
+      by (inl rest) = old_entries (rest_window k.older rest) rest.1
+      by (inr way) = elim (coming_window k.older k.block way) [
+        | inl old ↦ old_entries old way.1
+        | inr (part, window) ↦ record {
+          es = part.older ++ all_of k.older;
+          more = filled u ++ part.newer;
+          fewer = part.older;
+          of_entered = parts ∙ ap (λ (es : List Logged). filled u ++ (es ++ all_of k.older)) part.parts ∙ ap (λ (es : List Logged). filled u ++ es) (append_assoc part.newer part.older (all_of k.older))
+              ∙ sym (append_assoc (filled u) part.newer (part.older ++ all_of k.older));
+          has_committed = ap (λ (es : List Logged). part.older ++ es) (sym k.committed_is);
+          window = window;
+          stand = map_more s u part.older (all_of k.older) way.1
+              (every-front (λ (e : Logged). OnBlock (λ x. Stands s u x.0 (bytes_of s e)) e.new) part.newer part.older (subst (NewStands s u) part.parts way.2)).1;
         }
       ]
 
-  journal_entries : ((entered u ≡ committed u) × AtRest s u (committed u)) ⊎ HasPending s u → ImageEntries s u image
-  journal_entries (inl (all, rest)) = record {
-    es = committed u;
-    more = [];
-    fewer = [];
-    of_entered = all;
-    has_committed = refl;
-    window = rest_window (committed u) rest;
-    stand = rest.1;
-  }
-  journal_entries (inr pending) = pending_entries pending pending.stands
+  journal_entries : AreAllThere s u ⊎ ComesLast s u → ImageEntries s u image
+  journal_entries (inl k) = all_there k
+  journal_entries (inr k) = comes_last k k.stands
 
   -- The window of an image has the entries that are committed, or those that were handed in.
   pub image_entries : Shown s u → ImageEntries s u image

@@ -1,8 +1,9 @@
 -- The entries of an address take turns: one is handed in, committed and done before the next, at a higher place.
-use Rattle.std.proofs.Common.{ℕ, ◌≡◌, ◌⊎◌, ◌<◌, ◌==◌, false, List, [], ◌∷◌, length, refl, sym, ◌∙◌, ap, subst, inl, inr, arith}
-use Rattle.core_laws.proofs.Common.{AllBelow, AllByRecursion, Commits, Enters, Logged, Quiet, RightTrace, Session, Sets, Trace, committed, done, each_both, entered, eqb_tells, every-map, of_address}
+use Rattle.std.proofs.Common.{ℕ, ◌≡◌, ◌⊎◌, ◌<◌, ◌==◌, false, List, [], ◌∷◌, ◌++◌, append_assoc, length, length-append, refl, sym, ◌∙◌, ap, subst, inl, inr, arith}
+use Rattle.core_laws.proofs.Common.{AllBelow, AllByRecursion, Commits, Enters, Logged, Quiet, RightTrace, Session, Sets, Trace, committed, done, each_both, entered, eqb_tells, every-map, filled, of_address}
 use Rattle.core_laws.proofs.trace.Growth.{entered_grows}
-use Rattle.core_laws.proofs.trace.DeskOfTrace.{each_of_address, are_of_address}
+use Rattle.core_laws.proofs.kept.StandsOn.{entered_parts}
+use Rattle.core_laws.proofs.trace.DeskOfTrace.{are_of_address, each_of_address, of_address_append}
 
 -- the last entry of an address is handed in and not committed
 pub record HasPendingAt (t : Trace) (a : ℕ) : Type 0 where
@@ -19,16 +20,20 @@ pub record HasCommittedAt (t : Trace) (a : ℕ) : Type 0 where
 abbrev pub TakesTurns : Trace → ℕ → Type 0
 TakesTurns t a = Quiet t a ⊎ HasPendingAt t a ⊎ HasCommittedAt t a
 
--- a list isn't its own tail
-pub not_longer : (e : Logged) (es : List Logged) → es ≡ e ∷ es → ⊥
-not_longer e es is = let longer = ap (λ (xs : List Logged). length xs) is in absurd (omega arith)
-
 -- the entries of an address with one more
 of_head : (a : ℕ) (e : Logged) (es : List Logged) → e.at.0 ≡ a → of_address a (e ∷ es) ≡ e ∷ of_address a es
 of_head a e es is = elim (eqb_tells e.at.0 a) [ inl same ↦ rw same.0 refl | inr other ↦ absurd (other.1 is) ]
 
 of_other : (a : ℕ) (e : Logged) (es : List Logged) → (e.at.0 == a) ≡ false → of_address a (e ∷ es) ≡ of_address a es
 of_other a e es other = rw other refl
+
+-- of a list with one element in front of another and some before it: there is none before, where the whole is one longer
+none_before : (before after : List Logged) (e p : Logged) → before ++ (e ∷ after) ≡ p ∷ after → before ++ (e ∷ after) ≡ e ∷ after
+none_before [] after e p is = refl
+none_before (b ∷ before) after e p is = absurd (let longer = ap length is in let all = length-append before (e ∷ after) in omega (arith, longer, all))
+
+longer_still : (before after : List Logged) (e : Logged) → before ++ (e ∷ after) ≡ after → ⊥
+longer_still before after e is = let longer = ap length is in let all = length-append before (e ∷ after) in absurd (omega (arith, longer, all))
 
 -- the states say nothing but of these three lists
 turns_of : (t u : Trace) (a : ℕ) → of_address a (entered u) ≡ of_address a (entered t) → of_address a (committed u) ≡ of_address a (committed t) → of_address a (done u) ≡ of_address a (done t)
@@ -56,17 +61,20 @@ at_address s (Enters e ∷ t) a right = elim (eqb_tells e.at.0 a) [
 ]
 at_address s (Commits e ∷ t) a right = elim (eqb_tells e.at.0 a) [
   | inl same ↦
-      let last : of_address a (entered t) ≡ e ∷ of_address a (committed t) = ap (of_address a) right.0.last ∙ of_head a e (committed t) same.1 in
+      let before = of_address a (filled t ++ right.0.rest) in
+      let parts : entered t ≡ (filled t ++ right.0.rest) ++ (e ∷ committed t) = entered_parts t ∙ ap (λ (xs : List Logged). filled t ++ xs) right.0.next ∙ sym (append_assoc (filled t) right.0.rest (e ∷ committed t)) in
+      let next : of_address a (entered t) ≡ before ++ (e ∷ of_address a (committed t)) =
+      ap (of_address a) parts ∙ of_address_append a (filled t ++ right.0.rest) (e ∷ committed t) ∙ ap (λ (xs : List Logged). before ++ xs) (of_head a e (committed t) same.1) in
       elim (at_address s t a right.2) [
-        | inl quiet ↦ absurd (not_longer e (of_address a (committed t)) (sym quiet.all_committed ∙ last))
+        | inl quiet ↦ absurd (longer_still before (of_address a (committed t)) e (sym next ∙ quiet.all_committed))
         | inr rest ↦ elim rest [
           | inl pending ↦
               inr (inr (record {
                 entry = e;
-                all_committed = last ∙ sym (of_head a e (committed t) same.1);
+                all_committed = next ∙ none_before before (of_address a (committed t)) e pending.entry (sym next ∙ pending.last) ∙ sym (of_head a e (committed t) same.1);
                 last = of_head a e (committed t) same.1 ∙ ap (λ (xs : List Logged). e ∷ xs) pending.others;
               }))
-          | inr over ↦ absurd (not_longer e (of_address a (committed t)) (sym over.all_committed ∙ last))
+          | inr over ↦ absurd (longer_still before (of_address a (committed t)) e (sym next ∙ over.all_committed))
         ]
       ]
   | inr other ↦ turns_of t (Commits e ∷ t) a refl (of_other a e (committed t) other.0) refl (at_address s t a right.2)

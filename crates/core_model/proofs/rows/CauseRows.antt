@@ -11,7 +11,7 @@ use Rattle.disk_model.specs.declared.call.Call.TheVariants.{Read, Flush}
 use Rattle.vdo_model.specs.declared.report.DeskLine.TheVariants.{Begin}
 use Rattle.core_model.specs.RightTraces.{HasCause, MayAnswer}
 use Rattle.core_model.specs.Trace.{Gift, Says, Gives, Takes, Aborts, Fails, Trace}
-use Rattle.core_model.proofs.rows.WorkedTraces.{address, block, x, y, first, reader, second, other, late, flush, session, begun, took, handed_in, lasting, set, stopped, entry, of_first, of_other, given}
+use Rattle.core_model.proofs.rows.WorkedTraces.{address, block, x, y, first, reader, second, other, late, flush, session, begun, took, handed_in, lasting, set, stopped, entry, of_first, of_other, given, in_block}
 
 -- a read of an address, and a write of it
 abbrev Reads : Trace → Writer → ℕ → Answer → Type 0
@@ -137,8 +137,8 @@ at_once_inside (inr at_once) = let below = at_once.0 in absurd (omega (arith, be
 at_once_of_a_write : MayBeStopped (Says (Begin second) ∷ stopped []) (request.Read (address 0)) → ⊥
 at_once_of_a_write may = may.1.behind
 
--- It is full where the one block of the journal has its entry, or both data blocks are taken.
-full_journal : Writes handed_in second 0 Full
+-- It is full where the one block of the journal is sealed, or both data blocks are taken.
+full_journal : Writes in_block second 0 Full
 full_journal = (refl, refl, inl (omega arith))
 
 full_blocks : Writes (Takes second (block 86) ∷ took) first 0 Full
@@ -201,7 +201,7 @@ discard_stopped_inside : MayBeStopped (Says (Begin second) ∷ stopped []) (requ
 discard_stopped_inside (inl cause) = let placed = cause.1 in absurd cc
 discard_stopped_inside (inr at_once) = let below = at_once.0 in absurd (omega (arith, below))
 
-discard_full : Discards handed_in second 0 Full
+discard_full : Discards in_block second 0 Full
 discard_full = (refl, refl, omega arith)
 
 discard_full_with_a_place : Discards handed_in late 0 Full → ⊥

@@ -1,5 +1,5 @@
 -- Which happening may follow: for each one a trace that it may follow, and for each of its conditions one that breaks it.
-use Rattle.std.proofs.Common.{ℕ, ◌≡◌, true, false, List, [], ◌∷◌, ◌++◌, Some, length, refl, ap, subst, arith}
+use Rattle.std.proofs.Common.{ℕ, zero, suc, length-append, ◌≡◌, true, false, List, [], ◌∷◌, ◌++◌, Some, length, refl, ap, subst, arith}
 use Rattle.std.proofs.lemmas.List.{length-replicate}
 use Rattle.std.proofs.lemmas.Option.{same_Some}
 use Rattle.blk_base.specs.Sectors.{zero_block}
@@ -16,8 +16,9 @@ use Rattle.core_model.specs.declared.items.Asks.TheVariants as asks
 use Rattle.core_model.specs.RightTraces.{MapsTo, MayAnswer, MayFollow, StopsAtFailure}
 use Rattle.core_model.specs.Sessions.{Session}
 use Rattle.core_model.specs.Vios.{asked}
-use Rattle.core_model.specs.Trace.{Says, Flushes, Draws, Enters, Commits, Sets, Gives, Takes, Aborts, Calls, Fails, Trace, Happening}
-use Rattle.core_model.proofs.rows.WorkedTraces.{address, block, writer, x, y, first, reader, second, other, late, flush, sizes, session, begun, drawn, took, handed_in, lasting, set, stopped, place, entry, of_first, of_second, of_other, given}
+use Rattle.core_model.specs.declared.zones.Logged.{Logged}
+use Rattle.core_model.specs.Trace.{filled, Says, Flushes, Draws, Enters, Seals, Commits, Sets, Gives, Takes, Aborts, Calls, Fails, Trace, Happening}
+use Rattle.core_model.proofs.rows.WorkedTraces.{address, block, writer, x, y, first, reader, second, other, late, flush, sizes, session, begun, drawn, took, handed_in, in_block, lasting, set, stopped, place, entry, of_first, of_second, of_other, given}
 
 -- the session, with a journal that takes two blocks
 abbrev roomy : Session
@@ -127,17 +128,17 @@ takes_no_block_twice may = let next : 86 ≡ 85 = ap (λ b. b.0) (same_Some _ _ 
 takes_no_block_beyond : May (Takes other (block 87)) (Takes second (block 86) ∷ took) → ⊥
 takes_no_block_beyond may = let next = may.next in absurd cc
 
--- An entry is handed in once, of a write that has its place, while no other is; those of its address are done, nothing at its
--- address has a later place, a block of the journal is left for it, and it says what its address was mapped to.
+-- An entry is handed in once, of a write that has its place; those of its address are done, nothing at its address has a later
+-- place, a block of the journal is left for it, which has room, and it says what its address was mapped to.
 enters : May (Enters of_second) set
 enters = record {
   is_open = record { is_begun = omega arith; unanswered = refl };
   is_write = record { asks = asks.Write; bytes = y; asked = refl; maps = tt; placed = refl };
   once = refl;
-  idle = refl;
   quiet = record { all_committed = refl; all_done = refl };
   below = record { writes = ((λ same. omega arith), tt); reads = tt };
   left = omega arith;
+  room = omega arith;
   new_data = record { slab = 0; offset = 6; inside = (omega arith, omega arith); stands = refl };
   old_is = refl;
 }
@@ -163,10 +164,10 @@ enters_zeros = record {
   is_open = record { is_begun = omega arith; unanswered = refl };
   is_write = record { asks = asks.Write; bytes = zero_block; asked = refl; maps = refl; placed = refl };
   once = refl;
-  idle = refl;
   quiet = record { all_committed = refl; all_done = refl };
   below = record { writes = tt; reads = tt };
   left = omega arith;
+  room = omega arith;
   new_data = tt;
   old_is = refl;
 }
@@ -176,10 +177,10 @@ enters_a_discard = record {
   is_open = record { is_begun = omega arith; unanswered = refl };
   is_write = record { asks = asks.Discard; bytes = zero_block; asked = refl; maps = tt; placed = refl };
   once = refl;
-  idle = refl;
   quiet = record { all_committed = refl; all_done = refl };
   below = record { writes = tt; reads = tt };
   left = omega arith;
+  room = omega arith;
   new_data = tt;
   old_is = refl;
 }
@@ -209,8 +210,30 @@ enters_at_its_place may = let placed : 1 ≡ 5 = ap (λ p. p.place) (same_Some _
 enters_once : May (Enters of_first) set → ⊥
 enters_once may = let no = may.once in absurd cc
 
-enters_alone : May (Enters of_other) handed_in → ⊥
-enters_alone may = let idle = ap length may.idle in absurd (omega (arith, idle))
+enters_beside_another : May (Enters of_other) handed_in
+enters_beside_another = record {
+  is_open = record { is_begun = omega arith; unanswered = refl };
+  is_write = record { asks = asks.Write; bytes = y; asked = refl; maps = tt; placed = refl };
+  once = refl;
+  quiet = record { all_committed = refl; all_done = refl };
+  below = record { writes = tt; reads = tt };
+  left = omega arith;
+  room = omega arith;
+  new_data = record { slab = 0; offset = 6; inside = (omega arith, omega arith); stands = refl };
+  old_is = refl;
+}
+
+-- a trace with so many entries in the block being filled
+abbrev filling : ℕ → Trace
+filling zero = set
+filling (suc n) = Enters of_other ∷ filling n
+
+filled_with : (n : ℕ) → length (filled (filling n)) ≡ n
+filled_with zero = refl
+filled_with (suc n) = ap suc (filled_with n)
+
+enters_where_there_is_room : May (Enters of_second) (filling 192) → ⊥
+enters_where_there_is_room may = let room = may.room in absurd (omega (arith, room, filled_with 192))
 
 enters_behind_a_slot : May (Enters of_second) lasting → ⊥
 enters_behind_a_slot may = let quiet = ap length may.quiet.all_done in absurd (omega (arith, quiet))
@@ -221,7 +244,7 @@ enters_behind_a_write may = let below = may.below.writes.0 refl in absurd (omega
 enters_behind_a_read : May (Enters of_first) (Gives (given 2) ∷ took) → ⊥
 enters_behind_a_read may = let below = may.below.reads.0 refl in absurd (omega (arith, below))
 
-enters_while_a_block_is_left : May (Enters of_other) (Sets of_second ∷ Commits of_second ∷ Enters of_second ∷ set) → ⊥
+enters_while_a_block_is_left : May (Enters of_other) (Sets of_second ∷ Commits of_second ∷ Seals ∷ Enters of_second ∷ set) → ⊥
 enters_while_a_block_is_left may = let left = may.left in absurd (omega (arith, left))
 
 enters_of_a_data_block : May (Enters (record of_second { new = At (block 78) })) set → ⊥
@@ -230,18 +253,40 @@ enters_of_a_data_block may = let stands = may.new_data.stands in absurd (omega (
 enters_with_the_mapping : May (Enters (entry second 0 1 Unmapped 86)) set → ⊥
 enters_with_the_mapping may = let old = may.old_is in absurd cc
 
--- An entry is committed once.
-commits : May (Commits of_first) handed_in
-commits = record { is_open = record { is_begun = omega arith; unanswered = refl }; last = refl }
+-- The block being filled is sealed where all entries of the others are committed, and a block of the journal is left for it.
+seals : May Seals handed_in
+seals = record { all_committed = refl; left = omega arith }
 
-commits_while_open : May (Commits of_first) (Says (Answer first Stopped) ∷ handed_in) → ⊥
+seals_behind_a_committed_one : May Seals (Enters of_other ∷ in_block) → ⊥
+seals_behind_a_committed_one may = let all = ap length may.all_committed in absurd (omega (arith, all))
+
+seals_while_a_block_is_left : May Seals (Enters of_other ∷ Sets of_second ∷ Commits of_second ∷ Seals ∷ Enters of_second ∷ set) → ⊥
+seals_while_a_block_is_left may = let left = may.left in absurd (omega (arith, left))
+
+-- An entry is committed once, in a sealed block, and in their order.
+commits : May (Commits of_first) in_block
+commits = record { is_open = record { is_begun = omega arith; unanswered = refl }; rest = []; next = refl }
+
+commits_while_open : May (Commits of_first) (Says (Answer first Stopped) ∷ in_block) → ⊥
 commits_while_open may = let no = may.is_open.unanswered in absurd cc
 
-commits_what_is_handed_in : May (Commits of_first) took → ⊥
-commits_what_is_handed_in may = let last = ap length may.last in absurd (omega (arith, last))
+commits_what_is_sealed : May (Commits of_first) handed_in → ⊥
+commits_what_is_sealed may = let all = ap length may.next in let parts = length-append may.rest (of_first ∷ []) in absurd (omega (arith, all, parts))
 
 commits_once : May (Commits of_first) lasting → ⊥
-commits_once may = let last = ap length may.last in absurd (omega (arith, last))
+commits_once may = let all = ap length may.next in let parts = length-append may.rest (of_first ∷ of_first ∷ []) in absurd (omega (arith, all, parts))
+
+abbrev the_second : List Logged → ℕ
+the_second (e ∷ f ∷ []) = f.at.0
+the_second es = 0
+
+commits_in_order : May (Commits of_other) (Seals ∷ Enters of_other ∷ handed_in) → ⊥
+commits_in_order may = by may.rest may.next
+  where
+    by : (rest : List Logged) → of_other ∷ of_first ∷ [] ≡ rest ++ of_other ∷ [] → ⊥
+    by [] is = let all = ap length is in absurd (omega (arith, all))
+    by (e ∷ []) is = let all : 0 ≡ 812 = ap the_second is in absurd (omega (arith, all))
+    by (e ∷ f ∷ rest) is = let all = ap length is in let parts = length-append rest (of_other ∷ []) in absurd (omega (arith, all, parts))
 
 -- A slot is set once, when its entry is committed and none of its address is under way, behind whatever its address had, and not
 -- once it is aborted.

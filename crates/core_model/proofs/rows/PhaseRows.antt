@@ -1,5 +1,5 @@
 -- Each row of the table of phases at a small zone: what the zone keeps, what happens, and what it posts.
-use Rattle.std.proofs.Common.{ℕ, Bool, true, false, None, Some, List, [], ◌∷◌, refl, arith}
+use Rattle.std.proofs.Common.{ℕ, Bool, true, false, None, Some, List, [], ◌∷◌, refl, replicate, arith}
 use Rattle.blk_base.specs.Sectors.{zero_block}
 use Rattle.blk_base.specs.declared.place.Lba.{Lba}
 use Rattle.blk_base.specs.declared.place.Mapping.TheVariants.{Unmapped, Zero, At}
@@ -34,7 +34,7 @@ use Rattle.core_model.specs.DeviceRows.{DeviceServes, DeviceWorks, journal_bytes
 use Rattle.core_model.specs.JournalRows.{PhysicalServes, JournalServes, JournalEnds}
 use Rattle.core_model.specs.LogicalRows.{LogicalServes}
 use Rattle.core_model.specs.Steps.{Act, begins, answers, hears, serves, serves_notice, takes, takes_notice, enters, ends, enters_notice, calls, works}
-use Rattle.core_model.specs.Trace.{Says, Flushes, Draws, Enters, Commits, Sets, Gives, Takes, Aborts, Calls, Fails, Trace}
+use Rattle.core_model.specs.Trace.{Says, Flushes, Draws, Enters, Seals, Commits, Sets, Gives, Takes, Aborts, Calls, Fails, Trace}
 use Rattle.core_model.specs.Vios.{Post}
 use Rattle.core_model.proofs.rows.WorkedTraces.{address, block, x, y, script, first, reader, second, other, flush, sizes, place, of_first, of_second, given}
 
@@ -81,12 +81,18 @@ lock n = record { at = address 0; place = n }
 abbrev pub physical : List Pbn → ZoneData
 physical free = at.Physical (record { notified = false; free = free })
 
--- the journal: whether a block is under way, who waits, and the entries that were handed in and are committed
-abbrev pub journal : Bool → List Vio → List Logged → List Logged → ZoneData
-journal busy waiting entered committed = at.Journal (record { notified = false; busy = busy; broken = false; waiting = waiting; entered = entered; committed = committed })
+-- the journal: whether a block is under way, how many were sealed, whose entries are in the block being filled, who waits, and
+-- the entries that were handed in and are committed
+abbrev pub journal : Bool → ℕ → List Vio → List Vio → List Logged → List Logged → ZoneData
+journal busy blocks filling waiting entered committed =
+    at.Journal (record { notified = false; busy = busy; broken = false; blocks = blocks; filling = filling; waiting = waiting; entered = entered; committed = committed })
+
+-- a block with these requests
+abbrev block_of : Stage → List Vio → SealedBlock
+block_of now vios = record { stage = now; sequence = 1; vios = vios }
 
 abbrev sealed : Stage → SealedBlock
-sealed now = record { stage = now; sequence = 1; vio = writes phase.Enter }
+sealed now = block_of now (writes phase.Pending ∷ [])
 
 abbrev pub device : Bool → ℕ → ZoneData
 device stopped made = at.Device (record { stopped = stopped; calls = made })
@@ -181,46 +187,54 @@ stores_in_vain = calls (DeviceServes.store_fails (block 85) true refl refl refl 
 stores_no_more : Acts (device true 6) (Request (writes phase.Store) ∷ []) (device true 6) [] ((id.Physical 0, Request (answered reply.Stopped (writes phase.AbortClaim))) ∷ [])
 stores_no_more = calls (DeviceServes.store_unmade refl refl refl refl refl)
 
--- Enter: the entry is handed in, or waits, or has no block, or the journal was notified
-enters_now : Acts (journal false [] [] []) (Request (writes phase.Enter) ∷ []) (journal true [] (of_first ∷ []) []) (Enters of_first ∷ []) ((id.Device, Block (sealed stage.Cover)) ∷ [])
-enters_now = enters (JournalServes.enters refl refl refl refl refl refl refl)
+-- Enter: the entry is handed in, with the first one the block goes round; or it waits, or has no block, or the journal was notified
+enters_now : Acts (journal false 0 [] [] [] []) (Request (writes phase.Enter) ∷ []) (journal true 0 (writes phase.Pending ∷ []) [] (of_first ∷ []) []) (Enters of_first ∷ [])
+    ((id.Journal, Block (block_of stage.Commit [])) ∷ [])
+enters_now = enters (JournalServes.enters_first refl refl refl refl refl refl refl refl)
 
-enters_later : Acts (journal true [] [] []) (Request (writes phase.Enter) ∷ []) (journal true (writes phase.Enter ∷ []) [] []) [] []
-enters_later = enters (JournalServes.waits refl refl refl refl refl refl)
+enters_next : Acts (journal true 0 (reads phase.Pending ∷ []) [] [] []) (Request (writes phase.Enter) ∷ []) (journal true 0 (reads phase.Pending ∷ writes phase.Pending ∷ []) [] (of_first ∷ []) []) (Enters of_first ∷ []) []
+enters_next = enters (JournalServes.enters refl refl refl refl refl refl refl refl)
 
-enters_full : Acts (journal false [] (of_second ∷ []) []) (Request (writes phase.Enter) ∷ []) (journal false [] (of_second ∷ []) []) [] ((id.Physical 0, Request (answered reply.Full (writes phase.AbortClaim))) ∷ [])
-enters_full = enters (JournalServes.is_full refl refl refl refl refl refl refl)
+enters_later : Acts (journal true 0 (replicate 192 (reads phase.Pending)) [] [] []) (Request (writes phase.Enter) ∷ []) (journal true 0 (replicate 192 (reads phase.Pending)) (writes phase.Enter ∷ []) [] []) [] []
+enters_later = enters (JournalServes.waits refl refl refl refl refl refl refl)
+
+enters_full : Acts (journal false 1 [] [] (of_second ∷ []) []) (Request (writes phase.Enter) ∷ []) (journal false 1 [] [] (of_second ∷ []) []) []
+    ((id.Physical 0, Request (answered reply.Full (writes phase.AbortClaim))) ∷ [])
+enters_full = enters (JournalServes.is_full refl refl refl refl refl refl)
 
 -- Cover, Write, Harden: each call leads to the next stage, or to Fail
 covers : Acts (device false 7) (Block (sealed stage.Cover) ∷ []) (device false 8) (Calls (Flush true) ∷ []) ((id.Device, Block (sealed stage.Write)) ∷ [])
-covers = works (DeviceWorks.makes (Flush true) (block 2) refl refl refl refl refl refl)
+covers = works (DeviceWorks.makes (Flush true) (block 2) _ _ refl refl refl refl refl refl refl)
 
 hardens : Acts (device false 9) (Block (sealed stage.Harden) ∷ []) (device false 10) (Calls (Flush true) ∷ []) ((id.Journal, Block (sealed stage.Commit)) ∷ [])
-hardens = works (DeviceWorks.makes (Flush true) (block 2) refl refl refl refl refl refl)
+hardens = works (DeviceWorks.makes (Flush true) (block 2) _ _ refl refl refl refl refl refl refl)
 
 writes_a_block : Acts (device false 8) (Block (sealed stage.Write) ∷ []) (device false 9) (Calls (Write (block 2) (journal_bytes sizes (sealed stage.Write)) true) ∷ []) ((id.Device, Block (sealed stage.Harden)) ∷ [])
-writes_a_block = works (DeviceWorks.makes (Write (block 2) (journal_bytes sizes (sealed stage.Write)) true) (block 2) refl refl refl refl refl refl)
+writes_a_block = works (DeviceWorks.makes (Write (block 2) (journal_bytes sizes (sealed stage.Write)) true) (block 2) _ _ refl refl refl refl refl refl refl)
 
 hardens_in_vain : Acts (device false 9) (Block (sealed stage.Harden) ∷ []) (device true 9) (Fails first (Flush false) false ∷ []) ((id.Journal, Block (sealed stage.Fail)) ∷ notify)
-hardens_in_vain = works (DeviceWorks.fails (Flush false) (block 2) false refl refl refl refl refl refl)
+hardens_in_vain = works (DeviceWorks.fails (Flush false) (block 2) false _ _ refl refl refl refl refl refl refl)
 
 hardens_no_more : Acts (device true 9) (Block (sealed stage.Harden) ∷ []) (device true 9) [] ((id.Journal, Block (sealed stage.Fail)) ∷ [])
-hardens_no_more = works (DeviceWorks.unmade (Flush false) (block 2) refl refl refl refl refl)
+hardens_no_more = works (DeviceWorks.unmade (Flush false) (block 2) _ _ refl refl refl refl refl refl)
 
--- Commit, Fail: the entry goes to its slot, or is aborted; those that wait have no block, or are stopped
-commits : Acts (journal true [] [] []) (Block (sealed stage.Commit) ∷ []) (journal false [] [] (of_first ∷ [])) (Commits of_first ∷ []) ((id.Logical 0, Request (writes phase.Settle)) ∷ [])
-commits = ends (JournalEnds.commits_alone refl refl refl refl refl refl)
+-- Commit, Fail: the oldest entry goes to its slot; behind the last one the next block is sealed, or there is none; or all are
+-- aborted, and those that wait are stopped
+commits : Acts (journal true 1 [] [] (of_first ∷ []) []) (Block (block_of stage.Commit (writes phase.Pending ∷ reads phase.Pending ∷ [])) ∷ []) (journal true 1 [] [] (of_first ∷ []) (of_first ∷ [])) (Commits of_first ∷ [])
+    ((id.Logical 0, Request (writes phase.Settle)) ∷ (id.Journal, Block (block_of stage.Commit (reads phase.Pending ∷ []))) ∷ [])
+commits = ends (JournalEnds.commits _ _ refl refl refl refl refl)
 
-commits_the_last : Acts (journal true (writes phase.Enter ∷ []) (of_first ∷ []) []) (Block (sealed stage.Commit) ∷ []) (journal false [] (of_first ∷ []) (of_first ∷ [])) (Commits of_first ∷ [])
-    ((id.Logical 0, Request (writes phase.Settle)) ∷ (id.Physical 0, Request (answered reply.Full (writes phase.AbortClaim))) ∷ [])
-commits_the_last = ends (JournalEnds.commits_last refl refl refl refl refl)
+seals : Acts (journal true 0 (writes phase.Pending ∷ []) (reads phase.Enter ∷ []) [] []) (Block (block_of stage.Commit []) ∷ []) (journal true 1 [] [] [] []) (Seals ∷ [])
+    ((id.Device, Block (sealed stage.Cover)) ∷ (id.Journal, Request (reads phase.Enter)) ∷ [])
+seals = ends (JournalEnds.seals _ _ refl refl refl refl refl refl)
 
-commits_and_enters : Acts (journal true (writes phase.Enter ∷ []) [] []) (Block (sealed stage.Commit) ∷ []) (journal true [] (of_first ∷ []) (of_first ∷ [])) (Enters of_first ∷ Commits of_first ∷ [])
-    ((id.Logical 0, Request (writes phase.Settle)) ∷ (id.Device, Block (sealed stage.Cover)) ∷ [])
-commits_and_enters = ends (JournalEnds.commits_next _ _ refl refl refl refl refl refl)
+rests : Acts (journal true 1 [] [] [] []) (Block (block_of stage.Commit []) ∷ []) (journal false 1 [] [] [] []) [] []
+rests = ends (JournalEnds.rests refl refl refl refl refl refl)
 
-fails : Acts (journal true (writes phase.Enter ∷ []) [] []) (Block (sealed stage.Fail) ∷ []) (at.Journal (record { notified = false; busy = false; broken = true; waiting = []; entered = []; committed = [] })) []
-    ((id.Physical 0, Request (answered reply.Stopped (writes phase.AbortEnteredClaim))) ∷ (id.Physical 0, Request (answered reply.Stopped (writes phase.AbortClaim))) ∷ [])
+fails : Acts (journal true 1 (reads phase.Pending ∷ []) (writes phase.Enter ∷ []) [] []) (Block (sealed stage.Fail) ∷ [])
+    (at.Journal (record { notified = false; busy = false; broken = true; blocks = 1; filling = []; waiting = []; entered = []; committed = [] })) []
+    ((id.Physical 0, Request (answered reply.Stopped (writes phase.AbortEnteredClaim))) ∷ (id.Physical 0, Request (answered reply.Stopped (reads phase.AbortEnteredClaim)))
+    ∷ (id.Physical 0, Request (answered reply.Stopped (writes phase.AbortClaim))) ∷ [])
 fails = ends (JournalEnds.fails refl refl refl refl)
 
 -- Settle: the slot is set, and the lock goes to the reader
@@ -276,9 +290,9 @@ notifies_physical : Acts (physical []) (StopNotice ∷ []) (at.Physical (record 
 notifies_physical = takes_notice
 
 abbrev closed : ZoneData
-closed = at.Journal (record { notified = true; busy = true; broken = false; waiting = []; entered = []; committed = [] })
+closed = at.Journal (record { notified = true; busy = true; broken = false; blocks = 1; filling = []; waiting = []; entered = []; committed = [] })
 
-notifies_journal : Acts (journal true (writes phase.Enter ∷ []) [] []) (StopNotice ∷ []) closed [] ((id.Desk, StopNotice) ∷ (id.Physical 0, Request (answered reply.Stopped (writes phase.AbortClaim))) ∷ [])
+notifies_journal : Acts (journal true 1 [] (writes phase.Enter ∷ []) [] []) (StopNotice ∷ []) closed [] ((id.Desk, StopNotice) ∷ (id.Physical 0, Request (answered reply.Stopped (writes phase.AbortClaim))) ∷ [])
 notifies_journal = enters_notice
 
 enters_no_more : Acts closed (Request (writes phase.Enter) ∷ []) closed [] ((id.Physical 0, Request (answered reply.Stopped (writes phase.AbortClaim))) ∷ [])

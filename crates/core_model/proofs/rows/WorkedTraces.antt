@@ -14,7 +14,7 @@ use Rattle.vdo_model.specs.Scripts.{Script}
 use Rattle.core_model.specs.declared.sizes.Sizes.{Sizes}
 use Rattle.core_model.specs.declared.zones.Logged.{Logged}
 use Rattle.core_model.specs.Sessions.{Session}
-use Rattle.core_model.specs.Trace.{Gift, Says, Draws, Enters, Commits, Sets, Takes, Fails, Trace}
+use Rattle.core_model.specs.Trace.{Gift, Says, Draws, Enters, Seals, Commits, Sets, Takes, Fails, Trace}
 
 abbrev pub address : ℕ → Lba
 address a = record { 0 = a }
@@ -93,15 +93,18 @@ of_second = entry second 0 1 (At (block 85)) 86
 abbrev pub of_other : Logged
 of_other = entry other 812 0 Unmapped 86
 
--- the first write has its block, hands its entry in, has it committed, and sets its slot
+-- the first write has its block, hands its entry in, has it sealed in a block and committed, and sets its slot
 abbrev pub took : Trace
 took = Takes first (block 85) ∷ drawn
 
 abbrev pub handed_in : Trace
 handed_in = Enters of_first ∷ took
 
+abbrev pub in_block : Trace
+in_block = Seals ∷ handed_in
+
 abbrev pub lasting : Trace
-lasting = Commits of_first ∷ handed_in
+lasting = Commits of_first ∷ in_block
 
 abbrev pub set : Trace
 set = Sets of_first ∷ lasting

@@ -66,6 +66,9 @@ row_store = (refl, refl, refl, refl, refl)
 row_enter : IsRow phase.Enter 4 true true [] false
 row_enter = (refl, refl, refl, refl, refl)
 
+row_pending : IsRow phase.Pending (zone_count sizes) true false [] true
+row_pending = (refl, refl, refl, refl, refl)
+
 row_settle : IsRow phase.Settle 2 true false [] true
 row_settle = (refl, refl, refl, refl, refl)
 
@@ -102,7 +105,7 @@ row_of_stages = ((refl, refl), (refl, refl), (refl, refl), (refl, refl), (refl, 
 
 -- what each kind of zone keeps beside its lanes
 kept_requests : (kept_items (desk [] [] 0 (writes phase.Reply ∷ [])) ≡ Request (writes phase.Reply) ∷ []) × (kept_items (logical 1 [] [] (reads phase.Wait ∷ []) [] []) ≡ Request (reads phase.Wait) ∷ [])
-    × (kept_items (journal true (writes phase.Enter ∷ reads phase.Enter ∷ []) [] []) ≡ Request (writes phase.Enter) ∷ Request (reads phase.Enter) ∷ [])
+    × (kept_items (journal true 0 (writes phase.Pending ∷ []) (reads phase.Enter ∷ []) [] []) ≡ Request (writes phase.Pending) ∷ Request (reads phase.Enter) ∷ [])
 kept_requests = (refl, refl, refl)
 
 kept_none : (kept_items (physical (block 85 ∷ [])) ≡ []) × (kept_items (device false 6) ≡ [])

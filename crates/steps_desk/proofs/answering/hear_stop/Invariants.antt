@@ -4,7 +4,7 @@ use Rattle.steps_desk.proofs.answering.hear_stop.Given as goal
 
 abbrev pub invariant-loop-vio : goal.invariant-loop-vio
 invariant-loop-vio l = record {
-  room : length l.posts + length l.desk.parked ≤ 278;
+  room : length l.posts + length l.desk.parked ≤ 663;
   desk : l.desk ≡ record l.fn.desk { notices = l.fn.desk.notices + 1; parked = l.desk.parked };
   posts : woken l.fn.desk.parked ≡ l.posts ++ woken l.desk.parked;
 }

@@ -5,7 +5,7 @@ use Rattle.steps_device.proofs.stopping.notify_logical.Given as goal
 
 abbrev pub invariant-loop-left : goal.invariant-loop-left
 invariant-loop-left l = record {
-  room : length l.posts + l.left ≤ 278;
+  room : length l.posts + l.left ≤ 663;
   posts : l.posts ++ stop_notices (logical_zones l.left) ≡ l.initial.posts ++ stop_notices (logical_zones l.initial.left);
 }
 

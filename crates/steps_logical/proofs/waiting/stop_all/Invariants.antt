@@ -5,7 +5,7 @@ use Rattle.steps_logical.proofs.waiting.stop_all.Given as goal
 
 abbrev pub invariant-loop-vio : goal.invariant-loop-vio
 invariant-loop-vio l = record {
-  room : length l.posts + length l.zone.waiting ≤ 278;
+  room : length l.posts + length l.zone.waiting ≤ 663;
   rest : emptied l.at.0 l.fn.zone ≡ emptied l.at.0 l.zone;
   posts : l.fn.posts ++ all_stopped (all_for l.at.0 l.fn.zone.waiting) ≡ l.posts ++ all_stopped (all_for l.at.0 l.zone.waiting);
 }
