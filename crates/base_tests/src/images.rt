@@ -410,6 +410,7 @@ fn window_rows() -> [WindowRow; 10] {
         // outside the data blocks
         (START, remap(3, 84), true),
         (START, remap(3, 149), true),
+        // to no data block
         (
             START,
             Entry::Remap {
@@ -417,7 +418,7 @@ fn window_rows() -> [WindowRow; 10] {
                 old: Mapping::At(Pbn(100)),
                 new: Mapping::Unmapped,
             },
-            true,
+            false,
         ),
         (
             START,
@@ -426,8 +427,9 @@ fn window_rows() -> [WindowRow; 10] {
                 old: Mapping::At(Pbn(100)),
                 new: Mapping::Zero,
             },
-            true,
+            false,
         ),
+        // of a page
         (START, Entry::NewPage { page, at: Pbn(100) }, true),
     ]
 }
