@@ -7,3 +7,5 @@ mod images;
 mod rows;
 #[cfg(test)]
 mod stops;
+#[cfg(test)]
+mod torn;

@@ -16,15 +16,16 @@ use replay_map::{Link, replay};
 use std::alloc::{AllocError, Global};
 use std::test::Fail;
 
-// What an image says: its links, the blocks of its addresses, and its stored counts; none where it can't be read.
+/// What an image says: its links, the blocks of its addresses, and its stored counts; none where it can't be read.
 #[derive(Drop)]
-struct Said {
+pub(crate) struct Said {
     links: Vec<Link>,
     mapped: Vec<Pbn>,
     counts: Vec<u16>,
 }
 
-fn read_image(alloc: Global, device: &mut MemDisk) -> Option<Said> {
+/// What the image on a device says.
+pub(crate) fn read_image(alloc: Global, device: &mut MemDisk) -> Option<Said> {
     let Ok(head) = read_head(device) else {
         return None;
     };
@@ -73,10 +74,10 @@ fn closed(row: &Row) -> Super {
     }
 }
 
-// What a recovery gives: its answer, whether the image says the same, how many blocks are used and differ, whether the
-// superblock is that of a closed image, and what a second recovery answers.
+/// What a recovery gives: its answer, whether the image says the same, how many blocks are used and differ, whether the
+/// superblock is that of a closed image, and what a second recovery answers.
 #[derive(Clone, Copy, Debug, PartialEq, Eq)]
-struct Outcome {
+pub(crate) struct Outcome {
     answer: Result<Recovered, ImageFault>,
     same: bool,
     audited: Option<(u32, usize)>,
@@ -84,7 +85,13 @@ struct Outcome {
     again: Result<Recovered, ImageFault>,
 }
 
-fn recover_twice(alloc: Global, row: &Row, before: &Option<Said>, device: &mut MemDisk) -> Outcome {
+/// What a recovery of a device gives, where the image said this before.
+pub(crate) fn recover_twice(
+    alloc: Global,
+    row: &Row,
+    before: &Option<Said>,
+    device: &mut MemDisk,
+) -> Outcome {
     let answer = recover(alloc, device);
     let now = read_image(alloc, device);
     let same = is_same(before, &now);
@@ -147,20 +154,17 @@ fn stopped(
     Ok((ended, recover_twice(alloc, row, &before, &mut left)))
 }
 
-// Whether that is right: it is recovered again, or is found clean.
-fn is_right(row: &Row, found: Outcome) -> bool {
+/// Whether that is right: it is recovered again, or is found clean.
+pub(crate) fn is_right(row: &Row, found: Outcome) -> bool {
     found == wanted(row, Recovered::Entries(row.entries)) || found == wanted(row, Recovered::Clean)
 }
 
 // The first stop that leaves something else. Number 0 is what was certain, 1 all that was written since, 7 a mix of both,
-// sector by sector. Of the calls before the last 14, which read, every ninth is the last.
+// sector by sector.
 fn other_stop(alloc: Global, number: u64) -> Result<Option<(Stop, Outcome)>, AllocError> {
     for (i, row) in ROWS.iter().enumerate() {
         let all = calls_made(alloc, row)?.all as u64;
         for passes in 0..all.min(200) + 1 {
-            if passes + 14 < all && passes % 9 != 0 {
-                continue;
-            }
             let (ended, found) = stopped(alloc, row, passes, number)?;
             if ended != (passes == all) || !is_right(row, found) {
                 return Ok(Some(((i, passes, number), found)));
@@ -188,15 +192,15 @@ fn what_was_torn_is_recovered(rt: HostRuntime) -> Result<(), Fail> {
     Ok(())
 }
 
-// How many calls a recovery makes, how many of them write, and whether it ends with a flush, block 0, and a flush.
+/// How many calls a recovery makes, how many of them write, and whether it ends with a flush, block 0, and a flush.
 #[derive(Clone, Copy, Debug, PartialEq, Eq)]
-struct Calls {
-    all: usize,
-    writes: usize,
-    closes: bool,
+pub(crate) struct Calls {
+    pub(crate) all: usize,
+    pub(crate) writes: usize,
+    pub(crate) closes: bool,
 }
 
-fn calls_made(alloc: Global, row: &Row) -> Result<Calls, AllocError> {
+pub(crate) fn calls_made(alloc: Global, row: &Row) -> Result<Calls, AllocError> {
     let mut image = device(alloc, row)?;
     let _ = recover(alloc, &mut image);
     let made = image.calls();
