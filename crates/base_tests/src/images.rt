@@ -1,11 +1,7 @@
 use crate::shared::{not_shown, with_byte};
-use blk_base::{Block, Entry, Geometry, Layout, Lba, Mapping, PageId, Pbn, Super};
+use blk_base::{Block, Entry, Geometry, Layout, Lba, Mapping, Pbn, Super};
 use image_layout::SuperFault::{BadField, NotAnImage, Version};
-use image_layout::{
-    Field, ImageFault, SuperFault, WindowFault, first_image, mapping_at, read_super, read_window,
-    value_at, write_super,
-};
-use journal_codec::{Entries, JournalBlock, encode};
+use image_layout::{Field, SuperFault, first_image, mapping_at, read_super, write_super};
 use std::alloc::AllocError;
 
 const HEAD: Super = Super {
@@ -261,231 +257,12 @@ fn the_first_image(rt: HostRuntime) {
     assert_eq!(rt; told_of_first_image(&rt), Ok((154, DEFAULT_BYTES, true)));
 }
 
-// The first sequence of the windows that are read here. The journal has 8 slots.
-const START: u64 = 7;
-
-// A block of the journal of the default image.
-fn journal_block(sequence: u64, head: u64, entries: &[Entry]) -> Block {
-    let mut held = Entries::new();
-    for &entry in entries {
-        if !held.is_full() {
-            held.push(entry);
-        }
-    }
-    let block = JournalBlock {
-        nonce: 1,
-        sequence,
-        head,
-        entries: held,
-    };
-    let mut into = Block::zero();
-    encode(&block, &mut into);
-    into
-}
-
-fn empty_journal() -> [Block; 8] {
-    [
-        Block::zero(),
-        Block::zero(),
-        Block::zero(),
-        Block::zero(),
-        Block::zero(),
-        Block::zero(),
-        Block::zero(),
-        Block::zero(),
-    ]
-}
-
-fn put_block(journal: &mut [Block; 8], slot: usize, block: &Block) {
-    journal[slot % 8].copy_from(block);
-}
-
-// Puts the block of a sequence to its slot, as a run leaves it.
-fn put_written(journal: &mut [Block; 8], sequence: u64, entry: Entry) {
-    let block = journal_block(sequence, START, &[entry]);
-    put_block(journal, (sequence % 8) as usize, &block);
-}
-
-// How many entries a window has, and the first three.
-type Window = Result<(usize, [Option<Entry>; 3]), WindowFault>;
-
-const EMPTY: Window = Ok((0, [None; 3]));
-
-fn of_one(entry: Entry) -> Window {
-    Ok((1, [Some(entry), None, None]))
-}
-
-fn first_three(entries: &[Entry]) -> [Option<Entry>; 3] {
-    [
-        entries.first().copied(),
-        entries.get(1).copied(),
-        entries.get(2).copied(),
-    ]
-}
-
-fn read(rt: &HostRuntime, journal: &[Block; 8]) -> Window {
-    let head = Super {
-        start: START,
-        ..HEAD
-    };
-    let entries = read_window(rt.alloc(), journal, &head)?;
-    Ok((entries.len(), first_three(&entries)))
-}
-
 fn remap(at: u32, block: u32) -> Entry {
     Entry::Remap {
         at: Lba(at),
         old: Mapping::Unmapped,
         new: Mapping::At(Pbn(block)),
     }
-}
-
-// What is read where a run left these entries.
-fn read_written(rt: &HostRuntime, entries: &[Entry]) -> Window {
-    let mut journal = empty_journal();
-    for (i, &entry) in entries.iter().enumerate() {
-        put_written(&mut journal, START.wrapping_add(i as u64), entry);
-    }
-    read(rt, &journal)
-}
-
-// The data blocks are 85 to 148.
-#[test]
-fn windows(rt: HostRuntime) {
-    let [first, second, third] = [remap(0, 85), remap(999, 148), remap(0, 86)];
-    let read = [
-        read_written(&rt, &[]),
-        read_written(&rt, &[first]),
-        read_written(&rt, &[first, second]),
-        read_written(&rt, &[first, second, third]),
-    ];
-    let of_two = Ok((2, [Some(first), Some(second), None]));
-    let of_three = Ok((3, [Some(first), Some(second), Some(third)]));
-    assert_eq!(rt; read, [EMPTY, of_one(first), of_two, of_three]);
-}
-
-// Slots and the sequences of their blocks: below the first one, out of reach, and in the slot of another.
-const PASSED_OVER: [(usize, u64); 4] = [(6, 6), (7, 7 + (1 << 32)), (2, 9), (1, 8)];
-
-// What is read where the block of a sequence stands in this slot, with nothing else in the journal and with a block.
-fn read_beside(rt: &HostRuntime, slot: usize, sequence: u64) -> [Window; 2] {
-    let mut journal = empty_journal();
-    put_block(&mut journal, slot, &journal_block(sequence, 1, &[]));
-    let alone = read(rt, &journal);
-    put_written(&mut journal, 7, remap(3, 100));
-    [alone, read(rt, &journal)]
-}
-
-#[test]
-fn what_is_not_looked_at(rt: HostRuntime) {
-    let mut found = [[EMPTY; 2]; 4];
-    for (i, &(slot, sequence)) in PASSED_OVER.iter().enumerate() {
-        found[i] = read_beside(&rt, slot, sequence);
-    }
-    assert_eq!(rt; found, [[EMPTY, of_one(remap(3, 100))]; 4]);
-}
-
-const fn faulty(sequence: u64) -> Window {
-    Err(WindowFault::Faulty { sequence })
-}
-
-// The head and the entry of a block, and whether it is a fault.
-type WindowRow = (u64, Entry, bool);
-
-fn window_rows() -> [WindowRow; 10] {
-    let one = remap(3, 100);
-    let page = PageId {
-        tree: 0,
-        level: 0,
-        index: 0,
-    };
-    [
-        (START, one, false),
-        // another head
-        (START - 1, one, true),
-        (START + 1, one, true),
-        // past the logical size
-        (START, remap(999, 100), false),
-        (START, remap(1000, 100), true),
-        // outside the data blocks
-        (START, remap(3, 84), true),
-        (START, remap(3, 149), true),
-        // to no data block
-        (
-            START,
-            Entry::Remap {
-                at: Lba(3),
-                old: Mapping::At(Pbn(100)),
-                new: Mapping::Unmapped,
-            },
-            false,
-        ),
-        (
-            START,
-            Entry::Remap {
-                at: Lba(3),
-                old: Mapping::At(Pbn(100)),
-                new: Mapping::Zero,
-            },
-            false,
-        ),
-        // of a page
-        (START, Entry::NewPage { page, at: Pbn(100) }, true),
-    ]
-}
-
-// What is read where a block stands between those of sequences 7 and 9.
-fn read_between(rt: &HostRuntime, block: &Block) -> Window {
-    let mut journal = empty_journal();
-    put_written(&mut journal, 7, remap(3, 100));
-    put_block(&mut journal, 0, block);
-    put_written(&mut journal, 9, remap(3, 100));
-    read(rt, &journal)
-}
-
-// The same of the block with this head and these entries.
-fn read_with(rt: &HostRuntime, head: u64, entries: &[Entry]) -> Window {
-    read_between(rt, &journal_block(8, head, entries))
-}
-
-#[test]
-fn blocks_of_a_window(rt: HostRuntime) {
-    let one = remap(3, 100);
-    let mut found = [EMPTY; 10];
-    let mut wanted = found;
-    for (i, &(head, entry, is_fault)) in window_rows().iter().enumerate() {
-        found[i] = read_with(&rt, head, &[entry]);
-        wanted[i] = if is_fault {
-            faulty(8)
-        } else {
-            Ok((3, [Some(one), Some(entry), Some(one)]))
-        };
-    }
-    assert_eq!(rt; found, wanted);
-}
-
-// What is read where the last sequence in reach stands alone.
-fn read_last_alone(rt: &HostRuntime) -> Window {
-    let mut journal = empty_journal();
-    put_written(&mut journal, 6 + (1 << 32), remap(3, 100));
-    read(rt, &journal)
-}
-
-fn read_without_block(rt: &HostRuntime) -> Window {
-    read_between(rt, &Block::zero())
-}
-
-// A hole, no entry, two, and a last block that stands alone.
-#[test]
-fn faulty_windows(rt: HostRuntime) {
-    let one = remap(3, 100);
-    let read = [
-        read_without_block(&rt),
-        read_with(&rt, START, &[]),
-        read_with(&rt, START, &[one, one]),
-        read_last_alone(&rt),
-    ];
-    assert_eq!(rt; read, [faulty(8), faulty(8), faulty(8), faulty(7)]);
 }
 
 fn some_entries() -> [Entry; 4] {
@@ -511,22 +288,6 @@ fn mappings(rt: HostRuntime) {
     let none = Mapping::Unmapped;
     let mapped = [mappings_at(&entries), mappings_at(&entries[..1])];
     assert_eq!(rt; mapped, [[two, two, nine, none], [one, none, none, none]]);
-}
-
-// The first byte of the value at an address, and whether the others are the same, with such blocks 1 and 2.
-fn value(at: u32) -> (u8, bool) {
-    let mut image = empty_journal();
-    put_block(&mut image, 1, &Block { bytes: [11; 4096] });
-    put_block(&mut image, 2, &Block { bytes: [22; 4096] });
-    let value = value_at(&image, &some_entries(), Lba(at));
-    let first = value.bytes[0];
-    (first, value.bytes == [first; 4096])
-}
-
-#[test]
-fn values(rt: HostRuntime) {
-    let found = [value(3), value(4), value(5), value(6)];
-    assert_eq!(rt; found, [(22, true), (22, true), (0, true), (0, true)]);
 }
 
 const FIELD_NAMES: [(Field, &str); 12] = [
@@ -567,16 +328,8 @@ const SUPER_TEXTS: [(SuperFault, &str); 3] = [
     (BadField(Field::Journal), "field journal"),
 ];
 
-const IMAGE_TEXTS: [(ImageFault, &str); 4] = [
-    (ImageFault::Super(NotAnImage), "not an image"),
-    (ImageFault::Super(Version(7)), "version 7"),
-    (ImageFault::Super(BadField(Field::Journal)), "field journal"),
-    (ImageFault::Window { sequence: 9 }, "window 9"),
-];
-
-// The texts are those of `super_fault_text` and `image_fault_text`.
+// The texts are those of `super_fault_text`.
 #[test]
 fn texts_of_faults(rt: HostRuntime) {
     assert_eq!(rt; not_shown(&rt, &SUPER_TEXTS), None);
-    assert_eq!(rt; not_shown(&rt, &IMAGE_TEXTS), None);
 }

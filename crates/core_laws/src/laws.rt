@@ -7,7 +7,7 @@ ghost use Rattle.blk_base.specs.declared.request.Answer.TheVariants.{Range, Stop
 ghost use Rattle.blk_base.specs.declared.request.Request.{Request};
 ghost use Rattle.blk_base.specs.declared.request.Writer.{Writer};
 ghost use Rattle.disk_model.specs.declared.call.Call.{Call};
-ghost use Rattle.image_layout.specs.Window.{mapping_of};
+ghost use Rattle.image_layout.specs.Values.{mapping_of};
 ghost use Rattle.vdo_model.specs.DeskLog.{IsDeskLog, AllAnswered, answer_of};
 ghost use Rattle.vdo_model.specs.FlushMarks.{AreFlushMarks};
 ghost use Rattle.vdo_model.specs.Places.{AreDrawn, IsAnsweredAtOnce, place_of};

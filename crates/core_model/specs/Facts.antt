@@ -12,7 +12,7 @@ use Rattle.blk_base.specs.declared.request.Answer.{Answer}
 use Rattle.blk_base.specs.declared.request.Answer.TheVariants as reply
 use Rattle.blk_base.specs.declared.request.Request.{Request}
 use Rattle.blk_base.specs.declared.request.Writer.{Writer}
-use Rattle.image_layout.specs.Window.{mapping_of}
+use Rattle.image_layout.specs.Values.{mapping_of}
 use Rattle.byte_fields.specs.Mappings.{HoldsMapping}
 use Rattle.vdo_model.specs.DeskLog.{answer_of}
 use Rattle.vdo_model.specs.FlushMarks.{IsMark, successes}

@@ -2,7 +2,7 @@
 use Rattle.std.specs.Prelude.{ℕ, ◌≡◌, Bool, true, false, Option, None, Some, List}
 use Rattle.blk_base.specs.declared.request.Writer.{Writer}
 use Rattle.disk_model.specs.Log.{Blocks, block_at}
-use Rattle.image_layout.specs.Window.{value_of, journal_of}
+use Rattle.image_layout.specs.Values.{value_of, journal_of}
 use Rattle.vdo_model.specs.Histories.{Progress, histories_of}
 use Rattle.vdo_model.specs.ZoneOrder.{by_zone}
 use Rattle.vdo_model.specs.declared.report.HistoryEntry.{HistoryEntry}

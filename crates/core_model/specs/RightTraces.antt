@@ -14,7 +14,7 @@ use Rattle.blk_base.specs.declared.request.Request.TheVariants as request
 use Rattle.blk_base.specs.declared.request.Writer.{Writer}
 use Rattle.disk_model.specs.declared.call.Call.{Call}
 use Rattle.disk_model.specs.declared.call.Call.TheVariants as call
-use Rattle.image_layout.specs.Window.{mapping_of}
+use Rattle.image_layout.specs.Values.{mapping_of}
 use Rattle.vdo_model.specs.DeskLog.{IsNextLine, begun, answer_of}
 use Rattle.vdo_model.specs.FlushMarks.{IsMark}
 use Rattle.vdo_model.specs.Places.{IsNextPlace, place_of, zone_of}

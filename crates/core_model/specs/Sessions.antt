@@ -13,7 +13,7 @@ use Rattle.disk_model.specs.Images.{HasOneImage, IsMixOf}
 use Rattle.disk_model.specs.Log as device
 use Rattle.disk_model.specs.declared.call.Call.{Call}
 use Rattle.disk_model.specs.declared.call.Call.TheVariants.{Read}
-use Rattle.image_layout.specs.Window.{journal_of, mapping_of, value_of}
+use Rattle.image_layout.specs.Values.{journal_of, mapping_of, value_of}
 use Rattle.stop_laws.specs.Journals.{Surely, block_of_slot}
 use Rattle.vdo_model.specs.Scripts.{Script, request_at, value_written}
 use Rattle.core_model.specs.declared.sizes.Sizes.{Sizes}

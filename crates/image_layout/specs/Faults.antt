@@ -5,8 +5,6 @@ use Rattle.image_layout.specs.declared.fault.Field.{Field}
 use Rattle.image_layout.specs.declared.fault.Field.TheVariants.{Height, Nonce, Logical, Slabs, SlabBlocks, Journal, Index, SlabJournal, Clean, Reserved, Start, Blocks}
 use Rattle.image_layout.specs.declared.fault.SuperFault.{SuperFault}
 use Rattle.image_layout.specs.declared.fault.SuperFault.TheVariants.{NotAnImage, Version, BadField}
-use Rattle.image_layout.specs.declared.fault.ImageFault.{ImageFault}
-use Rattle.image_layout.specs.declared.fault.ImageFault.TheVariants.{Super, Window}
 
 -- a field's name as it is printed
 abbrev pub field_name : Field → List ℕ
@@ -28,8 +26,3 @@ abbrev pub super_fault_text : SuperFault → List ℕ
 super_fault_text NotAnImage = codes "not an image"
 super_fault_text (Version found) = codes "version " ++ decimal found
 super_fault_text (BadField field) = codes "field " ++ field_name field
-
--- the text of an image's fault
-abbrev pub image_fault_text : ImageFault → List ℕ
-image_fault_text (Super why) = super_fault_text why
-image_fault_text (Window sequence) = codes "window " ++ decimal sequence

@@ -1,7 +1,6 @@
 pub mod Faults
 pub mod Superblock
 pub mod FirstImage
-pub mod Window
+pub mod Values
 pub mod Opened
-pub mod WindowCount
 pub mod Planning

@@ -1,14 +1,11 @@
--- What an image is, once it is opened: its superblock, and the values of its addresses.
+-- What an image is, once it is opened: its superblock.
 use Rattle.std.specs.Prelude.{ℕ, ◌≡◌, ◌<◌, ◌≤◌, ◌^◌, List, [], ◌∷◌, length, Result, Ok, Err}
 use Rattle.blk_base.specs.Limits.{IsGeometry}
 use Rattle.blk_base.specs.Regions.{needed_blocks}
-use Rattle.blk_base.specs.declared.geometry.Geometry.{Geometry}
 use Rattle.blk_base.specs.declared.geometry.Super.{Super}
-use Rattle.blk_base.specs.declared.journal_entry.Entry.{Entry}
 use Rattle.image_layout.specs.declared.fault.SuperFault.{SuperFault}
 use Rattle.image_layout.specs.declared.fault.SuperFault.TheVariants.{NotAnImage}
 use Rattle.image_layout.specs.Superblock.{super_of}
-use Rattle.image_layout.specs.Window.{IsWindow, journal_of, value_of}
 
 -- what the superblock of an image says; a device without blocks has none
 abbrev pub super_of_image : List (List ℕ) → Result Super SuperFault
@@ -21,9 +18,3 @@ pub record IsHead (size : ℕ) (block : List ℕ) (head : Super) : Type 0 where
   pub sizes : IsGeometry head.geometry
   pub start : (1 ≤ head.start) × (head.start < 2 ^ 54)
   pub room : needed_blocks head.geometry ≤ size
-
--- an image has a window, which gives its addresses these values
-pub record HasValues (g : Geometry) (start : ℕ) (image : List (List ℕ)) (values : ℕ → List ℕ) : Type 0 where
-  pub window : List Entry
-  pub is_window : IsWindow g start (journal_of g image) window
-  pub values_are : values ≡ value_of image window

@@ -65,28 +65,6 @@ pub enum SuperFault {
     BadField(Field),
 }
 
-/// Why the blocks of a device are no image. Its text is `image_fault_text` of it, in `specs/Faults`.
-#[derive(Clone, Copy, Debug, PartialEq, Eq, Error)]
-pub enum ImageFault {
-    /// Its block 0 is no superblock.
-    #[error(transparent)]
-    Super(SuperFault),
-    /// This block of the recovery journal is the first of the window that isn't as a run leaves it.
-    #[error("window {sequence}")]
-    Window { sequence: u64 },
-}
-
-/// Why the window of a recovery journal isn't read.
-#[derive(Clone, Copy, Debug, PartialEq, Eq, Error)]
-pub enum WindowFault {
-    /// The block of this sequence is the first of the window that isn't as a run leaves it.
-    #[error("window {sequence}")]
-    Faulty { sequence: u64 },
-    /// There is no memory for the entries.
-    #[error("no memory")]
-    Memory,
-}
-
 /// Why an image of these sizes can't be had. Its text is `layout_fault_text` of it, in `specs/Planning`.
 #[derive(Clone, Copy, Debug, PartialEq, Eq, Error)]
 pub enum LayoutFault {

@@ -1,17 +1,17 @@
-//! The layout of an image on its device: its superblock, what its blocks are before anything was written, and what
-//! earlier runs wrote to its recovery journal.
+//! The layout of an image on its device: its superblock, what its blocks are before anything was written, and where the
+//! entries of its recovery journal map an address.
 #![tactic(auto)]
 
 mod fault;
 mod first;
 mod planning;
 mod reading;
-mod windows;
+mod values;
 mod writing;
 
-pub use fault::{Field, ImageFault, LayoutFault, SuperFault, WindowFault};
+pub use fault::{Field, LayoutFault, SuperFault};
 pub use first::first_image;
 pub use planning::plan;
 pub use reading::read_super;
-pub use windows::{mapping_at, read_window, value_at, windows_are_one};
+pub use values::mapping_at;
 pub use writing::write_super;

@@ -23,7 +23,7 @@ use Rattle.disk_model.specs.Log.{Blocks, block_at}
 use Rattle.image_layout.specs.Opened.{super_of_image}
 use Rattle.image_layout.specs.Superblock.{super_of, answer_after, run_checks, super_checks, identity_checks, size_checks, state_checks, room_checks, geometry_in, head_in}
 use Rattle.image_layout.specs.declared.fault.SuperFault.{SuperFault}
-use Rattle.image_layout.specs.Window.{journal_of}
+use Rattle.image_layout.specs.Values.{journal_of}
 use Rattle.image_layout.proofs.CheckLaws.{sizes_right}
 use Rattle.journal_codec.specs.Grammar.{IsSector}
 use Rattle.page_codec.specs.Grammar.{IsPage, IsSlot}

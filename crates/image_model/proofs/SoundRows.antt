@@ -13,7 +13,7 @@ use Rattle.journal_codec.specs.Spelling.{entries_in}
 use Rattle.journal_codec.proofs.PrefixLaws.{written}
 use Rattle.journal_codec.proofs.ReadLaws.{one_reading}
 use Rattle.blk_base.specs.declared.journal_entry.CommittedEntry.{CommittedEntry}
-use Rattle.image_layout.specs.Window.{journal_of}
+use Rattle.image_layout.specs.Values.{journal_of}
 use Rattle.image_model.specs.Counts.{HasMappings, Stores, block_of_data, commit_at, commit_of}
 use Rattle.image_model.specs.Maps.{Image}
 use Rattle.image_model.specs.Sound.{IsDataPlace, HasSequences, AreUnshared, IsOfItsTime, IsClosed, IsTrueOf}

@@ -13,7 +13,7 @@ use Rattle.blk_base.specs.declared.place.Mapping.TheVariants.{At}
 use Rattle.blk_base.specs.declared.point.Half.TheVariants.{Increment}
 use Rattle.disk_model.specs.Log.{Blocks}
 use Rattle.image_layout.specs.Opened.{super_of_image}
-use Rattle.image_layout.specs.Window.{journal_of}
+use Rattle.image_layout.specs.Values.{journal_of}
 use Rattle.journal_codec.specs.Grammar.{IsSector}
 use Rattle.slab_codec.specs.declared.forms.SlabEntry.{SlabEntry}
 use Rattle.image_model.specs.Windows.{IsWindow}

@@ -9,7 +9,7 @@ use Rattle.blk_base.specs.declared.journal_entry.Entry.{Entry}
 use Rattle.disk_model.specs.declared.call.Call.{Call}
 use Rattle.disk_model.specs.Images.{IsImage}
 use Rattle.disk_model.specs.Log.{Blocks}
-use Rattle.image_layout.specs.Window.{journal_of}
+use Rattle.image_layout.specs.Values.{journal_of}
 use Rattle.image_model.specs.Windows.{IsWindow, with_points, entries_from}
 use Rattle.journal_stops.specs.Rings.{IsRing, IsAtRest, IsUnderWay}
 use Rattle.journal_stops.specs.Sealed.{Sealed, next_of, head_of, lists_of, entries_of, since, before, window_of, front_of}

@@ -14,7 +14,7 @@ use Rattle.byte_fields.specs.Fields.{number_at}
 use Rattle.byte_fields.proofs.FieldLaws.{number_at-drop}
 use Rattle.std.proofs.lemmas.List.{drop-replicate}
 use Rattle.disk_model.specs.Log.{Blocks, block_at}
-use Rattle.image_layout.specs.Window.{journal_of}
+use Rattle.image_layout.specs.Values.{journal_of}
 use Rattle.image_model.specs.Maps.{mapping_in, mapping_with, mapping_of, page_at}
 use Rattle.image_model.specs.Windows.{in_slot, IsThere, IsWindow}
 use Rattle.image_model.specs.Pages.{is_page}

@@ -9,7 +9,7 @@ use Rattle.blk_base.specs.declared.place.Mapping.{Mapping}
 use Rattle.blk_base.specs.declared.place.Mapping.TheVariants.{Unmapped, At}
 use Rattle.blk_base.specs.declared.place.PageId.{PageId}
 use Rattle.blk_base.specs.declared.place.Pbn.{Pbn}
-use Rattle.image_layout.specs.Window as layout
+use Rattle.image_layout.specs.Values as layout
 use Rattle.image_model.specs.Maps.{put_by, put_last, or_else}
 use Rattle.image_model.specs.Pages.{leaf_of, slot_of_address, above, slot_of, is_page}
 use Rattle.journal_stops.specs.Mapped.{put_at, newest_for, put_page, newest_page, page_of}

@@ -9,7 +9,7 @@ use Rattle.blk_base.specs.declared.geometry.Geometry.{Geometry}
 use Rattle.blk_base.specs.declared.journal_entry.CommittedEntry.{CommittedEntry}
 use Rattle.blk_base.specs.declared.journal_entry.Entry.{Entry}
 use Rattle.disk_model.specs.Log.{Blocks, block_at}
-use Rattle.image_layout.specs.Window.{journal_of}
+use Rattle.image_layout.specs.Values.{journal_of}
 use Rattle.image_model.specs.Windows.{in_slot, IsFirst, IsLast, IsReplayable, AreReplayable, IsWindow, entries_from}
 use Rattle.image_model.specs.Sound.{IsSound}
 use Rattle.image_model.proofs.EmptyLaws.{sizes_of_image}

@@ -14,7 +14,7 @@ use Rattle.disk_model.specs.declared.call.Call.{Call}
 use Rattle.disk_model.specs.Images.{IsImage}
 use Rattle.disk_model.specs.Log.{Blocks, block_at, contents}
 use Rattle.disk_model.proofs.ImageLaws.{all_weaker, sector_of_mix}
-use Rattle.image_layout.specs.Window.{journal_of}
+use Rattle.image_layout.specs.Values.{journal_of}
 use Rattle.image_model.specs.Windows.{in_slot, IsThere, IsFirst, IsLast, IsOfImage, IsReplayable, AreReplayable, IsWindow}
 use Rattle.journal_codec.specs.Grammar.{IsSector, IsRun, IsPrefix}
 use Rattle.journal_codec.specs.Spelling.{entries_in}

@@ -9,7 +9,7 @@ ghost use Rattle.disk_model.specs.declared.call.Call.{Call};
 ghost use Rattle.disk_model.specs.declared.call.Call.TheVariants.{Write, Flush};
 ghost use Rattle.disk_model.specs.Images.{IsImage, HasOneImage};
 ghost use Rattle.disk_model.specs.Log.{Blocks};
-ghost use Rattle.image_layout.specs.Window.{journal_of};
+ghost use Rattle.image_layout.specs.Values.{journal_of};
 ghost use Rattle.image_model.specs.Sound.{IsSound};
 ghost use Rattle.image_model.specs.Windows.{in_slot, IsWindow};
 ghost use Rattle.journal_codec.specs.Grammar.{HoldsBlock, IsSector, IsPrefix};

@@ -6,7 +6,7 @@ ghost use Rattle.blk_base.specs.declared.journal_entry.Entry.{Entry};
 ghost use Rattle.disk_model.specs.declared.call.Call.{Call};
 ghost use Rattle.disk_model.specs.Images.{IsImage};
 ghost use Rattle.disk_model.specs.Log.{Blocks};
-ghost use Rattle.image_layout.specs.Window.{journal_of};
+ghost use Rattle.image_layout.specs.Values.{journal_of};
 ghost use Rattle.image_model.specs.Windows.{IsWindow};
 ghost use Rattle.journal_codec.specs.Grammar.{IsSector};
 ghost use Rattle.journal_stops.specs.Rings.{IsRing, IsAtRest, IsUnderWay};

@@ -1,3 +1,4 @@
+pub mod SlotLaws
 pub mod NewestLaws
 pub mod ReplayLaws
 pub mod PageLaws

@@ -6,11 +6,11 @@ use Rattle.blk_base.specs.Sectors.{sector, zero_block}
 use Rattle.blk_base.specs.declared.geometry.Geometry.{Geometry}
 use Rattle.blk_base.specs.declared.journal_entry.Entry.{Entry}
 use Rattle.journal_codec.specs.Grammar.{IsSector}
-use Rattle.image_layout.proofs.WindowLaws.{same_there}
 use Rattle.std.specs.Prelude.{get_or}
 use Rattle.image_model.specs.Windows.{IsThere, IsLast, IsFirst}
 use Rattle.journal_window.specs.declared.newest.Newest.{Newest}
 use Rattle.journal_window.specs.Newest.{IsNewest, IsUpTo}
+use Rattle.journal_window.proofs.SlotLaws.{same_there}
 
 -- no slot yet
 pub none_newest : (g : Geometry) (start : ℕ) (journal : List (List ℕ)) → IsNewest g start journal 0 None

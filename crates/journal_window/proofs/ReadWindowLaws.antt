@@ -13,7 +13,7 @@ use Rattle.disk_model.specs.Log.{Blocks, block_at, settled}
 use Rattle.disk_model.specs.Seen.{Seen}
 use Rattle.disk_model.specs.Since.{AreGiven}
 use Rattle.image_layout.specs.Opened.{super_of_image}
-use Rattle.image_layout.specs.Window.{journal_of}
+use Rattle.image_layout.specs.Values.{journal_of}
 use Rattle.image_layout.specs.declared.fault.SuperFault.{SuperFault}
 use Rattle.image_model.specs.Faults.{IsAtEnd, IsImageFault}
 use Rattle.image_model.specs.Sound.{Opens}

@@ -14,7 +14,7 @@ use Rattle.disk_model.proofs.SinceLaws.{image_since}
 use Rattle.image_format.specs.Calls.{put}
 use Rattle.image_format.specs.Runs.{Makes, WereMade, OneFailed, as_failed}
 use Rattle.image_layout.specs.Superblock.{super_block}
-use Rattle.image_layout.specs.Window.{journal_of}
+use Rattle.image_layout.specs.Values.{journal_of}
 use Rattle.image_model.proofs.WindowLaws.{one_window}
 use Rattle.image_model.specs.Maps.{Image}
 use Rattle.image_model.specs.Sound.{IsSound, Opens, image_of}

@@ -19,7 +19,7 @@ use Rattle.byte_fields.specs.Fields.{number_at}
 use Rattle.disk_model.specs.Log.{Blocks, block_at}
 use Rattle.image_layout.specs.Opened.{super_of_image}
 use Rattle.image_layout.specs.Superblock.{super_of}
-use Rattle.image_layout.specs.Window.{journal_of}
+use Rattle.image_layout.specs.Values.{journal_of}
 use Rattle.image_model.proofs.CountLaws.{none_in_nothing, one_stored}
 use Rattle.image_model.proofs.EmptyLaws.{sizes_of_image}
 use Rattle.image_model.proofs.MapLaws.{slot_says_its_mapping}

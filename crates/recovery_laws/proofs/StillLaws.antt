@@ -9,7 +9,7 @@ use Rattle.blk_base.specs.declared.place.Mapping.{Mapping}
 use Rattle.blk_base.specs.declared.place.Mapping.TheVariants.{Unmapped, Zero, At}
 use Rattle.blk_base.specs.declared.place.Pbn.{Pbn}
 use Rattle.disk_model.specs.Log.{Blocks, block_at}
-use Rattle.image_layout.specs.Window.{journal_of}
+use Rattle.image_layout.specs.Values.{journal_of}
 use Rattle.image_model.specs.Counts.{IsKept}
 use Rattle.image_model.specs.Maps.{Image, ArePagesGood, mapping_of, value_with}
 use Rattle.image_model.specs.Sound.{AreUnshared}

@@ -2,7 +2,5 @@
 #![tactic(auto)]
 
 mod histories;
-mod journals;
 
 pub use histories::the_histories_after_a_stop;
-pub use journals::the_window_after_a_stop;

@@ -11,7 +11,7 @@ use Rattle.disk_model.specs.Since.{WereRead}
 use Rattle.disk_model.proofs.SinceLaws.{read_on, failed_on, front_of_image}
 use Rattle.image_layout.specs.Opened.{IsHead, super_of_image}
 use Rattle.image_layout.specs.Superblock.{super_of}
-use Rattle.image_layout.specs.Window.{journal_of}
+use Rattle.image_layout.specs.Values.{journal_of}
 use Rattle.image_layout.specs.declared.fault.SuperFault.{SuperFault}
 use Rattle.image_model.specs.declared.fault.ImageFault.{ImageFault}
 use Rattle.image_model.specs.declared.fault.ImageFault.TheVariants as image

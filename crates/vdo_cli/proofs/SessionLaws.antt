@@ -21,7 +21,7 @@ use Rattle.disk_model.proofs.OneImageLaws.{one_image-unique}
 use Rattle.disk_model.proofs.SeenLaws.{stays_on}
 use Rattle.disk_model.proofs.SinceLaws.{image_since}
 use Rattle.image_layout.specs.Opened.{super_of_image}
-use Rattle.image_layout.specs.Window.{journal_of, value_of}
+use Rattle.image_layout.specs.Values.{journal_of, value_of}
 use Rattle.image_model.specs.Windows.{IsOfImage}
 use Rattle.core_model.specs.declared.sizes.Sizes.{Sizes}
 use Rattle.core_model.specs.declared.zones.Zone.{Zone}

@@ -11,7 +11,7 @@ use Rattle.disk_model.specs.Log.{Blocks}
 use Rattle.disk_model.specs.Seen.{Seen}
 use Rattle.blk_base.specs.declared.journal_entry.CommittedEntry.{CommittedEntry}
 use Rattle.core_model.specs.Sessions.{said_by}
-use Rattle.image_layout.specs.Window.{journal_of, value_of}
+use Rattle.image_layout.specs.Values.{journal_of, value_of}
 use Rattle.image_model.specs.Windows.{IsWindow}
 use Rattle.image_model.proofs.WindowLaws.{one_window}
 use Rattle.core_model.specs.Trace.{calls}

@@ -5,7 +5,7 @@ use Rattle.blk_base.specs.declared.journal_entry.Entry.TheVariants.{Remap}
 use Rattle.blk_base.specs.declared.place.Lba.{Lba}
 use Rattle.blk_base.specs.declared.place.Pbn.{Pbn}
 use Rattle.blk_base.specs.declared.place.Mapping.TheVariants.{Unmapped, At}
-use Rattle.image_layout.specs.Window.{mapping_of}
+use Rattle.image_layout.specs.Values.{mapping_of}
 
 abbrev address : ℕ → Lba
 address a = record { 0 = a }

@@ -6,7 +6,7 @@ use Rattle.disk_model.specs.Causes.{Rose}
 use Rattle.disk_model.specs.Images.{HasOneImage}
 use Rattle.disk_model.specs.Log.{Blocks}
 use Rattle.disk_model.specs.Seen.{Seen, Stays}
-use Rattle.image_layout.specs.Window.{value_of}
+use Rattle.image_layout.specs.Values.{value_of}
 use Rattle.core_model.specs.Trace.{Trace, moments}
 use Rattle.stream_text.specs.WholeScript.{first_discard, whole_script}
 use Rattle.vdo_model.specs.declared.report.RunReport.{RunReport}

@@ -9,7 +9,7 @@ use Rattle.disk_model.specs.Seen.{Seen}
 use Rattle.disk_model.specs.Since.{OnlyReads}
 use Rattle.core_model.specs.Reports.{GivesValues}
 use Rattle.image_layout.specs.Opened.{super_of_image}
-use Rattle.image_layout.specs.Window.{value_of}
+use Rattle.image_layout.specs.Values.{value_of}
 use Rattle.vdo_model.specs.declared.report.RunReport.{RunReport}
 use Rattle.vdo_model.specs.FlushMarks.{Moment, lines_of, calls_of, AreFlushMarks}
 use Rattle.vdo_model.specs.Stops.{RightAfterStops}

@@ -5,7 +5,7 @@ ghost use Rattle.disk_model.specs.Images.{HasOneImage};
 ghost use Rattle.disk_model.specs.Log.{Blocks};
 ghost use Rattle.disk_model.specs.Seen.{Seen};
 ghost use Rattle.image_layout.specs.Opened.{super_of_image};
-ghost use Rattle.image_layout.specs.Window.{journal_of};
+ghost use Rattle.image_layout.specs.Values.{journal_of};
 ghost use Rattle.image_layout.specs.declared.fault.SuperFault.{SuperFault};
 ghost use Rattle.image_model.specs.declared.fault.ImageFault.{ImageFault};
 ghost use Rattle.image_model.specs.declared.fault.ImageFault.TheVariants.{Memory};

@@ -14,7 +14,7 @@ use Rattle.blk_base.specs.declared.journal_entry.Entry.TheVariants.{Remap, NewPa
 use Rattle.blk_base.specs.declared.place.Mapping.{Mapping}
 use Rattle.blk_base.specs.declared.place.Mapping.TheVariants.{Unmapped, Zero, At}
 use Rattle.blk_base.specs.declared.place.Pbn.{Pbn}
-use Rattle.image_layout.specs.Window.{mapping_of}
+use Rattle.image_layout.specs.Values.{mapping_of}
 use Rattle.plain_laws.specs.Sums.{total}
 use Rattle.plain_laws.proofs.ListLaws.{every-append, total-append}
 use Rattle.core_model.specs.Sessions.{Session, IsFresh, AreDistinct}

@@ -9,7 +9,7 @@ use Rattle.blk_base.specs.declared.geometry.Geometry.{Geometry}
 use Rattle.blk_base.specs.declared.journal_entry.CommittedEntry.{CommittedEntry}
 use Rattle.blk_base.specs.declared.journal_entry.Entry.{Entry}
 use Rattle.disk_model.specs.Log.{Blocks}
-use Rattle.image_layout.specs.Window.{journal_of}
+use Rattle.image_layout.specs.Values.{journal_of}
 use Rattle.image_model.specs.Windows.{IsOfImage, AreReplayable, IsWindow, entries_from, with_points}
 use Rattle.image_model.proofs.WindowLaws.{one_first}
 use Rattle.journal_room.specs.Room.{AreUsed, GoesOn}

@@ -8,7 +8,7 @@ use Rattle.blk_base.specs.Sectors.{zero_block}
 use Rattle.blk_base.specs.declared.journal_entry.Entry.{Entry}
 use Rattle.disk_model.specs.Log.{block_at}
 use Rattle.disk_model.specs.Seen.{Seen}
-use Rattle.image_layout.specs.Window.{journal_of}
+use Rattle.image_layout.specs.Values.{journal_of}
 use Rattle.image_model.specs.Windows.{IsOfImage, IsWindow}
 use Rattle.journal_room.specs.Room.{AreUsed}
 use Rattle.vdo_model.specs.Scripts.{Script}

@@ -10,7 +10,7 @@ use Rattle.blk_base.specs.declared.journal_entry.Entry.TheVariants.{Remap, NewPa
 use Rattle.blk_base.specs.declared.place.Mapping.TheVariants.{Unmapped, Zero, At}
 use Rattle.disk_model.specs.Log.{block_at, Blocks, Misses, contents, settled}
 use Rattle.disk_model.specs.declared.call.Call.TheVariants.{Write}
-use Rattle.image_layout.specs.Window.{mapping_of, value_in, value_of}
+use Rattle.image_layout.specs.Values.{mapping_of, value_in, value_of}
 use Rattle.stop_laws.specs.Journals.{MissesJournal, block_of_slot}
 use Rattle.disk_model.specs.Images.{IsMixOf}
 use Rattle.disk_model.proofs.ImageLaws.{settled_are_contents, block_of_mix, settled-write}

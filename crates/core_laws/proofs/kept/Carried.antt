@@ -4,7 +4,7 @@ use Rattle.core_laws.proofs.Common.{AllByRecursion, Answer, BlockOk, Carries, Ha
 use Rattle.blk_base.specs.declared.place.Mapping.TheVariants.{At}
 use Rattle.blk_base.specs.declared.request.Answer.TheVariants as reply
 use Rattle.blk_base.specs.declared.request.Request.TheVariants as request
-use Rattle.image_layout.specs.Window.{mapping_of}
+use Rattle.image_layout.specs.Values.{mapping_of}
 use Rattle.core_model.specs.declared.items.Item.TheVariants as item
 use Rattle.core_model.specs.declared.items.Phase.TheVariants as phase
 use Rattle.core_model.specs.declared.items.Stage.TheVariants as stage

@@ -6,7 +6,7 @@ use Rattle.blk_base.specs.Limits.{IsGeometry}
 use Rattle.blk_base.specs.Sectors.{sector, zero_block}
 use Rattle.blk_base.specs.declared.request.Request.TheVariants as request
 use Rattle.disk_model.specs.Images.{HasOneImage}
-use Rattle.image_layout.specs.Window.{journal_of}
+use Rattle.image_layout.specs.Values.{journal_of}
 use Rattle.journal_codec.specs.Grammar.{IsSector}
 use Rattle.core_model.specs.declared.zones.ZoneData.TheVariants as at
 use Rattle.core_model.specs.Legal.{Legal}

@@ -2,7 +2,7 @@
 use Rattle.std.proofs.Common.{◌≡◌, ℕ, suc, ◌⊎◌, ◌≤◌, Bool, false, not, List, [], ◌∷◌, ◌++◌, length, refl, sym, ◌∙◌, ap, subst, inl, inr, arith}
 use Rattle.core_laws.proofs.Common.{all_logged, AllByRecursion, answers_of, arrival, as_items, AtMost, AtRest, Balanced, begins_of, bit, block_token, blocks_at, DataOk, desk_zone, DeskLine, Each, entry_token, every-get, given, HasBlocks, HasWholeBlocks, holder_token, in_log, is_answer, is_begin, is_block, is_entry, IsFresh, IsSession, Item, ItemOk, journal_token, KeptEach, KeptOk, Lba, lease_token, Lock, lock_weight, LocksOk, Logged, logical_zone, LogicalZone, made_by, MapOk, Mapping, newest, notice_token, notified_by, of_address, OnBlock, one_physical, Pbn, queued, request_token, RestsAt, room_token, Session, Shown, Stands, Token, total, Trace, Vio, weight, Zone, zone_count, ZoneData, ZoneOk}
 use Rattle.blk_base.specs.declared.place.Mapping.TheVariants.{Unmapped, Zero, At}
-use Rattle.image_layout.specs.Window.{mapping_of, value_in}
+use Rattle.image_layout.specs.Values.{mapping_of, value_in}
 use Rattle.journal_stops.proofs.StepLaws.{opened}
 use Rattle.core_model.specs.declared.zones.ZoneData.TheVariants as at
 use Rattle.core_model.specs.Arrivals.{arrivals_at}

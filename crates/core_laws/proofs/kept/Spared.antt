@@ -3,7 +3,7 @@ use Rattle.std.proofs.Common.{◌≡◌, ◌≢◌, ℕ, ◌+◌, ◌<◌, ◌==
 use Rattle.core_laws.proofs.Common.{Aborts, AllBelow, Calls, Commits, DeskLine, Draws, Enters, Entry, Fails, Flushes, FlushMark, Gives, Happening, HasBelow, HasHonestReads, IsCommitted, HasFullJournal, IsFull, IsOpen, IsPending, Logged, Quiet, Says, Seals, Session, Sets, Takes, Trace, Writer, aborted, begun, committed, done, entered, entries_of, eqb_tells, gift_of, gifts, has_read_fault, has_stopped, is_read, lines, logged_of, moments, newest, of_address, place_of, places, same_writer, value_at}
 use Rattle.blk_base.specs.declared.request.Answer.TheVariants as reply
 use Rattle.disk_model.specs.declared.call.Call.TheVariants.{Read}
-use Rattle.image_layout.specs.Window.{mapping_of}
+use Rattle.image_layout.specs.Values.{mapping_of}
 use Rattle.vdo_model.specs.FlushMarks.{Moment, Desk, Device, IsMark}
 use Rattle.vdo_model.specs.declared.report.DeskLine.TheVariants.{Begin, Answer}
 use Rattle.core_model.specs.LogicalRows.{mapped_by}

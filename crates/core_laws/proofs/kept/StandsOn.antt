@@ -5,7 +5,7 @@ use Rattle.blk_base.specs.declared.place.Mapping.TheVariants.{Unmapped, Zero, At
 use Rattle.disk_model.specs.Log.{Misses}
 use Rattle.disk_model.specs.declared.call.Call.TheVariants.{Write}
 use Rattle.disk_model.proofs.ImageLaws.{kept, settled-misses}
-use Rattle.image_layout.specs.Window.{mapping_of}
+use Rattle.image_layout.specs.Values.{mapping_of}
 use Rattle.stop_laws.specs.Journals.{MissesJournal, block_of_slot}
 use Rattle.journal_stops.proofs.StepLaws.{rest_kept, under_way_kept, written_kept}
 use Rattle.core_model.specs.Sessions.{StandsAsOpened, blocks_of, sealed_with}

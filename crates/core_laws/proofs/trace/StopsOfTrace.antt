@@ -5,7 +5,7 @@ use Rattle.blk_base.specs.declared.place.Mapping.TheVariants.{Unmapped, Zero, At
 use Rattle.disk_model.specs.Images.{IsImage}
 use Rattle.disk_model.specs.Log.{Blocks, block_at}
 use Rattle.disk_model.proofs.ImageLaws.{block_of_image}
-use Rattle.image_layout.specs.Window.{journal_of, mapping_of, value_in, value_of}
+use Rattle.image_layout.specs.Values.{journal_of, mapping_of, value_in, value_of}
 use Rattle.blk_base.proofs.RegionLaws.{data_block_inside}
 use Rattle.core_laws.proofs.device.DeviceCalls.{mapped_is_data, value_whole}
 use Rattle.core_laws.proofs.journal.SealedBlocks.{front_part, heads_start, said_by_blocks}

@@ -3,7 +3,7 @@ use Rattle.std.proofs.Common.{◌≡◌, ◌≢◌, ◌∙◌, ℕ, Option, None
 use Rattle.core_laws.proofs.Common.{AllByRecursion, Asks, IsWrite, Lba, Logged, Mapping, MapsTo, Pbn, Session, Trace, asked, bytes_of, newest, of_address, value_from, value_written}
 use Rattle.blk_base.specs.Sectors.{zero_block}
 use Rattle.blk_base.specs.declared.place.Mapping.TheVariants.{Unmapped, Zero, At}
-use Rattle.image_layout.specs.Window.{mapping_of, value_in}
+use Rattle.image_layout.specs.Values.{mapping_of, value_in}
 use Rattle.core_model.specs.LogicalRows.{mapped_by}
 use Rattle.core_model.specs.declared.items.Asks.TheVariants.{Read, Write, Discard, Flush}
 use Rattle.core_laws.proofs.trace.DeskOfTrace.{each_of_address}

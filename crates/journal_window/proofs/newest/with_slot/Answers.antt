@@ -1,5 +1,5 @@
 use Rattle.std.proofs.Common.{arith}
-use Rattle.image_layout.proofs.WindowLaws.{sector_there, none_found, none_there}
+use Rattle.journal_window.proofs.SlotLaws.{sector_there, no_sector_there, none_there}
 use Rattle.journal_window.proofs.NewestLaws.{newest_kept, newest_grown, kept_there}
 use Rattle.journal_window.proofs.newest.with_slot.Goals.{else-belongs-via-then-belongs+else-is_past, else-belongs-via-else-belongs}
 use Rattle.journal_window.proofs.newest.with_slot.Goals as goal
@@ -9,7 +9,7 @@ returns-in-None c =
     let g = c.args.head.now.geometry in
     let journal = c.args.journal.now in
     newest_kept g c.args.head.now.start journal c.args.slot c.args.newest c.requires.before (λ sequence head here from below there.
-    absurd (none_there g journal c.args.slot (none_found g.nonce journal c.args.slot c.index-journal-slot.result (omega arith) c.index-journal-slot.is c.in-None.ensures.none)
+    absurd (none_there g journal c.args.slot (no_sector_there g.nonce journal c.args.slot c.index-journal-slot.result (omega arith) c.index-journal-slot.is c.in-None.ensures.none)
     sequence head there.0 here there.1))
 
 pub returns-then-is_past : goal.returns-then-is_past
