@@ -1,8 +1,6 @@
-ghost use Rattle.std.specs.Prelude.{◌≡◌, ◌++◌, map, IsTrue, OnOk, OnErr};
-ghost use Rattle.std.specs.List.{concat};
+ghost use Rattle.std.specs.Prelude.{◌≡◌, ◌++◌, IsTrue, OnOk, OnErr};
 ghost use Rattle.disk_model.specs.Causes.{HasCause};
 ghost use Rattle.stream_text.specs.Puts.{PutsPart};
-ghost use Rattle.command_text.specs.Audits.{audit_text};
 ghost use Rattle.command_text.specs.Crashes.{stop_text, head_text, value_text, values_text, crash_text};
 
 use crate::audits::{Audit, put_audit};

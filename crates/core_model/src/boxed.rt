@@ -1,5 +1,4 @@
 ghost use Rattle.std.specs.Prelude.{◌≡◌, None, Some, IfOk};
-ghost use Rattle.blk_base.specs.Sectors.{zero_block};
 ghost use Rattle.blk_base.specs.declared.request.Answer.TheVariants as reply;
 ghost use Rattle.core_model.specs.declared.items.Phase.TheVariants as phase;
 ghost use Rattle.core_model.specs.Vios.{ended, logged, turned};

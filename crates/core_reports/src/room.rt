@@ -1,4 +1,4 @@
-ghost use Rattle.std.specs.Prelude.{◌≡◌, ◌≤◌, ◌<◌, ℕ, IfOk, get_or, length, map};
+ghost use Rattle.std.specs.Prelude.{◌≡◌, ◌<◌, ℕ, IfOk, length, map};
 ghost use Rattle.core_reports.specs.Rooms.{IsRoomFor};
 
 use crate::notes::StreamNotes;

@@ -3,7 +3,7 @@ ghost use Rattle.count_updates.specs.Applied.{AreApplied};
 ghost use Rattle.count_updates.specs.Numbers.{all_sectors};
 
 use crate::Found;
-use blk_base::{Layout, Point, Update, raise};
+use blk_base::{Layout, Point, raise};
 use std::alloc::{AllocError, Global};
 
 /// For each sector of counters the greatest point above its commit point that was applied to it, or its commit point

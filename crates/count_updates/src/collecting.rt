@@ -1,4 +1,4 @@
-ghost use Rattle.std.specs.Prelude.{◌≡◌, ◌+◌, ◌%◌, ◌<◌, ◌^◌, ◌↔◌, ◌++◌, ℕ, All, Contains, IfOk, OnOk};
+ghost use Rattle.std.specs.Prelude.{◌≡◌, ◌+◌, ◌%◌, ◌<◌, ◌↔◌, ◌++◌, ℕ, All, Contains, IfOk, OnOk};
 ghost use Rattle.std.specs.List.Sorted.{IsPermutation};
 ghost use Rattle.blk_base.specs.declared.journal_entry.CommittedEntry.{CommittedEntry};
 ghost use Rattle.count_updates.specs.Entries.{added_block, taken_block, updates_in};

@@ -1,4 +1,4 @@
-ghost use Rattle.std.specs.Prelude.{◌≡◌, ◌+◌, ◌*◌, ◌<◌, ◌≤◌, ℕ, List, ◌∷◌, Ok, Err, IfOk, IfErr, IfSome, IfNone, OnOk, length, get_or, take, drop};
+ghost use Rattle.std.specs.Prelude.{◌≡◌, ◌+◌, ◌*◌, ◌<◌, ◌≤◌, ℕ, List, ◌∷◌, Ok, Err, IfOk, IfErr, IfSome, IfNone, OnOk, length, get_or};
 ghost use Rattle.blk_base.specs.declared.journal_entry.Update.{Update};
 ghost use Rattle.image_model.specs.Counts.{block_of_data, count_after};
 ghost use Rattle.image_model.specs.Sound.{IsDataPlace};

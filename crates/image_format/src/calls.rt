@@ -1,6 +1,5 @@
-ghost use Rattle.std.specs.Prelude.{◌≡◌, ◌≤◌, ◌<◌, ◌+◌, ◌∷◌, ◌++◌, [], true};
+ghost use Rattle.std.specs.Prelude.{◌≡◌, ◌≤◌, ◌<◌, ◌+◌, ◌∷◌, [], true};
 ghost use Rattle.blk_base.specs.Regions.{Root, IsPlace, needed_blocks};
-ghost use Rattle.blk_base.specs.Sectors.{zero_block};
 ghost use Rattle.disk_model.specs.declared.call.Call.TheVariants.{Flush};
 ghost use Rattle.image_format.specs.Calls.{put, zeros_from, roots_below, slab_calls, slabs_below, region_calls, clear_calls, super_calls, format_calls};
 ghost use Rattle.image_format.specs.Runs.{Makes};

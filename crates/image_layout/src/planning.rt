@@ -1,7 +1,6 @@
-ghost use Rattle.std.specs.Prelude.{◌≡◌, ◌≤◌, ◌∷◌, [], Ok, Err, IfOk, IfErr, OnErr};
-ghost use Rattle.blk_base.specs.Limits.{IsGeometry};
+ghost use Rattle.std.specs.Prelude.{◌≡◌, ◌≤◌, ◌∷◌, [], Ok, Err, IfOk, IfErr};
 ghost use Rattle.blk_base.specs.Regions.{needed_blocks};
-ghost use Rattle.image_layout.specs.Planning.{each_size, first_failing, fits_trees, plan_of};
+ghost use Rattle.image_layout.specs.Planning.{each_size, first_failing, plan_of};
 
 use crate::reading::{is_within, logical_limit};
 use crate::{Field, LayoutFault};

@@ -1,8 +1,7 @@
-ghost use Rattle.std.specs.Prelude.{◌≡◌, ◌≤◌, ◌<◌, ◌^◌, ◌++◌, ℕ, Ok, length, take, drop, replicate};
+ghost use Rattle.std.specs.Prelude.{◌≡◌, ◌≤◌, ◌<◌, ◌^◌, ◌++◌, ℕ, Ok, length, take};
 ghost use Rattle.blk_base.specs.Limits.{IsGeometry};
 ghost use Rattle.blk_base.specs.Regions.{needed_blocks};
-ghost use Rattle.image_layout.specs.Superblock.{magic, size_bytes, field_bytes, super_block, super_of, clean_number};
-ghost use Rattle.byte_fields.specs.Fields.{le};
+ghost use Rattle.image_layout.specs.Superblock.{size_bytes, field_bytes, super_block, super_of};
 
 use blk_base::{Block, Geometry, Super};
 use byte_fields::{put, put_u32, put_u64, put_zeros};

@@ -1,4 +1,4 @@
-ghost use Rattle.std.specs.Prelude.{◌≡◌, IfOk, length};
+ghost use Rattle.std.specs.Prelude.{◌≡◌, length};
 
 use blk_base::{Block, Pbn};
 use disk_model::{CallKind, Disk, FaultAt, MemDisk};

@@ -1,7 +1,6 @@
-ghost use Rattle.std.specs.Prelude.{◌≡◌, ◌<◌, ℕ, length, None};
+ghost use Rattle.std.specs.Prelude.{◌≡◌, ◌<◌, length};
 ghost use Rattle.std.specs.Bool.{OnTrue, OnFalse};
 ghost use Rattle.blk_base.specs.declared.sizes.TheConstants.{PAGE_SLOTS};
-ghost use Rattle.replay_map.specs.Changes.{changed};
 ghost use Rattle.recovery_blocks.specs.Patches.{HasChange, IsPatched, IsSlotPut};
 
 use blk_base::{Block, Mapping, PAGE_SLOTS, PageId};

@@ -1,7 +1,6 @@
 ghost use Rattle.std.specs.Prelude.{◌≤◌, IfOk, IfErr};
 ghost use Rattle.blk_base.specs.Regions.{needed_blocks};
 ghost use Rattle.disk_model.specs.Since.{IsUntouched};
-ghost use Rattle.image_model.specs.Maps.{Image};
 ghost use Rattle.replay_map.specs.Finding.{FindFails, IsMapFound};
 ghost use Rattle.replay_map.specs.Reads.{IsShown, LeadToData};
 

@@ -1,6 +1,5 @@
 use crate::Link;
 use blk_base::{Mapping, PageId, Pbn};
-use std::alloc::Global;
 
 /// A slot of a linked page into which the window puts a mapping.
 #[derive(Clone, Copy, Debug, PartialEq, Eq)]

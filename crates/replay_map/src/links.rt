@@ -1,7 +1,7 @@
-ghost use Rattle.std.specs.Prelude.{◌≡◌, ◌<◌, ◌++◌, ℕ, [], Some, IfOk, OnOk};
+ghost use Rattle.std.specs.Prelude.{◌≡◌, ◌<◌, ◌++◌, Some, IfOk, OnOk};
 ghost use Rattle.blk_base.specs.declared.sizes.TheConstants.{PAGE_SLOTS};
 ghost use Rattle.image_model.specs.Maps.{Image, page_at};
-ghost use Rattle.replay_map.specs.Links.{AreLinks, AreOfSlots, link_of, page_below};
+ghost use Rattle.replay_map.specs.Links.{AreLinks, AreOfSlots, link_of};
 ghost use Rattle.replay_map.specs.Pages.{IsReadAs};
 
 use blk_base::{Mapping, Mappings, PAGE_SLOTS, PageId, Pbn};

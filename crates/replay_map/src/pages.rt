@@ -1,4 +1,4 @@
-ghost use Rattle.std.specs.Prelude.{◌≡◌, ◌<◌, ℕ, IfOk, IfErr, OnOk};
+ghost use Rattle.std.specs.Prelude.{◌<◌, IfOk, IfErr, OnOk};
 ghost use Rattle.std.specs.Bool.{OnTrue, OnFalse};
 ghost use Rattle.blk_base.specs.Limits.{IsGeometry};
 ghost use Rattle.blk_base.specs.declared.sizes.TheConstants.{PAGE_SLOTS};

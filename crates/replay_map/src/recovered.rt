@@ -1,6 +1,5 @@
 use crate::{Link, SlotChange};
 use blk_base::Pbn;
-use std::alloc::Global;
 
 /// The block map of an image as its last session left it.
 #[derive(Drop)]

@@ -1,9 +1,9 @@
-ghost use Rattle.std.specs.Prelude.{◌≡◌, ◌≤◌, ◌<◌, ◌^◌, ℕ, OnOk, IfErr};
+ghost use Rattle.std.specs.Prelude.{◌≡◌, ◌≤◌, ◌<◌, OnOk, IfErr};
 ghost use Rattle.blk_base.specs.Limits.{IsGeometry};
 ghost use Rattle.blk_base.specs.Regions.{needed_blocks};
 ghost use Rattle.blk_base.specs.declared.sizes.TheConstants.{PAGE_SLOTS, TREES};
 ghost use Rattle.disk_model.specs.Since.{IsUntouched};
-ghost use Rattle.image_model.specs.Maps.{Image, target_of};
+ghost use Rattle.image_model.specs.Maps.{target_of};
 ghost use Rattle.replay_map.specs.Links.{page_below};
 ghost use Rattle.replay_map.specs.Pages.{IsReadAs};
 ghost use Rattle.replay_map.specs.Reads.{AreLeading, IsShown, LeadToData};

@@ -12,7 +12,6 @@ use schedule::{Schedule, drive};
 use std::alloc::{AllocError, Global};
 use std::sync::Wait;
 use std::test::Fail;
-use std::thread::Threads;
 use vdo_core::Setup;
 use vdo_model::{Requests, RunReport};
 

@@ -1,4 +1,4 @@
-ghost use Rattle.std.specs.Prelude.{◌≡◌, ◌≤◌, ◌<◌, [], ◌∷◌, List, MatchOption, length, map};
+ghost use Rattle.std.specs.Prelude.{◌≡◌, ◌≤◌, ◌<◌, [], List, MatchOption, length, map};
 ghost use Rattle.disk_model.specs.Picks.{next_state, number_in};
 ghost use Rattle.disk_model.specs.Seen.{Stays};
 ghost use Rattle.steps_device.specs.DeviceCalls.{Fits};

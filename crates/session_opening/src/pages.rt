@@ -1,4 +1,4 @@
-ghost use Rattle.std.specs.Prelude.{◌≡◌, ◌<◌, ◌∷◌, [], ℕ, List, reverse, IfOk, OnOk, All};
+ghost use Rattle.std.specs.Prelude.{◌≡◌, ◌<◌, ◌∷◌, [], List, reverse, IfOk, OnOk, All};
 ghost use Rattle.blk_base.specs.declared.sizes.TheConstants.{PAGE_SLOTS, TREES};
 ghost use Rattle.replay_map.specs.declared.links.Link.{Link as Linked};
 ghost use Rattle.session_opening.specs.Pages.{AreAdded, ArePages, root_link, roots_below};

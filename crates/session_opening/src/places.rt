@@ -1,4 +1,4 @@
-ghost use Rattle.std.specs.Prelude.{◌≡◌, ◌<◌, ◌∷◌, ℕ, List, reverse, IfOk, OnOk};
+ghost use Rattle.std.specs.Prelude.{◌<◌, ◌∷◌, List, reverse, IfOk, OnOk};
 ghost use Rattle.blk_base.specs.declared.sizes.TheConstants.{PAGE_SLOTS};
 ghost use Rattle.replay_map.specs.declared.links.Link.{Link as Page};
 ghost use Rattle.session_opening.specs.Places.{ArePlaces, LeadsTo};

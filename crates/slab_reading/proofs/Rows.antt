@@ -1,10 +1,8 @@
 -- For each definition a small case that it accepts, and one that it refuses.
-use Rattle.std.proofs.Common.{ℕ, ◌≡◌, ◌⊎◌, ◌+◌, ◌<◌, Bool, true, false, IsTrue, List, [], ◌∷◌, ◌++◌, length, get_or, Contains, refl, sym, ◌∙◌, ap, subst, inl, inr, arith, length-append}
-use Rattle.blk_base.specs.Sectors.{sector, zero_block}
+use Rattle.std.proofs.Common.{ℕ, ◌≡◌, ◌+◌, true, List, [], ◌∷◌, length, get_or, refl, ◌∙◌, ap, subst, inl, arith, length-append}
+use Rattle.blk_base.specs.Sectors.{zero_block}
 use Rattle.blk_base.specs.declared.journal_entry.Update.{Update}
-use Rattle.blk_base.specs.declared.place.Pbn.{Pbn}
 use Rattle.blk_base.specs.declared.point.Point.{Point}
-use Rattle.byte_fields.specs.Fields.{number_at}
 use Rattle.count_updates.specs.Listed.{Lists}
 use Rattle.disk_model.specs.Log.{Blocks, block_at}
 use Rattle.disk_model.specs.Seen.{Seen}
@@ -17,7 +15,7 @@ use Rattle.slab_codec.proofs.ReadLaws.{written}
 use Rattle.slab_codec.specs.declared.forms.SlabEntry.{SlabEntry}
 use Rattle.slab_reading.specs.Found.{AddsCounters, AddsPoints, IsFound}
 use Rattle.slab_reading.specs.Reads.{IsSlabRead, SlabsRead, read_of}
-use Rattle.slab_reading.specs.Slabs.{first_of_slab, blocks_per_slab, point_in, SectorKeeps, BlockKeeps, SlabKeeps, IsOf, Grew}
+use Rattle.slab_reading.specs.Slabs.{first_of_slab, blocks_per_slab, point_in, SectorKeeps, BlockKeeps, SlabKeeps, Grew}
 use Rattle.slab_reading.proofs.FoundLaws.{found_none}
 
 -- Places: the one reference block of the slab, and the four blocks of its journal behind it.

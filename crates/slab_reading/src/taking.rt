@@ -1,4 +1,4 @@
-ghost use Rattle.std.specs.Prelude.{◌≡◌, ◌+◌, ◌<◌, ◌≤◌, OnOk, length, Contains, All};
+ghost use Rattle.std.specs.Prelude.{◌≡◌, ◌+◌, ◌<◌, OnOk, length, Contains, All};
 ghost use Rattle.blk_base.specs.Counters.{sectors_per_slab};
 ghost use Rattle.slab_codec.specs.Grammar.{HoldsEntry};
 ghost use Rattle.slab_reading.specs.Found.{AddsCounters, AddsPoints, Took};

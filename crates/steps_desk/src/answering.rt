@@ -1,11 +1,10 @@
-ghost use Rattle.std.specs.Prelude.{◌≡◌, ◌≤◌, [], ◌∷◌, OnOk, OnErr, Some, None, true, length};
+ghost use Rattle.std.specs.Prelude.{◌≡◌, [], OnOk, OnErr, Some, None, true};
 ghost use Rattle.blk_base.specs.declared.request.Answer.{Answer};
 ghost use Rattle.blk_base.specs.declared.request.Answer.TheVariants.{Ok};
 ghost use Rattle.core_model.specs.declared.items.Asks.TheVariants.{Flush};
 ghost use Rattle.core_model.specs.declared.items.Phase.TheVariants.{Reply};
 ghost use Rattle.core_model.specs.DeskRows as rows;
 ghost use Rattle.core_model.specs.Limits.{IsDeskWithin};
-ghost use Rattle.core_model.specs.SessionLimits.{most_items, most_notices};
 ghost use Rattle.core_model.specs.Trace.{Trace};
 ghost use Rattle.step_parts.specs.Causes.{NoRule};
 

@@ -1,4 +1,4 @@
-ghost use Rattle.std.specs.Prelude.{◌≡◌, ◌<◌, ◌≤◌, ◌+◌, ◌∷◌, [], ℕ, IfOk, IfErr, OnOk, IsTrue, IfSome, IfNone, false, length};
+ghost use Rattle.std.specs.Prelude.{◌≡◌, ◌<◌, ◌+◌, ◌∷◌, [], ℕ, IfOk, IfErr, OnOk, IsTrue, IfSome, IfNone, false, length};
 ghost use Rattle.vdo_model.specs.DeskLog.{IsNextLine};
 ghost use Rattle.vdo_model.specs.declared.report.DeskLine.TheVariants as line;
 ghost use Rattle.core_model.specs.declared.items.Item.TheVariants as item;

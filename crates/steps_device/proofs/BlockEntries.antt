@@ -1,5 +1,5 @@
 -- The entries of the first requests of a block, with one more.
-use Rattle.std.proofs.Common.{◌≡◌, ◌+◌, ℕ, zero, suc, List, [], ◌∷◌, ◌++◌, Some, map, take, slice_get, refl, ap, sym, ◌∙◌, arith}
+use Rattle.std.proofs.Common.{◌≡◌, ◌+◌, ℕ, zero, suc, List, [], ◌∷◌, ◌++◌, Some, map, take, slice_get, ap, ◌∙◌, arith}
 use Rattle.std.proofs.lemmas.Option.{same_Some}
 use Rattle.blk_base.specs.declared.journal_entry.Entry.{Entry}
 use Rattle.core_model.specs.declared.items.Vio.{Vio}

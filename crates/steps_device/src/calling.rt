@@ -1,4 +1,4 @@
-ghost use Rattle.std.specs.Prelude.{◌≡◌, ◌↔◌, ◌<◌, [], ◌∷◌, true, false, OnOk, OnErr, IsTrue};
+ghost use Rattle.std.specs.Prelude.{◌↔◌, ◌<◌, [], ◌∷◌, true, false, OnOk, OnErr, IsTrue};
 ghost use Rattle.blk_base.specs.Limits.{IsGeometry};
 ghost use Rattle.disk_model.specs.declared.call.Call.TheVariants as call;
 ghost use Rattle.disk_model.specs.Seen.{Stays};

@@ -8,7 +8,6 @@ ghost use Rattle.core_model.specs.Trace.{Trace};
 ghost use Rattle.core_model.specs.declared.items.Item.TheVariants.{Block, Request, StopNotice};
 ghost use Rattle.core_model.specs.declared.items.Phase.TheVariants.{Settle};
 ghost use Rattle.core_model.specs.declared.items.Stage.TheVariants.{Commit, Cover, Fail};
-ghost use Rattle.core_model.specs.Vios.{turned};
 ghost use Rattle.step_parts.specs.Causes.{NoRule};
 ghost use Rattle.steps_journal.specs.Counts.{CanCount};
 

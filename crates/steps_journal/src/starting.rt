@@ -1,4 +1,4 @@
-ghost use Rattle.std.specs.Prelude.{◌≡◌, IfOk};
+ghost use Rattle.std.specs.Prelude.{IfOk};
 ghost use Rattle.core_model.specs.declared.zones.ZoneData.TheVariants as at;
 ghost use Rattle.core_model.specs.Zones.{journal_zone};
 ghost use Rattle.core_model.specs.Sessions.{Session};

@@ -1,6 +1,6 @@
 -- Rows that pin how a status ends (`EndsSo` of the word `status`, its part `IsStatusTold`): for each part some that it accepts,
 -- and some that break this part alone. What an audit and a status have in common is pinned with the audit.
-use Rattle.std.proofs.Common.{ℕ, ◌≡◌, ◌++◌, true, false, List, [], ◌∷◌, length, take, Option, Some, None, codes, refl, ap, inl, inr, arith}
+use Rattle.std.proofs.Common.{ℕ, ◌≡◌, ◌++◌, true, false, List, [], ◌∷◌, length, take, Option, Some, None, refl, ap, inl, inr, arith}
 use Rattle.disk_model.specs.declared.call.Call.{Call}
 use Rattle.disk_model.specs.declared.call.Call.TheVariants.{Read, Write, Flush}
 use Rattle.disk_model.specs.Seen.{Seen}
@@ -19,7 +19,6 @@ use Rattle.vdo_cli.specs.Outsides.{Outside, no_report, outside}
 use Rattle.vdo_cli.specs.Texts.{fault_text}
 use Rattle.vdo_cli.proofs.AuditPins.{bare, begins, looks, no_image, status_in}
 use Rattle.vdo_cli.proofs.CommandPins.{status_words}
-use Rattle.vdo_cli.proofs.PlayPins.{at}
 use Rattle.vdo_cli.proofs.RunPins.{Ends, some_report}
 
 -- told_status: each number is its own; the entries are told where the last session wasn't closed

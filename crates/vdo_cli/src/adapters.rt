@@ -1,4 +1,4 @@
-ghost use Rattle.std.specs.Prelude.{◌≡◌, [], IsTrue};
+ghost use Rattle.std.specs.Prelude.{[]};
 
 use disk_model::{Failed, Sink, Source};
 use std::io;

@@ -4,7 +4,6 @@ ghost use Rattle.command_text.specs.Formats.{formatted_text};
 ghost use Rattle.command_text.specs.Parts.{recovery_text};
 ghost use Rattle.command_text.specs.Statuses.{status_text};
 ghost use Rattle.disk_model.specs.Seen.{Stays};
-ghost use Rattle.disk_model.specs.Since.{IsUntouched};
 ghost use Rattle.image_format.specs.Formats.{StopsAreRight};
 ghost use Rattle.vdo_cli.specs.Inspections.{EndsAudit, EndsStatus, TellsReport};
 ghost use Rattle.vdo_cli.specs.NewImages.{IsMadeOrNot};

@@ -1,6 +1,6 @@
 -- What stands in the journal of an image, by its window and by how many of its blocks are used: whole blocks behind which a
 -- session may go on, or none is left.
-use Rattle.std.proofs.Common.{ℕ, suc, ◌≡◌, ◌+◌, ◌-◌, ◌<◌, ◌≤◌, ◌⊎◌, List, [], ◌∷◌, ◌++◌, length, map, reverse, take, All, refl, sym, ◌∙◌, ap, subst, inl, inr, arith}
+use Rattle.std.proofs.Common.{ℕ, suc, ◌≡◌, ◌+◌, ◌-◌, ◌≤◌, ◌⊎◌, List, [], ◌∷◌, length, reverse, All, sym, ◌∙◌, ap, subst, inl, inr, arith}
 use Rattle.std.proofs.lemmas.Grind.{reverse_onto}
 use Rattle.std.proofs.lemmas.List.{take_all}
 use Rattle.std.proofs.lemmas.List.Elements.{All-head, All-tail}
@@ -14,7 +14,7 @@ use Rattle.image_model.specs.Windows.{IsOfImage, AreReplayable, IsWindow, entrie
 use Rattle.image_model.proofs.WindowLaws.{one_first}
 use Rattle.journal_room.specs.Room.{AreUsed, GoesOn}
 use Rattle.journal_stops.specs.Rings.{IsAtRest}
-use Rattle.journal_stops.specs.Sealed.{Sealed, entries_of, head_of, next_of, since, window_of}
+use Rattle.journal_stops.specs.Sealed.{Sealed, entries_of, head_of, next_of, since}
 use Rattle.journal_stops.proofs.ReopenLaws.{reopened}
 use Rattle.plain_laws.proofs.ListLaws.{every-append}
 use Rattle.core_model.specs.Sessions.{HasNoneLeft, HasWholeBlocks, Session, said_by}

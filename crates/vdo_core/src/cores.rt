@@ -1,4 +1,4 @@
-ghost use Rattle.std.specs.Prelude.{◌≡◌, ◌≤◌, ◌↔◌, [], IfOk, IsTrue, false, length, reverse};
+ghost use Rattle.std.specs.Prelude.{◌≡◌, ◌≤◌, [], IfOk, IsTrue, false, length, reverse};
 ghost use Rattle.disk_model.specs.Seen.{Stays};
 ghost use Rattle.core_model.specs.Legal.{Legal};
 ghost use Rattle.core_model.specs.Reports.{report_of};

@@ -1,4 +1,4 @@
-ghost use Rattle.std.specs.Prelude.{◌≡◌, ◌≢◌, ◌<◌, ◌+◌, ◌≤◌, [], Some, IfOk, IfErr, IsTrue, List, false, length, slice_get, slice_set};
+ghost use Rattle.std.specs.Prelude.{◌≡◌, ◌≢◌, ◌<◌, [], Some, IfOk, IfErr, IsTrue, List, false, length, slice_get};
 ghost use Rattle.core_model.specs.declared.items.Item.{Item};
 ghost use Rattle.core_model.specs.declared.sizes.Sizes.{Sizes};
 ghost use Rattle.core_model.specs.declared.zones.Zone.{Zone};

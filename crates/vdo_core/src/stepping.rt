@@ -5,7 +5,7 @@ ghost use Rattle.core_model.specs.Steps.{CallsDevice, IsIdle, MayBegin};
 ghost use Rattle.step_parts.specs.Acts.{ActsAlone};
 ghost use Rattle.step_parts.specs.declared.fault.Stepped.TheVariants.{Did, Idle};
 ghost use Rattle.steps_device.specs.DeviceCalls.{Fits};
-ghost use Rattle.vdo_core.specs.Causes.{BeginsNone, CanStep, IsServedBy, IsSized, MayFault};
+ghost use Rattle.vdo_core.specs.Causes.{BeginsNone, IsServedBy, IsSized, MayFault};
 ghost use Rattle.vdo_core.specs.Plays.{ZoneSteps};
 ghost use Rattle.vdo_core.specs.StepTools.{AreToolsOf, OnDevice, Uses};
 

@@ -8,7 +8,7 @@ use Rattle.blk_base.specs.Regions.{IsDataBlock, journal_slot_of, needed_blocks, 
 use Rattle.blk_base.proofs.RegionLaws.{data_block_high, data_block_inside}
 use Rattle.blk_base.specs.declared.journal_entry.Entry.TheVariants.{Remap, NewPage}
 use Rattle.blk_base.specs.declared.place.Mapping.TheVariants.{Unmapped, Zero, At}
-use Rattle.disk_model.specs.Log.{block_at, Blocks, Misses, contents, settled}
+use Rattle.disk_model.specs.Log.{block_at, Misses, settled}
 use Rattle.disk_model.specs.declared.call.Call.TheVariants.{Write}
 use Rattle.image_layout.specs.Values.{mapping_of, value_in, value_of}
 use Rattle.stop_laws.specs.Journals.{MissesJournal, block_of_slot}

@@ -5,7 +5,7 @@ use Rattle.image_layout.specs.Values.{mapping_of}
 use Rattle.vdo_model.specs.FlushMarks.{IsMark, successes}
 use Rattle.core_model.specs.declared.items.Asks.TheVariants.{Read, Write, Discard, Flush}
 use Rattle.core_model.specs.DeskRows.{is_marked, mark_of_vio}
-use Rattle.core_model.specs.DeviceRows.{DeviceServes, counted, halted, stop_notices, DeviceWorks, journal_bytes, IsItsSlot, call_of, next_stage, next_zone}
+use Rattle.core_model.specs.DeviceRows.{DeviceServes, counted, stop_notices, DeviceWorks, journal_bytes, IsItsSlot, call_of, next_stage, next_zone}
 use Rattle.core_model.specs.LogicalRows.{mapped_by}
 use Rattle.core_laws.proofs.kept.ActKept.{Known, Mine, weighed, PostOk, ActKept, act_none, act_one, vio_ok, in_phase, carries_at}
 use Rattle.core_laws.proofs.kept.Keys.{OfBlock, Clears, claim_one}

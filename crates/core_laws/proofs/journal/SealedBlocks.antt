@@ -6,7 +6,7 @@ use Rattle.blk_base.specs.declared.journal_entry.CommittedEntry.{CommittedEntry}
 use Rattle.core_laws.proofs.Common.{AllByRecursion, Entry, HasWholeBlocks, Logged, Session, Vio, all_logged, all_of, cases_lt, entries_of, entry_of, every-append, logged}
 use Rattle.core_model.specs.Sessions.{blocks_of, said_by, sealed_with}
 use Rattle.image_model.specs.Windows.{with_points}
-use Rattle.journal_stops.specs.Sealed.{Sealed, front_of, head_of}
+use Rattle.journal_stops.specs.Sealed.{front_of, head_of}
 use Rattle.journal_stops.specs.Sealed as blocks
 
 -- Lists.

@@ -4,7 +4,7 @@ use Rattle.core_laws.proofs.Common.{AllByRecursion, Each, Each-put, GivesRight, 
 use Rattle.core_model.specs.Arrivals.{arrivals_at}
 use Rattle.core_model.specs.Legal.{Legal}
 use Rattle.core_model.specs.Steps as steps
-use Rattle.core_model.specs.Steps.{Core, StepOf, MoveOf, Leads}
+use Rattle.core_model.specs.Steps.{Core, MoveOf, Leads}
 use Rattle.core_laws.proofs.kept.Streams.{flows_move}
 use Rattle.core_laws.proofs.kept.LegalKept.{legal_step}
 use Rattle.core_laws.proofs.tokens.Lift.{balance_move, at_most_move}

@@ -18,7 +18,7 @@ use Rattle.core_model.specs.JournalRows.{PhysicalServes, JournalServes, JournalE
 use Rattle.core_model.specs.Legal.{Legal}
 use Rattle.core_model.specs.LogicalRows.{LogicalServes, is_among, is_held, first_for, placed, next_for, goes_on, passes_on, with_slot}
 use Rattle.core_model.specs.Steps as steps
-use Rattle.core_model.specs.Steps.{Act, HasAct, MayBegin, Core, delivered}
+use Rattle.core_model.specs.Steps.{Act, HasAct, MayBegin, Core}
 use Rattle.core_laws.proofs.device.DeviceCalls.{request_served}
 use Rattle.core_laws.proofs.kept.LegalKept.{goes}
 use Rattle.core_laws.proofs.kept.ZoneKinds.{Keeps, desk_keeps, logical_keeps, physical_keeps, journal_keeps, device_keeps}

@@ -12,7 +12,7 @@ use Rattle.core_model.specs.declared.zones.ZoneData.TheVariants as at
 use Rattle.core_model.specs.DeskRows as desk
 use Rattle.core_model.specs.DeskRows.{DeskBegins, DeskServes, woken}
 use Rattle.core_model.specs.DeviceRows as device
-use Rattle.core_model.specs.DeviceRows.{DeviceServes, DeviceWorks, halted, stop_notices}
+use Rattle.core_model.specs.DeviceRows.{DeviceServes, DeviceWorks, stop_notices}
 use Rattle.core_model.specs.JournalRows as journal
 use Rattle.core_model.specs.JournalRows.{PhysicalServes, JournalServes, JournalEnds, all_again, all_dropped, all_refused}
 use Rattle.core_model.specs.LogicalRows as logical

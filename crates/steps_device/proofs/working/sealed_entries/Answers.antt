@@ -1,4 +1,4 @@
-use Rattle.std.proofs.Common.{◌≡◌, ◌++◌, List, [], ◌∷◌, length, length-append, map, take, ap, sym, ◌∙◌, arith}
+use Rattle.std.proofs.Common.{◌++◌, List, [], ◌∷◌, length, length-append, map, take, ap, sym, ◌∙◌, arith}
 use Rattle.blk_base.specs.declared.journal_entry.Entry.{Entry}
 use Rattle.core_model.specs.Trace.{entry_of}
 use Rattle.core_model.specs.Vios.{logged}
