@@ -5,3 +5,4 @@ pub mod PageLaws
 pub mod AnswerLaws
 pub mod ReadWindowLaws
 pub mod Rows
+pub mod ReadRows
