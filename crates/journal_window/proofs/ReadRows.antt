@@ -4,24 +4,21 @@ use Rattle.std.proofs.Common.{ℕ, zero, suc, ◌≡◌, ◌+◌, ◌%◌, Bool,
 use Rattle.std.proofs.Math.Nat.{mod-lt}
 use Rattle.std.proofs.lemmas.List.{length-replicate}
 use Rattle.blk_base.specs.Sectors.{sector, zero_block}
-use Rattle.blk_base.specs.declared.geometry.Geometry.{Geometry}
 use Rattle.blk_base.specs.declared.geometry.Super.{Super}
 use Rattle.blk_base.specs.declared.journal_entry.Entry.{Entry}
-use Rattle.disk_model.specs.Log.{Blocks}
 use Rattle.disk_model.specs.Seen.{Seen}
 use Rattle.disk_model.specs.Since.{AreGiven, NextFailed, WereRead}
 use Rattle.image_layout.specs.declared.fault.Field.TheVariants.{Start}
 use Rattle.image_layout.specs.declared.fault.SuperFault.TheVariants.{BadField, NotAnImage}
 use Rattle.image_model.proofs.Example.{pbn, small, zeros}
-use Rattle.image_model.proofs.WindowLaws.{one_last, one_window}
+use Rattle.image_model.proofs.WindowLaws.{one_last}
 use Rattle.image_model.proofs.ZeroLaws.{of_eight}
-use Rattle.image_model.specs.Windows.{IsFaulty, IsLast, IsThere, IsWindow}
+use Rattle.image_model.specs.Windows.{IsLast, IsThere}
 use Rattle.image_model.specs.declared.fault.ImageFault.TheVariants.{Super as Superblock, Window, Counts, Device, Unclean, Memory}
 use Rattle.journal_codec.specs.Grammar.{IsSector}
 use Rattle.journal_window.specs.Newest.{IsUpTo}
 use Rattle.journal_window.specs.Reads.{Fails, IsRefusalRead, IsWindowRead, JournalFails}
 use Rattle.journal_window.specs.States.{WindowState}
-use Rattle.journal_window.specs.Windows.{IsRefused, IsUsedUp}
 
 abbrev seen : Seen
 seen = record { opening = []; size = 154; log = []; faults = 3; unkept = 0 }

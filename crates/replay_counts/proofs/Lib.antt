@@ -2,3 +2,4 @@ pub mod ImageLaws
 pub mod WindowLaws
 pub mod LimitLaws
 pub mod Rows
+pub mod ReadRows

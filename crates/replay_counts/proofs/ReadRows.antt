@@ -1,0 +1,218 @@
+-- The counts of an image, and what is read for them: for each clause that `Rows` hasn't, a small case that it accepts, and one
+-- that breaks it alone and is refused.
+use Rattle.std.proofs.Common.{ℕ, zero, suc, ◌≡◌, ◌%◌, Bool, true, false, List, [], ◌∷◌, length, replicate, get_or, Ok, refl, ap, subst, inl, inr, arith}
+use Rattle.std.proofs.Math.Nat.{mod-lt}
+use Rattle.std.proofs.lemmas.List.{length-replicate}
+use Rattle.blk_base.specs.Sectors.{sector, zero_block}
+use Rattle.blk_base.specs.declared.geometry.Geometry.{Geometry}
+use Rattle.blk_base.specs.declared.geometry.Super.{Super as Superblock}
+use Rattle.blk_base.specs.declared.journal_entry.CommittedEntry.{CommittedEntry}
+use Rattle.blk_base.specs.declared.journal_entry.Entry.{Entry}
+use Rattle.blk_base.specs.declared.point.Point.{Point}
+use Rattle.byte_fields.specs.Fields.{number_at}
+use Rattle.count_updates.proofs.AppliedLaws.{none_yet}
+use Rattle.disk_model.specs.declared.call.Call.TheVariants.{Flush}
+use Rattle.disk_model.specs.Log.{Blocks}
+use Rattle.disk_model.specs.Seen.{Seen}
+use Rattle.disk_model.specs.Since.{AreGiven, NextFailed}
+use Rattle.image_layout.specs.declared.fault.SuperFault.TheVariants.{NotAnImage}
+use Rattle.image_model.proofs.CountLaws.{one_stored}
+use Rattle.image_model.proofs.CountRows.{kept_is, updated}
+use Rattle.image_model.proofs.Example.{pbn, small, zeros}
+use Rattle.image_model.proofs.ZeroLaws.{of_eight}
+use Rattle.image_model.specs.Counts.{Stores, commit_at}
+use Rattle.image_model.specs.Maps.{Image}
+use Rattle.image_model.specs.Windows.{IsThere}
+use Rattle.image_model.specs.declared.fault.ImageFault.TheVariants.{Super, Window, Counter, Counts, Device, Unclean, Memory}
+use Rattle.journal_codec.specs.Grammar.{IsSector}
+use Rattle.journal_window.specs.Reads.{IsWindowRead}
+use Rattle.journal_window.specs.States.{WindowState}
+use Rattle.replay_counts.specs.Recovered.{AreCountsOf, AreCountsRead, ArePointsOf, AreSlabsRead, CountingFails, CountsFail, HasCounts, IsCountedFrom, IsInSector, image_with}
+use Rattle.replay_counts.specs.declared.forms.SectorPoints.{SectorPoints}
+use Rattle.slab_reading.specs.Reads.{SlabFailed}
+
+abbrev pair : ℕ → ℕ → SectorPoints
+pair commit applied = record { commit = record { 0 = commit }; applied = record { 0 = applied } }
+
+-- The points of a sector without updates: twice its commit point.
+points_yet : (image : Image) (slab n commit : ℕ) → commit_at image.geometry image.blocks slab n ≡ commit → ((point : ℕ) → IsInSector image slab n point → ⊥)
+    → ArePointsOf image slab n (pair commit commit)
+points_yet image slab n commit is none = record {
+  commit = let same = is in omega (arith, same);
+  applied = record { reached = inl (let same = is in omega (arith, same)); most = λ point above has. absurd (none point has) };
+}
+
+-- An image without slabs has no counts.
+abbrev slabless : Geometry
+slabless = record small { slabs = 0 }
+
+no_counts : (blocks : Blocks) (window : List CommittedEntry) → HasCounts (image_with slabless blocks window) [] []
+no_counts blocks window = record {
+  blocks = refl;
+  stored = λ place inside. absurd (let slab = inside.0 in omega (arith, slab));
+  sizes = refl;
+  points = λ slab n inside below. absurd (omega (arith, inside));
+}
+
+-- stored: the block of offset 1 has another stored count
+other_count : (rest : List ℕ) (sectors : List SectorPoints) → Stores updated (record { slab = 0; offset = 1 }) (Ok 2) → HasCounts updated (0 ∷ 3 ∷ rest) sectors → ⊥
+other_count rest sectors stores has =
+    let three : Stores updated (record { slab = 0; offset = 1 }) (Ok 3) = has.stored (record { slab = 0; offset = 1 }) (omega arith, omega arith) in
+    let same = one_stored updated (record { slab = 0; offset = 1 }) (Ok 2) (Ok 3) stores three in absurd (cc same)
+
+-- points: the update at 1536 was applied to its sector
+no_commit_there : commit_at small updated.blocks 0 0 ≡ 0
+unfolding zero_block number_at
+no_commit_there = refl
+
+not_applied : (counts : List ℕ) → HasCounts updated counts (pair 0 0 ∷ []) → ⊥
+not_applied counts has =
+    let none = no_commit_there in
+    let points : ArePointsOf updated 0 0 (pair 0 0) = has.points 0 0 (omega arith) (omega arith) in
+    let most = points.applied.most 1536 (omega (arith, none)) (1, omega arith, refl, inl kept_is) in omega (arith, most)
+
+-- What is read: by a device that doesn't tell which calls were made.
+abbrev seen : Seen
+seen = record { opening = []; size = 154; log = []; faults = 3; unkept = 0 }
+
+abbrev failed : Seen
+failed = record seen { faults = 4 }
+
+no_slab_read : (tells honest : Bool) → AreSlabsRead tells honest slabless seen seen []
+no_slab_read tells honest = record { count = refl; read = refl }
+
+-- count, read
+slab_left_out : (tells honest : Bool) → AreSlabsRead tells honest small seen seen [] → ⊥
+slab_left_out tells honest are = let count = are.count in omega (arith, count)
+
+flushed_too : (tells honest : Bool) → AreSlabsRead tells honest slabless seen (record seen { log = Flush true ∷ [] }) [] → ⊥
+flushed_too tells honest are = let same = ap (λ (s : Seen). length s.log) are.read in omega (arith, same)
+
+-- Each image that has what was read has these counts.
+no_counts_read : (tells honest : Bool) (window : List CommittedEntry) → AreCountsRead tells honest slabless window seen seen [] []
+no_counts_read tells honest window = ([], no_slab_read tells honest, λ blocks holds. no_counts blocks window)
+
+a_count_read : (tells honest : Bool) (window : List CommittedEntry) (before now : Seen) → AreCountsRead tells honest slabless window before now (5 ∷ []) [] → ⊥
+a_count_read tells honest window before now (reads, are, has) =
+    let size = (has [] (λ slab i below inside. absurd (omega (arith, below)))).blocks in omega (arith, size)
+
+-- Why there are none. Counter: a count of each such image leaves its range; without slabs there is none
+no_counter : (tells honest : Bool) (window : List CommittedEntry) (before now : Seen) → CountsFail tells honest slabless window before now (Counter (pbn 86) (record { 0 = 512 })) → ⊥
+no_counter tells honest window before now (reads, are, fault) =
+    let inside = (fault [] (λ slab i below within. absurd (omega (arith, below)))).inside.0 in omega (arith, inside)
+
+-- Device: a read failed
+next_failed : (honest : Bool) (from : ℕ) → NextFailed false honest from seen failed []
+next_failed honest from = record {
+  stays = record { opening = refl; size = refl };
+  later = record { faults = omega arith; unkept = omega arith };
+  given = tt;
+  rose = omega arith;
+  logged = λ told. absurd (cc told);
+}
+
+fails_device : (honest : Bool) (window : List CommittedEntry) → CountsFail false honest small window seen failed Device
+fails_device honest window = ([], omega arith, seen, refl, ([], omega arith, next_failed honest 149))
+
+fails_for_nothing : (tells honest : Bool) (window : List CommittedEntry) → CountsFail tells honest small window seen seen Device → ⊥
+fails_for_nothing tells honest window ([], few, middle, same, fails) =
+    let is = subst (λ (m : Seen). SlabFailed tells honest small 0 m seen) same fails in let rose = is.2.rose in omega (arith, rose)
+fails_for_nothing tells honest window (read ∷ reads, few, middle, older, fails) = omega (arith, few)
+
+-- Memory at any time, and no other
+module _ (tells honest : Bool) (g : Geometry) (window : List CommittedEntry) (before now : Seen) where
+  fails_memory : CountsFail tells honest g window before now Memory
+  fails_memory = tt
+
+  fails_otherwise : (CountsFail tells honest g window before now (Super NotAnImage) → ⊥) × (CountsFail tells honest g window before now (Window 7) → ⊥)
+      × (CountsFail tells honest g window before now (Counts (pbn 86) 2 1) → ⊥) × (CountsFail tells honest g window before now Unclean → ⊥)
+  fails_otherwise = ((λ none. none), (λ none. none), (λ none. none), (λ none. none))
+
+-- Counted from lists: of no blocks and no sectors nothing.
+counted_from_none : IsCountedFrom slabless [] [] [] [] []
+counted_from_none = record {
+  counted = record { size = refl; each = λ place inside. absurd (let slab = inside.0 in omega (arith, slab)) };
+  applied = [];
+  are_applied = none_yet slabless [];
+  paired = record { size = refl; each = λ n below. absurd (omega (arith, below)) };
+}
+
+-- counted, are_applied, paired
+a_count_from_none : IsCountedFrom slabless [] [] [] (5 ∷ []) [] → ⊥
+a_count_from_none is = let size = is.counted.size in omega (arith, size)
+
+another_applied : (is : IsCountedFrom slabless [] [] [] [] []) → is.applied ≡ record { 0 = 5 } ∷ [] → ⊥
+another_applied is one = let size = is.are_applied.size in let more = ap (λ (ps : List Point). length ps) one in omega (arith, size, more)
+
+a_sector_from_none : IsCountedFrom slabless [] [] [] [] (pair 0 0 ∷ []) → ⊥
+a_sector_from_none is = let size = is.paired.size in omega (arith, size)
+
+-- With the window before them: a journal of eight slots with zeros has no entries.
+zero_size : length zero_block ≡ 4096
+unfolding zero_block
+zero_size = length-replicate {A = ℕ} 4096 0
+
+zeros_given : (honest : Bool) (from n : ℕ) → AreGiven false honest from seen (replicate n zero_block)
+zeros_given honest from zero = tt
+zeros_given honest from (suc n) = (zero_size, (λ told. absurd (cc told)), zeros_given honest from n)
+
+abbrev zero_journal : List (List ℕ)
+zero_journal = replicate 8 zero_block
+
+none_there : (s h : ℕ) → IsThere slabless zero_journal s h → ⊥
+none_there s h there =
+    of_eight (λ k. (s h : ℕ) (entries : List Entry) → IsSector 1 0 (sector 0 (get_or zero_journal k zero_block)) s h entries → ⊥)
+    (zeros 1) (zeros 1) (zeros 1) (zeros 1) (zeros 1) (zeros 1) (zeros 1) (zeros 1)
+    (s % 8) (mod-lt s (omega arith)) s h there.0 there.1
+
+abbrev head : Superblock
+head = record { geometry = slabless; clean = false; start = 1 }
+
+abbrev no_entries : WindowState
+no_entries = record { last = 0; entries = [] }
+
+window_read : (honest : Bool) → IsWindowRead false honest seen seen head no_entries
+window_read honest = (
+  zero_journal,
+  record {
+    count = refl;
+    read = record {
+      told = λ told. absurd (cc told);
+      stays = record { opening = refl; size = refl };
+      later = record { faults = omega arith; unkept = omega arith };
+      given = zeros_given honest 1 8;
+      logged = λ told. absurd (cc told);
+    };
+  },
+  record {
+    sequences = λ unclean. omega arith;
+    is_window = record {
+      is_last = record { there = inl refl; none = λ s h from later below there. none_there s h there };
+      first = 1;
+      is_first = inl (refl, refl);
+      blocks = [];
+      count = refl;
+      replayable = tt;
+      entries = refl;
+    };
+  },
+)
+
+counts_of : (honest : Bool) → AreCountsOf false honest head seen seen [] []
+counts_of honest = (seen, no_entries, window_read honest, no_counts_read false honest [])
+
+a_count_of : (tells honest : Bool) (before now : Seen) → AreCountsOf tells honest head before now (5 ∷ []) [] → ⊥
+a_count_of tells honest before now (middle, window, read, counts) = a_count_read tells honest window.entries middle now counts
+
+-- Why there are none: the journal isn't read; or it is, and then as above.
+journal_failed : (honest : Bool) → CountingFails false honest head seen failed Device
+journal_failed honest = inl ([], omega arith, next_failed honest 1)
+
+slabs_failed : (honest : Bool) → CountingFails false honest head seen seen Memory
+slabs_failed honest = inr (seen, no_entries, window_read honest, tt)
+
+counting_otherwise : (tells honest : Bool) (before now : Seen) → CountingFails tells honest head before now Unclean → ⊥
+counting_otherwise tells honest before now fails = elim fails [ inl none ↦ none | inr behind ↦ behind.3 ]
+
+counting_no_counter : (tells honest : Bool) (before now : Seen) → CountingFails tells honest head before now (Counter (pbn 86) (record { 0 = 512 })) → ⊥
+counting_no_counter tells honest before now fails = elim fails [ inl none ↦ none | inr behind ↦ no_counter tells honest behind.1.entries behind.0 now behind.3 ]
