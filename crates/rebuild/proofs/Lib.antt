@@ -12,3 +12,8 @@ pub mod OpenLaws
 pub mod Rows
 pub mod DoneRows
 pub mod OpeningRows
+pub mod ReadExample
+pub mod ActRows
+pub mod OutcomeRows
+pub mod RecoveryRows
+pub mod OpenedRows

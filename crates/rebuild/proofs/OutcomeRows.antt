@@ -1,0 +1,284 @@
+-- How a recovery ends: for each clause a small case that it accepts, and one that breaks it and is refused.
+use Rattle.std.proofs.Common.{ℕ, ◌≡◌, ◌+◌, ◌≤◌, Bool, true, false, List, [], ◌∷◌, ◌++◌, length, length-append, Ok, Err, refl, sym, ap, subst, inl, inr, arith}
+use Rattle.blk_base.specs.declared.geometry.Geometry.{Geometry}
+use Rattle.blk_base.specs.declared.geometry.Super.{Super as Superblock}
+use Rattle.blk_base.specs.declared.journal_entry.Entry.TheVariants.{NewPage}
+use Rattle.blk_base.specs.declared.place.Mapping.TheVariants.{At}
+use Rattle.disk_model.proofs.OneImageLaws.{one_image-unique}
+use Rattle.disk_model.proofs.SinceLaws.{untouched_yet}
+use Rattle.disk_model.specs.declared.call.Call.{Call}
+use Rattle.disk_model.specs.declared.call.Call.TheVariants.{Flush}
+use Rattle.disk_model.specs.declared.call.Failed.{Failed}
+use Rattle.disk_model.specs.Images.{HasOneImage, IsImage}
+use Rattle.disk_model.specs.Log.{Blocks}
+use Rattle.disk_model.specs.Seen.{Seen}
+use Rattle.image_layout.specs.declared.fault.SuperFault.TheVariants.{NotAnImage}
+use Rattle.image_model.proofs.Example.{pbn, small}
+use Rattle.image_model.proofs.MapRows.{logged, page, root, with_root}
+use Rattle.image_model.proofs.WindowLaws.{one_last, one_window}
+use Rattle.image_model.specs.Maps.{Image}
+use Rattle.image_model.specs.Sound.{IsSound}
+use Rattle.image_model.specs.Windows.{IsFaulty}
+use Rattle.image_model.specs.declared.fault.ImageFault.{ImageFault}
+use Rattle.image_model.specs.declared.fault.ImageFault.TheVariants.{Super, Window, Counts, Device, Unclean, Memory}
+use Rattle.journal_window.specs.States.{WindowState}
+use Rattle.journal_window.specs.Windows.{IsWindowOf}
+use Rattle.recovery_laws.proofs.KeptRows.{same_as_itself}
+use Rattle.recovery_laws.specs.Calls.{ArePuts, recovery_calls}
+use Rattle.recovery_laws.specs.Kept.{AreKept, image_in}
+use Rattle.rebuild.proofs.ActLaws.{none_made}
+use Rattle.rebuild.proofs.ReadExample.{head_of, next_failed, no_entries, seen_failed, window_is_read, window_of_none, without_journal}
+use Rattle.rebuild.proofs.Rows.{flushed, none_flushed, seen}
+use Rattle.rebuild.proofs.ShownLaws.{audit_rose, rose_behind}
+use Rattle.rebuild.specs.Acts.{IsStart}
+use Rattle.rebuild.specs.Outcomes.{Ends, HasEntries, IsAllMade, IsKeptSince, RecoversUnclean, UncleanFails, WritesAll, WritesNothing}
+
+-- The length of a window: that of a journal of zeros is 0, and that of a journal without slots isn't 1.
+pub none_of_zeros : (honest clean : Bool) → HasEntries false honest (head_of clean) seen 0
+none_of_zeros honest clean = (seen, no_entries, window_is_read honest clean, refl)
+
+only_none : (journal : Blocks) (window : WindowState) → length journal ≡ 0 → IsWindowOf without_journal journal window → window.entries ≡ []
+only_none [] window none is = (one_window (record small { journal = 0 }) 1 [] window.last 0 window.entries [] is.is_window window_of_none).1
+only_none (block ∷ journal) window none is = absurd (omega (arith, none))
+
+pub not_one : (tells honest : Bool) → HasEntries tells honest without_journal seen 1 → ⊥
+not_one tells honest (middle, window, read, count) =
+    let size = ap length (only_none read.0 window read.1.count read.2) in omega (arith, count, size)
+
+-- Why an image isn't recovered. The journal isn't read; or it is, and the map or the counts aren't; or a call failed.
+journal_failed : (honest : Bool) → UncleanFails false honest (head_of false) seen seen_failed Device
+journal_failed honest = inl ([], omega arith, next_failed honest 1)
+
+no_memory_behind : (honest : Bool) → UncleanFails false honest (head_of false) seen seen Memory
+no_memory_behind honest = inr (inl (seen, no_entries, window_is_read honest false, tt))
+
+pub write_failed : (tells honest : Bool) → UncleanFails tells honest (head_of false) seen seen_failed Device
+write_failed tells honest = inr (inr (refl, omega arith))
+
+-- Device: no count of faults rose
+module _ (tells honest : Bool) (head : Superblock) (before now : Seen) where
+  none_failed : before.faults + 1 ≤ 5 → now.faults ≤ before.faults → UncleanFails tells honest head before now Device → ⊥
+  none_failed few less fails = elim fails [
+    | inl journal ↦ let rose = journal.2.rose in omega (arith, few, less, rose)
+    | inr later ↦ elim later [
+      | inl behind ↦
+          let rose = rose_behind before behind.0 now behind.2.1.read.later (audit_rose tells honest head behind.1 behind.0 now behind.3) in
+          omega (arith, few, less, rose)
+      | inr call ↦ let rose = call.1 in omega (arith, few, less, rose)
+    ]
+  ]
+
+  -- Unclean, Counts: it mends what is unclean, and looks at no number of mappings
+  pub never_unclean : UncleanFails tells honest head before now Unclean → ⊥
+  never_unclean fails = elim fails [ inl none ↦ none | inr later ↦ elim later [ inl behind ↦ behind.3 | inr call ↦ absurd (cc call.0) ] ]
+
+  never_counts : UncleanFails tells honest head before now (Counts (pbn 86) 2 1) → ⊥
+  never_counts fails = elim fails [ inl none ↦ none | inr later ↦ elim later [ inl behind ↦ behind.3 | inr call ↦ absurd (cc call.0) ] ]
+
+  -- Super: that it is used up, and nothing else of a superblock that was read
+  never_no_image : UncleanFails tells honest head before now (Super NotAnImage) → ⊥
+  never_no_image fails = elim fails [ inl refused ↦ absurd (cc refused.2.0) | inr later ↦ elim later [ inl behind ↦ behind.3 | inr call ↦ absurd (cc call.0) ] ]
+
+-- Window: a journal without slots has no block that can't be replayed
+not_faulty : (journal : Blocks) → length journal ≡ 0 → IsFaulty (record small { journal = 0 }) 1 journal 7 → ⊥
+not_faulty (block ∷ journal) none is = omega (arith, none)
+not_faulty [] none is =
+    let last = one_last (record small { journal = 0 }) 1 [] is.last 0 is.is_last window_of_none.is_last in
+    let inside = is.inside in
+    omega (arith, last, inside)
+
+no_window_fault : (tells honest : Bool) → UncleanFails tells honest without_journal seen seen (Window 7) → ⊥
+no_window_fault tells honest fails = elim fails [
+  | inl refused ↦ not_faulty refused.0 refused.1.count refused.2.1
+  | inr later ↦ elim later [ inl behind ↦ behind.3 | inr call ↦ absurd (cc call.0) ]
+]
+
+-- Nothing is written before a refusal but that of a device; of one that doesn't tell no more is said than that no count fell.
+written_before : WritesNothing true seen flushed Memory → ⊥
+written_before nothing = elim nothing [
+  | inl device ↦ absurd (cc device)
+  | inr untouched ↦ let since = untouched.reads refl in none_flushed since.0 since.1 since.2
+]
+
+read_before : WritesNothing true seen seen Memory
+read_before = inr (untouched_yet true seen)
+
+untold_before : WritesNothing false seen flushed Memory
+untold_before = inr (record { stays = record { opening = refl; size = refl }; later = record { faults = omega arith; unkept = omega arith }; reads = λ told. absurd (cc told) })
+
+-- All is made. An image of no slab and no entry needs no write but that of its superblock.
+abbrev still : Image
+still = record { geometry = record small { slabs = 0 }; blocks = []; window = [] }
+
+abbrev with_all : Image → Seen
+with_all image = record seen { log = recovery_calls image 7 [] }
+
+nothing_to_write : ArePuts still []
+nothing_to_write = record {
+  each = tt;
+  pages = λ page at slot mapping there below put. absurd (cc put);
+  counters = λ slab n point inside below above is. absurd (omega (arith, inside));
+}
+
+all_made : IsAllMade still 7 seen (with_all still)
+all_made = ([], nothing_to_write, refl)
+
+-- its superblock isn't written
+only_flushed : (image : Image) (last : ℕ) → IsAllMade image last seen flushed → ⊥
+only_flushed image last (puts, are, log) = let size = ap (λ (l : List Call). length l) log in omega (arith, size)
+
+-- a page isn't, into which the window puts something
+abbrev grown : Image
+grown = with_root [] (logged (NewPage (page 0 0 3) (pbn 86)) ∷ [])
+
+page_left_out : IsAllMade grown 7 seen (with_all grown) → ⊥
+page_left_out (puts, are, log) = of_puts puts are (let size = ap (λ (l : List Call). length l) log in omega (arith, size, length-append puts []))
+  where
+    of_puts : (puts : List Call) → ArePuts grown puts → length puts ≡ 0 → ⊥
+    of_puts [] are none = are.pages root (pbn 9) 3 (At (pbn 86)) refl (omega arith) refl
+    of_puts (call ∷ puts) are none = omega (arith, none)
+
+-- Whatever a stop leaves is kept: a sound image keeps itself, where nothing was done; what has no superblock keeps none.
+no_older : (newer older : List Call) → [] ≡ newer ++ older → older ≡ []
+no_older [] older same = sym same
+no_older (call ∷ newer) older same = absurd (cc same)
+
+abbrev pub opened : Blocks → Seen
+opened blocks = record seen { opening = blocks }
+
+module _ (blocks : Blocks) (sound : IsSound blocks) (one : HasOneImage blocks [] blocks) where
+  by_itself : AreKept (image_in blocks sound) blocks
+  by_itself = record { sound = sound; same = same_as_itself (image_in blocks sound) }
+
+  pub kept_yet : IsKeptSince (image_in blocks sound) (opened blocks) (opened blocks)
+  kept_yet = (
+    [],
+    refl,
+    λ newer older now same is.
+        let none = no_older newer older same in
+        let here : IsImage blocks [] now = subst (λ (calls : List Call). IsImage blocks (calls ++ []) now) none is in
+        subst (AreKept (image_in blocks sound)) (sym (one_image-unique blocks [] blocks now one here)) by_itself,
+  )
+
+  -- Ends: after a refusal that is all; after an answer all was made
+  refused_end : (fault : ImageFault) → Ends {T = ℕ} {E = ImageFault} (image_in blocks sound) sound.last (opened blocks) (opened blocks) (Err fault)
+  refused_end fault = kept_yet
+
+  answered_early : (n : ℕ) → Ends {T = ℕ} {E = ImageFault} (image_in blocks sound) sound.last (opened blocks) (opened blocks) (Ok n) → ⊥
+  answered_early n (puts, are, log) = let size = ap (λ (l : List Call). length l) log in omega (arith, size)
+
+nothing_kept : (image : Image) → AreKept image [] → ⊥
+nothing_kept image kept = let accepted = kept.sound.opens.accepted in absurd (cc accepted)
+
+none_kept : (image : Image) → IsKeptSince image seen seen → ⊥
+none_kept image since = nothing_kept image (since.2 [] since.0 [] refl (record { size = refl; whole = λ b below. absurd (omega (arith, below)); sectors = λ b below. absurd (omega (arith, below)) }))
+
+-- and the log goes on
+log_lost : (image : Image) → IsKeptSince image flushed seen → ⊥
+log_lost image since = let size = ap (λ (l : List Call). length l) since.1 in omega (arith, size, length-append since.0 (Flush true ∷ []))
+
+all_end : Ends {T = ℕ} {E = ImageFault} still 7 seen (with_all still) (Ok 0)
+all_end = all_made
+
+lost_end : (image : Image) (fault : ImageFault) → Ends {T = ℕ} {E = ImageFault} image 7 flushed seen (Err fault) → ⊥
+lost_end image fault = log_lost image
+
+-- Writing all. An image of the default sizes that needs no other write: its superblock is written, with flushes around it.
+abbrev blank : Image
+blank = record { geometry = small; blocks = []; window = [] }
+
+abbrev Blank : Image → Type 0
+Blank image = ArePuts image [] × (image.geometry ≡ small)
+
+all_is_written : WritesAll true true seen (with_all blank) Blank 7 (Ok tt)
+all_is_written = record {
+  stays = record { opening = refl; size = refl };
+  later = record { faults = omega arith; unkept = omega arith };
+  grows = λ told. (recovery_calls blank 7 [], refl);
+  rose = tt;
+  ends = λ first blocks start calls made needs same.
+      let none = no_older calls first.log made.logged in
+      let sizes = needs.1 in
+      ([], needs.0, calls_of start.to.sound.head.geometry start.to.sound.last first.log sizes same none);
+}
+  where
+    calls_of : (g : Geometry) (last : ℕ) (log : List Call) → g ≡ small → last ≡ 7 → log ≡ []
+        → recovery_calls blank 7 [] ≡ recovery_calls (record { geometry = g; blocks = []; window = [] }) last [] ++ log
+    calls_of g last log sizes same none = rw (sizes, same, none) refl
+
+abbrev any : Image → Type 0
+any image = Unit {0}
+
+-- ends: from a start on nothing was written
+none_is_written : (first : Seen) (blocks : Blocks) (start : IsStart true true first blocks) → WritesAll true true first first any start.to.sound.last (Ok tt) → ⊥
+none_is_written first blocks start writes =
+    let all = writes.ends first blocks start [] (none_made (image_in blocks start.to.sound) first) tt refl in
+    let size = ap (λ (l : List Call). length l) all.2 in
+    omega (arith, size, length-append (recovery_calls (image_in blocks start.to.sound) start.to.sound.last all.0) first.log)
+
+-- stays, later, grows, rose
+other_size : (honest : Bool) (last : ℕ) → WritesAll false honest seen (record seen { size = 3 }) any last (Ok tt) → ⊥
+other_size honest last writes = let size = writes.stays.size in omega (arith, size)
+
+fewer_faults : (honest : Bool) (last : ℕ) → WritesAll false honest seen_failed seen any last (Ok tt) → ⊥
+fewer_faults honest last writes = let less = writes.later.faults in omega (arith, less)
+
+log_is_lost : (honest : Bool) (last : ℕ) → WritesAll true honest flushed seen any last (Ok tt) → ⊥
+log_is_lost honest last writes =
+    let since = writes.grows refl in let size = ap (λ (l : List Call). length l) since.1 in omega (arith, size, length-append since.0 (Flush true ∷ []))
+
+failed_for_nothing : (honest : Bool) (last : ℕ) (fault : Failed) → WritesAll false honest seen seen any last (Err fault) → ⊥
+failed_for_nothing honest last fault writes = let rose = writes.rose in omega (arith, rose)
+
+-- The whole, of a device that doesn't tell: an answer, and a refusal.
+unclean_recovered : (honest : Bool) → RecoversUnclean false honest (head_of false) seen seen (Ok 0)
+unclean_recovered honest = record {
+  stays = record { opening = refl; size = refl };
+  later = record { faults = omega arith; unkept = omega arith };
+  grows = λ told. absurd (cc told);
+  entries = none_of_zeros honest false;
+  fails = tt;
+  nothing = tt;
+  ends = λ first blocks start untouched accepted. let told = start.told in absurd (cc told);
+}
+
+unclean_refused : (honest : Bool) → RecoversUnclean false honest (head_of false) seen seen_failed (Err Device)
+unclean_refused honest = record {
+  stays = record { opening = refl; size = refl };
+  later = record { faults = omega arith; unkept = omega arith };
+  grows = λ told. absurd (cc told);
+  entries = tt;
+  fails = journal_failed honest;
+  nothing = inl refl;
+  ends = λ first blocks start untouched accepted. let told = start.told in absurd (cc told);
+}
+
+module _ (honest : Bool) (head : Superblock) (n : ℕ) where
+  -- stays, later, grows
+  unclean_of_other_size : RecoversUnclean false honest head seen (record seen { size = 3 }) (Ok n) → ⊥
+  unclean_of_other_size is = let size = is.stays.size in omega (arith, size)
+
+  unclean_with_fewer_faults : RecoversUnclean false honest head seen_failed seen (Ok n) → ⊥
+  unclean_with_fewer_faults is = let less = is.later.faults in omega (arith, less)
+
+  unclean_without_log : RecoversUnclean true honest head flushed seen (Ok n) → ⊥
+  unclean_without_log is = let since = is.grows refl in let size = ap (λ (l : List Call). length l) since.1 in omega (arith, size, length-append since.0 (Flush true ∷ []))
+
+  -- fails
+  unclean_never : RecoversUnclean false honest head seen seen (Err Unclean) → ⊥
+  unclean_never is = never_unclean false honest head seen seen is.fails
+
+  -- nothing
+  unclean_written : RecoversUnclean true honest head seen flushed (Err Memory) → ⊥
+  unclean_written is = written_before is.nothing
+
+-- entries
+unclean_of_one : (tells honest : Bool) (now : Seen) → RecoversUnclean tells honest without_journal seen now (Ok 1) → ⊥
+unclean_of_one tells honest now is = not_one tells honest is.entries
+
+-- ends
+unclean_left : (first : Seen) (blocks : Blocks) (start : IsStart true true first blocks) (n : ℕ) → RecoversUnclean true true start.to.sound.head first first (Ok n) → ⊥
+unclean_left first blocks start n is =
+    let all = is.ends first blocks start (untouched_yet true first) start.to.sound.opens.accepted in
+    let size = ap (λ (l : List Call). length l) all.2 in
+    omega (arith, size, length-append (recovery_calls (image_in blocks start.to.sound) start.to.sound.last all.0) first.log)

@@ -1,0 +1,272 @@
+-- What is promised of a recovery: for each clause that `Rows` hasn't, a small case that it accepts, and one that breaks it
+-- and is refused.
+use Rattle.std.proofs.Common.{ℕ, zero, suc, ◌≡◌, ◌<◌, ◌^◌, Bool, true, false, List, [], ◌∷◌, ◌++◌, length, length-append, replicate, Ok, Err, refl, sym, ◌∙◌, ap, subst, inl, inr, arith}
+use Rattle.blk_base.specs.Regions.{Place, JournalSlot, IsPlace, block_of}
+use Rattle.blk_base.specs.Sectors.{zero_block}
+use Rattle.blk_base.specs.declared.geometry.Geometry.{Geometry}
+use Rattle.blk_base.specs.declared.geometry.Super.{Super as Superblock}
+use Rattle.disk_model.proofs.ImageLaws.{block_of_mix, contents-write_other}
+use Rattle.disk_model.proofs.OneImageLaws.{one_image-is_image, one_image-opening, one_image-unique}
+use Rattle.disk_model.proofs.SinceLaws.{untouched_yet}
+use Rattle.disk_model.specs.declared.call.Call.{Call}
+use Rattle.disk_model.specs.declared.call.Call.TheVariants.{Write, Flush}
+use Rattle.disk_model.specs.Images.{HasOneImage, IsImage, IsMixOf}
+use Rattle.disk_model.specs.Log.{Blocks, block_at, contents}
+use Rattle.disk_model.specs.Seen.{Seen}
+use Rattle.image_layout.specs.Opened.{super_of_image}
+use Rattle.image_layout.specs.Superblock.{super_block, super_of}
+use Rattle.image_layout.specs.declared.fault.SuperFault.TheVariants.{NotAnImage}
+use Rattle.image_model.proofs.EmptyLaws.{sizes_of_image, the_image, window_is}
+use Rattle.image_model.proofs.Example.{pbn}
+use Rattle.image_model.specs.Empty.{IsMade, made_block}
+use Rattle.image_model.specs.Maps.{Image}
+use Rattle.image_model.specs.Sound.{IsSound, Opens}
+use Rattle.image_model.specs.declared.fault.ImageFault.TheVariants.{Window, Counts, Device, Unclean, Memory}
+use Rattle.image_opening.specs.Heads.{IsHeadRead}
+use Rattle.recovery_laws.proofs.OpenedExample.{opened_super, whole_run}
+use Rattle.recovery_laws.specs.Calls.{recovery_calls}
+use Rattle.recovery_laws.specs.Kept.{IsRecovered, image_in}
+use Rattle.rebuild.proofs.KeptLaws.{image_alike, opened_alike}
+use Rattle.rebuild.proofs.OutcomeRows.{kept_yet, never_unclean, none_of_zeros, opened}
+use Rattle.rebuild.proofs.ReadExample.{head_is_read, head_of, next_failed, says_head, seen_failed, super_size, zero_size}
+use Rattle.rebuild.proofs.Rows.{flushed, none_flushed, seen}
+use Rattle.rebuild.specs.Recoveries.{Answers, AreStopsSound, IsAnswer, IsRecovery, IsRefusal, IsResult, IsTold, IsUnclean, LeavesClosed, RecoverFails}
+use Rattle.rebuild.specs.declared.forms.Recovered.TheVariants.{Clean, Entries}
+
+-- Answers, of any device. Clean: block 0 was read, it says that the session was closed, and nothing was written.
+clean_read : (honest : Bool) → Answers false honest seen seen Clean
+clean_read honest = (head_of true, head_is_read honest true, refl, untouched_yet false seen)
+
+nothing_read : (honest : Bool) (now : Seen) → Answers true honest now now Clean → ⊥
+nothing_read honest now (head, read, clean, untouched) = let more = ap length (read.read.logged refl) in omega (arith, more)
+
+clean_written : (honest : Bool) → Answers true honest seen flushed Clean → ⊥
+clean_written honest (head, read, clean, untouched) = let since = untouched.reads refl in none_flushed since.0 since.1 since.2
+
+-- A device that tells and is honest, with a superblock in block 0.
+abbrev pub with_head : Bool → Seen
+with_head clean = record { opening = super_block (head_of clean) ∷ replicate 153 zero_block; size = 154; log = []; faults = 3; unkept = 0 }
+
+pub head_there : (clean : Bool) (now : Seen) (head : Superblock) → IsHeadRead true true (with_head clean) now head → head ≡ head_of clean
+head_there clean now head read =
+    let given = read.read.given in
+    let block : read.block ≡ super_block (head_of clean) =
+    block_of_mix (super_block (head_of clean) ∷ []) (super_block (head_of clean)) read.block (super_size (head_of clean)) given.0 (given.1 refl refl) (refl, tt) in
+    let says = read.is.says in
+    let here = ap (λ (b : List ℕ). super_of b 154) block ∙ says_head clean in
+    cc (says, here)
+
+unclean_isnt_clean : (now : Seen) → Answers true true (with_head false) now Clean → ⊥
+unclean_isnt_clean now (head, read, clean, untouched) =
+    let same = ap (λ (h : Superblock). h.clean) (head_there false now head read) in absurd (cc (same, clean))
+
+-- Entries: it says that the session wasn't closed, and the window has so many
+zeros_read : (honest : Bool) (now : Seen) → Answers false honest seen now (Entries 0)
+zeros_read honest now = (head_of false, seen, head_is_read honest false, refl, none_of_zeros honest false)
+
+clean_isnt_unclean : (now : Seen) (count : ℕ) → Answers true true (with_head true) now (Entries count) → ⊥
+clean_isnt_unclean now count (head, middle, read, unclean, entries) =
+    let same = ap (λ (h : Superblock). h.clean) (head_there true middle head read) in absurd (cc (same, unclean))
+
+-- Refusals, of any device: of the superblock, which wasn't read; or behind it.
+head_failed : (honest : Bool) → RecoverFails false honest seen seen_failed Device
+head_failed honest = inl (next_failed honest 0)
+
+pub behind_head : (honest : Bool) → RecoverFails false honest seen seen Memory
+behind_head honest = inr (head_of false, seen, head_is_read honest false, refl, inl tt)
+
+-- of an unclean one alone
+clean_fails : (now : Seen) → RecoverFails true true (with_head true) now Memory → ⊥
+clean_fails now fails = elim fails [
+  | inl none ↦ none
+  | inr (head, middle, read, unclean, why) ↦ let same = ap (λ (h : Superblock). h.clean) (head_there true middle head read) in absurd (cc (same, unclean))
+]
+
+pub never_refused_so : (tells honest : Bool) (before now : Seen) → RecoverFails tells honest before now Unclean → ⊥
+never_refused_so tells honest before now fails = elim fails [ inl none ↦ none | inr (head, middle, read, unclean, why) ↦ never_unclean tells honest head middle now why ]
+
+-- Refusals by the image: of a clean one neither a window's fault nor a count's.
+module _ (blocks : Blocks) (head : Superblock) (accepted : super_of_image blocks ≡ Ok head) where
+  unclean_is : head.clean ≡ false → IsUnclean blocks
+  unclean_is unclean = (head, accepted, unclean)
+
+  clean_isnt : head.clean ≡ true → IsUnclean blocks → ⊥
+  clean_isnt clean (other, is, unclean) =
+      let same : other ≡ head = cc (is, accepted) in
+      let here = ap (λ (h : Superblock). h.clean) same in absurd (cc (here, clean, unclean))
+
+  unclean_has_memory : head.clean ≡ false → IsRefusal blocks seen seen Memory
+  unclean_has_memory unclean = (head, accepted, unclean)
+
+  clean_has_no_window : (sequence : ℕ) → head.clean ≡ true → IsRefusal blocks seen seen (Window sequence) → ⊥
+  clean_has_no_window sequence clean is = clean_isnt clean is.0
+
+never_counts : (blocks : Blocks) → IsRefusal blocks seen seen (Counts (pbn 86) 2 1) → ⊥
+never_counts blocks is = is
+
+-- Results: an answer is one, and a refusal one
+result_is_answer : (blocks : Blocks) → IsResult blocks seen seen (Ok Clean) → IsAnswer blocks Clean
+result_is_answer blocks is = is
+
+result_is_refusal : (blocks : Blocks) → IsResult blocks seen seen (Err Unclean) → ⊥
+result_is_refusal blocks is = is
+
+-- Of an honest device: it tells, is honest, and nothing is pending.
+abbrev one_block : Blocks
+one_block = zero_block ∷ []
+
+zero_whole : (b : ℕ) → b < 1 → length (block_at one_block b) ≡ 4096
+unfolding zero_block
+zero_whole b below = let first : b ≡ 0 = omega (arith, below) in rw first refl
+
+told_is : IsTold true true (opened one_block) one_block
+told_is = record { told = refl; fair = refl; one = one_image-opening one_block zero_whole }
+
+untold : (blocks : Blocks) → IsTold false true seen blocks → ⊥
+untold blocks is = let told = is.told in absurd (cc told)
+
+unfair : (blocks : Blocks) → IsTold true false seen blocks → ⊥
+unfair blocks is = let fair = is.fair in absurd (cc fair)
+
+-- a write is pending, of which a stop may leave nothing
+pending : IsTold true true (record (opened one_block) { log = Write (pbn 0) [] true ∷ [] }) one_block → ⊥
+pending is = let only = (is.one.only 0 (omega arith)).0 in let whole = is.one.whole 0 (omega arith) in let size = ap length only in omega (arith, size, whole)
+
+-- Each way it ends: what a sound image says is kept, and of one that isn't sound nothing is said.
+unsound : IsSound [] → ⊥
+unsound sound = let accepted = sound.opens.accepted in absurd (cc accepted)
+
+nothing_sound : AreStopsSound [] flushed seen
+nothing_sound sound = absurd (unsound sound)
+
+module _ (blocks : Blocks) (one : HasOneImage blocks [] blocks) where
+  sound_yet : AreStopsSound blocks (opened blocks) (opened blocks)
+  sound_yet sound = kept_yet blocks sound one
+
+  log_forgotten : IsSound blocks → AreStopsSound blocks flushed seen → ⊥
+  log_forgotten sound stops =
+      let since = stops sound in let size = ap (λ (l : List Call). length l) since.1 in omega (arith, size, length-append since.0 (Flush true ∷ []))
+
+  -- After recovery its superblock says that the session was closed; of a clean one nothing is left to do.
+  clean_leaves : LeavesClosed blocks (opened blocks) Clean
+  clean_leaves = tt
+
+  still_unclean : (sound : IsSound blocks) (count : ℕ) → sound.head.clean ≡ false → LeavesClosed blocks (opened blocks) (Entries count) → ⊥
+  still_unclean sound count unclean leaves =
+      let left = leaves sound in
+      let same : left.0 ≡ blocks = one_image-unique blocks [] blocks left.0 one (one_image-is_image blocks [] left.0 left.1) in
+      let accepted : super_of_image blocks ≡ Ok left.2.kept.sound.head = ap super_of_image (sym same) ∙ left.2.kept.sound.opens.accepted in
+      let own = sound.opens.accepted in
+      let head : left.2.kept.sound.head ≡ sound.head = cc (accepted, own) in
+      let clean = ap (λ (h : Superblock). h.clean) left.2.closed in
+      let here = ap (λ (h : Superblock). h.clean) head in
+      absurd (cc (clean, here, unclean))
+
+-- An image that was opened, and whose recovery was run.
+module _ (g : Geometry) (blocks : Blocks) (accepted : super_of_image blocks ≡ Ok (opened_super g)) (named : g.nonce < 2 ^ 64)
+    (made : (place : Place) → IsPlace g place → IsMade place → block_at blocks (block_of g place) ≡ made_block g place)
+    (whole : (b : ℕ) → b < length blocks → length (block_at blocks b) ≡ 4096) where
+  opens : Opens blocks (opened_super g) 0 []
+  opens = record {
+    accepted = accepted;
+    sequences = λ unclean. omega arith;
+    is_window = window_is g blocks (sizes_of_image blocks (opened_super g) accepted) (λ slot inside. made (JournalSlot slot) inside tt);
+  }
+
+  run_leaves : (count : ℕ) → LeavesClosed blocks (record (opened blocks) { log = recovery_calls (the_image g blocks) 0 [] ++ [] }) (Entries count)
+  run_leaves count sound =
+      let run = whole_run g blocks accepted made named whole in
+      let image : the_image g blocks ≡ image_in blocks sound = image_alike blocks sound (opened_super g) 0 [] opens in
+      let last : 0 ≡ sound.last = (opened_alike blocks sound (opened_super g) 0 [] opens).1 in
+      (run.0, run.1, subst (λ (i : Image). IsRecovered i sound.last run.0) image (subst (λ (n : ℕ). IsRecovered (the_image g blocks) n run.0) last run.2))
+
+-- The whole, of a device that doesn't tell: an answer, and a refusal.
+clean_recovery : (honest : Bool) → IsRecovery false honest seen seen (Ok Clean)
+clean_recovery honest = record {
+  stays = record { opening = refl; size = refl };
+  later = record { faults = omega arith; unkept = omega arith };
+  grows = λ told. absurd (cc told);
+  answers = clean_read honest;
+  fails = tt;
+  nothing = tt;
+  says = λ blocks is. let told = is.told in absurd (cc told);
+  stops = λ blocks is. let told = is.told in absurd (cc told);
+  closed = λ blocks is. let told = is.told in absurd (cc told);
+}
+
+refused_recovery : (honest : Bool) → IsRecovery false honest seen seen_failed (Err Device)
+refused_recovery honest = record {
+  stays = record { opening = refl; size = refl };
+  later = record { faults = omega arith; unkept = omega arith };
+  grows = λ told. absurd (cc told);
+  answers = tt;
+  fails = head_failed honest;
+  nothing = inl refl;
+  says = λ blocks is. let told = is.told in absurd (cc told);
+  stops = λ blocks is. let told = is.told in absurd (cc told);
+  closed = tt;
+}
+
+-- stays, later
+other_size : (honest : Bool) → IsRecovery false honest seen (record seen { size = 3 }) (Ok Clean) → ⊥
+other_size honest is = let size = is.stays.size in omega (arith, size)
+
+fewer_faults : (honest : Bool) → IsRecovery false honest seen_failed seen (Ok Clean) → ⊥
+fewer_faults honest is = let less = is.later.faults in omega (arith, less)
+
+-- answers, fails
+answered_unread : (honest : Bool) (now : Seen) → IsRecovery true honest now now (Ok Clean) → ⊥
+answered_unread honest now is = nothing_read honest now is.answers
+
+refused_as_unclean : (honest : Bool) → IsRecovery false honest seen seen (Err Unclean) → ⊥
+refused_as_unclean honest is = never_refused_so false honest seen seen is.fails
+
+-- says, stops, closed: of an honest device, by its one image
+module _ (before now : Seen) (blocks : Blocks) (told : IsTold true true before blocks) where
+  clean_is_said : (head : Superblock) → super_of_image blocks ≡ Ok head → head.clean ≡ false → IsRecovery true true before now (Ok Clean) → ⊥
+  clean_is_said head accepted unclean is =
+      let answer = is.says blocks told in
+      let own = answer.1 in
+      let same : answer.0 ≡ head = cc (own, accepted) in
+      let here = ap (λ (h : Superblock). h.clean) same in
+      let clean = answer.2 in absurd (cc (here, clean, unclean))
+
+  refusal_is_said : IsRecovery true true before now (Err Unclean) → ⊥
+  refusal_is_said is = is.says blocks told
+
+module _ (blocks : Blocks) (sound : IsSound blocks) (one : HasOneImage blocks [] blocks) where
+  told_here : IsTold true true (opened blocks) blocks
+  told_here = record { told = refl; fair = refl; one = one }
+
+  left_unclean : (count : ℕ) → sound.head.clean ≡ false → IsRecovery true true (opened blocks) (opened blocks) (Ok (Entries count)) → ⊥
+  left_unclean count unclean is = still_unclean blocks one sound count unclean (is.closed blocks told_here)
+
+-- stops: zeros were written over the superblock of a sound image, whatever is answered
+zeros_whole : (block : List ℕ) (more : Blocks) → ((b : ℕ) → b < length (block ∷ more) → length (block_at (block ∷ more) b) ≡ 4096)
+    → (b : ℕ) → b < length (block ∷ more) → length (block_at (zero_block ∷ more) b) ≡ 4096
+zeros_whole block more whole zero below = zero_size
+zeros_whole block more whole (suc b) below = whole (suc b) below
+
+zeros_mixed : (block : List ℕ) (more : Blocks) (b : ℕ) → IsMixOf (contents (block ∷ more) (Write (pbn 0) zero_block true ∷ []) b) (block_at (zero_block ∷ more) b)
+zeros_mixed block more zero = λ i below. inl refl
+zeros_mixed block more (suc b) =
+    let other = contents-write_other (block ∷ more) [] (pbn 0) zero_block true (suc b) (λ same. omega (arith, same)) in
+    subst (λ (options : List (List ℕ)). IsMixOf options (block_at more b)) (sym other) (λ i below. inl refl)
+
+zeros_stand : (block : List ℕ) (more : Blocks) → ((b : ℕ) → b < length (block ∷ more) → length (block_at (block ∷ more) b) ≡ 4096)
+    → IsImage (block ∷ more) (Write (pbn 0) zero_block true ∷ []) (zero_block ∷ more)
+zeros_stand block more whole = record { size = refl; whole = zeros_whole block more whole; sectors = λ b below. zeros_mixed block more b }
+
+zeros_are_none : (size : ℕ) → super_of zero_block size ≡ Err NotAnImage
+unfolding super_of zero_block
+zeros_are_none size = refl
+
+written_over : (block : List ℕ) (more : Blocks) → IsSound (block ∷ more) → HasOneImage (block ∷ more) [] (block ∷ more)
+    → IsRecovery true true (opened (block ∷ more)) (record (opened (block ∷ more)) { log = Write (pbn 0) zero_block true ∷ [] }) (Err Device) → ⊥
+written_over block more sound one is =
+    let since = is.stops (block ∷ more) (record { told = refl; fair = refl; one = one }) sound in
+    let stands = subst (λ (log : List Call). IsImage (block ∷ more) log (zero_block ∷ more)) since.1 (zeros_stand block more one.whole) in
+    let kept = since.2 [] since.0 (zero_block ∷ more) refl stands in
+    let accepted = kept.sound.opens.accepted in
+    let none = zeros_are_none (length (zero_block ∷ more)) in
+    absurd (cc (accepted, none))
