@@ -1,6 +1,7 @@
 -- What was read of the map and of the counts, one after the other.
-use Rattle.std.proofs.Common.{ℕ, zero, suc, ◌≡◌, ◌+◌, ◌-◌, ◌*◌, ◌/◌, ◌%◌, ◌<◌, ◌↔◌, Bool, List, [], ◌∷◌, length, Contains, Some, Result, Ok, Err, IfOk, slice_index, refl, sym, ◌∙◌, ap, ap₂, subst, inr, arith}
+use Rattle.std.proofs.Common.{ℕ, zero, suc, ◌≡◌, ◌+◌, ◌-◌, ◌*◌, ◌/◌, ◌%◌, ◌<◌, ◌≤◌, ◌↔◌, Bool, List, [], ◌∷◌, All, length, Contains, Some, Result, Ok, Err, IfOk, slice_index, refl, sym, ◌∙◌, ap, ap₂, subst, inr, arith}
 use Rattle.std.proofs.lemmas.Nat.{div-add-mod', mod_below, mul-add-lt, same_from_place}
+use Rattle.blk_base.specs.Counters.{limit_of}
 use Rattle.blk_base.specs.Regions.{first_slab_of, needed_blocks, slab_stride_of}
 use Rattle.blk_base.specs.declared.geometry.Geometry.{Geometry}
 use Rattle.blk_base.specs.declared.geometry.Super.{Super as Superblock}
@@ -19,6 +20,7 @@ use Rattle.image_model.specs.declared.fault.ImageFault.TheVariants.{Super, Windo
 use Rattle.blk_base.specs.declared.place.Pbn.{Pbn}
 use Rattle.journal_window.specs.States.{WindowState}
 use Rattle.replay_counts.specs.Recovered.{AreCountsRead, CountsFail, HasCounts, Holds}
+use Rattle.replay_counts.specs.declared.forms.RecoveredCounts.{RecoveredCounts}
 use Rattle.replay_counts.specs.declared.forms.SectorPoints.{SectorPoints}
 use Rattle.replay_map.specs.Reads.{Reading, BlocksRead, Shows}
 use Rattle.replay_map.specs.Replayed.{HasMap, IsMapRead, MapFails, times}
@@ -28,8 +30,10 @@ use Rattle.slab_reading.specs.Reads.{read_of}
 use Rattle.slab_reading.specs.Slabs.{first_of_slab}
 use Rattle.audit.proofs.ReportLaws.{is_report}
 use Rattle.audit.specs.Tallies.{AreTallied, differences_below, used_in}
-use Rattle.audit.specs.Audits.{AuditWithFails, IsAuditedWith}
+use Rattle.audit.specs.Audits.{AuditWithFails, BothShow, IsAuditedWith}
+use Rattle.audit.specs.Reads.{AreContents}
 use Rattle.audit.specs.Reports.{IsReport}
+use Rattle.audit.specs.declared.forms.Contents.{Contents}
 use Rattle.audit.specs.declared.forms.Report.{Report}
 
 -- There is an image that has what was read of the slabs.
@@ -67,29 +71,51 @@ slab_shown g reads slab i is below =
     ∙ ap (read_at g reads) place
     ∙ ap₂ (λ (s w : ℕ). block_at (read_of reads s) w) parts.0 left
 
-pub counts_size : (tells honest : Bool) (g : Geometry) (window : List CommittedEntry) (before now : Seen) (counts : List ℕ) (sectors : List SectorPoints)
+counts_size : (tells honest : Bool) (g : Geometry) (window : List CommittedEntry) (before now : Seen) (counts : List ℕ) (sectors : List SectorPoints)
     → AreCountsRead tells honest g window before now counts sectors → length counts ≡ all_blocks g
 counts_size tells honest g window before now counts sectors (reads, read, has) =
     (has (listed (read_at g reads) 0 (needed_blocks g)) (slab_shown g reads)).blocks
 
-pub sectors_size : (tells honest : Bool) (g : Geometry) (window : List CommittedEntry) (before now : Seen) (counts : List ℕ) (sectors : List SectorPoints)
+sectors_size : (tells honest : Bool) (g : Geometry) (window : List CommittedEntry) (before now : Seen) (counts : List ℕ) (sectors : List SectorPoints)
     → AreCountsRead tells honest g window before now counts sectors → length sectors ≡ all_sectors g
 sectors_size tells honest g window before now counts sectors (reads, read, has) =
     (has (listed (read_at g reads) 0 (needed_blocks g)) (slab_shown g reads)).sizes
 
-module _ (tells honest : Bool) (head : Superblock) (window : WindowState) (before middle now : Seen) where
-  pub audited : (map : RecoveredMap) (counts : List ℕ) (sectors : List SectorPoints) (report : Report) → IsMapRead tells honest head.geometry window before middle map
-      → AreCountsRead tells honest head.geometry window.entries middle now counts sectors
-      → ((image : Image) → image.geometry ≡ head.geometry → HasMap image map → HasCounts image counts sectors → IsReport image report)
-      → IsAuditedWith tells honest head window before now report
-  audited map counts sectors report read (slabs, slabs_read, has) says =
-      let found = read.found in (
+pub contents_read : (tells honest : Bool) (head : Superblock) (window : WindowState) (before middle now : Seen) (map : RecoveredMap) (counts : RecoveredCounts)
+    → IsMapRead tells honest head.geometry window before middle map
+    → AreCountsRead tells honest head.geometry window.entries middle now counts.counts.items counts.sectors.items
+    → All (λ count. count ≤ limit_of head.geometry) counts.counts.items
+    → AreContents tells honest head window before now (record { map = map; counts = counts })
+contents_read tells honest head window before middle now map counts read slabs_read limit =
+    let found = read.found in record {
+      entries = read.entries;
+      blocks = counts_size tells honest head.geometry window.entries middle now counts.counts.items counts.sectors.items slabs_read;
+      sectors = sectors_size tells honest head.geometry window.entries middle now counts.counts.items counts.sectors.items slabs_read;
+      limit = limit;
+      shown = (
         found.0,
-        slabs,
-        record { middle = middle; pages_read = found.1; slabs_read = slabs_read },
-        λ blocks shows holds. says (image_of head blocks window.entries) refl (found.2 blocks shows) (has blocks holds),
-      )
+        slabs_read.0,
+        record { middle = middle; pages_read = found.1; slabs_read = slabs_read.1 },
+        λ blocks shows holds. (found.2 blocks shows, slabs_read.2 blocks holds),
+      );
+    }
 
+module _ (tells honest : Bool) (head : Superblock) (window : WindowState) (before now : Seen) where
+  -- what follows for each image of these sizes
+  pub both_follow : (Says Says' : Image → Type 0) → ((image : Image) → image.geometry ≡ head.geometry → Says image → Says' image)
+      → BothShow tells honest head window before now Says → BothShow tells honest head window before now Says'
+  both_follow Says Says' follows (pages, slabs, read, says) =
+      (pages, slabs, read, λ blocks shows holds. follows (image_of head blocks window.entries) refl (says blocks shows holds))
+
+  pub audited : (contents : Contents) (report : Report) → AreContents tells honest head window before now contents
+      → ((image : Image) → image.geometry ≡ head.geometry → HasMap image contents.map → HasCounts image contents.counts.counts.items contents.counts.sectors.items
+      → IsReport image report)
+      → IsAuditedWith tells honest head window before now report
+  audited contents report are says =
+      both_follow (λ image. HasMap image contents.map × HasCounts image contents.counts.counts.items contents.counts.sectors.items) (λ image. IsReport image report)
+      (λ image same has. says image same has.0 has.1) are.shown
+
+module _ (tells honest : Bool) (head : Superblock) (window : WindowState) (before middle now : Seen) where
   counts_fail_after : (pages : List Reading) → BlocksRead tells honest before middle pages → ((blocks : Blocks) → Shows blocks pages → ArePagesGood (image_of head blocks window.entries))
       → (why : ImageFault) → CountsFail tells honest head.geometry window.entries middle now why → AuditWithFails tells honest head window before now why
   counts_fail_after pages read good (Counter at point) (slabs, slabs_read, fault) =

@@ -1,9 +1,10 @@
 -- For each definition a small case that it accepts, and one that it refuses.
-use Rattle.std.proofs.Common.{ℕ, zero, suc, ◌≡◌, ◌+◌, Bool, true, List, [], ◌∷◌, length, Contains, reverse, refl, ◌∙◌, ap, subst, inl, inr, arith, length-append}
+use Rattle.std.proofs.Common.{ℕ, zero, suc, ◌≡◌, ◌+◌, ◌≤◌, Bool, true, List, [], ◌∷◌, All, length, Contains, reverse, refl, ◌∙◌, ap, subst, inl, inr, arith, length-append}
+use Rattle.blk_base.specs.Counters.{limit_of}
 use Rattle.blk_base.specs.declared.geometry.Geometry.{Geometry}
 use Rattle.blk_base.specs.declared.geometry.Super.{Super as Superblock}
 use Rattle.blk_base.specs.declared.place.Pbn.{Pbn}
-use Rattle.count_updates.specs.Numbers.{all_blocks}
+use Rattle.count_updates.specs.Numbers.{all_blocks, all_sectors}
 use Rattle.disk_model.specs.Seen.{Seen}
 use Rattle.disk_model.specs.Since.{reads_of}
 use Rattle.image_model.proofs.CountLaws.{none_in_nothing}
@@ -13,8 +14,10 @@ use Rattle.image_model.specs.declared.fault.ImageFault.TheVariants.{Window, Coun
 use Rattle.journal_window.specs.States.{WindowState}
 use Rattle.replay_map.specs.declared.links.Link.{Link}
 use Rattle.audit.specs.Audits.{AreBothRead, AuditWithFails, IsOpenedTo}
+use Rattle.audit.specs.Reads.{AreContents}
 use Rattle.audit.specs.Reports.{AreRising, AreUsed, Differs, IsReport}
 use Rattle.audit.specs.Tallies.{AreTallied, IsChanged, IsLinked, Tallies, differences_below, place_of_number, used_in}
+use Rattle.audit.specs.declared.forms.Contents.{Contents}
 use Rattle.audit.specs.declared.forms.Difference.{Difference}
 use Rattle.audit.specs.declared.forms.Report.{Report}
 
@@ -158,3 +161,20 @@ no_counts tells honest head window before now fails = fails
 
 not_unclean : (tells honest : Bool) (head : Superblock) (window : WindowState) (before now : Seen) → AuditWithFails tells honest head window before now Unclean → ⊥
 not_unclean tells honest head window before now fails = fails
+
+-- The map and the counts of an image. entries: as many as the window has; blocks, sectors: a count for each data block, and
+-- points for each sector of counters; limit: no count above it
+module _ (tells honest : Bool) (head : Superblock) (window : WindowState) (before now : Seen) (contents : Contents) (are : AreContents tells honest head window before now contents) where
+  entries_miscounted : window.entries ≡ [] → contents.map.entries ≡ 7 → ⊥
+  entries_miscounted none seven = let entries = are.entries in let empty = ap length none in omega (arith, entries, empty, seven)
+
+  count_left_out : head.geometry ≡ small → length contents.counts.counts.items ≡ 63 → ⊥
+  count_left_out same short = let blocks = are.blocks in let all = ap all_blocks same in omega (arith, blocks, all, short)
+
+  points_left_out : head.geometry ≡ small → length contents.counts.sectors.items ≡ 0 → ⊥
+  points_left_out same none = let sectors = are.sectors in let all = ap all_sectors same in omega (arith, sectors, all, none)
+
+  count_past_limit : (others : List ℕ) → contents.counts.counts.items ≡ 255 ∷ others → ⊥
+  count_past_limit others first =
+      let all = subst (λ (counts : List ℕ). All (λ (count : ℕ). count ≤ limit_of head.geometry) counts) first are.limit in
+      let within = all 0 0 (omega arith) in omega (arith, within)

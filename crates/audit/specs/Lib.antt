@@ -1,3 +1,4 @@
 pub mod Tallies
 pub mod Reports
 pub mod Audits
+pub mod Reads

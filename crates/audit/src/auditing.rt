@@ -7,20 +7,20 @@ ghost use Rattle.disk_model.specs.Since.{IsUntouched};
 ghost use Rattle.image_model.specs.Maps.{Image};
 ghost use Rattle.journal_window.specs.Windows.{IsWindowOf};
 ghost use Rattle.replay_counts.specs.Recovered.{HasCounts};
-ghost use Rattle.replay_map.specs.Replayed.{HasMap, MapFails};
-ghost use Rattle.audit.specs.Audits.{AuditFails, AuditWithFails, IsAudited, IsAuditedWith, LaterFails};
+ghost use Rattle.replay_map.specs.Replayed.{HasMap};
+ghost use Rattle.audit.specs.Audits.{AuditFails, AuditWithFails, IsAudited, IsAuditedWith};
 ghost use Rattle.audit.specs.Reports.{IsReport};
 
-use crate::Report;
 use crate::comparing::compare;
 use crate::tallying::tally;
+use crate::{Report, read_contents};
 use blk_base::{Layout, Super};
 use disk_model::Disk;
 use image_model::ImageFault;
 use image_opening::read_head;
 use journal_window::{JournalWindow, read_window};
-use replay_counts::{RecoveredCounts, counts_with};
-use replay_map::{RecoveredMap, replay_with};
+use replay_counts::RecoveredCounts;
+use replay_map::RecoveredMap;
 use std::alloc::{AllocError, Global};
 
 /// Compares the stored count of each data block of the image on a device with the number of its mappings. It reads block 0,
@@ -59,38 +59,12 @@ pub fn audit_with<D: Disk>(
     ensures fault { IfErr result (AuditWithFails D.tells D.honest head.now window.now (D.seen device.old) (D.seen device.new)) }
     ensures untouched { IsUntouched D.tells (D.seen device.old) (D.seen device.new) }
 {
-    let map = match replay_with(alloc, head, window, device) {
-        Ok(map) => map,
-        Err(fault) => return Err(first_fault(alloc, head, window, fault, device)),
-    };
-    let counts = counts_with(alloc, head, window.entries(), device)?;
-    let Ok(report) = report_of(alloc, &Layout::of(&head.geometry), &map, &counts) else {
+    let contents = read_contents(alloc, head, window, device)?;
+    let layout = Layout::of(&head.geometry);
+    let Ok(report) = report_of(alloc, &layout, &contents.map, &contents.counts) else {
         return Err(ImageFault::Memory);
     };
     Ok(report)
-}
-
-// The first of this fault of the map and those of the counts, which stand before a page that is shared.
-fn first_fault<D: Disk>(
-    alloc: Global,
-    head: &Super,
-    window: &JournalWindow,
-    fault: ImageFault,
-    device: &mut D,
-) -> ImageFault
-    requires sizes { IsGeometry head.now.geometry }
-    requires room { needed_blocks head.now.geometry ≤ (D.seen device.old).size }
-    requires window { (journal : Blocks) × IsWindowOf head.now journal window.now }
-    ensures fault { LaterFails D.tells D.honest head.now window.now fault (D.seen device.old) (D.seen device.new) result }
-    ensures untouched { IsUntouched D.tells (D.seen device.old) (D.seen device.new) }
-{
-    let ImageFault::SharedPage { .. } = fault else {
-        return fault;
-    };
-    match counts_with(alloc, head, window.entries(), device) {
-        Ok(_counts) => fault,
-        Err(earlier) => earlier,
-    }
 }
 
 /// The report of an image with this map and these counts; it reads nothing. It takes the memory of eight bytes for each data

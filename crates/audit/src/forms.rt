@@ -1,4 +1,6 @@
 use blk_base::Pbn;
+use replay_counts::RecoveredCounts;
+use replay_map::RecoveredMap;
 
 /// A data block whose stored count isn't the number of its mappings.
 #[derive(Clone, Copy, Debug, PartialEq, Eq)]
@@ -19,4 +21,13 @@ pub struct Report {
     pub used: u32,
     /// How many data blocks there are.
     pub total: u32,
+}
+
+/// The map and the counts of an image, as its pages, its counters and its journals say them with its window.
+#[derive(Drop)]
+pub struct Contents {
+    /// Its linked pages, and each block to which an address is mapped.
+    pub map: RecoveredMap,
+    /// The stored count of each data block, and what each sector of counters is to have.
+    pub counts: RecoveredCounts,
 }

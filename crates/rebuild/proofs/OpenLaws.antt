@@ -1,5 +1,6 @@
 -- What opening an image promises, by how it ended.
 use Rattle.std.proofs.Common.{ℕ, ◌≡◌, ◌≤◌, Bool, IsTrue, true, false, List, All, Result, Ok, Err, IsErrAnd, length, refl, sym, ◌∙◌, ap, subst, inl, inr}
+use Rattle.audit.proofs.AuditLaws.{both_follow}
 use Rattle.audit.specs.Audits.{AuditWithFails, BothShow, IsOpenedTo}
 use Rattle.blk_base.specs.Counters.{limit_of}
 use Rattle.blk_base.specs.Limits.{IsGeometry}
@@ -29,18 +30,13 @@ use Rattle.session_opening.specs.Starts.{IsStart}
 use Rattle.rebuild.proofs.ReadLaws.{both_shown}
 use Rattle.rebuild.proofs.ShownLaws.{accepted, audit_rose, enough, enough_behind, head_refused, head_untouched, one_behind, one_there, opened, rose_behind, window_opens, window_untouched}
 use Rattle.rebuild.specs.Openings.{CheckFails, Fits, HasWrongCount, IsCleanImage, IsOpenedWith, IsOpening, IsOpeningRefusal, IsRight, OpenWithFails, OpensRight}
-use Rattle.rebuild.specs.Reads.{AreContents}
+use Rattle.audit.specs.Reads.{AreContents}
 use Rattle.rebuild.specs.Recoveries.{IsTold}
-use Rattle.rebuild.specs.declared.forms.Contents.{Contents}
+use Rattle.audit.specs.declared.forms.Contents.{Contents}
 
 -- From what was read.
 
 module _ (tells honest : Bool) (head : Superblock) (window : WindowState) (before now : Seen) where
-  both_follow : (Says Says' : Image → Type 0) → ((image : Image) → image.geometry ≡ head.geometry → Says image → Says' image)
-      → BothShow tells honest head window before now Says → BothShow tells honest head window before now Says'
-  both_follow Says Says' follows (pages, slabs, read, says) =
-      (pages, slabs, read, λ blocks shows holds. follows (image_of head blocks window.entries) refl (says blocks shows holds))
-
   stored_all : (image : Image) (contents : Contents) → HasCounts image contents.counts.counts.items contents.counts.sectors.items → AreStored image
   stored_all image contents has place inside = (_, has.stored place inside)
 
@@ -50,7 +46,7 @@ module _ (tells honest : Bool) (head : Superblock) (window : WindowState) (befor
       → IsStart image head opened)
       → IsOpenedWith tells honest head window before now opened
   opened_right contents opened are true_all starts =
-      both_follow (λ image. HasMap image contents.map × HasCounts image contents.counts.counts.items contents.counts.sectors.items) (λ image. IsRight image head opened)
+      both_follow tells honest head window before now (λ image. HasMap image contents.map × HasCounts image contents.counts.counts.items contents.counts.sectors.items) (λ image. IsRight image head opened)
       (λ image same has. record {
         pages = has.0.pages;
         unshared = has.0.unshared;
@@ -61,7 +57,7 @@ module _ (tells honest : Bool) (head : Superblock) (window : WindowState) (befor
   pub check_failed : (contents : Contents) (why : ImageFault) → AreContents tells honest head window before now contents → CheckFails head.geometry contents why
       → OpenWithFails tells honest head window before now why
   check_failed contents (Counts at stored mapped) are fails =
-      both_follow (λ image. HasMap image contents.map × HasCounts image contents.counts.counts.items contents.counts.sectors.items) (λ image. HasWrongCount image at stored mapped)
+      both_follow tells honest head window before now (λ image. HasMap image contents.map × HasCounts image contents.counts.counts.items contents.counts.sectors.items) (λ image. HasWrongCount image at stored mapped)
       (λ image same has. record {
         pages = has.0.pages;
         stored_all = stored_all image contents has.1;

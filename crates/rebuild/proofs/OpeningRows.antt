@@ -18,7 +18,7 @@ use Rattle.image_model.specs.Sound.{IsDataPlace}
 use Rattle.image_model.specs.declared.fault.ImageFault.TheVariants.{Counts, Device, Unclean, Memory}
 use Rattle.rebuild.proofs.Rows.{flushed, none_flushed, seen}
 use Rattle.rebuild.specs.Openings.{CheckFails, Fits, HasWrongCount, IsOpening, IsOpeningRefusal, IsRight, OpenWithFails, OpensRight}
-use Rattle.rebuild.specs.declared.forms.Contents.{Contents}
+use Rattle.audit.specs.declared.forms.Contents.{Contents}
 
 -- An image is right: its pages can be read, none is shared, each count is true.
 bad_page : (head : Superblock) (opened : Opened) → IsRight (with_root zero_block []) head opened → ⊥

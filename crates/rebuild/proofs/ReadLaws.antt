@@ -1,14 +1,12 @@
--- What was read of an image, and what it shows of the one image of an honest device.
-use Rattle.std.proofs.Common.{ℕ, ◌≡◌, ◌+◌, ◌-◌, ◌<◌, ◌≤◌, ◌++◌, Bool, IsTrue, List, [], ◌∷◌, All, length, reverse, sym, ◌∙◌, ap, subst, inl, inr, arith}
+-- What the reads of an image show of the one image of an honest device.
+use Rattle.std.proofs.Common.{ℕ, ◌≡◌, ◌+◌, ◌-◌, ◌<◌, ◌≤◌, ◌++◌, Bool, IsTrue, List, [], ◌∷◌, length, reverse, sym, ◌∙◌, ap, subst, inl, inr, arith}
 use Rattle.std.proofs.lemmas.Bool.{cases_lt}
 use Rattle.std.proofs.lemmas.Bool.Decides.{eqb_tells}
 use Rattle.std.proofs.lemmas.Grind.{reverse_onto}
 use Rattle.std.proofs.lemmas.List.{get_or-append-add, length-reverse, reverse-reverse}
 use Rattle.std.proofs.lemmas.Nat.{mul-add-lt}
 use Rattle.std.proofs.Math.ListN.{get_or-append}
-use Rattle.audit.proofs.AuditLaws.{counts_size, sectors_size}
 use Rattle.audit.specs.Audits.{BothShow}
-use Rattle.blk_base.specs.Counters.{limit_of}
 use Rattle.blk_base.specs.Regions.{needed_blocks, slab_stride_of}
 use Rattle.blk_base.specs.Sectors.{zero_block}
 use Rattle.blk_base.specs.declared.geometry.Geometry.{Geometry}
@@ -22,34 +20,10 @@ use Rattle.disk_model.specs.Since.{AreGiven, IsUntouched}
 use Rattle.image_model.specs.Maps.{Image}
 use Rattle.image_model.specs.Sound.{image_of}
 use Rattle.journal_window.specs.States.{WindowState}
-use Rattle.replay_counts.specs.Recovered.{AreCountsRead}
-use Rattle.replay_counts.specs.declared.forms.RecoveredCounts.{RecoveredCounts}
 use Rattle.replay_map.proofs.HonestLaws.{all_shown}
 use Rattle.replay_map.proofs.ReadLaws.{blocks_untouched}
-use Rattle.replay_map.specs.Replayed.{IsMapRead}
-use Rattle.replay_map.specs.declared.recovered.RecoveredMap.{RecoveredMap}
 use Rattle.slab_reading.specs.Reads.{IsSlabRead, SlabsRead, read_of}
 use Rattle.slab_reading.specs.Slabs.{blocks_per_slab, first_of_slab}
-use Rattle.rebuild.specs.Reads.{AreContents}
-
-pub contents_read : (tells honest : Bool) (head : Superblock) (window : WindowState) (before middle now : Seen) (map : RecoveredMap) (counts : RecoveredCounts)
-    → IsMapRead tells honest head.geometry window before middle map
-    → AreCountsRead tells honest head.geometry window.entries middle now counts.counts.items counts.sectors.items
-    → All (λ count. count ≤ limit_of head.geometry) counts.counts.items
-    → AreContents tells honest head window before now (record { map = map; counts = counts })
-contents_read tells honest head window before middle now map counts read slabs_read limit =
-    let found = read.found in record {
-      entries = read.entries;
-      blocks = counts_size tells honest head.geometry window.entries middle now counts.counts.items counts.sectors.items slabs_read;
-      sectors = sectors_size tells honest head.geometry window.entries middle now counts.counts.items counts.sectors.items slabs_read;
-      limit = limit;
-      shown = (
-        found.0,
-        slabs_read.0,
-        record { middle = middle; pages_read = found.1; slabs_read = slabs_read.1 },
-        λ blocks shows holds. (found.2 blocks shows, slabs_read.2 blocks holds),
-      );
-    }
 
 -- A device that tells and is honest, and its one image.
 module _ (tells honest : Bool) (image : Blocks) (told : IsTrue tells) (fair : IsTrue honest) where

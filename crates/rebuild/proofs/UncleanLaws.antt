@@ -37,8 +37,8 @@ use Rattle.rebuild.proofs.ReadLaws.{both_shown, still}
 use Rattle.rebuild.specs.Acts.{Acts, AreMade, IsStart}
 use Rattle.rebuild.specs.Done.{AreBothDone, HasContents}
 use Rattle.rebuild.specs.Outcomes.{Ends, IsKeptSince, RecoversUnclean, UncleanFails, WritesAll}
-use Rattle.rebuild.specs.Reads.{AreContents}
-use Rattle.rebuild.specs.declared.forms.Contents.{Contents}
+use Rattle.audit.specs.Reads.{AreContents}
+use Rattle.audit.specs.declared.forms.Contents.{Contents}
 
 ends_failed : {T E : Type 0} (image : Image) (last : ℕ) (first now : Seen) (result : Result T E) → IsErr result → IsKeptSince image first now → Ends image last first now result
 ends_failed image last first now (Ok _) is kept = absurd (cc is)

@@ -26,7 +26,7 @@ use Rattle.replay_counts.specs.Recovered.{HasCounts}
 use Rattle.replay_map.specs.Replayed.{HasMap}
 use Rattle.session_opening.specs.Starts.{IsStart}
 use Rattle.rebuild.specs.Recoveries.{IsTold, IsUnclean}
-use Rattle.rebuild.specs.declared.forms.Contents.{Contents}
+use Rattle.audit.specs.declared.forms.Contents.{Contents}
 
 -- Of an image.
 

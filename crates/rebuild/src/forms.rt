@@ -1,6 +1,3 @@
-use replay_counts::RecoveredCounts;
-use replay_map::RecoveredMap;
-
 /// What recovery found.
 #[derive(Clone, Copy, Debug, PartialEq, Eq)]
 pub enum Recovered {
@@ -8,11 +5,4 @@ pub enum Recovered {
     Clean,
     /// It wasn't, and the window of the recovery journal had so many entries.
     Entries(u32),
-}
-
-/// What an image says that is to be recovered.
-#[derive(Drop)]
-pub(crate) struct Contents {
-    pub(crate) map: RecoveredMap,
-    pub(crate) counts: RecoveredCounts,
 }

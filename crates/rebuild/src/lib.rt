@@ -7,7 +7,6 @@ mod counters;
 mod forms;
 mod opening;
 mod pages;
-mod reading;
 mod recovering;
 mod unclean;
 

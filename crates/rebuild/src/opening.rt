@@ -12,9 +12,7 @@ ghost use Rattle.replay_counts.specs.Recovered.{HasCounts};
 ghost use Rattle.replay_map.specs.Replayed.{HasMap};
 ghost use Rattle.rebuild.specs.Openings.{CheckFails, Fits, IsOpenedWith, IsOpening, OpenWithFails};
 
-use crate::forms::Contents;
-use crate::reading::read_contents;
-use audit::report_of;
+use audit::{Contents, read_contents, report_of};
 use blk_base::{Layout, Opened, Super};
 use disk_model::Disk;
 use image_model::ImageFault;

@@ -8,9 +8,8 @@ ghost use Rattle.rebuild.specs.Outcomes.{RecoversUnclean, WritesAll};
 
 use crate::calls::close;
 use crate::counters::put_slabs;
-use crate::forms::Contents;
 use crate::pages::put_pages;
-use crate::reading::read_contents;
+use audit::{Contents, read_contents};
 use blk_base::{Layout, Super};
 use disk_model::{Disk, Failed};
 use image_model::ImageFault;

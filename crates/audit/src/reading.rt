@@ -1,13 +1,13 @@
 ghost use Rattle.std.specs.Prelude.{◌≤◌, IfOk, IfErr};
 ghost use Rattle.audit.specs.Audits.{AuditWithFails, LaterFails};
+ghost use Rattle.audit.specs.Reads.{AreContents};
 ghost use Rattle.blk_base.specs.Limits.{IsGeometry};
 ghost use Rattle.blk_base.specs.Regions.{needed_blocks};
 ghost use Rattle.disk_model.specs.Log.{Blocks};
 ghost use Rattle.disk_model.specs.Since.{IsUntouched};
 ghost use Rattle.journal_window.specs.Windows.{IsWindowOf};
-ghost use Rattle.rebuild.specs.Reads.{AreContents};
 
-use crate::forms::Contents;
+use crate::Contents;
 use blk_base::Super;
 use disk_model::Disk;
 use image_model::ImageFault;
@@ -16,8 +16,14 @@ use replay_counts::counts_with;
 use replay_map::replay_with;
 use std::alloc::Global;
 
-// Reads what the image with this superblock and this window says; or finds its first fault.
-pub(crate) fn read_contents<D: Disk>(
+/// The map and the counts of the image with this superblock and this window, which was read from its journal. The device has
+/// the blocks that the image's sizes need. It reads each linked page, and of each slab its counters and its journal, each block
+/// once, and writes nothing. The last session needn't be closed.
+///
+/// The image is refused with its first fault, over the whole image, in this order: `Page`, `Counter`, `SharedPage`, so that a
+/// page that is shared is named only once all counts were found. `Device` comes only where a read failed, and `Memory` only
+/// for want of memory; no other fault comes.
+pub fn read_contents<D: Disk>(
     alloc: Global,
     head: &Super,
     window: &JournalWindow,

@@ -3,10 +3,9 @@ use Rattle.blk_base.specs.declared.journal_entry.CommittedEntry.{CommittedEntry}
 use Rattle.disk_model.proofs.SinceLaws.{untouched_on}
 use Rattle.replay_counts.proofs.WindowLaws.{passed_on, window_adds}
 use Rattle.replay_counts.specs.Recovered.{AreCountsRead, CountsFail}
-use Rattle.audit.proofs.AuditLaws.{counts_fail}
-use Rattle.rebuild.proofs.ReadLaws.{contents_read}
+use Rattle.audit.proofs.AuditLaws.{contents_read, counts_fail}
 use Rattle.audit.specs.Audits.{AuditWithFails}
-use Rattle.rebuild.proofs.reading.read_contents.Goals as goal
+use Rattle.audit.proofs.reading.read_contents.Goals as goal
 
 pub returns-in-Err-clause-fault : goal.returns-in-Err-clause-fault
 returns-in-Err-clause-fault g c = c.first_fault.ensures.fault (g.D.Disk.seen c.args.device.now) c.in-Err.ensures.fault

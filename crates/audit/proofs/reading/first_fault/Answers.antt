@@ -7,7 +7,7 @@ use Rattle.replay_counts.specs.Recovered.{AreCountsRead, CountsFail}
 use Rattle.replay_map.specs.Replayed.{MapFails}
 use Rattle.audit.proofs.AuditLaws.{shared_counts_fail, still_shared}
 use Rattle.audit.specs.Audits.{AuditWithFails}
-use Rattle.audit.proofs.auditing.first_fault.Goals as goal
+use Rattle.audit.proofs.reading.first_fault.Goals as goal
 
 pub counts_with-requires-clause-halves : goal.counts_with-requires-clause-halves
 counts_with-requires-clause-halves g c = let read = c.requires.window in window_adds _ read.0 _ _ read.1 c.entries.ensures
