@@ -35,7 +35,7 @@ use Rattle.rebuild.proofs.Rows.{seen}
 use Rattle.rebuild.proofs.ShownLaws.{audit_rose}
 use Rattle.rebuild.specs.Openings.{CheckFails, Fits, HasWrongCount, IsCleanImage, IsOpenedFrom, IsOpenedWith, IsOpening, IsOpeningRefusal, IsOpeningResult, IsRight, OpenWithFails, OpeningFails, OpensRight}
 use Rattle.rebuild.specs.Recoveries.{IsTold}
-use Rattle.rebuild.specs.declared.forms.Contents.{Contents}
+use Rattle.audit.specs.declared.forms.Contents.{Contents}
 
 -- A sound image that was closed is right, and opens so, with what a session starts with on it.
 module _ (blocks : Blocks) (sound : IsSound blocks) (clean : sound.head.clean ≡ true) (opened : Opened) (start : IsStart (image_in blocks sound) sound.head opened) where

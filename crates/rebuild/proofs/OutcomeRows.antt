@@ -1,5 +1,5 @@
 -- How a recovery ends: for each clause a small case that it accepts, and one that breaks it and is refused.
-use Rattle.std.proofs.Common.{ℕ, ◌≡◌, ◌+◌, ◌≤◌, Bool, true, false, List, [], ◌∷◌, ◌++◌, length, length-append, Ok, Err, refl, sym, ap, subst, inl, inr, arith}
+use Rattle.std.proofs.Common.{ℕ, ◌≡◌, ◌+◌, ◌≤◌, Bool, true, false, List, [], ◌∷◌, ◌++◌, length, length-append, reverse, Ok, Err, refl, sym, ap, subst, inl, inr, arith}
 use Rattle.blk_base.specs.declared.geometry.Geometry.{Geometry}
 use Rattle.blk_base.specs.declared.geometry.Super.{Super as Superblock}
 use Rattle.blk_base.specs.declared.journal_entry.Entry.TheVariants.{NewPage}
@@ -12,6 +12,7 @@ use Rattle.disk_model.specs.declared.call.Failed.{Failed}
 use Rattle.disk_model.specs.Images.{HasOneImage, IsImage}
 use Rattle.disk_model.specs.Log.{Blocks}
 use Rattle.disk_model.specs.Seen.{Seen}
+use Rattle.disk_model.specs.Since.{reads_of}
 use Rattle.image_layout.specs.declared.fault.SuperFault.TheVariants.{NotAnImage}
 use Rattle.image_model.proofs.Example.{pbn, small}
 use Rattle.image_model.proofs.MapRows.{logged, page, root, with_root}
@@ -34,16 +35,40 @@ use Rattle.rebuild.specs.Acts.{IsStart}
 use Rattle.rebuild.specs.Outcomes.{Ends, HasEntries, IsAllMade, IsKeptSince, RecoversUnclean, UncleanFails, WritesAll, WritesNothing}
 
 -- The length of a window: that of a journal of zeros is 0, and that of a journal without slots isn't 1.
-pub none_of_zeros : (honest clean : Bool) → HasEntries false honest (head_of clean) seen 0
-none_of_zeros honest clean = (seen, no_entries, window_is_read honest clean, refl)
+pub none_of_zeros : (honest clean : Bool) → HasEntries false honest (head_of clean) seen seen 0
+none_of_zeros honest clean = record {
+  middle = seen;
+  window = no_entries;
+  read = window_is_read honest clean;
+  stays = record { opening = refl; size = refl };
+  later = record { faults = omega arith; unkept = omega arith };
+  grows = λ told. absurd (cc told);
+  number = refl;
+}
 
 only_none : (journal : Blocks) (window : WindowState) → length journal ≡ 0 → IsWindowOf without_journal journal window → window.entries ≡ []
 only_none [] window none is = (one_window (record small { journal = 0 }) 1 [] window.last 0 window.entries [] is.is_window window_of_none).1
 only_none (block ∷ journal) window none is = absurd (omega (arith, none))
 
-pub not_one : (tells honest : Bool) → HasEntries tells honest without_journal seen 1 → ⊥
-not_one tells honest (middle, window, read, count) =
-    let size = ap length (only_none read.0 window read.1.count read.2) in omega (arith, count, size)
+pub not_one : (tells honest : Bool) (now : Seen) → HasEntries tells honest without_journal seen now 1 → ⊥
+not_one tells honest now has =
+    let size = ap length (only_none has.read.0 has.window has.read.1.count has.read.2) in let number = has.number in omega (arith, number, size)
+
+-- grows: what a device that tells has in its log stays there
+entries_without_log : (honest : Bool) (head : Superblock) (count : ℕ) → HasEntries true honest head flushed seen count → ⊥
+entries_without_log honest head count has =
+    let reads = ap length (has.read.1.read.logged refl) in
+    let more = ap length (has.grows refl).1 in
+    let first = length-append (reads_of 1 (reverse has.read.0)) flushed.log in
+    let second = length-append (has.grows refl).0 has.middle.log in
+    omega (arith, reads, more, first, second)
+
+-- stays, later: and it is that device, of which no count fell
+entries_of_other_size : (honest : Bool) (head : Superblock) (count : ℕ) → HasEntries false honest head seen (record seen { size = 3 }) count → ⊥
+entries_of_other_size honest head count has = let size = has.stays.size in let first = has.read.1.read.stays.size in omega (arith, size, first)
+
+entries_with_fewer_faults : (honest : Bool) (head : Superblock) (count : ℕ) → HasEntries false honest head seen_failed seen count → ⊥
+entries_with_fewer_faults honest head count has = let less = has.later.faults in let first = has.read.1.read.later.faults in omega (arith, less, first)
 
 -- Why an image isn't recovered. The journal isn't read; or it is, and the map or the counts aren't; or a call failed.
 journal_failed : (honest : Bool) → UncleanFails false honest (head_of false) seen seen_failed Device
@@ -274,7 +299,7 @@ module _ (honest : Bool) (head : Superblock) (n : ℕ) where
 
 -- entries
 unclean_of_one : (tells honest : Bool) (now : Seen) → RecoversUnclean tells honest without_journal seen now (Ok 1) → ⊥
-unclean_of_one tells honest now is = not_one tells honest is.entries
+unclean_of_one tells honest now is = not_one tells honest now is.entries
 
 -- ends
 unclean_left : (first : Seen) (blocks : Blocks) (start : IsStart true true first blocks) (n : ℕ) → RecoversUnclean true true start.to.sound.head first first (Ok n) → ⊥

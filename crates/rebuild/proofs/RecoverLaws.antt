@@ -83,7 +83,7 @@ module _ (tells honest : Bool) (before : Seen) where
       answers = (head, middle, read, unclean, is_so.entries);
       fails = tt;
       nothing = tt;
-      says = λ blocks is. entries_answer tells honest before blocks is middle head read count unclean is_so.entries;
+      says = λ blocks is. entries_answer tells honest before blocks is middle head read now count unclean is_so.entries;
       stops = λ blocks is sound.
           let start = start_of blocks is sound in
           all_kept tells honest before blocks start now (is_so.ends before blocks start untouched (accepted blocks is));

@@ -1,6 +1,6 @@
 -- What is promised of a recovery: for each clause that `Rows` hasn't, a small case that it accepts, and one that breaks it
 -- and is refused.
-use Rattle.std.proofs.Common.{ℕ, zero, suc, ◌≡◌, ◌<◌, ◌^◌, Bool, true, false, List, [], ◌∷◌, ◌++◌, length, length-append, replicate, Ok, Err, refl, sym, ◌∙◌, ap, subst, inl, inr, arith}
+use Rattle.std.proofs.Common.{ℕ, zero, suc, ◌≡◌, ◌<◌, ◌^◌, Bool, true, false, List, [], ◌∷◌, ◌++◌, length, length-append, replicate, reverse, Ok, Err, refl, sym, ◌∙◌, ap, subst, inl, inr, arith}
 use Rattle.blk_base.specs.Regions.{Place, JournalSlot, IsPlace, block_of}
 use Rattle.blk_base.specs.Sectors.{zero_block}
 use Rattle.blk_base.specs.declared.geometry.Geometry.{Geometry}
@@ -13,6 +13,7 @@ use Rattle.disk_model.specs.declared.call.Call.TheVariants.{Write, Flush}
 use Rattle.disk_model.specs.Images.{HasOneImage, IsImage, IsMixOf}
 use Rattle.disk_model.specs.Log.{Blocks, block_at, contents}
 use Rattle.disk_model.specs.Seen.{Seen}
+use Rattle.disk_model.specs.Since.{reads_of}
 use Rattle.image_layout.specs.Opened.{super_of_image}
 use Rattle.image_layout.specs.Superblock.{super_block, super_of}
 use Rattle.image_layout.specs.declared.fault.SuperFault.TheVariants.{NotAnImage}
@@ -61,8 +62,18 @@ unclean_isnt_clean now (head, read, clean, untouched) =
     let same = ap (λ (h : Superblock). h.clean) (head_there false now head read) in absurd (cc (same, clean))
 
 -- Entries: it says that the session wasn't closed, and the window has so many
-zeros_read : (honest : Bool) (now : Seen) → Answers false honest seen now (Entries 0)
-zeros_read honest now = (head_of false, seen, head_is_read honest false, refl, none_of_zeros honest false)
+zeros_read : (honest : Bool) → Answers false honest seen seen (Entries 0)
+zeros_read honest = (head_of false, seen, head_is_read honest false, refl, none_of_zeros honest false)
+
+-- and both reads stand in the log of a device that tells
+entries_unread : (honest : Bool) (now : Seen) (count : ℕ) → Answers true honest now now (Entries count) → ⊥
+entries_unread honest now count (head, middle, read, unclean, has) =
+    let first = ap length (read.read.logged refl) in
+    let journal = ap length (has.read.1.read.logged refl) in
+    let more = ap length (has.grows refl).1 in
+    let second = length-append (reads_of 1 (reverse has.read.0)) middle.log in
+    let third = length-append (has.grows refl).0 has.middle.log in
+    omega (arith, first, journal, more, second, third)
 
 clean_isnt_unclean : (now : Seen) (count : ℕ) → Answers true true (with_head true) now (Entries count) → ⊥
 clean_isnt_unclean now count (head, middle, read, unclean, entries) =
@@ -217,6 +228,9 @@ fewer_faults honest is = let less = is.later.faults in omega (arith, less)
 -- answers, fails
 answered_unread : (honest : Bool) (now : Seen) → IsRecovery true honest now now (Ok Clean) → ⊥
 answered_unread honest now is = nothing_read honest now is.answers
+
+counted_unread : (honest : Bool) (now : Seen) (count : ℕ) → IsRecovery true honest now now (Ok (Entries count)) → ⊥
+counted_unread honest now count is = entries_unread honest now count is.answers
 
 refused_as_unclean : (honest : Bool) → IsRecovery false honest seen seen (Err Unclean) → ⊥
 refused_as_unclean honest is = never_refused_so false honest seen seen is.fails

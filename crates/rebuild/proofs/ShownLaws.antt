@@ -125,8 +125,8 @@ module _ (tells honest : Bool) (before : Seen) (blocks : Blocks) (is : IsTold te
     pub clean_answer : head.clean ≡ true → IsAnswer blocks Clean
     clean_answer clean = (head, accepted, clean)
 
-    pub entries_answer : (count : ℕ) → head.clean ≡ false → HasEntries tells honest head middle count → IsAnswer blocks (Entries count)
-    entries_answer count unclean (second, window, read, number) = (head, window.last, window.entries, window_opens second window read, unclean, number)
+    pub entries_answer : (now : Seen) (count : ℕ) → head.clean ≡ false → HasEntries tells honest head middle now count → IsAnswer blocks (Entries count)
+    entries_answer now count unclean has = (head, has.window.last, has.window.entries, window_opens has.middle has.window has.read, unclean, has.number)
 
   pub head_refused : (now : Seen) (why : ImageFault) → length before.opening ≡ before.size → HeadFails tells honest before now why → IsRefusal blocks before now why
   head_refused now (Super fault) told fails = head_fault tells honest before now blocks is.told is.fair is.one (Super fault) told fails

@@ -173,7 +173,15 @@ module _ (tells honest : Bool) (head : Superblock) (before second third now : Se
     stays = stays_on before third now all_read.stays writes.stays;
     later = later_on before third now all_read.later writes.later;
     grows = grows_on tells before third now (untouched_grows tells before third all_read) writes.grows;
-    entries = (second, window, read, is.entries);
+    entries = record {
+      middle = second;
+      window = window;
+      read = read;
+      stays = stays_on second third now read_only.stays writes.stays;
+      later = later_on second third now read_only.later writes.later;
+      grows = grows_on tells second third now (untouched_grows tells second third read_only) writes.grows;
+      number = is.entries;
+    };
     fails = tt;
     nothing = tt;
     ends = λ first blocks start before_it accepted. ends_so first blocks start before_it accepted (Ok tt) writes;

@@ -20,10 +20,15 @@ use Rattle.rebuild.specs.Acts.{AreMade, Grows, IsStart}
 
 -- Of any device.
 
--- The journal was read, and its window has so many entries.
-abbrev pub HasEntries : Bool → Bool → Superblock → Seen → ℕ → Type 0
-HasEntries tells honest head before count =
-    (middle : Seen) × (window : WindowState) × IsWindowRead tells honest before middle head window × (count ≡ length window.entries)
+-- The journal was read, and its window has so many entries; this is that moment, or a later one of the same device.
+pub record HasEntries (tells honest : Bool) (head : Superblock) (before now : Seen) (count : ℕ) : Type 0 where
+  pub middle : Seen
+  pub window : WindowState
+  pub read : IsWindowRead tells honest before middle head window
+  pub stays : Stays middle now
+  pub later : Later middle now
+  pub grows : Grows tells middle now
+  pub number : count ≡ length window.entries
 
 -- Why an image isn't recovered whose superblock was read: its journal has no window; or it was read, and then the first
 -- fault of the map and the counts was; or a call failed.
@@ -68,7 +73,7 @@ pub record RecoversUnclean (tells honest : Bool) (head : Superblock) (before now
   pub stays : Stays before now
   pub later : Later before now
   pub grows : Grows tells before now
-  pub entries : IfOk result (HasEntries tells honest head before)
+  pub entries : IfOk result (HasEntries tells honest head before now)
   pub fails : IfErr result (UncleanFails tells honest head before now)
   pub nothing : IfErr result (WritesNothing tells before now)
   pub ends : (first : Seen) (blocks : Blocks) (start : IsStart tells honest first blocks) → IsUntouched tells first before → super_of_image blocks ≡ Ok head

@@ -26,7 +26,7 @@ use Rattle.rebuild.specs.declared.forms.Recovered.TheVariants.{Clean, Entries}
 abbrev pub Answers : Bool → Bool → Seen → Seen → Recovered → Type 0
 Answers tells honest before now Clean = (head : Superblock) × IsHeadRead tells honest before now head × (head.clean ≡ true) × IsUntouched tells before now
 Answers tells honest before now (Entries count) =
-    (head : Superblock) × (middle : Seen) × IsHeadRead tells honest before middle head × (head.clean ≡ false) × HasEntries tells honest head middle count
+    (head : Superblock) × (middle : Seen) × IsHeadRead tells honest before middle head × (head.clean ≡ false) × HasEntries tells honest head middle now count
 
 -- why there is none: block 0 is no superblock, or wasn't read; or the last session wasn't closed, and then as above
 abbrev pub RecoverFails : Bool → Bool → Seen → Seen → ImageFault → Type 0
