@@ -9,6 +9,7 @@ pub mod UncleanLaws
 pub mod RecoverLaws
 pub mod CheckLaws
 pub mod OpenLaws
+pub mod AgainLaws
 pub mod Rows
 pub mod DoneRows
 pub mod OpeningRows

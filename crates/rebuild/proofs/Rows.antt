@@ -13,6 +13,7 @@ use Rattle.image_model.specs.declared.fault.ImageFault.TheVariants.{Device, Uncl
 use Rattle.image_layout.specs.Opened.{super_of_image}
 use Rattle.rebuild.proofs.ActLaws.{none_made}
 use Rattle.rebuild.specs.Acts.{AreMade, Grows, HasStopped}
+use Rattle.rebuild.specs.Again.{FindsClosed, HasClosedImage}
 use Rattle.rebuild.specs.Outcomes.{WritesNothing}
 use Rattle.rebuild.specs.Recoveries.{IsAnswer, IsRecovery, IsRefusal}
 use Rattle.rebuild.specs.declared.forms.Recovered.TheVariants.{Clean, Entries}
@@ -108,3 +109,25 @@ written_and_refused is = elim is.nothing [
       let since = untouched.reads refl in
       none_flushed since.0 since.1 since.2
 ]
+
+-- A second recovery: an honest device has a closed image; it finds it closed, and writes nothing; or a call failed
+not_honest : HasClosedImage true false seen → ⊥
+not_honest has = let fair : false ≡ true = has.1.fair in absurd (cc fair)
+
+found_clean : FindsClosed true seen seen (Ok Clean)
+found_clean = (refl, untouched_yet true seen)
+
+found_unclean : (count : ℕ) → FindsClosed true seen seen (Ok (Entries count)) → ⊥
+found_unclean count found = absurd (cc found.0)
+
+found_and_written : FindsClosed true seen flushed (Ok Clean) → ⊥
+found_and_written found = let since = found.1.reads refl in none_flushed since.0 since.1 since.2
+
+then_failed : FindsClosed true seen (record seen { faults = 4 }) (Err Device)
+then_failed = (refl, omega arith)
+
+then_refused : FindsClosed true seen seen (Err Memory) → ⊥
+then_refused found = absurd (cc found.0)
+
+then_none_failed : FindsClosed true seen seen (Err Device) → ⊥
+then_none_failed found = let rose = found.1 in omega (arith, rose)

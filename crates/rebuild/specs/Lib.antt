@@ -4,3 +4,4 @@ pub mod Done
 pub mod Outcomes
 pub mod Recoveries
 pub mod Openings
+pub mod Again

@@ -5,11 +5,13 @@
 mod calls;
 mod counters;
 mod forms;
+mod laws;
 mod opening;
 mod pages;
 mod recovering;
 mod unclean;
 
 pub use forms::Recovered;
+pub use laws::recovered_once_for_all;
 pub use opening::open_clean;
 pub use recovering::recover;

@@ -1,0 +1,19 @@
+ghost use Rattle.std.specs.Prelude.{Bool, Result, Ok};
+ghost use Rattle.disk_model.specs.Log.{Blocks};
+ghost use Rattle.disk_model.specs.Seen.{Seen};
+ghost use Rattle.image_model.specs.Sound.{IsSound};
+ghost use Rattle.image_model.specs.declared.fault.ImageFault.{ImageFault};
+ghost use Rattle.rebuild.specs.Again.{FindsClosed, HasClosedImage};
+ghost use Rattle.rebuild.specs.Recoveries.{IsRecovery, IsTold};
+ghost use Rattle.rebuild.specs.declared.forms.Recovered.{Recovered};
+
+/// Of an honest device on which nothing was pending, and whose image was sound: once it was recovered, nothing is
+/// pending, and its one image is sound and closed. A second recovery answers `Clean` and writes nothing; or it answers
+/// `Device`, and a call failed.
+pub fn recovered_once_for_all()
+    ensures closed { (tells honest : Bool) (before now : Seen) (blocks : Blocks) (recovered : Recovered) → IsTold tells honest before blocks → IsSound blocks
+        → IsRecovery tells honest before now (Ok recovered) → HasClosedImage tells honest now }
+    ensures again { (tells honest : Bool) (before middle now : Seen) (blocks : Blocks) (recovered : Recovered) (result : Result Recovered ImageFault)
+        → IsTold tells honest before blocks → IsSound blocks → IsRecovery tells honest before middle (Ok recovered) → IsRecovery tells honest middle now result
+        → FindsClosed tells middle now result }
+{}
