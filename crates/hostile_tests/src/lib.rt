@@ -5,12 +5,22 @@
 #[cfg(test)]
 mod answers;
 #[cfg(test)]
-mod faults;
+mod counters;
 #[cfg(test)]
-mod fields;
+mod faults;
 #[cfg(test)]
 mod images;
 #[cfg(test)]
+mod journal;
+#[cfg(test)]
+mod new_pages;
+#[cfg(test)]
 mod numbers;
 #[cfg(test)]
+mod pages;
+#[cfg(test)]
 mod random;
+#[cfg(test)]
+mod rows;
+#[cfg(test)]
+mod superblocks;

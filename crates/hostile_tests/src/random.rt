@@ -1,5 +1,5 @@
 use crate::answers::{Opening, Recovery, audited, is_read, opened, recovered};
-use crate::images::{COUNT, blocks, copied};
+use crate::images::{CLOSED, COUNT, UNCLEAN, blocks, copied};
 use crate::numbers::{Numbers, put_number};
 use blk_base::Block;
 use disk_model::MemDisk;
@@ -94,7 +94,7 @@ fn devices(
 
 // An image that was closed: it is opened as an audit says, or it isn't closed any more.
 fn open_images(alloc: Global, seed: u64) -> Result<Met, AllocError> {
-    let image = blocks(alloc, true)?;
+    let image = blocks(alloc, &CLOSED)?;
     let mut numbers = Numbers { state: seed };
     let mut met = NOTHING;
     for _ in 0..IMAGES {
@@ -121,7 +121,7 @@ fn is_alike(recovery: Recovery, audit: Opening) -> bool {
 
 // An image that wasn't closed: it is recovered, or refused as an audit says.
 fn recover_images(alloc: Global, seed: u64) -> Result<Met, AllocError> {
-    let image = blocks(alloc, false)?;
+    let image = blocks(alloc, &UNCLEAN)?;
     let mut numbers = Numbers { state: seed };
     let mut met = NOTHING;
     for _ in 0..IMAGES {
