@@ -16,12 +16,8 @@ use std::alloc::{AllocError, Global};
 /// Where the data blocks begin.
 const DATA: u32 = 73;
 
-fn put_page(blocks: &mut [Block], row: &Row, page: PageId, at: u32) {
-    let head = PageHead {
-        geometry: row.geometry,
-        page,
-        at: Pbn(at),
-    };
+/// What the slots of a page say.
+pub fn mappings_of(row: &Row, page: PageId) -> Mappings {
     let mut mappings = Mappings::new();
     for &(other, _at, slots) in row.pages {
         if other == page {
@@ -32,6 +28,16 @@ fn put_page(blocks: &mut [Block], row: &Row, page: PageId, at: u32) {
             }
         }
     }
+    mappings
+}
+
+fn put_page(blocks: &mut [Block], row: &Row, page: PageId, at: u32) {
+    let head = PageHead {
+        geometry: row.geometry,
+        page,
+        at: Pbn(at),
+    };
+    let mappings = mappings_of(row, page);
     if let Some(into) = blocks.get_mut(at as usize) {
         encode_page(&MapPage { head, mappings }, into);
     }
@@ -124,6 +130,19 @@ fn put_updates(blocks: &mut [Block], row: &Row) {
 pub fn device(alloc: Global, row: &Row) -> Result<MemDisk, AllocError>
     ensures { IfOk result (λ device. HasNotCut device.fuse) }
 {
+    device_with(alloc, row, false)
+}
+
+/// The same where the last session was closed.
+pub fn closed_device(alloc: Global, row: &Row) -> Result<MemDisk, AllocError>
+    ensures { IfOk result (λ device. HasNotCut device.fuse) }
+{
+    device_with(alloc, row, true)
+}
+
+fn device_with(alloc: Global, row: &Row, clean: bool) -> Result<MemDisk, AllocError>
+    ensures { IfOk result (λ device. HasNotCut device.fuse) }
+{
     let mut blocks = Vec::new(alloc);
     let count = DATA
         .saturating_add(row.geometry.slab_blocks)
@@ -133,7 +152,7 @@ pub fn device(alloc: Global, row: &Row) -> Result<MemDisk, AllocError>
     }
     let head = Super {
         geometry: row.geometry,
-        clean: false,
+        clean,
         start: row.start,
     };
     if let Some(into) = blocks.first_mut() {

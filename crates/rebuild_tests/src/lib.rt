@@ -1,8 +1,11 @@
-//! Tests of the recovery of whole images: on known images, stopped at each of its calls, and recovered again.
+//! Tests of the recovery of whole images: on known images, stopped at each of its calls, and recovered again. And of the
+//! opening of images that were closed: what they are opened with, and what is answered where one of its calls fails.
 #![tactic(auto)]
 
 #[cfg(test)]
 mod images;
+#[cfg(test)]
+mod openings;
 #[cfg(test)]
 mod rows;
 #[cfg(test)]

@@ -7,7 +7,7 @@ pub type Journal = &'static [(u64, u64, &'static [Entry])];
 /// A page, its block, and what its slots say.
 pub type Page = (PageId, u32, &'static [(u16, Mapping)]);
 
-/// An image whose last session wasn't closed. The roots that `pages` doesn't name have no mappings.
+/// An image. The roots that `pages` doesn't name have no mappings.
 #[derive(Clone, Copy)]
 pub struct Row {
     pub geometry: Geometry,
@@ -30,17 +30,17 @@ pub struct Row {
 
 /// An image of 92 blocks: the journal's blocks are 1 to 8, the roots 9 to 68, the data blocks 73 to 88, the reference block
 /// 89, and the slab's journal 90 and 91.
-const SMALL: Geometry = Geometry {
+pub const SMALL: Geometry = Geometry {
     slab_blocks: 16,
     index: 4,
     slab_journal: 2,
     ..Geometry::DEFAULT
 };
 
-const HIGH: Geometry = Geometry { height: 3, ..SMALL };
+pub const HIGH: Geometry = Geometry { height: 3, ..SMALL };
 
 /// Two sectors of counters: the data blocks are 73 to 672, the reference blocks 673, and the slab's journal 674 and 675.
-const WIDE: Geometry = Geometry {
+pub const WIDE: Geometry = Geometry {
     slab_blocks: 600,
     ..SMALL
 };
@@ -122,6 +122,7 @@ const TURNS: [Entry; 192] = [Entry::Remap {
     new: Zero,
 }; 192];
 
+/// Images whose last session wasn't closed.
 pub const ROWS: [Row; 8] = [
     // No window.
     Row {
