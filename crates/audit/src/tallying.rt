@@ -1,4 +1,4 @@
-ghost use Rattle.std.specs.Prelude.{◌≡◌, ◌+◌, ◌-◌, ◌^◌, ◌<◌, ℕ, List, [], length, replicate, IfOk, IfSome, IfNone, slice_index};
+ghost use Rattle.std.specs.Prelude.{◌≡◌, ◌+◌, ◌-◌, ◌^◌, ◌<◌, List, [], length, replicate, IfOk, IfSome, IfNone, slice_index};
 ghost use Rattle.blk_base.specs.Regions.{IsDataBlock};
 ghost use Rattle.blk_base.specs.declared.layout.DataPlace.{DataPlace as Place};
 ghost use Rattle.count_updates.specs.Numbers.{all_blocks, block_number};
