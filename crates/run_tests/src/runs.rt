@@ -10,7 +10,6 @@ use std::test::Fail;
 use std::thread::Threads;
 use stream_text::{LineFault, ScriptRefusal};
 use vdo_cli::{Ended, Fault, Words, put_fault, run};
-use vdo_model::RunReport;
 
 // A device with a fresh image of the default sizes.
 pub(crate) fn fresh(alloc: Global) -> Result<MemDisk, AllocError> {
@@ -92,22 +91,6 @@ fn run_in<R: Threads + Wait + Sync>(rt: &R, outside: Outside, device: MemDisk) -
         status,
         sink,
     }
-}
-
-/// What a run of a script reports.
-pub(crate) fn reports<R: Threads + Wait + Sync>(
-    rt: &R,
-    alloc: Global,
-    device: MemDisk,
-    script: &[u8],
-) -> Result<RunReport, AllocError> {
-    let Outside {
-        words,
-        mut source,
-        mut sink,
-    } = outside_of(alloc, &["run"], script, None, 40_000)?;
-    let Ended { report, .. } = run(rt, &words, device, &mut source, &mut sink, &OpenGate);
-    Ok(report)
 }
 
 pub(crate) fn run_on<R: Threads + Wait + Sync>(

@@ -1,0 +1,9 @@
+use Rattle.std.proofs.Common.{arith}
+use Rattle.core_tests.proofs.cores.played.Goals as goal
+
+pub play_out-requires : goal.play_out-requires
+play_out-requires g c =
+    let needed = rw c.of.ensures at c.needed.ensures in
+    let enough = c.if-blocks-needed.false in
+    let size = c.blocks-2.ensures.size in
+    record { geometry = rw (c.requires, ← c.of.ensures) c.of.result.sizes; room = rw c.requires (omega (arith, needed, enough, size)) }

@@ -1,0 +1,20 @@
+//! Tests of the core and of the schedules of its events: what requests are answered with, by events in several orders, by
+//! one stream and by many, with calls that fail; and what stops leave, opened again.
+#![tactic(auto)]
+
+#[cfg(test)]
+mod cores;
+#[cfg(test)]
+mod full_blocks;
+#[cfg(test)]
+mod judging;
+#[cfg(test)]
+mod one_stream;
+#[cfg(test)]
+mod sessions;
+#[cfg(test)]
+mod tables;
+#[cfg(test)]
+mod turns;
+#[cfg(test)]
+mod two_streams;

@@ -1,6 +1,0 @@
-use Rattle.core_model.specs.Sessions.{IsServed}
-use Rattle.run_tests.proofs.Served.{one_more}
-use Rattle.run_tests.proofs.cores.requests.Goals as goal
-
-pub loop-ask-preserved : goal.loop-ask-preserved
-loop-ask-preserved c = one_more IsServed _ _ _ c.in_ok-push.ensures c.loop-ask.invariant c.request.ensures

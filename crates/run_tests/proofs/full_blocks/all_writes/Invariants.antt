@@ -1,6 +1,0 @@
-use Rattle.std.specs.List.{AllByRecursion}
-use Rattle.core_model.specs.Sessions.{IsServed}
-use Rattle.run_tests.proofs.full_blocks.all_writes.Given as goal
-
-abbrev pub invariant-loop-stream : goal.invariant-loop-stream
-invariant-loop-stream l = AllByRecursion (λ requests. AllByRecursion IsServed requests.items) l.streams.items
