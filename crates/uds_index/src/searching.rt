@@ -1,8 +1,7 @@
-ghost use Rattle.std.specs.Prelude.{◌≡◌, ◌+◌, ◌*◌, ◌%◌, ◌<◌, ◌≤◌, ◌^◌, ◌↔◌, ◌⊎◌, IsTrue, length, take, filter, nat_eq, All, AllPairs};
+ghost use Rattle.std.specs.Prelude.{◌≡◌, ◌+◌, ◌*◌, ◌%◌, ◌<◌, ◌^◌, IsTrue, take, filter, nat_eq, All, AllPairs};
 ghost use Rattle.std.specs.Map.{keys_of};
 ghost use Rattle.block_names.specs.Names.{tag_of};
-ghost use Rattle.uds_chapters.specs.Chapters.{Numbered};
-ghost use Rattle.index_advice.specs.Books.{has_tag, first_location};
+ghost use Rattle.index_advice.specs.Books.{has_tag};
 ghost use Rattle.uds_index.specs.Tags.{AreListed};
 ghost use Rattle.uds_index.specs.Looks.{IsPageAt, IsNew, FindsKept, place_of_block};
 ghost use Rattle.index_advice.specs.Orders.{IsChapter, IsNewer};

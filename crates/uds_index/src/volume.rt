@@ -1,6 +1,5 @@
-ghost use Rattle.std.specs.Prelude.{◌≡◌, ◌+◌, ◌*◌, ◌%◌, ◌<◌, ◌≤◌, ◌^◌, [], ◌∷◌, ◌++◌, length, IfOk, IfSome, IfNone, vec_len, vec_capacity};
-ghost use Rattle.uds_chapters.specs.Chapters.{Numbered};
-ghost use Rattle.index_advice.specs.Books.{number_after, chapters_elsewhere, pages_elsewhere, pages_of, closed, added, learnt, finished, has_room, is_same_place, block_of};
+ghost use Rattle.std.specs.Prelude.{◌≡◌, ◌+◌, ◌*◌, ◌%◌, ◌<◌, ◌≤◌, ◌^◌, [], ◌++◌, length, IfOk, IfSome, IfNone, vec_len, vec_capacity};
+ghost use Rattle.index_advice.specs.Books.{number_after, chapters_elsewhere, pages_elsewhere, pages_of, closed, added, learnt, finished, is_same_place};
 ghost use Rattle.std.specs.Map.{keys_of};
 ghost use Rattle.uds_chapters.specs.Names.{AreRising};
 ghost use Rattle.uds_index.specs.Held.{KeepsPage, records_of};
@@ -8,7 +7,6 @@ ghost use Rattle.uds_index.specs.Looks.{Finds};
 ghost use Rattle.uds_index.specs.Rooms.{count_at, place_of_chapter};
 ghost use Rattle.uds_index.specs.Tags.{AreListed, IsListed};
 ghost use Rattle.index_advice.specs.Advices.{TakesDue, HasDuePage};
-ghost use Rattle.index_advice.specs.declared.advice.Advice.TheVariants.{Due};
 
 use crate::keeping::{chapter_of, keep_page};
 use crate::page::Page;

@@ -7,7 +7,7 @@ pub returns-in-Ok-clause-read : goal.returns-in-Ok-clause-read
 returns-in-Ok-clause-read g c = (
   Some c.read.new.into,
   read_ok g.D.Disk.tells g.D.Disk.honest _ (g.D.Disk.seen c.args.device.now) (g.D.Disk.seen c.read.new.self) c.index_block.result c.read.new.into c.index_block.ensures.block
-      c.in-Ok.ensures.given c.in-Ok.ensures.ok,
+      c.in-Ok.ensures.stays (record { faults = c.in-Ok.ensures.cause.later; unkept = c.in-Ok.ensures.unkept }) c.in-Ok.ensures.given c.in-Ok.ensures.ok,
   page_read c.args.layout.now.geometry c.args.number c.read.new.into c.held_page.result c.held_page.ensures.some c.held_page.ensures.none,
 )
 
@@ -22,7 +22,7 @@ pub returns-in-Err-clause-read : goal.returns-in-Err-clause-read
 returns-in-Err-clause-read g c = (
   None,
   read_failed g.D.Disk.tells g.D.Disk.honest _ (g.D.Disk.seen c.args.device.now) (g.D.Disk.seen c.read.new.self) c.index_block.result c.read.new.into c.index_block.ensures.block
-      c.in-Err.ensures.cause.failed c.in-Err.ensures.err,
+      c.in-Err.ensures.stays (record { faults = c.in-Err.ensures.cause.later; unkept = c.in-Err.ensures.unkept }) c.in-Err.ensures.cause.failed c.in-Err.ensures.err,
   refl,
 )
 
