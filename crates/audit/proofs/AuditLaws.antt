@@ -116,7 +116,7 @@ module _ (tells honest : Bool) (head : Superblock) (window : WindowState) (befor
       (λ image same has. says image same has.0 has.1) are.shown
 
 module _ (tells honest : Bool) (head : Superblock) (window : WindowState) (before middle now : Seen) where
-  counts_fail_after : (pages : List Reading) → BlocksRead tells honest before middle pages → ((blocks : Blocks) → Shows blocks pages → ArePagesGood (image_of head blocks window.entries))
+  counts_fail_after : (pages : List Reading) → BlocksRead tells honest head.geometry before middle pages → ((blocks : Blocks) → Shows blocks pages → ArePagesGood (image_of head blocks window.entries))
       → (why : ImageFault) → CountsFail tells honest head.geometry window.entries middle now why → AuditWithFails tells honest head window before now why
   counts_fail_after pages read good (Counter at point) (slabs, slabs_read, fault) =
       (pages, slabs, record { middle = middle; pages_read = read; slabs_read = slabs_read }, λ blocks shows holds. (good blocks shows, fault blocks holds))

@@ -23,7 +23,7 @@ use Rattle.audit.specs.Reports.{IsReport}
 -- pages were read, and then the slabs, and nothing else was done
 pub record AreBothRead (tells honest : Bool) (head : Superblock) (before now : Seen) (pages : List Reading) (slabs : List Blocks) : Type 0 where
   pub middle : Seen
-  pub pages_read : BlocksRead tells honest before middle pages
+  pub pages_read : BlocksRead tells honest head.geometry before middle pages
   pub slabs_read : AreSlabsRead tells honest head.geometry middle now slabs
 
 -- they were, and this holds of each image with this window that has what was read
@@ -35,7 +35,7 @@ BothShow tells honest head window before now Says =
 -- pages were read, and this holds of each image with this window that has what was read
 abbrev pub PagesShow : Bool → Bool → Superblock → WindowState → Seen → Seen → (Image → Type 0) → Type 0
 PagesShow tells honest head window before now Says =
-    (pages : List Reading) × BlocksRead tells honest before now pages × ((blocks : Blocks) → Shows blocks pages → Says (image_of head blocks window.entries))
+    (pages : List Reading) × BlocksRead tells honest head.geometry before now pages × ((blocks : Blocks) → Shows blocks pages → Says (image_of head blocks window.entries))
 
 -- each such image has this report
 abbrev pub IsAuditedWith : Bool → Bool → Superblock → WindowState → Seen → Seen → Report → Type 0
@@ -44,7 +44,7 @@ IsAuditedWith tells honest head window before now report = BothShow tells honest
 -- pages were read, and then a read of a slab's block failed
 abbrev pub SlabsFailed : Bool → Bool → Superblock → Seen → Seen → Type 0
 SlabsFailed tells honest head before now =
-    (pages : List Reading) × (middle : Seen) × BlocksRead tells honest before middle pages × ReadFailed tells honest head.geometry middle now
+    (pages : List Reading) × (middle : Seen) × BlocksRead tells honest head.geometry before middle pages × ReadFailed tells honest head.geometry middle now
 
 -- Why there is none: the first page of each such image that can't be read; or else the least block whose count leaves its
 -- range; or else the least block that has both a page and the data of an address; a read that failed, or want of memory.
@@ -54,7 +54,7 @@ AuditWithFails tells honest head window before now (Counter at point) =
     BothShow tells honest head window before now (λ image. ArePagesGood image × IsCountFault image at point.0)
 AuditWithFails tells honest head window before now (SharedPage at) =
     BothShow tells honest head window before now (λ image. ArePagesGood image × AreStored image × IsShareFault image at)
-AuditWithFails tells honest head window before now Device = ReadFails tells honest before now ⊎ SlabsFailed tells honest head before now
+AuditWithFails tells honest head window before now Device = ReadFails tells honest head.geometry before now ⊎ SlabsFailed tells honest head before now
 AuditWithFails tells honest head window before now Memory = Unit {0}
 AuditWithFails tells honest head window before now (Super fault) = ⊥
 AuditWithFails tells honest head window before now (Window sequence) = ⊥

@@ -163,7 +163,7 @@ module _ (tells honest : Bool) (before : Seen) (blocks : Blocks) (is : IsTold te
             here,
             is_opened,
             says blocks
-                (all_shown tells honest blocks is.told is.fair second now pages (one_behind tells honest before blocks is middle head read second window window_read) pages_read),
+                (all_shown tells honest blocks is.told is.fair head.geometry second now pages (one_behind tells honest before blocks is middle head read second window window_read) pages_read),
           ),
         )
         refused_with now (Counter at point) fails =

@@ -97,9 +97,9 @@ module _ (tells honest : Bool) (image : Blocks) (told : IsTrue tells) (fair : Is
       → BothShow tells honest head window before now Says → Says (image_of head image window.entries)
   both_shown head window before now Says one room (pages, slabs, read, says) =
       let middle = read.middle in
-      let untouched = blocks_untouched tells honest before middle pages read.pages_read in
+      let untouched = blocks_untouched tells honest head.geometry before middle pages read.pages_read in
       let size = untouched.stays.size in
       let counted = read.slabs_read.count in
       let shown = slabs_shown head.geometry middle now slabs (still before middle untouched one) (omega (arith, size, room)) (omega (arith, counted)) read.slabs_read.read in
-      says image (all_shown tells honest image told fair before middle pages one read.pages_read)
+      says image (all_shown tells honest image told fair head.geometry before middle pages one read.pages_read)
       (λ slab i below inside. shown.2 slab i (omega (arith, below, counted)) inside)

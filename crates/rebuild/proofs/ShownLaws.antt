@@ -42,10 +42,10 @@ slabs_later tells honest g before now (read ∷ older) (middle, earlier, is) =
     (were_only_read tells honest (first_of_slab g (length older)) middle now (reverse read) is.reads)
 
 pub audit_rose : (tells honest : Bool) (head : Superblock) (window : WindowState) (before now : Seen) → AuditWithFails tells honest head window before now Device → Rose before.faults now.faults
-audit_rose tells honest head window before now (inl (reads, middle, at, read, failed)) =
-    rose_behind before middle now (blocks_untouched tells honest before middle reads read).later failed.rose
+audit_rose tells honest head window before now (inl (reads, middle, at, read, failed, stands)) =
+    rose_behind before middle now (blocks_untouched tells honest head.geometry before middle reads read).later failed.rose
 audit_rose tells honest head window before now (inr (pages, middle, read, (slabs, few, last, slabs_read, (blocks, short, failed)))) =
-    rose_behind before middle now (blocks_untouched tells honest before middle pages read).later
+    rose_behind before middle now (blocks_untouched tells honest head.geometry before middle pages read).later
     (rose_behind middle last now (slabs_later tells honest head.geometry middle last slabs slabs_read).later failed.rose)
 
 unclean_rose : (tells honest : Bool) (head : Superblock) (before now : Seen) → UncleanFails tells honest head before now Device → Rose before.faults now.faults
@@ -88,7 +88,7 @@ module _ (tells honest : Bool) (before : Seen) (blocks : Blocks) (is : IsTold te
 
       audit_fault : (now : Seen) (why : ImageFault) → AuditWithFails tells honest head window second now why → IsUnclean blocks → IsRefusal blocks before now why
       audit_fault now (Page at fault) (pages, pages_read, says) unclean =
-          (unclean, (image_of head blocks window.entries, opened, says blocks (all_shown tells honest blocks is.told is.fair second now pages one_behind pages_read)))
+          (unclean, (image_of head blocks window.entries, opened, says blocks (all_shown tells honest blocks is.told is.fair head.geometry second now pages one_behind pages_read)))
       audit_fault now (Counter at point) fails unclean =
           let said = both_shown tells honest blocks is.told is.fair head window second now (λ image. ArePagesGood image × IsCountFault image at point.0) one_behind enough_behind fails in
           (unclean, (image_of head blocks window.entries, opened, said.0, said.1))

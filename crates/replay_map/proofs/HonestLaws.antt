@@ -1,6 +1,7 @@
 -- What was read of an honest device on which nothing is pending is what its one image has.
 use Rattle.std.proofs.Common.{ℕ, ◌≡◌, ◌+◌, ◌<◌, ◌≤◌, Bool, IsTrue, List, [], ◌∷◌, length, Ok, refl, sym, subst, inl, inr, arith}
 use Rattle.blk_base.specs.Regions.{needed_blocks}
+use Rattle.blk_base.specs.declared.geometry.Geometry.{Geometry}
 use Rattle.blk_base.specs.declared.geometry.Super.{Super as Superblock}
 use Rattle.disk_model.proofs.ImageLaws.{block_of_mix, settled_are_contents}
 use Rattle.disk_model.proofs.SinceLaws.{image_since, were_only_read}
@@ -29,11 +30,11 @@ module _ (tells honest : Bool) (image : Blocks) (told : IsTrue tells) (fair : Is
       subst (λ (opening : Blocks). HasOneImage opening now.log image) (sym untouched.stays.opening)
       (image_since before.opening before.log now.log image (untouched.reads told) one)
 
-  pub all_shown : (before now : Seen) (reads : List Reading) → HasOneImage before.opening before.log image → BlocksRead tells honest before now reads → Shows image reads
-  all_shown before now [] one read = tt
-  all_shown before now (reading ∷ older) one read =
+  pub all_shown : (g : Geometry) (before now : Seen) (reads : List Reading) → HasOneImage before.opening before.log image → BlocksRead tells honest g before now reads → Shows image reads
+  all_shown g before now [] one read = tt
+  all_shown g before now (reading ∷ older) one read =
       let middle = read.0 in
-      let here = still before middle (blocks_untouched tells honest before middle older read.1) one in
+      let here = still before middle (blocks_untouched tells honest g before middle older read.1) one in
       let size = read.2.told told in
       let inside = read.3 in
       let below : reading.at.0 < length middle.opening = omega (arith, size, inside) in
@@ -41,7 +42,7 @@ module _ (tells honest : Bool) (image : Blocks) (told : IsTrue tells) (fair : Is
       let mix = subst (λ (b : ℕ). IsMixOf (settled middle.opening middle.log b) reading.bytes) place (read.2.given.1 told fair) in
       let same = block_of_mix (settled middle.opening middle.log reading.at.0) (block_at image reading.at.0) reading.bytes (here.whole reading.at.0 below) read.2.given.0 mix
       (settled_are_contents _ middle.opening middle.log reading.at.0 (here.only reading.at.0 below)) in
-      (sym same, all_shown before middle older one read.1)
+      (sym same, all_shown g before middle older one read.1)
 
   module _ (before now : Seen) (head : Superblock) (one : HasOneImage before.opening before.log image) (room : needed_blocks head.geometry ≤ before.size)
       (accepted : super_of_image image ≡ Ok head) where
@@ -50,7 +51,7 @@ module _ (tells honest : Bool) (image : Blocks) (told : IsTrue tells) (fair : Is
     found_shown middle window Says read found =
         let journal = were_only_read tells honest 1 before middle _ read.1.read in (
           window_shown tells honest before middle image told fair one head room accepted window read,
-          found.2 image (all_shown middle now found.0 (still before middle journal one) found.1),
+          found.2 image (all_shown head.geometry middle now found.0 (still before middle journal one) found.1),
         )
 
     pub map_shown : (map : RecoveredMap) → IsReplayed tells honest head before now map → HasMapOf image head map

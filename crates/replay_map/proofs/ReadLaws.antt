@@ -12,23 +12,23 @@ use Rattle.disk_model.specs.Since.{IsUntouched}
 use Rattle.disk_model.specs.Telling.{FailedInLog}
 use Rattle.disk_model.specs.declared.call.Call.TheVariants.{Read}
 use Rattle.image_model.specs.Maps.{Image}
-use Rattle.replay_map.specs.Reads.{Reading, BlocksRead, ReadFails, Shows, HasReads, IsShown}
+use Rattle.replay_map.specs.Reads.{Reading, BlocksRead, IsPageBlock, ReadFails, Shows, HasReads, IsShown}
 use Rattle.replay_map.specs.declared.changes.SlotId.{SlotId}
 
-pub blocks_on : (tells honest : Bool) (before middle now : Seen) (older newer : List Reading) → BlocksRead tells honest before middle older → BlocksRead tells honest middle now newer
-    → BlocksRead tells honest before now (newer ++ older)
-blocks_on tells honest before middle now older [] old new = subst (λ (seen : Seen). BlocksRead tells honest before seen older) (sym new) old
-blocks_on tells honest before middle now older (reading ∷ newer) old new =
-    (new.0, blocks_on tells honest before middle new.0 older newer old new.1, new.2, new.3)
+pub blocks_on : (tells honest : Bool) (g : Geometry) (before middle now : Seen) (older newer : List Reading) → BlocksRead tells honest g before middle older → BlocksRead tells honest g middle now newer
+    → BlocksRead tells honest g before now (newer ++ older)
+blocks_on tells honest g before middle now older [] old new = subst (λ (seen : Seen). BlocksRead tells honest g before seen older) (sym new) old
+blocks_on tells honest g before middle now older (reading ∷ newer) old new =
+    (new.0, blocks_on tells honest g before middle new.0 older newer old new.1, new.2, new.3, new.4)
 
-pub blocks_untouched : (tells honest : Bool) (before now : Seen) (reads : List Reading) → BlocksRead tells honest before now reads → IsUntouched tells before now
-blocks_untouched tells honest before now [] same = subst (λ (seen : Seen). IsUntouched tells before seen) (sym same) (untouched_yet tells before)
-blocks_untouched tells honest before now (reading ∷ older) read =
-    untouched_on tells before read.0 now (blocks_untouched tells honest before read.0 older read.1) (were_only_read tells honest reading.at.0 read.0 now (reading.bytes ∷ []) read.2)
+pub blocks_untouched : (tells honest : Bool) (g : Geometry) (before now : Seen) (reads : List Reading) → BlocksRead tells honest g before now reads → IsUntouched tells before now
+blocks_untouched tells honest g before now [] same = subst (λ (seen : Seen). IsUntouched tells before seen) (sym same) (untouched_yet tells before)
+blocks_untouched tells honest g before now (reading ∷ older) read =
+    untouched_on tells before read.0 now (blocks_untouched tells honest g before read.0 older read.1) (were_only_read tells honest reading.at.0 read.0 now (reading.bytes ∷ []) read.2)
 
-pub failed_untouched : (tells honest : Bool) (before now : Seen) → ReadFails tells honest before now → IsUntouched tells before now
-failed_untouched tells honest before now failed =
-    untouched_on tells before failed.1 now (blocks_untouched tells honest before failed.1 failed.0 failed.3) (next_only_read tells honest failed.2.0 failed.1 now [] failed.4)
+pub failed_untouched : (tells honest : Bool) (g : Geometry) (before now : Seen) → ReadFails tells honest g before now → IsUntouched tells before now
+failed_untouched tells honest g before now failed =
+    untouched_on tells before failed.1 now (blocks_untouched tells honest g before failed.1 failed.0 failed.3) (next_only_read tells honest failed.2.0 failed.1 now [] failed.4)
 
 newer_shown : (blocks : Blocks) (newer older : List Reading) → Shows blocks (newer ++ older) → Shows blocks newer
 newer_shown blocks [] older shows = tt
@@ -57,7 +57,7 @@ module _ (tells honest : Bool) (g : Geometry) (changes : List (SlotId × Mapping
       → ((image : Image) → Old image → New image → Both image) → IsShown tells honest g changes before now Both
   shown_on before middle now Old New Both old new together = (
     new.0 ++ old.0,
-    blocks_on tells honest before middle now old.0 new.0 old.1 new.1,
+    blocks_on tells honest g before middle now old.0 new.0 old.1 new.1,
     λ image has.
         together image
         (old.2 image (record { geometry = has.geometry; newest = has.newest; shows = older_shown image.blocks new.0 old.0 has.shows }))
@@ -70,20 +70,20 @@ module _ (tells honest : Bool) (g : Geometry) (changes : List (SlotId × Mapping
       shown_on before middle now (λ image. Old image × (image.geometry ≡ g)) New Both (sized before middle Old old) new (λ image known says. together image known.1 known.0 says)
 
   -- one block
-  pub shown_by_one : (before now : Seen) (at : Pbn) (bytes : List ℕ) (Says : Image → Type 0) → at.0 < before.size → (IsTrue tells → length before.opening ≡ before.size)
+  pub shown_by_one : (before now : Seen) (at : Pbn) (bytes : List ℕ) (Says : Image → Type 0) → at.0 < before.size → IsPageBlock g at → (IsTrue tells → length before.opening ≡ before.size)
       → Stays before now → Later before now → length bytes ≡ 4096 → (IsTrue tells → IsTrue honest → IsMixOf (settled before.opening before.log at.0) bytes)
       → (IsTrue tells → now.log ≡ Read at bytes true ∷ before.log)
       → ((image : Image) → HasReads g changes (record { at = at; bytes = bytes } ∷ []) image → Says image) → IsShown tells honest g changes before now Says
-  shown_by_one before now at bytes Says inside told stays later whole given logged says =
-      (record { at = at; bytes = bytes } ∷ [], (before, refl, one_read tells honest at.0 before now at bytes refl told stays later whole given logged, inside), says)
+  shown_by_one before now at bytes Says inside stands told stays later whole given logged says =
+      (record { at = at; bytes = bytes } ∷ [], (before, refl, one_read tells honest at.0 before now at bytes refl told stays later whole given logged, inside, stands), says)
 
 -- a read that failed, at once or behind others
-pub failed_at_once : (tells honest : Bool) (before now : Seen) (at : Pbn) (bytes : List ℕ) → Stays before now → Later before now → Rose before.faults now.faults
-    → (IsTrue tells → FailedInLog before.log now.log (Read at bytes false) (Rose before.unkept now.unkept)) → ReadFails tells honest before now
-failed_at_once tells honest before now at bytes stays later rose logged =
-    ([], before, at, refl, one_failed tells honest at.0 before now at bytes refl stays later rose logged)
+pub failed_at_once : (tells honest : Bool) (g : Geometry) (before now : Seen) (at : Pbn) (bytes : List ℕ) → IsPageBlock g at → Stays before now → Later before now → Rose before.faults now.faults
+    → (IsTrue tells → FailedInLog before.log now.log (Read at bytes false) (Rose before.unkept now.unkept)) → ReadFails tells honest g before now
+failed_at_once tells honest g before now at bytes stands stays later rose logged =
+    ([], before, at, refl, one_failed tells honest at.0 before now at bytes refl stays later rose logged, stands)
 
 pub failed_behind : (tells honest : Bool) (g : Geometry) (changes : List (SlotId × Mapping)) (before middle now : Seen) (Says : Image → Type 0)
-    → IsShown tells honest g changes before middle Says → ReadFails tells honest middle now → ReadFails tells honest before now
+    → IsShown tells honest g changes before middle Says → ReadFails tells honest g middle now → ReadFails tells honest g before now
 failed_behind tells honest g changes before middle now Says shown failed =
-    (failed.0 ++ shown.0, failed.1, failed.2, blocks_on tells honest before middle failed.1 shown.0 failed.0 shown.1 failed.3, failed.4)
+    (failed.0 ++ shown.0, failed.1, failed.2, blocks_on tells honest g before middle failed.1 shown.0 failed.0 shown.1 failed.3, failed.4, failed.5)

@@ -152,7 +152,7 @@ found_window : IsFound false false small (remap 5 Zero ∷ []) (seen_with 0) (se
 found_window = ([], refl, λ blocks shows. refl)
 
 found_since : (Says : Image → Type 0) → IsFound false false small [] (seen_with 1) (seen_with 0) Says → ⊥
-found_since Says found = let later = (blocks_untouched false false (seen_with 1) (seen_with 0) found.0 found.1).later.faults in omega (arith, later)
+found_since Says found = let later = (blocks_untouched false false small (seen_with 1) (seen_with 0) found.0 found.1).later.faults in omega (arith, later)
 
 abbrev window_to : ℕ → WindowState
 window_to last = record { last = last; entries = [] }
@@ -197,7 +197,7 @@ head = record { geometry = small; clean = false; start = 1 }
 replayed_since : (map : RecoveredMap) → IsReplayed false false head (seen_with 1) (seen_with 0) map → ⊥
 replayed_since map (middle, window, read, found) =
     let journal = read.1.read.later.faults in
-    let pages = (blocks_untouched false false middle (seen_with 0) found.found.0 found.found.1).later.faults in
+    let pages = (blocks_untouched false false small middle (seen_with 0) found.found.0 found.found.1).later.faults in
     omega (arith, journal, pages)
 
 -- a read of the journal failed

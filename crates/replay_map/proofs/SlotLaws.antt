@@ -1,5 +1,5 @@
 -- A walk goes on from a page over its slots.
-use Rattle.std.proofs.Common.{ℕ, ◌≡◌, ◌+◌, ◌<◌, Bool, List, Some, None, slice_index_or, sym, subst}
+use Rattle.std.proofs.Common.{ℕ, ◌≡◌, ◌+◌, ◌<◌, ◌≤◌, Bool, List, Some, None, slice_index_or, sym, subst, inl, inr, arith}
 use Rattle.blk_base.proofs.RegionLaws.{data_block_inside}
 use Rattle.blk_base.specs.Regions.{needed_blocks}
 use Rattle.blk_base.specs.declared.geometry.Geometry.{Geometry}
@@ -15,19 +15,24 @@ use Rattle.replay_map.proofs.ReadLaws.{shown_as, shown_on}
 use Rattle.replay_map.proofs.WholeWalkLaws.{child_linked, fails_behind, slot_fault, slot_passed, slot_walked}
 use Rattle.replay_map.specs.Links.{page_below}
 use Rattle.replay_map.specs.Pages.{IsReadAs}
-use Rattle.replay_map.specs.Reads.{IsShown}
+use Rattle.replay_map.specs.Reads.{IsPageBlock, IsShown}
 use Rattle.replay_map.specs.Walks.{IsFirstFault, IsLinked, IsUnder, WalkFails, WalkedUnder, WalkedUpTo, head_at}
 use Rattle.replay_map.specs.declared.changes.SlotId.{SlotId}
 use Rattle.replay_map.specs.declared.found.Found.{Found}
 use Rattle.replay_map.specs.declared.links.Link.{Link}
 
--- the block of a slot that leads to data is on the device
-pub target_inside : (g : Geometry) (mapping : Mapping) (at : Pbn) → LeadsToData g mapping → target_of mapping ≡ Some at → at.0 < needed_blocks g
-target_inside g Unmapped at leads is = absurd (cc is)
-target_inside g Zero at leads is = absurd (cc is)
-target_inside g (At block) at leads is =
+-- a page may stand at the block of a slot that leads to data
+pub target_stands : (g : Geometry) (mapping : Mapping) (at : Pbn) → LeadsToData g mapping → target_of mapping ≡ Some at → IsPageBlock g at
+target_stands g Unmapped at leads is = absurd (cc is)
+target_stands g Zero at leads is = absurd (cc is)
+target_stands g (At block) at leads is =
     let same : block ≡ at = cc is in
-    subst (λ (p : Pbn). p.0 < needed_blocks g) same (data_block_inside g block.0 leads)
+    subst (λ (p : Pbn). IsPageBlock g p) same (inl leads)
+
+-- a block at which a page may stand is on the device
+pub page_inside : (g : Geometry) (at : Pbn) (size : ℕ) → needed_blocks g ≤ size → IsPageBlock g at → at.0 < size
+page_inside g at size room (inl is) = let inside = data_block_inside g at.0 is in omega (arith, inside, room)
+page_inside g at size room (inr (tree, below, stands)) = omega (arith, below, stands, room)
 
 module _ (tells honest : Bool) (g : Geometry) (changes : List (SlotId × Mapping)) (top : Link) (mappings : List Mapping) (slot : ℕ) (inside : slot < PAGE_SLOTS)
     (inner : 0 < top.page.level) where

@@ -32,7 +32,7 @@ use Rattle.replay_map.proofs.TakenLaws.{gained_list, mapped_more, mapped_yet, on
 use Rattle.replay_map.proofs.UnderLaws.{none_ahead_of_top, same_under, under_itself}
 use Rattle.replay_map.proofs.WalkLaws.{walked_none}
 use Rattle.replay_map.specs.Links.{page_below}
-use Rattle.replay_map.specs.Reads.{AreLeading, BlocksRead, HasReads, IsShown, LeadToData, ReadFails, Reading, Shows}
+use Rattle.replay_map.specs.Reads.{AreLeading, BlocksRead, HasReads, IsPageBlock, IsShown, LeadToData, ReadFails, Reading, Shows}
 use Rattle.replay_map.specs.Replayed.{times}
 use Rattle.replay_map.specs.Shares.{IsLeastOf, has_page}
 use Rattle.replay_map.specs.Sums.{maps_below, maps_in, maps_in_trees, maps_under, maps_up_to, root_page, says_leaf, sum_below}
@@ -61,22 +61,48 @@ was_read n = record {
   logged = λ told. absurd (cc told);
 }
 
-read_one : BlocksRead false false (seen_with 0) (seen_with 0) (zeros_at 9 ∷ [])
-read_one = (seen_with 0, refl, was_read 9, omega arith)
+page_block_data : IsPageBlock small (pbn 86)
+page_block_data = inl (record { slab = 0; offset = 1; inside = (omega arith, omega arith); stands = refl })
 
-read_whole : BlocksRead false false (seen_with 0) (seen_with 0) (record { at = pbn 9; bytes = 0 ∷ [] } ∷ []) → ⊥
+page_block_root : IsPageBlock small (pbn 68)
+page_block_root = inr (59, omega arith, refl)
+
+-- the index lies behind the roots
+page_block_not_index : IsPageBlock small (pbn 69) → ⊥
+page_block_not_index (inl is) = let stands = is.stands in omega (arith, stands)
+page_block_not_index (inr (tree, below, stands)) = omega (arith, below, stands)
+
+page_block_not_journal : IsPageBlock small (pbn 8) → ⊥
+page_block_not_journal (inl is) = let stands = is.stands in omega (arith, stands)
+page_block_not_journal (inr (tree, below, stands)) = omega (arith, stands)
+
+page_block_not_count : IsPageBlock small (pbn 149) → ⊥
+page_block_not_count (inl is) = let stands = is.stands in let inside = is.inside in omega (arith, stands, inside)
+page_block_not_count (inr (tree, below, stands)) = omega (arith, below, stands)
+
+read_one : BlocksRead false false small (seen_with 0) (seen_with 0) (zeros_at 9 ∷ [])
+read_one = (seen_with 0, refl, was_read 9, omega arith, inr (0, omega arith, refl))
+
+read_whole : BlocksRead false false small (seen_with 0) (seen_with 0) (record { at = pbn 9; bytes = 0 ∷ [] } ∷ []) → ⊥
 read_whole read = let size = read.2.given.0 in omega (arith, size)
 
-read_of_device : BlocksRead false false (seen_with 0) (seen_with 0) (zeros_at 154 ∷ []) → ⊥
+abbrev short : Seen
+short = record { opening = []; size = 80; log = []; faults = 0; unkept = 0 }
+
+read_of_device : BlocksRead false false small short short (zeros_at 86 ∷ []) → ⊥
 read_of_device read =
     let size = ap (λ (s : Seen). s.size) read.1 in
     let inside = read.3 in
     omega (arith, size, inside)
 
-read_nothing_else : BlocksRead false false (seen_with 0) (seen_with 1) [] → ⊥
+-- block 69 has the index
+read_of_pages : BlocksRead false false small (seen_with 0) (seen_with 0) (zeros_at 69 ∷ []) → ⊥
+read_of_pages read = page_block_not_index read.4
+
+read_nothing_else : BlocksRead false false small (seen_with 0) (seen_with 1) [] → ⊥
 read_nothing_else same = let faults = ap (λ (s : Seen). s.faults) same in omega (arith, faults)
 
-pub read_fails : ReadFails false false (seen_with 0) (seen_with 1)
+pub read_fails : ReadFails false false small (seen_with 0) (seen_with 1)
 read_fails = (
   [],
   seen_with 0,
@@ -89,11 +115,16 @@ read_fails = (
     rose = omega arith;
     logged = λ told. absurd (cc told);
   },
+  inr (0, omega arith, refl),
 )
 
 -- the count of faults rose
-pub read_fails_rose : ReadFails false false (seen_with 0) (seen_with 0) → ⊥
+pub read_fails_rose : ReadFails false false small (seen_with 0) (seen_with 0) → ⊥
 read_fails_rose failed = let rose = failed.4.rose in omega (arith, rose)
+
+-- what failed is a read of a page
+read_fails_of_pages : (failed : ReadFails false false small (seen_with 0) (seen_with 1)) → failed.2 ≡ pbn 69 → ⊥
+read_fails_of_pages failed same = page_block_not_index (subst (λ (p : Pbn). IsPageBlock small p) same failed.5)
 
 shows_is : Shows (zero_block ∷ []) (zeros_at 0 ∷ [])
 shows_is = (refl, tt)
@@ -124,7 +155,7 @@ shown_is = ([], refl, λ image has. has.geometry)
 
 -- what was read was read since
 pub shown_since : (Says : Image → Type 0) → IsShown false false small [] (seen_with 1) (seen_with 0) Says → ⊥
-shown_since Says shown = let later = (blocks_untouched false false (seen_with 1) (seen_with 0) shown.0 shown.1).later.faults in omega (arith, later)
+shown_since Says shown = let later = (blocks_untouched false false small (seen_with 1) (seen_with 0) shown.0 shown.1).later.faults in omega (arith, later)
 
 abbrev third : SlotId
 third = record { page = root; slot = 3 }

@@ -25,7 +25,7 @@ IsMapFound image found = (last entries : ℕ) → HasMap image (map_with found l
 abbrev pub FindFails : Bool → Bool → Geometry → List (SlotId × Mapping) → Seen → Seen → ImageFault → Type 0
 FindFails tells honest g changes before now (Page at fault) = IsShown tells honest g changes before now (λ image. IsPageFault image at fault)
 FindFails tells honest g changes before now (SharedPage at) = IsShown tells honest g changes before now (λ image. ArePagesGood image × IsShareFault image at)
-FindFails tells honest g changes before now Device = ReadFails tells honest before now
+FindFails tells honest g changes before now Device = ReadFails tells honest g before now
 FindFails tells honest g changes before now Memory = Unit {0}
 FindFails tells honest g changes before now (Super fault) = ⊥
 FindFails tells honest g changes before now (Window sequence) = ⊥

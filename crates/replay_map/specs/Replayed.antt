@@ -59,7 +59,7 @@ image_with g blocks window = record { geometry = g; blocks = blocks; window = wi
 -- blocks were read, and this holds of each image with this window that has what was read
 abbrev pub IsFound : Bool → Bool → Geometry → List CommittedEntry → Seen → Seen → (Image → Type 0) → Type 0
 IsFound tells honest g window before now Says =
-    (reads : List Reading) × BlocksRead tells honest before now reads × ((blocks : Blocks) → Shows blocks reads → Says (image_with g blocks window))
+    (reads : List Reading) × BlocksRead tells honest g before now reads × ((blocks : Blocks) → Shows blocks reads → Says (image_with g blocks window))
 
 -- The window has this last sequence and so many entries, and each image with this window that has what was read has this map.
 pub record IsMapRead (tells honest : Bool) (g : Geometry) (window : WindowState) (before now : Seen) (map : RecoveredMap) : Type 0 where
@@ -72,7 +72,7 @@ pub record IsMapRead (tells honest : Bool) (g : Geometry) (window : WindowState)
 abbrev pub MapFails : Bool → Bool → Geometry → List CommittedEntry → Seen → Seen → ImageFault → Type 0
 MapFails tells honest g window before now (Page at fault) = IsFound tells honest g window before now (λ image. IsPageFault image at fault)
 MapFails tells honest g window before now (SharedPage at) = IsFound tells honest g window before now (λ image. ArePagesGood image × IsShareFault image at)
-MapFails tells honest g window before now Device = ReadFails tells honest before now
+MapFails tells honest g window before now Device = ReadFails tells honest g before now
 MapFails tells honest g window before now Memory = Unit {0}
 MapFails tells honest g window before now (Super fault) = ⊥
 MapFails tells honest g window before now (Window sequence) = ⊥

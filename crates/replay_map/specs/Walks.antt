@@ -109,7 +109,7 @@ IsRoot g tree link = (link.page ≡ root_page g tree) × (link.at.0 ≡ block_of
 abbrev pub WalkFails : Bool → Bool → Geometry → List (SlotId × Mapping) → Seen → Seen → (Image → Type 0) → (PageId → Type 0) → ImageFault → Type 0
 WalkFails tells honest g changes before now There Over (Page at fault) =
     IsShown tells honest g changes before now (λ image. There image → IsFirstFault image Over at fault)
-WalkFails tells honest g changes before now There Over Device = ReadFails tells honest before now
+WalkFails tells honest g changes before now There Over Device = ReadFails tells honest g before now
 WalkFails tells honest g changes before now There Over Memory = Unit {0}
 WalkFails tells honest g changes before now There Over (Super fault) = ⊥
 WalkFails tells honest g changes before now There Over (Window sequence) = ⊥

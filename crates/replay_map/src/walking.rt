@@ -6,7 +6,7 @@ ghost use Rattle.disk_model.specs.Since.{IsUntouched};
 ghost use Rattle.image_model.specs.Maps.{target_of};
 ghost use Rattle.replay_map.specs.Links.{page_below};
 ghost use Rattle.replay_map.specs.Pages.{IsReadAs};
-ghost use Rattle.replay_map.specs.Reads.{AreLeading, IsShown, LeadToData};
+ghost use Rattle.replay_map.specs.Reads.{AreLeading, IsPageBlock, IsShown, LeadToData};
 ghost use Rattle.replay_map.specs.Walks.{IsInTrees, IsLinked, IsRoot, IsUnder, IsUpTo, WalkFails, WalkedTrees, WalkedUnder, WalkedUpTo, head_at, link_to};
 
 use crate::found::Found;
@@ -48,8 +48,7 @@ pub(crate) fn walk_trees<D: Disk>(
 // The root of a tree.
 fn root_of(layout: &Layout, tree: u8) -> Link
     requires { tree < TREES }
-    ensures root { IsRoot layout.now.geometry tree result }
-    ensures inside { result.at.0 < needed_blocks layout.now.geometry }
+    ensures { IsRoot layout.now.geometry tree result }
 {
     Link {
         page: PageId {
@@ -72,7 +71,7 @@ fn walk<D: Disk>(
 ) -> Result<(), ImageFault>
     requires room { needed_blocks layout.now.geometry ≤ (D.seen device.old).size }
     requires data { LeadToData layout.now.geometry changes.now }
-    requires inside { top.at.0 < needed_blocks layout.now.geometry }
+    requires stands { IsPageBlock layout.now.geometry top.at }
     requires few { 0 < top.page.level → top.page.index < PAGE_SLOTS }
     requires first { 1 < top.page.level → top.page.index ≡ 0 }
     requires low { top.page.level ≤ 2 }
@@ -138,7 +137,7 @@ fn visit<D: Disk>(
 ) -> Result<(), ImageFault>
     requires room { needed_blocks layout.now.geometry ≤ (D.seen device.old).size }
     requires data { LeadToData layout.now.geometry changes.now }
-    requires inside { top.at.0 < needed_blocks layout.now.geometry }
+    requires stands { IsPageBlock layout.now.geometry top.at }
     requires few { 0 < top.page.level → top.page.index < PAGE_SLOTS }
     ensures walked { OnOk result (IsShown D.tells D.honest layout.now.geometry changes.now (D.seen device.old) (D.seen device.new)
         (λ image. IsLinked image top → WalkedUpTo image top.page 0 found.old found.new × IsReadAs image (head_at layout.now.geometry top) into.new)) }
@@ -167,7 +166,8 @@ fn read_linked<D: Disk>(
     into: &mut Mappings,
 ) -> Result<(), ImageFault>
     requires sizes { IsGeometry page.now.geometry }
-    requires inside { page.now.at.0 < (D.seen device.old).size }
+    requires room { needed_blocks page.now.geometry ≤ (D.seen device.old).size }
+    requires stands { IsPageBlock page.now.geometry page.now.at }
     requires data { LeadToData page.now.geometry changes.now }
     ensures read { OnOk result (IsShown D.tells D.honest page.now.geometry changes.now (D.seen device.old) (D.seen device.new)
         (λ image. IsReadAs image page.now into.new)) }

@@ -1,11 +1,13 @@
 use Rattle.std.proofs.Common.{rules, ◌≡◌, ◌∙◌, sym, ap, subst, arith, ℕ}
+use Rattle.blk_base.specs.declared.place.Pbn.{Pbn}
 use Rattle.blk_base.specs.declared.sizes.TheConstants.{PAGE_SLOTS}
 use Rattle.disk_model.proofs.SinceLaws.{untouched_on}
 use Rattle.image_model.specs.Maps.{Image, target_of}
 use Rattle.replay_map.proofs.PageLaws.{passed_on}
 use Rattle.replay_map.proofs.ReadLaws.{shown_by_none}
-use Rattle.replay_map.proofs.SlotLaws.{failed_slot, passed_slot, target_inside, walked_slot}
+use Rattle.replay_map.proofs.SlotLaws.{failed_slot, passed_slot, target_stands, walked_slot}
 use Rattle.replay_map.proofs.WholeWalkLaws.{all_walked, fails_behind, leaf_walked, top_fault}
+use Rattle.replay_map.specs.Reads.{IsPageBlock}
 use Rattle.replay_map.specs.Walks.{IsLinked, IsUnder, IsUpTo, WalkFails, WalkedUpTo}
 use Rattle.replay_map.specs.declared.links.Link.{Link}
 use Rattle.replay_map.proofs.walking.+walk.Goals.{in-None, in-Some+in_ok-walk-in-Some}
@@ -53,7 +55,7 @@ pub walk-requires : goal.walk-requires
 walk-requires g t c κs within =
     let level = ap (λ (l : Link). l.page.level) c.link_below-below.ensures in
     let index = ap (λ (l : Link). l.page.index) c.link_below-below.ensures in
-    let at = ap (λ (l : Link). l.at.0) c.link_below-below.ensures in
+    let at = ap (λ (l : Link). l.at) c.link_below-below.ensures in
     let inside = c.loop-slot-test.true in
     let some = c.if-top-eq0.false in
     let measure = c.decreases in
@@ -61,7 +63,7 @@ walk-requires g t c κs within =
     let room = c.requires.room in
     let low = c.requires.low in
     let leads : target_of c.get.result ≡ _ = sym c.target.ensures ∙ c.in-Some.is in
-    let block = target_inside c.args.layout.now.geometry _ c.in-Some.at (c.in_ok-visit.ensures.data c.loop-slot.slot inside) (ap target_of (sym c.get.ensures.value) ∙ leads) in (
+    let stands = target_stands c.args.layout.now.geometry _ c.in-Some.at (c.in_ok-visit.ensures.data c.loop-slot.slot inside) (ap target_of (sym c.get.ensures.value) ∙ leads) in (
       omega (arith, level, some, measure),
       (
         search rules,
@@ -70,7 +72,7 @@ walk-requires g t c κs within =
           (
             c.requires.data,
             (
-              omega (arith, at, block),
+              subst (λ (p : Pbn). IsPageBlock c.args.layout.now.geometry p) (sym at) stands,
               (
                 (λ inner. let first = c.requires.first (omega (arith, inner, level, some)) in omega (arith, index, first, inside)),
                 ((λ inner. absurd (omega (arith, inner, level, low, some))), omega (arith, level, low)),
