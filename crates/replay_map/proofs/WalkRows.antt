@@ -14,6 +14,8 @@ use Rattle.byte_fields.specs.Fields.{number_at}
 use Rattle.disk_model.proofs.SeenLaws.{later_yet, stays_yet}
 use Rattle.disk_model.specs.Seen.{Seen}
 use Rattle.disk_model.specs.Since.{WereRead}
+use Rattle.disk_model.specs.declared.call.Call.{Call}
+use Rattle.disk_model.specs.declared.call.Call.TheVariants.{Read}
 use Rattle.image_model.proofs.Example.{small, pbn}
 use Rattle.image_model.proofs.MapRows.{bad_head, image, logged, page, remap, root, with_root}
 use Rattle.image_model.specs.Counts.{leads_to, mapped_below}
@@ -122,9 +124,39 @@ read_fails = (
 pub read_fails_rose : ReadFails false false small (seen_with 0) (seen_with 0) → ⊥
 read_fails_rose failed = let rose = failed.4.rose in omega (arith, rose)
 
--- what failed is a read of a page
-read_fails_of_pages : (failed : ReadFails false false small (seen_with 0) (seen_with 1)) → failed.2 ≡ pbn 69 → ⊥
-read_fails_of_pages failed same = page_block_not_index (subst (λ (p : Pbn). IsPageBlock small p) same failed.5)
+-- a device that tells, of which a read of this block failed, and nothing else was done
+abbrev failed_at : ℕ → Seen
+failed_at n = record { opening = []; size = 154; log = Read (pbn n) zero_block false ∷ []; faults = 1; unkept = 0 }
+
+read_fails_of_root : ReadFails true false small (seen_with 0) (failed_at 9)
+read_fails_of_root = (
+  [],
+  seen_with 0,
+  pbn 9,
+  refl,
+  record {
+    stays = record { opening = refl; size = refl };
+    later = record { faults = omega arith; unkept = omega arith };
+    given = tt;
+    rose = omega arith;
+    logged = λ told. (zero_block, inl refl);
+  },
+  inr (0, omega arith, refl),
+)
+
+-- what failed is a read of a block at which a page may stand
+read_fails_of_pages : ReadFails true false small (seen_with 0) (failed_at 69) → ⊥
+read_fails_of_pages (reads, middle, at, read, failed, stands) = elim (failed.logged refl).1 [
+  | inl same ↦
+      let place : 69 ≡ at.0 + 0 = ap place_in same in
+      let here : at.0 ≡ 69 = omega (arith, place) in
+      page_block_not_index (subst (λ (n : ℕ). IsPageBlock small (pbn n)) here stands)
+  | inr (same, rose) ↦ omega (arith, rose)
+]
+  where
+    place_in : List Call → ℕ
+    place_in (Read at bytes ok ∷ older) = at.0
+    place_in other = 0
 
 shows_is : Shows (zero_block ∷ []) (zeros_at 0 ∷ [])
 shows_is = (refl, tt)
