@@ -19,6 +19,7 @@ use Rattle.image_model.proofs.WindowLaws.{one_window}
 use Rattle.image_model.specs.Maps.{Image}
 use Rattle.image_model.specs.Sound.{IsSound, Opens, image_of}
 use Rattle.image_model.specs.Windows.{IsWindow}
+use Rattle.recovery_laws.proofs.KeptRows.{kept_by_itself}
 use Rattle.recovery_laws.proofs.WholeLaws.{cut, failures, parts, stops}
 use Rattle.recovery_laws.specs.Calls.{ArePuts, recovery_calls}
 use Rattle.recovery_laws.specs.Kept.{AreKept, image_in, recovered_super}
@@ -33,17 +34,6 @@ reads_behind (Read at bytes ok ∷ newer) older reads = reads_behind newer older
 reads_behind (Write at bytes ok ∷ newer) older reads = absurd reads
 reads_behind (Flush ok ∷ newer) older reads = absurd reads
 
-kept_yet : (blocks : Blocks) (sound : IsSound blocks) → AreKept (image_in blocks sound) blocks
-kept_yet blocks sound = record {
-  sound = sound;
-  same = record {
-    geometry = refl;
-    map = record { pages = λ page. refl; mappings = λ address. refl };
-    values = λ address. refl;
-    counts = λ place count inside. ((λ is. is), (λ is. is));
-  };
-}
-
 pub untouched_kept : (tells : Bool) (before now : Seen) (blocks : Blocks) (sound : IsSound blocks) → IsTrue tells → HasOneImage before.opening before.log blocks → IsUntouched tells before now
     → IsKeptSince (image_in blocks sound) before now
 untouched_kept tells before now blocks sound told one untouched =
@@ -54,7 +44,7 @@ untouched_kept tells before now blocks sound told one untouched =
           let reads = reads_behind newer older (subst OnlyReads same since.2) in
           let still = image_since before.opening before.log (older ++ before.log) blocks (older, refl, reads) one in
           let unchanged : image ≡ blocks = one_image-unique before.opening (older ++ before.log) blocks image still is in
-          subst (AreKept (image_in blocks sound)) (sym unchanged) (kept_yet blocks sound),
+          subst (AreKept (image_in blocks sound)) (sym unchanged) (kept_by_itself blocks sound),
     )
 
 module _ (tells honest : Bool) (first : Seen) (blocks : Blocks) (start : IsStart tells honest first blocks) where

@@ -24,7 +24,7 @@ use Rattle.image_model.specs.declared.fault.ImageFault.{ImageFault}
 use Rattle.image_model.specs.declared.fault.ImageFault.TheVariants.{Super, Window, Counts, Device, Unclean, Memory}
 use Rattle.journal_window.specs.States.{WindowState}
 use Rattle.journal_window.specs.Windows.{IsWindowOf}
-use Rattle.recovery_laws.proofs.KeptRows.{same_as_itself}
+use Rattle.recovery_laws.proofs.KeptRows.{kept_by_itself}
 use Rattle.recovery_laws.specs.Calls.{ArePuts, recovery_calls}
 use Rattle.recovery_laws.specs.Kept.{AreKept, image_in}
 use Rattle.rebuild.proofs.ActLaws.{none_made}
@@ -172,9 +172,6 @@ abbrev pub opened : Blocks → Seen
 opened blocks = record seen { opening = blocks }
 
 module _ (blocks : Blocks) (sound : IsSound blocks) (one : HasOneImage blocks [] blocks) where
-  by_itself : AreKept (image_in blocks sound) blocks
-  by_itself = record { sound = sound; same = same_as_itself (image_in blocks sound) }
-
   pub kept_yet : IsKeptSince (image_in blocks sound) (opened blocks) (opened blocks)
   kept_yet = (
     [],
@@ -182,7 +179,7 @@ module _ (blocks : Blocks) (sound : IsSound blocks) (one : HasOneImage blocks []
     λ newer older now same is.
         let none = no_older newer older same in
         let here : IsImage blocks [] now = subst (λ (calls : List Call). IsImage blocks (calls ++ []) now) none is in
-        subst (AreKept (image_in blocks sound)) (sym (one_image-unique blocks [] blocks now one here)) by_itself,
+        subst (AreKept (image_in blocks sound)) (sym (one_image-unique blocks [] blocks now one here)) (kept_by_itself blocks sound),
   )
 
   -- Ends: after a refusal that is all; after an answer all was made

@@ -22,7 +22,8 @@ use std::alloc::Global;
 /// `Device` nothing was written.
 ///
 /// Of an honest device on which nothing is pending, and whose image is sound: whatever it answers, and at whatever moment it
-/// is stopped, what is left is sound and says the same. So a second recovery gives the same.
+/// is stopped, what is left is sound and says the same, and each block but the superblock's, the pages' and the counters'
+/// has the bytes that it had. So a second recovery gives the same.
 pub fn recover<D: Disk>(alloc: Global, device: &mut D) -> Result<Recovered, ImageFault>
     ensures { IsRecovery D.tells D.honest (D.seen device.old) (D.seen device.new) result }
 {

@@ -195,6 +195,7 @@ module _ (blocks blocks' : Blocks) (sound : IsSound blocks) where
         closed = λ clean. absurd (subst (λ (b : Bool). IsTrue b → ⊥) (sym unclean) (λ is. absurd (cc is)) clean);
       };
       same = say_the_same sound.window part_says (values_kept underway.size underway.others) part_stores;
+      others = underway.others;
     }
 
   -- Once its superblock is written.
@@ -283,6 +284,7 @@ module _ (blocks blocks' : Blocks) (sound : IsSound blocks) where
           closed = λ clean. after_closed;
         };
         same = say_the_same [] full_says (values_kept full.size full.others) after_stores;
+        others = full.others;
       };
       closed = refl;
     }

@@ -10,7 +10,8 @@ use Rattle.image_format.specs.Runs.{as_failed}
 use Rattle.image_model.specs.Maps.{Image}
 use Rattle.image_model.specs.Sound.{IsDataPlace}
 use Rattle.recovery_laws.specs.Calls.{ArePuts, IsPut, recovery_calls}
-use Rattle.recovery_laws.specs.Kept.{AreStopsKept, IsRecovered, IsToRecover, SayTheSame, image_in}
+use Rattle.recovery_laws.specs.Kept.{AreKept, AreStopsKept, IsRecovered, IsToRecover, SayTheSame, image_in}
+use Rattle.recovery_laws.specs.Written.{IsCountersBlock}
 use Rattle.recovery_laws.proofs.CallLaws.{at_last_one, cut_kept, each_kept, failure_kept, moment_kept, part_kept}
 
 pub same_again : (old middle new : Image) → SayTheSame old middle → SayTheSame middle new → SayTheSame old new
@@ -23,6 +24,17 @@ same_again old middle new first second = record {
       let one = first.counts place count inside in
       let two = second.counts place count inside_too in
       ((λ is. one.0 (two.0 is)), (λ is. two.1 (one.1 is)));
+}
+
+-- What keeps what was kept: the pages and the counters of both stand at the same blocks, so the others do too.
+pub kept_by_both : (old : Image) (middle new : Blocks) (first : AreKept old middle) → length middle ≡ length old.blocks → AreKept (image_in middle first.sound) new → AreKept old new
+kept_by_both old middle new first size second = record {
+  sound = second.sound;
+  same = same_again old (image_in middle first.sound) (image_in new second.sound) first.same second.same;
+  others = λ b behind below no_page no_counters.
+      second.others b behind (omega (arith, below, size)) (λ (page, at, there, same). no_page (page, at, first.same.map.pages page ∙ there, same))
+      (λ counters. no_counters (subst (λ (g : Geometry). IsCountersBlock (record old { geometry = g }) b) first.same.geometry counters))
+      ∙ first.others b behind below no_page no_counters;
 }
 
 -- While not all writes are made.

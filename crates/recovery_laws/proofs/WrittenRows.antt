@@ -1,9 +1,9 @@
 -- What the blocks have: for each clause a case that it accepts, and one that it refuses.
-use Rattle.std.proofs.Common.{ℕ, ◌≡◌, ◌+◌, ◌%◌, ◌<◌, ◌≤◌, ◌++◌, List, [], ◌∷◌, replicate, get_or, Some, None, Ok, refl, ap, inl, inr, arith}
+use Rattle.std.proofs.Common.{ℕ, ◌≡◌, ◌+◌, ◌%◌, ◌<◌, ◌≤◌, ◌++◌, List, [], ◌∷◌, length, replicate, get_or, Some, None, Ok, refl, ap, inl, inr, arith}
 use Rattle.blk_base.specs.Counters.{counters_per_sector, sector_of_offset}
-use Rattle.blk_base.specs.Regions.{IndexBlock, ReferenceBlock, block_of}
+use Rattle.blk_base.specs.Regions.{IndexBlock, ReferenceBlock, Root, block_of, needed_blocks}
 use Rattle.blk_base.specs.Sectors.{sector, zero_block}
-use Rattle.blk_base.proofs.RegionLaws.{apart, inside}
+use Rattle.blk_base.proofs.RegionLaws.{apart, data_block_inside, inside}
 use Rattle.blk_base.specs.declared.layout.DataPlace.{DataPlace}
 use Rattle.blk_base.specs.declared.place.Mapping.TheVariants.{Zero, At}
 use Rattle.blk_base.specs.declared.place.PageId.{PageId}
@@ -20,10 +20,10 @@ use Rattle.image_model.specs.Counts.{Stores, commit_at, reference_sector_at}
 use Rattle.image_model.specs.Maps.{Image, IsGoodPage, head_of, page_at, put_last}
 use Rattle.image_model.specs.Sound.{IsDataPlace, IsSound}
 use Rattle.replay_counts.specs.Recovered.{IsInSector}
-use Rattle.recovery_laws.specs.Kept.{image_in}
+use Rattle.recovery_laws.specs.Kept.{AreKept, IsRecovered, image_in}
 use Rattle.recovery_laws.specs.Written.{AreFull, AreOthersKept, AreUnderway, IsCountersBlock, IsFullPage, IsFullSector, IsOldSector, IsPageBlock, IsPartPage}
-use Rattle.recovery_laws.proofs.KeptRows.{counted_as, stores_n}
-use Rattle.recovery_laws.proofs.OldLaws.{no_page_there, own_slot}
+use Rattle.recovery_laws.proofs.KeptRows.{counted_as, others_kept, stores_n}
+use Rattle.recovery_laws.proofs.OldLaws.{no_page_there, own_slot, page_stands}
 use Rattle.recovery_laws.proofs.SoundLaws.{known, room}
 
 -- Pages. One that can be read says by itself what it says, where the window puts nothing into it.
@@ -127,8 +127,27 @@ module _ (blocks now : Blocks) (sound : IsSound blocks) (some : 1 ≤ sound.head
       → AreFull (image_in blocks sound) now → ⊥
   others_of_full differs full = other_changed differs full.others
 
-others_kept : (image : Image) → AreOthersKept image image.blocks
-others_kept image b behind below no_page no_counters = refl
+  others_of_kept : (block_at now (block_of sound.head.geometry (IndexBlock 0)) ≡ block_at blocks (block_of sound.head.geometry (IndexBlock 0)) → ⊥)
+      → AreKept (image_in blocks sound) now → ⊥
+  others_of_kept differs kept = other_changed differs kept.others
+
+  others_of_recovered : (last : ℕ) → (block_at now (block_of sound.head.geometry (IndexBlock 0)) ≡ block_at blocks (block_of sound.head.geometry (IndexBlock 0)) → ⊥)
+      → IsRecovered (image_in blocks sound) last now → ⊥
+  others_of_recovered last differs is = other_changed differs is.kept.others
+
+-- and so is a block behind the image
+module _ (blocks now : Blocks) (sound : IsSound blocks) (b : ℕ) (behind : needed_blocks sound.head.geometry ≤ b) (below : b < length blocks) where
+  no_page_behind : IsPageBlock (image_in blocks sound) b → ⊥
+  no_page_behind (page, at, there, same) = elim (page_stands (image_in blocks sound) sound.pages sound.last (known blocks blocks sound) page at there) [
+    | inl root ↦ let within = inside sound.head.geometry (Root page.tree) root.1 in let is = root.2 in omega (arith, within, is, same, behind)
+    | inr stands ↦ let within = data_block_inside sound.head.geometry at.0 stands in omega (arith, within, same, behind)
+  ]
+
+  no_counters_behind : IsCountersBlock (image_in blocks sound) b → ⊥
+  no_counters_behind (slab, i, is, same) = let within = inside sound.head.geometry (ReferenceBlock slab i) is in omega (arith, within, same, behind)
+
+  behind_changed : (block_at now b ≡ block_at blocks b → ⊥) → AreKept (image_in blocks sound) now → ⊥
+  behind_changed differs kept = differs (kept.others b (omega (arith, behind)) below no_page_behind no_counters_behind)
 
 -- An image whose pages can be read is underway by itself.
 underway_by_itself : (image : Image) → ((which : PageId) (at : Pbn) → page_at image which ≡ Some at → IsGoodPage image which at) → AreUnderway image image.blocks

@@ -9,6 +9,7 @@ use Rattle.disk_model.specs.Log.{Blocks}
 use Rattle.image_model.specs.Counts.{Stores}
 use Rattle.image_model.specs.Maps.{Image, HaveSameMap, value_of}
 use Rattle.image_model.specs.Sound.{IsDataPlace, IsSound, image_of}
+use Rattle.recovery_laws.specs.Written.{AreOthersKept}
 
 -- two images say the same: of the same sizes, each address has the same mapping and value, and each data block the same stored count
 pub record SayTheSame (old new : Image) : Type 0 where
@@ -17,10 +18,13 @@ pub record SayTheSame (old new : Image) : Type 0 where
   pub values : (address : ℕ) → value_of new address ≡ value_of old address
   pub counts : (place : DataPlace) (count : ℕ) → IsDataPlace old.geometry place → Stores new place (Ok count) ↔ Stores old place (Ok count)
 
--- these blocks are a sound image that says the same
+-- These blocks are a sound image that says the same; and each block but the superblock's, the pages' and the counters' has
+-- the bytes that it had: those of the index and of both journals, all data blocks that are no page, and all behind the
+-- image.
 pub record AreKept (old : Image) (blocks : Blocks) : Type 0 where
   pub sound : IsSound blocks
   pub same : SayTheSame old (image_of sound.head blocks sound.window)
+  pub others : AreOthersKept old blocks
 
 -- Whatever a stop leaves at each moment since the log was the first one, once all these calls were made and before: the
 -- same image.
@@ -33,7 +37,7 @@ AreStopsKept old opening first calls =
 abbrev pub recovered_super : Geometry → ℕ → Super
 recovered_super g last = record { geometry = g; clean = true; start = last + 2 }
 
--- the image was recovered: it says the same, is closed, and the next session begins there
+-- the image was recovered: it says the same, its other blocks are what they were, it is closed, and the next session begins there
 pub record IsRecovered (old : Image) (last : ℕ) (blocks : Blocks) : Type 0 where
   pub kept : AreKept old blocks
   pub closed : kept.sound.head ≡ recovered_super old.geometry last

@@ -1,4 +1,4 @@
-ghost use Rattle.std.specs.Prelude.{◌≡◌, ◌⊎◌, ◌∷◌, ◌++◌, true, false, List, Ok};
+ghost use Rattle.std.specs.Prelude.{◌≡◌, ◌⊎◌, ◌∷◌, ◌++◌, true, false, List, length, Ok};
 ghost use Rattle.std.specs.List.{AllByRecursion};
 ghost use Rattle.disk_model.specs.declared.call.Call.{Call};
 ghost use Rattle.disk_model.specs.declared.call.Call.TheVariants.{Flush};
@@ -12,21 +12,25 @@ ghost use Rattle.recovery_laws.specs.Calls.{ArePuts, IsPut, recovery_calls};
 ghost use Rattle.recovery_laws.specs.Kept.{AreKept, AreStopsKept, IsRecovered, IsToRecover, SayTheSame, image_in, recovered_super};
 ghost use Rattle.recovery_laws.specs.Written.{AreFull, AreUnderway};
 
-/// While an image is recovered it is sound and says the same, and afterwards it is closed too: of each of these, whatever
-/// way it came there. It does nothing.
+/// While an image is recovered it is sound and says the same, with its other blocks as they were, and afterwards it is
+/// closed too: of each of these, whatever way it came there. It does nothing.
 pub fn blocks_underway_say_the_same()
     ensures underway { (blocks now : Blocks) (sound : IsSound blocks) → sound.head.clean ≡ false → AreUnderway (image_in blocks sound) now
         → AreKept (image_in blocks sound) now }
     ensures full { (blocks now : Blocks) (sound : IsSound blocks) → AreFull (image_in blocks sound) now
         → super_of_image now ≡ Ok (recovered_super sound.head.geometry sound.last) → IsRecovered (image_in blocks sound) sound.last now }
 
-    // What says the same as what says the same does too: so a second recovery after a stop gives the same.
+    // What says the same as what says the same does too, and what keeps what was kept: so a second recovery after a stop
+    // gives the same.
     ensures again { (old middle new : Image) → SayTheSame old middle → SayTheSame middle new → SayTheSame old new }
+    ensures kept_again { (old : Image) (middle now : Blocks) (first : AreKept old middle) → length middle ≡ length old.blocks
+        → AreKept (image_in middle first.sound) now → AreKept old now }
 {}
 
 /// Recovery makes its writes in any order, with reads among them; then a flush, the superblock, and a flush. Whatever a
-/// stop leaves at any moment of that, also where a call failed and no other was made behind it, is sound and says the same;
-/// and afterwards nothing is pending and the image is closed. It does nothing.
+/// stop leaves at any moment of that, also where a call failed and no other was made behind it, is sound and says the same,
+/// with each block as it was that is neither the superblock's, nor a page's, nor the counters'; and afterwards nothing is
+/// pending and the image is closed. It does nothing.
 pub fn recovery_keeps_what_an_image_says()
     // While not all writes are made.
     ensures parts { (opening blocks : Blocks) (first calls : List Call) (to : IsToRecover opening first blocks) → AllByRecursion (IsPut (image_in blocks to.sound)) calls
