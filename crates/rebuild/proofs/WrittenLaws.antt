@@ -173,6 +173,7 @@ counts_of_put image slab i at counts sectors given bytes there stands has old is
             let small : min count 255 ≡ count = omega (arith, fits) in
             let stands_there = one.counters place.offset within.1 sector_is ∙ ap (λ (k : ℕ). min (slice_index counts k) 255) number ∙ small in
             subst (λ (k : ℕ). Stores image place (Ok k)) (sym stands_there) stored;
+        rest = λ offset behind sector_is. inl (one.rest offset behind sector_is);
       };
   past = λ n row behind. is.past n row behind ∙ old n row behind;
 }

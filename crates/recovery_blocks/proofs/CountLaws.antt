@@ -1,5 +1,7 @@
 -- A block of counters that is written says what its sectors were to say.
-use Rattle.std.proofs.Common.{ℕ, ◌≡◌, ◌+◌, ◌*◌, ◌/◌, ◌%◌, ◌<◌, List, [], All, length, get_or, sym, ◌∙◌, ap, subst, arith}
+use Rattle.std.proofs.Common.{ℕ, ◌≡◌, ◌+◌, ◌*◌, ◌/◌, ◌%◌, ◌<◌, List, [], All, length, replicate, get_or, sym, ◌∙◌, ap, subst, arith}
+use Rattle.std.proofs.Math.Nat.{mod-lt}
+use Rattle.std.proofs.lemmas.List.{get_or-replicate, length-replicate}
 use Rattle.blk_base.specs.Counters.{counters_per_sector}
 use Rattle.blk_base.specs.Sectors.{sector}
 use Rattle.blk_base.specs.declared.geometry.Geometry.{Geometry}
@@ -11,10 +13,18 @@ use Rattle.slab_codec.specs.declared.forms.ReferenceSector.{ReferenceSector}
 use Rattle.slab_reading.proofs.SectorLaws.{commit_said, counter_said}
 use Rattle.blk_base.specs.declared.point.Point.{Point}
 use Rattle.recovery_blocks.specs.Counters.{AreCountsPut}
-use Rattle.recovery_blocks.specs.Spelled.{AreSpelled, IsSpelled}
+use Rattle.recovery_blocks.specs.Spelled.{AreSpelled, IsCounted, IsSpelled}
 
 pub no_sector : ReferenceSector
 no_sector = record { commit = record { 0 = 0 }; counters = [] }
+
+-- before the first count is put
+pub none_counted : (g : Geometry) (slab n : ℕ) (counts : List ℕ) (width : ℕ) → width ≡ counters_per_sector g → IsCounted g slab n counts (n * width) (replicate 504 0)
+none_counted g slab n counts width is = record {
+  size = length-replicate {A = ℕ} 504 0;
+  each = λ offset below inside sector_of. absurd (let start : n * width ≡ n * 504 = ap (λ (w : ℕ). n * w) is in omega (arith, below, sector_of, start));
+  rest = λ offset behind sector_of. get_or-replicate {A = ℕ} 504 (offset % 504) 0 0 (mod-lt offset (omega arith));
+}
 
 module _ (g : Geometry) (slab i : ℕ) (counts : List ℕ) (sectors : List SectorPoints) (old new : List ℕ) (made : List ReferenceSector)
     (are : AreSpelled g slab i counts sectors old 8 made) (is : new ≡ reference_bytes made) where
@@ -37,6 +47,8 @@ module _ (g : Geometry) (slab i : ℕ) (counts : List ℕ) (sectors : List Secto
           commit = commit_said (sector (n % 8) new) (get_or made (n % 8) no_sector) one.fits bytes ∙ ap (λ (p : Point). p.0) (one.commit below);
           counters = λ offset inside sector_of.
               counter_said (sector (n % 8) new) (get_or made (n % 8) no_sector) (offset % counters_per_sector g) bytes ∙ (one.counters below).each offset inside inside sector_of;
+          rest = λ offset behind sector_of.
+              counter_said (sector (n % 8) new) (get_or made (n % 8) no_sector) (offset % counters_per_sector g) bytes ∙ (one.counters below).rest offset behind sector_of;
         };
     past = λ n row behind. sector_is (n % 8) (omega arith) ∙ sym ((spelled n row).past behind);
   }

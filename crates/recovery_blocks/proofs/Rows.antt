@@ -86,6 +86,20 @@ not_counted is =
     let count = count_is in
     omega (arith, counted, count)
 
+-- rest: the slab has 64 blocks, so that the counter of offset 64 is 0
+abbrev with_rest : ℕ → List ℕ
+with_rest byte = 9 ∷ replicate 71 0 ++ byte ∷ []
+
+rest_is : number_at 1 72 (with_rest 1) ≡ 1
+unfolding number_at
+rest_is = refl
+
+not_zero : IsSectorPut small 0 0 [] (points 3 9) (with_rest 1) → ⊥
+not_zero is =
+    let zero_there = is.rest 64 (omega arith) refl in
+    let one = rest_is in
+    omega (arith, zero_there, one)
+
 -- put: each sector of the block is put so
 no_sector_put : AreCountsPut small 0 0 (2 ∷ []) (points 3 10) [] (9 ∷ 0 ∷ 0 ∷ 0 ∷ 0 ∷ 0 ∷ 0 ∷ 0 ∷ 1 ∷ []) → ⊥
 no_sector_put is = let raised = (is.put 0 refl (omega arith)).commit in let point = point_is 1 in omega (arith, raised, point)

@@ -12,11 +12,12 @@ abbrev pub points_of : Geometry → List SectorPoints → ℕ → ℕ → Sector
 points_of g sectors slab n = get_or sectors (slab * sectors_per_slab g + n) no_points
 
 -- The n-th sector of a slab's counters has the greatest point applied to it, and the counts; one above 255, which no stored
--- count is, stands as 255.
+-- count is, stands as 255. Those behind the slab's end are 0.
 pub record IsSectorPut (g : Geometry) (slab n : ℕ) (counts : List ℕ) (sectors : List SectorPoints) (bytes : List ℕ) : Type 0 where
   pub commit : number_at 8 0 bytes ≡ (points_of g sectors slab n).applied.0
   pub counters : (offset : ℕ) → offset < g.slab_blocks → sector_of_offset g offset ≡ n
       → number_at 1 (8 + offset % counters_per_sector g) bytes ≡ min (slice_index counts (slab * g.slab_blocks + offset)) 255
+  pub rest : (offset : ℕ) → g.slab_blocks ≤ offset → sector_of_offset g offset ≡ n → number_at 1 (8 + offset % counters_per_sector g) bytes ≡ 0
 
 -- each sector of the i-th block of a slab's counters is put so, and those past the slab's end are as they were
 pub record AreCountsPut (g : Geometry) (slab i : ℕ) (counts : List ℕ) (sectors : List SectorPoints) (old new : List ℕ) : Type 0 where

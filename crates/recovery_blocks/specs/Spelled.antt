@@ -8,11 +8,12 @@ use Rattle.slab_codec.specs.Reference.{reference_sector_bytes}
 use Rattle.slab_codec.specs.declared.forms.ReferenceSector.{ReferenceSector}
 use Rattle.recovery_blocks.specs.Counters.{points_of}
 
--- the counters of the n-th sector of a slab are the counts of its blocks below this offset
+-- the counters of the n-th sector of a slab are the counts of its blocks below this offset, and 0 behind the slab's end
 pub record IsCounted (g : Geometry) (slab n : ℕ) (counts : List ℕ) (end : ℕ) (counters : List ℕ) : Type 0 where
   pub size : length counters ≡ counters_per_sector g
   pub each : (offset : ℕ) → offset < end → offset < g.slab_blocks → sector_of_offset g offset ≡ n
       → get_or counters (offset % counters_per_sector g) 0 ≡ min (slice_index counts (slab * g.slab_blocks + offset)) 255
+  pub rest : (offset : ℕ) → g.slab_blocks ≤ offset → sector_of_offset g offset ≡ n → get_or counters (offset % counters_per_sector g) 0 ≡ 0
 
 -- the n-th sector says so; one past the slab's end says what these bytes do
 pub record IsSpelled (g : Geometry) (slab n : ℕ) (counts : List ℕ) (sectors : List SectorPoints) (bytes : List ℕ) (one : ReferenceSector) : Type 0 where

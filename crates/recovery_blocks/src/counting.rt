@@ -15,7 +15,8 @@ use slab_codec::{ReferenceBlock, ReferenceSector, encode_reference, reference_se
 const SECTORS: u32 = 8;
 
 /// Puts into a block of a slab's counters, by its number there from 0, the stored counts, and into each of its sectors the
-/// greatest point that was applied to it. Sectors past the slab's end stay.
+/// greatest point that was applied to it. Counters behind the slab's end are 0 in a sector that it lies in, and sectors past
+/// it stay.
 pub fn put_counts(block: &mut Block, layout: &Layout, slab: u32, i: u32, counts: &RecoveredCounts)
     requires inside { IsPlace layout.now.geometry (Reference slab i) }
     requires counts { length counts.now.counts.items ≡ all_blocks layout.now.geometry }

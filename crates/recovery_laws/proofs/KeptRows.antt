@@ -18,7 +18,7 @@ use Rattle.image_model.specs.Sound.{IsSound}
 use Rattle.slab_codec.specs.Grammar.{IsSlabSector}
 use Rattle.slab_codec.specs.declared.forms.SlabEntry.{SlabEntry}
 use Rattle.recovery_laws.specs.Kept.{AreKept, IsRecovered, SayTheSame, image_in, recovered_super}
-use Rattle.recovery_laws.specs.Written.{AreOthersKept}
+use Rattle.recovery_laws.specs.Written.{AreOthersKept, AreRestKept}
 use Rattle.recovery_laws.proofs.CountsKept.{stores_counter}
 
 -- An image says the same as itself.
@@ -90,8 +90,11 @@ other_count same =
 pub others_kept : (image : Image) → AreOthersKept image image.blocks
 others_kept image b behind below no_page no_counters = refl
 
+pub rest_kept : (image : Image) → AreRestKept image image.blocks
+rest_kept image slab n is below offset behind sector_is = inr refl
+
 pub kept_by_itself : (blocks : Blocks) (sound : IsSound blocks) → AreKept (image_in blocks sound) blocks
-kept_by_itself blocks sound = record { sound = sound; same = same_as_itself (image_in blocks sound); others = others_kept (image_in blocks sound) }
+kept_by_itself blocks sound = record { sound = sound; same = same_as_itself (image_in blocks sound); others = others_kept (image_in blocks sound); rest = rest_kept (image_in blocks sound) }
 
 kept_by_nothing : (image : Image) → AreKept image [] → ⊥
 kept_by_nothing image kept = let accepted = kept.sound.opens.accepted in absurd (cc accepted)

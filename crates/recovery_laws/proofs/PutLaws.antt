@@ -164,6 +164,7 @@ module _ (blocks : Blocks) (sound : IsSound blocks) (named : sound.head.geometry
                 let counter = counter_is_stored image place was.0 none_here was.1 in
                 subst (λ (k : ℕ). Stores image place (Ok k))
                 (sym counter ∙ ap (number_at 1 (8 + place.offset % counters_per_sector g)) bytes_are) was.1;
+            rest = λ offset behind sector_is. inr refl;
           }
 
       pub block_already : IsFullBlock b (block_at blocks b)

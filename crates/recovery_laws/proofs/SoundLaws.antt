@@ -1,9 +1,9 @@
 -- While an image is recovered, and afterwards, it is sound and says the same.
-use Rattle.std.proofs.Common.{ℕ, ◌≡◌, ◌+◌, ◌*◌, ◌<◌, ◌≤◌, Bool, false, IsTrue, List, [], length, get_or, Contains, All, Some, Ok, refl, sym, ◌∙◌, ap, subst, inl, inr, arith}
+use Rattle.std.proofs.Common.{ℕ, ◌≡◌, ◌+◌, ◌*◌, ◌%◌, ◌<◌, ◌≤◌, Bool, false, IsTrue, List, [], length, get_or, Contains, All, Some, Ok, refl, sym, ◌∙◌, ap, subst, inl, inr, arith}
 use Rattle.plain_laws.proofs.OptionLaws.{option_cases, some_is}
 use Rattle.std.proofs.Math.Nat.{mod-lt}
 use Rattle.std.proofs.lemmas.Bool.{cases_lt}
-use Rattle.blk_base.specs.Counters.{sector_of_offset, sectors_per_slab}
+use Rattle.blk_base.specs.Counters.{counters_per_sector, sector_of_offset, sectors_per_slab}
 use Rattle.blk_base.specs.Points.{point_of}
 use Rattle.blk_base.specs.Regions.{journal_slot_of, needed_blocks, references_of}
 use Rattle.blk_base.specs.Sectors.{sector, zero_block}
@@ -31,7 +31,7 @@ use Rattle.journal_codec.specs.Grammar.{IsSector}
 use Rattle.replay_counts.specs.Recovered.{IsInSector}
 use Rattle.slab_codec.specs.declared.forms.SlabEntry.{SlabEntry}
 use Rattle.recovery_laws.specs.Kept.{AreKept, IsRecovered, SayTheSame, recovered_super}
-use Rattle.recovery_laws.specs.Written.{AreFull, AreOthersKept, AreUnderway, IsFullSector}
+use Rattle.recovery_laws.specs.Written.{AreFull, AreOthersKept, AreRestKept, AreUnderway, IsFullSector, IsOldSector, IsRestKept}
 use Rattle.recovery_laws.proofs.CountsKept.{full_none, sector_inside, sectors_inside, stores_full, stores_same}
 use Rattle.recovery_laws.proofs.OldLaws.{says_own, says_put}
 use Rattle.recovery_laws.proofs.SameMapLaws.{same_map, same_mapping, same_mappings, same_page, still_unshared}
@@ -66,6 +66,9 @@ module _ (blocks blocks' : Blocks) (sound : IsSound blocks) where
     | inl same ↦ let early = sound.timely.commits slab n is below in omega (arith, same, early)
     | inr (raised, reached) ↦ applied_early slab n (number_at 8 0 bytes) is reached
   ]
+
+  old_rest : (slab n : ℕ) (bytes : List ℕ) → IsOldSector here slab n bytes → IsRestKept here slab n bytes
+  old_rest slab n bytes same offset behind sector_is = inr (ap (number_at 1 (8 + offset % counters_per_sector g)) same)
 
   -- What is the same whatever the window is afterwards, where each linked page says the same and each count is stored.
   module _ (window' : List CommittedEntry) where
@@ -180,6 +183,12 @@ module _ (blocks blocks' : Blocks) (sound : IsSound blocks) where
       sectors = sectors_early underway.size underway.others;
     }
 
+    part_rest : AreRestKept here blocks'
+    part_rest slab n is below = elim (underway.counters slab n is below) [
+      | inl same ↦ old_rest slab n (reference_sector_at g blocks' slab n) same
+      | inr whole ↦ whole.rest
+    ]
+
     pub underway_is_kept : AreKept here blocks'
     underway_is_kept = record {
       sound = record {
@@ -196,6 +205,7 @@ module _ (blocks blocks' : Blocks) (sound : IsSound blocks) where
       };
       same = say_the_same sound.window part_says (values_kept underway.size underway.others) part_stores;
       others = underway.others;
+      rest = part_rest;
     }
 
   -- Once its superblock is written.
@@ -268,6 +278,12 @@ module _ (blocks blocks' : Blocks) (sound : IsSound blocks) where
       sectors = sectors_early full.size full.others;
     }
 
+    full_rest : AreRestKept here blocks'
+    full_rest slab n is below = elim (cases_lt n (sectors_per_slab g)) [
+      | inl inside ↦ (full.counters slab n is inside).rest
+      | inr past ↦ old_rest slab n (reference_sector_at g blocks' slab n) (full.past slab n is past below)
+    ]
+
     pub full_is_recovered : IsRecovered here sound.last blocks'
     full_is_recovered = record {
       kept = record {
@@ -285,6 +301,7 @@ module _ (blocks blocks' : Blocks) (sound : IsSound blocks) where
         };
         same = say_the_same [] full_says (values_kept full.size full.others) after_stores;
         others = full.others;
+        rest = full_rest;
       };
       closed = refl;
     }

@@ -1,5 +1,5 @@
 -- The laws of recovery as they are promised.
-use Rattle.std.proofs.Common.{ℕ, ◌≡◌, ◌⊎◌, ◌<◌, true, List, [], ◌∷◌, ◌++◌, length, refl, sym, ◌∙◌, ap, subst, arith, append_assoc}
+use Rattle.std.proofs.Common.{ℕ, ◌≡◌, ◌⊎◌, ◌<◌, true, List, [], ◌∷◌, ◌++◌, length, refl, sym, ◌∙◌, ap, subst, inl, inr, arith, append_assoc}
 use Rattle.std.specs.List.{AllByRecursion}
 use Rattle.blk_base.specs.declared.geometry.Geometry.{Geometry}
 use Rattle.disk_model.specs.declared.call.Call.{Call}
@@ -11,7 +11,7 @@ use Rattle.image_model.specs.Maps.{Image}
 use Rattle.image_model.specs.Sound.{IsDataPlace}
 use Rattle.recovery_laws.specs.Calls.{ArePuts, IsPut, recovery_calls}
 use Rattle.recovery_laws.specs.Kept.{AreKept, AreStopsKept, IsRecovered, IsToRecover, SayTheSame, image_in}
-use Rattle.recovery_laws.specs.Written.{IsCountersBlock}
+use Rattle.recovery_laws.specs.Written.{AreRestKept, IsCountersBlock}
 use Rattle.recovery_laws.proofs.CallLaws.{at_last_one, cut_kept, each_kept, failure_kept, moment_kept, part_kept}
 
 pub same_again : (old middle new : Image) → SayTheSame old middle → SayTheSame middle new → SayTheSame old new
@@ -35,6 +35,12 @@ kept_by_both old middle new first size second = record {
       second.others b behind (omega (arith, below, size)) (λ (page, at, there, same). no_page (page, at, first.same.map.pages page ∙ there, same))
       (λ counters. no_counters (subst (λ (g : Geometry). IsCountersBlock (record old { geometry = g }) b) first.same.geometry counters))
       ∙ first.others b behind below no_page no_counters;
+  rest =
+      let again : AreRestKept (record old { blocks = middle }) new = subst (λ (g : Geometry). AreRestKept (record old { geometry = g; blocks = middle }) new) first.same.geometry second.rest in
+      λ slab n is below offset behind sector_is. elim (again slab n is below offset behind sector_is) [
+        | inl none ↦ inl none
+        | inr same ↦ elim (first.rest slab n is below offset behind sector_is) [ inl none ↦ inl (same ∙ none) | inr was ↦ inr (same ∙ was) ]
+      ];
 }
 
 -- While not all writes are made.

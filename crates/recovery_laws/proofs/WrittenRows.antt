@@ -1,5 +1,6 @@
 -- What the blocks have: for each clause a case that it accepts, and one that it refuses.
-use Rattle.std.proofs.Common.{ℕ, ◌≡◌, ◌+◌, ◌%◌, ◌<◌, ◌≤◌, ◌++◌, List, [], ◌∷◌, length, replicate, get_or, Some, None, Ok, refl, ap, inl, inr, arith}
+use Rattle.std.proofs.Common.{ℕ, ◌≡◌, ◌⊎◌, ◌∙◌, ◌+◌, ◌%◌, ◌<◌, ◌≤◌, ◌++◌, List, [], ◌∷◌, length, replicate, get_or, Some, None, Ok, refl, sym, ap, inl, inr, arith}
+use Rattle.std.proofs.Math.Seq.{drop-nil}
 use Rattle.blk_base.specs.Counters.{counters_per_sector, sector_of_offset}
 use Rattle.blk_base.specs.Regions.{IndexBlock, ReferenceBlock, Root, block_of, needed_blocks}
 use Rattle.blk_base.specs.Sectors.{sector, zero_block}
@@ -8,6 +9,7 @@ use Rattle.blk_base.specs.declared.layout.DataPlace.{DataPlace}
 use Rattle.blk_base.specs.declared.place.Mapping.TheVariants.{Zero, At}
 use Rattle.blk_base.specs.declared.place.PageId.{PageId}
 use Rattle.blk_base.specs.declared.place.Pbn.{Pbn}
+use Rattle.byte_fields.proofs.FieldLaws.{number_at-drop}
 use Rattle.byte_fields.specs.Fields.{number_at}
 use Rattle.disk_model.specs.Log.{Blocks, block_at}
 use Rattle.image_model.proofs.CountLaws.{one_stored}
@@ -21,7 +23,7 @@ use Rattle.image_model.specs.Maps.{Image, IsGoodPage, head_of, page_at, put_last
 use Rattle.image_model.specs.Sound.{IsDataPlace, IsSound}
 use Rattle.replay_counts.specs.Recovered.{IsInSector}
 use Rattle.recovery_laws.specs.Kept.{AreKept, IsRecovered, image_in}
-use Rattle.recovery_laws.specs.Written.{AreFull, AreOthersKept, AreUnderway, IsCountersBlock, IsFullPage, IsFullSector, IsOldSector, IsPageBlock, IsPartPage}
+use Rattle.recovery_laws.specs.Written.{AreFull, AreOthersKept, AreRestKept, AreUnderway, IsCountersBlock, IsFullPage, IsFullSector, IsOldSector, IsPageBlock, IsPartPage, IsRestKept}
 use Rattle.recovery_laws.proofs.KeptRows.{counted_as, others_kept, stores_n}
 use Rattle.recovery_laws.proofs.OldLaws.{no_page_there, own_slot, page_stands}
 use Rattle.recovery_laws.proofs.SoundLaws.{known, room}
@@ -87,6 +89,43 @@ other_counter full =
     let one = one_stored (counted_as 2) (place 1) (Ok 3) (Ok 2) three (stores_n 2 (omega arith)) in
     absurd (cc one)
 
+-- rest: the slab has 64 blocks, and the counter of offset 64 is 0, or what it was
+abbrev with_rest : ℕ → List ℕ
+with_rest byte = 0 ∷ 4 ∷ 0 ∷ 0 ∷ 0 ∷ 0 ∷ 0 ∷ 0 ∷ 1 ∷ 2 ∷ replicate 62 0 ++ byte ∷ []
+
+abbrev rested : ℕ → Image
+rested byte = record { geometry = small; blocks = replicate 149 [] ++ with_rest byte ∷ []; window = [] }
+
+rest_is : number_at 1 72 (with_rest 1) ≡ 1
+unfolding number_at
+rest_is = refl
+
+rest_was : (byte : ℕ) → number_at 1 72 (with_rest byte) ≡ byte
+unfolding number_at
+rest_was byte = omega arith
+
+only_64 : (byte : ℕ) (bytes : List ℕ) → IsRestKept (rested byte) 0 0 bytes → (number_at 1 72 bytes ≡ 0) ⊎ (number_at 1 72 bytes ≡ byte)
+only_64 byte bytes kept = elim (kept 64 (omega arith) refl) [ inl none ↦ inl none | inr same ↦ inr (same ∙ rest_was byte) ]
+
+rest_stays : IsRestKept (rested 7) 0 0 (sector 0 (with_rest 7))
+rest_stays offset behind sector_is = inr refl
+
+no_byte : (at : ℕ) → number_at 1 at [] ≡ 0
+unfolding number_at
+no_byte at = let place : at ≡ at + 0 = omega arith in ap (λ (k : ℕ). number_at 1 k []) place ∙ sym (number_at-drop 1 0 at []) ∙ ap (number_at 1 0) (drop-nil {A = ℕ} at)
+
+rest_cleared : IsRestKept (rested 7) 0 0 []
+rest_cleared offset behind sector_is = inl (no_byte (8 + offset % 504))
+
+other_rest : AreRestKept (rested 7) (rested 1).blocks → ⊥
+other_rest kept = let one = rest_is in elim (only_64 7 (with_rest 1) (kept 0 0 (omega arith) (omega arith))) [ inl none ↦ omega (arith, none, one) | inr same ↦ omega (arith, same, one) ]
+
+rest_of_full : IsFullSector (rested 7) 0 0 (with_rest 1) → ⊥
+rest_of_full full = let one = rest_is in elim (only_64 7 (with_rest 1) full.rest) [ inl none ↦ omega (arith, none, one) | inr same ↦ omega (arith, same, one) ]
+
+rest_of_kept : AreKept (rested 7) (rested 1).blocks → ⊥
+rest_of_kept kept = other_rest kept.rest
+
 -- a full sector
 full_sector : (image : Image) (slab n : ℕ) → ((point : ℕ) → commit_at image.geometry image.blocks slab n < point → IsInSector image slab n point → ⊥)
     → ((at : DataPlace) → IsDataPlace image.geometry at → at.slab ≡ slab → sector_of_offset image.geometry at.offset ≡ n
@@ -95,6 +134,7 @@ full_sector : (image : Image) (slab n : ℕ) → ((point : ℕ) → commit_at im
 full_sector image slab n none counts = record {
   commit = record { reached = inl refl; most = λ point above is. absurd (none point above is) };
   counters = counts;
+  rest = λ offset behind sector_is. inr refl;
 }
 
 -- a sector as it was, and one with another counter

@@ -9,7 +9,7 @@ use Rattle.disk_model.specs.Log.{Blocks}
 use Rattle.image_model.specs.Counts.{Stores}
 use Rattle.image_model.specs.Maps.{Image, HaveSameMap, value_of}
 use Rattle.image_model.specs.Sound.{IsDataPlace, IsSound, image_of}
-use Rattle.recovery_laws.specs.Written.{AreOthersKept}
+use Rattle.recovery_laws.specs.Written.{AreOthersKept, AreRestKept}
 
 -- two images say the same: of the same sizes, each address has the same mapping and value, and each data block the same stored count
 pub record SayTheSame (old new : Image) : Type 0 where
@@ -20,11 +20,12 @@ pub record SayTheSame (old new : Image) : Type 0 where
 
 -- These blocks are a sound image that says the same; and each block but the superblock's, the pages' and the counters' has
 -- the bytes that it had: those of the index and of both journals, all data blocks that are no page, and all behind the
--- image.
+-- image. The counters behind the slabs' ends are 0, or what they were.
 pub record AreKept (old : Image) (blocks : Blocks) : Type 0 where
   pub sound : IsSound blocks
   pub same : SayTheSame old (image_of sound.head blocks sound.window)
   pub others : AreOthersKept old blocks
+  pub rest : AreRestKept old blocks
 
 -- Whatever a stop leaves at each moment since the log was the first one, once all these calls were made and before: the
 -- same image.

@@ -30,11 +30,20 @@ pub record IsPartPage (image : Image) (page : PageId) (at : Pbn) (bytes : List �
 
 -- Counters.
 
--- a sector of a slab's counters with all updates: its commit point is the greatest one applied to it, and its counters are the stored counts
+-- the counters of a sector that stand behind the slab's end are 0, or what they were
+abbrev pub IsRestKept : Image → ℕ → ℕ → List ℕ → Type 0
+IsRestKept image slab n bytes =
+    (offset : ℕ) → image.geometry.slab_blocks ≤ offset → sector_of_offset image.geometry offset ≡ n
+    → (number_at 1 (8 + offset % counters_per_sector image.geometry) bytes ≡ 0)
+    ⊎ (number_at 1 (8 + offset % counters_per_sector image.geometry) bytes ≡ number_at 1 (8 + offset % counters_per_sector image.geometry) (reference_sector_at image.geometry image.blocks slab n))
+
+-- a sector of a slab's counters with all updates: its commit point is the greatest one applied to it, and its counters are
+-- the stored counts
 pub record IsFullSector (image : Image) (slab n : ℕ) (bytes : List ℕ) : Type 0 where
   pub commit : IsGreatest (commit_at image.geometry image.blocks slab n) (IsInSector image slab n) (number_at 8 0 bytes)
   pub counters : (place : DataPlace) → IsDataPlace image.geometry place → place.slab ≡ slab → sector_of_offset image.geometry place.offset ≡ n
       → Stores image place (Ok (number_at 1 (8 + place.offset % counters_per_sector image.geometry) bytes))
+  pub rest : IsRestKept image slab n bytes
 
 -- a sector of a slab's counters as it was
 abbrev pub IsOldSector : Image → ℕ → ℕ → List ℕ → Type 0
@@ -54,6 +63,11 @@ IsCountersBlock image b = (slab : ℕ) × (i : ℕ) × IsPlace image.geometry (R
 abbrev pub AreOthersKept : Image → Blocks → Type 0
 AreOthersKept image blocks =
     (b : ℕ) → 1 ≤ b → b < length image.blocks → (IsPageBlock image b → ⊥) → (IsCountersBlock image b → ⊥) → block_at blocks b ≡ block_at image.blocks b
+
+-- the counters behind the slabs' ends are 0, or what they were
+abbrev pub AreRestKept : Image → Blocks → Type 0
+AreRestKept image blocks =
+    (slab n : ℕ) → slab < image.geometry.slabs → n < 8 * references_of image.geometry → IsRestKept image slab n (reference_sector_at image.geometry blocks slab n)
 
 -- While an image is recovered: its superblock's fields are what they were, each page says the same with the window, and
 -- each sector of counters is as it was or has all updates.
