@@ -14,7 +14,7 @@ use Rattle.blk_base.specs.Limits.{IsGeometry}
 use Rattle.image_model.specs.Counts.{Stores, mapped_below}
 use Rattle.image_model.specs.Maps.{Image, ArePagesGood, mapping_of, page_at}
 use Rattle.image_model.specs.Pages.{address_count}
-use Rattle.image_model.specs.Sound.{IsDataPlace, image_of}
+use Rattle.image_model.specs.Sound.{AreUnshared, IsDataPlace, image_of}
 use Rattle.image_model.specs.declared.fault.ImageFault.{ImageFault}
 use Rattle.image_model.specs.declared.fault.ImageFault.TheVariants.{Super, Window, Page, Counter, SharedPage, Counts, Device, Unclean, Memory}
 use Rattle.blk_base.specs.declared.place.Pbn.{Pbn}
@@ -154,12 +154,13 @@ report_ok (Ok report) A B C P a b c follows = follows report a b c
 report_ok (Err e) A B C P a b c follows = tt
 
 pub report_with : (image : Image) (g : Geometry) (links : List Link) (mapped : List Pbn) (stored tallies : List ℕ) (report : Report) → image.geometry ≡ g → IsGeometry g
+    → ArePagesGood image → AreUnshared image
     → ((link : Link) → Contains links link ↔ ((link.page.level + 1 < image.geometry.height) × (page_at image link.page ≡ Some link.at)))
     → ((block : Pbn) → times block mapped ≡ mapped_below (mapping_of image) block (address_count image.geometry))
     → length stored ≡ all_blocks image.geometry
     → ((place : DataPlace) → IsDataPlace image.geometry place → Stores image place (Ok (slice_index stored (block_number image.geometry place))))
     → AreTallied g links mapped tallies → report.differs.items ≡ differences_below g stored tallies (all_blocks g) → report.used ≡ used_in stored → report.total ≡ all_blocks g
     → IsReport image report
-report_with image g links mapped stored tallies report same sizes all_links all_mapped size counts tallied list used all =
+report_with image g links mapped stored tallies report same sizes pages unshared all_links all_mapped size counts tallied list used all =
     is_report image (subst IsGeometry (sym same) sizes) links mapped stored tallies all_links all_mapped size counts (subst (λ (h : Geometry). AreTallied h links mapped tallies) (sym same) tallied)
-    report (list ∙ ap (λ (h : Geometry). differences_below h stored tallies (all_blocks h)) (sym same)) used (all ∙ ap all_blocks (sym same))
+    report pages unshared (list ∙ ap (λ (h : Geometry). differences_below h stored tallies (all_blocks h)) (sym same)) used (all ∙ ap all_blocks (sym same))

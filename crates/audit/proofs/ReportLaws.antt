@@ -14,9 +14,9 @@ use Rattle.count_updates.proofs.NumberLaws.{before_is_earlier, block_inside, ear
 use Rattle.count_updates.specs.Numbers.{all_blocks, block_number}
 use Rattle.image_model.proofs.CountLaws.{is_first_or_behind, none_in_nothing, one_number, one_stored}
 use Rattle.image_model.specs.Counts.{HasMappings, Stores, block_of_data, mapped_below}
-use Rattle.image_model.specs.Maps.{Image, mapping_of, page_at}
+use Rattle.image_model.specs.Maps.{Image, ArePagesGood, mapping_of, page_at}
 use Rattle.image_model.specs.Pages.{address_count}
-use Rattle.image_model.specs.Sound.{IsDataPlace}
+use Rattle.image_model.specs.Sound.{AreUnshared, IsDataPlace}
 use Rattle.plain_laws.proofs.ListLaws.{every-append}
 use Rattle.replay_map.specs.Replayed.{times}
 use Rattle.replay_map.specs.declared.links.Link.{Link}
@@ -200,8 +200,10 @@ module _ (image : Image) (sizes : IsGeometry image.geometry) (links : List Link)
       subst (Contains (differences_below g stored tallies (all_blocks g))) row
       (list_there g sizes stored tallies (all_blocks g) n below (λ same. is.apart (stored_is ∙ same ∙ sym mapped_is)))
 
-  pub is_report : (report : Report) → report.differs.items ≡ differences_below g stored tallies (all_blocks g) → report.used ≡ used_in stored → report.total ≡ all_blocks g → IsReport image report
-  is_report report list used all = record {
+  pub is_report : (report : Report) → ArePagesGood image → AreUnshared image → report.differs.items ≡ differences_below g stored tallies (all_blocks g)
+      → report.used ≡ used_in stored → report.total ≡ all_blocks g → IsReport image report
+  is_report report pages unshared list used all = record {
+    right = record { pages = pages; stored = λ place inside. (slice_index stored (block_number g place), counts place inside); unshared = unshared };
     each = λ d. (
       λ has. differs_there d (subst (λ (ds : List Difference). Contains ds d) list has),
       λ is. subst (λ (ds : List Difference). Contains ds d) (sym list) (listed_there d is),

@@ -9,13 +9,14 @@ use Rattle.disk_model.specs.Seen.{Seen}
 use Rattle.disk_model.specs.Since.{reads_of}
 use Rattle.image_model.proofs.CountLaws.{none_in_nothing}
 use Rattle.image_model.proofs.Example.{pbn, small}
-use Rattle.image_model.specs.Maps.{Image}
+use Rattle.image_model.specs.Maps.{Image, ArePagesGood}
+use Rattle.image_model.specs.Sound.{AreStored, AreUnshared}
 use Rattle.image_model.specs.declared.fault.ImageFault.TheVariants.{Window, Counts, Unclean}
 use Rattle.journal_window.specs.States.{WindowState}
 use Rattle.replay_map.specs.declared.links.Link.{Link}
 use Rattle.audit.specs.Audits.{AreBothRead, AuditWithFails, IsOpenedTo}
 use Rattle.audit.specs.Reads.{AreContents}
-use Rattle.audit.specs.Reports.{AreRising, AreUsed, Differs, IsReport}
+use Rattle.audit.specs.Reports.{AreRising, AreUsed, Differs, HasNoFault, IsReport}
 use Rattle.audit.specs.Tallies.{AreTallied, IsChanged, IsLinked, Tallies, differences_below, place_of_number, used_in}
 use Rattle.audit.specs.declared.forms.Contents.{Contents}
 use Rattle.audit.specs.declared.forms.Difference.{Difference}
@@ -120,6 +121,19 @@ used_of_none image used same are none =
 -- sum: and so many
 used_otherwise : (image : Image) → (are : AreUsed image 3) → are.counts ≡ 0 ∷ 3 ∷ 1 ∷ [] → ⊥
 used_otherwise image are same = let sum = are.sum ∙ ap used_in same in omega (arith, sum)
+
+-- right: there is none of an image with a fault of its pages, of its counts, or of a block that is shared
+right_of_all : (image : Image) → ArePagesGood image → AreStored image → AreUnshared image → HasNoFault image
+right_of_all image pages stored unshared = record { pages = pages; stored = stored; unshared = unshared }
+
+of_bad_pages : (image : Image) (report : Report) → (ArePagesGood image → ⊥) → IsReport image report → ⊥
+of_bad_pages image report bad is = bad is.right.pages
+
+of_bad_counts : (image : Image) (report : Report) → (AreStored image → ⊥) → IsReport image report → ⊥
+of_bad_counts image report bad is = bad is.right.stored
+
+of_shared_blocks : (image : Image) (report : Report) → (AreUnshared image → ⊥) → IsReport image report → ⊥
+of_shared_blocks image report shared is = shared is.right.unshared
 
 -- each: a block that differs is listed, and no other
 left_out : (image : Image) (report : Report) (difference : Difference) → Differs image difference → report.differs.items ≡ [] → IsReport image report → ⊥

@@ -1,15 +1,19 @@
 -- Rows that pin what an image says of itself: for each clause a case that it accepts, and one that breaks it alone.
 use Rattle.std.proofs.Common.{ℕ, ◌≡◌, Bool, true, false, List, [], ◌∷◌, length, reverse, Option, Some, refl, ap, subst, arith, length-append}
 use Rattle.audit.specs.Audits.{BothShow, IsOpenedTo}
-use Rattle.audit.specs.Reports.{AreUsed}
+use Rattle.audit.specs.Reports.{AreUsed, HasNoFault}
 use Rattle.blk_base.specs.Regions.{first_index_of}
 use Rattle.blk_base.specs.declared.geometry.Geometry.{Geometry}
 use Rattle.blk_base.specs.declared.geometry.Super.{Super}
 use Rattle.count_updates.specs.Numbers.{all_blocks}
+use Rattle.disk_model.specs.Log.{Blocks}
 use Rattle.disk_model.specs.Seen.{Seen}
 use Rattle.disk_model.specs.Since.{reads_of}
+use Rattle.image_model.specs.Sound.{image_of}
 use Rattle.index_advice.specs.Books.{Book}
 use Rattle.journal_window.specs.States.{WindowState}
+use Rattle.replay_counts.specs.Recovered.{Holds}
+use Rattle.replay_map.specs.Reads.{Shows}
 use Rattle.uds_chapters.specs.Chapters.{Numbered}
 use Rattle.uds_index.specs.Loads.{IsLoadedBook, ReadEach}
 use Rattle.image_status.specs.Statuses.{HasChapters, IsStatusRead, IsStatusWith}
@@ -31,10 +35,20 @@ module _ (tells honest : Bool) (head : Super) (window : WindowState) (before mid
     two_chapters kept = record { reads = reads; count = count; each = each; book = book; loaded = loaded; chapters_are = let size = ap length kept in omega (arith, size) }
 
     -- the space that each such image has
-    module _ (used total : ℕ) (space : BothShow tells honest head window before middle (λ image. AreUsed image used × (total ≡ all_blocks image.geometry))) where
+    module _ (used total : ℕ) (space : BothShow tells honest head window before middle (λ image. HasNoFault image × AreUsed image used × (total ≡ all_blocks image.geometry))) where
       its_status : IsStatusWith tells honest head window before now
           (record { clean = head.clean; entries = length window.entries; chapters = length book.kept; used = used; total = total; logical = head.geometry.logical })
       its_status = record { middle = middle; space = space; chapters = its_chapters; clean = refl; entries = refl; logical = refl }
+
+  -- space: an image that has what was read has no fault
+  of_a_faulty_image : (status : ImageStatus) (blocks : Blocks) → (HasNoFault (image_of head blocks window.entries) → ⊥) → (is : IsStatusWith tells honest head window before now status)
+      → Shows blocks is.space.0 → Holds head.geometry blocks is.space.1 → ⊥
+  of_a_faulty_image status blocks faulty is shows holds = faulty (is.space.3 blocks shows holds).0
+
+  -- and so many used blocks
+  of_other_used_blocks : (status : ImageStatus) (blocks : Blocks) → (AreUsed (image_of head blocks window.entries) status.used → ⊥) → (is : IsStatusWith tells honest head window before now status)
+      → Shows blocks is.space.0 → Holds head.geometry blocks is.space.1 → ⊥
+  of_other_used_blocks status blocks other is shows holds = other (is.space.3 blocks shows holds).1
 
   -- another number of chapters than the book has
   other_chapters : (has : HasChapters tells honest head.geometry middle now 1) → has.book.kept ≡ chapter 5 ∷ chapter 4 ∷ [] → ⊥
@@ -58,7 +72,7 @@ none_read tells honest g before now chapters four has none = let count = has.cou
 not_read : (honest : Bool) (g : Geometry) (seen : Seen) (chapters : ℕ) (bytes : List ℕ) → (has : HasChapters true honest g seen seen chapters) → has.reads ≡ Some bytes ∷ [] → ⊥
 not_read honest g seen chapters bytes has one =
     let each = subst (λ (reads : List (Option (List ℕ))). ReadEach true honest (first_index_of g) seen seen reads) one has.each in
-    let logged = ap length (each.1.1 refl) in
+    let logged = ap length (each.1.gave.1 refl) in
     let same = ap (λ (s : Seen). length s.log) each.2 in
     omega (arith, logged, same)
 

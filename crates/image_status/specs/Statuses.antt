@@ -1,7 +1,7 @@
 -- What an image says of itself: by what the reads gave.
 use Rattle.std.specs.Prelude.{ℕ, ◌≡◌, Bool, List, length, Option}
 use Rattle.audit.specs.Audits.{BothShow, IsOpenedTo}
-use Rattle.audit.specs.Reports.{AreUsed}
+use Rattle.audit.specs.Reports.{AreUsed, HasNoFault}
 use Rattle.blk_base.specs.Regions.{first_index_of}
 use Rattle.blk_base.specs.declared.geometry.Geometry.{Geometry}
 use Rattle.blk_base.specs.declared.geometry.Super.{Super}
@@ -23,10 +23,10 @@ pub record HasChapters (tells honest : Bool) (g : Geometry) (before now : Seen) 
   pub chapters_are : chapters ≡ length book.kept
 
 -- From the superblock and the window on: pages and slabs were read, and then the index. Each image with this window that has
--- what was read has so many used data blocks, and so many in all.
+-- what was read has no fault, so many used data blocks, and so many in all.
 pub record IsStatusWith (tells honest : Bool) (head : Super) (window : WindowState) (before now : Seen) (status : ImageStatus) : Type 0 where
   pub middle : Seen
-  pub space : BothShow tells honest head window before middle (λ image. AreUsed image status.used × (status.total ≡ all_blocks image.geometry))
+  pub space : BothShow tells honest head window before middle (λ image. HasNoFault image × AreUsed image status.used × (status.total ≡ all_blocks image.geometry))
   pub chapters : HasChapters tells honest head.geometry middle now status.chapters
   pub clean : status.clean ≡ head.clean
   pub entries : status.entries ≡ length window.entries

@@ -1,5 +1,7 @@
 -- How a recovery ends: for each clause a small case that it accepts, and one that breaks it and is refused.
 use Rattle.std.proofs.Common.{ℕ, ◌≡◌, ◌+◌, ◌≤◌, Bool, true, false, List, [], ◌∷◌, ◌++◌, length, length-append, reverse, Ok, Err, refl, sym, ap, subst, inl, inr, arith}
+use Rattle.audit.specs.Audits.{BothShow}
+use Rattle.audit.specs.Reports.{HasNoFault}
 use Rattle.blk_base.specs.declared.geometry.Geometry.{Geometry}
 use Rattle.blk_base.specs.declared.geometry.Super.{Super as Superblock}
 use Rattle.blk_base.specs.declared.journal_entry.Entry.TheVariants.{NewPage}
@@ -18,7 +20,7 @@ use Rattle.image_model.proofs.Example.{pbn, small}
 use Rattle.image_model.proofs.MapRows.{logged, page, root, with_root}
 use Rattle.image_model.proofs.WindowLaws.{one_last, one_window}
 use Rattle.image_model.specs.Maps.{Image}
-use Rattle.image_model.specs.Sound.{IsSound}
+use Rattle.image_model.specs.Sound.{IsSound, image_of}
 use Rattle.image_model.specs.Windows.{IsFaulty}
 use Rattle.image_model.specs.declared.fault.ImageFault.{ImageFault}
 use Rattle.image_model.specs.declared.fault.ImageFault.TheVariants.{Super, Window, Counts, Device, Unclean, Memory}
@@ -27,19 +29,23 @@ use Rattle.journal_window.specs.Windows.{IsWindowOf}
 use Rattle.recovery_laws.proofs.KeptRows.{kept_by_itself}
 use Rattle.recovery_laws.specs.Calls.{ArePuts, recovery_calls}
 use Rattle.recovery_laws.specs.Kept.{AreKept, image_in}
+use Rattle.replay_counts.specs.Recovered.{Holds}
+use Rattle.replay_map.specs.Reads.{Shows}
 use Rattle.rebuild.proofs.ActLaws.{none_made}
 use Rattle.rebuild.proofs.ReadExample.{head_of, next_failed, no_entries, seen_failed, window_is_read, window_of_none, without_journal}
 use Rattle.rebuild.proofs.Rows.{flushed, none_flushed, seen}
-use Rattle.rebuild.proofs.ShownLaws.{audit_rose, rose_behind}
+use Rattle.rebuild.proofs.ShownLaws.{audit_rose, both_logged, both_read, rose_behind}
 use Rattle.rebuild.specs.Acts.{IsStart}
 use Rattle.rebuild.specs.Outcomes.{Ends, HasEntries, IsAllMade, IsKeptSince, RecoversUnclean, UncleanFails, WritesAll, WritesNothing}
 
 -- The length of a window: that of a journal of zeros is 0, and that of a journal without slots isn't 1.
-pub none_of_zeros : (honest clean : Bool) → HasEntries false honest (head_of clean) seen seen 0
-none_of_zeros honest clean = record {
+pub none_of_zeros : (honest clean : Bool) → BothShow false honest (head_of clean) no_entries seen seen HasNoFault → HasEntries false honest (head_of clean) seen seen 0
+none_of_zeros honest clean right = record {
   middle = seen;
+  behind = seen;
   window = no_entries;
   read = window_is_read honest clean;
+  right = right;
   stays = record { opening = refl; size = refl };
   later = record { faults = omega arith; unkept = omega arith };
   grows = λ told. absurd (cc told);
@@ -60,15 +66,29 @@ entries_without_log honest head count has =
     let reads = ap length (has.read.1.read.logged refl) in
     let more = ap length (has.grows refl).1 in
     let first = length-append (reads_of 1 (reverse has.read.0)) flushed.log in
-    let second = length-append (has.grows refl).0 has.middle.log in
-    omega (arith, reads, more, first, second)
+    let second = length-append (has.grows refl).0 has.behind.log in
+    let goes_on = both_logged honest head has.window has.middle has.behind HasNoFault has.right in
+    let third = ap length goes_on.1 in
+    let fourth = length-append goes_on.0 has.middle.log in
+    omega (arith, reads, more, first, second, third, fourth)
 
 -- stays, later: and it is that device, of which no count fell
 entries_of_other_size : (honest : Bool) (head : Superblock) (count : ℕ) → HasEntries false honest head seen (record seen { size = 3 }) count → ⊥
-entries_of_other_size honest head count has = let size = has.stays.size in let first = has.read.1.read.stays.size in omega (arith, size, first)
+entries_of_other_size honest head count has =
+    let size = has.stays.size in
+    let first = has.read.1.read.stays.size in
+    let second = (both_read false honest head has.window has.middle has.behind HasNoFault has.right).stays.size in omega (arith, size, first, second)
 
 entries_with_fewer_faults : (honest : Bool) (head : Superblock) (count : ℕ) → HasEntries false honest head seen_failed seen count → ⊥
-entries_with_fewer_faults honest head count has = let less = has.later.faults in let first = has.read.1.read.later.faults in omega (arith, less, first)
+entries_with_fewer_faults honest head count has =
+    let less = has.later.faults in
+    let first = has.read.1.read.later.faults in
+    let second = (both_read false honest head has.window has.middle has.behind HasNoFault has.right).later.faults in omega (arith, less, first, second)
+
+-- right: an image that has what was read has no fault
+entries_of_a_faulty_image : (tells honest : Bool) (head : Superblock) (before now : Seen) (count : ℕ) (blocks : Blocks) (has : HasEntries tells honest head before now count)
+    → (HasNoFault (image_of head blocks has.window.entries) → ⊥) → Shows blocks has.right.0 → Holds head.geometry blocks has.right.1 → ⊥
+entries_of_a_faulty_image tells honest head before now count blocks has faulty shows holds = faulty (has.right.3 blocks shows holds)
 
 -- Why an image isn't recovered. The journal isn't read; or it is, and the map or the counts aren't; or a call failed.
 journal_failed : (honest : Bool) → UncleanFails false honest (head_of false) seen seen_failed Device
@@ -253,12 +273,12 @@ failed_for_nothing : (honest : Bool) (last : ℕ) (fault : Failed) → WritesAll
 failed_for_nothing honest last fault writes = let rose = writes.rose in omega (arith, rose)
 
 -- The whole, of a device that doesn't tell: an answer, and a refusal.
-unclean_recovered : (honest : Bool) → RecoversUnclean false honest (head_of false) seen seen (Ok 0)
-unclean_recovered honest = record {
+unclean_recovered : (honest : Bool) → BothShow false honest (head_of false) no_entries seen seen HasNoFault → RecoversUnclean false honest (head_of false) seen seen (Ok 0)
+unclean_recovered honest right = record {
   stays = record { opening = refl; size = refl };
   later = record { faults = omega arith; unkept = omega arith };
   grows = λ told. absurd (cc told);
-  entries = none_of_zeros honest false;
+  entries = none_of_zeros honest false right;
   fails = tt;
   nothing = tt;
   ends = λ first blocks start untouched accepted. let told = start.told in absurd (cc told);

@@ -1,6 +1,8 @@
 -- What is promised of a recovery: for each clause that `Rows` hasn't, a small case that it accepts, and one that breaks it
 -- and is refused.
 use Rattle.std.proofs.Common.{ℕ, zero, suc, ◌≡◌, ◌<◌, ◌^◌, Bool, true, false, List, [], ◌∷◌, ◌++◌, length, length-append, replicate, reverse, Ok, Err, refl, sym, ◌∙◌, ap, subst, inl, inr, arith}
+use Rattle.audit.specs.Audits.{BothShow}
+use Rattle.audit.specs.Reports.{HasNoFault}
 use Rattle.blk_base.specs.Regions.{Place, JournalSlot, IsPlace, block_of}
 use Rattle.blk_base.specs.Sectors.{zero_block}
 use Rattle.blk_base.specs.declared.geometry.Geometry.{Geometry}
@@ -29,7 +31,8 @@ use Rattle.recovery_laws.specs.Calls.{recovery_calls}
 use Rattle.recovery_laws.specs.Kept.{IsRecovered, image_in}
 use Rattle.rebuild.proofs.KeptLaws.{image_alike, opened_alike}
 use Rattle.rebuild.proofs.OutcomeRows.{kept_yet, never_unclean, none_of_zeros, opened}
-use Rattle.rebuild.proofs.ReadExample.{head_is_read, head_of, next_failed, says_head, seen_failed, super_size, zero_size}
+use Rattle.rebuild.proofs.ReadExample.{head_is_read, head_of, next_failed, no_entries, says_head, seen_failed, super_size, zero_size}
+use Rattle.rebuild.proofs.ShownLaws.{both_logged}
 use Rattle.rebuild.proofs.Rows.{flushed, none_flushed, seen}
 use Rattle.rebuild.specs.Recoveries.{Answers, AreStopsSound, IsAnswer, IsRecovery, IsRefusal, IsResult, IsTold, IsUnclean, LeavesClosed, RecoverFails}
 use Rattle.rebuild.specs.declared.forms.Recovered.TheVariants.{Clean, Entries}
@@ -62,8 +65,8 @@ unclean_isnt_clean now (head, read, clean, untouched) =
     let same = ap (λ (h : Superblock). h.clean) (head_there false now head read) in absurd (cc (same, clean))
 
 -- Entries: it says that the session wasn't closed, and the window has so many
-zeros_read : (honest : Bool) → Answers false honest seen seen (Entries 0)
-zeros_read honest = (head_of false, seen, head_is_read honest false, refl, none_of_zeros honest false)
+zeros_read : (honest : Bool) → BothShow false honest (head_of false) no_entries seen seen HasNoFault → Answers false honest seen seen (Entries 0)
+zeros_read honest right = (head_of false, seen, head_is_read honest false, refl, none_of_zeros honest false right)
 
 -- and both reads stand in the log of a device that tells
 entries_unread : (honest : Bool) (now : Seen) (count : ℕ) → Answers true honest now now (Entries count) → ⊥
@@ -72,8 +75,11 @@ entries_unread honest now count (head, middle, read, unclean, has) =
     let journal = ap length (has.read.1.read.logged refl) in
     let more = ap length (has.grows refl).1 in
     let second = length-append (reads_of 1 (reverse has.read.0)) middle.log in
-    let third = length-append (has.grows refl).0 has.middle.log in
-    omega (arith, first, journal, more, second, third)
+    let third = length-append (has.grows refl).0 has.behind.log in
+    let goes_on = both_logged honest head has.window has.middle has.behind HasNoFault has.right in
+    let fourth = ap length goes_on.1 in
+    let fifth = length-append goes_on.0 has.middle.log in
+    omega (arith, first, journal, more, second, third, fourth, fifth)
 
 clean_isnt_unclean : (now : Seen) (count : ℕ) → Answers true true (with_head true) now (Entries count) → ⊥
 clean_isnt_unclean now count (head, middle, read, unclean, entries) =

@@ -1,6 +1,8 @@
 -- For each definition a small case that it accepts, and one that it refuses.
-use Rattle.std.proofs.Common.{ℕ, ◌≡◌, true, false, List, [], ◌∷◌, ◌++◌, Ok, Err, length, length-append, refl, ap, inl, inr, arith}
+use Rattle.std.proofs.Common.{ℕ, ◌≡◌, true, false, List, [], ◌∷◌, ◌++◌, Ok, Err, length, length-append, refl, ap, subst, inl, inr, arith}
+use Rattle.audit.specs.Reports.{HasNoFault}
 use Rattle.blk_base.specs.declared.geometry.Super.{Super as Superblock}
+use Rattle.blk_base.specs.declared.journal_entry.CommittedEntry.{CommittedEntry}
 use Rattle.disk_model.specs.declared.call.Call.{Call}
 use Rattle.disk_model.specs.declared.call.Call.TheVariants.{Read, Write, Flush}
 use Rattle.disk_model.specs.Log.{Blocks}
@@ -9,6 +11,7 @@ use Rattle.disk_model.specs.Since.{OnlyReads}
 use Rattle.disk_model.proofs.SinceLaws.{untouched_yet}
 use Rattle.image_model.proofs.Example.{pbn}
 use Rattle.image_model.specs.Maps.{Image}
+use Rattle.image_model.specs.Sound.{image_of}
 use Rattle.image_model.specs.declared.fault.ImageFault.TheVariants.{Device, Unclean, Memory}
 use Rattle.image_layout.specs.Opened.{super_of_image}
 use Rattle.rebuild.proofs.ActLaws.{none_made}
@@ -66,8 +69,13 @@ module _ (blocks : Blocks) (head : Superblock) (accepted : super_of_image blocks
       let same = ap (λ (h : Superblock). h.clean) (same_superblock other is) in absurd (cc (same, unclean, clean))
 
   clean_has_no_entries : (count : ℕ) → head.clean ≡ true → IsAnswer blocks (Entries count) → ⊥
-  clean_has_no_entries count clean (other, last, window, opens, unclean, number) =
+  clean_has_no_entries count clean (other, last, window, opens, unclean, number, right) =
       let same = ap (λ (h : Superblock). h.clean) (same_superblock other opens.accepted) in absurd (cc (same, unclean, clean))
+
+  -- and an image with a fault has no answer but a refusal
+  faulty_has_no_entries : (count : ℕ) → ((window : List CommittedEntry) → HasNoFault (image_of head blocks window) → ⊥) → IsAnswer blocks (Entries count) → ⊥
+  faulty_has_no_entries count faulty (other, last, window, opens, unclean, number, right) =
+      faulty window (subst (λ (h : Superblock). HasNoFault (image_of h blocks window)) (same_superblock other opens.accepted) right)
 
   -- count: as many as the window has
   clean_answer : head.clean ≡ true → IsAnswer blocks Clean

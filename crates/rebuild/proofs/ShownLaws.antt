@@ -1,9 +1,11 @@
 -- What recovery answers is what the one image of an honest device says; and why a call's failure is its cause.
-use Rattle.std.proofs.Common.{ℕ, ◌≡◌, ◌≤◌, Bool, true, false, List, [], ◌∷◌, Ok, length, reverse, refl, inl, inr, arith}
-use Rattle.audit.specs.Audits.{AuditWithFails}
+use Rattle.std.proofs.Common.{ℕ, ◌≡◌, ◌≤◌, ◌++◌, Bool, true, false, List, [], ◌∷◌, Ok, length, reverse, refl, inl, inr, arith}
+use Rattle.audit.specs.Audits.{AuditWithFails, BothShow}
+use Rattle.audit.specs.Reports.{HasNoFault}
 use Rattle.blk_base.specs.Regions.{needed_blocks}
 use Rattle.blk_base.specs.declared.geometry.Geometry.{Geometry}
 use Rattle.blk_base.specs.declared.geometry.Super.{Super as Superblock}
+use Rattle.disk_model.specs.declared.call.Call.{Call}
 use Rattle.disk_model.specs.Causes.{Rose}
 use Rattle.disk_model.specs.Images.{HasOneImage}
 use Rattle.disk_model.specs.Log.{Blocks}
@@ -12,7 +14,7 @@ use Rattle.disk_model.specs.Since.{IsUntouched}
 use Rattle.disk_model.proofs.SinceLaws.{untouched_on, untouched_yet, were_only_read}
 use Rattle.image_layout.specs.Opened.{super_of_image}
 use Rattle.image_model.specs.Faults.{IsCountFault, IsOpened, IsShareFault}
-use Rattle.image_model.specs.Maps.{ArePagesGood}
+use Rattle.image_model.specs.Maps.{Image, ArePagesGood}
 use Rattle.image_model.specs.Sound.{AreStored, Opens, image_of}
 use Rattle.image_model.specs.declared.fault.ImageFault.{ImageFault}
 use Rattle.image_model.specs.declared.fault.ImageFault.TheVariants.{Super, Window, Page, Counter, SharedPage, Counts, Device, Unclean, Memory}
@@ -40,6 +42,16 @@ slabs_later tells honest g before now [] same = rw same (untouched_yet tells bef
 slabs_later tells honest g before now (read ∷ older) (middle, earlier, is) =
     untouched_on tells before middle now (slabs_later tells honest g before middle older earlier)
     (were_only_read tells honest (first_of_slab g (length older)) middle now (reverse read) is.reads)
+
+-- pages and slabs that were read leave the device as it was
+pub both_read : (tells honest : Bool) (head : Superblock) (window : WindowState) (before now : Seen) (Says : Image → Type 0) → BothShow tells honest head window before now Says → IsUntouched tells before now
+both_read tells honest head window before now Says (pages, slabs, read, says) =
+    untouched_on tells before read.middle now (blocks_untouched tells honest head.geometry before read.middle pages read.pages_read)
+    (slabs_later tells honest head.geometry read.middle now slabs read.slabs_read.read)
+
+pub both_logged : (honest : Bool) (head : Superblock) (window : WindowState) (before now : Seen) (Says : Image → Type 0) → BothShow true honest head window before now Says
+    → (calls : List Call) × (now.log ≡ calls ++ before.log)
+both_logged honest head window before now Says shown = let reads = (both_read true honest head window before now Says shown).reads refl in (reads.0, reads.1)
 
 pub audit_rose : (tells honest : Bool) (head : Superblock) (window : WindowState) (before now : Seen) → AuditWithFails tells honest head window before now Device → Rose before.faults now.faults
 audit_rose tells honest head window before now (inl (reads, middle, at, read, failed, stands)) =
@@ -126,7 +138,15 @@ module _ (tells honest : Bool) (before : Seen) (blocks : Blocks) (is : IsTold te
     clean_answer clean = (head, accepted, clean)
 
     pub entries_answer : (now : Seen) (count : ℕ) → head.clean ≡ false → HasEntries tells honest head middle now count → IsAnswer blocks (Entries count)
-    entries_answer now count unclean has = (head, has.window.last, has.window.entries, window_opens has.middle has.window has.read, unclean, has.number)
+    entries_answer now count unclean has = (
+      head,
+      has.window.last,
+      has.window.entries,
+      window_opens has.middle has.window has.read,
+      unclean,
+      has.number,
+      both_shown tells honest blocks is.told is.fair head has.window has.middle has.behind HasNoFault (one_behind has.middle has.window has.read) (enough_behind has.middle has.window has.read) has.right,
+    )
 
   pub head_refused : (now : Seen) (why : ImageFault) → length before.opening ≡ before.size → HeadFails tells honest before now why → IsRefusal blocks before now why
   head_refused now (Super fault) told fails = head_fault tells honest before now blocks is.told is.fair is.one (Super fault) told fails

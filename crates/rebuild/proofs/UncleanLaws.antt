@@ -1,5 +1,7 @@
 -- How the recovery of an image ends whose superblock was read.
 use Rattle.std.proofs.Common.{ℕ, ◌≡◌, ◌≤◌, Bool, true, List, [], ◌∷◌, ◌++◌, Result, Ok, Err, OnErr, IsErr, IsErrAnd, reverse, refl, sym, subst, inl, inr, arith}
+use Rattle.audit.proofs.AuditLaws.{both_follow}
+use Rattle.audit.specs.Reports.{HasNoFault}
 use Rattle.blk_base.specs.Regions.{needed_blocks}
 use Rattle.blk_base.specs.declared.geometry.Geometry.{Geometry}
 use Rattle.blk_base.specs.declared.geometry.Super.{Super as Superblock}
@@ -175,11 +177,15 @@ module _ (tells honest : Bool) (head : Superblock) (before second third now : Se
     grows = grows_on tells before third now (untouched_grows tells before third all_read) writes.grows;
     entries = record {
       middle = second;
+      behind = third;
       window = window;
       read = read;
-      stays = stays_on second third now read_only.stays writes.stays;
-      later = later_on second third now read_only.later writes.later;
-      grows = grows_on tells second third now (untouched_grows tells second third read_only) writes.grows;
+      right = both_follow tells honest head window second third
+          (λ image. HasMap image contents.map × HasCounts image contents.counts.counts.items contents.counts.sectors.items) HasNoFault
+          (λ image same has. record { pages = has.0.pages; stored = λ place inside. (_, has.1.stored place inside); unshared = has.0.unshared }) is.shown;
+      stays = writes.stays;
+      later = writes.later;
+      grows = writes.grows;
       number = is.entries;
     };
     fails = tt;

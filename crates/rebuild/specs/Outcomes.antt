@@ -1,6 +1,7 @@
 -- How the recovery of an image ends whose last session wasn't closed.
 use Rattle.std.specs.Prelude.{ℕ, ◌≡◌, ◌⊎◌, Bool, List, ◌++◌, length, Result, Ok, Err, IfOk, IfErr, OnErr}
-use Rattle.audit.specs.Audits.{AuditWithFails}
+use Rattle.audit.specs.Audits.{AuditWithFails, BothShow}
+use Rattle.audit.specs.Reports.{HasNoFault}
 use Rattle.blk_base.specs.declared.geometry.Super.{Super as Superblock}
 use Rattle.disk_model.specs.declared.call.Call.{Call}
 use Rattle.disk_model.specs.declared.call.Failed.{Failed}
@@ -20,14 +21,17 @@ use Rattle.rebuild.specs.Acts.{AreMade, Grows, IsStart}
 
 -- Of any device.
 
--- The journal was read, and its window has so many entries; this is that moment, or a later one of the same device.
+-- The journal was read, and its window has so many entries; then the map and the counts were, and each image with this
+-- window that has what was read has no fault. This is that moment, or a later one of the same device.
 pub record HasEntries (tells honest : Bool) (head : Superblock) (before now : Seen) (count : ℕ) : Type 0 where
   pub middle : Seen
+  pub behind : Seen
   pub window : WindowState
   pub read : IsWindowRead tells honest before middle head window
-  pub stays : Stays middle now
-  pub later : Later middle now
-  pub grows : Grows tells middle now
+  pub right : BothShow tells honest head window middle behind HasNoFault
+  pub stays : Stays behind now
+  pub later : Later behind now
+  pub grows : Grows tells behind now
   pub number : count ≡ length window.entries
 
 -- Why an image isn't recovered whose superblock was read: its journal has no window; or it was read, and then the first

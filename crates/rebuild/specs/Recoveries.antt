@@ -1,5 +1,6 @@
 -- What is promised of the recovery of an image.
 use Rattle.std.specs.Prelude.{ℕ, ◌≡◌, ◌⊎◌, Bool, IsTrue, true, false, List, length, Result, Ok, Err, IfOk, IfErr}
+use Rattle.audit.specs.Reports.{HasNoFault}
 use Rattle.blk_base.specs.declared.geometry.Super.{Super as Superblock}
 use Rattle.blk_base.specs.declared.journal_entry.CommittedEntry.{CommittedEntry}
 use Rattle.disk_model.specs.Causes.{Rose}
@@ -9,7 +10,7 @@ use Rattle.disk_model.specs.Seen.{Later, Seen, Stays}
 use Rattle.disk_model.specs.Since.{IsUntouched}
 use Rattle.image_layout.specs.Opened.{super_of_image}
 use Rattle.image_model.specs.Faults.{IsImageFault}
-use Rattle.image_model.specs.Sound.{IsSound, Opens}
+use Rattle.image_model.specs.Sound.{IsSound, Opens, image_of}
 use Rattle.image_model.specs.declared.fault.ImageFault.{ImageFault}
 use Rattle.image_model.specs.declared.fault.ImageFault.TheVariants.{Super, Window, Page, Counter, SharedPage, Counts, Device, Unclean, Memory}
 use Rattle.image_opening.specs.Heads.{HeadFails, IsHeadRead}
@@ -36,11 +37,12 @@ RecoverFails tells honest before now why =
 
 -- Of an honest device on which nothing is pending: by its one image.
 
--- what it answers
+-- what it answers: of an image that wasn't closed it has none of the faults
 abbrev pub IsAnswer : Blocks → Recovered → Type 0
 IsAnswer blocks Clean = (head : Superblock) × (super_of_image blocks ≡ Ok head) × (head.clean ≡ true)
 IsAnswer blocks (Entries count) =
     (head : Superblock) × (last : ℕ) × (window : List CommittedEntry) × Opens blocks head last window × (head.clean ≡ false) × (count ≡ length window)
+    × HasNoFault (image_of head blocks window)
 
 -- the image has this superblock, which says that the last session wasn't closed
 abbrev pub IsUnclean : Blocks → Type 0

@@ -9,4 +9,4 @@ returns-clause-report c =
     report_ok c.compare.result _ _ _ _ c.compare.ensures.differs c.compare.ensures.used c.compare.ensures.total
     (λ report list used all. λ image same map has.
     report_with image g c.args.map.now.links.items c.args.map.now.mapped.items c.args.counts.now.counts.items c.in_ok-mapped.mapped.items report same c.args.layout.now.sizes
-    map.links map.mapped has.blocks has.stored tallied (rw (c.deref-3.ensures.value, c.deref-4.ensures.value) at list) (rw c.deref-3.ensures.value at used) all)
+    map.pages map.unshared map.links map.mapped has.blocks has.stored tallied (rw (c.deref-3.ensures.value, c.deref-4.ensures.value) at list) (rw c.deref-3.ensures.value at used) all)
