@@ -98,7 +98,7 @@ module _ (s : Session) (core : Core) (legal : Legal s core) (n : ℕ) (z : Zone)
     blocks_within j keeps = let same = (own_ok (at.Journal j) keeps).lists.blocks_is in omega (arith, same, blocks_few s core.trace legal.right, session.sizes.journal.1)
 
     pub filling_within : (j : JournalZone) → z.keeps ≡ at.Journal j → length j.filling ≤ 192
-    filling_within j keeps = (own_ok (at.Journal j) keeps).sound
+    filling_within j keeps = (own_ok (at.Journal j) keeps).sound.0
 
     pub entered_within : (j : JournalZone) → z.keeps ≡ at.Journal j → length j.entered ≤ most_requests
     entered_within j keeps = let same = ap length (own_ok (at.Journal j) keeps).lists.entered_is in omega (arith, same, trace_few)

@@ -48,11 +48,11 @@ use Rattle.core_model.specs.JournalRows.{is_closed}
 use Rattle.core_model.specs.LogicalRows.{is_among, is_held, mapped_by}
 use Rattle.core_model.specs.Phases.{row, number_at, stage_row}
 use Rattle.core_model.specs.Zones.{zone_number, zone_count, notified_zones}
-use Rattle.core_model.specs.RightTraces.{IsOpen, IsPending, MapsTo, Quiet, IsCommitted, AllBelow, HasPlace, HasBelow, HasCause}
+use Rattle.core_model.specs.RightTraces.{IsOpen, IsPending, MapsTo, NeedsBlock, Quiet, IsCommitted, AllBelow, HasPlace, HasBelow, HasCause}
 use Rattle.core_model.specs.Sessions.{Session, HasHonestReads, IsFresh, OnBlock, NewReads, NewStands, ReadsAs, AtRest, OnItsWay, ReadsBlock, value_at}
 use Rattle.plain_laws.specs.Sums.{total, Each}
 use Rattle.core_model.specs.Tokens.{lock_weight}
-use Rattle.core_model.specs.Trace.{Trace, all_of, filled, sealed, moments, lines, calls, marks, places, entered, committed, done, aborted, taken, has_stopped, of_address, newest, logged_of, entries_of}
+use Rattle.core_model.specs.Trace.{Trace, all_of, filled, sealed, moments, lines, calls, marks, places, entered, committed, done, aborted, taken, has_taken, has_stopped, of_address, newest, logged_of, entries_of}
 use Rattle.core_model.specs.Vios.{all_logged, asked, request_of, logged}
 
 -- the number of the zone where a phase, and a stage, is done
@@ -89,11 +89,12 @@ IsChange Write = Unit {0}
 IsChange Discard = Unit {0}
 IsChange other = ⊥
 
--- a request for a block that drew no place yet
+-- a request for a block that drew no place yet, and took no block
 pub record IsUndrawn (t : Trace) (w : Writer) (asks : Asks) : Type 0 where
   pub for_block : IsForBlock asks
   pub unplaced : IsNone (place_of (places t) w)
   pub not_entered : IsNone (logged_of (entered t) w)
+  pub none_taken : has_taken t w ≡ false
 
 -- one that has its place, and whose entry wasn't handed in
 pub record IsDrawn (s : Session) (t : Trace) (w : Writer) (asks : Asks) (a place : ℕ) : Type 0 where
@@ -170,8 +171,8 @@ IsToInside s other = ⊥
 -- What a request carries in each phase.
 abbrev pub Carries : Session → Trace → Vio → Phase → Type 0
 Carries s t v phase.Arrive = IsUndrawn t v.request v.asks
-Carries s t v phase.Wait = IsPlaced s t v
-Carries s t v phase.Claim = Holds s t v × (v.asks ≡ Write)
+Carries s t v phase.Wait = IsPlaced s t v × (has_taken t v.request ≡ false)
+Carries s t v phase.Claim = Holds s t v × (v.asks ≡ Write) × NeedsBlock t v.request v.bytes
 Carries s t v phase.Store = Holds s t v × (v.asks ≡ Write) × IsToFresh s v.new
 Carries s t v phase.Enter = Holds s t v × MapsTo v.asks v.bytes v.new × OnBlock (IsFresh s) v.new × OnBlock (λ x. ReadsAs s t x.0 v.bytes) v.new
 Carries s t v phase.Pending = HasPendingEntry s t v.asks v.bytes (logged v)
@@ -271,6 +272,11 @@ HasLists s t (at.Physical p) = PhysicalLists s t p
 HasLists s t (at.Journal j) = JournalLists t j
 HasLists s t (at.Device d) = DeviceLists t d
 
+-- no entry is in the block being filled, and none waits for the next one
+pub record IsUnused (filling waiting : List Vio) : Type 0 where
+  pub unfilled : filling ≡ []
+  pub unawaited : waiting ≡ []
+
 -- What holds of its data alone.
 pub record IsSoundDesk (s : Session) (desk : Desk) : Type 0 where
   pub requests : desk.requests ≡ s.script
@@ -319,8 +325,8 @@ abbrev pub IsSound : Session → ZoneData → Type 0
 IsSound s (at.Desk desk) = IsSoundDesk s desk
 IsSound s (at.Logical l) = IsSoundLogical s l
 IsSound s (at.Physical p) = AllByRecursion (IsFresh s) p.free
--- the block being filled has no more entries than a block may
-IsSound s (at.Journal j) = length j.filling ≤ 192
+-- the block being filled has no more entries than a block may; while no block goes round none is filled, and nobody waits
+IsSound s (at.Journal j) = (length j.filling ≤ 192) × (j.busy ≡ false → IsUnused j.filling j.waiting)
 IsSound s other = Unit {0}
 
 -- What stands on the device while no block is under way.

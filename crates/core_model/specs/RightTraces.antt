@@ -1,5 +1,5 @@
 -- A right trace: each happening may follow those before it, and at each moment a stop leaves what it may.
-use Rattle.std.specs.Prelude.{ℕ, ◌+◌, ◌≡◌, ◌⊎◌, ◌<◌, ◌≤◌, true, false, Some, IsNone, IsSome, List, [], ◌∷◌, ◌++◌, length, slice_get}
+use Rattle.std.specs.Prelude.{ℕ, ◌+◌, ◌≡◌, ◌≢◌, ◌⊎◌, ◌<◌, ◌≤◌, true, false, Some, IsNone, IsSome, List, [], ◌∷◌, ◌++◌, length, slice_get}
 use Rattle.std.specs.List.{AllByRecursion}
 use Rattle.blk_base.specs.Regions.{IsDataBlock}
 use Rattle.blk_base.specs.declared.place.Lba.{Lba}
@@ -27,7 +27,7 @@ use Rattle.core_model.specs.declared.items.Asks.{Asks}
 use Rattle.core_model.specs.declared.items.Asks.TheVariants as asks
 use Rattle.core_model.specs.Sessions.{OnBlock, Session, Shown, value_at}
 use Rattle.core_model.specs.Vios.{asked}
-use Rattle.core_model.specs.Trace.{Happening, Says, Flushes, Draws, Enters, Seals, Commits, Sets, Gives, Takes, Aborts, Calls, Fails, Trace, Gift, moments, lines, places, entered, filled, sealed, all_of, committed, done, aborted, gifts, taken, is_read, is_ok, has_stopped, has_read_fault, of_address, logged_of, gift_of, entries_of}
+use Rattle.core_model.specs.Trace.{Happening, Says, Flushes, Draws, Enters, Seals, Commits, Sets, Gives, Takes, Aborts, Calls, Fails, Trace, Gift, moments, lines, places, entered, filled, sealed, all_of, committed, done, aborted, gifts, taken, has_taken, is_read, is_ok, has_stopped, has_read_fault, of_address, logged_of, gift_of, entries_of}
 
 -- a request is begun and not answered
 pub record IsOpen (t : Trace) (w : Writer) : Type 0 where
@@ -83,12 +83,22 @@ pub record FollowsAbort (s : Session) (t : Trace) (w : Writer) (a : ℕ) : Type 
   pub placed : HasPlace s t w a place
   pub behind : HasBelow a place (aborted t)
 
--- no block of the journal is left but the one that stays free; or none, or no free data block
+-- no block of the journal is left but the one that stays free
 abbrev pub HasFullJournal : Session → Trace → Type 0
 HasFullJournal s t = s.sizes.geometry.journal ≤ s.sizes.opened + length (sealed t) + 1
 
-abbrev pub IsFull : Session → Trace → Type 0
-IsFull s t = HasFullJournal s t ⊎ (length s.free ≤ taken t)
+-- a write of these bytes needs a data block and took none
+pub record NeedsBlock (t : Trace) (w : Writer) (bytes : List ℕ) : Type 0 where
+  pub not_zeros : bytes ≢ zero_block
+  pub none_taken : has_taken t w ≡ false
+
+-- one needs a data block, and all are taken
+abbrev pub HasNoBlock : Session → Trace → Writer → List ℕ → Type 0
+HasNoBlock s t w bytes = NeedsBlock t w bytes × (length s.free ≤ taken t)
+
+-- a write has no place in the journal, or no data block
+abbrev pub IsFull : Session → Trace → Writer → List ℕ → Type 0
+IsFull s t w bytes = HasFullJournal s t ⊎ HasNoBlock s t w bytes
 
 -- Why a request may be answered so.
 abbrev pub HasCause : Session → Trace → Writer → Request → Answer → Type 0
@@ -104,7 +114,7 @@ HasCause s t w (request.Read at) other = ⊥
 HasCause s t w (request.Write at bytes fua) reply.Ok = IsSome (logged_of (done t) w)
 HasCause s t w (request.Write at bytes fua) reply.Range = s.sizes.geometry.logical ≤ at.0
 HasCause s t w (request.Write at bytes fua) reply.Stopped = (has_stopped t ≡ true) × IsSome (place_of (places t) w) × IsNone (logged_of (done t) w)
-HasCause s t w (request.Write at bytes fua) reply.Full = IsSome (place_of (places t) w) × IsNone (logged_of (entered t) w) × IsFull s t
+HasCause s t w (request.Write at bytes fua) reply.Full = IsSome (place_of (places t) w) × IsNone (logged_of (entered t) w) × IsFull s t w bytes
 HasCause s t w (request.Write at bytes fua) other = ⊥
 -- a discard: the same, but that it needs no data block
 HasCause s t w (request.Discard at) reply.Ok = IsSome (logged_of (done t) w)
@@ -165,8 +175,10 @@ pub record CommitMayFollow (s : Session) (e : Logged) (t : Trace) : Type 0 where
   pub rest : List Logged
   pub next : all_of (sealed t) ≡ rest ++ e ∷ committed t
 
--- the block being filled may be sealed: all entries of the others are committed, and a block of the journal is left for it
+-- the block being filled may be sealed: it has an entry, all those of the others are committed, and a block of the journal is
+-- left for it
 pub record SealMayFollow (s : Session) (t : Trace) : Type 0 where
+  pub some : 0 < length (filled t)
   pub all_committed : all_of (sealed t) ≡ committed t
   pub left : s.sizes.opened + length (sealed t) + 1 < s.sizes.geometry.journal
 
@@ -183,10 +195,10 @@ pub record AbortMayFollow (s : Session) (e : Logged) (t : Trace) : Type 0 where
   pub unset : IsNone (logged_of (done t) e.request)
   pub stopped : has_stopped t ≡ true
 
--- a write may take the next free data block
+-- a write that needs a data block may take the next free one
 pub record TakeMayFollow (s : Session) (w : Writer) (x : Pbn) (t : Trace) : Type 0 where
   pub is_open : IsOpen t w
-  pub asked : (at : Lba) × (bytes : List ℕ) × (request_at s.script w ≡ Some (request.Write at bytes false))
+  pub asked : (at : Lba) × (bytes : List ℕ) × (request_at s.script w ≡ Some (request.Write at bytes false)) × NeedsBlock t w bytes
   pub next : slice_get s.free (taken t) ≡ Some x
 
 -- a read may be given its bytes

@@ -136,6 +136,12 @@ taken [] = 0
 taken (Takes w x ∷ t) = suc (taken t)
 taken (other ∷ t) = taken t
 
+-- whether a write took one
+abbrev pub has_taken : Trace → Writer → Bool
+has_taken [] w = false
+has_taken (Takes v x ∷ t) w = same_writer v w || has_taken t w
+has_taken (other ∷ t) w = has_taken t w
+
 -- a call of the device that reads, and one that succeeds
 abbrev pub is_read : Call → Bool
 is_read (Read at bytes ok) = true

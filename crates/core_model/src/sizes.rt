@@ -6,7 +6,7 @@ pub struct Sizes {
     pub geometry: Geometry,
     /// The first sequence of the journal's window.
     pub start: u64,
-    /// How many entries the window had when the session began.
+    /// How many blocks of the journal are used when the session begins.
     pub opened: u32,
     /// How many logical zones there are.
     pub zones: u8,

@@ -12,7 +12,7 @@ use Rattle.core_model.specs.declared.items.Item.TheVariants as item
 use Rattle.core_model.specs.declared.items.Phase.TheVariants as phase
 use Rattle.core_model.specs.declared.zones.ZoneData.TheVariants as at
 use Rattle.core_model.specs.DeskRows.{DeskBegins, DeskServes, is_notified, at_once, vio_of, first_zone, is_marked, is_stopped, mark_of_vio, with_notice, woken}
-use Rattle.core_laws.proofs.kept.ActKept.{Known, unborn, ActKept, PostOk, act_none, act_one, own_request, plain_clears, reaches, line_kept, shown_plain, carries_at, unborn_place, unborn_entry, unborn_slot, vio_ok}
+use Rattle.core_laws.proofs.kept.ActKept.{Known, unborn, ActKept, PostOk, act_none, act_one, own_request, plain_clears, reaches, line_kept, shown_plain, carries_at, unborn_place, unborn_entry, unborn_take, unborn_slot, vio_ok}
 use Rattle.core_laws.proofs.trace.DeskOfTrace.{desk_log_right, answered_begun, shown_of}
 use Rattle.core_laws.proofs.physical.PhysicalFacts.{zone_below}
 
@@ -94,7 +94,7 @@ module _ (s : Session) (t : Trace) (w : Writer) (is : IsSession s) (right : Righ
         omega (arith, zone),
         (
           record { asked = asks; is_open = begins_open; address = address q; home = refl },
-          record { for_block = block; unplaced = unborn_place s t w right late; not_entered = unborn_entry s t w right late },
+          record { for_block = block; unplaced = unborn_place s t w right late; not_entered = unborn_entry s t w right late; none_taken = unborn_take s t w right late },
           refl,
         ),
       )

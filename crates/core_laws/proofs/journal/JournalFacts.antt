@@ -1,6 +1,6 @@
 -- What the acts of the journal owe: entries are handed in, wait, or are refused; a block is sealed, and its entries are
 -- committed, or it failed.
-use Rattle.std.proofs.Common.{◌≡◌, ◌≢◌, ◌++◌, ◌≤◌, suc, Option, append_assoc, length-append, ℕ, ◌<◌, true, Some, IsNone, IsSome, List, [], ◌∷◌, refl, ap, arith, ◌+◌, Bool, false, length, sym, ◌∙◌, inl, inr, subst}
+use Rattle.std.proofs.Common.{◌≡◌, ◌≢◌, ◌++◌, ◌≤◌, suc, Option, append_assoc, length-append, ℕ, ◌<◌, true, Some, IsNone, IsSome, List, [], ◌∷◌, refl, ap, arith, ◌+◌, Bool, false, length, sym, ◌∙◌, inl, inr, subst, nat_lt}
 use Rattle.core_laws.proofs.Common.{all_logged, all_of, AllByRecursion, asked, Asks, AtRest, bit, BlockOk, Carries, Commits, committed, DataOk, done, each_at, entered, Enters, every-append, filled, Happening, has_stopped, HasCause, HasFullJournal, HasPendingEntry, HasPlace, holder_weight, Holds, IsChange, IsFull, IsPlaced, IsSession, JournalLists, JournalZone, KeptEach, KeptOk, Lba, Logged, logged, logged_of, ltb-false, ltb-true, Mapping, MapsTo, MayReply, NewReads, OnBlock, or_parts, place_of, places, Post, ReadsAs, Request, RestsAt, RightTrace, same_self, same_tells, same_writer, sealed, SealedBlock, Seals, Session, some_is, Stage, StandsAt, total, Trace, turned, value_written, Vio, VioOk, Writer, zone_count, zone_number, zone_of, zone_of_stage}
 use Rattle.std.proofs.Math.Nat.{mod-lt}
 use Rattle.core_model.specs.declared.items.Asks.TheVariants.{Read, Write, Discard, Flush}
@@ -40,14 +40,14 @@ cause_full s t w Read at bytes is none some full = absurd is
 cause_full s t w Flush at bytes is none some full = absurd is
 
 -- a write, where no data block is left
-cause_taken : (s : Session) (t : Trace) (w : Writer) (q : Asks) (at : Lba) (bytes : List ℕ) → q ≡ Write → IsNone (logged_of (entered t) w) → IsSome (place_of (places t) w) → IsFull s t
+cause_taken : (s : Session) (t : Trace) (w : Writer) (q : Asks) (at : Lba) (bytes : List ℕ) → q ≡ Write → IsNone (logged_of (entered t) w) → IsSome (place_of (places t) w) → IsFull s t w bytes
     → HasCause s t w (asked q at bytes) reply.Full
 cause_taken s t w q at bytes is none some full = rw is (some, none, full)
 
 pub may_stop : (s : Session) (t : Trace) (v : Vio) → IsChange v.asks → has_stopped t ≡ true → HasPlace s t v.request v.at.0 v.place → IsNone (logged_of (done t) v.request) → MayReply s t v (Some reply.Stopped)
 may_stop s t v is stopped placed none = cause_stopped s t v.request v.asks v.at v.bytes is stopped (some_is _ _ placed) none
 
-pub write_full : (s : Session) (t : Trace) (v : Vio) → v.asks ≡ Write → IsPlaced s t v → IsFull s t → MayReply s t v (Some reply.Full)
+pub write_full : (s : Session) (t : Trace) (v : Vio) → v.asks ≡ Write → IsPlaced s t v → IsFull s t v.request v.bytes → MayReply s t v (Some reply.Full)
 write_full s t v is k full = cause_taken s t v.request v.asks v.at v.bytes is k.not_entered (some_is _ _ k.placed) full
 
 pub may_fill : (s : Session) (t : Trace) (v : Vio) → IsChange v.asks → IsPlaced s t v → HasFullJournal s t → MayReply s t v (Some reply.Full)
@@ -92,6 +92,10 @@ filled_few s [] right = omega arith
 filled_few s (Enters e ∷ t) right = let room = right.0.room in omega (arith, room)
 filled_few s (Seals ∷ t) right = omega arith
 filled_few s (other ∷ t) right = filled_few s t right.2
+
+-- one that has no room left isn't empty
+crowded : (vs : List Vio) → nat_lt (length vs) 192 ≡ false → vs ≡ [] → ⊥
+crowded vs full none = let most = ltb-false (length vs) 192 full in omega (arith, most, ap length none)
 
 -- one more request, whose entry is the newest
 logged_last : (vs : List Vio) (v : Vio) → all_logged (vs ++ v ∷ []) ≡ logged v ∷ all_logged vs
@@ -206,8 +210,8 @@ module _ {s : Session} {t : Trace} {n : ℕ} {old : JournalZone} {v : Vio} (know
     entry_right = enter_right s t v known.right (vio_ok known) (in_phase known phase.Enter is) block_left room_left
 
     -- what the zone keeps then
-    entry_data : (busy : Bool) → RestsAt s (Enters (logged v) ∷ t) busy old.broken → DataOk s (Enters (logged v) ∷ t) n (at.Journal (record (entered_by v old) { busy = busy }))
-    entry_data busy answers =
+    entry_data : (busy : Bool) → busy ≡ true → RestsAt s (Enters (logged v) ∷ t) busy old.broken → DataOk s (Enters (logged v) ∷ t) n (at.Journal (record (entered_by v old) { busy = busy }))
+    entry_data busy works answers =
         let k = known.own in
         let kept = line_kept known (Enters (logged v)) t entry_clears k.kept in
         record {
@@ -218,7 +222,10 @@ module _ {s : Session} {t : Trace} {n : ℕ} {old : JournalZone} {v : Vio} (know
             filled_is = λ whole. logged_last old.filling (turned phase.Pending v) ∙ ap (λ es. logged v ∷ es) (k.lists.filled_is whole);
             blocks_is = k.lists.blocks_is;
           };
-          sound = let less = ltb-true (length old.filling) 192 room in omega (arith, less, length-append old.filling (turned phase.Pending v ∷ []));
+          sound = (
+            let less = ltb-true (length old.filling) 192 room in omega (arith, less, length-append old.filling (turned phase.Pending v ∷ [])),
+            λ idle. absurd (let both : true ≡ false = sym works ∙ idle in cc),
+          );
           kept = (
             every-append (KeptOk s (Enters (logged v) ∷ t) phase.Pending) old.filling (turned phase.Pending v ∷ []) kept.0
                 (enter_pending s t v known.right (vio_ok known) (in_phase known phase.Enter is) block_left room_left, tt),
@@ -238,7 +245,7 @@ module _ {s : Session} {t : Trace} {n : ℕ} {old : JournalZone} {v : Vio} (know
       rw (e, m, p) (act_none known (record {
         number_is = k.number_is;
         lists = record { entered_is = k.lists.entered_is; committed_is = k.lists.committed_is; filled_is = k.lists.filled_is; blocks_is = k.lists.blocks_is };
-        sound = k.sound;
+        sound = (k.sound.0, λ idle. absurd (crowded old.filling full (k.sound.1 idle).unfilled));
         kept = (k.kept.0, every-append (KeptOk s t phase.Enter) old.waiting (v ∷ []) k.kept.1 ((vio_ok known, known.front_ok.0.1, is), tt));
         answers = k.answers;
         told = k.told;
@@ -246,12 +253,12 @@ module _ {s : Session} {t : Trace} {n : ℕ} {old : JournalZone} {v : Vio} (know
   journal_serves new made posts (journal.enters is closed block room busy e m p) =
       let same : record (entered_by v old) { busy = old.busy } ≡ entered_by v old = refl in
       rw (e, m, p) (act_one known (Enters (logged v)) (entry_clears is closed block room) (λ g honest. g honest) (entry_right is closed block room)
-      (entry_data is closed block room old.busy (busy_on s t (Enters (logged v) ∷ t) old.busy old.broken busy known.own.answers)) tt)
+      (entry_data is closed block room old.busy busy (busy_on s t (Enters (logged v) ∷ t) old.busy old.broken busy known.own.answers)) tt)
   journal_serves new made posts (journal.enters_first is closed block room idle e m p) =
       let h = Enters (logged v) in
       let rest = rests_idle s t old.busy old.broken idle (sound is closed block room) known.own.answers in
       rw (e, m, p) (act_one known h (entry_clears is closed block room) (λ g honest. g honest) (entry_right is closed block room)
-      (entry_data is closed block room true (sound is closed block room))
+      (entry_data is closed block room true refl (sound is closed block room))
       ((omega arith, ((tt, (rest.0, rests_kept s h t (sealed t) tt (silent s t h (λ x. tt) (all_of (sealed t))) rest.1)), refl)), tt))
 
 -- The journal hears that the session is stopped.
@@ -263,7 +270,7 @@ journal_notified {s} {t} {n} {old} known =
     act_none known (record {
       number_is = k.number_is;
       lists = record { entered_is = k.lists.entered_is; committed_is = k.lists.committed_is; filled_is = k.lists.filled_is; blocks_is = k.lists.blocks_is };
-      sound = k.sound;
+      sound = (k.sound.0, λ idle. record { unfilled = (k.sound.1 idle).unfilled; unawaited = refl });
       kept = (k.kept.0, tt);
       answers = k.answers;
       told = λ closed. stopped;
@@ -402,7 +409,7 @@ module _ {s : Session} {t : Trace} {n : ℕ} {old : JournalZone} {b : SealedBloc
 
     seal_right : RightTrace s (Seals ∷ t)
     seal_right = (
-      record { all_committed = all_there.0; left = left },
+      record { some = omega (arith, count); all_committed = all_there.0; left = left },
       record {
         superblock = stands_kept s Seals t 0 _ tt (shown_of s t known.right).superblock;
         journal = inr (record { block = filled t; older = sealed t; sealed_is = refl; committed_is = sym all_there.0; stands = inl rest_sealed });
@@ -463,7 +470,7 @@ module _ {s : Session} {t : Trace} {n : ℕ} {old : JournalZone} {b : SealedBloc
           filled_is = λ sound. refl;
           blocks_is = let blocks = k.lists.blocks_is in omega (arith, blocks);
         };
-        sound = omega arith;
+        sound = (omega arith, λ idle. record { unfilled = refl; unawaited = refl });
         kept = (tt, tt);
         answers = busy_on s t (Seals ∷ t) old.busy old.broken busy k.answers;
         told = k.told;
@@ -476,7 +483,7 @@ module _ {s : Session} {t : Trace} {n : ℕ} {old : JournalZone} {b : SealedBloc
       rw (e, m, p) (act_none known (record {
         number_is = k.number_is;
         lists = record { entered_is = k.lists.entered_is; committed_is = k.lists.committed_is; filled_is = k.lists.filled_is; blocks_is = k.lists.blocks_is };
-        sound = k.sound;
+        sound = (k.sound.0, λ idle. record { unfilled = filling; unawaited = refl });
         kept = (k.kept.0, tt);
         answers = subst (RestsAt s t false) (sym whole) (there, stands.1);
         told = k.told;
@@ -489,7 +496,7 @@ module _ {s : Session} {t : Trace} {n : ℕ} {old : JournalZone} {b : SealedBloc
       rw (e, m, p) (act_none known (record {
         number_is = k.number_is;
         lists = record { entered_is = k.lists.entered_is; committed_is = k.lists.committed_is; filled_is = λ sound. absurd cc; blocks_is = k.lists.blocks_is };
-        sound = omega arith;
+        sound = (omega arith, λ idle. record { unfilled = refl; unawaited = refl });
         kept = (tt, tt);
         answers = tt;
         told = λ closed. stopped;

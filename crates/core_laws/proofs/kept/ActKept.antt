@@ -1,6 +1,6 @@
 -- What each act may use and what it owes.
-use Rattle.std.proofs.Common.{◌≡◌, ℕ, ◌+◌, ◌<◌, ◌≤◌, true, Some, IsNone, List, [], ◌∷◌, ◌++◌, refl, subst, inl, inr, arith}
-use Rattle.core_laws.proofs.Common.{all_of, AllByRecursion, begun, Calls, Carries, claims, Commits, DataOk, DeviceZone, done, entered, Enters, Fails, filled, GivesRight, Happening, HasHonestReads, holds, IsSession, IsWrite, Item, ItemOk, kept_by, KeptEach, KeptOk, lines, logged_of, LogicalZone, none_is, not_both, option_cases, Pbn, Phase, place_of, Placed, places, Post, RightTrace, same_Some, same_tells, sealed, Seals, Session, Shown, total, Trace, Vio, VioOk, Writer, zone_count, zone_number, ZoneData}
+use Rattle.std.proofs.Common.{◌≡◌, ℕ, ◌+◌, ◌<◌, ◌≤◌, true, Some, IsNone, List, [], ◌∷◌, ◌++◌, refl, subst, inl, inr, arith, false}
+use Rattle.core_laws.proofs.Common.{all_of, AllByRecursion, begun, Calls, Carries, claims, Commits, DataOk, DeviceZone, done, entered, Enters, Fails, filled, GivesRight, Happening, HasHonestReads, holds, IsSession, IsWrite, Item, ItemOk, kept_by, KeptEach, KeptOk, lines, logged_of, LogicalZone, none_is, not_both, option_cases, Pbn, Phase, place_of, Placed, places, Post, RightTrace, same_Some, same_tells, sealed, Seals, Session, Shown, total, Trace, Vio, VioOk, Writer, zone_count, zone_number, ZoneData, cases_Bool, has_taken, Says, Flushes, Takes}
 use Rattle.blk_base.specs.declared.place.Mapping.TheVariants.{At}
 use Rattle.core_model.specs.declared.items.Item.TheVariants as item
 use Rattle.core_model.specs.declared.items.Phase.TheVariants as phase
@@ -8,6 +8,7 @@ use Rattle.core_model.specs.declared.zones.ZoneData.TheVariants as at
 use Rattle.core_model.specs.Legal.{ComesAfter}
 use Rattle.core_laws.proofs.trace.DeskOfTrace.{logged_has, entered_writes, done_is_entered}
 use Rattle.core_laws.proofs.trace.PlacesOfTrace.{IsBegun, places_begun}
+use Rattle.core_laws.proofs.trace.Growth.{begun_stays}
 use Rattle.core_laws.proofs.kept.Frame.{kept_each}
 use Rattle.core_laws.proofs.kept.Keys.{Key, OfRequest, OfAddress, OfJournal, token_of, Spares, happens_in, IfAny, Clears, clears_with, mine_or_spared, own_name, holder_one}
 use Rattle.core_laws.proofs.kept.Spared.{about}
@@ -158,7 +159,20 @@ place_has P (q ∷ ps) w p had all = elim (same_tells q.request w) [
   | inr other ↦ place_has P ps w p (rw other.0 at had) all.1
 ]
 
--- A request that isn't begun has no place, and its entry wasn't handed in nor done.
+-- whoever took a block was begun
+taken_begun : (s : Session) (t : Trace) (w : Writer) → RightTrace s t → has_taken t w ≡ true → w.number < begun w.stream (lines t)
+taken_begun s [] w right some = absurd cc
+taken_begun s (Takes v x ∷ t) w right some = elim (same_tells v w) [
+  | inl same ↦ subst (λ (u : Writer). u.number < begun u.stream (lines t)) same.1 right.0.is_open.is_begun
+  | inr other ↦ taken_begun s t w right.2 (rw other.0 at some)
+]
+taken_begun s (Says line ∷ t) w right some = begun_stays s (Says line) t w right.0 (taken_begun s t w right.2 some)
+taken_begun s (Flushes m ∷ t) w right some = begun_stays s (Flushes m) t w right.0 (taken_begun s t w right.2 some)
+taken_begun s (Calls c ∷ t) w right some = begun_stays s (Calls c) t w right.0 (taken_begun s t w right.2 some)
+taken_begun s (Fails v c kept ∷ t) w right some = begun_stays s (Fails v c kept) t w right.0 (taken_begun s t w right.2 some)
+taken_begun s (other ∷ t) w right some = taken_begun s t w right.2 some
+
+-- A request that isn't begun has no place, took no block, and its entry wasn't handed in nor done.
 module _ (s : Session) (t : Trace) (w : Writer) (right : RightTrace s t) (late : begun w.stream (lines t) ≤ w.number) where
   no_begin : (v : Writer) → v ≡ w → v.number < begun v.stream (lines t) → ⊥
   no_begin v is early = let here = subst (λ (x : Writer). x.number < begun x.stream (lines t)) is early in omega (arith, here, late)
@@ -176,6 +190,12 @@ module _ (s : Session) (t : Trace) (w : Writer) (right : RightTrace s t) (late :
         let has = logged_has (IsWrite s t) (entered t) w some.0 some.1 (entered_writes s t right) in
         let place = place_has (IsBegun t) (places t) some.0.request _ has.0.placed (places_begun s t right) in
         absurd (no_begin some.0.request has.1 place.0)
+  ]
+
+  pub unborn_take : has_taken t w ≡ false
+  unborn_take = elim (cases_Bool (has_taken t w)) [
+    | inl some ↦ absurd (no_begin w refl (taken_begun s t w right some))
+    | inr none ↦ none
   ]
 
   pub unborn_slot : IsNone (logged_of (done t) w)

@@ -1,6 +1,6 @@
 -- What requests and sealed blocks carry stays where the next happening is about something else.
 use Rattle.std.proofs.Common.{◌≡◌, ℕ, ◌≤◌, Bool, true, false, Option, None, Some, List, [], ◌∷◌, ◌++◌, refl, ap, sym, ◌∙◌, subst, arith}
-use Rattle.core_laws.proofs.Common.{AllByRecursion, Answer, BlockOk, Carries, Happening, HasCause, Holds, IsEarned, IsEntered, IsPlaced, IsSealed, IsUndrawn, Item, ItemOk, KeptOk, Logged, Looks, MayReply, Pbn, Phase, Request, SealedBlock, Session, Stage, StandsAt, Trace, Vio, VioOk, Writer, all_logged, all_of, done, entered, gift_of, gifts, holds, logged, logged_of, newest, place_of, places, request_of, sealed, total}
+use Rattle.core_laws.proofs.Common.{AllByRecursion, Answer, BlockOk, Carries, Happening, HasCause, Holds, IsEarned, IsEntered, IsPlaced, IsSealed, IsUndrawn, Item, ItemOk, KeptOk, Logged, Looks, MayReply, Pbn, Phase, Request, SealedBlock, Session, Stage, StandsAt, Trace, Vio, VioOk, Writer, all_logged, all_of, done, entered, gift_of, gifts, has_taken, holds, logged, logged_of, newest, place_of, places, request_of, sealed, total}
 use Rattle.blk_base.specs.declared.place.Mapping.TheVariants.{At}
 use Rattle.blk_base.specs.declared.request.Answer.TheVariants as reply
 use Rattle.blk_base.specs.declared.request.Request.TheVariants as request
@@ -10,7 +10,7 @@ use Rattle.core_model.specs.declared.items.Phase.TheVariants as phase
 use Rattle.core_model.specs.declared.items.Stage.TheVariants as stage
 use Rattle.core_model.specs.DeskRows.{is_marked, mark_of_vio}
 use Rattle.core_laws.proofs.kept.Keys.{Key, OfRequest, OfAddress, OfBlock, OfJournal, token_of, Spares, own_name, holder_one, claim_one}
-use Rattle.core_laws.proofs.kept.Spared.{SparesRequest, SparesAddress, open_kept, place_same, entry_same, slot_same, abort_same, gift_same, stop_kept, fault_kept, abort_kept, full_kept, journal_full_kept, mapping_same, quiet_kept, committed_kept, below_kept, pending_kept, mark_kept, honest_before, value_same, done_at}
+use Rattle.core_laws.proofs.kept.Spared.{SparesRequest, SparesAddress, open_kept, place_same, entry_same, slot_same, abort_same, gift_same, take_same, stop_kept, fault_kept, abort_kept, full_kept, needs_kept, journal_full_kept, mapping_same, quiet_kept, committed_kept, below_kept, pending_kept, mark_kept, honest_before, value_same, done_at}
 use Rattle.core_laws.proofs.kept.StandsOn.{SparesBlock, SparesBlocks, SparesJournal, SparesMap, SparesSealed, block_reads_kept, comes_stands, new_kept, new_reads_kept, on_both, reads_kept, rests_kept, sealed_spared, spares_parts, way_kept}
 
 none_weigh : (vs : List Vio) → total (λ v. 0) vs ≡ 0
@@ -31,9 +31,10 @@ pub record SaysSame (h : Happening) (t : Trace) (w : Writer) : Type 0 where
   pub of_entry : logged_of (entered (h ∷ t)) w ≡ logged_of (entered t) w
   pub of_slot : logged_of (done (h ∷ t)) w ≡ logged_of (done t) w
   pub of_gift : gift_of (gifts (h ∷ t)) w ≡ gift_of (gifts t) w
+  pub of_take : has_taken (h ∷ t) w ≡ has_taken t w
 
 says_same : (h : Happening) (t : Trace) (w : Writer) → SparesRequest h w → SaysSame h t w
-says_same h t w apart = record { of_place = place_same h t w apart; of_entry = entry_same h t w apart; of_slot = slot_same h t w apart; of_gift = gift_same h t w apart }
+says_same h t w apart = record { of_place = place_same h t w apart; of_entry = entry_same h t w apart; of_slot = slot_same h t w apart; of_gift = gift_same h t w apart; of_take = take_same h t w apart }
 
 module _ (s : Session) (h : Happening) (t : Trace) where
   pub cause_kept : (w : Writer) (r : Request) (a : Answer) → SaysSame h t w → HasCause s t w r a → HasCause s (h ∷ t) w r a
@@ -46,7 +47,7 @@ module _ (s : Session) (h : Happening) (t : Trace) where
   cause_kept w (request.Write at bytes fua) reply.Ok same k = rw (same.of_slot) k
   cause_kept w (request.Write at bytes fua) reply.Range same k = k
   cause_kept w (request.Write at bytes fua) reply.Stopped same k = (stop_kept h t k.0, rw (same.of_place) k.1, rw (same.of_slot) k.2)
-  cause_kept w (request.Write at bytes fua) reply.Full same k = (rw (same.of_place) k.0, rw (same.of_entry) k.1, full_kept s h t k.2)
+  cause_kept w (request.Write at bytes fua) reply.Full same k = (rw (same.of_place) k.0, rw (same.of_entry) k.1, full_kept s h t w bytes same.of_take k.2)
   cause_kept w (request.Write at bytes fua) other same k = absurd k
   cause_kept w (request.Discard at) reply.Ok same k = rw (same.of_slot) k
   cause_kept w (request.Discard at) reply.Range same k = k
@@ -75,6 +76,7 @@ module _ (s : Session) (h : Happening) (t : Trace) where
     for_block = k.for_block;
     unplaced = rw (place_same h t v.request apart) k.unplaced;
     not_entered = rw (entry_same h t v.request apart) k.not_entered;
+    none_taken = take_same h t v.request apart ∙ k.none_taken;
   }
 
   placed_kept : (v : Vio) → SparesRequest h v.request → IsPlaced s t v → IsPlaced s (h ∷ t) v
@@ -113,8 +115,8 @@ module _ (s : Session) (h : Happening) (t : Trace) where
   by_phase : (v : Vio) (q : Phase) → SparesRequest h v.request → (holds q ≡ true → SparesAddress h v.at.0) → (q ≡ phase.Enter → (x : Pbn) → v.new ≡ At x → Spares s t h (OfBlock x.0))
       → Carries s t v q → Carries s (h ∷ t) v q
   by_phase v phase.Arrive r a b k = unplaced_kept v r k
-  by_phase v phase.Wait r a b k = placed_kept v r k
-  by_phase v phase.Claim r a b k = (holds_kept v r (a refl) k.0, k.1)
+  by_phase v phase.Wait r a b k = (placed_kept v r k.0, take_same h t v.request r ∙ k.1)
+  by_phase v phase.Claim r a b k = (holds_kept v r (a refl) k.0, k.1, needs_kept h t v.request v.bytes (take_same h t v.request r) k.2)
   by_phase v phase.Store r a b k = (holds_kept v r (a refl) k.0, k.1, k.2)
   by_phase v phase.Enter r a b k = (holds_kept v r (a refl) k.0, k.1, k.2, on_both v.new (λ x to fresh reads. reads_kept s h t x.0 v.bytes (b refl x to fresh.is_data) reads) k.2 k.3)
   by_phase v phase.Pending r a b k = record {

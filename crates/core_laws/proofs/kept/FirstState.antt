@@ -170,7 +170,7 @@ module _ (s : Session) (session : IsSession s) where
   data_at_start n (at.Journal j) h = record {
     number_is = h.number_is;
     lists = record { entered_is = h.entered; committed_is = h.committed; filled_is = λ sound. ap all_logged h.filling; blocks_is = h.blocks };
-    sound = let none = ap length h.filling in omega (arith, none);
+    sound = ((let none = ap length h.filling in omega (arith, none)), λ idle. record { unfilled = h.filling; unawaited = h.waiting });
     kept = nobody_at_start n (at.Journal j) h;
     answers = subst (λ (b : Bool). RestsAt s [] b j.broken) (sym h.busy) (subst (λ (b : Bool). RestsAt s [] false b) (sym h.broken) (refl, at_rest));
     told = λ closed. absurd (let notified = h.notified in let broken = h.broken in let opened : is_closed j ≡ false = rw (notified, broken) refl in cc);

@@ -97,7 +97,7 @@ module _ (s : Session) (session : IsSession s) (t : Trace) where
 
   -- whoever waits in a zone is one
   passes : (l : LogicalZone) (n : ℕ) (a : ℕ) (to : LogicalZone) → DataOk s t n (at.Logical l) → (more : List Post) × (passes_on s.sizes to (first_for a l.waiting) ≡ Some more)
-  passes l n a to own = grants_some to a l.waiting (every-map {P = KeptOk s t phase.Wait} {Q = IsBlockRequest} (λ v k. (carries_at s t v phase.Wait k.2 k.1).for_block) l.waiting own.kept)
+  passes l n a to own = grants_some to a l.waiting (every-map {P = KeptOk s t phase.Wait} {Q = IsBlockRequest} (λ v k. (carries_at s t v phase.Wait k.2 k.1).0.for_block) l.waiting own.kept)
 
   -- the physical zone
   claims : (p : PhysicalZone) (v : Vio) (free : List Pbn) → p.free ≡ free → v.phase ≡ phase.Claim → HasAct s.sizes (at.Physical p) (item.Request v ∷ [])

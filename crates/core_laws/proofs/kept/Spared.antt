@@ -1,6 +1,6 @@
 -- Facts on the trace stay where the next happening is about something else.
-use Rattle.std.proofs.Common.{◌≡◌, ◌≢◌, ℕ, ◌+◌, ◌<◌, ◌==◌, Bool, true, false, not, ◌&&◌, ◌||◌, if◌then◌else◌, Option, None, Some, List, [], ◌∷◌, refl, ap, sym, ◌∙◌, inl, inr, arith}
-use Rattle.core_laws.proofs.Common.{Aborts, AllBelow, Calls, Commits, DeskLine, Draws, Enters, Entry, Fails, Flushes, FlushMark, Gives, Happening, HasBelow, HasHonestReads, IsCommitted, HasFullJournal, IsFull, IsOpen, IsPending, Logged, Quiet, Says, Seals, Session, Sets, Takes, Trace, Writer, aborted, begun, committed, done, entered, entries_of, eqb_tells, gift_of, gifts, has_read_fault, has_stopped, is_read, lines, logged_of, moments, newest, of_address, place_of, places, same_writer, value_at}
+use Rattle.std.proofs.Common.{◌≡◌, ◌≢◌, ℕ, ◌+◌, ◌<◌, ◌==◌, Bool, true, false, not, ◌&&◌, ◌||◌, if◌then◌else◌, Option, None, Some, List, [], ◌∷◌, ◌≤◌, length, refl, ap, sym, ◌∙◌, inl, inr, arith}
+use Rattle.core_laws.proofs.Common.{Aborts, AllBelow, Calls, Commits, DeskLine, Draws, Enters, Entry, Fails, Flushes, FlushMark, Gives, Happening, HasBelow, HasHonestReads, IsCommitted, HasFullJournal, IsFull, IsOpen, IsPending, Logged, NeedsBlock, Quiet, Says, Seals, Session, Sets, Takes, Trace, Writer, aborted, begun, committed, done, entered, entries_of, eqb_tells, gift_of, gifts, has_read_fault, has_stopped, has_taken, is_read, lines, logged_of, moments, newest, of_address, place_of, places, same_writer, taken, value_at}
 use Rattle.blk_base.specs.declared.request.Answer.TheVariants as reply
 use Rattle.disk_model.specs.declared.call.Call.TheVariants.{Read}
 use Rattle.image_layout.specs.Values.{mapping_of}
@@ -26,6 +26,7 @@ about (Commits e) = record { request = Some e.request; address = Some e.at.0 }
 about (Sets e) = record { request = Some e.request; address = Some e.at.0 }
 about (Gives g) = record { request = Some g.request; address = Some g.at.0 }
 about (Aborts e) = record { request = Some e.request; address = None }
+about (Takes w x) = record { request = Some w; address = None }
 about other = record { request = None; address = None }
 
 abbrev pub OffRequest : Option Writer → Writer → Type 0
@@ -74,6 +75,10 @@ abort_same other t w apart = refl
 pub gift_same : (h : Happening) (t : Trace) (w : Writer) → SparesRequest h w → gift_of (gifts (h ∷ t)) w ≡ gift_of (gifts t) w
 gift_same (Gives g) t w apart = rw apart refl
 gift_same other t w apart = refl
+
+pub take_same : (h : Happening) (t : Trace) (w : Writer) → SparesRequest h w → has_taken (h ∷ t) w ≡ has_taken t w
+take_same (Takes v x) t w apart = rw apart refl
+take_same other t w apart = refl
 
 -- what they say of an address
 pub of_other : (e : Logged) (es : List Logged) (a : ℕ) → e.at.0 ≢ a → of_address a (e ∷ es) ≡ of_address a es
@@ -156,12 +161,17 @@ pub journal_full_kept : (s : Session) (h : Happening) (t : Trace) → HasFullJou
 journal_full_kept s Seals t full = omega (arith, full)
 journal_full_kept s other t full = full
 
-pub full_kept : (s : Session) (h : Happening) (t : Trace) → IsFull s t → IsFull s (h ∷ t)
-full_kept s Seals t (inl full) = inl (omega (arith, full))
-full_kept s (Takes w x) t (inr full) = inr (omega (arith, full))
-full_kept s Seals t (inr full) = inr full
-full_kept s (Takes w x) t (inl full) = inl full
-full_kept s other t full = full
+taken_kept : (s : Session) (h : Happening) (t : Trace) → length s.free ≤ taken t → length s.free ≤ taken (h ∷ t)
+taken_kept s (Takes w x) t all = omega (arith, all)
+taken_kept s other t all = all
+
+-- and a write that took none needs one, where it takes none then
+pub needs_kept : (h : Happening) (t : Trace) (w : Writer) (bytes : List ℕ) → has_taken (h ∷ t) w ≡ has_taken t w → NeedsBlock t w bytes → NeedsBlock (h ∷ t) w bytes
+needs_kept h t w bytes same needs = record { not_zeros = needs.not_zeros; none_taken = same ∙ needs.none_taken }
+
+pub full_kept : (s : Session) (h : Happening) (t : Trace) (w : Writer) (bytes : List ℕ) → has_taken (h ∷ t) w ≡ has_taken t w → IsFull s t w bytes → IsFull s (h ∷ t) w bytes
+full_kept s h t w bytes same (inl full) = inl (journal_full_kept s h t full)
+full_kept s h t w bytes same (inr full) = inr (needs_kept h t w bytes same full.0, taken_kept s h t full.1)
 
 -- an honest device was so before
 pub honest_before : (s : Session) (h : Happening) (t : Trace) → HasHonestReads s (h ∷ t) → HasHonestReads s t

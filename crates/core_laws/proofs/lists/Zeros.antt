@@ -1,5 +1,5 @@
 -- Blocks of zeros.
-use Rattle.std.proofs.Common.{◌≡◌, ◌==◌, ◌∙◌, ℕ, true, List, [], ◌∷◌, ap, length, refl, replicate}
+use Rattle.std.proofs.Common.{◌≡◌, ◌≢◌, ◌==◌, ◌∙◌, ℕ, zero, suc, true, false, List, [], ◌∷◌, ap, length, refl, replicate, sym}
 use Rattle.core_laws.proofs.Common.{and_parts, eqb-true, length-replicate}
 use Rattle.blk_base.specs.Sectors.{zero_block}
 use Rattle.core_model.specs.LogicalRows.{are_zeros}
@@ -7,6 +7,18 @@ use Rattle.core_model.specs.LogicalRows.{are_zeros}
 pub zeros_length : length zero_block ≡ 4096
 unfolding zero_block
 zeros_length = length-replicate {A = ℕ} 4096 0
+
+-- a block of zeros has zeros alone
+replicated_zeros : (n : ℕ) → are_zeros (replicate n 0) ≡ true
+replicated_zeros zero = refl
+replicated_zeros (suc n) = replicated_zeros n
+
+block_zeros : are_zeros zero_block ≡ true
+unfolding zero_block
+block_zeros = replicated_zeros 4096
+
+pub others_are : (bytes : List ℕ) → are_zeros bytes ≡ false → bytes ≢ zero_block
+others_are bytes is same = let both : true ≡ false = sym block_zeros ∙ sym (ap are_zeros same) ∙ is in cc
 
 zeros_are : (bytes : List ℕ) → are_zeros bytes ≡ true → bytes ≡ replicate (length bytes) 0
 zeros_are [] is = refl

@@ -140,7 +140,7 @@ module _ {s : Session} {t : Trace} {n : ℕ} {l : LogicalZone} {v : Vio} (known 
     held_kept held =
         let w : Vio = turned phase.Wait v' in
         act_one known (Draws p) clears gives_same right'
-        (drawn_ok l.held (l.waiting ++ w ∷ []) (one_waits s l.zone l.next l.held l.waiting known.own.sound.locks w home_is refl held) (every-append (KeptOk s t' phase.Wait) l.waiting (w ∷ []) others_wait ((placed_ok, is_placed, refl), tt)) (λ a free. free)) tt
+        (drawn_ok l.held (l.waiting ++ w ∷ []) (one_waits s l.zone l.next l.held l.waiting known.own.sound.locks w home_is refl held) (every-append (KeptOk s t' phase.Wait) l.waiting (w ∷ []) others_wait ((placed_ok, (is_placed, unplaced.none_taken), refl), tt)) (λ a free. free)) tt
 
     pub free_kept : (post : Post) → is_among v.at.0 l.retired ≡ false → is_held v.at.0 l.held ≡ false → goes_on s.sizes l v' ≡ Some post
         → ActKept s t n (at.Logical l) (item.Request v ∷ []) (at.Logical (record (drawn_by l v) { held = lock_of v' ∷ l.held })) (Draws p ∷ []) (post ∷ [])
@@ -148,7 +148,7 @@ module _ {s : Session} {t : Trace} {n : ℕ} {l : LogicalZone} {v : Vio} (known 
         let same = drawn_ok l.held l.waiting (more_drawn s l.zone l.next l.held l.waiting known.own.sound.locks) others_wait (λ a none. none) in
         act_one known (Draws p) clears gives_same right'
         (drawn_ok (lock_of v' ∷ l.held) l.waiting (one_takes s l.zone l.next l.held l.waiting known.own.sound.locks v' zone_is refl free) others_wait (λ a none. (or_none (v.at.0 == a) (is_held a l.held) none).1))
-        (goes_ok s t' n (drawn_by l v) known.session right' same v' placed_ok is_placed (quiet' v.at.0 zone_is free alive) (below_kept (Draws p) t v.at.0 l.next tt (known.own.lists.below v.at.0 zone_is)) home_is post goes, tt)
+        (goes_ok s t' n (drawn_by l v) known.session right' same v' placed_ok is_placed unplaced.none_taken (quiet' v.at.0 zone_is free alive) (below_kept (Draws p) t v.at.0 l.next tt (known.own.lists.below v.at.0 zone_is)) home_is post goes, tt)
 
 -- a write or a discard that is done, and a read that was given its bytes, may be answered so
 done_earned : (s : Session) (t : Trace) (m : FlushMark) (asks : Asks) (at : Lba) (bytes : List ℕ) → IsChange asks → IsSome (logged_of (done t) m.request) → HasEarned s t m asks (asked asks at bytes) (Some reply.Ok)
@@ -335,7 +335,7 @@ module _ {s : Session} {t : Trace} {n : ℕ} {l : LogicalZone} {v : Vio} (known 
     aborts_entered_kept =
         let both = retire_ok s (gone ∷ t) n l known.session right_abort gone_ok v (leased phase.AbortEntered is refl) home carries_it.2 (λ place less. inl (refl, less)) in
         act_one known gone clears_abort (λ f honest. f honest) right_abort both.0
-        ((omega arith, (vio_over s gone t v refl (vio_ok known), reply_said s gone t v v.answer (record { of_place = refl; of_entry = refl; of_slot = refl; of_gift = refl }) carries_it.1, refl)), both.1)
+        ((omega arith, (vio_over s gone t v refl (vio_ok known), reply_said s gone t v v.answer (record { of_place = refl; of_entry = refl; of_slot = refl; of_gift = refl; of_take = refl }) carries_it.1, refl)), both.1)
 
   -- each act of a logical zone
   pub logical_serves : (new : LogicalZone) (made : Trace) (posts : List Post) → LogicalServes s.sizes l v new made posts → After new made posts

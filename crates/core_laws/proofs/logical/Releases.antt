@@ -1,6 +1,6 @@
 -- A lock is passed on to the first that waits for it, or released, or never released.
 use Rattle.std.proofs.Common.{◌≡◌, ◌≢◌, ℕ, ◌+◌, ◌<◌, ◌≤◌, ◌==◌, true, false, Option, None, Some, List, [], ◌∷◌, refl, ap, sym, ◌∙◌, subst, inl, inr, arith}
-use Rattle.core_laws.proofs.Common.{AllBelow, AllByRecursion, Asks, DataOk, Gift, HasBelow, HasCause, Holds, IsForBlock, IsPlaced, IsSession, IsToInside, KeptOk, Logged, LogicalZone, Looks, Mapping, MapsTo, Pbn, Post, Quiet, Request, RightTrace, Session, Trace, Vio, VioOk, WaitsOk, aborted, asked, done, each_both, ended, eqb_tells, every-map, gifts, has_stopped, newest, of_address, request_at, some_is, value_at, zone_count, zone_number, zone_of}
+use Rattle.core_laws.proofs.Common.{AllBelow, AllByRecursion, Asks, DataOk, Gift, HasBelow, HasCause, Holds, IsForBlock, IsPlaced, IsSession, IsToInside, KeptOk, Logged, LogicalZone, Looks, Mapping, MapsTo, Pbn, Post, Quiet, Request, RightTrace, Session, Trace, Vio, VioOk, WaitsOk, aborted, asked, done, each_both, ended, eqb_tells, every-map, gifts, has_stopped, newest, of_address, request_at, some_is, value_at, zone_count, zone_number, zone_of, has_taken}
 use Rattle.blk_base.specs.Sectors.{zero_block}
 use Rattle.blk_base.specs.declared.place.Mapping.TheVariants.{Unmapped, Zero, At}
 use Rattle.blk_base.specs.declared.place.ZoneId.TheVariants as id
@@ -19,7 +19,7 @@ use Rattle.core_laws.proofs.lists.CoreLists.{or_none, held_without, every_but_fi
 use Rattle.core_laws.proofs.tokens.Posts.{goes_by, IsGranted, nobody, somebody, is_granted}
 use Rattle.core_laws.proofs.device.DeviceCalls.{write_whole}
 use Rattle.core_laws.proofs.trace.ZeroWrites.{zeros_by}
-use Rattle.core_laws.proofs.lists.Zeros.{zeros_of}
+use Rattle.core_laws.proofs.lists.Zeros.{others_are, zeros_of}
 use Rattle.core_laws.proofs.kept.Spared.{mapping_by}
 use Rattle.core_laws.proofs.trace.DeskOfTrace.{done_writes}
 
@@ -34,7 +34,7 @@ below_more t a m n less k = record {
 pub asked_read : (asks : Asks) (v : Vio) (bytes : List ℕ) → asks ≡ Read → asked asks v.at v.bytes ≡ asked asks v.at bytes
 asked_read asks v bytes is = rw is refl
 
-module _ (s : Session) (t : Trace) (n : ℕ) (l : LogicalZone) (session : IsSession s) (right : RightTrace s t) (k : DataOk s t n (at.Logical l)) (u : Vio) (ok : VioOk s t u) (place : IsPlaced s t u) (quiet : Quiet t u.at.0) (below : AllBelow t u.at.0 u.place)
+module _ (s : Session) (t : Trace) (n : ℕ) (l : LogicalZone) (session : IsSession s) (right : RightTrace s t) (k : DataOk s t n (at.Logical l)) (u : Vio) (ok : VioOk s t u) (place : IsPlaced s t u) (none_taken : has_taken t u.request ≡ false) (quiet : Quiet t u.at.0) (below : AllBelow t u.at.0 u.place)
     (home : u.home ≡ id.Logical l.zone) where
   among : 1 + l.zone < zone_count s.sizes
   among = let a = k.sound.among in omega (arith, a)
@@ -98,7 +98,7 @@ module _ (s : Session) (t : Trace) (n : ℕ) (l : LogicalZone) (session : IsSess
   pub goes_ok : (post : Post) → goes_on s.sizes l u ≡ Some post → PostOk s t post
   goes_ok post goes = goes_by (PostOk s t) s.sizes l u post goes (λ reads. read_ok reads (mapping_at l u.at.0) refl)
       (λ writes zero. (omega arith, (ok, (holds, zeros_mapped u.asks writes (zero_bytes u.asks writes ok.asked zero), tt, tt), refl)))
-      (λ writes others. (omega arith, (ok, (holds, writes), refl)))
+      (λ writes others. (omega arith, (ok, (holds, writes, record { not_zeros = others_are u.bytes others; none_taken = none_taken }), refl)))
       (λ discards. (omega arith, (ok, (holds, discard_mapped u.asks discards, tt, tt), refl)))
 
 -- A greater place has a lower one still.
@@ -121,7 +121,7 @@ stopped_ok s t v right stopped behind ok place = (omega arith, (ok, stopped_caus
 pub all_stopped_ok : (s : Session) (t : Trace) (vs : List Vio) → RightTrace s t → has_stopped t ≡ true → AllByRecursion (λ v. KeptOk s t phase.Wait v × HasBelow v.at.0 v.place (aborted t)) vs
     → AllByRecursion (PostOk s t) (all_stopped vs)
 all_stopped_ok s t [] right stopped all = tt
-all_stopped_ok s t (v ∷ vs) right stopped all = (stopped_ok s t v right stopped all.0.1 all.0.0.0 (carries_at s t v phase.Wait all.0.0.2 all.0.0.1), all_stopped_ok s t vs right stopped all.1)
+all_stopped_ok s t (v ∷ vs) right stopped all = (stopped_ok s t v right stopped all.0.1 all.0.0.0 (carries_at s t v phase.Wait all.0.0.2 all.0.0.1).0, all_stopped_ok s t vs right stopped all.1)
 
 -- What a zone has once a lock of it is given back, by a holder with the lock's place.
 module _ (s : Session) (t : Trace) (n : ℕ) (l : LogicalZone) (session : IsSession s) (right : RightTrace s t) (k : DataOk s t n (at.Logical l)) (v : Vio) (leased : Leased l v) (home : zone_of s.sizes.zones v.at.0 ≡ l.zone) where
@@ -150,7 +150,8 @@ module _ (s : Session) (t : Trace) (n : ℕ) (l : LogicalZone) (session : IsSess
         let waits = first_has (WaitsOk l.zone l.next l.held) v.at.0 l.waiting w is k.sound.locks.waits in
         let later = first_has (λ u. u.at.0 ≡ v.at.0 → v.place < u.place) v.at.0 l.waiting w is behind in
         let above = later.0 kept.1 in
-        goes_ok s t n l session right k w kept.0.0 (carries_at s t w phase.Wait kept.0.2 kept.0.1) (subst (λ (c : ℕ). Quiet t c) (sym kept.1) quiet)
+        let carries = carries_at s t w phase.Wait kept.0.2 kept.0.1 in
+        goes_ok s t n l session right k w kept.0.0 carries.0 carries.1 (subst (λ (c : ℕ). Quiet t c) (sym kept.1) quiet)
         (subst (λ (c : ℕ). AllBelow t c w.place) (sym kept.1) (below_more t v.at.0 (v.place + 1) w.place (omega (arith, above)) below)) waits.0.at_home post goes
 
     pub release_ok : (more : List Post) → granted s.sizes v.at.0 l ≡ Some more → DataOk s t n (at.Logical (released v.at.0 l)) × AllByRecursion (PostOk s t) more

@@ -1,14 +1,14 @@
 -- What the acts of the physical zone owe.
 use Rattle.std.proofs.Common.{◌≡◌, ℕ, zero, suc, ◌<◌, ◌≤◌, ◌%◌, ◌/◌, true, Some, List, [], ◌∷◌, length, drop, slice_get, refl, ap, sym, ◌∙◌, subst, inr, arith}
 use Rattle.std.proofs.Math.Nat.{mod-lt}
-use Rattle.core_laws.proofs.Common.{AllByRecursion, Happening, IsFresh, IsFull, Pbn, PhysicalZone, Post, Session, TakeMayFollow, Takes, Trace, Vio, asked, taken, zone_count, zone_number, zone_of}
+use Rattle.core_laws.proofs.Common.{AllByRecursion, Happening, Holds, IsFresh, IsFull, Pbn, PhysicalZone, Post, Session, TakeMayFollow, Takes, Trace, Vio, asked, taken, zone_count, zone_number, zone_of}
 use Rattle.blk_base.specs.declared.place.ZoneId.TheVariants as id
 use Rattle.core_model.specs.declared.items.Item.TheVariants as item
 use Rattle.core_model.specs.declared.items.Phase.TheVariants as phase
 use Rattle.core_model.specs.declared.zones.ZoneData.TheVariants as at
 use Rattle.core_model.specs.JournalRows.{PhysicalServes}
-use Rattle.core_laws.proofs.kept.ActKept.{Known, ActKept, act_none, act_one, plain_clears, shown_plain, vio_over, vio_ok, in_phase}
-use Rattle.core_laws.proofs.kept.Carried.{holds_kept}
+use Rattle.core_laws.proofs.kept.ActKept.{Known, ActKept, act_none, act_one, plain_clears, own_request, shown_plain, vio_over, vio_ok, in_phase}
+use Rattle.core_laws.proofs.kept.Spared.{below_kept, quiet_kept}
 use Rattle.core_laws.proofs.trace.DeskOfTrace.{shown_of}
 use Rattle.core_laws.proofs.journal.JournalFacts.{home_within, write_full}
 
@@ -28,6 +28,16 @@ none_left [] n is = omega arith
 none_left (y ∷ ys) zero is = absurd cc
 none_left (y ∷ ys) (suc n) is = omega (arith, none_left ys n is)
 
+-- a write that takes a block holds its lock as before
+still_holds : (s : Session) (t : Trace) (v : Vio) (x : Pbn) → Holds s t v → Holds s (Takes v.request x ∷ t) v
+still_holds s t v x k = record {
+  is_placed = record { for_block = k.is_placed.for_block; placed = k.is_placed.placed; not_entered = k.is_placed.not_entered };
+  quiet = quiet_kept (Takes v.request x) t v.at.0 tt k.quiet;
+  below = below_kept (Takes v.request x) t v.at.0 v.place tt k.below;
+  old_held = k.old_held;
+  old_is = k.old_is;
+}
+
 -- What the physical zone does with a request.
 module _ {s : Session} {t : Trace} {n : ℕ} {old : PhysicalZone} {v : Vio} (known : Known s t n (at.Physical old) (item.Request v ∷ [])) where
   home : zone_number s.sizes v.home < zone_count s.sizes
@@ -40,14 +50,15 @@ module _ {s : Session} {t : Trace} {n : ℕ} {old : PhysicalZone} {v : Vio} (kno
       let free : AllByRecursion (IsFresh s) (x ∷ others) = subst (λ (xs : List Pbn). AllByRecursion (IsFresh s) xs) free_is own.sound in
       let left = next_left s.free (taken t) x others (sym free_is ∙ own.lists.left) in
       let h : Happening = Takes v.request x in
-      let may : TakeMayFollow s v.request x t = record { is_open = (vio_ok known).is_open; asked = (v.at, v.bytes, (vio_ok known).asked ∙ ap (λ q. Some (asked q v.at v.bytes)) k.1); next = left.0 } in
-      rw (i, m, q) (act_one known h (plain_clears known h t tt own.number_is tt tt) (λ gives honest. gives honest)
+      let may : TakeMayFollow s v.request x t =
+      record { is_open = (vio_ok known).is_open; asked = (v.at, v.bytes, (vio_ok known).asked ∙ ap (λ q. Some (asked q v.at v.bytes)) k.1, k.2); next = left.0 } in
+      rw (i, m, q) (act_one known h (plain_clears known h t tt own.number_is (own_request known) tt) (λ gives honest. gives honest)
       (may, shown_plain s t h tt (shown_of s t known.right), known.right)
       (record { number_is = own.number_is; lists = record { left = left.1 }; sound = free.1; kept = tt; answers = tt; told = tt })
-      ((omega arith, (vio_over s h t v refl (vio_ok known), (holds_kept s h t v tt tt k.0, k.1, free.0), refl)), tt))
+      ((omega arith, (vio_over s h t v refl (vio_ok known), (still_holds s t v x k.0, k.1, free.0), refl)), tt))
   physical_serves new made posts (PhysicalServes.is_full is free_is i m q) =
       let k = in_phase known phase.Claim is in
-      let full : IsFull s t = inr (none_left s.free (taken t) (sym free_is ∙ known.own.lists.left)) in
+      let full : IsFull s t v.request v.bytes = inr (k.2, none_left s.free (taken t) (sym free_is ∙ known.own.lists.left)) in
       rw (i, m, q) (act_none known known.own ((home, ((vio_ok known), (k.0, write_full s t v k.1 k.0.is_placed full), refl)), tt))
   physical_serves new made posts (PhysicalServes.aborts_claim is i m q) = rw (i, m, q) (act_none known known.own ((home, ((vio_ok known), in_phase known phase.AbortClaim is, refl)), tt))
   physical_serves new made posts (PhysicalServes.aborts_entered_claim is i m q) = rw (i, m, q) (act_none known known.own ((home, ((vio_ok known), in_phase known phase.AbortEnteredClaim is, refl)), tt))

@@ -1,6 +1,7 @@
 -- Why a request may be answered: for each answer a trace that has its cause, and for each part of the cause one that lacks it.
 use Rattle.std.proofs.Common.{ℕ, ◌≡◌, true, false, List, [], ◌∷◌, refl, ap, inl, inr, arith}
 use Rattle.std.proofs.lemmas.Option.{same_Some}
+use Rattle.blk_base.specs.Sectors.{zero_block}
 use Rattle.blk_base.specs.declared.place.Mapping.TheVariants.{Unmapped}
 use Rattle.blk_base.specs.declared.request.Answer.{Answer}
 use Rattle.blk_base.specs.declared.request.Answer.TheVariants.{Ok, Bytes, Range, Stopped, Full, ReadFault}
@@ -11,7 +12,7 @@ use Rattle.disk_model.specs.declared.call.Call.TheVariants.{Read, Flush}
 use Rattle.vdo_model.specs.declared.report.DeskLine.TheVariants.{Begin}
 use Rattle.core_model.specs.RightTraces.{HasCause, MayAnswer}
 use Rattle.core_model.specs.Trace.{Gift, Says, Gives, Takes, Aborts, Fails, Trace}
-use Rattle.core_model.proofs.rows.WorkedTraces.{address, block, x, y, first, reader, second, other, late, flush, session, begun, took, handed_in, lasting, set, stopped, entry, of_first, of_other, given, in_block}
+use Rattle.core_model.proofs.rows.WorkedTraces.{address, block, x, y, first, reader, second, other, late, flush, session, begun, took, handed_in, lasting, set, stopped, entry, of_first, of_other, given, in_block, one_not_zeros}
 
 -- a read of an address, and a write of it
 abbrev Reads : Trace → Writer → ℕ → Answer → Type 0
@@ -141,8 +142,21 @@ at_once_of_a_write may = may.1.behind
 full_journal : Writes in_block second 0 Full
 full_journal = (refl, refl, inl (omega arith))
 
-full_blocks : Writes (Takes second (block 86) ∷ took) first 0 Full
-full_blocks = (refl, refl, inr (omega arith))
+full_blocks : Writes (Takes other (block 86) ∷ took) second 0 Full
+full_blocks = (refl, refl, inr (record { not_zeros = one_not_zeros; none_taken = refl }, omega arith))
+
+-- not by the block that it took itself, nor for zeros, which need none
+full_of_its_own : Writes (Takes second (block 86) ∷ took) first 0 Full → ⊥
+full_of_its_own may = elim may.2 [
+  | inl journal ↦ absurd (omega (arith, journal))
+  | inr blocks ↦ let none = blocks.0.none_taken in absurd cc
+]
+
+full_for_zeros : HasCause session (Takes other (block 86) ∷ took) second (request.Write (address 0) zero_block false) Full → ⊥
+full_for_zeros may = elim may.2 [
+  | inl journal ↦ absurd (omega (arith, journal))
+  | inr blocks ↦ absurd (blocks.0.not_zeros refl)
+]
 
 full_with_a_place : Writes (Takes second (block 86) ∷ took) late 0 Full → ⊥
 full_with_a_place may = let placed = may.0 in absurd cc
@@ -150,7 +164,7 @@ full_with_a_place may = let placed = may.0 in absurd cc
 full_with_room : Writes took second 0 Full → ⊥
 full_with_room may = elim may.2 [
   | inl journal ↦ absurd (omega (arith, journal))
-  | inr blocks ↦ absurd (omega (arith, blocks))
+  | inr blocks ↦ let all = blocks.1 in absurd (omega (arith, all))
 ]
 
 full_before_it_enters : Writes handed_in first 0 Full → ⊥

@@ -1,6 +1,5 @@
 -- Which happening may follow: for each one a trace that it may follow, and for each of its conditions one that breaks it.
-use Rattle.std.proofs.Common.{ℕ, zero, suc, length-append, ◌≡◌, true, false, List, [], ◌∷◌, ◌++◌, Some, length, refl, ap, subst, arith}
-use Rattle.std.proofs.lemmas.List.{length-replicate}
+use Rattle.std.proofs.Common.{ℕ, zero, suc, length-append, ◌≡◌, true, false, List, [], ◌∷◌, ◌++◌, Some, length, refl, ap, sym, subst, arith}
 use Rattle.std.proofs.lemmas.Option.{same_Some}
 use Rattle.blk_base.specs.Sectors.{zero_block}
 use Rattle.blk_base.specs.declared.place.Mapping.{Mapping}
@@ -18,11 +17,15 @@ use Rattle.core_model.specs.Sessions.{Session}
 use Rattle.core_model.specs.Vios.{asked}
 use Rattle.core_model.specs.declared.zones.Logged.{Logged}
 use Rattle.core_model.specs.Trace.{filled, Says, Flushes, Draws, Enters, Seals, Commits, Sets, Gives, Takes, Aborts, Calls, Fails, Trace, Happening}
-use Rattle.core_model.proofs.rows.WorkedTraces.{address, block, writer, x, y, first, reader, second, other, late, flush, sizes, session, begun, drawn, took, handed_in, in_block, lasting, set, stopped, place, entry, of_first, of_second, of_other, given}
+use Rattle.core_model.proofs.rows.WorkedTraces.{address, block, writer, x, y, first, reader, second, other, late, flush, sizes, session, begun, drawn, took, handed_in, in_block, lasting, set, stopped, place, entry, of_first, of_second, of_other, given, one_not_zeros, two_not_zeros}
 
 -- the session, with a journal that takes two blocks
 abbrev roomy : Session
 roomy = record session { sizes = record sizes { geometry = record sizes.geometry { journal = 3 } } }
+
+-- a session of one request
+abbrev session_of : Request → Session
+session_of asked = record roomy { script = (asked ∷ []) ∷ [] }
 
 abbrev May : Happening → Trace → Type 0
 May h t = MayFollow roomy h t
@@ -32,6 +35,10 @@ address_in (request.Read a) = a.0
 address_in (request.Write a bytes fua) = a.0
 address_in (request.Discard a) = a.0
 address_in request.Flush = 0
+
+abbrev bytes_in : Request → List ℕ
+bytes_in (request.Write a bytes fua) = bytes
+bytes_in other = []
 
 -- A line: a request is begun once, in its turn, while fewer than two of its stream are under way ..
 begins : May (Says (Begin first)) []
@@ -112,9 +119,17 @@ draws_in_order may = let less = (may.next.order.0 refl).stream refl in absurd (o
 draws_before_it_enters : May (Draws (place first 0 0)) (Enters of_first ∷ begun) → ⊥
 draws_before_it_enters may = let no = may.not_entered in absurd cc
 
--- A write takes the next free data block.
+-- A write that isn't of zeros takes the next free data block, and one alone.
 takes : May (Takes second (block 86)) took
-takes = record { is_open = record { is_begun = omega arith; unanswered = refl }; asked = (address 0, y, refl); next = refl }
+takes = record { is_open = record { is_begun = omega arith; unanswered = refl }; asked = (address 0, y, refl, record { not_zeros = two_not_zeros; none_taken = refl }); next = refl }
+
+takes_one_alone : May (Takes first (block 86)) took → ⊥
+takes_one_alone may = let none = may.asked.3.none_taken in absurd cc
+
+takes_none_for_zeros : MayFollow (session_of (request.Write (address 0) zero_block false)) (Takes first (block 85)) begun → ⊥
+takes_none_for_zeros may =
+    let asked : request.Write (address 0) zero_block false ≡ request.Write may.asked.0 may.asked.1 false = same_Some _ _ may.asked.2 in
+    absurd (may.asked.3.not_zeros (sym (ap bytes_in asked)))
 
 takes_while_open : May (Takes second (block 86)) (Says (Answer second Stopped) ∷ took) → ⊥
 takes_while_open may = let no = may.is_open.unanswered in absurd cc
@@ -156,9 +171,6 @@ enters_as_asked may = at_its_address may.is_write.asks may.is_write.bytes may.is
     at_its_address asks.Flush bytes is = absurd cc
 
 -- It maps its address to a block, or to zeros where the bytes are; that of a discard to nothing.
-abbrev session_of : Request → Session
-session_of asked = record roomy { script = (asked ∷ []) ∷ [] }
-
 enters_zeros : MayFollow (session_of (request.Write (address 0) zero_block false)) (Enters (record of_first { new = Zero })) drawn
 enters_zeros = record {
   is_open = record { is_begun = omega arith; unanswered = refl };
@@ -186,12 +198,8 @@ enters_a_discard = record {
 }
 
 -- no write of other bytes maps to zeros, no write to nothing, no discard to a block or to zeros, and a read to nothing at all
-zeros_length : length zero_block ≡ 4096
-unfolding zero_block
-zeros_length = length-replicate {A = ℕ} 4096 0
-
 maps_of_zeros_alone : MapsTo asks.Write x Zero → ⊥
-maps_of_zeros_alone may = let same : 1 ≡ length zero_block = ap length may in absurd (omega (arith, same, zeros_length))
+maps_of_zeros_alone may = one_not_zeros may
 
 maps_a_write : MapsTo asks.Write x Unmapped → ⊥
 maps_a_write may = may
@@ -253,9 +261,13 @@ enters_of_a_data_block may = let stands = may.new_data.stands in absurd (omega (
 enters_with_the_mapping : May (Enters (entry second 0 1 Unmapped 86)) set → ⊥
 enters_with_the_mapping may = let old = may.old_is in absurd cc
 
--- The block being filled is sealed where all entries of the others are committed, and a block of the journal is left for it.
+-- The block being filled is sealed where it has an entry, all those of the others are committed, and a block of the journal is
+-- left for it.
 seals : May Seals handed_in
-seals = record { all_committed = refl; left = omega arith }
+seals = record { some = omega arith; all_committed = refl; left = omega arith }
+
+seals_no_empty_one : May Seals took → ⊥
+seals_no_empty_one may = let some = may.some in absurd (omega (arith, some))
 
 seals_behind_a_committed_one : May Seals (Enters of_other ∷ in_block) → ⊥
 seals_behind_a_committed_one may = let all = ap length may.all_committed in absurd (omega (arith, all))

@@ -1,6 +1,8 @@
 -- A small session of three streams and two zones, and what happens in it: at these the definitions of a right trace are
 -- computed. Its journal takes one block, and two data blocks are free.
-use Rattle.std.specs.Prelude.{ℕ, true, false, List, [], ◌∷◌}
+use Rattle.std.proofs.Common.{ℕ, ◌≡◌, ◌≢◌, true, false, List, [], ◌∷◌, length, ap, arith}
+use Rattle.std.proofs.lemmas.List.{length-replicate}
+use Rattle.blk_base.specs.Sectors.{zero_block}
 use Rattle.blk_base.specs.declared.place.Lba.{Lba}
 use Rattle.blk_base.specs.declared.place.Mapping.{Mapping}
 use Rattle.blk_base.specs.declared.place.Mapping.TheVariants.{Unmapped, At}
@@ -31,6 +33,17 @@ x = 1 ∷ []
 
 abbrev pub y : List ℕ
 y = 2 ∷ []
+
+-- neither is a block of zeros
+zeros_length : length zero_block ≡ 4096
+unfolding zero_block
+zeros_length = length-replicate {A = ℕ} 4096 0
+
+pub one_not_zeros : x ≢ zero_block
+one_not_zeros same = let one : 1 ≡ length zero_block = ap length same in absurd (omega (arith, one, zeros_length))
+
+pub two_not_zeros : y ≢ zero_block
+two_not_zeros same = let one : 1 ≡ length zero_block = ap length same in absurd (omega (arith, one, zeros_length))
 
 -- Two writes of address 0, which is in zone 0, and two reads of it; a write of address 812, which is in zone 1; a flush.
 abbrev pub script : Script
