@@ -4,7 +4,7 @@ use Rattle.std.proofs.Common.{ℕ, ◌≡◌, ◌≤◌, ◌-◌, ◌*◌, ◌^�
 use Rattle.std.proofs.lemmas.List.{length-replicate, nil_from_length}
 use Rattle.blk_base.specs.declared.geometry.Geometry.{Geometry}
 use Rattle.blk_base.specs.declared.journal_entry.Entry.{Entry}
-use Rattle.blk_base.specs.declared.journal_entry.Entry.TheVariants.{Remap}
+use Rattle.blk_base.specs.declared.journal_entry.Entry.TheVariants.{NewPage, Remap}
 use Rattle.blk_base.specs.declared.place.Lba.{Lba}
 use Rattle.blk_base.specs.declared.place.Mapping.{Mapping}
 use Rattle.blk_base.specs.declared.place.Mapping.TheVariants.{Unmapped, Zero, At}
@@ -43,7 +43,10 @@ block b = record { 0 = b }
 abbrev maps : Mapping → Entry
 maps new = Remap (record { 0 = 5 }) Unmapped new
 
-all_free : free_of small [] ≡ block 73 ∷ block 74 ∷ block 78 ∷ block 79 ∷ []
+abbrev all_of_small : List Pbn
+all_of_small = block 73 ∷ block 74 ∷ block 78 ∷ block 79 ∷ []
+
+all_free : free_of small [] ≡ all_of_small
 all_free = refl
 
 one_taken : free_of small (maps (At (block 74)) ∷ maps Zero ∷ maps Unmapped ∷ []) ≡ block 73 ∷ block 78 ∷ block 79 ∷ []
@@ -52,6 +55,16 @@ one_taken = refl
 -- a block that an older entry names is taken too
 older_taken : free_of small (maps (At (block 78)) ∷ maps (At (block 73)) ∷ []) ≡ block 74 ∷ block 79 ∷ []
 older_taken = refl
+
+-- and so is the block of a new page of the block map, with another one that an older entry names; another page's isn't
+abbrev page : ℕ → Entry
+page b = NewPage (record { tree = 0; level = 0; index = 0 }) (block b)
+
+page_taken : free_of small (page 74 ∷ maps (At (block 79)) ∷ []) ≡ block 73 ∷ block 78 ∷ []
+page_taken = refl
+
+page_elsewhere : free_of small (page 75 ∷ []) ≡ all_of_small
+page_elsewhere = refl
 
 -- IsDone: the desk stands first, and has two lines for each request
 module _ (lines : List DeskLine) (outboxes : List (List Item)) where

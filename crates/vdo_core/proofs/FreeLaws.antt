@@ -40,7 +40,9 @@ module _ (g : Geometry) (window : List Entry) (items : List Pbn) (x : Pbn) (k : 
 -- a block that no entry names is mapped by none
 not_mapped : (window : List Entry) (b a : ℕ) (y : Pbn) → is_named window b ≡ false → mapping_of window a ≡ At y → y.0 ≢ b
 not_mapped [] b a y free maps same = absurd cc
-not_mapped (NewPage page at ∷ older) b a y free maps same = not_mapped older b a y free maps same
+not_mapped (NewPage page at ∷ older) b a y free maps same =
+    let parts = or_parts (at.0 == b) (is_named older b) free in
+    not_mapped older b a y parts.1 maps same
 not_mapped (Remap at old new ∷ older) b a y free maps same =
     let parts = or_parts (is_at new b) (is_named older b) free in
     elim (eqb_tells at.0 a) [

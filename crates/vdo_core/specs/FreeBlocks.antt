@@ -1,4 +1,4 @@
--- The data blocks that a session may take: those that no entry of the window names.
+-- The data blocks that a session may take: those that no entry of the window names, as the block of an address or of a page.
 use Rattle.std.specs.Prelude.{ℕ, zero, suc, ◌*◌, ◌/◌, ◌%◌, ◌==◌, ◌||◌, Bool, false, List, [], ◌∷◌, ◌++◌, if◌then◌else◌}
 use Rattle.blk_base.specs.Regions.{DataBlock, block_of}
 use Rattle.blk_base.specs.declared.geometry.Geometry.{Geometry}
@@ -13,11 +13,15 @@ abbrev pub is_at : Mapping → ℕ → Bool
 is_at (At x) b = x.0 == b
 is_at other b = false
 
--- whether an entry maps an address to this block
+-- whether an entry maps an address to this block, or puts a new page of the block map there
+abbrev pub names : Entry → ℕ → Bool
+names (Remap at old new) b = is_at new b
+names (NewPage page at) b = at.0 == b
+
+-- whether one of these does
 abbrev pub is_named : List Entry → ℕ → Bool
 is_named [] b = false
-is_named (Remap at old new ∷ older) b = is_at new b || is_named older b
-is_named (NewPage page at ∷ older) b = is_named older b
+is_named (entry ∷ older) b = names entry b || is_named older b
 
 -- the data block of this number, from 0, among all of an image
 abbrev pub data_number : Geometry → ℕ → ℕ
