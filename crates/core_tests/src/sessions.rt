@@ -139,6 +139,7 @@ fn begin(
     let small = journal.len() == geometry.journal as usize
         && 0 < setup.logical_zones
         && setup.logical_zones <= 4
+        && 0 < setup.depth
         && setup.depth <= 16;
     if !small || !is_limited(&requests) {
         return Err(Unplayed::TooLarge);

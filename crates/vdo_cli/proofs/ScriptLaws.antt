@@ -49,6 +49,7 @@ can_begin tells honest before now head window used script opened whole served = 
   geometry = opened.read.is_head.sizes;
   start = opened.read.is_head.start;
   zones = omega arith;
+  depth = omega arith;
   limits = record {
     streams = omega (arith, whole.rows);
     depth = omega arith;

@@ -192,6 +192,31 @@ module _ (g : Geometry) where
     begins-not_without_a_zone : (script : Script) → CanBegin (sizes 1 0) script window → ⊥
     begins-not_without_a_zone script can = omega (arith, can.zones)
 
+    abbrev of_depth : ℕ → Sizes
+    of_depth depth = record { geometry = g; start = 1; opened = 0; zones = 1; depth = depth }
+
+    -- one request of a stream is under way at least: where a core begins with two, one begins with one too, but none with none
+    begins-of_depth_1 : (script : Script) → CanBegin (of_depth 2) script window → CanBegin (of_depth 1) script window
+    begins-of_depth_1 script can = record {
+      geometry = can.geometry;
+      start = can.start;
+      zones = can.zones;
+      depth = omega arith;
+      limits = record { streams = can.limits.streams; depth = omega arith; requests = can.limits.requests; zones = can.limits.zones };
+      served = can.served;
+      journal = can.journal;
+      count = can.count;
+      whole = can.whole;
+      last = can.last;
+      committed = can.committed;
+      is_window = can.is_window;
+      window_is = can.window_is;
+      opened = can.opened;
+    }
+
+    begins-not_of_depth_0 : (script : Script) → CanBegin (of_depth 0) script window → ⊥
+    begins-not_of_depth_0 script can = omega (arith, can.depth)
+
     begins-not_at_sequence_0 : (script : Script) → CanBegin (sizes 0 1) script window → ⊥
     begins-not_at_sequence_0 script can = omega (arith, can.start.0)
 

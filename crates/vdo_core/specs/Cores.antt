@@ -47,6 +47,8 @@ pub record CanBegin (sizes : Sizes) (script : Script) (window : List Entry) : Ty
   pub geometry : IsGeometry sizes.geometry
   pub start : (1 ≤ sizes.start) × (sizes.start < 2 ^ 54)
   pub zones : 1 ≤ sizes.zones
+  -- a request may be under way
+  pub depth : 1 ≤ sizes.depth
   pub limits : IsLimited sizes script
   pub served : AllByRecursion (AllByRecursion IsServed) script
   pub journal : List (List ℕ)

@@ -32,7 +32,7 @@ use vdo_model::{Requests, RunReport};
 pub struct Setup {
     /// How many logical zones there are, 1 to 4.
     pub logical_zones: u8,
-    /// How many requests of a stream are under way at most, up to 16.
+    /// How many requests of a stream are under way at most, 1 to 16.
     pub depth: u32,
 }
 

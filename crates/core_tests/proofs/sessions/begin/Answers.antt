@@ -9,6 +9,7 @@ begin-requires c =
       geometry = search rules;
       start = search rules;
       zones = search rules;
+      depth = search rules;
       limits = search rules;
       served = c.requires.served;
       journal = c.args.journal.now;
