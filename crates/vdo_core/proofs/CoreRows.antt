@@ -1,6 +1,6 @@
 -- Rows that pin what a core is and begins with, when it is done, and what there is to move and room for: for each clause a
 -- small case that it accepts, and one that breaks it alone.
-use Rattle.std.proofs.Common.{ℕ, ◌≡◌, ◌≤◌, ◌-◌, ◌*◌, ◌^◌, Bool, true, false, List, [], ◌∷◌, length, replicate, Some, slice_get, refl, ap, sym, ◌∙◌, subst, inl, inr, arith}
+use Rattle.std.proofs.Common.{ℕ, ◌≡◌, ◌≤◌, ◌+◌, ◌-◌, ◌*◌, ◌^◌, Bool, true, false, List, [], ◌∷◌, length, replicate, Some, slice_get, refl, ap, sym, ◌∙◌, subst, inl, inr, arith}
 use Rattle.std.proofs.lemmas.List.{length-replicate, nil_from_length}
 use Rattle.blk_base.specs.declared.geometry.Geometry.{Geometry}
 use Rattle.blk_base.specs.declared.journal_entry.Entry.{Entry}
@@ -24,14 +24,19 @@ use Rattle.core_model.specs.declared.zones.ZoneData.{ZoneData}
 use Rattle.core_model.specs.declared.zones.ZoneData.TheVariants as at
 use Rattle.core_model.specs.Limits.{HasRoomToBegin, IsWithin}
 use Rattle.core_model.specs.SessionLimits.{requests_in}
-use Rattle.core_model.specs.Sessions.{said_by}
-use Rattle.core_model.specs.Steps.{MayBegin}
+use Rattle.core_model.specs.Sessions.{IsSession, Session, said_by}
+use Rattle.core_model.specs.Start.{IsFirst}
+use Rattle.core_model.specs.Steps.{MayBegin, StepOf}
+use Rattle.core_model.specs.Steps.Leads.{rests, steps}
+use Rattle.core_model.specs.Trace.{Trace}
 use Rattle.vdo_core.specs.Causes.{BeginsCrowded, CanStep, IsServedBy, IsSized}
-use Rattle.vdo_core.specs.Cores.{CanBegin}
+use Rattle.vdo_core.specs.Cores.{CanBegin, IsReached}
 use Rattle.vdo_core.specs.Done.{IsDone}
 use Rattle.vdo_core.specs.FreeBlocks.{free_of}
 use Rattle.vdo_core.specs.Lanes.{HasRoomFor}
 use Rattle.vdo_core.specs.Moves.{MovesSome, has_items}
+use Rattle.vdo_core.specs.Plays.{core_with}
+use Rattle.vdo_core.proofs.SessionLaws.{legal_here}
 
 -- the data blocks that no entry names: those of an image with two slabs of two data blocks each
 abbrev small : Geometry
@@ -92,6 +97,28 @@ module _ (lines : List DeskLine) (outboxes : List (List Item)) where
 
   done-not_of_no_zone : IsDone [] → ⊥
   done-not_of_no_zone done = let had = done.had in absurd cc
+
+-- IsReached: a start of a session is, and what events lead to from there
+module _ (s : Session) (session : IsSession s) (zones : List Zone) (begins : IsFirst s (core_with zones [])) where
+  reached-at_the_start : IsReached s.sizes zones
+  reached-at_the_start = record { session = s; first = zones; trace = []; sizes_are = refl; is_session = session; is_first = begins; leads = rests }
+
+  reached-after_a_step : (later : List Zone) (trace : Trace) → StepOf s.sizes (core_with zones []) (core_with later trace) → IsReached s.sizes later
+  reached-after_a_step later trace step = record { session = s; first = zones; trace = trace; sizes_are = refl; is_session = session; is_first = begins; leads = steps step rests }
+
+module _ (sizes : Sizes) (zones : List Zone) (reached : IsReached sizes zones) where
+  reached-not_of_other_sizes : reached.session.sizes.depth ≡ sizes.depth + 1 → ⊥
+  reached-not_of_other_sizes other = omega (arith, other, ap (λ (x : Sizes). x.depth) reached.sizes_are)
+
+  reached-not_in_a_session_that_is_not_served : sizes.zones ≡ 0 → ⊥
+  reached-not_in_a_session_that_is_not_served none = omega (arith, none, reached.is_session.zones, ap (λ (x : Sizes). x.zones) reached.sizes_are)
+
+  -- not from zones of which one has made a step, nor to no zones
+  reached-not_from_the_middle : (z : Zone) → slice_get reached.first 0 ≡ Some z → z.steps ≡ 1 → ⊥
+  reached-not_from_the_middle z had stepped = omega (arith, stepped, (reached.is_first.each 0 z had).steps)
+
+  reached-not_where_no_event_leads : zones ≡ [] → ⊥
+  reached-not_where_no_event_leads none = omega (arith, ap length none, (legal_here sizes zones reached).count)
 
 -- MovesSome: what one zone posted to another one that is there
 abbrev zone_with : ℕ → List (List Item) → Zone

@@ -32,7 +32,7 @@ put_same [] n x h = refl
 put_same (y ∷ ys) zero x h = ap (λ z. z ∷ ys) (sym (same_Some _ _ h))
 put_same (y ∷ ys) (suc n) x h = ap (λ zs. y ∷ zs) (put_same ys n x h)
 
-leads_on : (sizes : Sizes) (first middle last : Core) → Leads sizes first middle → Leads sizes middle last → Leads sizes first last
+pub leads_on : (sizes : Sizes) (first middle last : Core) → Leads sizes first middle → Leads sizes middle last → Leads sizes first last
 leads_on sizes first middle last early rests = early
 leads_on sizes first middle last early (steps {before = b} step late) = steps step (leads_on sizes first middle b early late)
 leads_on sizes first middle last early (moves {before = b} move late) = moves move (leads_on sizes first middle b early late)

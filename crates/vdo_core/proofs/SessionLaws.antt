@@ -20,6 +20,7 @@ use Rattle.core_model.specs.Facts.{DataOk}
 use Rattle.core_model.specs.Legal.{Legal}
 use Rattle.core_model.specs.Sessions.{Session, IsSession}
 use Rattle.core_model.specs.Start.{IsFirst}
+use Rattle.core_model.specs.Steps.Leads.{rests}
 use Rattle.core_model.specs.Trace.{Trace}
 use Rattle.core_model.specs.Zones.{desk_zone}
 use Rattle.core_laws.proofs.kept.FirstState.{legal_first}
@@ -34,6 +35,7 @@ use Rattle.vdo_core.specs.Starts.{IsOf}
 use Rattle.vdo_core.proofs.FreeLaws.{free_distinct, free_fresh}
 use Rattle.vdo_core.proofs.JournalLaws.{sealed_from, stands, window_of_image}
 use Rattle.vdo_core.proofs.NoFaults.{none_fails}
+use Rattle.vdo_core.proofs.PlayLaws.{leads_on}
 
 zeros_length : length zero_block ≡ 4096
 unfolding zero_block
@@ -103,28 +105,37 @@ module _ (sizes : Sizes) (script : Script) (window : List Entry) (can : CanBegin
 
   -- a first core of it is reached
   abbrev pub first_reached : (zones : List Zone) → IsFirst imagined (core_with zones []) → IsReached sizes zones
-  first_reached zones first = record {
+  first_reached zones begins = record {
     session = imagined;
+    first = zones;
     trace = [];
     sizes_are = refl;
     is_session = is_session;
-    legal = legal_first imagined (core_with zones []) first is_session;
+    is_first = begins;
+    leads = rests;
   }
 
--- what is reached leads to what is reached, and nothing fails there
+-- what is reached is legal, and leads to what is reached, and nothing fails there
 module _ (sizes : Sizes) (zones : List Zone) (reached : IsReached sizes zones) where
+  pub legal_here : Legal reached.session (core_with zones reached.trace)
+  legal_here =
+      let start = core_with reached.first [] in
+      legal_leads reached.session start (core_with zones reached.trace) reached.is_session reached.leads (legal_first reached.session start reached.is_first reached.is_session)
+
   abbrev pub reached_on : (tells honest : Bool) (later : List Zone) (before after : Seen) → LeadsTo tells honest sizes zones later before after → IsReached sizes later
   reached_on tells honest later before after (made, leads, told) = record {
     session = reached.session;
+    first = reached.first;
     trace = made ++ reached.trace;
     sizes_are = reached.sizes_are;
     is_session = reached.is_session;
-    legal = legal_leads reached.session (core_with zones reached.trace) (core_with later (made ++ reached.trace)) reached.is_session (rw reached.sizes_are (leads reached.trace)) reached.legal;
+    is_first = reached.is_first;
+    leads = leads_on reached.session.sizes (core_with reached.first []) (core_with zones reached.trace) (core_with later (made ++ reached.trace)) reached.leads (rw reached.sizes_are (leads reached.trace));
   }
 
   pub none_fails_here : (fault : StepFault) → OneMayFault sizes zones fault → ⊥
   none_fails_here fault (number, (zone, had, why)) =
-      none_fails reached.session (core_with zones reached.trace) number zone fault reached.is_session reached.legal had (rw reached.sizes_are why)
+      none_fails reached.session (core_with zones reached.trace) number zone fault reached.is_session legal_here had (rw reached.sizes_are why)
 
 -- a core has one script: that of its desk
 pub one_script : (s s' : Session) (zones : List Zone) (t t' : Trace) → Legal s (core_with zones t) → Legal s' (core_with zones t') → s.script ≡ s'.script

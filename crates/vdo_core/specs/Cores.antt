@@ -1,5 +1,5 @@
 -- A core as a whole, and what it can begin with.
-use Rattle.std.specs.Prelude.{ℕ, ◌≡◌, ◌<◌, ◌≤◌, ◌^◌, List, length}
+use Rattle.std.specs.Prelude.{ℕ, ◌≡◌, ◌<◌, ◌≤◌, ◌^◌, List, [], length}
 use Rattle.std.specs.List.{AllByRecursion}
 use Rattle.blk_base.specs.Limits.{IsGeometry}
 use Rattle.blk_base.specs.declared.geometry.Super.{Super}
@@ -10,9 +10,10 @@ use Rattle.journal_room.specs.Room.{AreUsed}
 use Rattle.vdo_model.specs.Scripts.{Script}
 use Rattle.core_model.specs.declared.sizes.Sizes.{Sizes}
 use Rattle.core_model.specs.declared.zones.Zone.{Zone}
-use Rattle.core_model.specs.Legal.{Legal}
 use Rattle.core_model.specs.SessionLimits.{IsLimited}
 use Rattle.core_model.specs.Sessions.{Session, IsSession, IsServed, said_by}
+use Rattle.core_model.specs.Start.{IsFirst}
+use Rattle.core_model.specs.Steps.{Leads}
 use Rattle.core_model.specs.Trace.{Trace}
 use Rattle.core_reports.specs.Rooms.{IsRoomFor}
 use Rattle.vdo_core.specs.Plays.{core_with}
@@ -23,13 +24,15 @@ pub record CoreState : Type 0 where
   pub sizes : Sizes
   pub zones : List Zone
 
--- a session of these sizes comes to these zones by some events
+-- some events lead from the start of a session of these sizes to these zones
 pub record IsReached (sizes : Sizes) (zones : List Zone) : Type 0 where
   pub session : Session
+  pub first : List Zone
   pub trace : Trace
   pub sizes_are : session.sizes ≡ sizes
   pub is_session : IsSession session
-  pub legal : Legal session (core_with zones trace)
+  pub is_first : IsFirst session (core_with first [])
+  pub leads : Leads session.sizes (core_with first []) (core_with zones trace)
 
 -- and there is room for the report of its script
 pub record IsWhole (sizes : Sizes) (zones : List Zone) (room : List ℕ) : Type 0 where
