@@ -5,6 +5,7 @@ pub mod PlayLaws
 mod StartLaws
 mod StrayLaws
 mod ZoneLaws
+mod CauseRows
 mod CoreRows
 mod ToolRows
 mod LaneLaws

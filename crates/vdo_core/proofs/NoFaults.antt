@@ -1,4 +1,4 @@
--- In a legal core no zone is past its room, and no step fails.
+-- In a legal core no zone is past its room, and no step and no other event fails.
 use Rattle.std.proofs.Common.{◌≡◌, ◌<◌, ◌≤◌, ◌+◌, ◌*◌, ◌++◌, ◌⊎◌, ℕ, Bool, Some, List, [], ◌∷◌, length, slice_get, sym, subst, arith, inl, inr}
 use Rattle.std.proofs.lemmas.Nat.{mul-le}
 use Rattle.disk_model.specs.Seen.{Seen}
@@ -21,9 +21,12 @@ use Rattle.core_limits.proofs.WholeZones.{zone_within}
 use Rattle.core_laws.proofs.trace.DeskOfTrace.{desk_log_right}
 use Rattle.step_parts.specs.declared.fault.StepFault.{StepFault}
 use Rattle.step_parts.specs.declared.fault.StepFault.TheVariants as fault
-use Rattle.vdo_core.specs.Causes.{BeginsCrowded, CanStep, IsServedBy, IsSized, MayFault, MayFaultAfter}
+use Rattle.vdo_core.specs.Causes.{BeginsCrowded, CanStep, IsServedBy, IsSized, MayFault, MayFaultAfter, MayFaultBy}
 use Rattle.vdo_core.specs.Plays.{core_with}
+use Rattle.vdo_core.specs.declared.events.Event.{Event}
+use Rattle.vdo_core.specs.declared.events.Event.TheVariants as event
 use Rattle.vdo_core.proofs.NoStrays.{none_stray}
+use Rattle.vdo_core.proofs.PlayLaws.{played_leads}
 
 -- no more blocks of the journal are used than there are
 few_used : (s : Session) → IsSession s → s.sizes.opened ≤ s.sizes.geometry.journal
@@ -76,10 +79,21 @@ begins_with_room s t n other session own right crowded = crowded
 
 pub none_fails : (s : Session) (core : Core) (n : ℕ) (z : Zone) (f : StepFault) → IsSession s → Legal s core → slice_get core.zones n ≡ Some z → MayFault s.sizes z f → ⊥
 none_fails s core n z fault.Exhausted session legal had (inl cannot) = cannot (can_step s core n z session legal had)
-none_fails s core n z fault.Exhausted session legal had (inr crowded) =
+none_fails s core n z fault.Exhausted session legal had (inr (none, crowded)) =
     begins_with_room s core.trace n z.keeps session (legal.each n z had).own (desk_log_right s core.trace legal.right) crowded
 none_fails s core n z fault.Stray session legal had stray = none_stray s core n z session legal had stray
 
-pub none_fails_after : (tells honest : Bool) (s : Session) (zones : List Zone) (t : Trace) (before : Seen) (f : StepFault) → IsSession s → Legal s (core_with zones t) → MayFaultAfter tells honest s.sizes zones before f → ⊥
-none_fails_after tells honest s zones t before f session legal (between, log, (made, leads, told), (number, (z, had, why))) =
-    none_fails s (core_with between (made ++ t)) number z f session (legal_leads s (core_with zones t) (core_with between (made ++ t)) session (leads t) legal) had why
+-- nor does an event
+pub none_fails_by : (s : Session) (zones : List Zone) (t : Trace) (e : Event) (f : StepFault) → IsSession s → Legal s (core_with zones t) → MayFaultBy s.sizes zones e f → ⊥
+none_fails_by s zones t (event.Step number) f session legal (z, had, why) = none_fails s (core_with zones t) number z f session legal had why
+none_fails_by s zones t (event.Move from to) f session legal (exhausted, inl (z, had, past)) = past (zone_within s (core_with zones t) session legal from z had)
+none_fails_by s zones t (event.Move from to) f session legal (exhausted, inr (z, had, past)) = past (zone_within s (core_with zones t) session legal to z had)
+
+-- nor one of a list of them
+pub none_fails_after : (tells honest : Bool) (s : Session) (events : List Event) (zones : List Zone) (t : Trace) (before : Seen) (f : StepFault)
+    → IsSession s → Legal s (core_with zones t) → MayFaultAfter tells honest s.sizes events zones before f → ⊥
+none_fails_after tells honest s [] zones t before f session legal none = none
+none_fails_after tells honest s (e ∷ events) zones t before f session legal (inl first) = none_fails_by s zones t e f session legal first
+none_fails_after tells honest s (e ∷ events) zones t before f session legal (inr (between, seen, one, later)) =
+    let (made, leads, called) = played_leads tells honest s.sizes e zones between before seen one in
+    none_fails_after tells honest s events between (made ++ t) seen f session (legal_leads s (core_with zones t) (core_with between (made ++ t)) session (leads t) legal) later

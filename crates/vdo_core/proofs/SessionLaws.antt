@@ -27,14 +27,15 @@ use Rattle.core_laws.proofs.kept.FirstState.{legal_first}
 use Rattle.core_laws.proofs.kept.LegalMoves.{legal_leads}
 use Rattle.core_laws.proofs.kept.ZoneKinds.{desk_sits}
 use Rattle.step_parts.specs.declared.fault.StepFault.{StepFault}
-use Rattle.vdo_core.specs.Causes.{OneMayFault}
+use Rattle.vdo_core.specs.Causes.{MayFaultBy}
 use Rattle.vdo_core.specs.Cores.{CanBegin, IsReached}
 use Rattle.vdo_core.specs.FreeBlocks.{free_of}
 use Rattle.vdo_core.specs.Plays.{LeadsTo, core_with}
 use Rattle.vdo_core.specs.Starts.{IsOf}
+use Rattle.vdo_core.specs.declared.events.Event.{Event}
 use Rattle.vdo_core.proofs.FreeLaws.{free_distinct, free_fresh}
 use Rattle.vdo_core.proofs.JournalLaws.{sealed_from, stands, window_of_image}
-use Rattle.vdo_core.proofs.NoFaults.{none_fails}
+use Rattle.vdo_core.proofs.NoFaults.{none_fails_by}
 use Rattle.vdo_core.proofs.PlayLaws.{leads_on}
 
 zeros_length : length zero_block ≡ 4096
@@ -133,9 +134,8 @@ module _ (sizes : Sizes) (zones : List Zone) (reached : IsReached sizes zones) w
     leads = leads_on reached.session.sizes (core_with reached.first []) (core_with zones reached.trace) (core_with later (made ++ reached.trace)) reached.leads (rw reached.sizes_are (leads reached.trace));
   }
 
-  pub none_fails_here : (fault : StepFault) → OneMayFault sizes zones fault → ⊥
-  none_fails_here fault (number, (zone, had, why)) =
-      none_fails reached.session (core_with zones reached.trace) number zone fault reached.is_session legal_here had (rw reached.sizes_are why)
+  pub none_fails_here : (e : Event) (f : StepFault) → MayFaultBy sizes zones e f → ⊥
+  none_fails_here e f why = none_fails_by reached.session zones reached.trace e f reached.is_session legal_here (rw reached.sizes_are why)
 
 -- a core has one script: that of its desk
 pub one_script : (s s' : Session) (zones : List Zone) (t t' : Trace) → Legal s (core_with zones t) → Legal s' (core_with zones t') → s.script ≡ s'.script

@@ -1,6 +1,8 @@
 -- Why a step comes to no end, carried from the part that meets it to the step, and from the step to a list of events.
-use Rattle.std.proofs.Common.{◌≡◌, ℕ, Bool, true, false, List, [], ◌∷◌, length, take, refl, sym, subst, ◌∙◌, arith, inl, inr}
+use Rattle.std.proofs.Common.{◌≡◌, ◌<◌, ◌+◌, ℕ, suc, Bool, true, false, List, [], ◌∷◌, length, drop, take, get_or, refl, sym, subst, ◌∙◌, arith, inl, inr}
+use Rattle.std.proofs.Math.Seq.{drop-cons}
 use Rattle.std.specs.List.{AllByRecursion}
+use Rattle.disk_model.specs.Seen.{Seen}
 use Rattle.core_model.specs.declared.items.Item.{Item}
 use Rattle.core_model.specs.declared.sizes.Sizes.{Sizes}
 use Rattle.core_model.specs.declared.zones.Zone.{Zone}
@@ -13,7 +15,9 @@ use Rattle.core_laws.proofs.lists.CoreLists.{length-posted}
 use Rattle.step_parts.specs.Causes.{NoRule}
 use Rattle.step_parts.specs.declared.fault.StepFault.{StepFault}
 use Rattle.step_parts.specs.declared.fault.StepFault.TheVariants as fault
-use Rattle.vdo_core.specs.Causes.{BeginsNone, HasLane, MayFault}
+use Rattle.vdo_core.specs.Causes.{BeginsNone, HasLane, MayFault, MayFaultAfter, MayFaultBy}
+use Rattle.vdo_core.specs.Plays.{PlaysOne}
+use Rattle.vdo_core.specs.declared.events.Event.{Event}
 
 -- a zone has the same lanes after a post
 sent_number : (own : Bool) (to : ℕ) (it : Item) (z : Zone) → (sent_to own to it z).number ≡ z.number
@@ -39,7 +43,7 @@ act_may_fault sizes z front rest taken why = inl (front, rest, taken, why)
 
 -- a request that may begin isn't served, or there is no room for it
 pub begin_may_fault : (sizes : Sizes) (z : Zone) (f : StepFault) → z.ports.inbox ≡ [] → BeginsNone sizes z.keeps f → MayFault sizes z f
-begin_may_fault sizes z fault.Exhausted none why = inr why
+begin_may_fault sizes z fault.Exhausted none why = inr (none, why)
 begin_may_fault sizes z fault.Stray none why = inr (inl (none, why))
 
 -- a zone with as many outboxes has the same lanes
@@ -54,3 +58,16 @@ pub posts_may_fault : (sizes : Sizes) (z : Zone) (ports : Ports) (front : List I
     → (AllByRecursion (HasLane sizes (record z { ports = ports })) posts → ⊥) → MayFault sizes z fault.Stray
 posts_may_fault sizes z ports front new made posts taken same act why =
     inr (inr (new, made, posts, subst (λ (items : List Item). Act sizes z.keeps items new made posts) (sym taken) act, λ all. why (same_lanes sizes z ports posts same all)))
+
+-- an event comes to no end, of those that are left
+module _ (tells honest : Bool) (sizes : Sizes) (events : List Event) (n : ℕ) (d : Event) (zones : List Zone) (before : Seen) (why : StepFault) (within : n < length events) where
+  pub this_may_fault : MayFaultBy sizes zones (get_or events n d) why → MayFaultAfter tells honest sizes (drop n events) zones before why
+  this_may_fault this = subst (λ (es : List Event). MayFaultAfter tells honest sizes es zones before why) (sym (drop-cons events n d within)) (inl this)
+
+  -- or one behind an event that was played
+  pub later_may_fault : (between : List Zone) (seen : Seen) → PlaysOne tells honest sizes (get_or events n d) zones between before seen
+      → MayFaultAfter tells honest sizes (drop (n + 1) events) between seen why → MayFaultAfter tells honest sizes (drop n events) zones before why
+  later_may_fault between seen one rest =
+      let next : n + 1 ≡ suc n = omega arith in
+      let left = subst (λ (m : ℕ). MayFaultAfter tells honest sizes (drop m events) between seen why) next rest in
+      subst (λ (es : List Event). MayFaultAfter tells honest sizes es zones before why) (sym (drop-cons events n d within)) (inr (between, seen, one, left))

@@ -17,7 +17,9 @@ use Rattle.step_parts.specs.Causes.{NoRule}
 use Rattle.step_parts.specs.declared.fault.StepFault.{StepFault}
 use Rattle.step_parts.specs.declared.fault.StepFault.TheVariants as fault
 use Rattle.steps_desk.specs.Begins as desk
-use Rattle.vdo_core.specs.Plays.{LeadsTo}
+use Rattle.vdo_core.specs.Plays.{PlaysOne}
+use Rattle.vdo_core.specs.declared.events.Event.{Event}
+use Rattle.vdo_core.specs.declared.events.Event.TheVariants as event
 
 -- a zone has a lane for a post
 abbrev pub HasLane : Sizes → Zone → Post → Type 0
@@ -69,17 +71,29 @@ IsStray sizes z = NoneApplies sizes z ⊎ ((z.ports.inbox ≡ []) × BeginsUnser
 
 -- why a zone comes to no end of its step
 abbrev pub MayFault : Sizes → Zone → StepFault → Type 0
-MayFault sizes z fault.Exhausted = (CanStep sizes z → ⊥) ⊎ BeginsCrowded sizes z.keeps
+MayFault sizes z fault.Exhausted = (CanStep sizes z → ⊥) ⊎ ((z.ports.inbox ≡ []) × BeginsCrowded sizes z.keeps)
 MayFault sizes z fault.Stray = IsStray sizes z
 
--- why the zone of a number doesn't
+-- why the zone of a number does
 abbrev pub MayFaultAt : Sizes → List Zone → ℕ → StepFault → Type 0
-MayFaultAt sizes zones number fault = (z : Zone) × (slice_get zones number ≡ Some z) × MayFault sizes z fault
+MayFaultAt sizes zones number why = (z : Zone) × (slice_get zones number ≡ Some z) × MayFault sizes z why
 
--- why some zone doesn't
-abbrev pub OneMayFault : Sizes → List Zone → StepFault → Type 0
-OneMayFault sizes zones fault = (number : ℕ) × MayFaultAt sizes zones number fault
+-- the zone of a number is past its room
+abbrev pub IsPastRoom : List Zone → ℕ → Type 0
+IsPastRoom zones number = (z : Zone) × (slice_get zones number ≡ Some z) × (IsWithin z → ⊥)
 
--- one does after some events
-abbrev pub MayFaultAfter : Bool → Bool → Sizes → List Zone → Seen → StepFault → Type 0
-MayFaultAfter tells honest sizes zones before fault = (between : List Zone) × (seen : Seen) × LeadsTo tells honest sizes zones between before seen × OneMayFault sizes between fault
+-- why a move comes to no end: one of its two zones is past its room
+abbrev pub MoveMayFault : List Zone → ℕ → ℕ → StepFault → Type 0
+MoveMayFault zones from to why = (why ≡ fault.Exhausted) × (IsPastRoom zones from ⊎ IsPastRoom zones to)
+
+-- why an event does
+abbrev pub MayFaultBy : Sizes → List Zone → Event → StepFault → Type 0
+MayFaultBy sizes zones (event.Step number) why = MayFaultAt sizes zones number why
+MayFaultBy sizes zones (event.Move from to) why = MoveMayFault zones from to why
+
+-- Why one of these events does, played one after another: the first one, or one behind it once that was played.
+abbrev pub MayFaultAfter : Bool → Bool → Sizes → List Event → List Zone → Seen → StepFault → Type 0
+MayFaultAfter tells honest sizes [] zones before why = ⊥
+MayFaultAfter tells honest sizes (e ∷ events) zones before why =
+    MayFaultBy sizes zones e why
+    ⊎ ((between : List Zone) × (seen : Seen) × PlaysOne tells honest sizes e zones between before seen × MayFaultAfter tells honest sizes events between seen why)

@@ -5,7 +5,7 @@ ghost use Rattle.core_model.specs.declared.zones.Zone.{Zone};
 ghost use Rattle.core_model.specs.Steps.{IsIdle};
 ghost use Rattle.step_parts.specs.declared.fault.Stepped.TheVariants.{Did, Idle};
 ghost use Rattle.steps_device.specs.DeviceCalls.{Fits};
-ghost use Rattle.vdo_core.specs.Causes.{MayFaultAt, OneMayFault, MayFaultAfter};
+ghost use Rattle.vdo_core.specs.Causes.{MayFaultAt, MayFaultAfter, MayFaultBy};
 ghost use Rattle.vdo_core.specs.Plays.{StepsAt, HasNoWork, PlaysOne, Plays, LeadsTo};
 
 use crate::moving::move_items;
@@ -61,7 +61,7 @@ pub(crate) fn play_one<D: Disk>(
     ensures busy { IfOk result (λ stepped. stepped ≡ Did → HasNoWork sizes.now zones.old event → ⊥) }
     ensures idle { IfOk result (λ stepped. stepped ≡ Idle → HasNoWork sizes.now zones.old event) }
     ensures same { IfOk result (λ stepped. stepped ≡ Idle → zones.new ≡ zones.old) }
-    ensures err { IfErr result (OneMayFault sizes.now zones.old) }
+    ensures err { IfErr result (MayFaultBy sizes.now zones.old event) }
 {
     match event {
         Event::Step(number) => Ok(step(sizes, zones, number, disk)?),
@@ -96,7 +96,7 @@ pub fn play<D: Disk>(
     ensures busy { IfOk result (λ stepped. stepped ≡ Did → AllByRecursion (HasNoWork sizes.now zones.old) events.now → ⊥) }
     ensures idle { IfOk result (λ stepped. stepped ≡ Idle → AllByRecursion (HasNoWork sizes.now zones.old) events.now) }
     ensures same { IfOk result (λ stepped. stepped ≡ Idle → zones.new ≡ zones.old) }
-    ensures err { IfErr result (MayFaultAfter D.tells D.honest sizes.now zones.old (D.seen disk.old)) }
+    ensures err { IfErr result (MayFaultAfter D.tells D.honest sizes.now events.now zones.old (D.seen disk.old)) }
 {
     let mut any = Stepped::Idle;
     for event in events {

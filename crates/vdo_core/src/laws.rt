@@ -9,15 +9,16 @@ ghost use Rattle.step_parts.specs.declared.fault.StepFault.{StepFault};
 ghost use Rattle.vdo_core.specs.Causes.{MayFault, MayFaultAfter};
 ghost use Rattle.vdo_core.specs.Done.{IsDone};
 ghost use Rattle.vdo_core.specs.Plays.{core_with};
+ghost use Rattle.vdo_core.specs.declared.events.Event.{Event};
 ghost use Rattle.vdo_model.specs.DeskLog.{AllAnswered};
 
-/// In a legal core no zone's step fails, and no events from it come to one that does: no zone is past its room, nothing
+/// In a legal core no zone's step fails, and no event of a list that is played from it on: no zone is past its room, nothing
 /// that it counts is past its type, and nothing is stray.
 pub fn a_legal_core_never_fails()
     ensures step { (s : Session) (core : Core) (n : ℕ) (z : Zone) (fault : StepFault) → IsSession s → Legal s core → slice_get core.zones n ≡ Some z
         → MayFault s.sizes z fault → ⊥ }
-    ensures plays { (tells honest : Bool) (s : Session) (zones : List Zone) (t : Trace) (before : Seen) (fault : StepFault) → IsSession s → Legal s (core_with zones t)
-        → MayFaultAfter tells honest s.sizes zones before fault → ⊥ }
+    ensures plays { (tells honest : Bool) (s : Session) (events : List Event) (zones : List Zone) (t : Trace) (before : Seen) (fault : StepFault) → IsSession s → Legal s (core_with zones t)
+        → MayFaultAfter tells honest s.sizes events zones before fault → ⊥ }
 {}
 
 /// A legal core is done exactly where each request of the script is answered.

@@ -1,11 +1,9 @@
 ghost use Rattle.std.specs.Prelude.{◌≡◌, ◌≢◌, ◌<◌, [], Some, IfOk, IfErr, IsTrue, List, false, length, slice_get};
 ghost use Rattle.core_model.specs.declared.items.Item.{Item};
-ghost use Rattle.core_model.specs.declared.sizes.Sizes.{Sizes};
 ghost use Rattle.core_model.specs.declared.zones.Zone.{Zone};
 ghost use Rattle.core_model.specs.Limits.{IsShort};
-ghost use Rattle.step_parts.specs.declared.fault.StepFault.TheVariants.{Exhausted};
 ghost use Rattle.step_parts.specs.declared.fault.Stepped.TheVariants.{Did, Idle};
-ghost use Rattle.vdo_core.specs.Causes.{OneMayFault};
+ghost use Rattle.vdo_core.specs.Causes.{MoveMayFault};
 ghost use Rattle.vdo_core.specs.Moves.{MovesNothing, MovesSome, has_items};
 ghost use Rattle.vdo_core.specs.Plays.{MovesAll};
 
@@ -58,7 +56,7 @@ pub fn move_items(zones: &mut Zones, from: u32, to: u32) -> Result<Stepped, Step
     ensures busy { IfOk result (λ stepped. stepped ≡ Did → MovesNothing zones.old from to → ⊥) }
     ensures idle { IfOk result (λ stepped. stepped ≡ Idle → MovesNothing zones.old from to) }
     ensures same { IfOk result (λ stepped. stepped ≡ Idle → zones.new ≡ zones.old) }
-    ensures err { IfErr result (λ fault. (fault ≡ Exhausted) × ((sizes : Sizes) → OneMayFault sizes zones.old Exhausted)) }
+    ensures err { IfErr result (MoveMayFault zones.old from to) }
 {
     if !can_move(zones, from, to) {
         return Ok(Stepped::Idle);

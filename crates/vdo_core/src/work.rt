@@ -2,7 +2,7 @@ ghost use Rattle.std.specs.Prelude.{ℕ, ◌≡◌, ◌*◌, length, IfOk, IfErr
 ghost use Rattle.core_model.specs.Limits.{IsDataWithin};
 ghost use Rattle.core_model.specs.SessionLimits.{requests_in};
 ghost use Rattle.core_model.specs.Steps.{IsIdle, MayBegin};
-ghost use Rattle.vdo_core.specs.Causes.{IsServedBy, IsSized, MayFault, OneMayFault};
+ghost use Rattle.vdo_core.specs.Causes.{IsServedBy, IsSized, MayFault, MayFaultBy};
 ghost use Rattle.vdo_core.specs.Done.{IsDone};
 ghost use Rattle.vdo_core.specs.Plays.{HasNoWork};
 
@@ -73,7 +73,7 @@ pub fn is_done(zones: &Zones) -> bool
 pub fn ready(sizes: &Sizes, zones: &Zones, event: Event) -> Result<bool, StepFault>
     ensures yes { IfOk result (λ some. IsTrue some → HasNoWork sizes.now zones.now event → ⊥) }
     ensures no { IfOk result (λ some. (some ≡ false) → HasNoWork sizes.now zones.now event) }
-    ensures err { IfErr result (OneMayFault sizes.now zones.now) }
+    ensures err { IfErr result (MayFaultBy sizes.now zones.now event) }
 {
     match event {
         Event::Step(number) => match zones.zones.get(number as usize) {

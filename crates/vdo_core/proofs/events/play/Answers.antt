@@ -4,12 +4,14 @@ use Rattle.vdo_core.specs.Causes.{MayFaultAfter}
 use Rattle.vdo_core.specs.Plays.{HasNoWork}
 use Rattle.step_parts.proofs.FaultLaws.{passed_on}
 use Rattle.vdo_core.proofs.PlayLaws.{nothing, leads_further, next_plays, none_left, next_none, none_still, none_for_none, none_for_one}
+use Rattle.vdo_core.proofs.StrayLaws.{later_may_fault, this_may_fault}
 use Rattle.vdo_core.proofs.events.play.Goals as goal
 
 pub loop-event-init : goal.loop-event-init
 loop-event-init g c = record {
   stays = record { opening = refl; size = refl };
   plays = λ later log rest. rest;
+  faults = λ why rest. rest;
   leads = nothing g.D.Disk.tells g.D.Disk.honest c.args.sizes.now c.args.zones.now _;
   busy = search rules;
   idle = λ idle rest. rest;
@@ -26,6 +28,10 @@ loop-event-preserved g c =
       stays = stays_on _ _ _ before.stays after.stays;
       plays = λ later log rest.
           before.plays later log (next_plays _ _ _ c.args.events.now c.loop-event.event-index _ c.loop-event.zones c.play_one.new.zones later _ _ log c.loop-event-test.true after.plays rest);
+      faults = λ why rest.
+          before.faults why
+          (later_may_fault g.D.Disk.tells g.D.Disk.honest c.args.sizes.now c.args.events.now event _ c.loop-event.zones (g.D.Disk.seen c.loop-event.disk) why c.loop-event-test.true c.play_one.new.zones
+          (g.D.Disk.seen c.play_one.new.disk) after.plays rest);
       leads = leads_further g.D.Disk.tells g.D.Disk.honest c.args.sizes.now c.args.zones.now c.loop-event.zones c.play_one.new.zones _ _ _ before.leads after.leads;
       busy = λ did none. elim (c.either-any.ensures.did did) [
         | inl early ↦ before.busy early none
@@ -40,8 +46,10 @@ loop-event-preserved g c =
 
 pub returns-in_err-stepped-clause-err : goal.returns-in_err-stepped-clause-err
 returns-in_err-stepped-clause-err g c =
-    passed_on c.from_residual.result (MayFaultAfter g.D.Disk.tells g.D.Disk.honest c.args.sizes.now c.args.zones.now (g.D.Disk.seen c.args.disk.now)) c.in_err-stepped.field-0.0 c.from_residual.ensures.1
-    (c.loop-event.zones, g.D.Disk.seen c.loop-event.disk, c.loop-event.invariant.leads, c.in_err-stepped.ensures.err)
+    passed_on c.from_residual.result (MayFaultAfter g.D.Disk.tells g.D.Disk.honest c.args.sizes.now c.args.events.now c.args.zones.now (g.D.Disk.seen c.args.disk.now)) c.in_err-stepped.field-0.0 c.from_residual.ensures.1
+    (c.loop-event.invariant.faults c.in_err-stepped.field-0.0
+    (this_may_fault g.D.Disk.tells g.D.Disk.honest c.args.sizes.now c.args.events.now c.loop-event.event-index _ c.loop-event.zones (g.D.Disk.seen c.loop-event.disk) c.in_err-stepped.field-0.0
+    c.loop-event-test.true c.in_err-stepped.ensures.err))
 
 pub returns-clause-plays : goal.returns-clause-plays
 returns-clause-plays g c =

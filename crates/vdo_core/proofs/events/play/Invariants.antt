@@ -2,7 +2,9 @@ use Rattle.std.proofs.Common.{◌≡◌, List, drop}
 use Rattle.std.specs.List.{AllByRecursion}
 use Rattle.disk_model.specs.Seen.{Seen, Stays}
 use Rattle.core_model.specs.declared.zones.Zone.{Zone}
+use Rattle.vdo_core.specs.Causes.{MayFaultAfter}
 use Rattle.vdo_core.specs.Plays.{HasNoWork, LeadsTo, Plays}
+use Rattle.step_parts.specs.declared.fault.StepFault.{StepFault}
 use Rattle.step_parts.specs.declared.fault.Stepped.TheVariants.{Did, Idle}
 use Rattle.vdo_core.proofs.events.play.Given as goal
 
@@ -12,6 +14,8 @@ invariant-loop-event g l = record {
   plays : (later : List Zone) (seen : Seen)
       → Plays g.D.Disk.tells g.D.Disk.honest l.sizes (drop l.event-index l.events) l.zones later (g.D.Disk.seen l.disk) seen
       → Plays g.D.Disk.tells g.D.Disk.honest l.sizes l.events l.fn.zones later (g.D.Disk.seen l.fn.disk) seen;
+  faults : (why : StepFault) → MayFaultAfter g.D.Disk.tells g.D.Disk.honest l.sizes (drop l.event-index l.events) l.zones (g.D.Disk.seen l.disk) why
+      → MayFaultAfter g.D.Disk.tells g.D.Disk.honest l.sizes l.events l.fn.zones (g.D.Disk.seen l.fn.disk) why;
   leads : LeadsTo g.D.Disk.tells g.D.Disk.honest l.sizes l.fn.zones l.zones (g.D.Disk.seen l.fn.disk) (g.D.Disk.seen l.disk);
   busy : l.any ≡ Did → AllByRecursion (HasNoWork l.sizes l.fn.zones) l.events → ⊥;
   idle : l.any ≡ Idle → AllByRecursion (HasNoWork l.sizes l.fn.zones) (drop l.event-index l.events) → AllByRecursion (HasNoWork l.sizes l.fn.zones) l.events;

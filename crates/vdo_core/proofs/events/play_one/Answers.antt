@@ -1,4 +1,4 @@
-use Rattle.vdo_core.specs.Causes.{OneMayFault}
+use Rattle.vdo_core.specs.Causes.{MayFaultBy}
 use Rattle.step_parts.proofs.FaultLaws.{passed_on}
 use Rattle.vdo_core.proofs.PlayLaws.{step_plays, step_busy, move_plays, played_leads}
 use Rattle.vdo_core.proofs.events.play_one.Goals as goal
@@ -37,10 +37,9 @@ returns-in_ok-move_items-in-Move-clause-idle g c idle = rw c.in-Move.is (c.in_ok
 
 pub returns-in_err-step-in-Step-clause-err : goal.returns-in_err-step-in-Step-clause-err
 returns-in_err-step-in-Step-clause-err g c =
-    passed_on c.from_residual.result (OneMayFault c.args.sizes.now c.args.zones.now) c.in_err-step-in-Step.field-0.0 c.from_residual.ensures.1 (_, c.in_err-step-in-Step.ensures.err)
+    passed_on c.from_residual.result (MayFaultBy c.args.sizes.now c.args.zones.now c.args.event) c.in_err-step-in-Step.field-0.0 c.from_residual.ensures.1 (rw c.in-Step.is c.in_err-step-in-Step.ensures.err)
 
 pub returns-in_err-move_items-in-Move-clause-err : goal.returns-in_err-move_items-in-Move-clause-err
 returns-in_err-move_items-in-Move-clause-err g c =
-    let err = c.in_err-move_items-in-Move.ensures.err in
-    passed_on c.from_residual-in_err-move_items-in-Move.result (OneMayFault c.args.sizes.now c.args.zones.now) c.in_err-move_items-in-Move.field-0.0 c.from_residual-in_err-move_items-in-Move.ensures.1
-    (rw err.0 (err.1 c.args.sizes.now))
+    passed_on c.from_residual-in_err-move_items-in-Move.result (MayFaultBy c.args.sizes.now c.args.zones.now c.args.event) c.in_err-move_items-in-Move.field-0.0
+    c.from_residual-in_err-move_items-in-Move.ensures.1 (rw c.in-Move.is c.in_err-move_items-in-Move.ensures.err)

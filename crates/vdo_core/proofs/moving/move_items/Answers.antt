@@ -1,4 +1,4 @@
-use Rattle.std.proofs.Common.{arith, ◌≡◌, ◌<◌, ◌∙◌, true, Some, length, slice_get, refl, sym, subst, inl}
+use Rattle.std.proofs.Common.{arith, ◌≡◌, ◌<◌, ◌∙◌, true, Some, length, slice_get, refl, sym, subst, inl, inr}
 use Rattle.std.proofs.lemmas.Grind.{common_steps}
 use Rattle.std.proofs.lemmas.Option.{gets, same_Some, slice_get_within}
 use Rattle.core_model.specs.declared.zones.Zone.{Zone}
@@ -13,13 +13,13 @@ pub returns-then-not-is_within-clause-err : goal.returns-then-not-is_within-clau
 returns-then-not-is_within-clause-err c =
     let some = c.can_move.ensures.yes c.if-not-can_move.false in
     let had : slice_get c.args.zones.now c.args.from ≡ Some c.index.result.now = grind (arith, common_steps, gets) in
-    (refl, λ sizes. (c.args.from, (c.index.result.now, had, inl (λ can. (let is : c.is_within.result ≡ true = c.is_within.ensures.1 can.within in cc)))))
+    (refl, inl (c.index.result.now, had, λ within. (let is : c.is_within.result ≡ true = c.is_within.ensures.1 within in cc)))
 
 pub returns-then-not-is_within-2-clause-err : goal.returns-then-not-is_within-2-clause-err
 returns-then-not-is_within-2-clause-err c =
     let some = c.can_move.ensures.yes c.if-not-can_move.false in
     let had : slice_get c.args.zones.now c.args.to ≡ Some c.index-2.result.now = grind (arith, common_steps, gets) in
-    (refl, λ sizes. (c.args.to, (c.index-2.result.now, had, inl (λ can. (let is : c.is_within-2.result ≡ true = c.is_within-2.ensures.1 can.within in cc)))))
+    (refl, inr (c.index-2.result.now, had, λ within. (let is : c.is_within-2.result ≡ true = c.is_within-2.ensures.1 within in cc)))
 
 pub carry-requires-clause-outbox : goal.carry-requires-clause-outbox
 carry-requires-clause-outbox c = λ source got.

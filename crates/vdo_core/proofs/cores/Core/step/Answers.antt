@@ -2,7 +2,7 @@ use Rattle.vdo_core.proofs.SessionLaws.{none_fails_here, reached_on}
 use Rattle.vdo_core.proofs.cores.Core.step.Goals as goal
 
 pub unreachable-requires : goal.unreachable-requires
-unreachable-requires g c = none_fails_here c.self.inside.sizes c.self.inside.zones c.self.invariant.reached c.in_default.field-0 c.in_default.ensures.err
+unreachable-requires g c = none_fails_here c.self.inside.sizes c.self.inside.zones c.self.invariant.reached c.args.event c.in_default.field-0 c.in_default.ensures.err
 
 pub invariant_of-self : goal.invariant_of-self
 invariant_of-self g c = record {
