@@ -1,2 +1,3 @@
 pub mod TurnLaws
+mod TraceRows
 mod TurnRows

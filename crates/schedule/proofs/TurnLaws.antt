@@ -1,16 +1,17 @@
 -- Turns: which event each takes, and what they play.
-use Rattle.std.proofs.Common.{ℕ, zero, suc, ◌≡◌, ◌<◌, ◌≤◌, ◌+◌, ◌%◌, Bool, List, [], ◌∷◌, ◌++◌, length, drop, get_or, slice_get, refl, sym, ◌∙◌, ap, subst, inl, inr, arith}
+use Rattle.std.proofs.Common.{ℕ, zero, suc, ◌≡◌, ◌<◌, ◌≤◌, ◌+◌, ◌%◌, Bool, List, [], ◌∷◌, ◌++◌, length, drop, get_or, slice_get, refl, sym, ◌∙◌, ap, append_assoc, subst, inl, inr, arith}
 use Rattle.std.proofs.Math.Seq.{drop-cons}
-use Rattle.std.proofs.lemmas.List.{drop_all}
+use Rattle.std.proofs.lemmas.List.{append-nil, drop_all}
 use Rattle.std.proofs.lemmas.Option.{same_Some}
 use Rattle.disk_model.specs.Picks.{next_state, number_in}
 use Rattle.disk_model.specs.Seen.{Seen}
 use Rattle.core_model.specs.declared.sizes.Sizes.{Sizes}
 use Rattle.core_model.specs.declared.zones.Zone.{Zone}
+use Rattle.core_model.specs.Trace.{Trace}
 use Rattle.vdo_core.specs.Done.{IsDone}
-use Rattle.vdo_core.specs.Plays.{LeadsTo, Plays, PlaysOne}
+use Rattle.vdo_core.specs.Plays.{Plays, PlaysOne}
 use Rattle.vdo_core.specs.declared.events.Event.{Event}
-use Rattle.vdo_core.proofs.PlayLaws.{plays_lead}
+use Rattle.vdo_core.proofs.PlayLaws.{LeadsBy, plays_lead}
 use Rattle.schedule.specs.Turns.{AreReady, Drives, IsTurn, PlaysUntilDone, event_count, event_of}
 
 module _ (sizes : Sizes) (zones : List Zone) where
@@ -30,64 +31,71 @@ module _ (sizes : Sizes) (zones : List Zone) where
       same_Some _ _ (sym one.is ∙ ap (λ (ready : List Event). slice_get ready (number_in (next_state state) % length ready)) same ∙ other.is)
 
 -- a turn after others
-pub drives_further : (tells honest : Bool) (sizes : Sizes) (state middle last : ℕ) (events more : List Event) (a b c : List Zone) (seen seen' seen'' : Seen)
-    → Drives tells honest sizes state middle events a b seen seen' → Drives tells honest sizes middle last more b c seen' seen''
-    → Drives tells honest sizes state last (events ++ more) a c seen seen''
-drives_further tells honest sizes state middle last [] more a b c seen seen' seen'' (at, same, silent) later =
-    subst (λ (s : Seen). Drives tells honest sizes state last more a c s seen'') silent
-    (subst (λ (zones : List Zone). Drives tells honest sizes state last more zones c seen' seen'') same
-    (subst (λ (n : ℕ). Drives tells honest sizes n last more b c seen' seen'') at later))
-drives_further tells honest sizes state middle last (e ∷ events) more a b c seen seen' seen'' (between, s, undone, turn, one, rest) later =
-    (between, s, undone, turn, one, drives_further tells honest sizes (next_state state) middle last events more between b c s seen' seen'' rest later)
+pub drives_further : (tells honest : Bool) (sizes : Sizes) (state middle last : ℕ) (events more : List Event) (a b c : List Zone) (seen seen' seen'' : Seen) (early late : Trace)
+    → Drives tells honest sizes state middle events a b seen seen' early → Drives tells honest sizes middle last more b c seen' seen'' late
+    → Drives tells honest sizes state last (events ++ more) a c seen seen'' (late ++ early)
+drives_further tells honest sizes state middle last [] more a b c seen seen' seen'' early late (at, same, silent, none) drives =
+    let all : late ++ early ≡ late = ap (λ (t : Trace). late ++ t) none ∙ append-nil late in
+    subst (λ (t : Trace). Drives tells honest sizes state last more a c seen seen'' t) (sym all)
+    (subst (λ (s : Seen). Drives tells honest sizes state last more a c s seen'' late) silent
+    (subst (λ (zones : List Zone). Drives tells honest sizes state last more zones c seen' seen'' late) same
+    (subst (λ (n : ℕ). Drives tells honest sizes n last more b c seen' seen'' late) at drives)))
+drives_further tells honest sizes state middle last (e ∷ events) more a b c seen seen' seen'' early late (between, s, first, later, undone, turn, one, rest, is) drives =
+    let further = drives_further tells honest sizes (next_state state) middle last events more between b c s seen' seen'' later late rest drives in
+    let all : late ++ early ≡ (late ++ later) ++ first = ap (λ (t : Trace). late ++ t) is ∙ sym (append_assoc late later first) in
+    (between, s, first, late ++ later, undone, turn, one, further, all)
 
 -- what turns make of a core, their events do
-pub driven_plays : (tells honest : Bool) (sizes : Sizes) (state state' : ℕ) (events : List Event) (old new : List Zone) (before after : Seen)
-    → Drives tells honest sizes state state' events old new before after → Plays tells honest sizes events old new before after
-driven_plays tells honest sizes state state' [] old new before after (at, same, silent) = (same, silent)
-driven_plays tells honest sizes state state' (e ∷ events) old new before after (between, seen, undone, turn, one, rest) =
-    (between, seen, one, driven_plays tells honest sizes (next_state state) state' events between new seen after rest)
+pub driven_plays : (tells honest : Bool) (sizes : Sizes) (state state' : ℕ) (events : List Event) (old new : List Zone) (before after : Seen) (made : Trace)
+    → Drives tells honest sizes state state' events old new before after made → Plays tells honest sizes events old new before after made
+driven_plays tells honest sizes state state' [] old new before after made (at, same, silent, none) = (same, silent, none)
+driven_plays tells honest sizes state state' (e ∷ events) old new before after made (between, seen, first, later, undone, turn, one, rest, is) =
+    (between, seen, first, later, one, driven_plays tells honest sizes (next_state state) state' events between new seen after later rest, is)
 
-pub driven_leads : (tells honest : Bool) (sizes : Sizes) (state state' : ℕ) (events : List Event) (old new : List Zone) (before after : Seen)
-    → Drives tells honest sizes state state' events old new before after → LeadsTo tells honest sizes old new before after
-driven_leads tells honest sizes state state' events old new before after drives =
-    plays_lead tells honest sizes events old new before after (driven_plays tells honest sizes state state' events old new before after drives)
+pub driven_leads : (tells honest : Bool) (sizes : Sizes) (state state' : ℕ) (events : List Event) (old new : List Zone) (before after : Seen) (made : Trace)
+    → Drives tells honest sizes state state' events old new before after made → LeadsBy tells honest sizes old new before after made
+driven_leads tells honest sizes state state' events old new before after made drives =
+    plays_lead tells honest sizes events old new before after made (driven_plays tells honest sizes state state' events old new before after made drives)
 
 -- what is played until a core is done is a first part of the events
-abbrev pub PlaysPart : Bool → Bool → Sizes → List Event → List Zone → List Zone → Seen → Seen → Type 0
-PlaysPart tells honest sizes events old new before after =
-    (played left : List Event) × (events ≡ played ++ left) × Plays tells honest sizes played old new before after
+abbrev pub PlaysPart : Bool → Bool → Sizes → List Event → List Zone → List Zone → Seen → Seen → Trace → Type 0
+PlaysPart tells honest sizes events old new before after made =
+    (played left : List Event) × (events ≡ played ++ left) × Plays tells honest sizes played old new before after made
 
-pub part_plays : (tells honest : Bool) (sizes : Sizes) (events : List Event) (old new : List Zone) (before after : Seen)
-    → PlaysUntilDone tells honest sizes events old new before after → PlaysPart tells honest sizes events old new before after
-part_plays tells honest sizes [] old new before after (same, silent) = ([], [], refl, (same, silent))
-part_plays tells honest sizes (e ∷ events) old new before after (inl (done, same, silent)) = ([], e ∷ events, refl, (same, silent))
-part_plays tells honest sizes (e ∷ events) old new before after (inr (between, seen, undone, one, rest)) =
-    let (played, left, is, plays) = part_plays tells honest sizes events between new seen after rest in
-    (e ∷ played, left, ap (λ (es : List Event). e ∷ es) is, (between, seen, one, plays))
+pub part_plays : (tells honest : Bool) (sizes : Sizes) (events : List Event) (old new : List Zone) (before after : Seen) (made : Trace)
+    → PlaysUntilDone tells honest sizes events old new before after made → PlaysPart tells honest sizes events old new before after made
+part_plays tells honest sizes [] old new before after made (same, silent, none) = ([], [], refl, (same, silent, none))
+part_plays tells honest sizes (e ∷ events) old new before after made (inl (done, same, silent, none)) = ([], e ∷ events, refl, (same, silent, none))
+part_plays tells honest sizes (e ∷ events) old new before after made (inr (between, seen, first, later, undone, one, rest, all)) =
+    let (played, left, is, plays) = part_plays tells honest sizes events between new seen after later rest in
+    (e ∷ played, left, ap (λ (es : List Event). e ∷ es) is, (between, seen, first, later, one, plays, all))
 
-pub part_leads : (tells honest : Bool) (sizes : Sizes) (events : List Event) (old new : List Zone) (before after : Seen)
-    → PlaysUntilDone tells honest sizes events old new before after → LeadsTo tells honest sizes old new before after
-part_leads tells honest sizes events old new before after until =
-    let (played, left, is, plays) = part_plays tells honest sizes events old new before after until in
-    plays_lead tells honest sizes played old new before after plays
+pub part_leads : (tells honest : Bool) (sizes : Sizes) (events : List Event) (old new : List Zone) (before after : Seen) (made : Trace)
+    → PlaysUntilDone tells honest sizes events old new before after made → LeadsBy tells honest sizes old new before after made
+part_leads tells honest sizes events old new before after made until =
+    let (played, left, is, plays) = part_plays tells honest sizes events old new before after made until in
+    plays_lead tells honest sizes played old new before after made plays
 
 -- an event before those that are left, where the core isn't done
-pub next_until : (tells honest : Bool) (sizes : Sizes) (events : List Event) (n : ℕ) (d : Event) (a b later : List Zone) (seen seen' seen'' : Seen)
-    → n < length events → (IsDone a → ⊥) → PlaysOne tells honest sizes (get_or events n d) a b seen seen'
-    → PlaysUntilDone tells honest sizes (drop (n + 1) events) b later seen' seen'' → PlaysUntilDone tells honest sizes (drop n events) a later seen seen''
-next_until tells honest sizes events n d a b later seen seen' seen'' within undone one rest =
+pub next_until : (tells honest : Bool) (sizes : Sizes) (events : List Event) (n : ℕ) (d : Event) (a b last : List Zone) (seen seen' seen'' : Seen)
+    → n < length events → (IsDone a → ⊥) → ((first : Trace) × PlaysOne tells honest sizes (get_or events n d) a b seen seen' first)
+    → ((later : Trace) × PlaysUntilDone tells honest sizes (drop (n + 1) events) b last seen' seen'' later)
+    → (made : Trace) × PlaysUntilDone tells honest sizes (drop n events) a last seen seen'' made
+next_until tells honest sizes events n d a b last seen seen' seen'' within undone (first, one) (later, rest) =
     let next : n + 1 ≡ suc n = omega arith in
-    let left = subst (λ (m : ℕ). PlaysUntilDone tells honest sizes (drop m events) b later seen' seen'') next rest in
-    subst (λ (es : List Event). PlaysUntilDone tells honest sizes es a later seen seen'') (sym (drop-cons events n d within)) (inr (b, seen', undone, one, left))
+    let left = subst (λ (m : ℕ). PlaysUntilDone tells honest sizes (drop m events) b last seen' seen'' later) next rest in (
+      later ++ first,
+      subst (λ (es : List Event). PlaysUntilDone tells honest sizes es a last seen seen'' (later ++ first)) (sym (drop-cons events n d within)) (inr (b, seen', first, later, undone, one, left, refl)),
+    )
 
 -- no more is played of a core that is done
 pub done_until : (tells honest : Bool) (sizes : Sizes) (events : List Event) (a : List Zone) (seen : Seen)
-    → IsDone a → PlaysUntilDone tells honest sizes events a a seen seen
-done_until tells honest sizes [] a seen done = (refl, refl)
-done_until tells honest sizes (e ∷ events) a seen done = inl (done, refl, refl)
+    → IsDone a → (made : Trace) × PlaysUntilDone tells honest sizes events a a seen seen made
+done_until tells honest sizes [] a seen done = ([], (refl, refl, refl))
+done_until tells honest sizes (e ∷ events) a seen done = ([], inl (done, refl, refl, refl))
 
 -- nor where no event is left
 pub none_until : (tells honest : Bool) (sizes : Sizes) (events : List Event) (n : ℕ) (a : List Zone) (seen : Seen)
-    → length events ≤ n → PlaysUntilDone tells honest sizes (drop n events) a a seen seen
+    → length events ≤ n → (made : Trace) × PlaysUntilDone tells honest sizes (drop n events) a a seen seen made
 none_until tells honest sizes events n a seen past =
-    subst (λ (es : List Event). PlaysUntilDone tells honest sizes es a a seen seen) (sym (drop_all n events past)) (refl, refl)
+    ([], subst (λ (es : List Event). PlaysUntilDone tells honest sizes es a a seen seen []) (sym (drop_all n events past)) (refl, refl, refl))

@@ -10,6 +10,7 @@ use Rattle.core_model.specs.declared.zones.Zone.{Zone}
 use Rattle.core_model.specs.declared.zones.ZoneData.{ZoneData}
 use Rattle.core_model.specs.declared.zones.ZoneData.TheVariants as at
 use Rattle.core_model.specs.Steps.{IsIdle}
+use Rattle.core_model.specs.Trace.{Seals, Trace}
 use Rattle.core_model.proofs.rows.PhaseRows.{physical}
 use Rattle.vdo_core.specs.Done.{IsDone}
 use Rattle.vdo_core.specs.Moves.{has_items}
@@ -137,7 +138,7 @@ module _ (sizes : Sizes) (keeps : ZoneData) where
   received (a ∷ b ∷ rest) = length b.ports.inbox
 
   -- the move, and what it leaves
-  plays : (tells honest : Bool) (seen : Seen) → PlaysOne tells honest sizes (event.Move 0 1) (zones keeps) (moved keeps) seen seen
+  plays : (tells honest : Bool) (seen : Seen) → PlaysOne tells honest sizes (event.Move 0 1) (zones keeps) (moved keeps) seen seen []
   plays tells honest seen = inl (
     record {
       source = sender keeps one;
@@ -150,74 +151,95 @@ module _ (sizes : Sizes) (keeps : ZoneData) where
       has = refl;
     },
     refl,
+    refl,
   )
 
-  brings_one : (tells honest : Bool) (zones' : List Zone) (before after : Seen) → PlaysOne tells honest sizes (event.Move 0 1) (zones keeps) zones' before after → received zones' ≡ 1
-  brings_one tells honest zones' before after (inl (moves, silent)) =
+  makes_nothing : (tells honest : Bool) (zones' : List Zone) (before after : Seen) (made : Trace) → PlaysOne tells honest sizes (event.Move 0 1) (zones keeps) zones' before after made → made ≡ []
+  makes_nothing tells honest zones' before after made (inl (moves, silent, nothing)) = nothing
+  makes_nothing tells honest zones' before after made (inr (none, same, silent, nothing)) = nothing
+
+  brings_one : (tells honest : Bool) (zones' : List Zone) (before after : Seen) (made : Trace) → PlaysOne tells honest sizes (event.Move 0 1) (zones keeps) zones' before after made → received zones' ≡ 1
+  brings_one tells honest zones' before after made (inl (moves, silent, nothing)) =
       let target : receiver [] ≡ moves.target = same_Some _ _ moves.had_target in
       let source : sender keeps one ≡ moves.source = same_Some _ _ moves.had_source in
       let part : one ≡ moves.part = same_Some _ _ (subst (λ (z : Zone). slice_get z.ports.outboxes 1 ≡ Some moves.part) (sym source) moves.outbox) in
       ap received moves.has ∙ ap (λ (z : Zone). length (z.ports.inbox ++ moves.part)) (sym target) ∙ ap length (sym part)
-  brings_one tells honest zones' before after (inr (none, same, silent)) = absurd (move_to_second none)
+  brings_one tells honest zones' before after made (inr (none, same, silent, nothing)) = absurd (move_to_second none)
 
 module _ (tells honest : Bool) (sizes : Sizes) (seen : Seen) where
   -- Drives: no turn changes nothing
-  no_turn : Drives tells honest sizes 7 7 [] (zones undone) (zones undone) seen seen
-  no_turn = (refl, refl, refl)
+  no_turn : Drives tells honest sizes 7 7 [] (zones undone) (zones undone) seen seen []
+  no_turn = (refl, refl, refl, refl)
 
-  no_turn-of_the_state : Drives tells honest sizes 7 8 [] (zones undone) (zones undone) seen seen → ⊥
+  no_turn-of_the_state : Drives tells honest sizes 7 8 [] (zones undone) (zones undone) seen seen [] → ⊥
   no_turn-of_the_state d = let same = d.0 in absurd (omega (arith, same))
 
-  no_turn-of_the_zones : Drives tells honest sizes 7 7 [] (zones undone) (moved undone) seen seen → ⊥
+  no_turn-of_the_zones : Drives tells honest sizes 7 7 [] (zones undone) (moved undone) seen seen [] → ⊥
   no_turn-of_the_zones d = let same = ap (received sizes undone) d.1 in absurd (omega (arith, same))
 
-  no_turn-of_the_device : Drives tells honest sizes 7 7 [] (zones undone) (zones undone) seen (record seen { faults = suc seen.faults }) → ⊥
+  no_turn-of_the_device : Drives tells honest sizes 7 7 [] (zones undone) (zones undone) seen (record seen { faults = suc seen.faults }) [] → ⊥
   no_turn-of_the_device d = let same = ap (λ (s : Seen). s.faults) d.2 in absurd (omega (arith, same))
 
+  no_turn-of_the_trace : Drives tells honest sizes 7 7 [] (zones undone) (zones undone) seen seen (Seals ∷ []) → ⊥
+  no_turn-of_the_trace d = let nothing = d.3 in absurd cc
+
   -- a turn takes its event, and steps the state, where the core isn't done
-  one_turn : Drives tells honest sizes 0 (next_state 0) (event.Move 0 1 ∷ []) (zones undone) (moved undone) seen seen
-  one_turn = (moved undone, seen, isnt_done, first_turn sizes undone, plays sizes undone tells honest seen, (refl, refl, refl))
+  one_turn : Drives tells honest sizes 0 (next_state 0) (event.Move 0 1 ∷ []) (zones undone) (moved undone) seen seen []
+  one_turn = (moved undone, seen, [], [], isnt_done, first_turn sizes undone, plays sizes undone tells honest seen, (refl, refl, refl, refl), refl)
 
-  one_turn-of_a_core_that_is_done : Drives tells honest sizes 0 (next_state 0) (event.Move 0 1 ∷ []) (zones done) (moved done) seen seen → ⊥
-  one_turn-of_a_core_that_is_done d = d.2 is_done
+  one_turn-of_a_core_that_is_done : Drives tells honest sizes 0 (next_state 0) (event.Move 0 1 ∷ []) (zones done) (moved done) seen seen [] → ⊥
+  one_turn-of_a_core_that_is_done (between, s, first, later, isnt, turn, one, rest, is) = isnt is_done
 
-  one_turn-not_another : (new : List Zone) → Drives tells honest sizes 0 (next_state 0) (event.Step 0 ∷ []) (zones undone) new seen seen → ⊥
-  one_turn-not_another new d = first_turn-not_another_place sizes undone d.3
+  one_turn-not_another : (new : List Zone) (made : Trace) → Drives tells honest sizes 0 (next_state 0) (event.Step 0 ∷ []) (zones undone) new seen seen made → ⊥
+  one_turn-not_another new made (between, s, first, later, isnt, turn, one, rest, is) = first_turn-not_another_place sizes undone turn
 
-  one_turn-of_the_zones : Drives tells honest sizes 0 (next_state 0) (event.Move 0 1 ∷ []) (zones undone) (zones undone) seen seen → ⊥
-  one_turn-of_the_zones d =
-      let brought = brings_one sizes undone tells honest d.0 seen d.1 d.4 in
-      let same = ap (received sizes undone) d.5.1 in
+  one_turn-of_the_zones : Drives tells honest sizes 0 (next_state 0) (event.Move 0 1 ∷ []) (zones undone) (zones undone) seen seen [] → ⊥
+  one_turn-of_the_zones (between, s, first, later, isnt, turn, one, rest, is) =
+      let brought = brings_one sizes undone tells honest between seen s first one in
+      let same = ap (received sizes undone) rest.1 in
       absurd (omega (arith, brought, same))
 
-  one_turn-of_the_state : Drives tells honest sizes 0 0 (event.Move 0 1 ∷ []) (zones undone) (moved undone) seen seen → ⊥
+  one_turn-of_the_state : Drives tells honest sizes 0 0 (event.Move 0 1 ∷ []) (zones undone) (moved undone) seen seen [] → ⊥
   unfolding next_state
-  one_turn-of_the_state d = let same = d.5.0 in absurd (omega (arith, same))
+  one_turn-of_the_state (between, s, first, later, isnt, turn, one, rest, is) = let same = rest.0 in absurd (omega (arith, same))
+
+  one_turn-of_the_trace : Drives tells honest sizes 0 (next_state 0) (event.Move 0 1 ∷ []) (zones undone) (moved undone) seen seen (Seals ∷ []) → ⊥
+  one_turn-of_the_trace (between, s, first, later, isnt, turn, one, rest, is) =
+      let early = makes_nothing sizes undone tells honest between seen s first one in
+      let nothing : Seals ∷ [] ≡ [] = is ∙ ap (λ (t : Trace). t ++ first) rest.3 ∙ early in
+      absurd cc
 
   -- PlaysUntilDone: no event changes nothing
-  no_event : PlaysUntilDone tells honest sizes [] (zones undone) (zones undone) seen seen
-  no_event = (refl, refl)
+  no_event : PlaysUntilDone tells honest sizes [] (zones undone) (zones undone) seen seen []
+  no_event = (refl, refl, refl)
 
-  no_event-of_the_zones : PlaysUntilDone tells honest sizes [] (zones undone) (moved undone) seen seen → ⊥
+  no_event-of_the_zones : PlaysUntilDone tells honest sizes [] (zones undone) (moved undone) seen seen [] → ⊥
   no_event-of_the_zones p = let same = ap (received sizes undone) p.0 in absurd (omega (arith, same))
 
-  no_event-of_the_device : PlaysUntilDone tells honest sizes [] (zones undone) (zones undone) seen (record seen { faults = suc seen.faults }) → ⊥
+  no_event-of_the_device : PlaysUntilDone tells honest sizes [] (zones undone) (zones undone) seen (record seen { faults = suc seen.faults }) [] → ⊥
   no_event-of_the_device p = let same = ap (λ (s : Seen). s.faults) p.1 in absurd (omega (arith, same))
 
-  -- an event is played where the core isn't done, and only there
-  one_event : PlaysUntilDone tells honest sizes (event.Move 0 1 ∷ []) (zones undone) (moved undone) seen seen
-  one_event = inr (moved undone, seen, isnt_done, plays sizes undone tells honest seen, (refl, refl))
+  no_event-of_the_trace : PlaysUntilDone tells honest sizes [] (zones undone) (zones undone) seen seen (Seals ∷ []) → ⊥
+  no_event-of_the_trace p = let nothing = p.2 in absurd cc
 
-  one_event-not_left_out : PlaysUntilDone tells honest sizes (event.Move 0 1 ∷ []) (zones undone) (zones undone) seen seen → ⊥
-  one_event-not_left_out (inl (is, same, silent)) = isnt_done is
-  one_event-not_left_out (inr (between, s, isnt, played, (same, silent))) =
-      let brought = brings_one sizes undone tells honest between seen s played in
+  -- an event is played where the core isn't done, and only there
+  one_event : PlaysUntilDone tells honest sizes (event.Move 0 1 ∷ []) (zones undone) (moved undone) seen seen []
+  one_event = inr (moved undone, seen, [], [], isnt_done, plays sizes undone tells honest seen, (refl, refl, refl), refl)
+
+  one_event-not_left_out : PlaysUntilDone tells honest sizes (event.Move 0 1 ∷ []) (zones undone) (zones undone) seen seen [] → ⊥
+  one_event-not_left_out (inl (is, same, silent, nothing)) = isnt_done is
+  one_event-not_left_out (inr (between, s, first, later, isnt, played, (same, silent, nothing), is)) =
+      let brought = brings_one sizes undone tells honest between seen s first played in
       let stays = ap (received sizes undone) same in
       absurd (omega (arith, brought, stays))
 
-  no_event_once_done : PlaysUntilDone tells honest sizes (event.Move 0 1 ∷ []) (zones done) (zones done) seen seen
-  no_event_once_done = inl (is_done, refl, refl)
+  no_event_once_done : PlaysUntilDone tells honest sizes (event.Move 0 1 ∷ []) (zones done) (zones done) seen seen []
+  no_event_once_done = inl (is_done, refl, refl, refl)
 
-  no_event_once_done-not_played : PlaysUntilDone tells honest sizes (event.Move 0 1 ∷ []) (zones done) (moved done) seen seen → ⊥
-  no_event_once_done-not_played (inl (is, same, silent)) = let stays = ap (received sizes done) same in absurd (omega (arith, stays))
-  no_event_once_done-not_played (inr (between, s, isnt, _, _)) = isnt is_done
+  no_event_once_done-not_played : PlaysUntilDone tells honest sizes (event.Move 0 1 ∷ []) (zones done) (moved done) seen seen [] → ⊥
+  no_event_once_done-not_played (inl (is, same, silent, nothing)) = let stays = ap (received sizes done) same in absurd (omega (arith, stays))
+  no_event_once_done-not_played (inr (between, s, first, later, isnt, played, rest, is)) = isnt is_done
+
+  no_event_once_done-of_the_trace : PlaysUntilDone tells honest sizes (event.Move 0 1 ∷ []) (zones done) (zones done) seen seen (Seals ∷ []) → ⊥
+  no_event_once_done-of_the_trace (inl (is, same, silent, nothing)) = absurd cc
+  no_event_once_done-of_the_trace (inr (between, s, first, later, isnt, played, rest, is)) = isnt is_done

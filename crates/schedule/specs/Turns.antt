@@ -4,6 +4,7 @@ use Rattle.disk_model.specs.Picks.{next_state, number_in}
 use Rattle.disk_model.specs.Seen.{Seen}
 use Rattle.core_model.specs.declared.sizes.Sizes.{Sizes}
 use Rattle.core_model.specs.declared.zones.Zone.{Zone}
+use Rattle.core_model.specs.Trace.{Trace}
 use Rattle.vdo_core.specs.Done.{IsDone}
 use Rattle.vdo_core.specs.Plays.{HasNoWork, PlaysOne}
 use Rattle.vdo_core.specs.declared.events.Event.{Event}
@@ -30,16 +31,19 @@ pub record IsTurn (sizes : Sizes) (zones : List Zone) (state : ℕ) (e : Event) 
   pub are_ready : AreReady sizes zones (event_count (length zones)) ready
   pub is : slice_get ready (number_in (next_state state) % length ready) ≡ Some e
 
--- turns one after another, each of a core that isn't done, from one state of the row to another
-abbrev pub Drives : Bool → Bool → Sizes → ℕ → ℕ → List Event → List Zone → List Zone → Seen → Seen → Type 0
-Drives tells honest sizes state state' [] old new before after = (state' ≡ state) × (new ≡ old) × (after ≡ before)
-Drives tells honest sizes state state' (e ∷ events) old new before after =
-    (between : List Zone) × (seen : Seen) × (IsDone old → ⊥) × IsTurn sizes old state e × PlaysOne tells honest sizes e old between before seen
-    × Drives tells honest sizes (next_state state) state' events between new seen after
+-- turns one after another, each of a core that isn't done, from one state of the row to another, and what happens by them,
+-- that of a later one in front
+abbrev pub Drives : Bool → Bool → Sizes → ℕ → ℕ → List Event → List Zone → List Zone → Seen → Seen → Trace → Type 0
+Drives tells honest sizes state state' [] old new before after made = (state' ≡ state) × (new ≡ old) × (after ≡ before) × (made ≡ [])
+Drives tells honest sizes state state' (e ∷ events) old new before after made =
+    (between : List Zone) × (seen : Seen) × (first later : Trace) × (IsDone old → ⊥) × IsTurn sizes old state e
+    × PlaysOne tells honest sizes e old between before seen first × Drives tells honest sizes (next_state state) state' events between new seen after later
+    × (made ≡ later ++ first)
 
--- events one after another, up to the first before which the core is done
-abbrev pub PlaysUntilDone : Bool → Bool → Sizes → List Event → List Zone → List Zone → Seen → Seen → Type 0
-PlaysUntilDone tells honest sizes [] old new before after = (new ≡ old) × (after ≡ before)
-PlaysUntilDone tells honest sizes (e ∷ events) old new before after =
-    (IsDone old × (new ≡ old) × (after ≡ before))
-    ⊎ ((between : List Zone) × (seen : Seen) × (IsDone old → ⊥) × PlaysOne tells honest sizes e old between before seen × PlaysUntilDone tells honest sizes events between new seen after)
+-- events one after another, up to the first before which the core is done, and what happens by them
+abbrev pub PlaysUntilDone : Bool → Bool → Sizes → List Event → List Zone → List Zone → Seen → Seen → Trace → Type 0
+PlaysUntilDone tells honest sizes [] old new before after made = (new ≡ old) × (after ≡ before) × (made ≡ [])
+PlaysUntilDone tells honest sizes (e ∷ events) old new before after made =
+    (IsDone old × (new ≡ old) × (after ≡ before) × (made ≡ []))
+    ⊎ ((between : List Zone) × (seen : Seen) × (first later : Trace) × (IsDone old → ⊥) × PlaysOne tells honest sizes e old between before seen first
+    × PlaysUntilDone tells honest sizes events between new seen after later × (made ≡ later ++ first))

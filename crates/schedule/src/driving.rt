@@ -1,5 +1,6 @@
 ghost use Rattle.std.specs.Prelude.{◌≡◌, List};
 ghost use Rattle.disk_model.specs.Seen.{Stays};
+ghost use Rattle.core_model.specs.Trace.{Trace};
 ghost use Rattle.steps_device.specs.DeviceCalls.{Fits};
 ghost use Rattle.vdo_core.specs.Done.{IsDone};
 ghost use Rattle.vdo_core.specs.declared.events.Event.{Event};
@@ -16,8 +17,8 @@ pub fn drive<R: Wait, D: Disk>(rt: &R, core: &mut Core, schedule: &mut Schedule,
     requires { Fits core.old.sizes (D.seen device.old) }
     ensures stays { Stays (D.seen device.old) (D.seen device.new) }
     ensures sizes { core.new.sizes ≡ core.old.sizes }
-    ensures drives { (events : List Event)
-        × Drives D.tells D.honest core.old.sizes schedule.old schedule.new events core.old.zones core.new.zones (D.seen device.old) (D.seen device.new) }
+    ensures drives { (events : List Event) × (made : Trace)
+        × Drives D.tells D.honest core.old.sizes schedule.old schedule.new events core.old.zones core.new.zones (D.seen device.old) (D.seen device.new) made }
     ensures done { IsDone core.new.zones }
 {
     for _ in rt.forever() {

@@ -1,5 +1,6 @@
 ghost use Rattle.std.specs.Prelude.{◌≡◌};
 ghost use Rattle.disk_model.specs.Seen.{Stays};
+ghost use Rattle.core_model.specs.Trace.{Trace};
 ghost use Rattle.steps_device.specs.DeviceCalls.{Fits};
 ghost use Rattle.schedule.specs.Turns.{PlaysUntilDone};
 
@@ -12,7 +13,7 @@ pub fn play<D: Disk>(core: &mut Core, events: &[Event], device: &mut D)
     requires { Fits core.old.sizes (D.seen device.old) }
     ensures stays { Stays (D.seen device.old) (D.seen device.new) }
     ensures sizes { core.new.sizes ≡ core.old.sizes }
-    ensures plays { PlaysUntilDone D.tells D.honest core.old.sizes events.now core.old.zones core.new.zones (D.seen device.old) (D.seen device.new) }
+    ensures plays { (made : Trace) × PlaysUntilDone D.tells D.honest core.old.sizes events.now core.old.zones core.new.zones (D.seen device.old) (D.seen device.new) made }
 {
     for event in events {
         if core.done() {

@@ -1,6 +1,7 @@
 ghost use Rattle.std.specs.Prelude.{◌≡◌, ◌≤◌, ◌<◌, [], List, MatchOption, length, map};
 ghost use Rattle.disk_model.specs.Picks.{next_state, number_in};
 ghost use Rattle.disk_model.specs.Seen.{Stays};
+ghost use Rattle.core_model.specs.Trace.{Trace};
 ghost use Rattle.steps_device.specs.DeviceCalls.{Fits};
 ghost use Rattle.vdo_core.specs.Done.{IsDone};
 ghost use Rattle.vdo_core.specs.declared.events.Event.{Event};
@@ -45,7 +46,8 @@ impl Schedule {
         ensures stays { Stays (D.seen device.old) (D.seen device.new) }
         ensures sizes { core.new.sizes ≡ core.old.sizes }
         ensures drives { (IsDone core.old.zones → ⊥)
-            → (events : List Event) × Drives D.tells D.honest core.old.sizes self.old self.new events core.old.zones core.new.zones (D.seen device.old) (D.seen device.new) }
+            → (events : List Event) × (made : Trace)
+            × Drives D.tells D.honest core.old.sizes self.old self.new events core.old.zones core.new.zones (D.seen device.old) (D.seen device.new) made }
     {
         let Some(event) = choose(core, self.state) else {
             return;

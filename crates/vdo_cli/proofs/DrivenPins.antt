@@ -1,6 +1,6 @@
 -- Rows that pin how a core served a session (`IsDriven`), what its report tells (`IsReported`), and what happened to the
 -- device on the way (`Happens`). Those that are accepted are of the session of a script that asks for nothing.
-use Rattle.std.proofs.Common.{ℕ, ◌≡◌, ◌≢◌, ◌<◌, ◌++◌, Bool, true, false, List, [], ◌∷◌, length, replicate, Some, None, IsSome, refl, sym, ◌∙◌, ap, subst, arith}
+use Rattle.std.proofs.Common.{ℕ, ◌≡◌, ◌≢◌, ◌<◌, ◌++◌, Bool, true, false, List, [], ◌∷◌, ◌*◌, length, replicate, slice_get, Some, None, IsSome, refl, sym, ◌∙◌, ap, subst, arith}
 use Rattle.blk_base.specs.declared.geometry.Super.{Super}
 use Rattle.blk_base.specs.declared.journal_entry.Entry.{Entry}
 use Rattle.blk_base.specs.declared.place.Pbn.{Pbn}
@@ -15,25 +15,32 @@ use Rattle.disk_model.specs.Seen.{Seen}
 use Rattle.disk_model.specs.Since.{OnlyReads}
 use Rattle.core_model.specs.declared.sizes.Sizes.{Sizes}
 use Rattle.core_model.specs.Sessions.{Session}
-use Rattle.core_model.specs.Trace.{Calls, Fails, Says, Trace, lines}
+use Rattle.core_model.specs.SessionLimits.{requests_in}
+use Rattle.core_model.specs.Start.{IsFirst, IsFirstData}
+use Rattle.core_model.specs.declared.zones.Zone.{Zone}
+use Rattle.core_model.specs.declared.zones.ZoneData.{ZoneData}
+use Rattle.core_model.specs.declared.zones.ZoneData.TheVariants as kind
+use Rattle.core_model.specs.Trace.{Calls, Fails, Says, Seals, Trace, lines}
 use Rattle.schedule.specs.Turns.{Drives}
 use Rattle.stream_text.specs.StreamRows.{no_requests}
 use Rattle.vdo_core.specs.Cores.{CanBegin}
 use Rattle.vdo_core.specs.Done.{IsDone}
 use Rattle.vdo_core.specs.FreeBlocks.{free_of}
+use Rattle.vdo_core.specs.Plays.{core_with}
 use Rattle.vdo_core.specs.declared.events.Event.{Event}
 use Rattle.vdo_model.specs.DeskLog.{answer_of}
 use Rattle.vdo_model.specs.FlushMarks.{Moment, Desk, Device, lines_of}
 use Rattle.vdo_model.specs.Scripts.{Script, request_at}
+use Rattle.vdo_model.specs.declared.report.DeskLine.{DeskLine}
 use Rattle.vdo_model.specs.declared.report.DeskLine.TheVariants.{Begin, Answer}
 use Rattle.vdo_model.specs.declared.report.RunReport.{RunReport}
 use Rattle.vdo_model.proofs.Example.{address, of_a}
 use Rattle.vdo_cli.specs.Openings.{IsOpened}
-use Rattle.vdo_cli.specs.Sessions.{IsDriven, IsReported, run_sizes}
+use Rattle.vdo_cli.specs.Sessions.{IsDriven, IsOver, IsReported, run_sizes}
 use Rattle.vdo_cli.specs.Stops.{Happens}
 use Rattle.vdo_cli.proofs.EmptyScript.{empty_driven, empty_happens, empty_report, empty_reported}
 use Rattle.vdo_cli.proofs.PlayPins.{at, device}
-use Rattle.vdo_cli.proofs.SessionLaws.{answered}
+use Rattle.vdo_cli.proofs.SessionLaws.{answered, turns_call, turns_lead}
 
 -- Accepted: of an image that was opened, all three parts of the session of no request.
 module _ (schedule : ℕ) (head : Super) (window : List Entry) (used : ℕ) (before opened : Seen) (is_opened : IsOpened true true before opened head window used) where
@@ -47,17 +54,59 @@ module _ (schedule : ℕ) (head : Super) (window : List Entry) (used : ℕ) (bef
   happens-empty = empty_happens true true schedule head window used before opened is_opened refl
 
 -- IsDriven. By schedule 7 over some image.
-module _ (head : Super) (window : List Entry) (used : ℕ) (script : Script) (trace : Trace) (before after : Seen) (driven : IsDriven true false 7 head window used script trace before after) where
-  abbrev some_session : Session
-  some_session = record { sizes = run_sizes head used; script = script; blocks = []; before = []; image = []; sealed = []; window = window; free = free_of head.geometry window }
+abbrev session_over : Super → List Entry → ℕ → Script → Session
+session_over head window used script = record {
+  sizes = run_sizes head used;
+  script = script;
+  blocks = [];
+  before = [];
+  image = [];
+  sealed = [];
+  window = window;
+  free = free_of head.geometry window;
+}
 
+is_over : (head : Super) (window : List Entry) (used : ℕ) (script : Script) → IsOver head window used script (session_over head window used script)
+is_over head window used script = record { sizes_is = refl; script_is = refl; window_is = refl; free_is = refl }
+
+-- a core that begins with no request is done, so it takes no turn, and nothing happens
+done_by : (s : Session) (zones : List Zone) (zone : Zone) (keeps : ZoneData) → slice_get zones 0 ≡ Some zone → zone.keeps ≡ keeps → s.script ≡ no_requests → IsFirstData s 0 keeps → IsDone zones
+done_by s zones zone (kind.Desk desk) had is none own = record {
+  zone = zone;
+  desk = desk;
+  had = had;
+  keeps = is;
+  full = ap (λ (log : List DeskLine). length log) own.log ∙ sym (ap (λ (script : Script). 2 * requests_in script) (own.requests ∙ none));
+}
+done_by s zones zone (kind.Logical l) had is none own = absurd (omega (arith, own.number_is))
+done_by s zones zone (kind.Physical p) had is none own = absurd (omega (arith, own.number_is))
+done_by s zones zone (kind.Journal j) had is none own = absurd (omega (arith, own.number_is))
+done_by s zones zone (kind.Device d) had is none own = absurd (omega (arith, own.number_is))
+
+begins_done : (s : Session) (zones : List Zone) → s.script ≡ no_requests → IsFirst s (core_with zones []) → IsDone zones
+begins_done s [] none first = absurd (omega (arith, first.count))
+begins_done s (zone ∷ zones) none first = done_by s (zone ∷ zones) zone zone.keeps refl refl none (first.each 0 zone refl).own
+
+makes_nothing : (tells honest : Bool) (sizes : Sizes) (state state' : ℕ) (events : List Event) (first last : List Zone) (before after : Seen) (made : Trace)
+    → IsDone first → Drives tells honest sizes state state' events first last before after made → made ≡ []
+makes_nothing tells honest sizes state state' [] first last before after made done (at_state, same, silent, nothing) = nothing
+makes_nothing tells honest sizes state state' (e ∷ events) first last before after made done (between, seen, early, late, undone, turn, one, rest, is) = absurd (undone done)
+
+driven-empty_no_more : (head : Super) (window : List Entry) (used : ℕ) (before after : Seen) → IsDriven true false 7 head window used no_requests (Seals ∷ []) before after → ⊥
+driven-empty_no_more head window used before after driven =
+    let done = begins_done (session_over head window used no_requests) driven.first refl (driven.begins (session_over head window used no_requests) (is_over head window used no_requests)) in
+    let nothing = makes_nothing true false (run_sizes head used) 7 driven.state driven.events driven.first driven.last before after (Seals ∷ []) done driven.drives in
+    absurd cc
+
+module _ (head : Super) (window : List Entry) (used : ℕ) (script : Script) (trace : Trace) (before after : Seen) (driven : IsDriven true false 7 head window used script trace before after) where
   -- the first core is one of the session: it has zones
   driven-not_from_no_zone : driven.first ≡ [] → ⊥
-  driven-not_from_no_zone none = let first = driven.begins some_session (record { sizes_is = refl; script_is = refl; window_is = refl; free_is = refl }) in omega (arith, first.count, ap length none)
+  driven-not_from_no_zone none = let first = driven.begins (session_over head window used script) (is_over head window used script) in omega (arith, first.count, ap length none)
 
-  -- the turns begin with the number of this schedule; without any the core stays as it is; and a core that is done takes none
+  -- the turns begin with the number of this schedule; without any the core stays as it is, and nothing happens; and a core
+  -- that is done takes none
   abbrev Led : List Event → Type 0
-  Led events = Drives true false (run_sizes head used) 7 driven.state events driven.first driven.last before after
+  Led events = Drives true false (run_sizes head used) 7 driven.state events driven.first driven.last before after trace
 
   driven-not_by_schedule_8 : driven.events ≡ [] → driven.state ≡ 8 → ⊥
   driven-not_by_schedule_8 none is = let led : Led [] = subst Led none driven.drives in omega (arith, led.0, is)
@@ -65,8 +114,11 @@ module _ (head : Super) (window : List Entry) (used : ℕ) (script : Script) (tr
   driven-not_without_a_turn : driven.events ≡ [] → driven.last ≢ driven.first → ⊥
   driven-not_without_a_turn none differ = let led : Led [] = subst Led none driven.drives in differ led.1
 
+  driven-not_more_without_a_turn : driven.events ≡ [] → trace ≢ [] → ⊥
+  driven-not_more_without_a_turn none some = let led : Led [] = subst Led none driven.drives in some led.3
+
   driven-not_beyond_the_end : (e : Event) (events : List Event) → driven.events ≡ e ∷ events → IsDone driven.first → ⊥
-  driven-not_beyond_the_end e events some done = let led : Led (e ∷ events) = subst Led some driven.drives in led.2 done
+  driven-not_beyond_the_end e events some done = let led : Led (e ∷ events) = subst Led some driven.drives in led.4 done
 
   -- the last core is done, and so every request is answered by what happened on the way
   driven-not_to_no_zone : driven.last ≡ [] → ⊥
@@ -74,13 +126,18 @@ module _ (head : Super) (window : List Entry) (used : ℕ) (script : Script) (tr
 
   driven-not_without_an_answer : CanBegin (run_sizes head used) script window → (w : Writer) → IsSome (request_at script w) → answer_of (lines trace) w ≡ None → ⊥
   driven-not_without_an_answer can w asked none =
-      let all = answered true false head window used script driven.first driven.last trace before after can driven.begins driven.leads driven.done driven.called in
+      let leads = turns_lead true false (run_sizes head used) 7 driven.state driven.events driven.first driven.last before after trace driven.drives in
+      let called = turns_call true false (run_sizes head used) 7 driven.state driven.events driven.first driven.last before after trace driven.drives in
+      let all = answered true false head window used script driven.first driven.last trace before after can driven.begins leads driven.done called in
       let has : IsSome (answer_of (lines trace) w) = all w asked in
       absurd (let unanswered = rw none at has in cc)
 
 -- the device has the calls that happened, and no other
 driven-not_called_besides : (head : Super) (window : List Entry) (used : ℕ) (script : Script) (opening : Blocks) → IsDriven true false 7 head window used script [] (device opening [] 0 0) (device opening (Flush true ∷ []) 0 0) → ⊥
-driven-not_called_besides head window used script opening driven = let size = ap length (driven.called.log refl) in omega (arith, size)
+driven-not_called_besides head window used script opening driven =
+    let called = turns_call true false (run_sizes head used) 7 driven.state driven.events driven.first driven.last (device opening [] 0 0) (device opening (Flush true ∷ []) 0 0) [] driven.drives in
+    let size = ap length (called.log refl) in
+    omega (arith, size)
 
 -- IsReported. The session is that of this image, with one logical zone
 reported-not_of_two_zones : (head : Super) (window : List Entry) (used : ℕ) (report : RunReport) (trace : Trace) (before after : Seen) (reported : IsReported head window used report trace before after)

@@ -121,10 +121,8 @@ module _ (tells honest : Bool) (schedule : ℕ) (head : Super) (window : List En
     begins = first_begins head window used no_requests;
     events = [];
     state = schedule;
-    drives = (refl, refl, refl);
+    drives = (refl, refl, refl, refl);
     done = first_done head window used;
-    leads = rests;
-    called = not_called tells honest opened;
   }
 
   pub empty_reported : IsReported head window used empty_report [] opened opened
@@ -144,4 +142,4 @@ module _ (tells honest : Bool) (schedule : ℕ) (head : Super) (window : List En
       plays tells honest head window used no_requests (first_zones head window used no_requests) (first_zones head window used no_requests) [] opened opened can
       (first_begins head window used no_requests) rests (first_done head window used) (not_called tells honest opened) before is_opened
       (were_only_read tells honest 0 before opened _ is_opened.read.read) source_tells schedule schedule [] left rest
-      (record { opening = refl; size = refl }) (refl, refl, refl) script_is whole
+      (record { opening = refl; size = refl }) (refl, refl, refl, refl) script_is whole

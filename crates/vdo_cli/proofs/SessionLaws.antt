@@ -149,6 +149,17 @@ reads_behind (Read at bytes ok ∷ newer) older reads = reads_behind newer older
 reads_behind (Write at bytes ok ∷ newer) older reads = absurd reads
 reads_behind (Flush ok ∷ newer) older reads = absurd reads
 
+-- what happened by turns leads there, and the device had its calls
+module _ (tells honest : Bool) (sizes : Sizes) (state state' : ℕ) (events : List Event) (first last : List Zone) (before after : Seen) (made : Trace)
+    (drives : Drives tells honest sizes state state' events first last before after made) where
+  pub turns_lead : Leads sizes (core_with first []) (core_with last made)
+  turns_lead =
+      subst (λ (t : Trace). Leads sizes (core_with first []) (core_with last t)) (append-nil made)
+      ((driven_leads tells honest sizes state state' events first last before after made drives).0 [])
+
+  pub turns_call : HasCalled tells honest before after made
+  turns_call = (driven_leads tells honest sizes state state' events first last before after made drives).1
+
 -- A core that began over what was read, and came to its end.
 module _ (tells honest : Bool) (head : Super) (window : List Entry) (used : ℕ) (script : Script) (first last : List Zone) (trace : Trace) (before after : Seen)
     (can : CanBegin (run_sizes head used) script window) (begins : (s : Session) → IsOver head window used script s → IsFirst s (core_with first []))
@@ -260,7 +271,7 @@ module _ (tells honest : Bool) (head : Super) (window : List Entry) (used : ℕ)
         }
 
     pub plays : (source_tells : Bool) (schedule state : ℕ) (events : List Event) (left rest : List ℕ) → Stays before after
-        → Drives tells honest (run_sizes head used) schedule state events first last before after
+        → Drives tells honest (run_sizes head used) schedule state events first last before after trace
         → (IsTrue source_tells → (whole_script left ≡ Ok script) × (first_discard left ≡ None)) → (IsTrue source_tells → rest ≡ [])
         → Plays tells honest source_tells schedule report start after left rest
     plays source_tells schedule state events left rest stays drives script_is whole = record {
@@ -280,8 +291,6 @@ module _ (tells honest : Bool) (head : Super) (window : List Entry) (used : ℕ)
         state = state;
         drives = drives;
         done = done;
-        leads = leads;
-        called = called;
       };
       reported = reported;
       stays = stays_on start before after untouched.stays stays;
@@ -296,7 +305,7 @@ pub played : (tells honest source_tells : Bool) (number state : ℕ) (head : Sup
     (report : RunReport) → IsOpened tells honest start before head (reverse entries) used → IsUntouched tells start before → IsWholeScript script → AllByRecursion (AllByRecursion IsServed) script
     → sizes ≡ sizes_of run_setup head used
     → ((s : Session) → IsOf s sizes script (reverse entries) (free_of head.geometry (reverse entries)) → IsFirst s (core_with first []))
-    → ((events : List Event) × Drives tells honest sizes number state events first last before after) → IsDone last → Stays before after
+    → ((events : List Event) × (made : Trace) × Drives tells honest sizes number state events first last before after made) → IsDone last → Stays before after
     → (IsTrue source_tells → (whole_script left ≡ Ok script) × (first_discard left ≡ None)) → (IsTrue source_tells → rest ≡ [])
     → ((s : Session) (t : Trace) → IsSession s → Legal s (core_with last t) → IsDone last → report ≡ report_of s t)
     → Plays tells honest source_tells number report start after left rest × (report.requests ≡ script)
@@ -305,12 +314,11 @@ played tells honest source_tells number state head entries used script sizes fir
     let sized : sizes ≡ run_sizes head used = sizes_are in
     let can = can_begin tells honest start before head window used script opened shape served in
     let begins_so = (λ (s : Session) (over : IsOver head window used script s). begins s (rw sized over)) in
-    let (events, drives_so) = driven in
-    let drives : Drives tells honest (run_sizes head used) number state events first last before after =
-    subst (λ (z : Sizes). Drives tells honest z number state events first last before after) sized drives_so in
-    let (made, leads_on, called) = driven_leads tells honest (run_sizes head used) number state events first last before after drives in
-    let leads : Leads (run_sizes head used) (core_with first []) (core_with last made) =
-    subst (λ (t : Trace). Leads (run_sizes head used) (core_with first []) (core_with last t)) (append-nil made) (leads_on []) in
+    let (events, made, drives_so) = driven in
+    let drives : Drives tells honest (run_sizes head used) number state events first last before after made =
+    subst (λ (z : Sizes). Drives tells honest z number state events first last before after made) sized drives_so in
+    let leads = turns_lead tells honest (run_sizes head used) number state events first last before after made drives in
+    let called = turns_call tells honest (run_sizes head used) number state events first last before after made drives in
     let report_is = says (over tells honest head window used script first last made before after can begins_so leads done called) made
     (session tells honest head window used script first last made before after can begins_so leads done called)
     (legal tells honest head window used script first last made before after can begins_so leads done called) done in (

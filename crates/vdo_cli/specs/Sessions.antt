@@ -14,9 +14,7 @@ use Rattle.core_model.specs.Reports.{progress_of, report_of}
 use Rattle.core_model.specs.RightTraces.{MayAnswer, StopsAtFailure}
 use Rattle.core_model.specs.Sessions.{Session}
 use Rattle.core_model.specs.Start.{IsFirst}
-use Rattle.core_model.specs.Steps.{Leads}
 use Rattle.core_model.specs.Trace.{Trace, Says}
-use Rattle.step_parts.specs.DeviceLog.{HasCalled}
 use Rattle.vdo_core.specs.Cores.{sizes_of}
 use Rattle.vdo_core.specs.Done.{IsDone}
 use Rattle.vdo_core.specs.FreeBlocks.{free_of}
@@ -40,17 +38,15 @@ abbrev pub IsOver : Super → List Entry → ℕ → Script → Session → Type
 IsOver head window used script s = IsOf s (run_sizes head used) script window (free_of head.geometry window)
 
 -- A core began with the script over an image with this superblock and window, the turns of a schedule led it to its end, and
--- this is what happened on the way, with what was seen of the device before and after.
+-- this is what happened by them, with what was seen of the device before and after.
 pub record IsDriven (tells honest : Bool) (schedule : ℕ) (head : Super) (window : List Entry) (used : ℕ) (script : Script) (trace : Trace) (before after : Seen) : Type 0 where
   pub first : List Zone
   pub last : List Zone
   pub begins : (s : Session) → IsOver head window used script s → IsFirst s (core_with first [])
   pub events : List Event
   pub state : ℕ
-  pub drives : Drives tells honest (run_sizes head used) schedule state events first last before after
+  pub drives : Drives tells honest (run_sizes head used) schedule state events first last before after trace
   pub done : IsDone last
-  pub leads : Leads (run_sizes head used) (core_with first []) (core_with last trace)
-  pub called : HasCalled tells honest before after trace
 
 -- an answer that only a failed call of the device explains
 abbrev pub HasFault : Reply → Type 0

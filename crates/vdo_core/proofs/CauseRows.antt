@@ -1,5 +1,5 @@
 -- Rows that pin why an event comes to no end: for each clause a small case that it accepts, and one that breaks it alone.
-use Rattle.std.proofs.Common.{ℕ, ◌≡◌, ◌≤◌, Bool, false, List, [], ◌∷◌, Some, length, slice_get, refl, sym, ◌∙◌, subst, inl, inr, arith}
+use Rattle.std.proofs.Common.{ℕ, ◌≡◌, ◌≤◌, Bool, false, List, [], ◌∷◌, length, refl, sym, ◌∙◌, subst, inl, inr, arith}
 use Rattle.std.proofs.lemmas.Option.{same_Some}
 use Rattle.disk_model.specs.Seen.{Seen}
 use Rattle.core_model.specs.declared.items.Item.{Item}
@@ -80,7 +80,7 @@ module _ (sizes : Sizes) (sized : IsSized sizes) where
       after-the_first = inl by-its_zone
 
       after-one_that_was_played : MayFaultAfter tells honest sizes (event.Move 0 0 ∷ event.Step 1 ∷ []) (empty 0 ∷ z ∷ []) before fault.Exhausted
-      after-one_that_was_played = inr (empty 0 ∷ z ∷ [], before, inr ((λ source target apart. absurd (apart refl)), refl, refl), inl by-its_zone)
+      after-one_that_was_played = inr (empty 0 ∷ z ∷ [], before, [], inr ((λ source target apart. absurd (apart refl)), refl, refl, refl), inl by-its_zone)
 
       after-not_of_no_event : (zones : List Zone) (why : StepFault) → MayFaultAfter tells honest sizes [] zones before why → ⊥
       after-not_of_no_event zones why none = none
@@ -88,6 +88,6 @@ module _ (sizes : Sizes) (sized : IsSized sizes) where
       after-not_by_a_zone_without_an_event : MayFaultAfter tells honest sizes (event.Move 0 0 ∷ event.Step 0 ∷ []) (empty 0 ∷ z ∷ []) before fault.Exhausted → ⊥
       after-not_by_a_zone_without_an_event (inl (is, inl (zone, had, out))) = out (subst IsWithin (same_Some (empty 0) zone had) (empty_within 0))
       after-not_by_a_zone_without_an_event (inl (is, inr (zone, had, out))) = out (subst IsWithin (same_Some (empty 0) zone had) (empty_within 0))
-      after-not_by_a_zone_without_an_event (inr (between, seen, inl (all, silent), later)) = all.apart refl
-      after-not_by_a_zone_without_an_event (inr (between, seen, inr (none, same, silent), inl why)) = by-no_other_zone (subst (λ (zones : List Zone). MayFaultAt sizes zones 0 fault.Exhausted) same why)
-      after-not_by_a_zone_without_an_event (inr (between, seen, inr (none, same, silent), inr (last, seen', one, rest))) = rest
+      after-not_by_a_zone_without_an_event (inr (between, seen, made, inl (all, silent, none), later)) = all.apart refl
+      after-not_by_a_zone_without_an_event (inr (between, seen, made, inr (idle, same, silent, none), inl why)) = by-no_other_zone (subst (λ (zones : List Zone). MayFaultAt sizes zones 0 fault.Exhausted) same why)
+      after-not_by_a_zone_without_an_event (inr (between, seen, made, inr (idle, same, silent, none), inr (last, seen', later, one, rest))) = rest

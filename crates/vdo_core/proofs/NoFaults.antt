@@ -94,6 +94,6 @@ pub none_fails_after : (tells honest : Bool) (s : Session) (events : List Event)
     → IsSession s → Legal s (core_with zones t) → MayFaultAfter tells honest s.sizes events zones before f → ⊥
 none_fails_after tells honest s [] zones t before f session legal none = none
 none_fails_after tells honest s (e ∷ events) zones t before f session legal (inl first) = none_fails_by s zones t e f session legal first
-none_fails_after tells honest s (e ∷ events) zones t before f session legal (inr (between, seen, one, later)) =
-    let (made, leads, called) = played_leads tells honest s.sizes e zones between before seen one in
+none_fails_after tells honest s (e ∷ events) zones t before f session legal (inr (between, seen, made, one, later)) =
+    let (leads, called) = played_leads tells honest s.sizes e zones between before seen made one in
     none_fails_after tells honest s events between (made ++ t) seen f session (legal_leads s (core_with zones t) (core_with between (made ++ t)) session (leads t) legal) later

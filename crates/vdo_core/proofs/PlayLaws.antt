@@ -76,35 +76,47 @@ called_on tells honest a b c made more early late = record {
 pub nothing : (tells honest : Bool) (sizes : Sizes) (zones : List Zone) (log : Seen) → LeadsTo tells honest sizes zones zones log log
 nothing tells honest sizes zones log = ([], (λ (t : Trace). rests), unchanged tells honest log)
 
+-- this happens on the way from one core to another, whatever happened before
+abbrev pub LeadsBy : Bool → Bool → Sizes → List Zone → List Zone → Seen → Seen → Trace → Type 0
+LeadsBy tells honest sizes old new before after made = ((t : Trace) → Leads sizes (core_with old t) (core_with new (made ++ t))) × HasCalled tells honest before after made
+
 -- one event, and then others
-pub leads_further : (tells honest : Bool) (sizes : Sizes) (a b c : List Zone) (log log' log'' : Seen)
-    → LeadsTo tells honest sizes a b log log' → LeadsTo tells honest sizes b c log' log'' → LeadsTo tells honest sizes a c log log''
-leads_further tells honest sizes a b c log log' log'' (made, early, notified) (more, late, notified') = (
-  more ++ made,
+led_on : (tells honest : Bool) (sizes : Sizes) (a b c : List Zone) (log log' log'' : Seen) (made more : Trace)
+    → LeadsBy tells honest sizes a b log log' made → LeadsBy tells honest sizes b c log' log'' more → LeadsBy tells honest sizes a c log log'' (more ++ made)
+led_on tells honest sizes a b c log log' log'' made more (early, called) (late, called') = (
   (λ (t : Trace). rw append_assoc (leads_on sizes (core_with a t) (core_with b (made ++ t)) (core_with c (more ++ (made ++ t))) (early t) (late (made ++ t)))),
-  called_on tells honest log log' log'' made more notified notified',
+  called_on tells honest log log' log'' made more called called',
 )
 
+pub leads_further : (tells honest : Bool) (sizes : Sizes) (a b c : List Zone) (log log' log'' : Seen)
+    → LeadsTo tells honest sizes a b log log' → LeadsTo tells honest sizes b c log' log'' → LeadsTo tells honest sizes a c log log''
+leads_further tells honest sizes a b c log log' log'' (made, early, called) (more, late, called') =
+    let (leads, told) = led_on tells honest sizes a b c log log' log'' made more (early, called) (late, called') in
+    (more ++ made, leads, told)
+
+-- where nothing happens, that leads nowhere else
+none_leads : (tells honest : Bool) (sizes : Sizes) (a b : List Zone) (log log' : Seen) (made : Trace) → b ≡ a → log' ≡ log → made ≡ [] → LeadsBy tells honest sizes a b log log' made
+none_leads tells honest sizes a b log log' made same silent none = rw (same, silent, none) ((λ (t : Trace). rests), unchanged tells honest log)
+
 -- a step of a zone is one of the core
-pub stepped_leads : (tells honest : Bool) (sizes : Sizes) (n : ℕ) (a b : List Zone) (log log' : Seen) → StepsAt tells honest sizes n a b log log' → LeadsTo tells honest sizes a b log log'
-stepped_leads tells honest sizes n a b log log' at = (
-  at.step.0,
+stepped_leads : (tells honest : Bool) (sizes : Sizes) (n : ℕ) (a b : List Zone) (log log' : Seen) (made : Trace) → StepsAt tells honest sizes n a b log log' made
+    → LeadsBy tells honest sizes a b log log' made
+stepped_leads tells honest sizes n a b log log' made at = (
   (λ (t : Trace). steps (record {
     number = n;
     zone = at.zone;
     zone' = at.zone';
-    made = at.step.0;
+    made = made;
     had = at.had;
-    step = at.step.1;
-    has = ap (λ (zs : List Zone). core_with zs (at.step.0 ++ t)) at.has;
+    step = at.step;
+    has = ap (λ (zs : List Zone). core_with zs (made ++ t)) at.has;
   }) rests),
-  at.step.2,
+  at.called,
 )
 
 -- a move is one of the core
-moved_leads : (tells honest : Bool) (sizes : Sizes) (from to : ℕ) (a b : List Zone) (log : Seen) → MovesAll from to a b → LeadsTo tells honest sizes a b log log
+moved_leads : (tells honest : Bool) (sizes : Sizes) (from to : ℕ) (a b : List Zone) (log : Seen) → MovesAll from to a b → LeadsBy tells honest sizes a b log log []
 moved_leads tells honest sizes from to a b log all = (
-  [],
   (λ (t : Trace). moves (record {
     from = from;
     to = to;
@@ -123,41 +135,51 @@ moved_leads tells honest sizes from to a b log all = (
 
 -- after an event, whether there was work or not
 pub step_plays : (tells honest : Bool) (sizes : Sizes) (n : ℕ) (a b : List Zone) (log log' : Seen) (stepped : Stepped)
-    → (stepped ≡ Did → StepsAt tells honest sizes n a b log log') → (stepped ≡ Idle → (z : Zone) → slice_get a n ≡ Some z → IsIdle sizes z)
-    → (stepped ≡ Idle → b ≡ a) → (stepped ≡ Idle → log' ≡ log) → PlaysOne tells honest sizes (event.Step n) a b log log'
-step_plays tells honest sizes n a b log log' Did did idle same silent = inl (did refl)
-step_plays tells honest sizes n a b log log' Idle did idle same silent = inr (idle refl, same refl, silent refl)
+    → (stepped ≡ Did → (made : Trace) × StepsAt tells honest sizes n a b log log' made) → (stepped ≡ Idle → (z : Zone) → slice_get a n ≡ Some z → IsIdle sizes z)
+    → (stepped ≡ Idle → b ≡ a) → (stepped ≡ Idle → log' ≡ log) → (made : Trace) × PlaysOne tells honest sizes (event.Step n) a b log log' made
+step_plays tells honest sizes n a b log log' Did did idle same silent = let (made, one) = did refl in (made, inl one)
+step_plays tells honest sizes n a b log log' Idle did idle same silent = ([], inr (idle refl, same refl, silent refl, refl))
 
 pub move_plays : (tells honest : Bool) (sizes : Sizes) (from to : ℕ) (a b : List Zone) (log : Seen) (stepped : Stepped)
-    → (stepped ≡ Did → MovesAll from to a b) → (stepped ≡ Idle → MovesNothing a from to) → (stepped ≡ Idle → b ≡ a) → PlaysOne tells honest sizes (event.Move from to) a b log log
-move_plays tells honest sizes from to a b log Did did idle same = inl (did refl, refl)
-move_plays tells honest sizes from to a b log Idle did idle same = inr (idle refl, same refl, refl)
+    → (stepped ≡ Did → MovesAll from to a b) → (stepped ≡ Idle → MovesNothing a from to) → (stepped ≡ Idle → b ≡ a)
+    → (made : Trace) × PlaysOne tells honest sizes (event.Move from to) a b log log made
+move_plays tells honest sizes from to a b log Did did idle same = ([], inl (did refl, refl, refl))
+move_plays tells honest sizes from to a b log Idle did idle same = ([], inr (idle refl, same refl, refl, refl))
 
--- what an event does leads on
-pub played_leads : (tells honest : Bool) (sizes : Sizes) (e : Event) (a b : List Zone) (log log' : Seen) → PlaysOne tells honest sizes e a b log log' → LeadsTo tells honest sizes a b log log'
-played_leads tells honest sizes (event.Step n) a b log log' (inl at) = stepped_leads tells honest sizes n a b log log' at
-played_leads tells honest sizes (event.Step n) a b log log' (inr (idle, same, silent)) = rw (same, silent) (nothing tells honest sizes a log)
-played_leads tells honest sizes (event.Move from to) a b log log' (inl (all, silent)) = rw silent (moved_leads tells honest sizes from to a b log all)
-played_leads tells honest sizes (event.Move from to) a b log log' (inr (idle, same, silent)) = rw (same, silent) (nothing tells honest sizes a log)
+-- what happens by an event leads on
+pub played_leads : (tells honest : Bool) (sizes : Sizes) (e : Event) (a b : List Zone) (log log' : Seen) (made : Trace) → PlaysOne tells honest sizes e a b log log' made
+    → LeadsBy tells honest sizes a b log log' made
+played_leads tells honest sizes (event.Step n) a b log log' made (inl at) = stepped_leads tells honest sizes n a b log log' made at
+played_leads tells honest sizes (event.Step n) a b log log' made (inr (idle, same, silent, none)) = none_leads tells honest sizes a b log log' made same silent none
+played_leads tells honest sizes (event.Move from to) a b log log' made (inl (all, silent, none)) = rw (silent, none) (moved_leads tells honest sizes from to a b log all)
+played_leads tells honest sizes (event.Move from to) a b log log' made (inr (idle, same, silent, none)) = none_leads tells honest sizes a b log log' made same silent none
+
+pub one_leads : (tells honest : Bool) (sizes : Sizes) (e : Event) (a b : List Zone) (log log' : Seen) → ((made : Trace) × PlaysOne tells honest sizes e a b log log' made)
+    → LeadsTo tells honest sizes a b log log'
+one_leads tells honest sizes e a b log log' (made, one) = let (leads, called) = played_leads tells honest sizes e a b log log' made one in (made, leads, called)
 
 -- an event before those that are left
-pub next_plays : (tells honest : Bool) (sizes : Sizes) (events : List Event) (n : ℕ) (d : Event) (a b later : List Zone) (log log' log'' : Seen)
-    → n < length events → PlaysOne tells honest sizes (get_or events n d) a b log log' → Plays tells honest sizes (drop (n + 1) events) b later log' log''
-    → Plays tells honest sizes (drop n events) a later log log''
-next_plays tells honest sizes events n d a b later log log' log'' within one rest =
+pub next_plays : (tells honest : Bool) (sizes : Sizes) (events : List Event) (n : ℕ) (d : Event) (a b last : List Zone) (log log' log'' : Seen)
+    → n < length events → ((first : Trace) × PlaysOne tells honest sizes (get_or events n d) a b log log' first)
+    → ((later : Trace) × Plays tells honest sizes (drop (n + 1) events) b last log' log'' later)
+    → (made : Trace) × Plays tells honest sizes (drop n events) a last log log'' made
+next_plays tells honest sizes events n d a b last log log' log'' within (first, one) (later, rest) =
     let next : n + 1 ≡ suc n = omega (arith) in
-    let left = subst (λ (m : ℕ). Plays tells honest sizes (drop m events) b later log' log'') next rest in
-    subst (λ (es : List Event). Plays tells honest sizes es a later log log'') (sym (drop-cons events n d within)) (b, log', one, left)
+    let left = subst (λ (m : ℕ). Plays tells honest sizes (drop m events) b last log' log'' later) next rest in (
+      later ++ first,
+      subst (λ (es : List Event). Plays tells honest sizes es a last log log'' (later ++ first)) (sym (drop-cons events n d within)) (b, log', first, later, one, left, refl),
+    )
 
 -- no event is left
 pub none_left : (tells honest : Bool) (sizes : Sizes) (events : List Event) (n : ℕ) (a : List Zone) (log : Seen)
-    → length events ≤ n → Plays tells honest sizes (drop n events) a a log log
-none_left tells honest sizes events n a log past = subst (λ (es : List Event). Plays tells honest sizes es a a log log) (sym (drop_all n events past)) (refl, refl)
+    → length events ≤ n → (made : Trace) × Plays tells honest sizes (drop n events) a a log log made
+none_left tells honest sizes events n a log past =
+    ([], subst (λ (es : List Event). Plays tells honest sizes es a a log log []) (sym (drop_all n events past)) (refl, refl, refl))
 
 -- a zone that steps isn't idle, so there was work for its event
-pub step_busy : (tells honest : Bool) (sizes : Sizes) (n : ℕ) (a b : List Zone) (log log' : Seen) → StepsAt tells honest sizes n a b log log'
+pub step_busy : (tells honest : Bool) (sizes : Sizes) (n : ℕ) (a b : List Zone) (log log' : Seen) → ((made : Trace) × StepsAt tells honest sizes n a b log log' made)
     → ((z : Zone) → slice_get a n ≡ Some z → IsIdle sizes z → ⊥) → HasNoWork sizes a (event.Step n) → ⊥
-step_busy tells honest sizes n a b log log' at busy none = busy at.zone at.had (none at.zone at.had)
+step_busy tells honest sizes n a b log log' (made, at) busy none = busy at.zone at.had (none at.zone at.had)
 
 -- where no zone changed, there is still none
 pub none_still : (sizes : Sizes) (a b : List Zone) (e : Event) → a ≡ b → HasNoWork sizes a e → HasNoWork sizes b e
@@ -178,8 +200,11 @@ none_for_none P events n past = subst (AllByRecursion P) (sym (drop_all n events
 pub none_for_one : (P : Event → Type 0) (events : List Event) (n : ℕ) (d : Event) → n < length events → AllByRecursion P events → P (get_or events n d)
 none_for_one P events n d within none = All-from_recursion P events none n d within
 
--- what a list of events does leads on
-pub plays_lead : (tells honest : Bool) (sizes : Sizes) (events : List Event) (a b : List Zone) (log log' : Seen) → Plays tells honest sizes events a b log log' → LeadsTo tells honest sizes a b log log'
-plays_lead tells honest sizes [] a b log log' (same, silent) = rw (same, silent) (nothing tells honest sizes a log)
-plays_lead tells honest sizes (e ∷ events) a b log log' (between, seen, one, rest) =
-    leads_further tells honest sizes a between b log seen log' (played_leads tells honest sizes e a between log seen one) (plays_lead tells honest sizes events between b seen log' rest)
+-- what happens by a list of events leads on
+pub plays_lead : (tells honest : Bool) (sizes : Sizes) (events : List Event) (a b : List Zone) (log log' : Seen) (made : Trace) → Plays tells honest sizes events a b log log' made
+    → LeadsBy tells honest sizes a b log log' made
+plays_lead tells honest sizes [] a b log log' made (same, silent, none) = none_leads tells honest sizes a b log log' made same silent none
+plays_lead tells honest sizes (e ∷ events) a b log log' made (between, seen, first, later, one, rest, is) =
+    let early = played_leads tells honest sizes e a between log seen first one in
+    let late = plays_lead tells honest sizes events between b seen log' later rest in
+    rw is (led_on tells honest sizes a between b log seen log' first later early late)

@@ -1,5 +1,5 @@
 -- A session for what was read of an image, whatever else is on the device: that of an image that has only this.
-use Rattle.std.proofs.Common.{ℕ, zero, suc, ◌≡◌, Bool, List, [], ◌∷◌, ◌++◌, length, take, replicate, refl, sym, ◌∙◌, ap, subst, arith, length-append}
+use Rattle.std.proofs.Common.{ℕ, zero, suc, ◌≡◌, ◌≤◌, Bool, List, [], ◌∷◌, ◌++◌, length, take, replicate, refl, sym, ◌∙◌, ap, subst, arith, length-append}
 use Rattle.std.proofs.lemmas.List.{length-replicate}
 use Rattle.std.proofs.Math.Seq.{take-append_seam}
 use Rattle.std.specs.List.{AllByRecursion}
@@ -122,6 +122,10 @@ module _ (sizes : Sizes) (zones : List Zone) (reached : IsReached sizes zones) w
   legal_here =
       let start = core_with reached.first [] in
       legal_leads reached.session start (core_with zones reached.trace) reached.is_session reached.leads (legal_first reached.session start reached.is_first reached.is_session)
+
+  -- a core has eight zones at most
+  pub few_zones : length zones ≤ 8
+  few_zones = let most = reached.is_session.limits.zones in omega (arith, legal_here.count, most)
 
   abbrev pub reached_on : (tells honest : Bool) (later : List Zone) (before after : Seen) → LeadsTo tells honest sizes zones later before after → IsReached sizes later
   reached_on tells honest later before after (made, leads, told) = record {

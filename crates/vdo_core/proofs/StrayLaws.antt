@@ -65,9 +65,9 @@ module _ (tells honest : Bool) (sizes : Sizes) (events : List Event) (n : ℕ) (
   this_may_fault this = subst (λ (es : List Event). MayFaultAfter tells honest sizes es zones before why) (sym (drop-cons events n d within)) (inl this)
 
   -- or one behind an event that was played
-  pub later_may_fault : (between : List Zone) (seen : Seen) → PlaysOne tells honest sizes (get_or events n d) zones between before seen
+  pub later_may_fault : (between : List Zone) (seen : Seen) → ((made : Trace) × PlaysOne tells honest sizes (get_or events n d) zones between before seen made)
       → MayFaultAfter tells honest sizes (drop (n + 1) events) between seen why → MayFaultAfter tells honest sizes (drop n events) zones before why
-  later_may_fault between seen one rest =
+  later_may_fault between seen (made, one) rest =
       let next : n + 1 ≡ suc n = omega arith in
       let left = subst (λ (m : ℕ). MayFaultAfter tells honest sizes (drop m events) between seen why) next rest in
-      subst (λ (es : List Event). MayFaultAfter tells honest sizes es zones before why) (sym (drop-cons events n d within)) (inr (between, seen, one, left))
+      subst (λ (es : List Event). MayFaultAfter tells honest sizes es zones before why) (sym (drop-cons events n d within)) (inr (between, seen, made, one, left))

@@ -96,4 +96,4 @@ abbrev pub MayFaultAfter : Bool → Bool → Sizes → List Event → List Zone 
 MayFaultAfter tells honest sizes [] zones before why = ⊥
 MayFaultAfter tells honest sizes (e ∷ events) zones before why =
     MayFaultBy sizes zones e why
-    ⊎ ((between : List Zone) × (seen : Seen) × PlaysOne tells honest sizes e zones between before seen × MayFaultAfter tells honest sizes events between seen why)
+    ⊎ ((between : List Zone) × (seen : Seen) × (made : Trace) × PlaysOne tells honest sizes e zones between before seen made × MayFaultAfter tells honest sizes events between seen why)

@@ -18,12 +18,13 @@ core_with zones t = record { zones = zones; trace = t }
 abbrev pub ZoneSteps : Bool → Bool → Sizes → Zone → Zone → Seen → Seen → Type 0
 ZoneSteps tells honest sizes old new before after = (made : Trace) × ZoneStep sizes old new made × HasCalled tells honest before after made
 
--- the zone of this number steps, and all others stay
-pub record StepsAt (tells honest : Bool) (sizes : Sizes) (number : ℕ) (old new : List Zone) (before after : Seen) : Type 0 where
+-- the zone of this number steps, all others stay, and this happens
+pub record StepsAt (tells honest : Bool) (sizes : Sizes) (number : ℕ) (old new : List Zone) (before after : Seen) (made : Trace) : Type 0 where
   pub zone : Zone
   pub zone' : Zone
   pub had : slice_get old number ≡ Some zone
-  pub step : ZoneSteps tells honest sizes zone zone' before after
+  pub step : ZoneStep sizes zone zone' made
+  pub called : HasCalled tells honest before after made
   pub has : new ≡ slice_set old number zone'
 
 -- what one zone posted to another moves, all of it, to the tail of its inbox
@@ -43,17 +44,20 @@ HasNoWork sizes zones (event.Step number) = (z : Zone) → slice_get zones numbe
 HasNoWork sizes zones (event.Move from to) = MovesNothing zones from to
 
 -- an event: the zone steps, or all moves; or nothing happens, where there is no work for it
-abbrev pub PlaysOne : Bool → Bool → Sizes → Event → List Zone → List Zone → Seen → Seen → Type 0
-PlaysOne tells honest sizes (event.Step number) old new before after =
-    StepsAt tells honest sizes number old new before after ⊎ (HasNoWork sizes old (event.Step number) × (new ≡ old) × (after ≡ before))
-PlaysOne tells honest sizes (event.Move from to) old new before after =
-    (MovesAll from to old new × (after ≡ before)) ⊎ (HasNoWork sizes old (event.Move from to) × (new ≡ old) × (after ≡ before))
+abbrev pub PlaysOne : Bool → Bool → Sizes → Event → List Zone → List Zone → Seen → Seen → Trace → Type 0
+PlaysOne tells honest sizes (event.Step number) old new before after made =
+    StepsAt tells honest sizes number old new before after made
+    ⊎ (HasNoWork sizes old (event.Step number) × (new ≡ old) × (after ≡ before) × (made ≡ []))
+PlaysOne tells honest sizes (event.Move from to) old new before after made =
+    (MovesAll from to old new × (after ≡ before) × (made ≡ []))
+    ⊎ (HasNoWork sizes old (event.Move from to) × (new ≡ old) × (after ≡ before) × (made ≡ []))
 
--- all of these, one after another
-abbrev pub Plays : Bool → Bool → Sizes → List Event → List Zone → List Zone → Seen → Seen → Type 0
-Plays tells honest sizes [] old new before after = (new ≡ old) × (after ≡ before)
-Plays tells honest sizes (e ∷ events) old new before after =
-    (between : List Zone) × (seen : Seen) × PlaysOne tells honest sizes e old between before seen × Plays tells honest sizes events between new seen after
+-- all of these, one after another, and what happens by them, that of a later one in front
+abbrev pub Plays : Bool → Bool → Sizes → List Event → List Zone → List Zone → Seen → Seen → Trace → Type 0
+Plays tells honest sizes [] old new before after made = (new ≡ old) × (after ≡ before) × (made ≡ [])
+Plays tells honest sizes (e ∷ events) old new before after made =
+    (between : List Zone) × (seen : Seen) × (first later : Trace) × PlaysOne tells honest sizes e old between before seen first
+    × Plays tells honest sizes events between new seen after later × (made ≡ later ++ first)
 
 -- events lead from one core to another
 abbrev pub LeadsTo : Bool → Bool → Sizes → List Zone → List Zone → Seen → Seen → Type 0

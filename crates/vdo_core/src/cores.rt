@@ -104,7 +104,7 @@ impl Core {
         requires { Fits self.old.sizes (D.seen device.old) }
         ensures stays { Stays (D.seen device.old) (D.seen device.new) }
         ensures sizes { self.new.sizes ≡ self.old.sizes }
-        ensures plays { PlaysOne D.tells D.honest self.old.sizes event self.old.zones self.new.zones (D.seen device.old) (D.seen device.new) }
+        ensures plays { (made : Trace) × PlaysOne D.tells D.honest self.old.sizes event self.old.zones self.new.zones (D.seen device.old) (D.seen device.new) made }
         ensures did { result ≡ Did → HasNoWork self.old.sizes self.old.zones event → ⊥ }
         ensures idle { result ≡ Idle → HasNoWork self.old.sizes self.old.zones event }
         ensures same { result ≡ Idle → self.new ≡ self.old }

@@ -3,6 +3,7 @@ ghost use Rattle.std.specs.List.{AllByRecursion};
 ghost use Rattle.disk_model.specs.Seen.{Stays};
 ghost use Rattle.core_model.specs.declared.zones.Zone.{Zone};
 ghost use Rattle.core_model.specs.Steps.{IsIdle};
+ghost use Rattle.core_model.specs.Trace.{Trace};
 ghost use Rattle.step_parts.specs.declared.fault.Stepped.TheVariants.{Did, Idle};
 ghost use Rattle.steps_device.specs.DeviceCalls.{Fits};
 ghost use Rattle.vdo_core.specs.Causes.{MayFaultAt, MayFaultAfter, MayFaultBy};
@@ -33,7 +34,7 @@ pub fn step<D: Disk>(
 ) -> Result<Stepped, StepFault>
     requires { Fits sizes.now (D.seen disk.old) }
     ensures stays { Stays (D.seen disk.old) (D.seen disk.new) }
-    ensures did { IfOk result (λ stepped. stepped ≡ Did → StepsAt D.tells D.honest sizes.now number zones.old zones.new (D.seen disk.old) (D.seen disk.new)) }
+    ensures did { IfOk result (λ stepped. stepped ≡ Did → (made : Trace) × StepsAt D.tells D.honest sizes.now number zones.old zones.new (D.seen disk.old) (D.seen disk.new) made) }
     ensures idle { IfOk result (λ stepped. stepped ≡ Idle → (zone : Zone) → slice_get zones.old number ≡ Some zone → IsIdle sizes.now zone) }
     ensures busy { IfOk result (λ stepped. stepped ≡ Did → (zone : Zone) → slice_get zones.old number ≡ Some zone → IsIdle sizes.now zone → ⊥) }
     ensures same { IfOk result (λ stepped. stepped ≡ Idle → zones.new ≡ zones.old) }
@@ -56,7 +57,7 @@ pub(crate) fn play_one<D: Disk>(
 ) -> Result<Stepped, StepFault>
     requires { Fits sizes.now (D.seen disk.old) }
     ensures stays { Stays (D.seen disk.old) (D.seen disk.new) }
-    ensures plays { OnOk result (PlaysOne D.tells D.honest sizes.now event zones.old zones.new (D.seen disk.old) (D.seen disk.new)) }
+    ensures plays { OnOk result ((made : Trace) × PlaysOne D.tells D.honest sizes.now event zones.old zones.new (D.seen disk.old) (D.seen disk.new) made) }
     ensures leads { OnOk result (LeadsTo D.tells D.honest sizes.now zones.old zones.new (D.seen disk.old) (D.seen disk.new)) }
     ensures busy { IfOk result (λ stepped. stepped ≡ Did → HasNoWork sizes.now zones.old event → ⊥) }
     ensures idle { IfOk result (λ stepped. stepped ≡ Idle → HasNoWork sizes.now zones.old event) }
@@ -91,7 +92,7 @@ pub fn play<D: Disk>(
 ) -> Result<Stepped, StepFault>
     requires { Fits sizes.now (D.seen disk.old) }
     ensures stays { Stays (D.seen disk.old) (D.seen disk.new) }
-    ensures plays { OnOk result (Plays D.tells D.honest sizes.now events.now zones.old zones.new (D.seen disk.old) (D.seen disk.new)) }
+    ensures plays { OnOk result ((made : Trace) × Plays D.tells D.honest sizes.now events.now zones.old zones.new (D.seen disk.old) (D.seen disk.new) made) }
     ensures leads { OnOk result (LeadsTo D.tells D.honest sizes.now zones.old zones.new (D.seen disk.old) (D.seen disk.new)) }
     ensures busy { IfOk result (λ stepped. stepped ≡ Did → AllByRecursion (HasNoWork sizes.now zones.old) events.now → ⊥) }
     ensures idle { IfOk result (λ stepped. stepped ≡ Idle → AllByRecursion (HasNoWork sizes.now zones.old) events.now) }

@@ -1,6 +1,6 @@
 use Rattle.vdo_core.specs.Causes.{MayFaultBy}
 use Rattle.step_parts.proofs.FaultLaws.{passed_on}
-use Rattle.vdo_core.proofs.PlayLaws.{step_plays, step_busy, move_plays, played_leads}
+use Rattle.vdo_core.proofs.PlayLaws.{step_plays, step_busy, move_plays, one_leads}
 use Rattle.vdo_core.proofs.events.play_one.Goals as goal
 
 pub returns-in_ok-step-in-Step-clause-plays : goal.returns-in_ok-step-in-Step-clause-plays
@@ -10,7 +10,7 @@ returns-in_ok-step-in-Step-clause-plays g c =
 
 pub returns-in_ok-step-in-Step-clause-leads : goal.returns-in_ok-step-in-Step-clause-leads
 returns-in_ok-step-in-Step-clause-leads g c =
-    played_leads g.D.Disk.tells g.D.Disk.honest c.args.sizes.now c.args.event c.args.zones.now c.step.new.zones _ _ (returns-in_ok-step-in-Step-clause-plays g c)
+    one_leads g.D.Disk.tells g.D.Disk.honest c.args.sizes.now c.args.event c.args.zones.now c.step.new.zones _ _ (returns-in_ok-step-in-Step-clause-plays g c)
 
 pub returns-in_ok-step-in-Step-clause-busy : goal.returns-in_ok-step-in-Step-clause-busy
 returns-in_ok-step-in-Step-clause-busy g c did =
@@ -27,7 +27,7 @@ returns-in_ok-move_items-in-Move-clause-plays g c =
 
 pub returns-in_ok-move_items-in-Move-clause-leads : goal.returns-in_ok-move_items-in-Move-clause-leads
 returns-in_ok-move_items-in-Move-clause-leads g c =
-    played_leads g.D.Disk.tells g.D.Disk.honest c.args.sizes.now c.args.event c.args.zones.now c.move_items.new.zones _ _ (returns-in_ok-move_items-in-Move-clause-plays g c)
+    one_leads g.D.Disk.tells g.D.Disk.honest c.args.sizes.now c.args.event c.args.zones.now c.move_items.new.zones _ _ (returns-in_ok-move_items-in-Move-clause-plays g c)
 
 pub returns-in_ok-move_items-in-Move-clause-busy : goal.returns-in_ok-move_items-in-Move-clause-busy
 returns-in_ok-move_items-in-Move-clause-busy g c did = rw c.in-Move.is (c.in_ok-move_items-in-Move.ensures.busy did)

@@ -11,13 +11,18 @@ returns-clause-did g c did =
     let item = c.in-Some.ensures.item in
     let within : c.args.number < length c.zones.inside.zones.items = search rules in
     let had : slice_get c.zones.inside.zones.items c.args.number ≡ Some c.in-Some.zone.now = slice_get_read _ _ _ _ refl within item.1 in
-    rw (← c.zones.view_is) (record {
-      zone = c.in-Some.zone.now;
-      zone' = c.step_with.new.zone;
-      had = had;
-      step = c.in_ok-step_with.ensures.did did;
-      has = refl;
-    })
+    let (made, steps, called) = c.in_ok-step_with.ensures.did did in
+    rw (← c.zones.view_is) (
+      made,
+      record {
+        zone = c.in-Some.zone.now;
+        zone' = c.step_with.new.zone;
+        had = had;
+        step = steps;
+        called = called;
+        has = refl;
+      },
+    )
 
 pub returns-clause-idle : goal.returns-clause-idle
 returns-clause-idle g c idle zone got =

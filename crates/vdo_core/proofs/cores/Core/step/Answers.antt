@@ -10,5 +10,8 @@ invariant_of-self g c = record {
   has_room = c.self.invariant.has_room;
 }
 
+pub returns-clause-plays : goal.returns-clause-plays
+returns-clause-plays g c = rw (← c.self.view_is) c.in-Ok.ensures.plays
+
 pub returns-clause-idle : goal.returns-clause-idle
 returns-clause-idle g c idle = rw (← c.self.view_is) (c.in-Ok.ensures.idle idle)
