@@ -1,20 +1,21 @@
 -- Calls that recover an image, one after the other.
-use Rattle.std.proofs.Common.{ℕ, ◌≡◌, ◌≤◌, ◌+◌, Bool, IsTrue, true, false, List, [], ◌∷◌, ◌++◌, Result, Ok, Err, OnErr, IsErr, refl, sym, ◌∙◌, ap, subst, inl, inr, arith, append_assoc}
+use Rattle.std.proofs.Common.{ℕ, ◌≡◌, ◌+◌, Bool, IsTrue, true, false, List, [], ◌∷◌, ◌++◌, Result, Ok, Err, IsErr, refl, sym, ◌∙◌, ap, subst, inl, inr, append_assoc}
 use Rattle.std.specs.List.{AllByRecursion}
 use Rattle.blk_base.specs.declared.place.Pbn.{Pbn}
 use Rattle.disk_model.specs.declared.call.Call.{Call}
 use Rattle.disk_model.specs.declared.call.Call.TheVariants.{Read, Write, Flush}
 use Rattle.disk_model.specs.declared.call.Failed.{Failed}
-use Rattle.disk_model.specs.Causes.{Rose}
 use Rattle.disk_model.specs.Log.{Blocks}
 use Rattle.disk_model.specs.Seen.{Seen}
 use Rattle.disk_model.specs.Since.{IsUntouched, OnlyReads, WereRead, NextFailed, reads_of}
 use Rattle.disk_model.proofs.SeenLaws.{stays_on, later_on, stays_yet, later_yet}
+use Rattle.image_format.proofs.FormatLaws.{last_failed}
 use Rattle.image_format.specs.Calls.{put}
 use Rattle.image_format.specs.Runs.{as_failed, Makes}
 use Rattle.image_model.specs.Maps.{Image}
 use Rattle.recovery_laws.specs.Calls.{IsPut, IsWritten}
 use Rattle.recovery_laws.specs.Kept.{image_in}
+use Rattle.rebuild.proofs.FailLaws.{failed_behind, failed_on, on_err, read_is_last}
 use Rattle.rebuild.specs.Acts.{Acts, AreMade, Grows, IsStart, Recovers, Stopped, Went}
 use Rattle.rebuild.specs.Reads.{ReadsOne}
 
@@ -81,7 +82,7 @@ acts_yet tells honest seen Needs Done all = record {
   stays = stays_yet seen;
   later = later_yet seen;
   grows = λ told. ([], refl);
-  rose = tt;
+  failed = tt;
   recovers = λ first blocks start calls made needs. ([], made, all first blocks start calls made needs);
 }
 
@@ -101,7 +102,7 @@ acts_as tells honest before now N N' D D' result acts needs done = record {
   stays = acts.stays;
   later = acts.later;
   grows = acts.grows;
-  rose = acts.rose;
+  failed = acts.failed;
   recovers = recovers_as tells honest before now N N' D D' result acts.recovers needs done;
 }
 
@@ -123,11 +124,6 @@ module _ (tells honest : Bool) (before middle now : Seen) (N : Image → Type 0)
       let one = old first blocks start calls made has in
       new first blocks start (one.0 ++ calls) one.1 has
 
-  rose_on : (result : Result (Unit {0}) Failed) → before.faults ≤ middle.faults → OnErr result (Rose middle.faults now.faults)
-      → OnErr result (Rose before.faults now.faults)
-  rose_on (Ok _) less rose = tt
-  rose_on (Err _) less rose = omega (arith, less, rose)
-
   pub then_acts : (result : Result (Unit {0}) Failed) → Acts tells honest before middle N D₁ (Ok tt) → Acts tells honest middle now N D₂ result
       → ((image : Image) (more calls : List Call) → N image → D₁ image calls → D₂ image (more ++ calls) → D image (more ++ calls))
       → Acts tells honest before now N D result
@@ -135,7 +131,7 @@ module _ (tells honest : Bool) (before middle now : Seen) (N : Image → Type 0)
     stays = stays_on before middle now old.stays new.stays;
     later = later_on before middle now old.later new.later;
     grows = grows_on tells before middle now old.grows new.grows;
-    rose = rose_on result old.later.faults new.rose;
+    failed = failed_on tells before middle now result old.later old.grows new.failed;
     recovers = then_recovers result old.recovers new.recovers both;
   }
 
@@ -143,7 +139,7 @@ module _ (tells honest : Bool) (before middle now : Seen) (N : Image → Type 0)
 pub still_failed : (tells honest : Bool) (before now : Seen) (N : Image → Type 0) (D D' : Image → List Call → Type 0) (fault : Failed) (result : Result (Unit {0}) Failed) → IsErr result
     → Acts tells honest before now N D (Err fault) → Acts tells honest before now N D' result
 still_failed tells honest before now N D D' fault (Ok _) is acts = absurd (cc is)
-still_failed tells honest before now N D D' fault (Err _) is acts = record { stays = acts.stays; later = acts.later; grows = acts.grows; rose = acts.rose; recovers = acts.recovers }
+still_failed tells honest before now N D D' fault (Err _) is acts = record { stays = acts.stays; later = acts.later; grows = acts.grows; failed = acts.failed; recovers = acts.recovers }
 
 -- A block is read, and then written.
 
@@ -205,10 +201,12 @@ module _ (tells honest : Bool) (before middle now : Seen) (at : Pbn) (given byte
         ];
       }
 
+  read_grows : WereRead tells honest at.0 before middle (given ∷ []) → Grows tells before middle
+  read_grows read = λ told. (reads_of at.0 (given ∷ []), read.logged told)
+
   grows_both : (result : Result (Unit {0}) Failed) → WereRead tells honest at.0 before middle (given ∷ []) → Makes tells middle now (put at.0 bytes ∷ []) result
       → Grows tells before now
-  grows_both result read made = grows_on tells before middle now
-      (λ told. (reads_of at.0 (given ∷ []), read.logged told)) (made_grows tells middle now (put at.0 bytes ∷ []) result made)
+  grows_both result read made = grows_on tells before middle now (read_grows read) (made_grows tells middle now (put at.0 bytes ∷ []) result made)
 
   pub written : (result : Result (Unit {0}) Failed) → WereRead tells honest at.0 before middle (given ∷ []) → Makes tells middle now (put at.0 bytes ∷ []) result → Puts
       → Acts tells honest before now N (λ image calls. IsWritten calls at.0) result
@@ -216,14 +214,14 @@ module _ (tells honest : Bool) (before middle now : Seen) (at : Pbn) (given byte
     stays = stays_on before middle now read.stays made.stays;
     later = later_on before middle now read.later made.later;
     grows = grows_both (Ok u) read made;
-    rose = tt;
+    failed = tt;
     recovers = written_recovers (Ok u) read made is;
   }
   written (Err e) read made is = record {
     stays = stays_on before middle now read.stays made.stays;
     later = later_on before middle now read.later made.later;
     grows = grows_both (Err e) read made;
-    rose = (let less = read.later.faults in let rose = made.rose in omega (arith, less, rose));
+    failed = failed_behind tells before middle now read.later (read_grows read) (last_failed tells middle now (put at.0 bytes ∷ []) made);
     recovers = written_recovers (Err e) read made is;
   }
 
@@ -232,10 +230,6 @@ pub read_err : (tells honest : Bool) (at : Pbn) (before now : Seen) (bytes : Lis
     → ReadsOne tells honest at before now bytes result
 read_err tells honest at before now bytes (Ok _) is failed = absurd (cc is)
 read_err tells honest at before now bytes (Err _) is failed = failed
-
-rose_err : (before now : Seen) (result : Result (Unit {0}) Failed) → Rose before.faults now.faults → OnErr result (Rose before.faults now.faults)
-rose_err before now (Ok _) rose = tt
-rose_err before now (Err _) rose = rose
 
 recovers_err : (tells honest : Bool) (before now : Seen) (N : Image → Type 0) (D : Image → List Call → Type 0) (result : Result (Unit {0}) Failed) → IsErr result → Stopped tells honest before now N
     → Recovers tells honest before now N D result
@@ -248,6 +242,6 @@ read_stops tells honest before now at N D result is failed = record {
   stays = failed.stays;
   later = failed.later;
   grows = failed_grows tells honest at.0 before now failed;
-  rose = rose_err before now result failed.rose;
+  failed = on_err tells before now result (read_is_last tells honest at.0 before now [] failed);
   recovers = recovers_err tells honest before now N D result is (read_failed tells honest before now at N failed);
 }

@@ -21,7 +21,7 @@ use Rattle.recovery_laws.proofs.OpenedExample.{opened_is_to_recover, opened_supe
 use Rattle.recovery_laws.specs.Calls.{IsPut}
 use Rattle.recovery_laws.specs.Kept.{image_in}
 use Rattle.rebuild.proofs.ActLaws.{acts_yet, none_made}
-use Rattle.rebuild.proofs.Rows.{flushed, seen}
+use Rattle.rebuild.proofs.Rows.{called_after, flushed, last_is_not, seen}
 use Rattle.rebuild.specs.Acts.{Acts, AreMade, Grows, HasStopped, IsStart, Recovers, Stopped, Went}
 
 -- A log grows, where the device tells: what was in it isn't lost.
@@ -218,7 +218,7 @@ module _ (first : Seen) (blocks : Blocks) (start : IsStart true true first block
     stays = record { opening = refl; size = refl };
     later = record { faults = omega arith; unkept = omega arith };
     grows = λ told. (Flush false ∷ [], refl);
-    rose = omega arith;
+    failed = record { rose = omega arith; logged = λ told. (Flush false, [], refl, inl refl) };
     recovers = flush_stopped;
   }
 
@@ -238,6 +238,9 @@ fewer_faults honest acts = let less = acts.later.faults in omega (arith, less)
 log_is_lost : (honest : Bool) → Acts true honest flushed seen any yet (Ok tt) → ⊥
 log_is_lost honest acts = log_lost acts.grows
 
--- rose: a refusal comes with a fault
+-- failed: a refusal comes with a fault, and it is the last call that failed
 refused_for_nothing : (honest : Bool) (fault : Failed) → Acts false honest seen seen any yet (Err fault) → ⊥
-refused_for_nothing honest fault acts = let rose = acts.rose in omega (arith, rose)
+refused_for_nothing honest fault acts = let rose = acts.failed.rose in omega (arith, rose)
+
+refused_and_went_on : (honest : Bool) (fault : Failed) → Acts true honest seen called_after any yet (Err fault) → ⊥
+refused_and_went_on honest fault acts = last_is_not acts.failed

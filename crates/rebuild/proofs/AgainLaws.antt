@@ -9,6 +9,7 @@ use Rattle.image_model.specs.Faults.{IsImageFault}
 use Rattle.image_model.specs.Sound.{IsSound}
 use Rattle.image_model.specs.declared.fault.ImageFault.{ImageFault}
 use Rattle.image_model.specs.declared.fault.ImageFault.TheVariants.{Super, Window, Page, Counter, SharedPage, Counts, Device, Unclean, Memory}
+use Rattle.rebuild.proofs.FailLaws.{any_failed}
 use Rattle.rebuild.proofs.ReadLaws.{still}
 use Rattle.rebuild.specs.Again.{FindsClosed, HasClosedImage}
 use Rattle.rebuild.specs.Openings.{IsCleanImage}
@@ -52,7 +53,7 @@ found_closed tells honest before now image (Err (Page at fault)) is clean second
 found_closed tells honest before now image (Err (Counter at point)) is clean second = absurd (not_both image clean (second.says image is).0)
 found_closed tells honest before now image (Err (SharedPage at)) is clean second = absurd (not_both image clean (second.says image is).0)
 found_closed tells honest before now image (Err Memory) is clean second = absurd (not_both image clean (second.says image is))
-found_closed tells honest before now image (Err Device) is clean second = (refl, second.says image is)
+found_closed tells honest before now image (Err Device) is clean second = (refl, any_failed tells before now (second.says image is))
 found_closed tells honest before now image (Err (Counts at stored mapped)) is clean second = absurd (second.says image is)
 found_closed tells honest before now image (Err Unclean) is clean second = absurd (second.says image is)
 

@@ -1,3 +1,4 @@
+pub mod FailLaws
 pub mod ActLaws
 pub mod WrittenLaws
 pub mod DoneLaws

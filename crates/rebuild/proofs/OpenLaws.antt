@@ -27,8 +27,9 @@ use Rattle.replay_counts.specs.Recovered.{HasCounts}
 use Rattle.replay_map.proofs.HonestLaws.{all_shown}
 use Rattle.replay_map.specs.Replayed.{HasMap}
 use Rattle.session_opening.specs.Starts.{IsStart}
+use Rattle.rebuild.proofs.FailLaws.{failed_after, read_is_last}
 use Rattle.rebuild.proofs.ReadLaws.{both_shown}
-use Rattle.rebuild.proofs.ShownLaws.{accepted, audit_rose, enough, enough_behind, head_refused, head_untouched, one_behind, one_there, opened, rose_behind, window_opens, window_untouched}
+use Rattle.rebuild.proofs.ShownLaws.{accepted, audit_last, enough, enough_behind, head_refused, last_here, one_behind, one_there, opened, window_opens, window_untouched}
 use Rattle.rebuild.specs.Openings.{CheckFails, Fits, HasWrongCount, IsCleanImage, IsOpenedWith, IsOpening, IsOpeningRefusal, IsRight, OpenWithFails, OpensRight}
 use Rattle.audit.specs.Reads.{AreContents}
 use Rattle.rebuild.specs.Recoveries.{IsTold}
@@ -130,7 +131,7 @@ module _ (tells honest : Bool) (before : Seen) (blocks : Blocks) (is : IsTold te
           fault_shown tells honest middle now blocks is.told is.fair (one_there tells honest before blocks is middle head read) head room is_head (Super fault) fails
       refused_window now (Window sequence) fails =
           (closed, fault_shown tells honest middle now blocks is.told is.fair (one_there tells honest before blocks is middle head read) head room is_head (Window sequence) fails)
-      refused_window now Device (journal, few, failed) = rose_behind before middle now (head_untouched tells honest before blocks is middle head read).later failed.rose
+      refused_window now Device (journal, few, failed) = last_here tells honest before blocks is middle head read now (read_is_last tells honest 1 middle now journal failed)
       refused_window now Memory fails = closed
       refused_window now (Page at fault) fails = absurd fails
       refused_window now (Counter at point) fails = absurd fails
@@ -152,9 +153,9 @@ module _ (tells honest : Bool) (before : Seen) (blocks : Blocks) (is : IsTold te
 
         later : (now : Seen) → AuditWithFails tells honest head window second now Device → IsOpeningRefusal blocks before now Device
         later now fails =
-            rose_behind before middle now (head_untouched tells honest before blocks is middle head read).later
-            (rose_behind middle second now (window_untouched tells honest before blocks is middle head read second window window_read).later
-            (audit_rose tells honest head window second now fails))
+            last_here tells honest before blocks is middle head read now
+            (failed_after tells middle second now (window_untouched tells honest before blocks is middle head read second window window_read)
+            (audit_last tells honest head window second now fails))
 
         refused_with : (now : Seen) (why : ImageFault) → OpenWithFails tells honest head window second now why → IsOpeningRefusal blocks before now why
         refused_with now (Page at fault) (pages, pages_read, says) = (

@@ -32,7 +32,7 @@ use Rattle.session_opening.specs.Starts.{IsStart}
 use Rattle.rebuild.proofs.ReadExample.{head_is_read, head_of, next_failed, no_entries, seen_failed, small_is, window_is_read}
 use Rattle.rebuild.proofs.RecoveryRows.{head_there, with_head}
 use Rattle.rebuild.proofs.Rows.{seen}
-use Rattle.rebuild.proofs.ShownLaws.{audit_rose}
+use Rattle.rebuild.proofs.ShownLaws.{audit_last}
 use Rattle.rebuild.specs.Openings.{CheckFails, Fits, HasWrongCount, IsCleanImage, IsOpenedFrom, IsOpenedWith, IsOpening, IsOpeningRefusal, IsOpeningResult, IsRight, OpenWithFails, OpeningFails, OpensRight}
 use Rattle.rebuild.specs.Recoveries.{IsTold}
 use Rattle.audit.specs.declared.forms.Contents.{Contents}
@@ -110,7 +110,7 @@ module _ (tells honest : Bool) (head : Superblock) (window : WindowState) (befor
 
 -- Device: no count of faults rose
 none_failed : (tells honest : Bool) (head : Superblock) (window : WindowState) → OpenWithFails tells honest head window seen seen Device → ⊥
-none_failed tells honest head window fails = let rose = audit_rose tells honest head window seen seen fails in omega (arith, rose)
+none_failed tells honest head window fails = let rose = (audit_last tells honest head window seen seen fails).rose in omega (arith, rose)
 
 -- Opened from the superblock on: one that says that the session was closed.
 module _ (opened : Opened) where

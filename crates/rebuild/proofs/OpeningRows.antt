@@ -16,7 +16,7 @@ use Rattle.image_model.specs.Counts.{HasMappings, Stores, block_of_data}
 use Rattle.image_model.specs.Maps.{Image, IsTreePage, mapping_of}
 use Rattle.image_model.specs.Sound.{IsDataPlace}
 use Rattle.image_model.specs.declared.fault.ImageFault.TheVariants.{Counts, Device, Unclean, Memory}
-use Rattle.rebuild.proofs.Rows.{flushed, none_flushed, seen}
+use Rattle.rebuild.proofs.Rows.{call_failed, called_after, flushed, last_is_failed, last_is_not, none_flushed, seen}
 use Rattle.rebuild.specs.Openings.{CheckFails, Fits, HasWrongCount, IsOpening, IsOpeningRefusal, IsRight, OpenWithFails, OpensRight}
 use Rattle.audit.specs.declared.forms.Contents.{Contents}
 
@@ -94,12 +94,15 @@ module _ (blocks : Blocks) (head : Superblock) (accepted : super_of_image blocks
   unclean_has_no_memory : head.clean ≡ false → IsOpeningRefusal blocks seen seen Memory → ⊥
   unclean_has_no_memory unclean (other, is, clean) = not_both other is clean unclean
 
--- a call's failure is its cause
-a_call_failed : (blocks : Blocks) → IsOpeningRefusal blocks seen (record seen { faults = 4 }) Device
-a_call_failed blocks = omega arith
+-- the failure of the last call is its cause
+a_call_failed : (blocks : Blocks) → IsOpeningRefusal blocks seen call_failed Device
+a_call_failed blocks = last_is_failed true
 
 no_call_failed : (blocks : Blocks) → IsOpeningRefusal blocks seen seen Device → ⊥
-no_call_failed blocks rose = omega (arith, rose)
+no_call_failed blocks failed = let rose = failed.rose in omega (arith, rose)
+
+another_was_made : (blocks : Blocks) → IsOpeningRefusal blocks seen called_after Device → ⊥
+another_was_made blocks failed = last_is_not failed
 
 -- nothing is written, whatever the answer is
 written_and_refused : IsOpening true true seen flushed (Err Memory) → ⊥

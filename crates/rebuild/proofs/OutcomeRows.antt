@@ -33,8 +33,8 @@ use Rattle.replay_counts.specs.Recovered.{Holds}
 use Rattle.replay_map.specs.Reads.{Shows}
 use Rattle.rebuild.proofs.ActLaws.{none_made}
 use Rattle.rebuild.proofs.ReadExample.{head_of, next_failed, no_entries, seen_failed, window_is_read, window_of_none, without_journal}
-use Rattle.rebuild.proofs.Rows.{flushed, none_flushed, seen}
-use Rattle.rebuild.proofs.ShownLaws.{audit_rose, both_logged, both_read, rose_behind}
+use Rattle.rebuild.proofs.Rows.{call_failed, called_after, flushed, last_is_failed, last_is_not, none_flushed, seen}
+use Rattle.rebuild.proofs.ShownLaws.{both_logged, both_read, unclean_last}
 use Rattle.rebuild.specs.Acts.{IsStart}
 use Rattle.rebuild.specs.Outcomes.{Ends, HasEntries, IsAllMade, IsKeptSince, RecoversUnclean, UncleanFails, WritesAll, WritesNothing}
 
@@ -90,28 +90,20 @@ entries_of_a_faulty_image : (tells honest : Bool) (head : Superblock) (before no
     → (HasNoFault (image_of head blocks has.window.entries) → ⊥) → Shows blocks has.right.0 → Holds head.geometry blocks has.right.1 → ⊥
 entries_of_a_faulty_image tells honest head before now count blocks has faulty shows holds = faulty (has.right.3 blocks shows holds)
 
--- Why an image isn't recovered. The journal isn't read; or it is, and the map or the counts aren't; or a call failed.
+-- Why an image isn't recovered. The journal isn't read; or it is, and the map or the counts aren't; or the last call failed.
 journal_failed : (honest : Bool) → UncleanFails false honest (head_of false) seen seen_failed Device
 journal_failed honest = inl ([], omega arith, next_failed honest 1)
 
 no_memory_behind : (honest : Bool) → UncleanFails false honest (head_of false) seen seen Memory
 no_memory_behind honest = inr (inl (seen, no_entries, window_is_read honest false, tt))
 
-pub write_failed : (tells honest : Bool) → UncleanFails tells honest (head_of false) seen seen_failed Device
-write_failed tells honest = inr (inr (refl, omega arith))
+pub write_failed : (tells honest : Bool) → UncleanFails tells honest (head_of false) seen call_failed Device
+write_failed tells honest = inr (inr (refl, last_is_failed tells))
 
--- Device: no count of faults rose
+-- Device: no count of faults rose; or another call was made behind the one that failed
 module _ (tells honest : Bool) (head : Superblock) (before now : Seen) where
   none_failed : before.faults + 1 ≤ 5 → now.faults ≤ before.faults → UncleanFails tells honest head before now Device → ⊥
-  none_failed few less fails = elim fails [
-    | inl journal ↦ let rose = journal.2.rose in omega (arith, few, less, rose)
-    | inr later ↦ elim later [
-      | inl behind ↦
-          let rose = rose_behind before behind.0 now behind.2.1.read.later (audit_rose tells honest head behind.1 behind.0 now behind.3) in
-          omega (arith, few, less, rose)
-      | inr call ↦ let rose = call.1 in omega (arith, few, less, rose)
-    ]
-  ]
+  none_failed few less fails = let rose = (unclean_last tells honest head before now fails).rose in omega (arith, few, less, rose)
 
   -- Unclean, Counts: it mends what is unclean, and looks at no number of mappings
   pub never_unclean : UncleanFails tells honest head before now Unclean → ⊥
@@ -123,6 +115,9 @@ module _ (tells honest : Bool) (head : Superblock) (before now : Seen) where
   -- Super: that it is used up, and nothing else of a superblock that was read
   never_no_image : UncleanFails tells honest head before now (Super NotAnImage) → ⊥
   never_no_image fails = elim fails [ inl refused ↦ absurd (cc refused.2.0) | inr later ↦ elim later [ inl behind ↦ behind.3 | inr call ↦ absurd (cc call.0) ] ]
+
+went_on : (honest : Bool) (head : Superblock) → UncleanFails true honest head seen called_after Device → ⊥
+went_on honest head fails = last_is_not (unclean_last true honest head seen called_after fails)
 
 -- Window: a journal without slots has no block that can't be replayed
 not_faulty : (journal : Blocks) → length journal ≡ 0 → IsFaulty (record small { journal = 0 }) 1 journal 7 → ⊥
@@ -237,7 +232,7 @@ all_is_written = record {
   stays = record { opening = refl; size = refl };
   later = record { faults = omega arith; unkept = omega arith };
   grows = λ told. (recovery_calls blank 7 [], refl);
-  rose = tt;
+  failed = tt;
   ends = λ first blocks start calls made needs same.
       let none = no_older calls first.log made.logged in
       let sizes = needs.1 in
@@ -258,7 +253,7 @@ none_is_written first blocks start writes =
     let size = ap (λ (l : List Call). length l) all.2 in
     omega (arith, size, length-append (recovery_calls (image_in blocks start.to.sound) start.to.sound.last all.0) first.log)
 
--- stays, later, grows, rose
+-- stays, later, grows, failed
 other_size : (honest : Bool) (last : ℕ) → WritesAll false honest seen (record seen { size = 3 }) any last (Ok tt) → ⊥
 other_size honest last writes = let size = writes.stays.size in omega (arith, size)
 
@@ -270,7 +265,19 @@ log_is_lost honest last writes =
     let since = writes.grows refl in let size = ap (λ (l : List Call). length l) since.1 in omega (arith, size, length-append since.0 (Flush true ∷ []))
 
 failed_for_nothing : (honest : Bool) (last : ℕ) (fault : Failed) → WritesAll false honest seen seen any last (Err fault) → ⊥
-failed_for_nothing honest last fault writes = let rose = writes.rose in omega (arith, rose)
+failed_for_nothing honest last fault writes = let rose = writes.failed.rose in omega (arith, rose)
+
+one_write_failed : (last : ℕ) (fault : Failed) → WritesAll true false seen call_failed any last (Err fault)
+one_write_failed last fault = record {
+  stays = record { opening = refl; size = refl };
+  later = record { faults = omega arith; unkept = omega arith };
+  grows = λ told. (Flush false ∷ [], refl);
+  failed = last_is_failed true;
+  ends = λ first blocks start calls made needs same. let fair = start.fair in absurd (cc fair);
+}
+
+failed_and_went_on : (honest : Bool) (last : ℕ) (fault : Failed) → WritesAll true honest seen called_after any last (Err fault) → ⊥
+failed_and_went_on honest last fault writes = last_is_not writes.failed
 
 -- The whole, of a device that doesn't tell: an answer, and a refusal.
 unclean_recovered : (honest : Bool) → BothShow false honest (head_of false) no_entries seen seen HasNoFault → RecoversUnclean false honest (head_of false) seen seen (Ok 0)

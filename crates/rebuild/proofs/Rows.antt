@@ -1,14 +1,17 @@
 -- For each definition a small case that it accepts, and one that it refuses.
-use Rattle.std.proofs.Common.{ℕ, ◌≡◌, true, false, List, [], ◌∷◌, ◌++◌, Ok, Err, length, length-append, refl, ap, subst, inl, inr, arith}
+use Rattle.std.proofs.Common.{ℕ, ◌≡◌, Bool, true, false, List, [], ◌∷◌, ◌++◌, Ok, Err, length, length-append, refl, ap, subst, inl, inr, arith}
 use Rattle.audit.specs.Reports.{HasNoFault}
 use Rattle.blk_base.specs.declared.geometry.Super.{Super as Superblock}
 use Rattle.blk_base.specs.declared.journal_entry.CommittedEntry.{CommittedEntry}
 use Rattle.disk_model.specs.declared.call.Call.{Call}
 use Rattle.disk_model.specs.declared.call.Call.TheVariants.{Read, Write, Flush}
+use Rattle.disk_model.specs.Causes.{Rose}
 use Rattle.disk_model.specs.Log.{Blocks}
 use Rattle.disk_model.specs.Seen.{Seen}
 use Rattle.disk_model.specs.Since.{OnlyReads}
+use Rattle.disk_model.specs.Telling.{FailedInLog}
 use Rattle.disk_model.proofs.SinceLaws.{untouched_yet}
+use Rattle.image_format.specs.Formats.{IsFailed, LastFailed}
 use Rattle.image_model.proofs.Example.{pbn}
 use Rattle.image_model.specs.Maps.{Image}
 use Rattle.image_model.specs.Sound.{image_of}
@@ -27,6 +30,26 @@ seen = record { opening = []; size = 154; log = []; faults = 3; unkept = 0 }
 -- a flush, and a block of no page and no counters
 abbrev pub flushed : Seen
 flushed = record seen { log = Flush true ∷ [] }
+
+-- a flush that failed, and one that was called behind it
+abbrev pub call_failed : Seen
+call_failed = record seen { log = Flush false ∷ []; faults = 4 }
+
+abbrev pub called_after : Seen
+called_after = record seen { log = Flush true ∷ Flush false ∷ []; faults = 4 }
+
+-- the first is the last call and failed; the second isn't
+pub last_is_failed : (tells : Bool) → LastFailed tells seen call_failed
+last_is_failed tells = record { rose = omega arith; logged = λ told. (Flush false, [], refl, inl refl) }
+
+pub last_is_not : LastFailed true seen called_after → ⊥
+last_is_not failed = let last = failed.logged refl in of_last last.0 last.1 last.2 last.3
+  where
+    of_last : (call : Call) (done : List Call) → IsFailed call → FailedInLog (done ++ []) (Flush true ∷ Flush false ∷ []) call (Rose 0 0) → ⊥
+    of_last call done is (inr lost) = let rose = lost.1 in omega (arith, rose)
+    of_last (Read at bytes ok) done is (inl stands) = absurd (cc stands)
+    of_last (Write at bytes ok) done is (inl stands) = absurd (cc stands)
+    of_last (Flush ok) done is (inl stands) = let front : Flush true ≡ Flush ok = cc stands in absurd (cc (front, is))
 
 -- logged, each: since a start only reads and recovery's writes were made, and these
 nothing_made : (image : Image) → AreMade image seen seen []
@@ -81,16 +104,19 @@ module _ (blocks : Blocks) (head : Superblock) (accepted : super_of_image blocks
   clean_answer : head.clean ≡ true → IsAnswer blocks Clean
   clean_answer clean = (head, accepted, clean)
 
-  -- Refusals: want of memory comes for an unclean image alone, and a device's only where a call failed.
+  -- Refusals: want of memory comes for an unclean image alone, and a device's only where the last call failed.
   clean_has_memory : head.clean ≡ true → IsRefusal blocks seen seen Memory → ⊥
   clean_has_memory clean (other, is, unclean) =
       let same = ap (λ (h : Superblock). h.clean) (same_superblock other is) in absurd (cc (same, unclean, clean))
 
 no_call_failed : (blocks : Blocks) → IsRefusal blocks seen seen Device → ⊥
-no_call_failed blocks rose = omega (arith, rose)
+no_call_failed blocks failed = let rose = failed.rose in omega (arith, rose)
 
-a_call_failed : (blocks : Blocks) → IsRefusal blocks seen (record seen { faults = 4 }) Device
-a_call_failed blocks = omega arith
+a_call_failed : (blocks : Blocks) → IsRefusal blocks seen call_failed Device
+a_call_failed blocks = last_is_failed true
+
+another_was_made : (blocks : Blocks) → IsRefusal blocks seen called_after Device → ⊥
+another_was_made blocks failed = last_is_not failed
 
 -- it mends what is unclean, and looks at no number of mappings
 never_unclean : (blocks : Blocks) → IsRefusal blocks seen seen Unclean → ⊥
@@ -118,7 +144,8 @@ written_and_refused is = elim is.nothing [
       none_flushed since.0 since.1 since.2
 ]
 
--- A second recovery: an honest device has a closed image; it finds it closed, and writes nothing; or a call failed
+-- A second recovery: an honest device has a closed image; it finds it closed, and writes nothing; or the last call
+-- failed
 not_honest : HasClosedImage true false seen → ⊥
 not_honest has = let fair : false ≡ true = has.1.fair in absurd (cc fair)
 
@@ -131,11 +158,14 @@ found_unclean count found = absurd (cc found.0)
 found_and_written : FindsClosed true seen flushed (Ok Clean) → ⊥
 found_and_written found = let since = found.1.reads refl in none_flushed since.0 since.1 since.2
 
-then_failed : FindsClosed true seen (record seen { faults = 4 }) (Err Device)
-then_failed = (refl, omega arith)
+then_failed : FindsClosed true seen call_failed (Err Device)
+then_failed = (refl, last_is_failed true)
 
 then_refused : FindsClosed true seen seen (Err Memory) → ⊥
 then_refused found = absurd (cc found.0)
 
 then_none_failed : FindsClosed true seen seen (Err Device) → ⊥
-then_none_failed found = let rose = found.1 in omega (arith, rose)
+then_none_failed found = let rose = found.1.rose in omega (arith, rose)
+
+then_went_on : FindsClosed true seen called_after (Err Device) → ⊥
+then_went_on found = last_is_not found.1

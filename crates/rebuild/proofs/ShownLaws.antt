@@ -1,4 +1,5 @@
--- What recovery answers is what the one image of an honest device says; and why a call's failure is its cause.
+-- What recovery answers is what the one image of an honest device says; and where it answers that the device failed, the
+-- last call failed.
 use Rattle.std.proofs.Common.{ℕ, ◌≡◌, ◌≤◌, ◌++◌, Bool, true, false, List, [], ◌∷◌, Ok, length, reverse, refl, inl, inr, arith}
 use Rattle.audit.specs.Audits.{AuditWithFails, BothShow}
 use Rattle.audit.specs.Reports.{HasNoFault}
@@ -6,12 +7,12 @@ use Rattle.blk_base.specs.Regions.{needed_blocks}
 use Rattle.blk_base.specs.declared.geometry.Geometry.{Geometry}
 use Rattle.blk_base.specs.declared.geometry.Super.{Super as Superblock}
 use Rattle.disk_model.specs.declared.call.Call.{Call}
-use Rattle.disk_model.specs.Causes.{Rose}
 use Rattle.disk_model.specs.Images.{HasOneImage}
 use Rattle.disk_model.specs.Log.{Blocks}
-use Rattle.disk_model.specs.Seen.{Later, Seen}
+use Rattle.disk_model.specs.Seen.{Seen}
 use Rattle.disk_model.specs.Since.{IsUntouched}
 use Rattle.disk_model.proofs.SinceLaws.{untouched_on, untouched_yet, were_only_read}
+use Rattle.image_format.specs.Formats.{LastFailed}
 use Rattle.image_layout.specs.Opened.{super_of_image}
 use Rattle.image_model.specs.Faults.{IsCountFault, IsOpened, IsShareFault}
 use Rattle.image_model.specs.Maps.{Image, ArePagesGood}
@@ -27,15 +28,13 @@ use Rattle.replay_map.proofs.HonestLaws.{all_shown}
 use Rattle.replay_map.proofs.ReadLaws.{blocks_untouched}
 use Rattle.slab_reading.specs.Reads.{SlabsRead}
 use Rattle.slab_reading.specs.Slabs.{first_of_slab}
+use Rattle.rebuild.proofs.FailLaws.{failed_after, read_is_last, told_failed}
 use Rattle.rebuild.proofs.ReadLaws.{both_shown, still}
 use Rattle.rebuild.specs.Outcomes.{HasEntries, UncleanFails}
-use Rattle.rebuild.specs.Recoveries.{IsAnswer, IsRefusal, IsTold, IsUnclean}
+use Rattle.rebuild.specs.Recoveries.{IsAnswer, IsRefusal, IsTold, IsUnclean, RecoverFails}
 use Rattle.rebuild.specs.declared.forms.Recovered.TheVariants.{Clean, Entries}
 
--- A failed call has its cause.
-
-pub rose_behind : (before middle now : Seen) → Later before middle → Rose middle.faults now.faults → Rose before.faults now.faults
-rose_behind before middle now later rose = let less = later.faults in omega (arith, less, rose)
+-- The last call failed.
 
 slabs_later : (tells honest : Bool) (g : Geometry) (before now : Seen) (reads : List Blocks) → SlabsRead tells honest g before now reads → IsUntouched tells before now
 slabs_later tells honest g before now [] same = rw same (untouched_yet tells before)
@@ -53,18 +52,24 @@ pub both_logged : (honest : Bool) (head : Superblock) (window : WindowState) (be
     → (calls : List Call) × (now.log ≡ calls ++ before.log)
 both_logged honest head window before now Says shown = let reads = (both_read true honest head window before now Says shown).reads refl in (reads.0, reads.1)
 
-pub audit_rose : (tells honest : Bool) (head : Superblock) (window : WindowState) (before now : Seen) → AuditWithFails tells honest head window before now Device → Rose before.faults now.faults
-audit_rose tells honest head window before now (inl (reads, middle, at, read, failed, stands)) =
-    rose_behind before middle now (blocks_untouched tells honest head.geometry before middle reads read).later failed.rose
-audit_rose tells honest head window before now (inr (pages, middle, read, (slabs, few, last, slabs_read, (blocks, short, failed)))) =
-    rose_behind before middle now (blocks_untouched tells honest head.geometry before middle pages read).later
-    (rose_behind middle last now (slabs_later tells honest head.geometry middle last slabs slabs_read).later failed.rose)
+pub audit_last : (tells honest : Bool) (head : Superblock) (window : WindowState) (before now : Seen) → AuditWithFails tells honest head window before now Device → LastFailed tells before now
+audit_last tells honest head window before now (inl (reads, middle, at, read, failed, stands)) =
+    failed_after tells before middle now (blocks_untouched tells honest head.geometry before middle reads read) (read_is_last tells honest at.0 middle now [] failed)
+audit_last tells honest head window before now (inr (pages, middle, read, (slabs, few, last, slabs_read, (blocks, short, failed)))) =
+    failed_after tells before middle now (blocks_untouched tells honest head.geometry before middle pages read)
+    (failed_after tells middle last now (slabs_later tells honest head.geometry middle last slabs slabs_read)
+    (read_is_last tells honest (first_of_slab head.geometry (length slabs)) last now blocks failed))
 
-unclean_rose : (tells honest : Bool) (head : Superblock) (before now : Seen) → UncleanFails tells honest head before now Device → Rose before.faults now.faults
-unclean_rose tells honest head before now (inl (blocks, few, failed)) = failed.rose
-unclean_rose tells honest head before now (inr (inl (middle, window, read, fails))) =
-    rose_behind before middle now (were_only_read tells honest 1 before middle (reverse read.0) read.1.read).later (audit_rose tells honest head window middle now fails)
-unclean_rose tells honest head before now (inr (inr (same, rose))) = rose
+pub unclean_last : (tells honest : Bool) (head : Superblock) (before now : Seen) → UncleanFails tells honest head before now Device → LastFailed tells before now
+unclean_last tells honest head before now (inl (blocks, few, failed)) = read_is_last tells honest 1 before now blocks failed
+unclean_last tells honest head before now (inr (inl (middle, window, read, fails))) =
+    failed_after tells before middle now (were_only_read tells honest 1 before middle (reverse read.0) read.1.read) (audit_last tells honest head window middle now fails)
+unclean_last tells honest head before now (inr (inr (same, failed))) = failed
+
+pub recover_last : (tells honest : Bool) (before now : Seen) → RecoverFails tells honest before now Device → LastFailed tells before now
+recover_last tells honest before now (inl failed) = read_is_last tells honest 0 before now [] failed
+recover_last tells honest before now (inr (head, middle, read, unclean, fails)) =
+    failed_after tells before middle now (were_only_read tells honest 0 before middle (read.block ∷ []) read.read) (unclean_last tells honest head middle now fails)
 
 -- By the one image.
 
@@ -78,6 +83,9 @@ module _ (tells honest : Bool) (before : Seen) (blocks : Blocks) (is : IsTold te
 
     pub one_there : HasOneImage middle.opening middle.log blocks
     one_there = still tells honest blocks is.told is.fair before middle head_untouched is.one
+
+    pub last_here : (now : Seen) → LastFailed tells middle now → LastFailed true before now
+    last_here now failed = told_failed tells before now is.told (failed_after tells before middle now head_untouched failed)
 
     pub enough : needed_blocks head.geometry ≤ middle.size
     enough = let room = head_read.is.room in let size = head_untouched.stays.size in omega (arith, room, size)
@@ -108,7 +116,7 @@ module _ (tells honest : Bool) (before : Seen) (blocks : Blocks) (is : IsTold te
           let said = both_shown tells honest blocks is.told is.fair head window second now (λ image. ArePagesGood image × AreStored image × IsShareFault image at) one_behind enough_behind fails in
           (unclean, (image_of head blocks window.entries, opened, said.0, said.1, said.2))
       audit_fault now Device fails unclean =
-          rose_behind before middle now head_untouched.later (unclean_rose tells honest head middle now (inr (inl (second, window, read, fails))))
+          last_here now (unclean_last tells honest head middle now (inr (inl (second, window, read, fails))))
       audit_fault now Memory fails unclean = unclean
       audit_fault now (Super fault) fails unclean = absurd fails
       audit_fault now (Window sequence) fails unclean = absurd fails
@@ -118,7 +126,7 @@ module _ (tells honest : Bool) (before : Seen) (blocks : Blocks) (is : IsTold te
     window_fault : (now : Seen) (why : ImageFault) → Fails tells honest middle now head why → IsUnclean blocks → IsRefusal blocks before now why
     window_fault now (Super fault) fails unclean = fault_shown tells honest middle now blocks is.told is.fair one_there head enough accepted (Super fault) fails
     window_fault now (Window sequence) fails unclean = (unclean, fault_shown tells honest middle now blocks is.told is.fair one_there head enough accepted (Window sequence) fails)
-    window_fault now Device (read, few, failed) unclean = rose_behind before middle now head_untouched.later failed.rose
+    window_fault now Device (read, few, failed) unclean = last_here now (read_is_last tells honest 1 middle now read failed)
     window_fault now Memory fails unclean = unclean
     window_fault now (Page at fault) fails unclean = absurd fails
     window_fault now (Counter at point) fails unclean = absurd fails
@@ -126,13 +134,13 @@ module _ (tells honest : Bool) (before : Seen) (blocks : Blocks) (is : IsTold te
     window_fault now (Counts at stored mapped) fails unclean = absurd fails
     window_fault now Unclean fails unclean = absurd fails
 
-    device_refused : (now : Seen) (why : ImageFault) → why ≡ Device → Rose before.faults now.faults → IsRefusal blocks before now why
-    device_refused now why same rose = rw same rose
+    device_refused : (now : Seen) (why : ImageFault) → why ≡ Device → LastFailed true before now → IsRefusal blocks before now why
+    device_refused now why same failed = rw same failed
 
     pub unclean_refused : (now : Seen) (why : ImageFault) → head.clean ≡ false → UncleanFails tells honest head middle now why → IsRefusal blocks before now why
     unclean_refused now why unclean (inl fails) = window_fault now why fails (head, accepted, unclean)
     unclean_refused now why unclean (inr (inl (second, window, read, fails))) = audit_fault second window read now why fails (head, accepted, unclean)
-    unclean_refused now why unclean (inr (inr (same, rose))) = device_refused now why same (rose_behind before middle now head_untouched.later rose)
+    unclean_refused now why unclean (inr (inr (same, failed))) = device_refused now why same (last_here now failed)
 
     pub clean_answer : head.clean ≡ true → IsAnswer blocks Clean
     clean_answer clean = (head, accepted, clean)
@@ -150,7 +158,7 @@ module _ (tells honest : Bool) (before : Seen) (blocks : Blocks) (is : IsTold te
 
   pub head_refused : (now : Seen) (why : ImageFault) → length before.opening ≡ before.size → HeadFails tells honest before now why → IsRefusal blocks before now why
   head_refused now (Super fault) told fails = head_fault tells honest before now blocks is.told is.fair is.one (Super fault) told fails
-  head_refused now Device told failed = failed.rose
+  head_refused now Device told failed = told_failed tells before now is.told (read_is_last tells honest 0 before now [] failed)
   head_refused now (Window sequence) told fails = absurd fails
   head_refused now (Page at fault) told fails = absurd fails
   head_refused now (Counter at point) told fails = absurd fails

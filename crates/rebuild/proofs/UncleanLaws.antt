@@ -1,5 +1,5 @@
 -- How the recovery of an image ends whose superblock was read.
-use Rattle.std.proofs.Common.{ℕ, ◌≡◌, ◌≤◌, Bool, true, List, [], ◌∷◌, ◌++◌, Result, Ok, Err, OnErr, IsErr, IsErrAnd, reverse, refl, sym, subst, inl, inr, arith}
+use Rattle.std.proofs.Common.{ℕ, ◌≡◌, ◌≤◌, Bool, true, List, [], ◌∷◌, ◌++◌, Result, Ok, Err, IsErr, IsErrAnd, reverse, refl, sym, subst, inl, inr, arith}
 use Rattle.audit.proofs.AuditLaws.{both_follow}
 use Rattle.audit.specs.Reports.{HasNoFault}
 use Rattle.blk_base.specs.Regions.{needed_blocks}
@@ -9,7 +9,6 @@ use Rattle.blk_base.specs.declared.place.Mapping.{Mapping}
 use Rattle.disk_model.specs.declared.call.Call.{Call}
 use Rattle.disk_model.specs.declared.call.Call.TheVariants.{Flush}
 use Rattle.disk_model.specs.declared.call.Failed.{Failed}
-use Rattle.disk_model.specs.Causes.{Rose}
 use Rattle.disk_model.specs.Images.{HasOneImage}
 use Rattle.disk_model.specs.Log.{Blocks}
 use Rattle.disk_model.specs.Seen.{Later, Seen, Stays}
@@ -34,6 +33,7 @@ use Rattle.replay_map.specs.Changes.{AreNewest}
 use Rattle.replay_map.specs.Replayed.{HasMap}
 use Rattle.replay_map.specs.declared.changes.SlotId.{SlotId}
 use Rattle.rebuild.proofs.ActLaws.{grows_on, made_grows, none_made, read_made, untouched_grows}
+use Rattle.rebuild.proofs.FailLaws.{failed_after, failed_on, makes_failed, on_err}
 use Rattle.rebuild.proofs.KeptLaws.{closes_to, image_alike, made_kept, opened_alike, stopped_kept}
 use Rattle.rebuild.proofs.ReadLaws.{both_shown, still}
 use Rattle.rebuild.specs.Acts.{Acts, AreMade, IsStart}
@@ -46,10 +46,6 @@ ends_failed : {T E : Type 0} (image : Image) (last : ℕ) (first now : Seen) (re
 ends_failed image last first now (Ok _) is kept = absurd (cc is)
 ends_failed image last first now (Err _) is kept = kept
 
-rose_of : (before now : Seen) (result : Result (Unit {0}) Failed) → Rose before.faults now.faults → OnErr result (Rose before.faults now.faults)
-rose_of before now (Ok _) rose = tt
-rose_of before now (Err _) rose = rose
-
 -- Writing.
 
 pub blocks_failed : (tells honest : Bool) (before now : Seen) (N : Image → Type 0) (last : ℕ) (fault : Failed) (result : Result (Unit {0}) Failed) → IsErr result
@@ -58,7 +54,7 @@ blocks_failed tells honest before now N last fault result is acts = record {
   stays = acts.stays;
   later = acts.later;
   grows = acts.grows;
-  rose = rose_of before now result acts.rose;
+  failed = on_err tells before now result acts.failed;
   ends = λ first blocks start calls made has same.
       ends_failed (image_in blocks start.to.sound) start.to.sound.last first now result is
       (stopped_kept tells honest first blocks start now (acts.recovers first blocks start calls made has));
@@ -68,13 +64,9 @@ module _ (tells honest : Bool) (before middle now : Seen) (N : Image → Type 0)
   abbrev closing : Geometry → List Call
   closing g = Flush true ∷ put 0 (super_block (recovered_super g last)) ∷ Flush true ∷ []
 
-  makes_stays : (calls : List Call) (result : Result (Unit {0}) Failed) → Makes tells middle now calls result → Stays middle now × Later middle now × OnErr result (Rose middle.faults now.faults)
-  makes_stays calls (Ok _) makes = (makes.stays, makes.later, tt)
-  makes_stays calls (Err _) makes = (makes.stays, makes.later, makes.rose)
-
-  rose_behind : (result : Result (Unit {0}) Failed) → before.faults ≤ middle.faults → OnErr result (Rose middle.faults now.faults) → OnErr result (Rose before.faults now.faults)
-  rose_behind (Ok _) less rose = tt
-  rose_behind (Err _) less rose = omega (arith, less, rose)
+  makes_stays : (calls : List Call) (result : Result (Unit {0}) Failed) → Makes tells middle now calls result → Stays middle now × Later middle now
+  makes_stays calls (Ok _) makes = (makes.stays, makes.later)
+  makes_stays calls (Err _) makes = (makes.stays, makes.later)
 
   pub all_written : (g : Geometry) (result : Result (Unit {0}) Failed) → ((image : Image) → N image → image.geometry ≡ g) → Acts tells honest before middle N AreBothDone (Ok tt)
       → Makes tells middle now (closing g) result → WritesAll tells honest before now N last result
@@ -83,7 +75,7 @@ module _ (tells honest : Bool) (before middle now : Seen) (N : Image → Type 0)
         stays = stays_on before middle now acts.stays parts.0;
         later = later_on before middle now acts.later parts.1;
         grows = grows_on tells before middle now acts.grows (made_grows tells middle now (closing g) result makes);
-        rose = rose_behind result acts.later.faults parts.2;
+        failed = failed_on tells before middle now result acts.later acts.grows (makes_failed tells middle now (closing g) result makes);
         ends = λ first blocks start calls made has same.
             let image = image_in blocks start.to.sound in
             let went = acts.recovers first blocks start calls made has in
@@ -165,7 +157,7 @@ module _ (tells honest : Bool) (head : Superblock) (before second third now : Se
     later = later_on before third now all_read.later writes.later;
     grows = grows_on tells before third now (untouched_grows tells before third all_read) writes.grows;
     entries = tt;
-    fails = inr (inr (refl, let less = all_read.later.faults in let rose = writes.rose in omega (arith, less, rose)));
+    fails = inr (inr (refl, failed_after tells before third now all_read writes.failed));
     nothing = inl refl;
     ends = λ first blocks start before_it accepted. ends_so first blocks start before_it accepted (Err fault) writes;
   }

@@ -4,10 +4,10 @@ use Rattle.std.specs.List.{AllByRecursion}
 use Rattle.disk_model.specs.declared.call.Call.{Call}
 use Rattle.disk_model.specs.declared.call.Call.TheVariants.{Flush}
 use Rattle.disk_model.specs.declared.call.Failed.{Failed}
-use Rattle.disk_model.specs.Causes.{Rose}
 use Rattle.disk_model.specs.Log.{Blocks}
 use Rattle.disk_model.specs.Seen.{Seen, Stays, Later}
 use Rattle.disk_model.specs.Telling.{FailedInLog}
+use Rattle.image_format.specs.Formats.{LastFailed}
 use Rattle.image_format.specs.Runs.{as_failed}
 use Rattle.image_model.specs.Maps.{Image}
 use Rattle.recovery_laws.specs.Calls.{IsPut}
@@ -55,10 +55,10 @@ abbrev pub Recovers : Bool → Bool → Seen → Seen → (Image → Type 0) →
 Recovers tells honest before now Needs Done (Ok _) = Went tells honest before now Needs Done
 Recovers tells honest before now Needs Done (Err _) = Stopped tells honest before now Needs
 
--- what a function that makes such calls answers, and what it does to any device
+-- what a function that makes such calls answers, and what it does to any device: where it fails, its last call failed
 pub record Acts (tells honest : Bool) (before now : Seen) (Needs : Image → Type 0) (Done : Image → List Call → Type 0) (result : Result (Unit {0}) Failed) : Type 0 where
   pub stays : Stays before now
   pub later : Later before now
   pub grows : Grows tells before now
-  pub rose : OnErr result (Rose before.faults now.faults)
+  pub failed : OnErr result (LastFailed tells before now)
   pub recovers : Recovers tells honest before now Needs Done result

@@ -1,9 +1,9 @@
 -- What a recovery finds where one was made before.
 use Rattle.std.specs.Prelude.{◌≡◌, Bool, Result, Ok, Err}
-use Rattle.disk_model.specs.Causes.{Rose}
 use Rattle.disk_model.specs.Log.{Blocks}
 use Rattle.disk_model.specs.Seen.{Seen}
 use Rattle.disk_model.specs.Since.{IsUntouched}
+use Rattle.image_format.specs.Formats.{LastFailed}
 use Rattle.image_model.specs.Sound.{IsSound}
 use Rattle.image_model.specs.declared.fault.ImageFault.{ImageFault}
 use Rattle.image_model.specs.declared.fault.ImageFault.TheVariants.{Device}
@@ -16,7 +16,7 @@ use Rattle.rebuild.specs.declared.forms.Recovered.TheVariants.{Clean}
 abbrev pub HasClosedImage : Bool → Bool → Seen → Type 0
 HasClosedImage tells honest now = (image : Blocks) × IsTold tells honest now image × IsSound image × IsCleanImage image
 
--- what is answered: that the image is closed, and nothing was written; or a call failed
+-- what is answered: that the image is closed, and nothing was written; or the last call failed
 abbrev pub FindsClosed : Bool → Seen → Seen → Result Recovered ImageFault → Type 0
 FindsClosed tells before now (Ok recovered) = (recovered ≡ Clean) × IsUntouched tells before now
-FindsClosed tells before now (Err why) = (why ≡ Device) × Rose before.faults now.faults
+FindsClosed tells before now (Err why) = (why ≡ Device) × LastFailed tells before now

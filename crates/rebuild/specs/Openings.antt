@@ -9,10 +9,10 @@ use Rattle.blk_base.specs.declared.journal_entry.CommittedEntry.{CommittedEntry}
 use Rattle.blk_base.specs.declared.opened.Opened.{Opened}
 use Rattle.blk_base.specs.declared.place.Pbn.{Pbn}
 use Rattle.count_updates.specs.Numbers.{all_blocks, all_sectors}
-use Rattle.disk_model.specs.Causes.{Rose}
 use Rattle.disk_model.specs.Log.{Blocks}
 use Rattle.disk_model.specs.Seen.{Seen}
 use Rattle.disk_model.specs.Since.{IsUntouched}
+use Rattle.image_format.specs.Formats.{LastFailed}
 use Rattle.image_layout.specs.Opened.{super_of_image}
 use Rattle.image_model.specs.Faults.{IsCountsFault, IsImageFault}
 use Rattle.image_model.specs.Maps.{Image, ArePagesGood}
@@ -99,12 +99,12 @@ abbrev pub OpensRight : Blocks → Opened → Type 0
 OpensRight blocks opened = (head : Superblock) × (last : ℕ) × (window : List CommittedEntry) × Opens blocks head last window × (head.clean ≡ true)
     × IsRight (image_of head blocks window) head opened
 
--- why it isn't opened: it has this fault, the first of its faults; or its last session wasn't closed; a call failed, or want
--- of memory
+-- why it isn't opened: it has this fault, the first of its faults; or its last session wasn't closed; the last call
+-- failed, or want of memory
 abbrev pub IsOpeningRefusal : Blocks → Seen → Seen → ImageFault → Type 0
 IsOpeningRefusal blocks before now (Super fault) = IsImageFault blocks (Super fault)
 IsOpeningRefusal blocks before now Unclean = IsUnclean blocks
-IsOpeningRefusal blocks before now Device = Rose before.faults now.faults
+IsOpeningRefusal blocks before now Device = LastFailed true before now
 IsOpeningRefusal blocks before now Memory = IsCleanImage blocks
 IsOpeningRefusal blocks before now other = IsCleanImage blocks × IsImageFault blocks other
 

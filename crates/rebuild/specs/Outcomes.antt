@@ -5,10 +5,10 @@ use Rattle.audit.specs.Reports.{HasNoFault}
 use Rattle.blk_base.specs.declared.geometry.Super.{Super as Superblock}
 use Rattle.disk_model.specs.declared.call.Call.{Call}
 use Rattle.disk_model.specs.declared.call.Failed.{Failed}
-use Rattle.disk_model.specs.Causes.{Rose}
 use Rattle.disk_model.specs.Seen.{Later, Seen, Stays}
 use Rattle.disk_model.specs.Log.{Blocks}
 use Rattle.disk_model.specs.Since.{IsUntouched, SinceThen}
+use Rattle.image_format.specs.Formats.{LastFailed}
 use Rattle.image_layout.specs.Opened.{super_of_image}
 use Rattle.image_model.specs.Maps.{Image}
 use Rattle.image_model.specs.declared.fault.ImageFault.{ImageFault}
@@ -35,12 +35,12 @@ pub record HasEntries (tells honest : Bool) (head : Superblock) (before now : Se
   pub number : count ≡ length window.entries
 
 -- Why an image isn't recovered whose superblock was read: its journal has no window; or it was read, and then the first
--- fault of the map and the counts was; or a call failed.
+-- fault of the map and the counts was; or the last call failed.
 abbrev pub UncleanFails : Bool → Bool → Superblock → Seen → Seen → ImageFault → Type 0
 UncleanFails tells honest head before now why =
     Fails tells honest before now head why
     ⊎ ((middle : Seen) × (window : WindowState) × IsWindowRead tells honest before middle head window × AuditWithFails tells honest head window middle now why)
-    ⊎ ((why ≡ Device) × Rose before.faults now.faults)
+    ⊎ ((why ≡ Device) × LastFailed tells before now)
 
 -- nothing was written, but where a call failed
 abbrev pub WritesNothing : Bool → Seen → Seen → ImageFault → Type 0
@@ -62,13 +62,13 @@ Ends image last first now (Err _) = IsKeptSince image first now
 
 -- The whole.
 
--- What writing all of an image answers: where a call failed, its count rose. From each start on, after reads and where the
+-- What writing all of an image answers: where it fails, its last call failed. From each start on, after reads and where the
 -- image has what is needed and this last sequence, it ends so.
 pub record WritesAll (tells honest : Bool) (before now : Seen) (Needs : Image → Type 0) (last : ℕ) (result : Result (Unit {0}) Failed) : Type 0 where
   pub stays : Stays before now
   pub later : Later before now
   pub grows : Grows tells before now
-  pub rose : OnErr result (Rose before.faults now.faults)
+  pub failed : OnErr result (LastFailed tells before now)
   pub ends : (first : Seen) (blocks : Blocks) (start : IsStart tells honest first blocks) (calls : List Call) → AreMade (image_in blocks start.to.sound) first before calls
       → Needs (image_in blocks start.to.sound) → start.to.sound.last ≡ last → Ends (image_in blocks start.to.sound) start.to.sound.last first now result
 

@@ -3,11 +3,11 @@ use Rattle.std.specs.Prelude.{ℕ, ◌≡◌, ◌⊎◌, Bool, IsTrue, true, fal
 use Rattle.audit.specs.Reports.{HasNoFault}
 use Rattle.blk_base.specs.declared.geometry.Super.{Super as Superblock}
 use Rattle.blk_base.specs.declared.journal_entry.CommittedEntry.{CommittedEntry}
-use Rattle.disk_model.specs.Causes.{Rose}
 use Rattle.disk_model.specs.Images.{HasOneImage}
 use Rattle.disk_model.specs.Log.{Blocks}
 use Rattle.disk_model.specs.Seen.{Later, Seen, Stays}
 use Rattle.disk_model.specs.Since.{IsUntouched}
+use Rattle.image_format.specs.Formats.{LastFailed}
 use Rattle.image_layout.specs.Opened.{super_of_image}
 use Rattle.image_model.specs.Faults.{IsImageFault}
 use Rattle.image_model.specs.Sound.{IsSound, Opens, image_of}
@@ -48,14 +48,14 @@ IsAnswer blocks (Entries count) =
 abbrev pub IsUnclean : Blocks → Type 0
 IsUnclean blocks = (head : Superblock) × (super_of_image blocks ≡ Ok head) × (head.clean ≡ false)
 
--- why there is none: the image has this fault, the first of its faults; a call failed, or want of memory
+-- why there is none: the image has this fault, the first of its faults; the last call failed, or want of memory
 abbrev pub IsRefusal : Blocks → Seen → Seen → ImageFault → Type 0
 IsRefusal blocks before now (Super fault) = IsImageFault blocks (Super fault)
 IsRefusal blocks before now (Window sequence) = IsUnclean blocks × IsImageFault blocks (Window sequence)
 IsRefusal blocks before now (Page at fault) = IsUnclean blocks × IsImageFault blocks (Page at fault)
 IsRefusal blocks before now (Counter at point) = IsUnclean blocks × IsImageFault blocks (Counter at point)
 IsRefusal blocks before now (SharedPage at) = IsUnclean blocks × IsImageFault blocks (SharedPage at)
-IsRefusal blocks before now Device = Rose before.faults now.faults
+IsRefusal blocks before now Device = LastFailed true before now
 IsRefusal blocks before now Memory = IsUnclean blocks
 IsRefusal blocks before now (Counts at stored mapped) = ⊥
 IsRefusal blocks before now Unclean = ⊥

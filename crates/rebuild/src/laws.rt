@@ -9,7 +9,7 @@ ghost use Rattle.rebuild.specs.declared.forms.Recovered.{Recovered};
 
 /// Of an honest device on which nothing was pending, and whose image was sound: once it was recovered, nothing is
 /// pending, and its one image is sound and closed. A second recovery answers `Clean` and writes nothing; or it answers
-/// `Device`, and a call failed.
+/// `Device`, and the last call failed.
 pub fn recovered_once_for_all()
     ensures closed { (tells honest : Bool) (before now : Seen) (blocks : Blocks) (recovered : Recovered) → IsTold tells honest before blocks → IsSound blocks
         → IsRecovery tells honest before now (Ok recovered) → HasClosedImage tells honest now }

@@ -18,8 +18,8 @@ use std::alloc::Global;
 /// | 3 | block 0: the superblock, with `clean` true and `start` two past the window's last sequence | a flush |
 ///
 /// The image is refused with its first fault, over the whole image, in this order: `Super`, `Window`, `Page`, `Counter`,
-/// `SharedPage`. `Device` comes only where a call failed, and `Memory` only for want of memory. After a refusal other than
-/// `Device` nothing was written.
+/// `SharedPage`. `Device` comes only where a call failed, and then no other is made after it; `Memory` only for want of
+/// memory. After a refusal other than `Device` nothing was written.
 ///
 /// Of an honest device on which nothing is pending, and whose image is sound: whatever it answers, and at whatever moment it
 /// is stopped, what is left is sound and says the same, and each block but the superblock's, the pages' and the counters'
