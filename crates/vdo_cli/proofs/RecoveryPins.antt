@@ -3,13 +3,17 @@
 use Rattle.std.proofs.Common.{ℕ, ◌≡◌, ◌++◌, true, false, List, [], ◌∷◌, length, take, Option, Some, None, Ok, Err, codes, refl, ◌∙◌, ap, inl, inr, arith}
 use Rattle.disk_model.specs.declared.call.Call.{Call}
 use Rattle.disk_model.specs.declared.call.Call.TheVariants.{Read, Write, Flush}
+use Rattle.disk_model.specs.Causes.{Rose}
 use Rattle.disk_model.specs.Seen.{Seen}
 use Rattle.disk_model.specs.Since.{IsUntouched, OnlyReads}
+use Rattle.disk_model.specs.Telling.{FailedInLog}
+use Rattle.image_format.specs.Formats.{IsFailed}
 use Rattle.image_layout.specs.declared.fault.SuperFault.TheVariants.{NotAnImage}
 use Rattle.image_model.specs.declared.fault.ImageFault.{ImageFault}
 use Rattle.image_model.specs.declared.fault.ImageFault.TheVariants as image
 use Rattle.command_text.specs.Parts.{recovery_text}
 use Rattle.command_text.specs.declared.parts.Recovery.TheVariants as said
+use Rattle.rebuild.proofs.ShownLaws.{recover_last}
 use Rattle.rebuild.specs.Recoveries.{IsRecovery}
 use Rattle.rebuild.specs.declared.forms.Recovered.{Recovered}
 use Rattle.rebuild.specs.declared.forms.Recovered.TheVariants.{Clean, Entries}
@@ -22,7 +26,7 @@ use Rattle.vdo_cli.specs.Recoveries.{told_recovery}
 use Rattle.vdo_cli.specs.Texts.{fault_text}
 use Rattle.vdo_cli.proofs.AuditPins.{bare, begins, looks, no_image, status_in}
 use Rattle.vdo_cli.proofs.CommandPins.{recover_words}
-use Rattle.vdo_cli.proofs.PlayPins.{device}
+use Rattle.vdo_cli.proofs.PlayPins.{at, device}
 use Rattle.vdo_cli.proofs.RunPins.{Ends, some_report}
 
 -- told_recovery: a closed image as such, and else how many entries its window had
@@ -90,6 +94,66 @@ image-not_written held ends = elim ends.ends [
   where
     no_device : (why : ImageFault) → Some no_image ≡ Some (told_as why) → why ≡ image.Device → ⊥
     no_device why is failed = let same = ap status_in (is ∙ ap (λ (w : ImageFault). Some (told_as w)) failed) in omega (arith, same)
+
+-- Device. The last call failed,
+abbrev failed : Seen
+failed = device [] (Read (at 0) [] false ∷ []) 1 0
+
+failed_so : IsRecovery true false begins.device failed (Err image.Device)
+failed_so = record {
+  stays = record { opening = refl; size = refl };
+  later = record { faults = omega arith; unkept = omega arith };
+  grows = λ told. (Read (at 0) [] false ∷ [], refl);
+  answers = tt;
+  fails = inl (record {
+    stays = record { opening = refl; size = refl };
+    later = record { faults = omega arith; unkept = omega arith };
+    given = tt;
+    rose = omega arith;
+    logged = λ told. ([], inl refl);
+  });
+  nothing = inl refl;
+  says = λ blocks is. let fair = is.fair in absurd cc;
+  stops = λ blocks is. let fair = is.fair in absurd cc;
+  closed = tt;
+}
+
+-- and the line says so;
+device-failed : Ends recover_words begins (outside failed (7 ∷ []) 0 (codes "device fault\n") 0) 3 no_report (Some fault.Device)
+device-failed = record {
+  ends = inr (record {
+    why = image.Device;
+    fault_is = refl;
+    cause = failed_so;
+    refuses = record { status_is = refl; report_is = refl; puts = inl (λ told. refl) };
+  });
+  left = refl;
+  source_faults = refl;
+}
+
+-- and none was made after it
+abbrev went_on : Seen
+went_on = device [] (Flush true ∷ Flush false ∷ []) 1 0
+
+device-not_last : (held : List ℕ) → Ends recover_words begins (outside went_on (7 ∷ []) 0 held 0) 3 no_report (Some fault.Device) → ⊥
+device-not_last held ends = elim ends.ends [ inl told ↦ told.line | inr nothing ↦ of_why nothing.why nothing.fault_is nothing.cause ]
+  where
+    of_last : (call : Call) (done : List Call) → IsFailed call → FailedInLog (done ++ []) (Flush true ∷ Flush false ∷ []) call (Rose 0 0) → ⊥
+    of_last call done is (inr lost) = let rose = lost.1 in omega (arith, rose)
+    of_last (Read place bytes ok) done is (inl stands) = absurd (cc stands)
+    of_last (Write place bytes ok) done is (inl stands) = absurd (cc stands)
+    of_last (Flush ok) done is (inl stands) = let front : Flush true ≡ Flush ok = cc stands in absurd (cc (front, is))
+
+    of_why : (why : ImageFault) → Some fault.Device ≡ Some (told_as why) → IsRecovery true false begins.device went_on (Err why) → ⊥
+    of_why image.Device is recovery = let last = (recover_last true false begins.device went_on recovery.fails).logged refl in of_last last.0 last.1 last.2 last.3
+    of_why image.Memory is recovery = absurd (cc is)
+    of_why image.Unclean is recovery = absurd (cc is)
+    of_why (image.Super refusal) is recovery = absurd (cc is)
+    of_why (image.Window sequence) is recovery = absurd (cc is)
+    of_why (image.Page block refusal) is recovery = absurd (cc is)
+    of_why (image.Counter block point) is recovery = absurd (cc is)
+    of_why (image.SharedPage block) is recovery = absurd (cc is)
+    of_why (image.Counts block stored mapped) is recovery = absurd (cc is)
 
 -- the first byte of a line
 abbrev first_of : List ℕ → ℕ

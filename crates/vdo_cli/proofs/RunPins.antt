@@ -43,6 +43,7 @@ usage-no_words = record {
   fault_is = refl;
   device = refl;
   left = refl;
+  source_faults = refl;
   refuses = record { status_is = refl; report_is = refl; puts = inl (λ told. refl) };
 }
 
@@ -52,6 +53,7 @@ usage-part = record {
   fault_is = refl;
   device = refl;
   left = refl;
+  source_faults = refl;
   refuses = record { status_is = refl; report_is = refl; puts = inr (omega arith, λ told. (2, refl)) };
 }
 
@@ -63,6 +65,9 @@ usage-not_read ends = let same = ap (λ (seen : Seen). length seen.log) ends.dev
 
 usage-not_taken : Ends [] begins (with [] [] (codes "usage\n") 0) 2 no_report (Some fault.Usage) → ⊥
 usage-not_taken ends = let same = ap length ends.left in omega (arith, same)
+
+usage-not_source_failed : Ends [] begins (outside (device ([] ∷ []) [] 0 0) (7 ∷ []) 1 (codes "usage\n") 0) 2 no_report (Some fault.Usage) → ⊥
+usage-not_source_failed ends = omega (arith, ends.source_faults)
 
 usage-not_another_status : Ends [] begins (with [] (7 ∷ []) (codes "usage\n") 0) 3 no_report (Some fault.Usage) → ⊥
 usage-not_another_status ends = omega (arith, ends.refuses.status_is)

@@ -51,6 +51,7 @@ pub record IsUsage (s : Setting) (before after : Outside) (status : ℕ) (report
   pub fault_is : ended ≡ Some fault.Usage
   pub device : after.device ≡ before.device
   pub left : after.left ≡ before.left
+  pub source_faults : after.source_faults ≡ before.source_faults
   pub refuses : Refuses s.sink_tells fault.Usage status report before.held before.sink_faults after.held after.sink_faults
 
 -- how a run of what is served ends
