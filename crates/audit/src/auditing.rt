@@ -24,8 +24,8 @@ use replay_map::RecoveredMap;
 use std::alloc::{AllocError, Global};
 
 /// Compares the stored count of each data block of the image on a device with the number of its mappings. It reads block 0,
-/// the recovery journal, each linked page, and of each slab its counters and its journal, each block once, and writes
-/// nothing. The last session needn't be closed.
+/// the recovery journal, each linked page, and of each slab its counters and its journal, and writes nothing. A block is read
+/// once, and one that several slots link once for each of them. The last session needn't be closed.
 ///
 /// The image is refused with its first fault, over the whole image, in this order: `Super`, `Window`, `Page`, `Counter`,
 /// `SharedPage`. `Device` comes only where a read failed, and `Memory` only for want of memory.

@@ -18,7 +18,8 @@ use std::alloc::{AllocError, Global};
 use uds_index::Uds;
 
 /// What the image on a device says of itself. It reads block 0, the recovery journal, each linked page, of each slab its
-/// counters and its journal, and then the index, each block once, and writes nothing. The last session needn't be closed.
+/// counters and its journal, and then the index, and writes nothing. A block is read once, and one that several slots link
+/// once for each of them. The last session needn't be closed.
 ///
 /// The image is refused with its first fault, over the whole image, in this order: `Super`, `Window`, `Page`, `Counter`,
 /// `SharedPage`. `Device` comes only where a read failed, but for those of the index: an index block that can't be read

@@ -22,8 +22,8 @@ use session_opening::opened_of;
 use std::alloc::Global;
 
 /// What a session starts with on the image on a device, whose last session was closed. It reads block 0, the recovery
-/// journal, each linked page, and of each slab its counters and its journal, each block once; it checks every page and every
-/// counter, and writes nothing.
+/// journal, each linked page, and of each slab its counters and its journal; it checks every page and every counter, and
+/// writes nothing. A block is read once, and one that several slots link once for each of them.
 ///
 /// The image is refused with `Unclean` exactly where the superblock says that the last session wasn't closed, and otherwise
 /// with its first fault, over the whole image, in this order: `Super`, `Window`, `Page`, `Counter`, `SharedPage`, `Counts`.
