@@ -1,5 +1,4 @@
 ghost use Rattle.std.specs.Prelude.{◌≡◌, ◌+◌, ◌<◌, ◌≤◌, ◌^◌, length};
-ghost use Rattle.journal_codec.specs.Grammar.{HoldsEntry};
 ghost use Rattle.recovery_journal.specs.Log.{IsWriting};
 
 mod plain;
@@ -12,9 +11,7 @@ use std::alloc::AllocError;
 use std::cmp;
 use std::test::Fail;
 
-fn entry(number: u32) -> Entry
-    ensures { HoldsEntry result }
-{
+fn entry(number: u32) -> Entry {
     Entry::Remap {
         at: Lba(number),
         old: Mapping::Zero,
@@ -39,14 +36,14 @@ fn add(journal: &mut Journal, number: u32) -> Option<(u64, usize)>
     }
 }
 
-// No block is sealed while one is written.
+// No block is sealed while one is written, as the journal says.
 fn seals_none(journal: &mut Journal) -> bool
     requires { IsWriting journal.old }
     ensures { journal.new ≡ journal.old }
 {
     match journal.seal() {
         Some(_) => false,
-        None => true,
+        None => journal.writing().is_some(),
     }
 }
 
@@ -164,6 +161,58 @@ fn a_full_ring_waits_for_the_head(rt: HostRuntime) -> Result<(), Fail> {
         ([None, Some((9, 0))], reaped_next, 3),
     );
     assert_eq!(rt; (filled, added), wanted);
+    Ok(())
+}
+
+// Blocks 9 to 11 are written. The place of the first entry, and what is told of the first block and of the last.
+fn fill_behind(journal: &mut Journal) -> (Option<(u64, usize)>, [Option<Written>; 2])
+    requires sequence { journal.old.sequence ≡ 9 }
+    requires zones { length journal.old.marks ≡ 1 }
+    ensures sequence { journal.new.sequence ≤ 13 }
+    ensures zones { length journal.new.marks ≡ 1 }
+{
+    let added = add(journal, 9);
+    let written = write(journal, 10);
+    let last_written = write_blocks(journal, 11, 12);
+    (added, [written, last_written])
+}
+
+// A block's entry, which is reaped; the place of an entry then, and whether its block has a slot; the head and the sequence
+// of the block being filled.
+fn reap_behind(
+    journal: &mut Journal,
+) -> (
+    (Option<(Entry, u64)>, u64),
+    (Option<(u64, usize)>, bool),
+    [u64; 2],
+)
+    requires sequence { journal.old.sequence ≤ 13 }
+    requires zones { length journal.old.marks ≡ 1 }
+{
+    let reaped = hand_out_and_reap(journal);
+    let added = add(journal, 12);
+    (
+        reaped,
+        (added, journal.has_slot()),
+        [journal.head(), journal.sequence()],
+    )
+}
+
+// Behind the blocks 5 to 8 the head is 5 throughout: blocks 9 to 11 have a slot, and block 12 gets none from what is reaped.
+#[test]
+fn blocks_of_an_earlier_session_stay_needed(rt: HostRuntime) -> Result<(), Fail> {
+    let mut journal = Journal::behind(rt.alloc(), &Geometry::DEFAULT, 5, 9, 1)?;
+    let filled = fill_behind(&mut journal);
+    let reaped = reap_behind(&mut journal);
+    let written = [
+        Some(((9, 5, 1), true, Some((10, 0)))),
+        Some(((11, 5, 1), true, None)),
+    ];
+    let wanted = (
+        (Some((9, 0)), written),
+        ((Some((entry(9), 4608)), 5120), (None, false), [5, 12]),
+    );
+    assert_eq!(rt; (filled, reaped), wanted);
     Ok(())
 }
 

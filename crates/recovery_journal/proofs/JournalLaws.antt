@@ -1,27 +1,27 @@
 -- What is true of a journal stays true over each call, and what the calls say of it.
-use Rattle.std.specs.Prelude.{ℕ, ◌≡◌, ◌+◌, ◌-◌, ◌*◌, ◌/◌, ◌<◌, ◌≤◌, ◌^◌, ◌⊎◌, Bool, true, false, List, [], ◌∷◌, ◌++◌, length, take, drop, max, nat_le, position, None, Some, All, Any, refl}
+use Rattle.std.specs.Prelude.{ℕ, ◌≡◌, ◌+◌, ◌-◌, ◌*◌, ◌/◌, ◌<◌, ◌≤◌, ◌^◌, ◌⊎◌, Bool, true, false, List, [], ◌∷◌, ◌++◌, length, take, drop, max, nat_le, position, Option, None, Some, All, Any, IfSome, refl}
 use Rattle.std.specs.List.{list_any}
 use Rattle.std.proofs.Common.{arith, sym, subst, ap, ◌∙◌, inl, inr, get_or, length-append}
 use Rattle.std.proofs.lemmas.Bool.{cases_lt, leb-true, le-leb}
 use Rattle.std.proofs.lemmas.List.Folds.{Any-from_list_any, list_any_at}
 use Rattle.std.proofs.lemmas.List.Quantifiers.{position-Some}
 use Rattle.std.proofs.lemmas.List.{get_or_default, drop_more, drop-drop, drop-append-le, take-append-drop, length-take-le, get_or-take, get_or-drop, length-drop, length-set}
-use Rattle.std.proofs.lemmas.List.Elements.{All-nil, All-cons, All-head, All-tail, All-rest, All-push, All-drop, All-weaker, All-append, All-set, All-same}
+use Rattle.std.proofs.lemmas.List.Elements.{All-nil, All-cons, All-head, All-rest, All-drop, All-weaker, All-append, All-set, All-same}
 use Rattle.plain_laws.proofs.FirstLaws.{find-nowhere, find-none}
 use Rattle.blk_base.specs.Points.{raised}
 use Rattle.blk_base.specs.declared.point.Point.{Point}
 use Rattle.blk_base.specs.declared.journal_entry.Entry.{Entry}
 use Rattle.blk_base.specs.declared.journal_entry.CommittedEntry.{CommittedEntry}
-use Rattle.recovery_journal.specs.Log.{Log, IsHeld, point_at, first_sequence, head_of, placed, unhanded, IsNeeded, IsDurable, IsHead, HandsOut, NoneCommitted, IsBehind, Advances}
+use Rattle.recovery_journal.specs.Log.{Log, IsNamed, point_at, first_sequence, first_needed, head_of, placed, unhanded, IsNeeded, IsDurable, IsHead, HandsOut, NoneCommitted, IsBehind, Advances}
 use Rattle.journal_codec.specs.Grammar.{HoldsEntry, HoldsBlock}
 use Rattle.recovery_journal.specs.Kept.{rank, AreRising, AreBelow, IsKept}
 use Rattle.recovery_journal.proofs.RisingLaws.{length-AreRising, AreRising-from, AreRising-append, AreRising-drop, AreRising-placed, points_above, points_from_first, few_entries, first_reached, first_rises}
 
 -- adding an entry
 
-pub kept_added : (log : Log) (e : Entry) → IsKept log → HoldsEntry e → log.sequence < 2 ^ 55 → log.sequence + 2 ≤ head_of log + log.size
+pub kept_added : (log : Log) (e : Entry) → IsKept log → log.sequence < 2 ^ 55 → log.sequence + 2 ≤ head_of log + log.size
     → IsKept (record log { filling = log.filling ++ e ∷ [] })
-kept_added log e kept held number room =
+kept_added log e kept number room =
     record {
       zones = kept.zones;
       size = kept.size;
@@ -29,8 +29,8 @@ kept_added log e kept held number room =
       number = kept.number;
       number_filling = λ some. number;
       rising = kept.rising;
-      held_filling = All-push HoldsEntry log.filling e kept.held_filling held;
-      held = kept.held;
+      named = kept.named;
+      earlier = kept.earlier;
       handed = kept.handed;
       committed = kept.committed;
       ring = kept.ring;
@@ -42,8 +42,23 @@ kept_added log e kept held number room =
 
 -- the head is the least sequence that some zone needs
 
+needed_below : (earlier : Option ℕ) (next : ℕ) → IfSome earlier (λ first. (1 ≤ first) × (first ≤ next)) → first_needed earlier next ≤ next
+needed_below None next below = omega arith
+needed_below (Some first) next below = below.1
+
+needed_rises : (earlier : Option ℕ) (before after : ℕ) → before ≤ after → first_needed earlier before ≤ first_needed earlier after
+needed_rises None before after rises = rises
+needed_rises (Some first) before after rises = omega arith
+
+earlier_rises : (earlier : Option ℕ) (before after : ℕ) → before ≤ after → IfSome earlier (λ first. (1 ≤ first) × (first ≤ before)) → IfSome earlier (λ first. (1 ≤ first) × (first ≤ after))
+earlier_rises None before after rises below = tt
+earlier_rises (Some first) before after rises below = (below.0, omega (arith, below.1))
+
+pub head_below : (log : Log) → IsKept log → head_of log ≤ first_sequence log.entries log.sequence
+head_below log kept = needed_below log.earlier (first_sequence log.entries log.sequence) kept.earlier
+
 pub head_reached : (log : Log) → IsKept log → head_of log ≤ log.sequence
-head_reached log kept = first_reached log.entries log.sequence kept.rising
+head_reached log kept = omega (arith, head_below log kept, first_reached log.entries log.sequence kept.rising)
 
 first_least : (es : List CommittedEntry) (sequence : ℕ) → AreRising 0 es (sequence * 192) → All (λ e. point_at (first_sequence es sequence) 0 ≤ e.point.0) es
 first_least [] sequence rising = All-nil (λ (e : CommittedEntry). point_at sequence 0 ≤ e.point.0)
@@ -51,18 +66,33 @@ first_least (e ∷ es) sequence rising =
     let P : CommittedEntry → Type 0 = λ f. point_at (e.point.0 / 512) 0 ≤ f.point.0 in
     points_from_first 0 (e ∷ es) (sequence * 192) (point_at (e.point.0 / 512) 0) rising (All-cons P e [] (omega arith) (All-nil P))
 
-first_needed : (marks : List Point) (es : List CommittedEntry) (sequence : ℕ) → All (λ e. IsNeeded marks e.point) es
+needed_first : (marks : List Point) (es : List CommittedEntry) (sequence : ℕ) → All (λ e. IsNeeded marks e.point) es
     → (first_sequence es sequence ≡ sequence) ⊎ Any (λ e. IsNeeded marks e.point × (e.point.0 / 512 ≡ first_sequence es sequence)) es
-first_needed marks [] sequence needed = inl refl
-first_needed marks (e ∷ es) sequence needed = inr (0, e, omega arith, refl, (All-head (λ (f : CommittedEntry). IsNeeded marks f.point) e es needed, refl))
+needed_first marks [] sequence needed = inl refl
+needed_first marks (e ∷ es) sequence needed = inr (0, e, omega arith, refl, (All-head (λ (f : CommittedEntry). IsNeeded marks f.point) e es needed, refl))
+
+-- nor a block of an earlier session
+
+below_earlier : (earlier : Option ℕ) (next : ℕ) → IfSome earlier (λ first. first_needed earlier next ≤ first)
+below_earlier None next = tt
+below_earlier (Some first) next = omega arith
+
+needed_head : (earlier : Option ℕ) (marks : List Point) (es : List CommittedEntry) (sequence : ℕ) → All (λ e. IsNeeded marks e.point) es
+    → (earlier ≡ Some (first_needed earlier (first_sequence es sequence)))
+    ⊎ (first_needed earlier (first_sequence es sequence) ≡ sequence)
+    ⊎ Any (λ e. IsNeeded marks e.point × (e.point.0 / 512 ≡ first_needed earlier (first_sequence es sequence))) es
+needed_head None marks es sequence needed = inr (needed_first marks es sequence needed)
+needed_head (Some first) marks es sequence needed = inl refl
 
 pub is_head : (log : Log) → IsKept log → IsHead log (head_of log)
 is_head log kept =
     record {
       reached = head_reached log kept;
-      least = All-weaker (λ (e : CommittedEntry). point_at (head_of log) 0 ≤ e.point.0) (λ (e : CommittedEntry). IsNeeded log.marks e.point → point_at (head_of log) 0 ≤ e.point.0)
-          (λ e above needed. above) log.entries (first_least log.entries log.sequence kept.rising);
-      needed = first_needed log.marks log.entries log.sequence kept.needed;
+      earlier = below_earlier log.earlier (first_sequence log.entries log.sequence);
+      least = All-weaker (λ (e : CommittedEntry). point_at (first_sequence log.entries log.sequence) 0 ≤ e.point.0)
+          (λ (e : CommittedEntry). IsNeeded log.marks e.point → point_at (head_of log) 0 ≤ e.point.0)
+          (λ e above needed. omega (arith, head_below log kept, above)) log.entries (first_least log.entries log.sequence kept.rising);
+      needed = needed_head log.earlier log.marks log.entries log.sequence kept.needed;
     }
 
 -- handing out
@@ -90,6 +120,14 @@ none_committed log e kept inside is above =
     points_from_first 0 (drop log.handed log.entries) (log.sequence * 192) (point_at log.committed 0) (AreRising-drop log.handed 0 log.entries (log.sequence * 192) kept.rising)
     (subst (λ (es : List CommittedEntry). All P (take 1 es)) (sym next) (All-cons P e [] (omega arith) (All-nil P)))
 
+-- it is of a block that was sealed
+pub none_left : (log : Log) (e : CommittedEntry) → IsKept log → log.handed < length log.entries → e ≡ get_or log.entries log.handed e → log.committed ≤ e.point.0 / 512 → log.committed ≡ log.sequence → ⊥
+none_left log e kept inside is above all =
+    let next = rest_is log.entries log.handed e inside is in
+    let rising = subst (λ (es : List CommittedEntry). AreRising 0 es (log.sequence * 192)) next (AreRising-drop log.handed 0 log.entries (log.sequence * 192) kept.rising) in
+    let below = length-AreRising (rank e.point.0 + 1) (drop (log.handed + 1) log.entries) (log.sequence * 192) rising.2 in
+    omega (arith, below, rising.0, above, all)
+
 pub kept_handed : (log : Log) (e : CommittedEntry) → IsKept log → log.handed < length log.entries → e ≡ get_or log.entries log.handed e
     → IsKept (record log { handed = log.handed + 1 })
 kept_handed log e kept inside is =
@@ -100,8 +138,8 @@ kept_handed log e kept inside is =
       number = kept.number;
       number_filling = kept.number_filling;
       rising = kept.rising;
-      held_filling = kept.held_filling;
-      held = kept.held;
+      named = kept.named;
+      earlier = kept.earlier;
       handed = omega arith;
       committed = kept.committed;
       ring = kept.ring;
@@ -130,7 +168,7 @@ behind_first log e kept inside is =
 -- sealing
 
 pub room_to_seal : (log : Log) → IsKept log → 0 < length log.filling → length log.entries + 384 ≤ log.size * 192
-room_to_seal log kept waits = omega (arith, few_entries log.entries log.sequence kept.rising, kept.ring_filling waits)
+room_to_seal log kept waits = omega (arith, few_entries log.entries log.sequence kept.rising, head_below log kept, kept.ring_filling waits)
 
 pub first-sealed : (es : List CommittedEntry) (sequence : ℕ) (filling : List Entry) → 0 < length filling
     → first_sequence (es ++ placed sequence 0 filling) (sequence + 1) ≡ first_sequence es sequence
@@ -144,11 +182,11 @@ placed_from sequence number p (f ∷ fs) below =
     All-cons (λ (e : CommittedEntry). p ≤ e.point.0) (record { entry = f; point = record { 0 = point_at sequence number } }) (placed sequence (number + 1) fs) below
     (placed_from sequence (number + 1) p fs (omega arith))
 
-placed_held : (sequence number : ℕ) (filling : List Entry) → 1 ≤ sequence → All HoldsEntry filling → All IsHeld (placed sequence number filling)
-placed_held sequence number [] some held = All-nil IsHeld
-placed_held sequence number (f ∷ fs) some held =
-    All-cons IsHeld (record { entry = f; point = record { 0 = point_at sequence number } }) (placed sequence (number + 1) fs)
-    (record { holds = All-head HoldsEntry f fs held; named = omega arith }) (placed_held sequence (number + 1) fs some (All-tail HoldsEntry f fs held))
+placed_named : (sequence number : ℕ) (filling : List Entry) → 1 ≤ sequence → All IsNamed (placed sequence number filling)
+placed_named sequence number [] some = All-nil IsNamed
+placed_named sequence number (f ∷ fs) some =
+    All-cons IsNamed (record { entry = f; point = record { 0 = point_at sequence number } }) (placed sequence (number + 1) fs)
+    (omega arith) (placed_named sequence (number + 1) fs some)
 
 needed_by_first : (marks : List Point) (point : Point) → 0 < length marks → All (λ mark. mark.0 ≤ point.0) marks → IsNeeded marks point
 needed_by_first [] point some below = absurd (omega arith)
@@ -171,11 +209,11 @@ kept_sealed log kept waits few written =
       number_filling = λ some. absurd (omega (arith, some));
       rising = AreRising-append 0 log.entries (log.sequence * 192) new ((log.sequence + 1) * 192) kept.rising
           (AreRising-from (log.sequence * 192 + 0) (log.sequence * 192) new ((log.sequence + 1) * 192) (omega arith) (AreRising-placed log.sequence 0 log.filling (omega arith)));
-      held_filling = All-nil HoldsEntry;
-      held = All-append IsHeld log.entries new kept.held (placed_held log.sequence 0 log.filling (omega (arith, kept.first, kept.committed.0)) kept.held_filling);
+      named = All-append IsNamed log.entries new kept.named (placed_named log.sequence 0 log.filling (omega (arith, kept.first, kept.committed.0)));
+      earlier = subst (λ (next : ℕ). IfSome log.earlier (λ first. (1 ≤ first) × (first ≤ next))) (sym head) kept.earlier;
       handed = omega (arith, length-append log.entries new, kept.handed);
       committed = (omega (arith, kept.committed.0), omega arith);
-      ring = omega (arith, head, kept.ring_filling waits);
+      ring = omega (arith, ap (λ (next : ℕ). first_needed log.earlier next) head, kept.ring_filling waits);
       ring_filling = λ some. absurd (omega (arith, some));
       marks = All-weaker (λ (mark : Point). mark.0 ≤ point_at log.sequence 0) (λ (mark : Point). mark.0 ≤ point_at (log.sequence + 1) 0) (λ mark below. omega (arith, below)) log.marks kept.marks;
       unhanded = All-same (λ (e : CommittedEntry). AreBelow log e.point.0) (drop log.handed (log.entries ++ new)) (drop log.handed log.entries ++ new)
@@ -244,7 +282,9 @@ module _ (log : Log) (zone : ℕ) (point : Point) (count : ℕ) (kept : IsKept l
       needed_from_first (raised log.marks zone point) (drop count log.entries) (log.sequence * 192) (AreRising-drop count 0 log.entries (log.sequence * 192) kept.rising) found.next
 
   pub head_rises : head_of log ≤ head_of (advanced log zone point count)
-  head_rises = first_rises 0 count log.entries log.sequence kept.rising
+  head_rises =
+      needed_rises log.earlier (first_sequence log.entries log.sequence) (first_sequence (drop count log.entries) log.sequence)
+      (first_rises 0 count log.entries log.sequence kept.rising)
 
   pub kept_advanced : IsKept (advanced log zone point count)
   kept_advanced =
@@ -257,8 +297,9 @@ module _ (log : Log) (zone : ℕ) (point : Point) (count : ℕ) (kept : IsKept l
         first = kept.first;
         number = kept.number;
         number_filling = kept.number_filling;
-        held_filling = kept.held_filling;
-        held = All-drop IsHeld count log.entries kept.held;
+        named = All-drop IsNamed count log.entries kept.named;
+        earlier = earlier_rises log.earlier (first_sequence log.entries log.sequence) (first_sequence (drop count log.entries) log.sequence)
+            (first_rises 0 count log.entries log.sequence kept.rising) kept.earlier;
         rising = AreRising-drop count 0 log.entries (log.sequence * 192) kept.rising;
         handed = omega (arith, length-drop count log.entries, kept.handed);
         committed = kept.committed;
@@ -341,11 +382,11 @@ needed_next marks es first found = λ k d inside.
 
 -- the block that is sealed is one that the format can hold
 pub block_held : (log : Log) (head : ℕ) (entries : List Entry) → IsKept log → 0 < length log.filling → length log.filling ≤ 192 → head ≡ head_of log → entries ≡ log.filling
-    → HoldsBlock log.sequence head entries
-block_held log head entries kept waits few head_is same =
+    → All HoldsEntry log.filling → HoldsBlock log.sequence head entries
+block_held log head entries kept waits few head_is same held =
     rw same (record {
       named = (omega (arith, kept.first, kept.committed.0), kept.number_filling waits);
       head_below = omega (arith, head_is, head_reached log kept);
       few = few;
-      each = kept.held_filling;
+      each = held;
     })

@@ -13,4 +13,5 @@ log_of journal =
       handed = journal.handed;
       committed = journal.committed;
       marks = journal.marks.items;
+      earlier = journal.earlier;
     }

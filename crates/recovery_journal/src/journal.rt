@@ -1,11 +1,11 @@
-ghost use Rattle.std.specs.Prelude.{◌≡◌, ◌+◌, ◌<◌, ◌≤◌, ◌^◌, ◌∷◌, ◌++◌, [], ◌⊎◌, length, IfOk, IfErr, IfSome, IfNone, OnOk, OnErr};
+ghost use Rattle.std.specs.Prelude.{◌≡◌, ◌+◌, ◌<◌, ◌≤◌, ◌^◌, ◌∷◌, ◌++◌, [], ◌⊎◌, length, IfOk, IfErr, IfSome, IfNone, OnOk, OnErr, IsTrue, ◌↔◌, Some, None, All};
 ghost use Rattle.blk_base.specs.Limits.{IsGeometry};
 ghost use Rattle.journal_codec.specs.Grammar.{HoldsEntry, HoldsBlock};
-ghost use Rattle.recovery_journal.specs.Log.{opening, head_of, first_point, unhanded, IsHead, HasRoom, HasNoRoom, IsWriting, Seals, HandsOut, NoneCommitted, IsBehind, IsHeld, Advances};
+ghost use Rattle.recovery_journal.specs.Log.{opening, head_of, first_point, unhanded, IsHead, HasRoom, HasNoRoom, IsWriting, Seals, HandsOut, NoneCommitted, IsBehind, IsNamed, Advances};
 
 use crate::Place;
 use crate::entering::enter;
-use crate::marking::{count_durable, first_sequence, leave_out, sequence_of};
+use crate::marking::{count_durable, first_needed, first_sequence, leave_out, sequence_of};
 use blk_base::{CommittedEntry, Entry, Geometry, Half, Point, raise, repeated};
 use journal_codec::{Entries, JournalBlock};
 use std::alloc::{AllocError, Global};
@@ -32,6 +32,8 @@ pub struct Journal {
     committed: u64,
     // Each zone's part of every entry below its mark is durable.
     marks: Vec<Point>,
+    // The first block of an earlier session, where there is one: its blocks all stay needed.
+    earlier: Option<u64>,
 }
 
 impl Model for Journal {
@@ -64,7 +66,45 @@ impl Journal {
         requires geometry { IsGeometry geometry.now }
         requires start { (1 ≤ start) × (start < 2 ^ 55) }
         requires zones { 0 < zones }
-        ensures { IfOk result (λ journal. journal ≡ opening geometry.now start zones) }
+        ensures { IfOk result (λ journal. journal ≡ opening geometry.now None start zones) }
+    {
+        Journal::begin(alloc, geometry, None, start, zones)
+    }
+
+    /// An empty journal of a session that goes on behind the blocks `first` to `start` − 1 of an earlier one, at least one
+    /// and at most J − 1: they all stay needed as long as the journal runs, so its head is `first` throughout. Its own
+    /// first block has the sequence `start`, up to 2^55 − 1, and it has so many zones, at least one. Takes the room for the
+    /// entries of a full ring.
+    pub fn behind(
+        alloc: Global,
+        geometry: &Geometry,
+        first: u64,
+        start: u64,
+        zones: u32,
+    ) -> Result<Journal, AllocError>
+        requires geometry { IsGeometry geometry.now }
+        requires first { (1 ≤ first) × (first < start) }
+        requires start { start < 2 ^ 55 }
+        requires room { start + 1 ≤ first + geometry.now.journal }
+        requires zones { 0 < zones }
+        ensures { IfOk result (λ journal. journal ≡ opening geometry.now (Some first) start zones) }
+    {
+        Journal::begin(alloc, geometry, Some(first), start, zones)
+    }
+
+    // An empty journal, behind the blocks of an earlier session where there are some.
+    fn begin(
+        alloc: Global,
+        geometry: &Geometry,
+        earlier: Option<u64>,
+        start: u64,
+        zones: u32,
+    ) -> Result<Journal, AllocError>
+        requires geometry { IsGeometry geometry.now }
+        requires room { IfSome earlier (λ first. (1 ≤ first) × (first ≤ start) × (start + 1 ≤ first + geometry.now.journal)) }
+        requires start { (1 ≤ start) × (start < 2 ^ 55) }
+        requires zones { 0 < zones }
+        ensures { IfOk result (λ journal. journal ≡ opening geometry.now earlier start zones) }
     {
         let first = Point::of(start, 0, Half::Increment);
         let marks = repeated(alloc, first, zones as usize)?;
@@ -78,22 +118,49 @@ impl Journal {
             handed: 0,
             committed: start,
             marks,
+            earlier,
         })
     }
 
-    /// Adds an entry that a block can hold to the block being filled, whose sequence is below 2^55, and gives the entry's
-    /// place. The entry comes back exactly where that block holds 192, or where the head is below its sequence + 2 − J.
+    /// The sequence of the block being filled.
+    pub fn sequence(&self) -> u64
+        ensures { result ≡ self.now.sequence }
+    {
+        self.sequence
+    }
+
+    /// The sequence of the sealed block that isn't committed yet, which is the one before the block being filled; `None`
+    /// exactly where there is none.
+    pub fn writing(&self) -> Option<u64>
+        ensures some { IfSome result (λ sequence. (sequence ≡ self.now.committed) × (sequence + 1 ≡ self.now.sequence)) }
+        ensures none { IfNone result (self.now.committed ≡ self.now.sequence) }
+    {
+        if self.committed < self.sequence {
+            Some(self.committed)
+        } else {
+            None
+        }
+    }
+
+    /// Whether the block being filled has a slot in the ring whose block nobody needs: whether the head is at least its
+    /// sequence + 2 − J.
+    pub fn has_slot(&self) -> bool
+        ensures { IsTrue result ↔ (self.now.sequence + 2 ≤ head_of self.now + self.now.size) }
+    {
+        self.sequence + 2 <= self.head() + self.size
+    }
+
+    /// Adds an entry to the block being filled, whose sequence is below 2^55, and gives the entry's place. The entry comes
+    /// back exactly where that block holds 192 or has no slot (`has_slot`).
     pub fn append(&mut self, entry: Entry) -> Result<Place, Entry>
         requires sequence { self.old.sequence < 2 ^ 55 }
-        requires held { HoldsEntry entry }
         ensures place { IfOk result (λ place. place ≡ record { sequence = self.old.sequence; entry = length self.old.filling }) }
         ensures added { OnOk result (self.new ≡ record self.old { filling = self.old.filling ++ entry ∷ [] }) }
         ensures room { OnOk result (HasRoom self.old) }
         ensures back { IfErr result (λ back. (back ≡ entry) × (self.new ≡ self.old)) }
         ensures full { OnErr result (HasNoRoom self.old) }
     {
-        let head = first_sequence(&self.entries, self.sequence);
-        if self.filling.is_full() || head + self.size < self.sequence + 2 {
+        if self.filling.is_full() || !self.has_slot() {
             return Err(entry);
         }
         let place = Place {
@@ -105,11 +172,12 @@ impl Journal {
     }
 
     /// Seals the block being filled, to be written between two flushes; the next one is filled from here on. `None`
-    /// exactly where no entry waits or a sealed block isn't committed yet.
+    /// exactly where no entry waits or a sealed block isn't committed yet. The format holds the block if it holds each of
+    /// its entries.
     pub fn seal(&mut self) -> Option<JournalBlock>
         ensures some { IfSome result (Seals self.old self.new) }
         ensures ring { IfSome result (λ block. block.sequence + 2 ≤ block.head + self.old.size) }
-        ensures held { IfSome result (λ block. HoldsBlock block.sequence block.head block.entries) }
+        ensures held { All HoldsEntry self.old.filling → IfSome result (λ block. HoldsBlock block.sequence block.head block.entries) }
         ensures head { head_of self.new ≡ head_of self.old }
         ensures none { IfNone result (((self.old.filling ≡ []) ⊎ IsWriting self.old) × (self.new ≡ self.old)) }
     {
@@ -117,7 +185,7 @@ impl Journal {
             return None;
         }
         let sequence = self.sequence;
-        let head = first_sequence(&self.entries, sequence);
+        let head = self.head();
         enter(&mut self.entries, sequence, self.filling.as_slice());
         self.sequence += 1;
         Some(JournalBlock {
@@ -138,12 +206,14 @@ impl Journal {
         self.committed += 1;
     }
 
-    /// The next committed entry. Entries come in the order of their points, each once; `None` exactly where no committed
-    /// one is left.
+    /// The next committed entry, of a block with a sequence of at least 1. Entries come in the order of their points, each
+    /// once; `None` exactly where no committed one is left. While no sealed block waits to be committed, that is where all
+    /// entries were handed out.
     pub fn next_committed(&mut self) -> Option<CommittedEntry>
         ensures some { IfSome result (HandsOut self.old self.new) }
-        ensures held { IfSome result IsHeld }
+        ensures named { IfSome result IsNamed }
         ensures none { IfNone result (NoneCommitted self.old × (self.new ≡ self.old)) }
+        ensures all { IfNone result (self.old.committed ≡ self.old.sequence → self.old.handed ≡ length self.old.entries) }
     {
         if self.handed == self.entries.len() {
             return None;
@@ -185,12 +255,13 @@ impl Journal {
         self.handed -= durable;
     }
 
-    /// The least sequence that some zone still needs; where there is none, that of the block being filled. It never
-    /// falls: no call gives a journal with a lower one.
+    /// The least sequence that is still needed: the first of an earlier session, where there is one, since its blocks all
+    /// stay needed; else the least that some zone still needs; where there is none, that of the block being filled. It
+    /// never falls: no call gives a journal with a lower one.
     pub fn head(&self) -> u64
         ensures value { result ≡ head_of self.now }
         ensures least { IsHead self.now result }
     {
-        first_sequence(&self.entries, self.sequence)
+        first_needed(self.earlier, first_sequence(&self.entries, self.sequence))
     }
 }

@@ -3,7 +3,8 @@
 //! Entries fill one block after the other, and a block is sealed to be written: a flush, the write, a flush. Then it is
 //! committed, and its entries go out in order. A block's slot in the ring is written again only once no zone needs the
 //! block that stands there: a block with sequence `m` is filled and sealed only where the head, the least sequence that
-//! some zone still needs, is at least `m` + 2 − J, for a ring of J blocks.
+//! some zone still needs, is at least `m` + 2 − J, for a ring of J blocks. Behind an earlier session the head is the first
+//! block of that one, and stays so.
 //!
 //! All room is taken in the constructor: no later call can be refused for memory.
 #![tactic(auto)]
