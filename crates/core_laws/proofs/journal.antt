@@ -1,2 +1,3 @@
 pub mod JournalFacts
+pub mod LogLaws
 pub mod SealedBlocks

@@ -1,6 +1,6 @@
 //! The laws of the core that other crates stand on.
 
-ghost use Rattle.std.specs.Prelude.{◌≡◌, ◌<◌, ◌≤◌, ◌+◌, ◌⊎◌, ◌↔◌, ℕ, true, false, length, Some, IsSome, List, [], ◌∷◌, slice_get, slice_set, ◌++◌};
+ghost use Rattle.std.specs.Prelude.{◌≡◌, ◌<◌, ◌≤◌, ◌+◌, ◌⊎◌, ◌↔◌, ℕ, true, false, length, map, reverse, take, Some, IsSome, List, [], ◌∷◌, slice_get, slice_set, ◌++◌};
 ghost use Rattle.std.specs.List.{AllByRecursion};
 ghost use Rattle.blk_base.specs.declared.request.Answer.{Answer};
 ghost use Rattle.blk_base.specs.declared.request.Answer.TheVariants.{Range, Stopped};
@@ -16,9 +16,10 @@ ghost use Rattle.vdo_model.specs.RightRuns.{RunRight};
 ghost use Rattle.vdo_model.specs.Scripts.{address_of, request_at};
 ghost use Rattle.vdo_model.specs.Stops.{RightAfterStops};
 ghost use Rattle.vdo_model.specs.ZoneOrder.{places_in};
-ghost use Rattle.core_model.specs.declared.zones.ZoneData.TheVariants.{Desk, Device, Logical};
+ghost use Rattle.core_model.specs.declared.zones.ZoneData.TheVariants.{Desk, Device, Journal, Logical};
 ghost use Rattle.core_model.specs.DeskData.{Desk as DeskData};
 ghost use Rattle.core_model.specs.declared.zones.DeviceZone.{DeviceZone};
+ghost use Rattle.core_model.specs.JournalData.{JournalZone};
 ghost use Rattle.core_model.specs.LogicalData.{LogicalZone};
 ghost use Rattle.core_model.specs.declared.zones.Logged.{Logged};
 ghost use Rattle.core_model.specs.declared.zones.Zone.{Zone};
@@ -28,13 +29,14 @@ ghost use Rattle.core_model.specs.declared.sizes.Sizes.{Sizes};
 ghost use Rattle.core_model.specs.Legal.{Legal};
 ghost use Rattle.core_model.specs.Reports.{ShowsValues, opening_values, progress_of, report_of};
 ghost use Rattle.core_model.specs.RightTraces.{IsHeldBack, IsWrite, StopsAtFailure};
-ghost use Rattle.core_model.specs.Sessions.{Session, IsSession, HasHonestReads};
+ghost use Rattle.core_model.specs.Sessions.{Session, IsSession, HasHonestReads, said_by};
 ghost use Rattle.core_model.specs.Start.{IsFirst};
 ghost use Rattle.core_model.specs.Steps.{Act, CallsDevice, Core, HasAct, Leads, MayBegin, MoveOf, StepOf, ZoneStep};
-ghost use Rattle.core_model.specs.Trace.{Enters, Trace, aborted, calls, committed, entries_of, is_ok, is_read, lines, marks, moments, places};
+ghost use Rattle.core_model.specs.Trace.{Enters, Trace, aborted, calls, committed, entries_of, entry_of, is_ok, is_read, lines, marks, moments, places};
 ghost use Rattle.core_model.specs.Views.{AreEmptyLanes, PostsBatch, ReceivesBatch, TakesBatch, View, core_of, zones_seen};
 ghost use Rattle.core_model.specs.Vios.{Post};
 ghost use Rattle.core_model.specs.Zones.{zone_number};
+ghost use Rattle.recovery_journal.specs.Log.{head_of};
 
 /// A core is legal when a session begins, and every list of events keeps it so.
 pub fn every_event_keeps_a_core_legal()
@@ -97,6 +99,15 @@ pub fn an_entry_says_what_it_replaces()
         → e.old ≡ mapping_of (entries_of s.window (committed older)) e.at.0 }
     ensures new { (s : Session) (core : Core) (newer older : Trace) (e : Logged) → Legal s core → core.trace ≡ newer ++ Enters e ∷ older
         → IsWrite s older e }
+{}
+
+/// In a legal core the log of the journal has handed out the entries that are committed, in the order in which they stand
+/// in its blocks. Its head is the first sequence of the window, as no zone lets go of an entry.
+pub fn the_log_hands_out_what_is_committed()
+    ensures handed { (s : Session) (core : Core) (n : ℕ) (z : Zone) (j : JournalZone) → Legal s core → slice_get core.zones n ≡ Some z → z.keeps ≡ Journal j
+        → take j.log.handed (said_by j.log.entries) ≡ reverse (map entry_of (committed core.trace)) }
+    ensures head { (s : Session) (core : Core) (n : ℕ) (z : Zone) (j : JournalZone) → Legal s core → slice_get core.zones n ≡ Some z → z.keeps ≡ Journal j
+        → head_of j.log ≡ s.sizes.start }
 {}
 
 /// On an honest device each read that a legal core answered gave the last settled write before its place.

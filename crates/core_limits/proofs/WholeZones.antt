@@ -5,7 +5,7 @@ use Rattle.core_model.specs.declared.zones.ZoneData.TheVariants as at
 use Rattle.core_model.specs.Legal.{Legal}
 use Rattle.core_model.specs.Limits.{IsDataWithin, IsWithin}
 use Rattle.core_model.specs.Steps.{Core}
-use Rattle.core_limits.proofs.Bounds.{blocks_within, calls_within, committed_within, entered_within, filling_within, held_within, next_within, retired_within, slots_within}
+use Rattle.core_limits.proofs.Bounds.{calls_within, committed_within, entered_within, filling_within, held_within, next_within, retired_within, sequence_within, slots_within}
 use Rattle.core_limits.proofs.ZoneLimits.{desk_within, few_items, inbox_within, lanes_within, places_within, waiting_within}
 
 module _ (s : Session) (core : Core) (session : IsSession s) (legal : Legal s core) (n : ℕ) (z : Zone) (had : slice_get core.zones n ≡ Some z) where
@@ -27,7 +27,7 @@ module _ (s : Session) (core : Core) (session : IsSession s) (legal : Legal s co
       let waiting = waiting_within s core session legal n z had in
       let waits = ap (λ (d : ZoneData). length (kept_by d)) keeps in
       record {
-        blocks = blocks_within s core legal n z had session j keeps;
+        sequence = sequence_within s core legal n z had session j keeps;
         filling = filling_within s core legal n z had session j keeps;
         waiting = omega (arith, waiting, waits, length-append j.filling j.waiting);
         entered = entered_within s core legal n z had session j keeps;

@@ -1,6 +1,6 @@
 //! How much a legal core holds at most, in each of its zones.
 
-ghost use Rattle.std.specs.Prelude.{◌≡◌, ◌<◌, ◌≤◌, ◌+◌, ◌*◌, ◌↔◌, ℕ, length, Some, List, slice_get};
+ghost use Rattle.std.specs.Prelude.{◌≡◌, ◌<◌, ◌≤◌, ◌+◌, ◌*◌, ◌^◌, ◌↔◌, ℕ, length, Some, List, slice_get};
 ghost use Rattle.std.specs.List.{AllByRecursion};
 ghost use Rattle.blk_base.specs.declared.request.Writer.{Writer};
 ghost use Rattle.plain_laws.specs.Sums.{total};
@@ -16,7 +16,7 @@ ghost use Rattle.core_model.specs.LogicalData.{LogicalZone};
 ghost use Rattle.core_model.specs.declared.zones.Zone.{Zone};
 ghost use Rattle.core_model.specs.declared.items.Item.{Item};
 ghost use Rattle.core_model.specs.Legal.{Legal, share};
-ghost use Rattle.core_model.specs.Limits.{IsDeskWithin, IsShort, IsWithin, most_blocks, most_requests, requests_in};
+ghost use Rattle.core_model.specs.Limits.{IsDeskWithin, IsShort, IsWithin, most_requests, requests_in};
 ghost use Rattle.core_model.specs.Tokens.{is_answer, is_begin, kept_by, queued};
 ghost use Rattle.core_model.specs.Sessions.{Session, IsSession};
 ghost use Rattle.core_model.specs.Steps.{Core};
@@ -64,15 +64,15 @@ pub fn a_legal_core_is_within_limits()
 
 /// In a legal core a logical zone drew no more places than it made steps, and the device's zone made no more calls. A logical
 /// zone has a lock for each request under way at most. The journal has no more entries than there are requests, and so no zone
-/// has more slots that were set, or more addresses that are never released; and it sealed no more blocks than it may have.
+/// has more slots that were set, or more addresses that are never released; and the sequence of the block being filled can be spelled.
 pub fn a_legal_core_counts_within_limits()
     ensures next { (s : Session) (core : Core) (n : ℕ) (z : Zone) (l : LogicalZone) → Legal s core → slice_get core.zones n ≡ Some z → z.keeps ≡ Logical l → l.next ≤ z.steps }
     ensures calls { (s : Session) (core : Core) (n : ℕ) (z : Zone) (d : DeviceZone) → Legal s core → slice_get core.zones n ≡ Some z → z.keeps ≡ Device d → d.calls ≤ z.steps }
     ensures held { (s : Session) (core : Core) (n : ℕ) (z : Zone) (l : LogicalZone) → Legal s core → slice_get core.zones n ≡ Some z → z.keeps ≡ Logical l → length l.held ≤ share s }
     ensures entered { (s : Session) (core : Core) (n : ℕ) (z : Zone) (j : JournalZone) → IsSession s → Legal s core → slice_get core.zones n ≡ Some z → z.keeps ≡ Journal j
         → length j.entered ≤ most_requests }
-    ensures blocks { (s : Session) (core : Core) (n : ℕ) (z : Zone) (j : JournalZone) → IsSession s → Legal s core → slice_get core.zones n ≡ Some z → z.keeps ≡ Journal j
-        → j.blocks ≤ most_blocks }
+    ensures sequence { (s : Session) (core : Core) (n : ℕ) (z : Zone) (j : JournalZone) → IsSession s → Legal s core → slice_get core.zones n ≡ Some z → z.keeps ≡ Journal j
+        → j.log.sequence < 2 ^ 55 }
     ensures committed { (s : Session) (core : Core) (n : ℕ) (z : Zone) (j : JournalZone) → IsSession s → Legal s core → slice_get core.zones n ≡ Some z → z.keeps ≡ Journal j
         → length j.committed ≤ most_requests }
     ensures slots { (s : Session) (core : Core) (n : ℕ) (z : Zone) (l : LogicalZone) → IsSession s → Legal s core → slice_get core.zones n ≡ Some z → z.keeps ≡ Logical l

@@ -72,9 +72,9 @@ pub data DeviceServes (sizes : Sizes) (old : DeviceZone) (v : Vio) (new : Device
       → new ≡ old → made ≡ [] → posts ≡ (id.Desk, item.Request (ended phase.Reply reply.Stopped v)) ∷ []
       → DeviceServes sizes old v new made posts
 
--- the bytes of a sealed block: its entries, the oldest first, with the first sequence of the window as its head
+-- the bytes of a sealed block: its entries, the oldest first, with its head
 abbrev pub journal_bytes : Sizes → SealedBlock → List ℕ
-journal_bytes sizes b = block_bytes sizes.geometry.nonce b.sequence sizes.start (map (λ (v : Vio). entry_of (logged v)) b.vios)
+journal_bytes sizes b = block_bytes sizes.geometry.nonce b.sequence b.head (map (λ (v : Vio). entry_of (logged v)) b.vios)
 
 -- the block of the journal where it stands
 abbrev pub IsItsSlot : Sizes → SealedBlock → Pbn → Type 0

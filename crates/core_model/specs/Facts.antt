@@ -1,5 +1,5 @@
 -- What a request carries, and what a zone keeps: facts on their own fields and on the trace.
-use Rattle.std.specs.Prelude.{ℕ, ◌+◌, ◌≡◌, ◌⊎◌, ◌<◌, ◌≤◌, Bool, true, false, Option, None, Some, IsNone, List, [], ◌∷◌, ◌++◌, length, drop, if◌then◌else◌}
+use Rattle.std.specs.Prelude.{ℕ, ◌+◌, ◌≡◌, ◌⊎◌, ◌<◌, ◌≤◌, Bool, true, false, Option, None, Some, IsNone, List, [], ◌∷◌, ◌++◌, length, drop, map, reverse, if◌then◌else◌}
 use Rattle.std.specs.List.{AllByRecursion}
 use Rattle.blk_base.specs.declared.journal_entry.Entry.{Entry}
 use Rattle.blk_base.specs.declared.place.Lba.{Lba}
@@ -49,11 +49,12 @@ use Rattle.core_model.specs.LogicalRows.{is_among, is_held, mapped_by}
 use Rattle.core_model.specs.Phases.{row, number_at, stage_row}
 use Rattle.core_model.specs.Zones.{zone_number, zone_count, notified_zones}
 use Rattle.core_model.specs.RightTraces.{IsOpen, IsPending, MapsTo, NeedsBlock, Quiet, IsCommitted, AllBelow, HasPlace, HasBelow, HasCause}
-use Rattle.core_model.specs.Sessions.{Session, HasHonestReads, IsFresh, OnBlock, NewReads, NewStands, ReadsAs, AtRest, OnItsWay, ReadsBlock, value_at}
+use Rattle.core_model.specs.Sessions.{Session, HasHonestReads, IsFresh, OnBlock, NewReads, NewStands, ReadsAs, AtRest, OnItsWay, ReadsBlock, said_by, value_at}
 use Rattle.plain_laws.specs.Sums.{total, Each}
 use Rattle.core_model.specs.Tokens.{lock_weight}
-use Rattle.core_model.specs.Trace.{Trace, all_of, filled, sealed, moments, lines, calls, marks, places, entered, committed, done, aborted, taken, has_taken, has_stopped, of_address, newest, logged_of, entries_of}
+use Rattle.core_model.specs.Trace.{Trace, all_of, filled, sealed, moments, lines, calls, marks, places, entered, committed, done, aborted, taken, has_taken, has_stopped, of_address, newest, logged_of, entry_of, entries_of}
 use Rattle.core_model.specs.Vios.{all_logged, asked, request_of, logged}
+use Rattle.recovery_journal.specs.Log.{Log, head_of}
 
 -- the number of the zone where a phase, and a stage, is done
 abbrev pub zone_at : Sizes → ZoneId → Phase → ℕ
@@ -208,9 +209,9 @@ StandsAt s t vios at stage.Fail = (k : IsSealed s t vios at) × (AtRest s t k.ol
 abbrev pub KeptOk : Session → Trace → Phase → Vio → Type 0
 KeptOk s t one v = VioOk s t v × Carries s t v v.phase × (v.phase ≡ one)
 
--- each request of a block has its entry there, and this stands on the device
+-- each request of a block has its entry there, this stands on the device, and all blocks of the window are needed yet
 abbrev pub BlockOk : Session → Trace → SealedBlock → Type 0
-BlockOk s t b = AllByRecursion (KeptOk s t phase.Pending) b.vios × StandsAt s t b.vios b.sequence b.stage
+BlockOk s t b = AllByRecursion (KeptOk s t phase.Pending) b.vios × StandsAt s t b.vios b.sequence b.stage × (b.head ≡ s.sizes.start)
 
 -- an item in a lane to the zone of this number
 abbrev pub ItemOk : Session → Trace → ℕ → Item → Type 0
@@ -254,12 +255,26 @@ pub record PhysicalLists (s : Session) (t : Trace) (p : PhysicalZone) : Type 0 w
   -- those that weren't taken
   pub left : p.free ≡ drop (taken t) s.free
 
-pub record JournalLists (t : Trace) (j : JournalZone) : Type 0 where
+-- The log has the entries of the blocks that were sealed, and of the one being filled, in their order. No zone lets go of an
+-- entry, so its head is the first sequence of the window.
+pub record IsLogOf (s : Session) (t : Trace) (log : Log) : Type 0 where
+  pub size_is : log.size ≡ s.sizes.geometry.journal
+  pub sequence_is : log.sequence ≡ s.sizes.start + (s.sizes.opened + length (sealed t))
+  pub head_is : head_of log ≡ s.sizes.start
+  pub filling_is : log.filling ≡ reverse (map entry_of (filled t))
+  pub entries_are : said_by log.entries ≡ reverse (map entry_of (all_of (sealed t)))
+  -- those that are committed were handed out
+  pub handed_is : log.handed ≡ length (committed t)
+  pub durable_is : all_of (sealed t) ≡ committed t → log.committed ≡ log.sequence
+
+pub record JournalLists (s : Session) (t : Trace) (j : JournalZone) : Type 0 where
   pub entered_is : j.entered ≡ entered t
   pub committed_is : j.committed ≡ committed t
   -- while none failed
   pub filled_is : j.broken ≡ false → all_logged j.filling ≡ filled t
-  pub blocks_is : j.blocks ≡ length (sealed t)
+  -- the entry of each request there stands in the log
+  pub filling_few : length j.filling ≤ length j.log.filling
+  pub log_is : IsLogOf s t j.log
 
 pub record DeviceLists (t : Trace) (d : DeviceZone) : Type 0 where
   pub calls_is : d.calls ≡ successes (calls t)
@@ -269,7 +284,7 @@ abbrev pub HasLists : Session → Trace → ZoneData → Type 0
 HasLists s t (at.Desk desk) = DeskLists t desk
 HasLists s t (at.Logical l) = LogicalLists s t l.zone l.next l.places l.slots
 HasLists s t (at.Physical p) = PhysicalLists s t p
-HasLists s t (at.Journal j) = JournalLists t j
+HasLists s t (at.Journal j) = JournalLists s t j
 HasLists s t (at.Device d) = DeviceLists t d
 
 -- no entry is in the block being filled, and none waits for the next one

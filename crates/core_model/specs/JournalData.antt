@@ -1,16 +1,17 @@
 -- What the journal keeps, as contracts see it.
-use Rattle.std.specs.Prelude.{ℕ, Bool, List}
+use Rattle.std.specs.Prelude.{Bool, List}
 use Rattle.core_model.specs.declared.items.Vio.{Vio}
 use Rattle.core_model.specs.declared.zones.Logged.{Logged}
+use Rattle.recovery_journal.specs.Log.{Log}
 
--- Whether the stop notice has come, whether a block is under way, sealed or to be sealed, and whether one failed; how many
--- blocks were sealed in this session; the requests whose entries are in the block being filled, and those that wait for the
--- next one, the oldest first; the entries that were handed in, and those that are committed, the newest first.
+-- Whether the stop notice has come, whether a block is under way, sealed or to be sealed, and whether one failed; the log
+-- of the recovery journal; the requests whose entries are in the block being filled, and those that wait for the next one,
+-- the oldest first; the entries that were handed in, and those that are committed, the newest first.
 pub record JournalZone : Type 0 where
   pub notified : Bool
   pub busy : Bool
   pub broken : Bool
-  pub blocks : ℕ
+  pub log : Log
   pub filling : List Vio
   pub waiting : List Vio
   pub entered : List Logged

@@ -18,9 +18,6 @@ most_requests = 65536
 abbrev pub most_zones : ℕ
 most_zones = 4
 
-abbrev pub most_blocks : ℕ
-most_blocks = 1024
-
 -- how many requests are under way at most, how many zones are notified of a stop, and how many items there are: requests,
 -- stop notices, and a block of the journal
 abbrev pub most_under_way : ℕ

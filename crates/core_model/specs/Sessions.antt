@@ -1,5 +1,5 @@
 -- What a session is over, what stands on its device, and which values its addresses have.
-use Rattle.std.specs.Prelude.{ℕ, ◌≡◌, ◌≢◌, ◌⊎◌, ◌<◌, ◌≤◌, ◌^◌, true, false, Option, None, Some, List, [], ◌∷◌, ◌++◌, length, map, reverse}
+use Rattle.std.specs.Prelude.{ℕ, ◌+◌, ◌≡◌, ◌≢◌, ◌⊎◌, ◌<◌, ◌≤◌, ◌^◌, true, false, Option, None, Some, List, [], ◌∷◌, ◌++◌, length, map, reverse}
 use Rattle.std.specs.List.{AllByRecursion}
 use Rattle.blk_base.specs.Limits.{IsGeometry}
 use Rattle.blk_base.specs.Regions.{IsDataBlock, needed_blocks}
@@ -69,13 +69,13 @@ pub record HasWholeBlocks (s : Session) : Type 0 where
   pub window_is : s.window ≡ said_by (blocks.entries_of s.sizes.start s.sealed)
   pub opened : s.sizes.opened ≡ length s.sealed
 
--- The journal of the opened image has a window, and all its blocks count as used: none is left for more.
+-- The journal of the opened image has a window, and all its blocks but one count as used: none is left for more.
 pub record HasNoneLeft (s : Session) : Type 0 where
   pub last : ℕ
   pub committed : List CommittedEntry
   pub is_window : IsWindow s.sizes.geometry s.sizes.start (journal_of s.sizes.geometry s.image) last committed
   pub window_is : s.window ≡ said_by committed
-  pub full : s.sizes.opened ≡ s.sizes.geometry.journal
+  pub full : s.sizes.opened + 1 ≡ s.sizes.geometry.journal
 
 -- the session can be served
 pub record IsSession (s : Session) : Type 0 where

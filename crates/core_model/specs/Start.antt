@@ -1,5 +1,5 @@
 -- The start of a core: nothing is begun, and every lane is empty.
-use Rattle.std.specs.Prelude.{ℕ, ◌≡◌, ◌<◌, false, [], length}
+use Rattle.std.specs.Prelude.{ℕ, zero, suc, ◌+◌, ◌≡◌, ◌<◌, false, Option, None, Some, [], length}
 use Rattle.std.specs.List.{AllByRecursion}
 use Rattle.core_model.specs.declared.zones.ZoneData.{ZoneData}
 use Rattle.core_model.specs.declared.zones.ZoneData.TheVariants as at
@@ -12,7 +12,9 @@ use Rattle.core_model.specs.declared.zones.Zone.{Zone}
 use Rattle.core_model.specs.Zones.{desk_zone, logical_zone, physical_zone, journal_zone, device_zone, zone_count}
 use Rattle.core_model.specs.Sessions.{Session}
 use Rattle.core_model.specs.Steps.{Core}
+use Rattle.core_model.specs.declared.sizes.Sizes.{Sizes}
 use Rattle.plain_laws.specs.Sums.{Each}
+use Rattle.recovery_journal.specs.Log.{Log, opening}
 
 -- the desk has the script, and began nothing
 pub record IsFirstDesk (s : Session) (number : ℕ) (desk : Desk) : Type 0 where
@@ -42,12 +44,22 @@ pub record IsFirstPhysical (s : Session) (number : ℕ) (p : PhysicalZone) : Typ
   pub notified : p.notified ≡ false
   pub free : p.free ≡ s.free
 
+-- the first block of an earlier session, where there is one
+abbrev pub earlier_from : ℕ → ℕ → Option ℕ
+earlier_from start zero = None
+earlier_from start (suc opened) = Some start
+
+-- The log of a session goes on behind the blocks of the opened image, which all stay needed. The logical zones and the
+-- physical zone say what they need of it.
+abbrev pub first_log : Sizes → Log
+first_log sizes = opening sizes.geometry (earlier_from sizes.start sizes.opened) (sizes.start + sizes.opened) (sizes.zones + 1)
+
 pub record IsFirstJournal (s : Session) (number : ℕ) (j : JournalZone) : Type 0 where
   pub number_is : number ≡ journal_zone s.sizes
   pub notified : j.notified ≡ false
   pub busy : j.busy ≡ false
   pub broken : j.broken ≡ false
-  pub blocks : j.blocks ≡ 0
+  pub log : j.log ≡ first_log s.sizes
   pub filling : j.filling ≡ []
   pub waiting : j.waiting ≡ []
   pub entered : j.entered ≡ []

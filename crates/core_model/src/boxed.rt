@@ -1,10 +1,11 @@
 ghost use Rattle.std.specs.Prelude.{◌≡◌, None, Some, IfOk};
 ghost use Rattle.blk_base.specs.declared.request.Answer.TheVariants as reply;
 ghost use Rattle.core_model.specs.declared.items.Phase.TheVariants as phase;
+ghost use Rattle.core_model.specs.Trace.{entry_of};
 ghost use Rattle.core_model.specs.Vios.{ended, logged, turned};
 
 use crate::{Logged, Phase, Vio};
-use blk_base::{Answer, Block, Mapping};
+use blk_base::{Answer, Block, Entry, Mapping};
 use std::alloc::{AllocError, Global};
 use std::marker::Model;
 
@@ -116,7 +117,19 @@ impl BoxedVio {
         self.vio.answer.take()
     }
 
-    /// The entry that it hands in.
+    /// The entry that it hands in, as the journal has it.
+    pub fn entry(&self) -> Entry
+        ensures { result ≡ entry_of (logged self.now) }
+    {
+        let vio = self.get();
+        Entry::Remap {
+            at: vio.at,
+            old: vio.old,
+            new: vio.new,
+        }
+    }
+
+    /// The entry that it hands in, with its request and place.
     pub fn logged(&self) -> Logged
         ensures { result ≡ logged self.now }
     {

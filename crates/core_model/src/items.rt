@@ -88,11 +88,13 @@ pub enum Stage {
     Fail,
 }
 
-/// A sealed block of the journal: its sequence, and the requests of its entries that aren't committed, the oldest first.
+/// A sealed block of the journal: its sequence, the head that it names, which is the least sequence that was needed when it
+/// was sealed, and the requests of its entries that aren't committed, the oldest first.
 #[derive(Drop)]
 pub struct SealedBlock {
     pub stage: Stage,
     pub sequence: u64,
+    pub head: u64,
     pub vios: Fifo<BoxedVio, BLOCK_ENTRIES>,
 }
 

@@ -1,18 +1,26 @@
-ghost use Rattle.std.specs.Prelude.{◌↔◌, IsTrue, ◌≡◌, ◌+◌, ◌<◌, ◌≤◌, [], ◌∷◌, ◌++◌, IfOk, IfSome, IfNone, true, false, length, reverse};
+ghost use Rattle.std.specs.Prelude.{◌↔◌, IsTrue, ◌≡◌, ◌+◌, ◌<◌, ◌≤◌, ◌^◌, [], ◌∷◌, ◌++◌, IfOk, IfErr, IfSome, IfNone, OnOk, OnErr, true, false, length, reverse};
+ghost use Rattle.std.specs.Bool.{OnTrue, OnFalse};
+ghost use Rattle.blk_base.specs.Limits.{IsGeometry};
 ghost use Rattle.core_model.specs.JournalRows as rows;
+ghost use Rattle.core_model.specs.JournalRows.{HasNext, IsSealable};
 ghost use Rattle.core_model.specs.Limits.{IsJournalWithin};
-ghost use Rattle.core_model.specs.SessionLimits.{most_blocks, most_items, most_requests};
+ghost use Rattle.core_model.specs.SessionLimits.{most_items, most_requests};
+ghost use Rattle.core_model.specs.Start.{first_log};
 ghost use Rattle.core_model.specs.declared.items.Stage.TheVariants.{Commit, Cover};
 
 use crate::{
-    BLOCK_ENTRIES, BoxedVio, Fifo, LANE_ROOM, Logged, MOST_BLOCKS, MOST_ITEMS, MOST_REQUESTS,
-    Phase, REQUEST_ROOM, Register, SealedBlock, Stage,
+    BLOCK_ENTRIES, BoxedVio, Fifo, LANE_ROOM, Logged, MOST_ITEMS, MOST_REQUESTS, Phase,
+    REQUEST_ROOM, Register, SealedBlock, Sizes, Stage,
 };
+use recovery_journal::Journal;
 use std::alloc::{AllocError, Global};
 use std::marker::Model;
 use std::mem::replace;
 
-/// The recovery journal: the block being filled, and what became of the others.
+/// The sequences that a block can have are below this one.
+const SEQUENCES: u64 = 1 << 55;
+
+/// The zone of the recovery journal: its log, and the requests whose entries it has.
 #[derive(Drop)]
 pub struct JournalZone {
     // The stop notice has come.
@@ -21,8 +29,8 @@ pub struct JournalZone {
     busy: bool,
     // A sealed block failed, and no entry is handed in any more.
     broken: bool,
-    // How many blocks were sealed in this session.
-    blocks: u32,
+    // The entries of the block being filled, and of those that are sealed.
+    log: Journal,
     // The requests whose entries are in the block being filled, the oldest first.
     filling: Fifo<BoxedVio, BLOCK_ENTRIES>,
     // The room of the block that goes round, while none does.
@@ -35,7 +43,7 @@ pub struct JournalZone {
 }
 
 impl Model for JournalZone {
-    ghost use Rattle.std.specs.Prelude.{◌≡◌, [], false, Some};
+    ghost use Rattle.std.specs.Prelude.{◌≡◌, ◌≤◌, [], false, Some, length};
     ghost use Rattle.core_model.specs.JournalData.{JournalZone as JournalData};
 
     ghost Value = { JournalData };
@@ -44,30 +52,62 @@ impl Model for JournalZone {
       notified = j.notified;
       busy = j.busy;
       broken = j.broken;
-      blocks = j.blocks;
+      log = j.log;
       filling = j.filling;
       waiting = j.waiting;
       entered = j.entered;
       committed = j.committed;
     } };
 
-    ghost invariant = { λ j. j.busy ≡ false → j.spare ≡ Some [] };
+    ghost invariant = { λ j. record {
+      spare : j.busy ≡ false → j.spare ≡ Some [];
+      few : length j.filling ≤ length j.log.filling;
+    } };
+}
+
+// The log of a session, behind the blocks of the opened image.
+fn first_log(alloc: Global, sizes: &Sizes) -> Result<Journal, AllocError>
+    requires geometry { IsGeometry sizes.now.geometry }
+    requires start { (1 ≤ sizes.now.start) × (sizes.now.start < 2 ^ 54) }
+    requires room { sizes.now.opened + 1 ≤ sizes.now.geometry.journal }
+    ensures { IfOk result (λ log. log ≡ first_log sizes.now) }
+{
+    let zones = u32::from(sizes.zones) + 1;
+    if sizes.opened == 0 {
+        return Journal::new(alloc, &sizes.geometry, sizes.start, zones);
+    }
+    let next = sizes.start + u64::from(sizes.opened);
+    Journal::behind(alloc, &sizes.geometry, sizes.start, next, zones)
+}
+
+// The block that was sealed last is durable.
+fn make_durable(log: &mut Journal)
+    ensures { log.new ≡ record log.old { committed = log.old.sequence } }
+{
+    if let Some(sequence) = log.writing() {
+        log.committed(sequence);
+    }
 }
 
 impl JournalZone {
-    /// The journal at the start of a session: nothing was handed in. It takes all its room.
-    pub fn new(alloc: Global) -> Result<JournalZone, AllocError>
+    /// The journal at the start of a session: nothing was handed in. Its log goes on behind the blocks of the opened image,
+    /// which all stay needed. It takes all its room.
+    pub fn new(alloc: Global, sizes: &Sizes) -> Result<JournalZone, AllocError>
+        requires geometry { IsGeometry sizes.now.geometry }
+        requires start { (1 ≤ sizes.now.start) × (sizes.now.start < 2 ^ 54) }
+        requires room { sizes.now.opened + 1 ≤ sizes.now.geometry.journal }
         ensures { IfOk result (λ zone. zone ≡ record {
           notified = false;
           busy = false;
           broken = false;
-          blocks = 0;
+          log = first_log sizes.now;
           filling = [];
           waiting = [];
           entered = [];
           committed = [];
         }) }
     {
+        let log = first_log(alloc, sizes)?;
         let filling = Fifo::new(alloc)?;
         let spare = Fifo::new(alloc)?;
         let waiting = Fifo::new(alloc)?;
@@ -77,7 +117,7 @@ impl JournalZone {
             notified: false,
             busy: false,
             broken: false,
-            blocks: 0,
+            log,
             filling,
             spare: Some(spare),
             waiting,
@@ -100,18 +140,11 @@ impl JournalZone {
         self.busy
     }
 
-    /// How many blocks were sealed in this session.
-    pub fn blocks(&self) -> u32
-        ensures { result ≡ self.now.blocks }
+    /// Whether the block being filled has a slot in the ring.
+    pub fn has_block(&self) -> bool
+        ensures { result ≡ rows.has_block self.now }
     {
-        self.blocks
-    }
-
-    /// Whether the block being filled has room for one more entry.
-    pub fn has_room(&self) -> bool
-        ensures { result ≡ rows.has_room self.now }
-    {
-        self.filling.len() < BLOCK_ENTRIES as usize
+        self.log.has_slot()
     }
 
     /// Whether the block being filled has no entry.
@@ -125,7 +158,7 @@ impl JournalZone {
     pub fn is_within(&self) -> bool
         ensures { IsTrue result ↔ IsJournalWithin self.now }
     {
-        self.blocks as usize <= MOST_BLOCKS
+        self.log.sequence() < SEQUENCES
             && self.filling.len() <= BLOCK_ENTRIES as usize
             && self.waiting.len() <= MOST_ITEMS
             && self.entered.len() <= MOST_REQUESTS
@@ -147,21 +180,29 @@ impl JournalZone {
         self.waiting.push(vio);
     }
 
-    /// The entry of a request is handed in: it stands in the block being filled.
-    pub fn enter(&mut self, vio: BoxedVio)
-        requires room { rows.has_room self.old ≡ true }
+    /// The entry of a request is handed in: it stands in the block being filled. The request comes back where that block has
+    /// no slot in the ring, or no room for one more entry.
+    pub fn enter(&mut self, vio: BoxedVio) -> Result<(), BoxedVio>
+        requires sequence { self.old.log.sequence < 2 ^ 55 }
         requires few { length self.old.entered ≤ most_requests }
-        ensures { self.new ≡ rows.entered_by vio self.old }
+        ensures entered { OnOk result (self.new ≡ rows.entered_by vio self.old) }
+        ensures room { OnOk result ((rows.has_block self.old ≡ true) × (rows.has_room self.old ≡ true)) }
+        ensures back { IfErr result (λ back. (back ≡ vio) × (self.new ≡ self.old)) }
+        ensures full { OnErr result (rows.has_block self.old ≡ true → rows.has_room self.old ≡ false) }
     {
+        if self.log.append(vio.entry()).is_err() {
+            return Err(vio);
+        }
         self.entered.push(vio.logged());
         self.filling.push(vio.turn(Phase::Pending));
+        Ok(())
     }
 
-    /// A block goes round that is to be sealed, with this sequence.
-    pub fn begin(&mut self, sequence: u64) -> SealedBlock
+    /// A block goes round that is to be sealed.
+    pub fn begin(&mut self) -> SealedBlock
         requires { self.old.busy ≡ false }
         ensures zone { self.new ≡ record self.old { busy = true } }
-        ensures block { result ≡ record { stage = Commit; sequence = sequence; vios = [] } }
+        ensures block { result ≡ rows.next_block self.old Commit [] }
     {
         let Some(vios) = self.spare.take() else {
             unreachable!();
@@ -169,33 +210,43 @@ impl JournalZone {
         self.busy = true;
         SealedBlock {
             stage: Stage::Commit,
-            sequence,
+            sequence: self.log.sequence(),
+            head: self.log.head(),
             vios,
         }
     }
 
-    /// The entry of a request is committed.
-    pub fn commit(&mut self, vio: &BoxedVio)
+    /// The entry of a request is committed, which is the next one of the log: the block that was sealed last is durable.
+    /// `false` where each entry of a sealed block was handed out before; then nothing is committed.
+    pub fn commit(&mut self, vio: &BoxedVio) -> bool
         requires { length self.old.committed ≤ most_requests }
-        ensures { self.new ≡ rows.committed_by vio.now self.old }
+        ensures yes { OnTrue result (HasNext self.old.log × (self.new ≡ rows.committed_by vio.now self.old)) }
+        ensures no { OnFalse result (HasNext self.old.log → ⊥) }
     {
+        make_durable(&mut self.log);
+        let Some(_) = self.log.next_committed() else {
+            return false;
+        };
         self.committed.push(vio.logged());
+        true
     }
 
-    /// The block being filled is sealed with this sequence. The next one is filled in the room of a block whose entries are
-    /// all committed.
-    pub fn seal(&mut self, block: SealedBlock, sequence: u64) -> SealedBlock
+    /// The block being filled is sealed. The next one is filled in the room of a block whose entries are all committed. `None`
+    /// where it has no entry, or the one before it isn't durable yet.
+    pub fn seal(&mut self, block: SealedBlock) -> Option<SealedBlock>
         requires done { block.vios ≡ [] }
-        requires few { self.old.blocks ≤ most_blocks }
-        ensures zone { self.new ≡ record self.old { blocks = self.old.blocks + 1; filling = [] } }
-        ensures block { result ≡ record { stage = Cover; sequence = sequence; vios = self.old.filling } }
+        ensures due { IfSome result (λ sealed. IsSealable self.old.log) }
+        ensures block { IfSome result (λ sealed. sealed ≡ rows.next_block self.old Cover self.old.filling) }
+        ensures zone { IfSome result (λ sealed. self.new ≡ record self.old { log = rows.sealed_log self.old.log; filling = [] }) }
+        ensures none { IfNone result (IsSealable self.old.log → ⊥) }
     {
-        self.blocks += 1;
-        SealedBlock {
+        let sealed = self.log.seal()?;
+        Some(SealedBlock {
             stage: Stage::Cover,
-            sequence,
+            sequence: sealed.sequence,
+            head: sealed.head,
             vios: replace(&mut self.filling, block.vios),
-        }
+        })
     }
 
     /// No block goes round any more: the entries of this one are all committed.

@@ -24,8 +24,8 @@ pub use fifo::Fifo;
 pub use items::{Asks, Item, Phase, SealedBlock, Stage, Vio};
 pub use journal::JournalZone;
 pub use limits::{
-    BLOCK_ENTRIES, LANE_ROOM, LOCK_ROOM, MOST_BLOCKS, MOST_DEPTH, MOST_ITEMS, MOST_NOTICES,
-    MOST_REQUESTS, MOST_STREAMS, MOST_UNDER_WAY, MOST_ZONES, POST_ROOM, REQUEST_ROOM,
+    BLOCK_ENTRIES, LANE_ROOM, LOCK_ROOM, MOST_DEPTH, MOST_ITEMS, MOST_NOTICES, MOST_REQUESTS,
+    MOST_STREAMS, MOST_UNDER_WAY, MOST_ZONES, POST_ROOM, REQUEST_ROOM,
 };
 pub use logical::LogicalZone;
 pub use ports::{Lane, Ports};

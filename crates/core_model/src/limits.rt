@@ -19,9 +19,6 @@ pub const MOST_NOTICES: u32 = 6;
 /// How many items may be under way: requests, stop notices, and a block of the journal.
 pub const MOST_ITEMS: usize = MOST_UNDER_WAY + MOST_NOTICES as usize + 1;
 
-/// How many blocks the recovery journal may have.
-pub const MOST_BLOCKS: usize = 1_024;
-
 /// How many entries a block of the journal has at most.
 pub const BLOCK_ENTRIES: u32 = 192;
 

@@ -20,7 +20,7 @@ use Rattle.core_model.specs.declared.zones.Logged.{Logged}
 use Rattle.core_model.specs.declared.zones.Zone.{Zone}
 use Rattle.core_model.specs.declared.zones.ZoneData.{ZoneData}
 use Rattle.core_model.specs.declared.zones.ZoneData.TheVariants as at
-use Rattle.core_model.proofs.rows.PhaseRows.{desk, device, journal, logical, physical}
+use Rattle.core_model.proofs.rows.PhaseRows.{desk, device, empty_log, journal, logical, physical}
 use Rattle.core_model.proofs.rows.WorkedTraces.{first, of_first, other, place, script, second, writer}
 use Rattle.core_reports.specs.Found.{AreFound, AreNoted, IsFound}
 use Rattle.core_reports.specs.Listed.{HasDesk, HasEntered, places_at, places_of_all}
@@ -49,7 +49,7 @@ abbrev front : Zone
 front = zone 0 (desk [] [] 0 [])
 
 abbrev of_journal : List Logged → Zone
-of_journal entries = zone 4 (journal false 0 [] [] entries [])
+of_journal entries = zone 4 (journal false empty_log [] [] entries [])
 
 abbrev zones : List Zone
 zones = front ∷ zone 1 (logical 2 near [] [] [] []) ∷ zone 2 (logical 1 far [] [] [] []) ∷ zone 3 (physical []) ∷ of_journal (of_first ∷ []) ∷ zone 5 (device false 0) ∷ []
@@ -61,7 +61,7 @@ places_at_logical = refl
 places_at_desk : places_at (desk [] [] 0 []) ≡ []
 places_at_desk = refl
 
-places_at_journal : places_at (journal false 0 [] [] (of_first ∷ []) []) ≡ []
+places_at_journal : places_at (journal false empty_log [] [] (of_first ∷ []) []) ≡ []
 places_at_journal = refl
 
 -- those of the second zone stand before those of the first one, which are older
@@ -105,7 +105,7 @@ entered_there : HasEntered (of_first ∷ []) zones
 entered_there = record {
   number = 4;
   zone = of_journal (of_first ∷ []);
-  journal = record { notified = false; busy = false; broken = false; blocks = 0; filling = []; waiting = []; entered = of_first ∷ []; committed = [] };
+  journal = record { notified = false; busy = false; broken = false; log = empty_log; filling = []; waiting = []; entered = of_first ∷ []; committed = [] };
   had = refl;
   keeps = refl;
   each = λ n z j had keeps. every-get (Enters (of_first ∷ [])) zones n z all_enter had j keeps;

@@ -1,5 +1,6 @@
-ghost use Rattle.std.specs.Prelude.{◌≡◌, ◌++◌, [], ◌∷◌, IfOk, OnOk};
+ghost use Rattle.std.specs.Prelude.{◌≡◌, ◌+◌, ◌<◌, ◌≤◌, ◌^◌, ◌++◌, [], ◌∷◌, IfOk, OnOk};
 ghost use Rattle.std.specs.List.{AllByRecursion};
+ghost use Rattle.blk_base.specs.Limits.{IsGeometry};
 ghost use Rattle.core_model.specs.Sessions.{IsServed};
 ghost use Rattle.steps_device.specs.DeviceCalls.{Fits};
 
@@ -51,7 +52,10 @@ pub(crate) enum Given {
 }
 
 pub(crate) fn sizes(zones: u8, depth: u32) -> Sizes
-    ensures { result.geometry ≡ Geometry.DEFAULT }
+    ensures default { result.geometry ≡ Geometry.DEFAULT }
+    ensures geometry { IsGeometry result.geometry }
+    ensures start { (1 ≤ result.start) × (result.start < 2 ^ 54) }
+    ensures room { result.opened + 1 ≤ result.geometry.journal }
 {
     Sizes {
         geometry: Geometry::DEFAULT,
@@ -121,7 +125,11 @@ fn data_blocks(alloc: Global) -> Result<Vec<Pbn>, AllocError> {
 }
 
 // A core at the start of a session on a fresh image.
-fn first(alloc: Global, sizes: &Sizes, streams: &[&[Ask]]) -> Result<Zones, Unplayed> {
+fn first(alloc: Global, sizes: &Sizes, streams: &[&[Ask]]) -> Result<Zones, Unplayed>
+    requires geometry { IsGeometry sizes.now.geometry }
+    requires start { (1 ≤ sizes.now.start) × (sizes.now.start < 2 ^ 54) }
+    requires room { sizes.now.opened + 1 ≤ sizes.now.geometry.journal }
+{
     let script = script(alloc, streams)?;
     if !is_limited(&script) {
         return Err(Unplayed::TooLarge);
@@ -168,7 +176,10 @@ pub(crate) fn played<D: Disk>(
     events: &[Event],
     disk: &mut D,
 ) -> Result<Zones, Unplayed>
-    requires { sizes.now.geometry ≡ Geometry.DEFAULT }
+    requires default { sizes.now.geometry ≡ Geometry.DEFAULT }
+    requires geometry { IsGeometry sizes.now.geometry }
+    requires start { (1 ≤ sizes.now.start) × (sizes.now.start < 2 ^ 54) }
+    requires room { sizes.now.opened + 1 ≤ sizes.now.geometry.journal }
 {
     if disk.blocks() < Layout::of(&Geometry::DEFAULT).needed() {
         return Err(Unplayed::Step(StepFault::Stray));

@@ -1,5 +1,5 @@
 -- For each clause a small journal that it accepts, and one that breaks it alone and is refused. The journals have eight slots.
-use Rattle.std.proofs.Common.{ℕ, ◌≡◌, ◌+◌, ◌-◌, ◌≤◌, true, false, List, [], ◌∷◌, ◌++◌, length, replicate, drop, take, All, sym, ◌∙◌, ap, subst, inl, inr, refl, arith}
+use Rattle.std.proofs.Common.{ℕ, ◌≡◌, ◌≤◌, true, false, List, [], ◌∷◌, ◌++◌, length, replicate, drop, take, All, sym, ◌∙◌, ap, subst, inl, inr, refl, arith}
 use Rattle.std.proofs.Math.Seq.{drop-append_seam}
 use Rattle.std.proofs.lemmas.List.{take_all, take-append-le}
 use Rattle.std.proofs.lemmas.List.Elements.{All-cons, All-nil}
@@ -125,7 +125,7 @@ used_not_two : AreUsed small 1 journal 1 2 → ⊥
 used_not_two (inl used) = omega (arith, used.1)
 used_not_two (inr none) = none.0 goes_on_is
 
-used_all : AreUsed small 1 torn_journal 1 8
+used_all : AreUsed small 1 torn_journal 1 7
 used_all = inr ((λ goes_on. ends_whole goes_on.ends), refl)
 
 used_not_one : AreUsed small 1 torn_journal 1 1 → ⊥

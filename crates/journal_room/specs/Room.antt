@@ -26,7 +26,8 @@ pub record GoesOn (g : Geometry) (start : ℕ) (journal : List (List ℕ)) (last
   pub left : last + 2 < start + g.journal
   pub timely : All (IsTimely g.nonce last) journal
 
--- so many blocks of the journal are used when a session begins: those that it has, or all where none may go on behind them
+-- so many blocks of the journal are used when a session begins: those that it has, or all but one where none may go on behind
+-- them
 abbrev pub AreUsed : Geometry → ℕ → List (List ℕ) → ℕ → ℕ → Type 0
 AreUsed g start journal last used =
-    (GoesOn g start journal last × (start + used ≡ last + 1)) ⊎ ((GoesOn g start journal last → ⊥) × (used ≡ g.journal))
+    (GoesOn g start journal last × (start + used ≡ last + 1)) ⊎ ((GoesOn g start journal last → ⊥) × (used + 1 ≡ g.journal))

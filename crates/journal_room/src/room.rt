@@ -27,7 +27,7 @@ pub fn goes_on(head: &Super, journal: &[Block], last: u64) -> bool
 }
 
 /// How many blocks of a journal are used when a session begins: those that it has, from `start` to its last sequence, or
-/// all of its slots where a session may not go on behind them. The arguments are those of `goes_on`. It asks for no memory.
+/// all of its slots but the one that stays free where a session may not go on behind them. The arguments are those of `goes_on`. It asks for no memory.
 pub fn used_blocks(head: &Super, journal: &[Block], last: u64) -> u32
     requires sizes { IsGeometry head.now.geometry }
     requires slots { length journal.now ≡ head.now.geometry.journal }
@@ -39,7 +39,7 @@ pub fn used_blocks(head: &Super, journal: &[Block], last: u64) -> u32
     if goes_on(head, journal, last) {
         (last + 1 - head.start) as u32
     } else {
-        head.geometry.journal
+        head.geometry.journal - 1
     }
 }
 

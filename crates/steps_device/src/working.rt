@@ -13,22 +13,11 @@ ghost use Rattle.steps_device.specs.DeviceCalls.{Fits, HasFailed};
 
 use crate::calling::{flush, write_block};
 use crate::stopping::halt;
-use blk_base::{Block, Entry, Layout, Pbn, ZoneId};
-use core_model::{DeviceZone, Item, SealedBlock, Sizes, Stage, Vio};
+use blk_base::{Block, Layout, Pbn, ZoneId};
+use core_model::{DeviceZone, Item, SealedBlock, Sizes, Stage};
 use disk_model::{Disk, Failed};
 use journal_codec::{Entries, JournalBlock, encode};
 use step_parts::{Posts, Stray};
-
-// The entry of a request.
-fn entry_of(vio: &Vio) -> Entry
-    ensures { result ≡ entry_of (vios.logged vio.now) }
-{
-    Entry::Remap {
-        at: vio.at,
-        old: vio.old,
-        new: vio.new,
-    }
-}
 
 // The entries of a sealed block, the oldest first.
 fn sealed_entries(block: &SealedBlock) -> Entries<192>
@@ -39,7 +28,7 @@ fn sealed_entries(block: &SealedBlock) -> Entries<192>
         let Some(vio) = block.vios.get(index) else {
             unreachable!();
         };
-        entries.push(entry_of(vio.get()));
+        entries.push(vio.entry());
     }
     entries
 }
@@ -54,7 +43,7 @@ fn sealed_bytes(sizes: &Sizes, block: &SealedBlock) -> Block
         &JournalBlock {
             nonce: sizes.geometry.nonce,
             sequence: block.sequence,
-            head: sizes.start,
+            head: block.head,
             entries,
         },
         &mut bytes,

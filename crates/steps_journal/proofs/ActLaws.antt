@@ -1,20 +1,21 @@
 -- What the journal did is an act, and it doesn't call the device.
-use Rattle.std.proofs.Common.{◌≡◌, List, [], ◌∷◌, true, refl}
+use Rattle.std.proofs.Common.{◌≡◌, List, [], ◌∷◌, true, refl, sym, ◌∙◌, ap}
 use Rattle.blk_base.specs.declared.place.ZoneId.TheVariants as id
 use Rattle.blk_base.specs.declared.request.Answer.TheVariants.{Stopped}
 use Rattle.core_model.specs.declared.items.Item.TheVariants as item
 use Rattle.core_model.specs.declared.items.SealedBlock.{SealedBlock}
+use Rattle.core_model.specs.declared.items.Stage.TheVariants as stage
 use Rattle.core_model.specs.declared.items.Vio.{Vio}
 use Rattle.core_model.specs.declared.sizes.Sizes.{Sizes}
 use Rattle.core_model.specs.declared.zones.ZoneData.TheVariants as at
 use Rattle.core_model.specs.JournalData.{JournalZone}
-use Rattle.core_model.specs.JournalRows.{JournalServes, JournalEnds, all_refused}
+use Rattle.core_model.specs.JournalRows.{HasNext, IsSealable, JournalServes, JournalEnds, all_again, all_refused, committed_by, hands_out, next_block, sealed_by}
 use Rattle.core_model.specs.JournalRows.JournalServes.{is_stopped, waits, is_full, enters as hands_in, enters_first}
 use Rattle.core_model.specs.JournalRows.JournalEnds.{commits, seals, rests, fails}
 use Rattle.core_model.specs.Steps.{Act}
 use Rattle.core_model.specs.Steps.Act.{enters, ends, enters_notice}
-use Rattle.core_model.specs.Trace.{Trace}
-use Rattle.core_model.specs.Vios.{Post}
+use Rattle.core_model.specs.Trace.{Commits, Seals, Trace}
+use Rattle.core_model.specs.Vios.{Post, logged}
 use Rattle.step_parts.specs.Acts.{ActsAlone}
 use Rattle.step_parts.specs.Causes.{NoRule}
 use Rattle.step_parts.proofs.SilentLaws.{Silent, none_called, silent}
@@ -31,8 +32,8 @@ pub acts : (sizes : Sizes) (old new : JournalZone) (v : Vio) (posts : List Post)
 acts sizes old new v posts (made, row) = (made, enters row, serves_silently sizes old new v made posts row)
 
 ends_silently : (sizes : Sizes) (old new : JournalZone) (b : SealedBlock) (made : Trace) (posts : List Post) → JournalEnds sizes old b new made posts → Silent made
-ends_silently sizes old new b made posts (commits v vs h1 h2 h3 is h5) = silent _ _ is refl refl refl
-ends_silently sizes old new b made posts (seals v vs h1 h2 h3 h4 is h6) = silent _ _ is refl refl refl
+ends_silently sizes old new b made posts (commits v vs h1 h2 h3 h4 is h6) = silent _ _ is refl refl refl
+ends_silently sizes old new b made posts (seals v vs h1 h2 h3 h4 h5 is h7) = silent _ _ is refl refl refl
 ends_silently sizes old new b made posts (rests h1 h2 h3 h4 is h6) = silent _ _ is refl refl refl
 ends_silently sizes old new b made posts (fails h1 h2 is h4) = silent _ _ is refl refl refl
 
@@ -52,3 +53,33 @@ stays sizes old v none new made posts (enters row) = none _ _ _ row
 
 pub keeps : (sizes : Sizes) (old : JournalZone) (b : SealedBlock) → NoRule (JournalEnds sizes old b) → NoRule (Act sizes (at.Journal old) (item.Block b ∷ []))
 keeps sizes old b none new made posts (ends row) = none _ _ _ row
+
+-- The oldest entry of a block is committed where the log has one to hand out, and by no rule else.
+module _ (sizes : Sizes) (old : JournalZone) (b : SealedBlock) (is : b.stage ≡ stage.Commit) where
+  module _ (v : Vio) (vs : List Vio) (are : b.vios ≡ v ∷ vs) where
+    pub commits_next : (new : JournalZone) (posts : List Post)
+        → HasNext old.log × (new ≡ committed_by v old) × (posts ≡ hands_out v ∷ (id.Journal, item.Block (record b { vios = vs })) ∷ [])
+        → (made : Trace) × JournalEnds sizes old b new made posts
+    commits_next new posts did = (Commits (logged v) ∷ [], commits v vs is are did.0 did.1 refl did.2)
+
+    pub none_commits : (HasNext old.log → ⊥) → NoRule (JournalEnds sizes old b)
+    none_commits none new made posts (commits u us h1 h2 next h4 h5 h6) = none next
+    none_commits none new made posts (seals u us h1 done h3 h4 h5 h6 h7) = absurd (let both : [] ≡ v ∷ vs = sym done ∙ are in cc)
+    none_commits none new made posts (rests h1 done h3 h4 h5 h6) = absurd (let both : [] ≡ v ∷ vs = sym done ∙ are in cc)
+    none_commits none new made posts (fails failed h2 h3 h4) = absurd (let both : stage.Commit ≡ stage.Fail = sym is ∙ failed in cc)
+
+  -- and the next one is sealed where it is due
+  module _ (done : b.vios ≡ []) (v : Vio) (vs : List Vio) (filling : old.filling ≡ v ∷ vs) where
+    pub seals_next : (new : JournalZone) (posts : List Post)
+        → IsSealable old.log × (new ≡ sealed_by old) × (posts ≡ (id.Device, item.Block (next_block old stage.Cover old.filling)) ∷ all_again old.waiting)
+        → (made : Trace) × JournalEnds sizes old b new made posts
+    seals_next new posts did = (
+      Seals ∷ [],
+      seals v vs is done filling did.0 did.1 refl (did.2 ∙ ap (λ (us : List Vio). (id.Device, item.Block (next_block old stage.Cover us)) ∷ all_again old.waiting) filling),
+    )
+
+    pub none_seals : (IsSealable old.log → ⊥) → NoRule (JournalEnds sizes old b)
+    none_seals none new made posts (commits u us h1 some h3 h4 h5 h6) = absurd (let both : [] ≡ u ∷ us = sym done ∙ some in cc)
+    none_seals none new made posts (seals u us h1 h2 h3 due h5 h6 h7) = none due
+    none_seals none new made posts (rests h1 h2 unfilled h4 h5 h6) = absurd (let both : [] ≡ v ∷ vs = sym unfilled ∙ filling in cc)
+    none_seals none new made posts (fails failed h2 h3 h4) = absurd (let both : stage.Commit ≡ stage.Fail = sym is ∙ failed in cc)

@@ -4,7 +4,6 @@ ghost use Rattle.core_model.specs.Limits.{IsJournalWithin};
 ghost use Rattle.core_model.specs.Steps.{Act};
 ghost use Rattle.step_parts.specs.Acts.{ActsAlone};
 ghost use Rattle.step_parts.specs.Causes.{NoRule};
-ghost use Rattle.steps_journal.specs.Counts.{CanCount};
 
 use crate::ending::{end_block, hear_stop};
 use crate::entering::serve_journal;
@@ -19,7 +18,6 @@ pub fn act(
     item: Item,
     posts: &mut Posts,
 ) -> Result<(), Stray>
-    requires counts { CanCount sizes.now }
     requires within { IsJournalWithin zone.old }
     requires none { posts.old ≡ [] }
     ensures ok { OnOk result (ActsAlone sizes.now (at.Journal zone.old) (item ∷ []) (at.Journal zone.new) posts.new) }

@@ -2,33 +2,41 @@ ghost use Rattle.std.specs.Prelude.{◌≡◌, [], ◌∷◌, false, true, OnOk,
 ghost use Rattle.blk_base.specs.declared.place.ZoneId.TheVariants as id;
 ghost use Rattle.blk_base.specs.declared.request.Answer.TheVariants.{Stopped};
 ghost use Rattle.core_model.specs.JournalRows as rows;
-ghost use Rattle.core_model.specs.JournalRows.{JournalEnds};
+ghost use Rattle.core_model.specs.JournalRows.{HasNext, IsSealable, JournalEnds};
 ghost use Rattle.core_model.specs.Limits.{IsJournalWithin};
 ghost use Rattle.core_model.specs.Trace.{Trace};
 ghost use Rattle.core_model.specs.declared.items.Item.TheVariants.{Block, Request, StopNotice};
 ghost use Rattle.core_model.specs.declared.items.Phase.TheVariants.{Settle};
 ghost use Rattle.core_model.specs.declared.items.Stage.TheVariants.{Commit, Cover, Fail};
 ghost use Rattle.step_parts.specs.Causes.{NoRule};
-ghost use Rattle.steps_journal.specs.Counts.{CanCount};
 
 use crate::dropping::{drop_block, drop_filling};
-use crate::entering::next_sequence;
 use crate::refusing::{refuse_waiting, send_again};
 use blk_base::ZoneId;
 use core_model::{BoxedVio, Item, JournalZone, Phase, SealedBlock, Sizes, Stage};
 use step_parts::{Posts, Stray};
 
-// The oldest entry of a block is committed, and the block goes round with the others.
-fn commit(zone: &mut JournalZone, vio: BoxedVio, block: SealedBlock, posts: &mut Posts)
+// The oldest entry of a block is committed, and the block goes round with the others. There is none in the log: no rule
+// applies.
+fn commit(
+    zone: &mut JournalZone,
+    vio: BoxedVio,
+    block: SealedBlock,
+    posts: &mut Posts,
+) -> Result<(), Stray>
     requires within { IsJournalWithin zone.old }
     requires none { posts.old ≡ [] }
-    ensures zone { zone.new ≡ rows.committed_by vio zone.old }
-    ensures posts { posts.new ≡ rows.hands_out vio ∷ (id.Journal, Block block) ∷ [] }
+    ensures ok { OnOk result (HasNext zone.old.log × (zone.new ≡ rows.committed_by vio zone.old)
+        × (posts.new ≡ rows.hands_out vio ∷ (id.Journal, Block block) ∷ [])) }
+    ensures err { OnErr result (HasNext zone.old.log → ⊥) }
 {
-    zone.commit(&vio);
+    if !zone.commit(&vio) {
+        return Err(Stray);
+    }
     let home = vio.get().home;
     posts.first(home, Item::Request(vio.turn(Phase::Settle)));
     posts.push(ZoneId::Journal, Item::Block(block));
+    Ok(())
 }
 
 // No block is filled: none goes round any more.
@@ -43,35 +51,42 @@ fn come_to_rest(zone: &mut JournalZone, block: SealedBlock, posts: &mut Posts)
     send_again(zone, posts);
 }
 
-// The next block is sealed, and those that waited for it come again.
-fn seal_next(sizes: &Sizes, zone: &mut JournalZone, block: SealedBlock, posts: &mut Posts)
+// The next block is sealed, and those that waited for it come again. It can't be sealed: no rule applies.
+fn seal_next(zone: &mut JournalZone, block: SealedBlock, posts: &mut Posts) -> Result<(), Stray>
     requires done { block.vios ≡ [] }
-    requires counts { CanCount sizes.now }
     requires within { IsJournalWithin zone.old }
     requires none { posts.old ≡ [] }
-    ensures zone { zone.new ≡ rows.sealed_by zone.old }
-    ensures posts { posts.new ≡ (id.Device, Block (rows.next_block sizes.now zone.old Cover zone.old.filling)) ∷ rows.all_again zone.old.waiting }
+    ensures ok { OnOk result (IsSealable zone.old.log × (zone.new ≡ rows.sealed_by zone.old)
+        × (posts.new ≡ (id.Device, Block (rows.next_block zone.old Cover zone.old.filling)) ∷ rows.all_again zone.old.waiting)) }
+    ensures err { OnErr result (IsSealable zone.old.log → ⊥) }
 {
-    let sequence = next_sequence(sizes, zone);
-    let sealed = zone.seal(block, sequence);
+    let Some(sealed) = zone.seal(block) else {
+        return Err(Stray);
+    };
     posts.first(ZoneId::Device, Item::Block(sealed));
     send_again(zone, posts);
+    Ok(())
 }
 
 // The entries of a block are all committed: the next one is sealed, or there is none.
-fn go_on(sizes: &Sizes, zone: &mut JournalZone, block: SealedBlock, posts: &mut Posts)
+fn go_on(
+    sizes: &Sizes,
+    zone: &mut JournalZone,
+    block: SealedBlock,
+    posts: &mut Posts,
+) -> Result<(), Stray>
     requires stage { block.stage ≡ Commit }
     requires done { block.vios ≡ [] }
-    requires counts { CanCount sizes.now }
     requires within { IsJournalWithin zone.old }
     requires none { posts.old ≡ [] }
-    ensures { (made : Trace) × JournalEnds sizes.now zone.old block zone.new made posts.new }
+    ensures ok { OnOk result ((made : Trace) × JournalEnds sizes.now zone.old block zone.new made posts.new) }
+    ensures err { OnErr result (NoRule (JournalEnds sizes.now zone.old block)) }
 {
     if zone.is_unfilled() {
         come_to_rest(zone, block, posts);
-    } else {
-        seal_next(sizes, zone, block, posts);
+        return Ok(());
     }
+    seal_next(zone, block, posts)
 }
 
 // A block failed: no entry is handed in any more.
@@ -94,20 +109,16 @@ pub(crate) fn end_block(
     mut block: SealedBlock,
     posts: &mut Posts,
 ) -> Result<(), Stray>
-    requires counts { CanCount sizes.now }
     requires within { IsJournalWithin zone.old }
     requires none { posts.old ≡ [] }
     ensures ok { OnOk result ((made : Trace) × JournalEnds sizes.now zone.old block zone.new made posts.new) }
     ensures err { OnErr result (NoRule (JournalEnds sizes.now zone.old block)) }
 {
     match block.stage {
-        Stage::Commit => {
-            match block.vios.pop() {
-                Some(vio) => commit(zone, vio, block, posts),
-                None => go_on(sizes, zone, block, posts),
-            }
-            Ok(())
-        }
+        Stage::Commit => match block.vios.pop() {
+            Some(vio) => commit(zone, vio, block, posts),
+            None => go_on(sizes, zone, block, posts),
+        },
         Stage::Fail => {
             end_failed(sizes, zone, block, posts);
             Ok(())

@@ -11,7 +11,7 @@ use Rattle.core_model.specs.declared.zones.Zone.{Zone}
 use Rattle.core_model.specs.declared.zones.ZoneData.{ZoneData}
 use Rattle.core_model.specs.declared.zones.ZoneData.TheVariants as at
 use Rattle.core_model.specs.Sessions.{IsServed, Session}
-use Rattle.core_model.specs.Start.{IsFirst, IsFirstData, IsFirstZone}
+use Rattle.core_model.specs.Start.{IsFirst, IsFirstData, IsFirstZone, first_log}
 use Rattle.core_model.specs.Steps.{rests}
 use Rattle.disk_model.specs.Seen.{Seen}
 use Rattle.disk_model.proofs.SinceLaws.{were_only_read}
@@ -47,7 +47,7 @@ module _ (head : Super) (window : List Entry) (used : ℕ) (script : Script) whe
       first_zone 0 (at.Desk (record { requests = script; log = []; marks = []; notices = 0; parked = [] }))
       ∷ first_zone 1 (at.Logical (record { zone = 0; notified = false; next = 0; places = []; held = []; waiting = []; retired = []; window = window; slots = [] }))
       ∷ first_zone 2 (at.Physical (record { notified = false; free = free_of head.geometry window }))
-      ∷ first_zone 3 (at.Journal (record { notified = false; busy = false; broken = false; blocks = 0; filling = []; waiting = []; entered = []; committed = [] }))
+      ∷ first_zone 3 (at.Journal (record { notified = false; busy = false; broken = false; log = first_log (run_sizes head used); filling = []; waiting = []; entered = []; committed = [] }))
       ∷ first_zone 4 (at.Device (record { stopped = false; calls = 0 }))
       ∷ []
 
@@ -78,7 +78,7 @@ module _ (head : Super) (window : List Entry) (used : ℕ) (script : Script) whe
       notified = refl;
       busy = refl;
       broken = refl;
-      blocks = refl;
+      log = ap first_log (sym over.sizes_is);
       filling = refl;
       waiting = refl;
       entered = refl;

@@ -28,7 +28,7 @@ one_use : (g : Geometry) (start : ℕ) (journal : List (List ℕ)) (last used us
 one_use g start journal last used used' (inl is) (inl is') = omega (arith, is.1, is'.1)
 one_use g start journal last used used' (inl is) (inr is') = absurd (is'.0 is.0)
 one_use g start journal last used used' (inr is) (inl is') = absurd (is.0 is'.0)
-one_use g start journal last used used' (inr is) (inr is') = is.1 ∙ sym is'.1
+one_use g start journal last used used' (inr is) (inr is') = omega (arith, is.1, is'.1)
 
 -- One oldest entry for a new page.
 

@@ -1,6 +1,6 @@
 -- Rows that pin what a core is and begins with, when it is done, and what there is to move and room for: for each clause a
 -- small case that it accepts, and one that breaks it alone.
-use Rattle.std.proofs.Common.{ℕ, ◌≡◌, ◌≤◌, ◌+◌, ◌-◌, ◌*◌, ◌^◌, Bool, true, false, List, [], ◌∷◌, length, replicate, Some, slice_get, refl, ap, sym, ◌∙◌, subst, inl, inr, arith}
+use Rattle.std.proofs.Common.{ℕ, ◌≡◌, ◌≤◌, ◌+◌, ◌-◌, ◌*◌, Bool, true, false, List, [], ◌∷◌, length, replicate, Some, slice_get, refl, ap, sym, ◌∙◌, subst, inl, inr, arith}
 use Rattle.std.proofs.lemmas.List.{length-replicate, nil_from_length}
 use Rattle.blk_base.specs.declared.geometry.Geometry.{Geometry}
 use Rattle.blk_base.specs.declared.journal_entry.Entry.{Entry}
@@ -170,22 +170,19 @@ room-not_past_it z room = let count = length-replicate 926 StopNotice in omega (
 room-not_past_it_in_an_outbox : (z : Zone) → HasRoomFor 1 (record z { ports = record z.ports { inbox = []; outboxes = [] ∷ replicate 926 StopNotice ∷ [] } }) → ⊥
 room-not_past_it_in_an_outbox z room = let count = length-replicate 926 StopNotice in omega (arith, count, room.outboxes.1.0)
 
--- IsSized: one logical zone at least, four at most, and sequences that are numbers of their type
+-- IsSized: one logical zone at least, four at most
 module _ (g : Geometry) where
   abbrev sizes : ℕ → ℕ → Sizes
   sizes start zones = record { geometry = g; start = start; opened = 0; zones = zones; depth = 1 }
 
   sized : IsSized (sizes 1 4)
-  sized = record { zones = omega arith; few = omega arith; sequences = omega arith }
+  sized = record { zones = omega arith; few = omega arith }
 
   sized-not_without_a_zone : IsSized (sizes 1 0) → ⊥
   sized-not_without_a_zone is = omega (arith, is.zones)
 
   sized-not_with_five : IsSized (sizes 1 5) → ⊥
   sized-not_with_five is = omega (arith, is.few)
-
-  sized-not_past_the_numbers : IsSized (sizes (2 ^ 64 - 1024) 1) → ⊥
-  sized-not_past_the_numbers is = omega (arith, is.sequences)
 
   -- CanStep: that, the script of its desk, and its room
   module _ (z : Zone) (served : IsServedBy (sizes 1 4) z.keeps) (within : IsWithin z) where
@@ -271,7 +268,7 @@ module _ (g : Geometry) where
     begins-not_with_another_window : (script : Script) (can : CanBegin (sizes 1 1) script window) → can.committed ≡ [] → 1 ≤ length window → ⊥
     begins-not_with_another_window script can none some = let size = ap length (can.window_is ∙ ap said_by none) in omega (arith, size, some)
 
-    -- all slots are used where no block may follow the last one
+    -- all slots but one are used where no block may follow the last one
     begins-not_behind_a_torn_block : (script : Script) (can : CanBegin (sizes 1 1) script window) → (GoesOn g 1 can.journal can.last → ⊥) → ⊥
     begins-not_behind_a_torn_block script can torn = elim can.opened [
       | inl used ↦ torn used.0

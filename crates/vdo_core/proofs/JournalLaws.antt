@@ -75,6 +75,11 @@ module _ (image : Blocks) (g : Geometry) (start last : ℕ) (window : List Commi
   sealed_from used (inl goes_on) = (blocks_behind goes_on.0).0
   sealed_from used (inr none) = []
 
+-- one slot of the journal stays free
+pub leaves_one : (g : Geometry) (start : ℕ) (journal : List (List ℕ)) (last used : ℕ) → AreUsed g start journal last used → used + 1 ≤ g.journal
+leaves_one g start journal last used (inl goes_on) = let left = goes_on.0.left in omega (arith, left, goes_on.1)
+leaves_one g start journal last used (inr none) = omega (arith, none.1)
+
 -- So the journal of a session's image has whole blocks, or none is left.
 pub stands : (s : Session) (last : ℕ) (window : List CommittedEntry) (some : 1 ≤ s.sizes.start) (count : length (journal_of s.sizes.geometry s.image) ≡ s.sizes.geometry.journal)
     (is : IsWindow s.sizes.geometry s.sizes.start (journal_of s.sizes.geometry s.image) last window) → s.window ≡ said_by window

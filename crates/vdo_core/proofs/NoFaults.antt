@@ -1,5 +1,5 @@
 -- In a legal core no zone is past its room, and no step and no other event fails.
-use Rattle.std.proofs.Common.{◌≡◌, ◌<◌, ◌≤◌, ◌+◌, ◌*◌, ◌++◌, ◌⊎◌, ℕ, Bool, Some, List, [], ◌∷◌, length, slice_get, sym, subst, arith, inl, inr}
+use Rattle.std.proofs.Common.{◌≡◌, ◌<◌, ◌≤◌, ◌+◌, ◌*◌, ◌++◌, ℕ, Bool, Some, List, [], ◌∷◌, length, slice_get, sym, subst, arith, inl, inr}
 use Rattle.std.proofs.lemmas.Nat.{mul-le}
 use Rattle.disk_model.specs.Seen.{Seen}
 use Rattle.vdo_model.specs.Scripts.{Script}
@@ -12,7 +12,7 @@ use Rattle.core_model.specs.declared.zones.ZoneData.TheVariants as at
 use Rattle.core_model.specs.Facts.{DataOk}
 use Rattle.core_model.specs.Legal.{Legal}
 use Rattle.core_model.specs.SessionLimits.{IsLimited}
-use Rattle.core_model.specs.Sessions.{HasNoneLeft, HasWholeBlocks, Session, IsSession}
+use Rattle.core_model.specs.Sessions.{Session, IsSession}
 use Rattle.core_model.specs.Steps.{Core}
 use Rattle.core_model.specs.Trace.{Trace, lines}
 use Rattle.core_laws.proofs.kept.LegalMoves.{legal_leads}
@@ -28,19 +28,10 @@ use Rattle.vdo_core.specs.declared.events.Event.TheVariants as event
 use Rattle.vdo_core.proofs.NoStrays.{none_stray}
 use Rattle.vdo_core.proofs.PlayLaws.{played_leads}
 
--- no more blocks of the journal are used than there are
-few_used : (s : Session) → IsSession s → s.sizes.opened ≤ s.sizes.geometry.journal
-few_used s session = by session.journal
-  where
-    by : HasWholeBlocks s ⊎ HasNoneLeft s → s.sizes.opened ≤ s.sizes.geometry.journal
-    by (inl whole) = omega (arith, whole.at_rest.ring.ring, whole.all_needed, whole.opened)
-    by (inr none) = omega (arith, none.full)
-
 session_sized : (s : Session) → IsSession s → IsSized s.sizes
 session_sized s session = record {
   zones = omega (arith, session.zones);
   few = session.limits.zones;
-  sequences = omega (arith, session.start.1, few_used s session, session.sizes.journal.1);
 }
 
 served_by : (s : Session) (t : Trace) (n : ℕ) (d : ZoneData) → IsSession s → DataOk s t n d → IsServedBy s.sizes d

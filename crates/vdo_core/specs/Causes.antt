@@ -8,7 +8,7 @@ use Rattle.core_model.specs.declared.zones.Zone.{Zone}
 use Rattle.core_model.specs.declared.zones.ZoneData.{ZoneData}
 use Rattle.core_model.specs.declared.zones.ZoneData.TheVariants as at
 use Rattle.core_model.specs.Limits.{HasRoomToBegin, IsWithin}
-use Rattle.core_model.specs.SessionLimits.{IsLimited, most_blocks, most_zones}
+use Rattle.core_model.specs.SessionLimits.{IsLimited, most_zones}
 use Rattle.core_model.specs.Steps.{Act, MayBegin}
 use Rattle.core_model.specs.Trace.{Trace}
 use Rattle.core_model.specs.Vios.{Post}
@@ -25,11 +25,10 @@ use Rattle.vdo_core.specs.declared.events.Event.TheVariants as event
 abbrev pub HasLane : Sizes → Zone → Post → Type 0
 HasLane sizes z post = (zone_number sizes post.0 ≡ z.number) ⊎ (zone_number sizes post.0 < length z.ports.outboxes)
 
--- the session is no larger than it may be: there is a logical zone, and the sequence of each block is a number of its type
+-- there is a logical zone, and no more than there may be
 pub record IsSized (sizes : Sizes) : Type 0 where
   pub zones : 0 < sizes.zones
   pub few : sizes.zones ≤ most_zones
-  pub sequences : sizes.start + (sizes.opened + most_blocks) < 2 ^ 64
 
 -- and so is the script of the desk
 abbrev pub IsServedBy : Sizes → ZoneData → Type 0

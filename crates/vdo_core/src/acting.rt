@@ -6,7 +6,6 @@ ghost use Rattle.core_model.specs.Steps.{Act, CallsDevice};
 ghost use Rattle.step_parts.specs.Acts.{Acts, ActsAlone};
 ghost use Rattle.step_parts.specs.Causes.{NoRule};
 ghost use Rattle.steps_device.specs.DeviceCalls.{Fits};
-ghost use Rattle.steps_journal.specs.Counts.{CanCount};
 
 use core_model::{Item, Sizes, ZoneData};
 use disk_model::Disk;
@@ -20,7 +19,6 @@ pub(crate) fn act(
     posts: &mut Posts,
 ) -> Result<(), Stray>
     requires other { CallsDevice keeps.old → ⊥ }
-    requires counts { CanCount sizes.now }
     requires few { sizes.now.zones ≤ most_zones }
     requires within { IsDataWithin (2 ^ 64 - 2) keeps.old }
     requires none { posts.old ≡ [] }

@@ -68,7 +68,7 @@ impl Model for Core {
 
 impl Core {
     /// The core at the start of a session over an image that was opened, with its superblock, how many blocks of its journal
-    /// are used (all of them where a session may not go on behind its last one), and the entries of its window, the oldest
+    /// are used (all but one where a session may not go on behind its last one), and the entries of its window, the oldest
     /// first. It has the requests, no one of which is begun, and takes all the room that the session will need. It fails where
     /// no memory is found for it.
     pub fn begin(

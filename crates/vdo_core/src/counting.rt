@@ -1,11 +1,11 @@
-ghost use Rattle.std.specs.Prelude.{◌≡◌, ◌+◌, ◌^◌, ◌<◌, ◌≤◌, ◌↔◌, IsTrue, true, false};
+ghost use Rattle.std.specs.Prelude.{◌≡◌, ◌<◌, ◌≤◌, ◌↔◌, IsTrue, true, false};
 ghost use Rattle.core_model.specs.Limits.{IsDataWithin, IsWithin};
-ghost use Rattle.core_model.specs.SessionLimits.{IsLimited, most_blocks};
+ghost use Rattle.core_model.specs.SessionLimits.{IsLimited};
 ghost use Rattle.core_model.specs.Steps.{step_limit};
 ghost use Rattle.vdo_core.specs.Causes.{CanStep, IsServedBy, IsSized};
 
 use core_model::{
-    Desk, MOST_BLOCKS, MOST_DEPTH, MOST_REQUESTS, MOST_STREAMS, MOST_ZONES, Sizes, Zone, ZoneData,
+    Desk, MOST_DEPTH, MOST_REQUESTS, MOST_STREAMS, MOST_ZONES, Sizes, Zone, ZoneData,
 };
 
 /// Whether a zone may step once more: it made fewer than 2^64 - 1 steps.
@@ -21,17 +21,7 @@ fn is_sized(sizes: &Sizes) -> bool
     ensures { IsTrue result ↔ IsSized sizes.now }
 {
     let zones = usize::from(sizes.zones);
-    0 < zones && zones <= MOST_ZONES && has_sequences(sizes)
-}
-
-// Whether the sequence of each block that is sealed is a number of its type.
-fn has_sequences(sizes: &Sizes) -> bool
-    ensures { IsTrue result ↔ (sizes.now.start + (sizes.now.opened + most_blocks) < 2 ^ 64) }
-{
-    sizes
-        .start
-        .checked_add(u64::from(sizes.opened) + MOST_BLOCKS as u64)
-        .is_some()
+    0 < zones && zones <= MOST_ZONES
 }
 
 // Whether the script of a desk is no larger than it may be.

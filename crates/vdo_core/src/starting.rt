@@ -1,5 +1,6 @@
-ghost use Rattle.std.specs.Prelude.{◌≡◌, ◌+◌, ◌<◌, ◌≤◌, [], ◌∷◌, ◌++◌, IfOk, OnOk, length, reverse};
+ghost use Rattle.std.specs.Prelude.{◌≡◌, ◌+◌, ◌<◌, ◌≤◌, ◌^◌, [], ◌∷◌, ◌++◌, IfOk, OnOk, length, reverse};
 ghost use Rattle.std.specs.List.{AllByRecursion};
+ghost use Rattle.blk_base.specs.Limits.{IsGeometry};
 ghost use Rattle.core_model.specs.Zones as numbers;
 ghost use Rattle.core_model.specs.Sessions.{Session, IsServed};
 ghost use Rattle.core_model.specs.SessionLimits.{most_requests, most_streams, requests_in};
@@ -85,13 +86,16 @@ fn add_others(
     free: Vec<Pbn>,
     zones: &mut Vec<Zone>,
 ) -> Result<(), AllocError>
-    requires { length zones.old.items ≡ numbers.physical_zone sizes.now }
+    requires count { length zones.old.items ≡ numbers.physical_zone sizes.now }
+    requires geometry { IsGeometry sizes.now.geometry }
+    requires start { (1 ≤ sizes.now.start) × (sizes.now.start < 2 ^ 54) }
+    requires room { sizes.now.opened + 1 ≤ sizes.now.geometry.journal }
     ensures count { OnOk result (length zones.new.items ≡ numbers.zone_count sizes.now) }
     ensures first { OnOk result ((s : Session) → s.sizes ≡ sizes.now → s.free ≡ free.items → Each (IsFirstZone s) zones.old.items → Each (IsFirstZone s) zones.new.items) }
 {
     let physical = ZoneData::Physical(steps_physical::first(free));
     add(alloc, sizes, physical_zone(sizes), physical, zones)?;
-    let journal = steps_journal::first(alloc)?;
+    let journal = steps_journal::first(alloc, sizes)?;
     add(
         alloc,
         sizes,
@@ -114,6 +118,9 @@ pub fn begin(
     window: &[Entry],
     free: Vec<Pbn>,
 ) -> Result<Zones, AllocError>
+    requires geometry { IsGeometry sizes.now.geometry }
+    requires start { (1 ≤ sizes.now.start) × (sizes.now.start < 2 ^ 54) }
+    requires room { sizes.now.opened + 1 ≤ sizes.now.geometry.journal }
     requires served { AllByRecursion (AllByRecursion IsServed) requests }
     requires streams { length requests ≤ most_streams }
     requires few { requests_in requests ≤ most_requests }

@@ -1,6 +1,6 @@
 -- What the acts of the device zone owe: it stores, loads and flushes for requests, and flushes and writes for sealed blocks.
-use Rattle.std.proofs.Common.{◌≡◌, ℕ, zero, suc, ◌+◌, ◌<◌, ◌≤◌, Bool, true, false, Some, IsSome, List, [], ◌∷◌, ◌++◌, refl, ap, sym, ◌∙◌, subst, inl, inr, arith, ◌⊎◌}
-use Rattle.core_laws.proofs.Common.{all_logged, all_of, AllByRecursion, asked, Asks, AtRest, Call, calls, Calls, DataOk, DeviceZone, done, each_at, ended, entered, Entry, eqb_tells, every-map, Fails, FailureMayFollow, Happening, has_read_fault, has_stopped, HasAddress, HasCause, HasHonestReads, HasWholeBlocks, is_ok, is_read, IsChange, IsEarned, IsFresh, IsMadeFor, IsOpen, IsSealed, IsSession, IsToFresh, KeptOk, Lba, log, logged, Logged, logical_zones, Mapping, MapsTo, MayFollow, moments, NewReads, NewStands, notified, OnBlock, OnItsWay, Pbn, place_of, places, Post, ReadsAs, ReadsBlock, request_of, RightTrace, same_self, same_Some, SealedBlock, Session, Sizes, some_is, Stage, StandsAt, Trace, value_at, value_from, Vio, VioOk, Writer, zone_count, zone_number}
+use Rattle.std.proofs.Common.{◌≡◌, ℕ, zero, suc, ◌+◌, ◌<◌, ◌≤◌, Bool, true, false, Some, IsSome, List, [], ◌∷◌, ◌++◌, map, refl, ap, sym, ◌∙◌, subst, inl, inr, arith, ◌⊎◌}
+use Rattle.core_laws.proofs.Common.{all_logged, all_of, AllByRecursion, asked, Asks, AtRest, Call, calls, Calls, DataOk, DeviceZone, done, each_at, ended, entered, Entry, entry_of, eqb_tells, every-map, Fails, FailureMayFollow, Happening, has_read_fault, has_stopped, HasAddress, HasCause, HasHonestReads, HasWholeBlocks, is_ok, is_read, IsChange, IsEarned, IsFresh, IsMadeFor, IsOpen, IsSealed, IsSession, IsToFresh, KeptOk, Lba, log, logged, Logged, logical_zones, Mapping, MapsTo, MayFollow, moments, NewReads, NewStands, notified, OnBlock, OnItsWay, Pbn, place_of, places, Post, ReadsAs, ReadsBlock, request_of, RightTrace, same_self, same_Some, SealedBlock, Session, Sizes, some_is, Stage, StandsAt, Trace, value_at, value_from, Vio, VioOk, Writer, zone_count, zone_number}
 use Rattle.image_layout.specs.Values.{mapping_of}
 use Rattle.vdo_model.specs.FlushMarks.{IsMark, successes}
 use Rattle.core_model.specs.declared.items.Asks.TheVariants.{Read, Write, Discard, Flush}
@@ -228,7 +228,8 @@ spelled s t v session right k =
       fresh = has.fresh;
     }
 
-module _ (s : Session) (t : Trace) (b : SealedBlock) (session : IsSession s) (vios : AllByRecursion (KeptOk s t phase.Pending) b.vios) (right : RightTrace s t) (k : IsSealed s t b.vios b.sequence) where
+module _ (s : Session) (t : Trace) (b : SealedBlock) (session : IsSession s) (vios : AllByRecursion (KeptOk s t phase.Pending) b.vios) (right : RightTrace s t) (k : IsSealed s t b.vios b.sequence)
+    (head : b.head ≡ s.sizes.start) where
   abbrev es : List Logged
   es = all_logged b.vios
 
@@ -253,14 +254,15 @@ module _ (s : Session) (t : Trace) (b : SealedBlock) (session : IsSession s) (vi
 
   says : IsWhole s.sizes.geometry (next_of s.sizes.start (blocks_of s k.older)) (sealed_with s es) (journal_bytes s.sizes b)
   says =
-      subst (λ (entries : List Entry). IsWhole s.sizes.geometry (next_of s.sizes.start (blocks_of s k.older)) (sealed_with s es) (block_bytes s.sizes.geometry.nonce b.sequence s.sizes.start entries)) (entries_in_order b.vios)
+      subst (λ (first : ℕ). IsWhole s.sizes.geometry (next_of s.sizes.start (blocks_of s k.older)) (sealed_with s es) (block_bytes s.sizes.geometry.nonce b.sequence first (map (λ (v : Vio). entry_of (logged v)) b.vios))) (sym head)
+      (subst (λ (entries : List Entry). IsWhole s.sizes.geometry (next_of s.sizes.start (blocks_of s k.older)) (sealed_with s es) (block_bytes s.sizes.geometry.nonce b.sequence s.sizes.start entries)) (entries_in_order b.vios)
       (subst (λ (m : ℕ). IsWhole s.sizes.geometry (next_of s.sizes.start (blocks_of s k.older)) (sealed_with s es) (block_bytes s.sizes.geometry.nonce m s.sizes.start (sealed_with s es).entries)) (sym sequence_is)
-      (spelled_whole s.sizes.geometry (next_of s.sizes.start (blocks_of s k.older)) (sealed_with s es) can_seal.holds))
+      (spelled_whole s.sizes.geometry (next_of s.sizes.start (blocks_of s k.older)) (sealed_with s es) can_seal.holds)))
 
   place_is : (slot : Pbn) → IsItsSlot s.sizes b slot → slot.0 ≡ slot_place s.sizes.geometry (next_of s.sizes.start (blocks_of s k.older))
   place_is slot place = place ∙ ap (λ m. block_of_slot (journal_slot_of s.sizes.geometry m)) sequence_is
 
-module _ (s : Session) (t : Trace) (b : SealedBlock) (session : IsSession s) (vios : AllByRecursion (KeptOk s t phase.Pending) b.vios) where
+module _ (s : Session) (t : Trace) (b : SealedBlock) (session : IsSession s) (vios : AllByRecursion (KeptOk s t phase.Pending) b.vios) (head : b.head ≡ s.sizes.start) where
   -- what a call leaves, at each stage
   pub record Made (h : Happening) (next : Stage) : Type 0 where
     pub right : RightTrace s (h ∷ t)
@@ -269,16 +271,16 @@ module _ (s : Session) (t : Trace) (b : SealedBlock) (session : IsSession s) (vi
   -- the slot is written
   module _ (right : RightTrace s t) (k : IsSealed s t b.vios b.sequence) (slot : Pbn) (place : IsItsSlot s.sizes b slot) (rest : AtRest s t k.older) (new : NewStands s t (all_logged b.vios)) where
     way_on : (ok : Bool) → OnItsWay s (Calls (call.Write slot (journal_bytes s.sizes b) ok) ∷ t) k.older (all_logged b.vios)
-    way_on ok = slot_way s t k.older (all_logged b.vios) slot (journal_bytes s.sizes b) session (all_fresh s t b session vios right k) (can_seal s t b session vios right k) (place_is s t b session vios right k slot place)
-        (says s t b session vios right k) right (left_before s t b session vios right k) k.sealed_is rest new ok
+    way_on ok = slot_way s t k.older (all_logged b.vios) slot (journal_bytes s.sizes b) session (all_fresh s t b session vios right k head) (can_seal s t b session vios right k head) (place_is s t b session vios right k head slot place)
+        (says s t b session vios right k head) right (left_before s t b session vios right k head) k.sealed_is rest new ok
 
     reads_on : ReadsBlock s (Calls (call.Write slot (journal_bytes s.sizes b) true) ∷ t) k.older (all_logged b.vios)
-    reads_on = slot_reads s t k.older (all_logged b.vios) slot (journal_bytes s.sizes b) session (all_fresh s t b session vios right k) (can_seal s t b session vios right k) (place_is s t b session vios right k slot place)
-        (says s t b session vios right k) right (left_before s t b session vios right k) k.sealed_is rest new
+    reads_on = slot_reads s t k.older (all_logged b.vios) slot (journal_bytes s.sizes b) session (all_fresh s t b session vios right k head) (can_seal s t b session vios right k head) (place_is s t b session vios right k head slot place)
+        (says s t b session vios right k head) right (left_before s t b session vios right k head) k.sealed_is rest new
 
     right_on : (h : Happening) (ok : Bool) → IsCallOf h (call.Write slot (journal_bytes s.sizes b) ok) → MayFollow s h t → AtRest s (h ∷ t) k.older ⊎ OnItsWay s (h ∷ t) k.older (all_logged b.vios) → RightTrace s (h ∷ t)
-    right_on h ok is may stands = slot_call s t k.older (all_logged b.vios) slot (journal_bytes s.sizes b) session (all_fresh s t b session vios right k) (can_seal s t b session vios right k)
-        (place_is s t b session vios right k slot place) (says s t b session vios right k) right (left_before s t b session vios right k) k.sealed_is rest new h ok is may stands k.committed_is
+    right_on h ok is may stands = slot_call s t k.older (all_logged b.vios) slot (journal_bytes s.sizes b) session (all_fresh s t b session vios right k head) (can_seal s t b session vios right k head)
+        (place_is s t b session vios right k head slot place) (says s t b session vios right k head) right (left_before s t b session vios right k head) k.sealed_is rest new h ok is may stands k.committed_is
 
   module _ (goes : has_stopped t ≡ false) where
     -- one that succeeds
@@ -368,6 +370,9 @@ module _ {s : Session} {t : Trace} {n : ℕ} {old : DeviceZone} {b : SealedBlock
   stands : StandsAt s t b.vios b.sequence b.stage
   stands = known.front_ok.0.0.1
 
+  head_is : b.head ≡ s.sizes.start
+  head_is = known.front_ok.0.0.2
+
   clears : {h : Happening} (slot : Pbn) (success : Bool) (c : Call) → IsCallOf h c → IsItsSlot s.sizes b slot → call_of s.sizes b slot success b.stage ≡ Some c → Clears s n (Mine s t (at.Device old) (item.Block b ∷ [])) h t
   clears slot success c is place of_stage = call_clears is known.own.number_is
       (λ x. inr (λ inside. block_spared is x (misses_data s b b.stage slot success c (let some = known.session.sizes.journal.0 in omega (arith, some)) place of_stage x inside))) (inl (weighed (omega arith)))
@@ -375,19 +380,19 @@ module _ {s : Session} {t : Trace} {n : ℕ} {old : DeviceZone} {b : SealedBlock
   pub device_works : (new : DeviceZone) (made : Trace) (posts : List Post) → DeviceWorks s.sizes old b new made posts → ActKept s t n (at.Device old) (item.Block b ∷ []) (at.Device new) made posts
   device_works new made posts (device.makes c slot v vs first place is runs e m p) =
       let k = known.own in
-      let now = makes_by s t b known.session vios_ok (sym k.lists.stopped_is ∙ runs) b.stage c slot place is known.right stands in
+      let now = makes_by s t b known.session vios_ok head_is (sym k.lists.stopped_is ∙ runs) b.stage c slot place is known.right stands in
       rw (e, m, p) (act_one known (Calls c) (clears slot true c succeeded place is) (λ g honest. g (honest_before s (Calls c) t honest)) now.right
       (after_call k c (call_is s.sizes b b.stage c slot true is).0)
-      ((zone_is s b b.stage c slot is, ((vios_over s t succeeded b.vios vios_ok, now.stands), refl)), tt))
+      ((zone_is s b b.stage c slot is, ((vios_over s t succeeded b.vios vios_ok, now.stands, head_is), refl)), tt))
   device_works new made posts (device.fails c slot kept v vs first place is runs e m p) =
       let k = known.own in
       let h = Fails v.request c kept in
       let is_open = (each_at (KeptOk s t phase.Pending) v vs b.vios first vios_ok).0.0.is_open in
-      let now = fails_by s t b known.session vios_ok (sym k.lists.stopped_is ∙ runs) b.stage c slot kept v.request is_open place is known.right stands in
+      let now = fails_by s t b known.session vios_ok head_is (sym k.lists.stopped_is ∙ runs) b.stage c slot kept v.request is_open place is known.right stands in
       let says_so = call_is s.sizes b b.stage c slot false is in
       let stops : has_stopped (h ∷ t) ≡ true = rw says_so.1 refl in
       rw (e, m, p) (act_one known h (clears slot false c failed place is) (λ g honest. g honest) now.right
       (after_failure k v.request c kept true says_so.0 (sym stops))
-      ((omega arith, ((vios_over s t {h = h} failed b.vios vios_ok, now.stands), refl)), notices_ok s (h ∷ t) stops))
+      ((omega arith, ((vios_over s t {h = h} failed b.vios vios_ok, now.stands, head_is), refl)), notices_ok s (h ∷ t) stops))
   device_works new made posts (device.unmade c slot v vs first is halts e m p) =
-      rw (e, m, p) (act_none known known.own ((omega arith, ((vios_ok, unmade_by s t b b.stage c slot (sym known.own.lists.stopped_is ∙ halts) is stands), refl)), tt))
+      rw (e, m, p) (act_none known known.own ((omega arith, ((vios_ok, unmade_by s t b b.stage c slot (sym known.own.lists.stopped_is ∙ halts) is stands, head_is), refl)), tt))

@@ -1,7 +1,7 @@
 -- What the acts of the journal owe: entries are handed in, wait, or are refused; a block is sealed, and its entries are
 -- committed, or it failed.
-use Rattle.std.proofs.Common.{◌≡◌, ◌≢◌, ◌++◌, ◌≤◌, suc, Option, append_assoc, length-append, ℕ, ◌<◌, true, Some, IsNone, IsSome, List, [], ◌∷◌, refl, ap, arith, ◌+◌, Bool, false, length, sym, ◌∙◌, inl, inr, subst, nat_lt}
-use Rattle.core_laws.proofs.Common.{all_logged, all_of, AllByRecursion, asked, Asks, AtRest, bit, BlockOk, Carries, Commits, committed, DataOk, done, each_at, entered, Enters, every-append, filled, Happening, has_stopped, HasCause, HasFullJournal, HasPendingEntry, HasPlace, holder_weight, Holds, IsChange, IsFull, IsPlaced, IsSession, JournalLists, JournalZone, KeptEach, KeptOk, Lba, Logged, logged, logged_of, ltb-false, ltb-true, Mapping, MapsTo, MayReply, NewReads, OnBlock, or_parts, place_of, places, Post, ReadsAs, Request, RestsAt, RightTrace, same_self, same_tells, same_writer, sealed, SealedBlock, Seals, Session, some_is, Stage, StandsAt, total, Trace, turned, value_written, Vio, VioOk, Writer, zone_count, zone_number, zone_of, zone_of_stage}
+use Rattle.std.proofs.Common.{◌≡◌, ◌≢◌, ◌++◌, ◌≤◌, suc, Option, append_assoc, length-append, ℕ, ◌<◌, true, Some, IsNone, IsSome, List, [], ◌∷◌, refl, ap, arith, ◌+◌, Bool, false, length, sym, ◌∙◌, inl, inr, subst}
+use Rattle.core_laws.proofs.Common.{all_logged, all_of, AllByRecursion, asked, Asks, AtRest, bit, BlockOk, Carries, Commits, committed, DataOk, done, each_at, entered, Enters, entry_of, every-append, filled, Happening, has_stopped, HasCause, HasFullJournal, HasPendingEntry, HasPlace, holder_weight, Holds, IsChange, IsFull, IsPlaced, IsSession, JournalLists, JournalZone, KeptEach, KeptOk, Lba, Logged, logged, logged_of, ltb-false, ltb-true, Mapping, MapsTo, MayReply, NewReads, OnBlock, or_parts, place_of, places, Post, ReadsAs, Request, RestsAt, RightTrace, same_self, same_tells, same_writer, sealed, SealedBlock, Seals, Session, some_is, Stage, StandsAt, total, Trace, turned, value_written, Vio, VioOk, Writer, zone_count, zone_number, zone_of, zone_of_stage}
 use Rattle.std.proofs.Math.Nat.{mod-lt}
 use Rattle.core_model.specs.declared.items.Asks.TheVariants.{Read, Write, Discard, Flush}
 use Rattle.core_model.specs.JournalRows.{JournalEnds, JournalServes, all_again, all_dropped, all_refused, entered_by, hands_out, has_block, has_room, is_closed, next_block, refused}
@@ -10,6 +10,7 @@ use Rattle.core_laws.proofs.lists.Changes.{maps_change}
 use Rattle.core_laws.proofs.trace.DeskOfTrace.{shown_of}
 use Rattle.core_laws.proofs.trace.AbortsOfTrace.{unentered_abort}
 use Rattle.core_laws.proofs.kept.Keys.{Clears, Key, OfAddress, OfJournal, OfRequest, any, holder_one, idle_none, own_name, token_of}
+use Rattle.core_laws.proofs.journal.LogLaws.{filling_length, log_committed, log_entered, log_sealed}
 use Rattle.core_laws.proofs.journal.SealedBlocks.{logged_length}
 use Rattle.core_laws.proofs.kept.Spared.{mapping_same, of_same}
 use Rattle.core_laws.proofs.kept.StandsOn.{SparesBlock, SparesMap, journal_kept, new_reads_kept, on_each, reads_kept, rests_kept, spares_all, stands_kept}
@@ -22,6 +23,7 @@ use Rattle.core_model.specs.declared.items.Item.TheVariants as item
 use Rattle.core_model.specs.declared.items.Stage.TheVariants as stage
 use Rattle.core_model.specs.declared.zones.ZoneData.TheVariants as at
 use Rattle.core_model.specs.JournalRows as journal
+use Rattle.recovery_journal.specs.Log.{head_of}
 
 -- once the session is stopped, a write or a discard whose slot isn't set may be answered so; where no block is left for it, one
 -- that has its place and isn't handed in is answered `Full`
@@ -94,8 +96,11 @@ filled_few s (Seals ∷ t) right = omega arith
 filled_few s (other ∷ t) right = filled_few s t right.2
 
 -- one that has no room left isn't empty
-crowded : (vs : List Vio) → nat_lt (length vs) 192 ≡ false → vs ≡ [] → ⊥
-crowded vs full none = let most = ltb-false (length vs) 192 full in omega (arith, most, ap length none)
+crowded : (s : Session) (t : Trace) (j : JournalZone) → JournalLists s t j → j.broken ≡ false → has_room j ≡ false → j.filling ≡ [] → ⊥
+crowded s t j lists sound full none =
+    let most = ltb-false (length j.log.filling) 192 full in
+    let same = ap length (lists.filled_is sound) in
+    omega (arith, most, filling_length s t j.log lists.log_is, same, logged_length j.filling, ap length none)
 
 -- one more request, whose entry is the newest
 logged_last : (vs : List Vio) (v : Vio) → all_logged (vs ++ v ∷ []) ≡ logged v ∷ all_logged vs
@@ -181,21 +186,31 @@ busy_sound s t true broken is k = k
 busy_sound s t false broken is k = absurd cc
 
 -- where there is no block for one more entry, the journal is full
-pub full_now : (s : Session) (t : Trace) (j : JournalZone) → JournalLists t j → has_block s.sizes j ≡ false → HasFullJournal s t
-full_now s t j lists none = (let less = ltb-false (s.sizes.opened + j.blocks + 1) s.sizes.geometry.journal none in let same = lists.blocks_is in omega (arith, less, same))
+pub full_now : (s : Session) (t : Trace) (j : JournalZone) → JournalLists s t j → has_block j ≡ false → HasFullJournal s t
+full_now s t j lists none =
+    let less = ltb-false (j.log.sequence + 1) (head_of j.log + j.log.size) none in
+    let sequence = lists.log_is.sequence_is in
+    let head = lists.log_is.head_is in
+    let size = lists.log_is.size_is in
+    omega (arith, less, sequence, head, size)
 
 -- The journal serves a request.
 module _ {s : Session} {t : Trace} {n : ℕ} {old : JournalZone} {v : Vio} (known : Known s t n (at.Journal old) (item.Request v ∷ [])) where
   -- its entry is handed in
-  module _ (is : v.phase ≡ phase.Enter) (closed : is_closed old ≡ false) (block : has_block s.sizes old ≡ true) (room : has_room old ≡ true) where
+  module _ (is : v.phase ≡ phase.Enter) (closed : is_closed old ≡ false) (block : has_block old ≡ true) (room : has_room old ≡ true) where
     sound : old.broken ≡ false
     sound = (or_parts old.notified old.broken closed).1
 
     block_left : s.sizes.opened + length (sealed t) + 1 < s.sizes.geometry.journal
-    block_left = let less = ltb-true (s.sizes.opened + old.blocks + 1) s.sizes.geometry.journal block in let same = known.own.lists.blocks_is in omega (arith, less, same)
+    block_left =
+        let less = ltb-true (old.log.sequence + 1) (head_of old.log + old.log.size) block in
+        let sequence = known.own.lists.log_is.sequence_is in
+        let head = known.own.lists.log_is.head_is in
+        let size = known.own.lists.log_is.size_is in
+        omega (arith, less, sequence, head, size)
 
     room_left : length (filled t) < 192
-    room_left = let less = ltb-true (length old.filling) 192 room in let same = ap length (known.own.lists.filled_is sound) in omega (arith, less, same, logged_length old.filling)
+    room_left = let less = ltb-true (length old.log.filling) 192 room in omega (arith, less, filling_length s t old.log known.own.lists.log_is)
 
     entry_clears : Clears s n (Mine s t (at.Journal old) (item.Request v ∷ [])) (Enters (logged v)) t
     entry_clears = record {
@@ -220,10 +235,13 @@ module _ {s : Session} {t : Trace} {n : ℕ} {old : JournalZone} {v : Vio} (know
             entered_is = ap (λ es. logged v ∷ es) k.lists.entered_is;
             committed_is = k.lists.committed_is;
             filled_is = λ whole. logged_last old.filling (turned phase.Pending v) ∙ ap (λ es. logged v ∷ es) (k.lists.filled_is whole);
-            blocks_is = k.lists.blocks_is;
+            filling_few =
+                let few = k.lists.filling_few in
+                omega (arith, few, length-append old.filling (turned phase.Pending v ∷ []), length-append old.log.filling (entry_of (logged v) ∷ []));
+            log_is = log_entered s t old.log (logged v) k.lists.log_is;
           };
           sound = (
-            let less = ltb-true (length old.filling) 192 room in omega (arith, less, length-append old.filling (turned phase.Pending v ∷ [])),
+            let less = ltb-true (length old.log.filling) 192 room in let few = k.lists.filling_few in omega (arith, less, few, length-append old.filling (turned phase.Pending v ∷ [])),
             λ idle. absurd (let both : true ≡ false = sym works ∙ idle in cc),
           );
           kept = (
@@ -244,8 +262,14 @@ module _ {s : Session} {t : Trace} {n : ℕ} {old : JournalZone} {v : Vio} (know
       let k = known.own in
       rw (e, m, p) (act_none known (record {
         number_is = k.number_is;
-        lists = record { entered_is = k.lists.entered_is; committed_is = k.lists.committed_is; filled_is = k.lists.filled_is; blocks_is = k.lists.blocks_is };
-        sound = (k.sound.0, λ idle. absurd (crowded old.filling full (k.sound.1 idle).unfilled));
+        lists = record {
+          entered_is = k.lists.entered_is;
+          committed_is = k.lists.committed_is;
+          filled_is = k.lists.filled_is;
+          filling_few = k.lists.filling_few;
+          log_is = k.lists.log_is;
+        };
+        sound = (k.sound.0, λ idle. absurd (crowded s t old k.lists (or_parts old.notified old.broken closed).1 full (k.sound.1 idle).unfilled));
         kept = (k.kept.0, every-append (KeptOk s t phase.Enter) old.waiting (v ∷ []) k.kept.1 ((vio_ok known, known.front_ok.0.1, is), tt));
         answers = k.answers;
         told = k.told;
@@ -259,7 +283,7 @@ module _ {s : Session} {t : Trace} {n : ℕ} {old : JournalZone} {v : Vio} (know
       let rest = rests_idle s t old.busy old.broken idle (sound is closed block room) known.own.answers in
       rw (e, m, p) (act_one known h (entry_clears is closed block room) (λ g honest. g honest) (entry_right is closed block room)
       (entry_data is closed block room true refl (sound is closed block room))
-      ((omega arith, ((tt, (rest.0, rests_kept s h t (sealed t) tt (silent s t h (λ x. tt) (all_of (sealed t))) rest.1)), refl)), tt))
+      ((omega arith, ((tt, (rest.0, rests_kept s h t (sealed t) tt (silent s t h (λ x. tt) (all_of (sealed t))) rest.1), known.own.lists.log_is.head_is), refl)), tt))
 
 -- The journal hears that the session is stopped.
 pub journal_notified : {s : Session} {t : Trace} {n : ℕ} {old : JournalZone} → Known s t n (at.Journal old) (item.StopNotice ∷ [])
@@ -269,7 +293,13 @@ journal_notified {s} {t} {n} {old} known =
     let stopped = known.front_ok.0.0 in
     act_none known (record {
       number_is = k.number_is;
-      lists = record { entered_is = k.lists.entered_is; committed_is = k.lists.committed_is; filled_is = k.lists.filled_is; blocks_is = k.lists.blocks_is };
+      lists = record {
+        entered_is = k.lists.entered_is;
+        committed_is = k.lists.committed_is;
+        filled_is = k.lists.filled_is;
+        filling_few = k.lists.filling_few;
+        log_is = k.lists.log_is;
+      };
       sound = (k.sound.0, λ idle. record { unfilled = (k.sound.1 idle).unfilled; unawaited = refl });
       kept = (k.kept.0, tt);
       answers = k.answers;
@@ -318,6 +348,9 @@ module _ {s : Session} {t : Trace} {n : ℕ} {old : JournalZone} {b : SealedBloc
 
   stands_as : (q : Stage) → b.stage ≡ q → StandsAt s t b.vios b.sequence q
   stands_as q is = subst (StandsAt s t b.vios b.sequence) is known.front_ok.0.0.1
+
+  head_is : b.head ≡ s.sizes.start
+  head_is = known.front_ok.0.0.2
 
   -- the journal is busy, and didn't fail
   busy : old.busy ≡ true
@@ -424,9 +457,9 @@ module _ {s : Session} {t : Trace} {n : ℕ} {old : JournalZone} {b : SealedBloc
     kept_sealed : KeptEach (KeptOk s (Seals ∷ t)) (at.Journal old)
     kept_sealed = line_kept known Seals t seal_clears known.own.kept
 
-    block_sealed : BlockOk s (Seals ∷ t) (next_block s.sizes old stage.Cover (v ∷ vs))
+    block_sealed : BlockOk s (Seals ∷ t) (next_block old stage.Cover (v ∷ vs))
     block_sealed =
-        let blocks = known.own.lists.blocks_is in
+        let sequence = known.own.lists.log_is.sequence_is in
         let few = filled_few s t known.right in (
           subst (AllByRecursion (KeptOk s (Seals ∷ t) phase.Pending)) filling kept_sealed.0,
           (
@@ -436,29 +469,36 @@ module _ {s : Session} {t : Trace} {n : ℕ} {old : JournalZone} {b : SealedBloc
               committed_is = sym all_there.0;
               some = omega arith;
               few = omega (arith, few, count);
-              sequence = omega (arith, blocks);
+              sequence = omega (arith, sequence);
               left = left;
             },
             rest_sealed,
             subst (NewReads s (Seals ∷ t)) filled_is (new_reads_kept s Seals t (filled t) (spares_all Seals (λ x. tt) (filled t)) (shown_of s t known.right).filling),
           ),
+          known.own.lists.log_is.head_is,
         )
 
   pub journal_ends : (new : JournalZone) (made : Trace) (posts : List Post) → JournalEnds s.sizes old b new made posts → After new made posts
-  journal_ends new made posts (journal.commits v vs is vios e m p) =
+  journal_ends new made posts (journal.commits v vs is vios next_there e m p) =
       let k = known.own in
       let h = Commits (logged v) in
       rw (e, m, p) (act_one known h (clears v vs is vios) (λ g honest. g honest) (commit_right v vs is vios)
       (record {
         number_is = k.number_is;
-        lists = record { entered_is = k.lists.entered_is; committed_is = ap (λ es. logged v ∷ es) k.lists.committed_is; filled_is = k.lists.filled_is; blocks_is = k.lists.blocks_is };
+        lists = record {
+          entered_is = k.lists.entered_is;
+          committed_is = ap (λ es. logged v ∷ es) k.lists.committed_is;
+          filled_is = k.lists.filled_is;
+          filling_few = k.lists.filling_few;
+          log_is = log_committed s t old.log (logged v) k.lists.log_is;
+        };
         sound = k.sound;
         kept = line_kept known h t (clears v vs is vios) k.kept;
         answers = busy_on s t (h ∷ t) old.busy old.broken busy k.answers;
         told = k.told;
       })
-      (settle_post v vs is vios, ((omega arith, ((others v vs is vios, subst (StandsAt s (h ∷ t) vs b.sequence) (sym is) (next v vs is vios, rest_on v vs is vios)), ap (zone_of_stage s.sizes) (sym is))), tt)))
-  journal_ends new made posts (journal.seals v vs is done_with filling e m p) =
+      (settle_post v vs is vios, ((omega arith, ((others v vs is vios, subst (StandsAt s (h ∷ t) vs b.sequence) (sym is) (next v vs is vios, rest_on v vs is vios), head_is), ap (zone_of_stage s.sizes) (sym is))), tt)))
+  journal_ends new made posts (journal.seals v vs is done_with filling due e m p) =
       let k = known.own in
       let kept = kept_sealed v vs is done_with filling in
       rw (e, m, p) (act_one known Seals (seal_clears v vs is done_with filling) (λ g honest. g honest) (seal_right v vs is done_with filling)
@@ -468,7 +508,8 @@ module _ {s : Session} {t : Trace} {n : ℕ} {old : JournalZone} {b : SealedBloc
           entered_is = k.lists.entered_is;
           committed_is = k.lists.committed_is;
           filled_is = λ sound. refl;
-          blocks_is = let blocks = k.lists.blocks_is in omega (arith, blocks);
+          filling_few = omega arith;
+          log_is = log_sealed s t old.log k.lists.log_is (omega (arith, count v vs is done_with filling)) (all_there v vs is done_with filling).0;
         };
         sound = (omega arith, λ idle. record { unfilled = refl; unawaited = refl });
         kept = (tt, tt);
@@ -482,7 +523,13 @@ module _ {s : Session} {t : Trace} {n : ℕ} {old : JournalZone} {b : SealedBloc
       let there = stands.0 ∙ ap (λ (us : List Vio). all_logged us ++ committed t) done_with in
       rw (e, m, p) (act_none known (record {
         number_is = k.number_is;
-        lists = record { entered_is = k.lists.entered_is; committed_is = k.lists.committed_is; filled_is = k.lists.filled_is; blocks_is = k.lists.blocks_is };
+        lists = record {
+          entered_is = k.lists.entered_is;
+          committed_is = k.lists.committed_is;
+          filled_is = k.lists.filled_is;
+          filling_few = k.lists.filling_few;
+          log_is = k.lists.log_is;
+        };
         sound = (k.sound.0, λ idle. record { unfilled = filling; unawaited = refl });
         kept = (k.kept.0, tt);
         answers = subst (RestsAt s t false) (sym whole) (there, stands.1);
@@ -495,7 +542,13 @@ module _ {s : Session} {t : Trace} {n : ℕ} {old : JournalZone} {b : SealedBloc
       let stopped = fails.2 in
       rw (e, m, p) (act_none known (record {
         number_is = k.number_is;
-        lists = record { entered_is = k.lists.entered_is; committed_is = k.lists.committed_is; filled_is = λ sound. absurd cc; blocks_is = k.lists.blocks_is };
+        lists = record {
+          entered_is = k.lists.entered_is;
+          committed_is = k.lists.committed_is;
+          filled_is = λ sound. absurd cc;
+          filling_few = omega arith;
+          log_is = k.lists.log_is;
+        };
         sound = (omega arith, λ idle. record { unfilled = refl; unawaited = refl });
         kept = (tt, tt);
         answers = tt;

@@ -136,8 +136,8 @@ module _ (s : Session) (t : Trace) where
 
   end_course : (old : JournalZone) (b : SealedBlock) (new : JournalZone) (made : Trace) (posts : List Post) → KeptIn (at.Journal old) → JournalEnds s.sizes old b new made posts
       → Course s t (at.Journal old) (item.Block b ∷ []) made posts
-  end_course old b new made posts kept (journal.commits v vs c f n m q) = still refl (rw q (refl, (refl, tt))) (rw m refl) (λ zone. rw m refl)
-  end_course old b new made posts kept (journal.seals v vs c f g n m q) = still refl (rw q (refl, again_still old.waiting kept.1)) (rw m refl) (λ zone. rw m refl)
+  end_course old b new made posts kept (journal.commits v vs c f d n m q) = still refl (rw q (refl, (refl, tt))) (rw m refl) (λ zone. rw m refl)
+  end_course old b new made posts kept (journal.seals v vs c f g d n m q) = still refl (rw q (refl, again_still old.waiting kept.1)) (rw m refl) (λ zone. rw m refl)
   end_course old b new made posts kept (journal.rests c f g n m q) = still refl (rw q (again_still old.waiting kept.1)) (rw m refl) (λ zone. rw m refl)
   end_course old b new made posts kept (journal.fails c n m q) =
       still refl (rw q (every-append Still (all_dropped b.vios) (all_dropped old.filling ++ all_refused s.sizes _ old.waiting) (dropped_still b.vios)

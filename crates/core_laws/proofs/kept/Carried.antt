@@ -201,7 +201,7 @@ module _ (s : Session) (h : Happening) (t : Trace) where
   block_kept : (b : SealedBlock) → SparesItem (item.Block b) → BlockOk s t b → BlockOk s (h ∷ t) b
   block_kept b spares k =
       let journal = spares OfJournal (omega arith) in
-      (vios_kept b.vios (λ key some. spares key (omega (arith, some, block_weighs b key))) k.0, by_stage b.vios b.sequence b.stage journal.0 journal.1 (sealed_spared s h t journal.2) k.1)
+      (vios_kept b.vios (λ key some. spares key (omega (arith, some, block_weighs b key))) k.0, by_stage b.vios b.sequence b.stage journal.0 journal.1 (sealed_spared s h t journal.2) k.1, k.2)
 
   pub item_kept : (to : ℕ) (it : Item) → SparesItem it → ItemOk s t to it → ItemOk s (h ∷ t) to it
   item_kept to (item.Request v) spares k = (vio_kept v (own_spared v spares) k.0, carries_kept v spares k.1, k.2)

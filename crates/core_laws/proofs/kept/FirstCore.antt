@@ -10,7 +10,7 @@ use Rattle.image_layout.specs.Values.{journal_of}
 use Rattle.journal_codec.specs.Grammar.{IsSector}
 use Rattle.core_model.specs.declared.zones.ZoneData.TheVariants as at
 use Rattle.core_model.specs.Legal.{Legal}
-use Rattle.core_model.specs.Start.{IsFirstLogical, IsFirstData, IsFirstZone, IsFirst}
+use Rattle.core_model.specs.Start.{first_log, IsFirstLogical, IsFirstData, IsFirstZone, IsFirst}
 use Rattle.core_model.specs.Steps.{Core}
 use Rattle.core_laws.proofs.kept.FirstState.{legal_first}
 use Rattle.core_laws.proofs.lists.Zeros.{zeros_length}
@@ -138,7 +138,7 @@ abbrev small_physical : PhysicalZone
 small_physical = record { notified = false; free = run 85 64 }
 
 abbrev small_journal : JournalZone
-small_journal = record { notified = false; busy = false; broken = false; blocks = 0; filling = []; waiting = []; entered = []; committed = [] }
+small_journal = record { notified = false; busy = false; broken = false; log = first_log sizes; filling = []; waiting = []; entered = []; committed = [] }
 
 abbrev small_device : DeviceZone
 small_device = record { stopped = false; calls = 0 }
@@ -185,7 +185,7 @@ small_first n = record {
         (
           empty_first n 3 (at.Physical small_physical) (record { number_is = refl; notified = refl; free = refl }),
           (
-            empty_first n 4 (at.Journal small_journal) (record { number_is = refl; notified = refl; busy = refl; broken = refl; blocks = refl; filling = refl; waiting = refl; entered = refl; committed = refl }),
+            empty_first n 4 (at.Journal small_journal) (record { number_is = refl; notified = refl; busy = refl; broken = refl; log = refl; filling = refl; waiting = refl; entered = refl; committed = refl }),
             (empty_first n 5 (at.Device small_device) (record { number_is = refl; stopped = refl; calls = refl }), tt),
           ),
         ),

@@ -1,5 +1,6 @@
 -- A core at its start is legal, with an empty trace.
 use Rattle.std.proofs.Common.{◌≡◌, ℕ, suc, ◌⊎◌, ◌≤◌, Bool, false, not, List, [], ◌∷◌, ◌++◌, length, refl, sym, ◌∙◌, ap, subst, inl, inr, arith}
+use Rattle.core_laws.proofs.journal.LogLaws.{log_at_start}
 use Rattle.core_laws.proofs.Common.{all_logged, AllByRecursion, answers_of, arrival, as_items, AtMost, AtRest, Balanced, begins_of, bit, block_token, blocks_at, DataOk, desk_zone, DeskLine, Each, entry_token, every-get, given, HasBlocks, HasWholeBlocks, holder_token, in_log, is_answer, is_begin, is_block, is_entry, IsFresh, IsSession, Item, ItemOk, journal_token, KeptEach, KeptOk, Lba, lease_token, Lock, lock_weight, LocksOk, Logged, logical_zone, LogicalZone, made_by, MapOk, Mapping, newest, notice_token, notified_by, of_address, OnBlock, one_physical, Pbn, queued, request_token, RestsAt, room_token, Session, Shown, Stands, Token, total, Trace, Vio, weight, Zone, zone_count, ZoneData, ZoneOk}
 use Rattle.blk_base.specs.declared.place.Mapping.TheVariants.{Unmapped, Zero, At}
 use Rattle.image_layout.specs.Values.{mapping_of, value_in}
@@ -169,7 +170,13 @@ module _ (s : Session) (session : IsSession s) where
       record { number_is = h.number_is; lists = record { left = h.free }; sound = subst (λ (xs : List Pbn). AllByRecursion (IsFresh s) xs) (sym h.free) session.free; kept = tt; answers = tt; told = tt }
   data_at_start n (at.Journal j) h = record {
     number_is = h.number_is;
-    lists = record { entered_is = h.entered; committed_is = h.committed; filled_is = λ sound. ap all_logged h.filling; blocks_is = h.blocks };
+    lists = record {
+      entered_is = h.entered;
+      committed_is = h.committed;
+      filled_is = λ sound. ap all_logged h.filling;
+      filling_few = let none = ap length h.filling in omega (arith, none);
+      log_is = log_at_start s j.log h.log;
+    };
     sound = ((let none = ap length h.filling in omega (arith, none)), λ idle. record { unfilled = h.filling; unawaited = h.waiting });
     kept = nobody_at_start n (at.Journal j) h;
     answers = subst (λ (b : Bool). RestsAt s [] b j.broken) (sym h.busy) (subst (λ (b : Bool). RestsAt s [] false b) (sym h.broken) (refl, at_rest));

@@ -1,11 +1,12 @@
 -- A zone that weighs nothing for what a happening is about keeps all its facts. Paid once for all kinds of zone and item.
-use Rattle.std.proofs.Common.{◌≡◌, ◌≢◌, ◌⊎◌, ℕ, ◌≤◌, ◌==◌, Bool, true, false, Some, List, [], ◌∷◌, ◌++◌, slice_get, length, refl, ap, sym, ◌∙◌, subst, inl, inr, arith}
+use Rattle.std.proofs.Common.{◌≡◌, ◌≢◌, ◌⊎◌, ℕ, ◌≤◌, ◌==◌, Bool, true, false, Some, List, [], ◌∷◌, ◌++◌, slice_get, refl, ap, sym, ◌∙◌, subst, inl, inr, arith}
 use Rattle.core_laws.proofs.Common.{all_of, AllBelow, AllByRecursion, Answers, calls, Calls, Commits, committed, desk_zone, device_zone, done, drawn, Draws, Each, entered, Enters, eq-eqb, eqb_tells, every-front, Fails, filled, Flushes, Gives, Happening, has_stopped, HasLists, Item, ItemOk, journal_zone, kept_by, KeptEach, KeptOk, lines, logical_zone, marks, name_of, of_address, Phase, physical_zone, places, RestsAt, Says, sealed, Seals, Session, Sets, Sizes, taken, Takes, Token, total, total-append, total-get, Trace, Vio, WasTold, weight, Zone, zone_number, zone_of, ZoneData, ZoneOk}
 use Rattle.vdo_model.specs.FlushMarks.{successes}
 use Rattle.vdo_model.specs.ZoneOrder.{places_in}
 use Rattle.core_model.specs.declared.items.Item.TheVariants.{Request}
 use Rattle.core_model.specs.declared.items.Phase.TheVariants as phase
 use Rattle.core_model.specs.declared.zones.ZoneData.TheVariants as at
+use Rattle.core_laws.proofs.journal.LogLaws.{log_over}
 use Rattle.core_laws.proofs.kept.Carried.{kept_kept, item_kept}
 use Rattle.core_laws.proofs.kept.Keys.{Key, OfAddress, OfJournal, token_of, Spares, happens_in, Clears, mine_or_spared, free_one}
 use Rattle.core_laws.proofs.kept.Spared.{of_other, quiet_kept, stop_kept, abort_kept}
@@ -76,7 +77,8 @@ module _ (s : Session) (h : Happening) (t : Trace) where
     entered_is = k.entered_is ∙ sym same.0;
     committed_is = k.committed_is ∙ sym same.1;
     filled_is = λ sound. k.filled_is sound ∙ sym same.2;
-    blocks_is = k.blocks_is ∙ ap length (sym same.3);
+    filling_few = k.filling_few;
+    log_is = log_over s t (h ∷ t) j.log same.2 same.3 same.1 k.log_is;
   }
   lists_kept (at.Device d) off k = let same = device_same s.sizes h t off in record { calls_is = k.calls_is ∙ ap successes (sym same.0); stopped_is = k.stopped_is ∙ sym same.1 }
 

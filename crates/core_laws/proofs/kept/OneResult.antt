@@ -99,10 +99,10 @@ entry_at sizes j v true block room busy = (j, [], refused sizes reply.Stopped v 
 entry_at sizes j v false false room busy = (j, [], refused sizes reply.Full v ∷ [])
 entry_at sizes j v false true false busy = (record j { waiting = j.waiting ++ v ∷ [] }, [], [])
 entry_at sizes j v false true true true = (entered_by v j, Enters (logged v) ∷ [], [])
-entry_at sizes j v false true true false = (record (entered_by v j) { busy = true }, Enters (logged v) ∷ [], (id.Journal, item.Block (next_block sizes j stage.Commit [])) ∷ [])
+entry_at sizes j v false true true false = (record (entered_by v j) { busy = true }, Enters (logged v) ∷ [], (id.Journal, item.Block (next_block j stage.Commit [])) ∷ [])
 
 journal_is : (sizes : Sizes) (j : JournalZone) (v : Vio) (new : JournalZone) (made : Trace) (posts : List Post) → JournalServes sizes j v new made posts
-    → (new, made, posts) ≡ entry_at sizes j v (is_closed j) (has_block sizes j) (has_room j) j.busy
+    → (new, made, posts) ≡ entry_at sizes j v (is_closed j) (has_block j) (has_room j) j.busy
 journal_is sizes j v new made posts (JournalServes.is_stopped is closed n m q) = rw (n, m, q, closed) refl
 journal_is sizes j v new made posts (JournalServes.is_full is open_yet none n m q) = rw (n, m, q, open_yet, none) refl
 journal_is sizes j v new made posts (JournalServes.waits is open_yet block full n m q) = rw (n, m, q, open_yet, block, full) refl
@@ -112,7 +112,7 @@ journal_is sizes j v new made posts (JournalServes.enters_first is open_yet bloc
 abbrev commit_at : Sizes → JournalZone → SealedBlock → (vios filling : List Vio) → Result JournalZone
 commit_at sizes j b (v ∷ vs) filling = (committed_by v j, Commits (logged v) ∷ [], hands_out v ∷ (id.Journal, item.Block (record b { vios = vs })) ∷ [])
 commit_at sizes j b [] [] = (record j { busy = false; waiting = [] }, [], all_again j.waiting)
-commit_at sizes j b [] (v ∷ vs) = (sealed_by j, Seals ∷ [], (id.Device, item.Block (next_block sizes j stage.Cover (v ∷ vs))) ∷ all_again j.waiting)
+commit_at sizes j b [] (v ∷ vs) = (sealed_by j, Seals ∷ [], (id.Device, item.Block (next_block j stage.Cover (v ∷ vs))) ∷ all_again j.waiting)
 
 abbrev end_at : Sizes → JournalZone → SealedBlock → Stage → Result JournalZone
 end_at sizes j b stage.Commit = commit_at sizes j b b.vios j.filling
@@ -121,8 +121,8 @@ end_at sizes j b other = (j, [], [])
 
 end_is : (sizes : Sizes) (j : JournalZone) (b : SealedBlock) (new : JournalZone) (made : Trace) (posts : List Post) → JournalEnds sizes j b new made posts
     → (new, made, posts) ≡ end_at sizes j b b.stage
-end_is sizes j b new made posts (JournalEnds.commits v vs is vios n m q) = rw (n, m, q, is, vios) refl
-end_is sizes j b new made posts (JournalEnds.seals v vs is vios filling n m q) = rw (n, m, q, is, vios, filling) refl
+end_is sizes j b new made posts (JournalEnds.commits v vs is vios next n m q) = rw (n, m, q, is, vios) refl
+end_is sizes j b new made posts (JournalEnds.seals v vs is vios filling due n m q) = rw (n, m, q, is, vios, filling) refl
 end_is sizes j b new made posts (JournalEnds.rests is vios filling n m q) = rw (n, m, q, is, vios, filling) refl
 end_is sizes j b new made posts (JournalEnds.fails is n m q) = rw (n, m, q, is) refl
 

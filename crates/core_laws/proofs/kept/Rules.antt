@@ -1,7 +1,8 @@
 -- In a legal core a rule applies to the item in front of each inbox, and each post of a rule has a lane.
 use Rattle.std.proofs.Common.{◌≡◌, ℕ, ◌<◌, ◌≤◌, true, false, None, Some, Option, List, [], ◌∷◌, ◌++◌, length, slice_get, refl, ap, sym, ◌∙◌, subst, inl, inr, arith}
 use Rattle.std.proofs.lemmas.Option.{slice_get_within}
-use Rattle.core_laws.proofs.Common.{AllByRecursion, Answer, Asks, Call, Carries, cases_Bool, DataOk, Desk, desk_zone, device_zone, DeviceZone, eqb_tells, every-map, IsForBlock, IsServed, IsSession, IsToFresh, IsToInside, Item, ItemOk, journal_zone, JournalZone, KeptOk, logical_zone, LogicalZone, Mapping, MayReply, notified_zones, option_cases, Pbn, Phase, physical_zone, PhysicalZone, Post, Request, request_at, Script, SealedBlock, Session, some_of, Stage, StandsAt, Trace, Vio, VioOk, Writer, Zone, zone_at, zone_count, zone_number, zone_of, zone_of_stage, ZoneData}
+use Rattle.core_laws.proofs.journal.LogLaws.{has_next, is_sealable}
+use Rattle.core_laws.proofs.Common.{all_logged, all_of, AllByRecursion, Answer, Asks, Call, Carries, cases_Bool, committed, DataOk, Desk, desk_zone, device_zone, DeviceZone, eqb_tells, every-map, IsForBlock, IsServed, IsSession, IsToFresh, IsToInside, Item, ItemOk, journal_zone, JournalLists, JournalZone, KeptOk, logical_zone, LogicalZone, Mapping, MayReply, notified_zones, option_cases, Pbn, Phase, physical_zone, PhysicalZone, Post, Request, request_at, Script, sealed, SealedBlock, Session, some_of, Stage, StandsAt, Trace, Vio, VioOk, Writer, Zone, zone_at, zone_count, zone_number, zone_of, zone_of_stage, ZoneData}
 use Rattle.blk_base.specs.Regions.{journal_slot_of}
 use Rattle.blk_base.specs.declared.request.Answer.TheVariants as reply
 use Rattle.blk_base.specs.declared.request.Request.TheVariants as request
@@ -108,7 +109,7 @@ module _ (s : Session) (session : IsSession s) (t : Trace) where
   enters : (j : JournalZone) (v : Vio) → v.phase ≡ phase.Enter → HasAct s.sizes (at.Journal j) (item.Request v ∷ [])
   enters j v is = elim (cases_Bool (is_closed j)) [
     | inl closed ↦ (_, _, _, steps.enters (JournalServes.is_stopped is closed refl refl refl))
-    | inr opened ↦ elim (cases_Bool (has_block s.sizes j)) [
+    | inr opened ↦ elim (cases_Bool (has_block j)) [
       | inr none ↦ (_, _, _, steps.enters (JournalServes.is_full is opened none refl refl refl))
       | inl block ↦ elim (cases_Bool (has_room j)) [
         | inr full ↦ (_, _, _, steps.enters (JournalServes.waits is opened block full refl refl refl))
@@ -120,10 +121,14 @@ module _ (s : Session) (session : IsSession s) (t : Trace) where
     ]
   ]
 
-  commits : (j : JournalZone) (b : SealedBlock) (vios filling : List Vio) → b.vios ≡ vios → j.filling ≡ filling → b.stage ≡ stage.Commit → HasAct s.sizes (at.Journal j) (item.Block b ∷ [])
-  commits j b (v ∷ vs) filling are fills is = (_, _, _, steps.ends (JournalEnds.commits v vs is are refl refl refl))
-  commits j b [] [] are fills is = (_, _, _, steps.ends (JournalEnds.rests is are fills refl refl refl))
-  commits j b [] (v ∷ vs) are fills is = (_, _, _, steps.ends (JournalEnds.seals v vs is are fills refl refl refl))
+  commits : (j : JournalZone) (b : SealedBlock) (vios filling : List Vio) → JournalLists s t j → all_of (sealed t) ≡ all_logged vios ++ committed t → b.vios ≡ vios → j.filling ≡ filling → b.stage ≡ stage.Commit
+      → HasAct s.sizes (at.Journal j) (item.Block b ∷ [])
+  commits j b (v ∷ vs) filling lists left are fills is = (_, _, _, steps.ends (JournalEnds.commits v vs is are (has_next s t j.log (v ∷ vs) lists.log_is left (omega arith)) refl refl refl))
+  commits j b [] [] lists left are fills is = (_, _, _, steps.ends (JournalEnds.rests is are fills refl refl refl))
+  commits j b [] (v ∷ vs) lists left are fills is =
+      let few = lists.filling_few in
+      let some = ap length fills in
+      (_, _, _, steps.ends (JournalEnds.seals v vs is are fills (is_sealable s t j.log lists.log_is (omega (arith, few, some)) left) refl refl refl))
 
   -- the device
   stores : (d : DeviceZone) (v : Vio) (x : Pbn) → v.phase ≡ phase.Store → v.new ≡ At x → IsInside s.sizes x → HasAct s.sizes (at.Device d) (item.Request v ∷ [])
@@ -187,8 +192,8 @@ module _ (s : Session) (session : IsSession s) (t : Trace) where
     in_physical : (it : Item) → n ≡ physical_zone s.sizes → ((p : PhysicalZone) → HasAct s.sizes (at.Physical p) (it ∷ [])) → Has it
     in_physical it is rule = in_kind at.Physical (physical_zone s.sizes) it is (physical_keeps s t) (λ p here. rule p)
 
-    in_journal : (it : Item) → n ≡ journal_zone s.sizes → ((j : JournalZone) → HasAct s.sizes (at.Journal j) (it ∷ [])) → Has it
-    in_journal it is rule = in_kind at.Journal (journal_zone s.sizes) it is (journal_keeps s t) (λ j here. rule j)
+    in_journal : (it : Item) → n ≡ journal_zone s.sizes → ((j : JournalZone) → JournalLists s t j → HasAct s.sizes (at.Journal j) (it ∷ [])) → Has it
+    in_journal it is rule = in_kind at.Journal (journal_zone s.sizes) it is (journal_keeps s t) (λ j here. rule j here.lists)
 
     in_device : (it : Item) → n ≡ device_zone s.sizes → ((dev : DeviceZone) → HasAct s.sizes (at.Device dev) (it ∷ [])) → Has it
     in_device it is rule = in_kind at.Device (device_zone s.sizes) it is (device_keeps s t) (λ dev here. rule dev)
@@ -205,7 +210,7 @@ module _ (s : Session) (session : IsSession s) (t : Trace) where
     by_phase v phase.Arrive is ok carries to = in_home v ok to (λ l here. arrives l v is carries.for_block)
     by_phase v phase.Claim is ok carries to = in_physical _ to (λ p. claims p v p.free refl is)
     by_phase v phase.Store is ok carries to = in_device _ to (λ dev. stores_by dev v v.new is refl carries.2)
-    by_phase v phase.Enter is ok carries to = in_journal _ to (λ j. enters j v is)
+    by_phase v phase.Enter is ok carries to = in_journal _ to (λ j lists. enters j v is)
     by_phase v phase.Settle is ok carries to =
         in_home v ok to (λ l here. let grants = passes l _ v.at.0 (with_slot l v) here in (_, _, _, steps.serves (LogicalServes.settles grants.0 is grants.1 refl refl refl)))
     by_phase v phase.Load is ok carries to = in_device _ to (λ dev. loads_by dev v v.old is refl carries.1)
@@ -223,8 +228,8 @@ module _ (s : Session) (session : IsSession s) (t : Trace) where
     by_stage b stage.Cover is stands to = in_device _ to (λ dev. flushes_block dev b stage.Cover is refl refl stands.0.some)
     by_stage b stage.Write is stands to = in_device _ to (λ dev. writes_block dev b is stands.0.some)
     by_stage b stage.Harden is stands to = in_device _ to (λ dev. flushes_block dev b stage.Harden is refl refl stands.0.some)
-    by_stage b stage.Commit is stands to = in_journal _ to (λ j. commits j b b.vios j.filling refl refl is)
-    by_stage b stage.Fail is stands to = in_journal _ to (λ j. (_, _, _, steps.ends (JournalEnds.fails is refl refl refl)))
+    by_stage b stage.Commit is stands to = in_journal _ to (λ j lists. commits j b b.vios j.filling lists stands.0 refl refl is)
+    by_stage b stage.Fail is stands to = in_journal _ to (λ j lists. (_, _, _, steps.ends (JournalEnds.fails is refl refl refl)))
 
     -- a stop notice, by the kind of zone
     by_kind : (k : ZoneData) → DataOk s t n k → n ≤ notified_zones s.sizes → HasAct s.sizes k (item.StopNotice ∷ [])

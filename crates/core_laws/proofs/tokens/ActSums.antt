@@ -235,14 +235,14 @@ module _ (sizes : Sizes) where
     busy_is = rw (← busy) refl
 
     ends_row : (new : JournalZone) (made : Trace) (posts : List Post) → JournalEnds sizes old b new made posts → IsRow sizes (at.Journal old) (Block b ∷ []) (at.Journal new) posts
-    ends_row new made posts (journal.commits v vs is vios n m q) =
+    ends_row new made posts (journal.commits v vs is vios next n m q) =
         let pending = (subst (AllByRecursion (IsIn phase.Pending)) vios p).0 in
         rw (n, q) (is_row (row.commits old b v vs)
         (λ f. omega (arith, block_with f b (turned phase.Pending v ∷ vs) (vios ∙ ap (λ (u : Vio). u ∷ vs) (turned_is v phase.Pending pending)), there_sum f old.filling old.waiting))
         (λ f. omega (arith, there_sum f old.filling old.waiting)))
-    ends_row new made posts (journal.seals v vs is vios filling n m q) =
+    ends_row new made posts (journal.seals v vs is vios filling due n m q) =
         rw (n, q) (is_row (row.seals old b) (λ f. omega (arith, block_with f b [] vios, there_sum f old.filling old.waiting))
-        (λ f. omega (arith, ap (λ (us : List Vio). f (Block (journal.next_block sizes old stage.Cover us))) filling, again_sum f old.waiting)))
+        (λ f. omega (arith, ap (λ (us : List Vio). f (Block (journal.next_block old stage.Cover us))) filling, again_sum f old.waiting)))
     ends_row new made posts (journal.rests is vios filling n m q) =
         subst (λ (o : JournalZone). IsRow sizes (at.Journal o) (Block b ∷ []) (at.Journal new) posts) busy_is
         (rw (n, q) (is_row (row.rests old b) (λ f. omega (arith, block_with f b [] vios, there_sum f old.filling old.waiting)) (λ f. omega (arith, there_sum f old.filling [], again_sum f old.waiting))))

@@ -1,6 +1,8 @@
 -- Each row of the table of phases at a small zone: what the zone keeps, what happens, and what it posts.
 use Rattle.std.proofs.Common.{ℕ, Bool, true, false, None, Some, List, [], ◌∷◌, refl, replicate, arith}
 use Rattle.blk_base.specs.Sectors.{zero_block}
+use Rattle.blk_base.specs.declared.journal_entry.CommittedEntry.{CommittedEntry}
+use Rattle.blk_base.specs.declared.journal_entry.Entry.{Entry}
 use Rattle.blk_base.specs.declared.place.Lba.{Lba}
 use Rattle.blk_base.specs.declared.place.Mapping.TheVariants.{Unmapped, Zero, At}
 use Rattle.blk_base.specs.declared.place.Pbn.{Pbn}
@@ -34,8 +36,9 @@ use Rattle.core_model.specs.DeviceRows.{DeviceServes, DeviceWorks, journal_bytes
 use Rattle.core_model.specs.JournalRows.{PhysicalServes, JournalServes, JournalEnds}
 use Rattle.core_model.specs.LogicalRows.{LogicalServes}
 use Rattle.core_model.specs.Steps.{Act, begins, answers, hears, serves, serves_notice, takes, takes_notice, enters, ends, enters_notice, calls, works}
-use Rattle.core_model.specs.Trace.{Says, Flushes, Draws, Enters, Seals, Commits, Sets, Gives, Takes, Aborts, Calls, Fails, Trace}
-use Rattle.core_model.specs.Vios.{Post}
+use Rattle.core_model.specs.Trace.{Says, Flushes, Draws, Enters, Seals, Commits, Sets, Gives, Takes, Aborts, Calls, Fails, Trace, entry_of}
+use Rattle.core_model.specs.Vios.{Post, logged}
+use Rattle.recovery_journal.specs.Log.{Log, placed, point_at}
 use Rattle.core_model.proofs.rows.WorkedTraces.{address, block, x, y, script, first, reader, second, other, flush, sizes, place, of_first, of_second, given}
 
 abbrev Acts : ZoneData → List Item → ZoneData → Trace → List Post → Type 0
@@ -81,15 +84,46 @@ lock n = record { at = address 0; place = n }
 abbrev pub physical : List Pbn → ZoneData
 physical free = at.Physical (record { notified = false; free = free })
 
--- the journal: whether a block is under way, how many were sealed, whose entries are in the block being filled, who waits, and
--- the entries that were handed in and are committed
-abbrev pub journal : Bool → ℕ → List Vio → List Vio → List Logged → List Logged → ZoneData
-journal busy blocks filling waiting entered committed =
-    at.Journal (record { notified = false; busy = busy; broken = false; blocks = blocks; filling = filling; waiting = waiting; entered = entered; committed = committed })
+-- the entries of these two, as the journal has them
+abbrev of_write : Entry
+of_write = entry_of (logged (writes phase.Pending))
+
+abbrev of_read : Entry
+of_read = entry_of (logged (reads phase.Pending))
+
+-- the log of a ring of two blocks: the sequence and the entries of the block being filled, those of sealed blocks, how many of
+-- these were handed out, and which block isn't durable
+abbrev pub log_with : ℕ → List Entry → List CommittedEntry → ℕ → ℕ → Log
+log_with sequence filling entries handed durable =
+    record {
+      nonce = 1;
+      size = 2;
+      sequence = sequence;
+      filling = filling;
+      entries = entries;
+      handed = handed;
+      committed = durable;
+      marks = record { 0 = point_at 1 0 } ∷ [];
+      earlier = None;
+    }
+
+-- one that was just begun
+abbrev pub empty_log : Log
+empty_log = log_with 1 [] [] 0 1
+
+-- one whose block was sealed with two entries, is durable, and has so many of them handed out
+abbrev full_log : ℕ → Log
+full_log handed = log_with 2 [] (placed 1 0 (of_write ∷ of_read ∷ [])) handed 2
+
+-- the journal: whether a block is under way, its log, whose entries are in the block being filled, who waits, and the entries
+-- that were handed in and are committed
+abbrev pub journal : Bool → Log → List Vio → List Vio → List Logged → List Logged → ZoneData
+journal busy log filling waiting entered committed =
+    at.Journal (record { notified = false; busy = busy; broken = false; log = log; filling = filling; waiting = waiting; entered = entered; committed = committed })
 
 -- a block with these requests
 abbrev block_of : Stage → List Vio → SealedBlock
-block_of now vios = record { stage = now; sequence = 1; vios = vios }
+block_of now vios = record { stage = now; sequence = 1; head = 1; vios = vios }
 
 abbrev sealed : Stage → SealedBlock
 sealed now = block_of now (writes phase.Pending ∷ [])
@@ -188,17 +222,19 @@ stores_no_more : Acts (device true 6) (Request (writes phase.Store) ∷ []) (dev
 stores_no_more = calls (DeviceServes.store_unmade refl refl refl refl refl)
 
 -- Enter: the entry is handed in, with the first one the block goes round; or it waits, or has no block, or the journal was notified
-enters_now : Acts (journal false 0 [] [] [] []) (Request (writes phase.Enter) ∷ []) (journal true 0 (writes phase.Pending ∷ []) [] (of_first ∷ []) []) (Enters of_first ∷ [])
+enters_now : Acts (journal false empty_log [] [] [] []) (Request (writes phase.Enter) ∷ []) (journal true (log_with 1 (of_write ∷ []) [] 0 1) (writes phase.Pending ∷ []) [] (of_first ∷ []) []) (Enters of_first ∷ [])
     ((id.Journal, Block (block_of stage.Commit [])) ∷ [])
 enters_now = enters (JournalServes.enters_first refl refl refl refl refl refl refl refl)
 
-enters_next : Acts (journal true 0 (reads phase.Pending ∷ []) [] [] []) (Request (writes phase.Enter) ∷ []) (journal true 0 (reads phase.Pending ∷ writes phase.Pending ∷ []) [] (of_first ∷ []) []) (Enters of_first ∷ []) []
+enters_next : Acts (journal true (log_with 1 (of_read ∷ []) [] 0 1) (reads phase.Pending ∷ []) [] [] []) (Request (writes phase.Enter) ∷ [])
+    (journal true (log_with 1 (of_read ∷ of_write ∷ []) [] 0 1) (reads phase.Pending ∷ writes phase.Pending ∷ []) [] (of_first ∷ []) []) (Enters of_first ∷ []) []
 enters_next = enters (JournalServes.enters refl refl refl refl refl refl refl refl)
 
-enters_later : Acts (journal true 0 (replicate 192 (reads phase.Pending)) [] [] []) (Request (writes phase.Enter) ∷ []) (journal true 0 (replicate 192 (reads phase.Pending)) (writes phase.Enter ∷ []) [] []) [] []
+enters_later : Acts (journal true (log_with 1 (replicate 192 of_read) [] 0 1) (replicate 192 (reads phase.Pending)) [] [] []) (Request (writes phase.Enter) ∷ [])
+    (journal true (log_with 1 (replicate 192 of_read) [] 0 1) (replicate 192 (reads phase.Pending)) (writes phase.Enter ∷ []) [] []) [] []
 enters_later = enters (JournalServes.waits refl refl refl refl refl refl refl)
 
-enters_full : Acts (journal false 1 [] [] (of_second ∷ []) []) (Request (writes phase.Enter) ∷ []) (journal false 1 [] [] (of_second ∷ []) []) []
+enters_full : Acts (journal false (full_log 2) [] [] (of_second ∷ []) []) (Request (writes phase.Enter) ∷ []) (journal false (full_log 2) [] [] (of_second ∷ []) []) []
     ((id.Physical 0, Request (answered reply.Full (writes phase.AbortClaim))) ∷ [])
 enters_full = enters (JournalServes.is_full refl refl refl refl refl refl)
 
@@ -220,19 +256,21 @@ hardens_no_more = works (DeviceWorks.unmade (Flush false) (block 2) _ _ refl ref
 
 -- Commit, Fail: the oldest entry goes to its slot; behind the last one the next block is sealed, or there is none; or all are
 -- aborted, and those that wait are stopped
-commits : Acts (journal true 1 [] [] (of_first ∷ []) []) (Block (block_of stage.Commit (writes phase.Pending ∷ reads phase.Pending ∷ [])) ∷ []) (journal true 1 [] [] (of_first ∷ []) (of_first ∷ [])) (Commits of_first ∷ [])
+commits : Acts (journal true (log_with 2 [] (placed 1 0 (of_write ∷ of_read ∷ [])) 0 1) [] [] (of_first ∷ []) []) (Block (block_of stage.Commit (writes phase.Pending ∷ reads phase.Pending ∷ [])) ∷ [])
+    (journal true (full_log 1) [] [] (of_first ∷ []) (of_first ∷ [])) (Commits of_first ∷ [])
     ((id.Logical 0, Request (writes phase.Settle)) ∷ (id.Journal, Block (block_of stage.Commit (reads phase.Pending ∷ []))) ∷ [])
-commits = ends (JournalEnds.commits _ _ refl refl refl refl refl)
+commits = ends (JournalEnds.commits _ _ refl refl (omega arith) refl refl refl)
 
-seals : Acts (journal true 0 (writes phase.Pending ∷ []) (reads phase.Enter ∷ []) [] []) (Block (block_of stage.Commit []) ∷ []) (journal true 1 [] [] [] []) (Seals ∷ [])
+seals : Acts (journal true (log_with 1 (of_write ∷ []) [] 0 1) (writes phase.Pending ∷ []) (reads phase.Enter ∷ []) [] []) (Block (block_of stage.Commit []) ∷ [])
+    (journal true (log_with 2 [] (placed 1 0 (of_write ∷ [])) 0 1) [] [] [] []) (Seals ∷ [])
     ((id.Device, Block (sealed stage.Cover)) ∷ (id.Journal, Request (reads phase.Enter)) ∷ [])
-seals = ends (JournalEnds.seals _ _ refl refl refl refl refl refl)
+seals = ends (JournalEnds.seals _ _ refl refl refl (record { some = omega arith; durable = refl }) refl refl refl)
 
-rests : Acts (journal true 1 [] [] [] []) (Block (block_of stage.Commit []) ∷ []) (journal false 1 [] [] [] []) [] []
+rests : Acts (journal true (full_log 2) [] [] [] []) (Block (block_of stage.Commit []) ∷ []) (journal false (full_log 2) [] [] [] []) [] []
 rests = ends (JournalEnds.rests refl refl refl refl refl refl)
 
-fails : Acts (journal true 1 (reads phase.Pending ∷ []) (writes phase.Enter ∷ []) [] []) (Block (sealed stage.Fail) ∷ [])
-    (at.Journal (record { notified = false; busy = false; broken = true; blocks = 1; filling = []; waiting = []; entered = []; committed = [] })) []
+fails : Acts (journal true (log_with 2 (of_read ∷ []) (placed 1 0 (of_write ∷ [])) 0 1) (reads phase.Pending ∷ []) (writes phase.Enter ∷ []) [] []) (Block (sealed stage.Fail) ∷ [])
+    (at.Journal (record { notified = false; busy = false; broken = true; log = log_with 2 (of_read ∷ []) (placed 1 0 (of_write ∷ [])) 0 1; filling = []; waiting = []; entered = []; committed = [] })) []
     ((id.Physical 0, Request (answered reply.Stopped (writes phase.AbortEnteredClaim))) ∷ (id.Physical 0, Request (answered reply.Stopped (reads phase.AbortEnteredClaim)))
     ∷ (id.Physical 0, Request (answered reply.Stopped (writes phase.AbortClaim))) ∷ [])
 fails = ends (JournalEnds.fails refl refl refl refl)
@@ -290,9 +328,9 @@ notifies_physical : Acts (physical []) (StopNotice ∷ []) (at.Physical (record 
 notifies_physical = takes_notice
 
 abbrev closed : ZoneData
-closed = at.Journal (record { notified = true; busy = true; broken = false; blocks = 1; filling = []; waiting = []; entered = []; committed = [] })
+closed = at.Journal (record { notified = true; busy = true; broken = false; log = full_log 0; filling = []; waiting = []; entered = []; committed = [] })
 
-notifies_journal : Acts (journal true 1 [] (writes phase.Enter ∷ []) [] []) (StopNotice ∷ []) closed [] ((id.Desk, StopNotice) ∷ (id.Physical 0, Request (answered reply.Stopped (writes phase.AbortClaim))) ∷ [])
+notifies_journal : Acts (journal true (full_log 0) [] (writes phase.Enter ∷ []) [] []) (StopNotice ∷ []) closed [] ((id.Desk, StopNotice) ∷ (id.Physical 0, Request (answered reply.Stopped (writes phase.AbortClaim))) ∷ [])
 notifies_journal = enters_notice
 
 enters_no_more : Acts closed (Request (writes phase.Enter) ∷ []) closed [] ((id.Physical 0, Request (answered reply.Stopped (writes phase.AbortClaim))) ∷ [])

@@ -1,5 +1,5 @@
 -- How long the lists of the other zones get, and the lanes of a zone: each clause at its limit, and one past it.
-use Rattle.std.proofs.Common.{ℕ, false, List, [], ◌∷◌, replicate, arith}
+use Rattle.std.proofs.Common.{ℕ, ◌-◌, ◌^◌, false, List, [], ◌∷◌, replicate, arith}
 use Rattle.std.proofs.lemmas.List.{length-replicate}
 use Rattle.vdo_model.specs.declared.report.Placed.{Placed}
 use Rattle.core_model.specs.declared.items.Item.{Item}
@@ -12,7 +12,7 @@ use Rattle.core_model.specs.LogicalData.{Lock, LogicalZone}
 use Rattle.core_model.specs.declared.zones.Zone.{Zone}
 use Rattle.core_model.specs.declared.zones.ZoneData.TheVariants as at
 use Rattle.core_model.specs.Limits.{IsJournalWithin, IsLogicalWithin, IsWithin}
-use Rattle.core_model.proofs.rows.PhaseRows.{writes}
+use Rattle.core_model.proofs.rows.PhaseRows.{empty_log, writes}
 use Rattle.core_model.proofs.rows.WorkedTraces.{address, first, of_first, place}
 
 abbrev waits : Vio
@@ -69,40 +69,40 @@ logical_slots : IsLogicalWithin 9 (logical 9 65536 263 263 65536 65537) → ⊥
 logical_slots is = absurd (omega (arith, is.slots, length-replicate 65537 of_first))
 
 -- a journal with so many of each
-abbrev journal : (blocks filling waiting entered committed : ℕ) → JournalZone
-journal blocks filling waiting entered committed = record {
+abbrev journal : (sequence filling waiting entered committed : ℕ) → JournalZone
+journal sequence filling waiting entered committed = record {
   notified = false;
   busy = false;
   broken = false;
-  blocks = blocks;
+  log = record empty_log { sequence = sequence };
   filling = replicate filling waits;
   waiting = replicate waiting waits;
   entered = replicate entered of_first;
   committed = replicate committed of_first;
 }
 
-journal_full : IsJournalWithin (journal 1024 192 263 65536 65536)
+journal_full : IsJournalWithin (journal (2 ^ 55 - 1) 192 263 65536 65536)
 journal_full = record {
-  blocks = omega arith;
+  sequence = omega arith;
   filling = omega (arith, length-replicate 192 waits);
   waiting = omega (arith, length-replicate 263 waits);
   entered = omega (arith, length-replicate 65536 of_first);
   committed = omega (arith, length-replicate 65536 of_first);
 }
 
-journal_blocks : IsJournalWithin (journal 1025 192 263 65536 65536) → ⊥
-journal_blocks is = absurd (omega (arith, is.blocks))
+journal_sequence : IsJournalWithin (journal (2 ^ 55) 192 263 65536 65536) → ⊥
+journal_sequence is = absurd (omega (arith, is.sequence))
 
-journal_filling : IsJournalWithin (journal 1024 193 263 65536 65536) → ⊥
+journal_filling : IsJournalWithin (journal 1 193 263 65536 65536) → ⊥
 journal_filling is = absurd (omega (arith, is.filling, length-replicate 193 waits))
 
-journal_waiting : IsJournalWithin (journal 1024 192 264 65536 65536) → ⊥
+journal_waiting : IsJournalWithin (journal 1 192 264 65536 65536) → ⊥
 journal_waiting is = absurd (omega (arith, is.waiting, length-replicate 264 waits))
 
-journal_entered : IsJournalWithin (journal 1024 192 263 65537 65536) → ⊥
+journal_entered : IsJournalWithin (journal 1 192 263 65537 65536) → ⊥
 journal_entered is = absurd (omega (arith, is.entered, length-replicate 65537 of_first))
 
-journal_committed : IsJournalWithin (journal 1024 192 263 65536 65537) → ⊥
+journal_committed : IsJournalWithin (journal 1 192 263 65536 65537) → ⊥
 journal_committed is = absurd (omega (arith, is.committed, length-replicate 65537 of_first))
 
 -- a device that made so many calls, as the zone that made nine steps, with so many items in its inbox and its two outboxes

@@ -17,7 +17,7 @@ use Rattle.core_model.specs.Phases.{stage_row}
 use Rattle.core_model.specs.Steps.{ZoneStep, IsIdle, takes_notice}
 use Rattle.core_model.specs.Tokens.{holds, claims, has_entry, kept_items}
 use Rattle.core_model.specs.Zones.{IsZone, zone_number, zone_count, notified, notified_zones}
-use Rattle.core_model.proofs.rows.PhaseRows.{writes, reads, desk, logical, physical, journal, device}
+use Rattle.core_model.proofs.rows.PhaseRows.{writes, reads, desk, empty_log, logical, physical, journal, device}
 use Rattle.core_model.proofs.rows.WorkedTraces.{block, first, sizes}
 
 -- the desk, two logical zones, one physical zone, the journal and the device are there, and have the numbers from 0 to 5
@@ -105,7 +105,7 @@ row_of_stages = ((refl, refl), (refl, refl), (refl, refl), (refl, refl), (refl, 
 
 -- what each kind of zone keeps beside its lanes
 kept_requests : (kept_items (desk [] [] 0 (writes phase.Reply ∷ [])) ≡ Request (writes phase.Reply) ∷ []) × (kept_items (logical 1 [] [] (reads phase.Wait ∷ []) [] []) ≡ Request (reads phase.Wait) ∷ [])
-    × (kept_items (journal true 0 (writes phase.Pending ∷ []) (reads phase.Enter ∷ []) [] []) ≡ Request (writes phase.Pending) ∷ Request (reads phase.Enter) ∷ [])
+    × (kept_items (journal true empty_log (writes phase.Pending ∷ []) (reads phase.Enter ∷ []) [] []) ≡ Request (writes phase.Pending) ∷ Request (reads phase.Enter) ∷ [])
 kept_requests = (refl, refl, refl)
 
 kept_none : (kept_items (physical (block 85 ∷ [])) ≡ []) × (kept_items (device false 6) ≡ [])

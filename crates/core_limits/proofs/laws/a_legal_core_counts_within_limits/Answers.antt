@@ -1,4 +1,4 @@
-use Rattle.core_limits.proofs.Bounds.{blocks_within, next_within, calls_within, held_within, entered_within, committed_within, slots_within, retired_within}
+use Rattle.core_limits.proofs.Bounds.{sequence_within, next_within, calls_within, held_within, entered_within, committed_within, slots_within, retired_within}
 use Rattle.core_limits.proofs.laws.a_legal_core_counts_within_limits.Goals as goal
 
 pub returns-clause-next : goal.returns-clause-next
@@ -13,8 +13,8 @@ returns-clause-held c = λ s core n z l legal had. held_within s core legal n z 
 pub returns-clause-entered : goal.returns-clause-entered
 returns-clause-entered c = λ s core n z j session legal had. entered_within s core legal n z had session j
 
-pub returns-clause-blocks : goal.returns-clause-blocks
-returns-clause-blocks c = λ s core n z j session legal had. blocks_within s core legal n z had session j
+pub returns-clause-sequence : goal.returns-clause-sequence
+returns-clause-sequence c = λ s core n z j session legal had. sequence_within s core legal n z had session j
 
 pub returns-clause-committed : goal.returns-clause-committed
 returns-clause-committed c = λ s core n z j session legal had. committed_within s core legal n z had session j

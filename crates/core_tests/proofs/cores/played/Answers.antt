@@ -6,4 +6,4 @@ play_out-requires g c =
     let needed = rw c.of.ensures at c.needed.ensures in
     let enough = c.if-blocks-needed.false in
     let size = c.blocks-2.ensures.size in
-    record { geometry = rw (c.requires, ← c.of.ensures) c.of.result.sizes; room = rw c.requires (omega (arith, needed, enough, size)) }
+    record { geometry = rw (c.requires.default, ← c.of.ensures) c.of.result.sizes; room = rw c.requires.default (omega (arith, needed, enough, size)) }

@@ -10,11 +10,11 @@ pub loop-index-preserved : goal.loop-index-preserved
 loop-index-preserved c =
     let f : Vio → Entry = λ v. entry_of (logged v) in
     let before = c.loop-index.invariant in
-    let entry = c.entry_of.ensures ∙ ap f c.get-in-loop-index.ensures in
+    let entry = c.entry.ensures in
     record {
-      entries = c.push.ensures ∙ ap (λ (es : List Entry). es ++ c.entry_of.result ∷ []) before.entries
+      entries = c.push.ensures ∙ ap (λ (es : List Entry). es ++ c.entry.result ∷ []) before.entries
           ∙ ap (λ (e : Entry). map f (take c.loop-index.index c.args.block.now.vios) ++ e ∷ []) entry
           ∙ sym (entries_more f c.args.block.now.vios c.loop-index.index c.in-Some.vio.now c.in-Some.ensures.some);
-      count = let more = ap length c.push.ensures in let sum = length-append c.loop-index.entries (c.entry_of.result ∷ []) in let count = before.count in omega (arith, more, sum, count);
+      count = let more = ap length c.push.ensures in let sum = length-append c.loop-index.entries (c.entry.result ∷ []) in let count = before.count in omega (arith, more, sum, count);
       end = c.len-index-end.ensures.count;
     }

@@ -8,7 +8,7 @@ pub returns-clause-first : goal.returns-clause-first
 returns-clause-first c s sizes free each =
     let physical = numbered s _ c.physical_zone.result (at.Physical c.first.result) (c.physical_zone.ensures ∙ ap physical_zone (sym sizes)) (c.first.ensures s free) in
     let with_physical = c.in_ok-add.ensures.first s sizes physical each in
-    let journal = numbered s _ c.journal_zone.result (at.Journal c.in_ok-journal.journal) (c.journal_zone.ensures ∙ ap journal_zone (sym sizes)) (c.in_ok-journal.ensures s) in
+    let journal = numbered s _ c.journal_zone.result (at.Journal c.in_ok-journal.journal) (c.journal_zone.ensures ∙ ap journal_zone (sym sizes)) (c.in_ok-journal.ensures s sizes) in
     let with_journal = c.in_ok-add-2.ensures.first s sizes journal with_physical in
     let device = numbered s _ c.device_zone.result (at.Device c.first-3.result) (c.device_zone.ensures ∙ ap device_zone (sym sizes)) (c.first-3.ensures s) in
     c.in_ok-add-3.ensures.first s sizes device with_journal

@@ -1,5 +1,6 @@
 use Rattle.std.proofs.Common.{reverse}
 use Rattle.vdo_core.specs.Cores.{sizes_of}
+use Rattle.vdo_core.proofs.JournalLaws.{leaves_one}
 use Rattle.vdo_core.proofs.SessionLaws.{first_reached, imagined, is_of}
 use Rattle.vdo_core.proofs.cores.Core.begin.Goals as goal
 
@@ -14,3 +15,6 @@ invariant_of-result c =
 
 pub returns-clause-first : goal.returns-clause-first
 returns-clause-first c s is = c.in_ok-zones.ensures s (rw (c.in_ok-free.ensures, c.of-layout.ensures) is)
+
+pub begin-requires-clause-room : goal.begin-requires-clause-room
+begin-requires-clause-room c = let can = c.requires in leaves_one c.args.head.now.geometry c.args.head.now.start can.journal can.last c.args.used can.opened
