@@ -41,7 +41,7 @@ begins_few depth script log right =
     omega (arith, a, b, over_script script)
 
 -- what is begun of each stream is a part of all that is
-all_counted : (k : ℕ) (log : List DeskLine) → over k (λ i. begun i log) ≤ total is_begin log
+pub all_counted : (k : ℕ) (log : List DeskLine) → over k (λ i. begun i log) ≤ total is_begin log
 all_counted k [] = over_none k (λ i. 0) (λ i. omega arith)
 all_counted k (Begin w ∷ older) =
     let rest = all_counted k older in

@@ -47,7 +47,7 @@ some_named (Answer v a ∷ older) w some = elim (same_tells v w) [
 ]
 
 -- below its length a stream has a request
-asked_there : (requests : List Request) (n : ℕ) → n < length requests → IsSome (slice_get requests n)
+pub asked_there : (requests : List Request) (n : ℕ) → n < length requests → IsSome (slice_get requests n)
 asked_there requests n below = elim (slice_get_cases requests n).1 [ inl there ↦ some_is _ _ there.2 | inr past ↦ absurd (omega (arith, below, past.0)) ]
 
 -- where each request is answered, there are as many answers

@@ -3,6 +3,8 @@ pub mod DeskLimits
 pub mod FullLogs
 pub mod PlaceLimits
 pub mod Rooms
+pub mod StillLogs
+pub mod Stillness
 pub mod StreamSums
 pub mod WholeZones
 pub mod ZoneLimits

@@ -70,7 +70,7 @@ under_way depth script desk right =
 abbrev pub carried : Token → Zone → ℕ
 carried t z = total t.item z.ports.inbox + total (total t.item) z.ports.outboxes + queued t.item z.keeps
 
-split_sum : (t : Token) (zones : List Zone) → total (weight t) zones ≡ total (carried t) zones + total (λ z. t.own z.keeps) zones
+pub split_sum : (t : Token) (zones : List Zone) → total (weight t) zones ≡ total (carried t) zones + total (λ z. t.own z.keeps) zones
 split_sum t [] = refl
 split_sum t (z ∷ zones) = omega (arith, split_sum t zones)
 
@@ -90,7 +90,7 @@ module _ (s : Session) (core : Core) (legal : Legal s core) where
   abbrev zones : List Zone
   zones = core.zones
 
-  only_desk : (f : DeskLine → ℕ) → total (λ (z : Zone). in_log f z.keeps) core.zones ≡ total f (lines core.trace)
+  pub only_desk : (f : DeskLine → ℕ) → total (λ (z : Zone). in_log f z.keeps) core.zones ≡ total f (lines core.trace)
   only_desk f =
       let desk = desk_sits s core.trace core.zones legal.each legal.count in
       let k = subst (λ (d : ZoneData). DataOk s core.trace desk_zone d) desk.keeps (legal.each desk_zone desk.zone desk.had).own in

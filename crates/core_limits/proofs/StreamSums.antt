@@ -68,7 +68,7 @@ at stream number = record { stream = stream; number = number }
 
 module _ {X : Type 0} (name : X → Writer) where
   -- each request is there once at most
-  once : (w : Writer) (xs : List X) → Apart name xs → named name w xs ≤ 1
+  pub once : (w : Writer) (xs : List X) → Apart name xs → named name w xs ≤ 1
   once w [] apart = omega arith
   once w (x ∷ xs) apart = elim (same_tells (name x) w) [
     | inl same ↦ let none : named name w xs ≡ 0 = subst (λ (v : Writer). named name v xs ≡ 0) same.1 apart.0 in rw same.0 (omega (arith, none))

@@ -19,7 +19,7 @@ ghost use Rattle.core_model.specs.Legal.{Legal, share};
 ghost use Rattle.core_model.specs.Limits.{IsDeskWithin, IsShort, IsWithin, most_requests, requests_in};
 ghost use Rattle.core_model.specs.Tokens.{is_answer, is_begin, kept_by, queued};
 ghost use Rattle.core_model.specs.Sessions.{Session, IsSession};
-ghost use Rattle.core_model.specs.Steps.{Core};
+ghost use Rattle.core_model.specs.Steps.{Core, IsStill};
 ghost use Rattle.core_model.specs.Trace.{calls, lines, places};
 
 /// In a legal core each lane and each list of requests that a zone keeps is within its share: as many as there may be
@@ -47,6 +47,13 @@ pub fn a_desk_log_is_bounded()
 /// A desk log that is well formed has two lines for each request of its script exactly where each request is answered.
 pub fn a_desk_log_is_full_when_all_are_answered()
     ensures { (depth : ℕ) (script : Script) (log : List DeskLine) → IsDeskLog depth script log → (length log ≡ 2 * requests_in script) ↔ AllAnswered script log }
+{}
+
+/// A legal core in which nothing is left to do is done: where each zone has an empty inbox, all that was posted has moved,
+/// and no stream may begin a request, each request is answered. So no request waits for what never comes. A stream may have
+/// a request under way.
+pub fn a_legal_core_that_is_still_is_done()
+    ensures { (s : Session) (core : Core) → 1 ≤ s.sizes.depth → Legal s core → IsStill s.sizes core.zones → AllAnswered s.script (lines core.trace) }
 {}
 
 /// In a legal core of a session that is no larger than it may be, the lists of each zone are no longer than said: those of

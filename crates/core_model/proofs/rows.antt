@@ -3,6 +3,7 @@ pub mod FollowRows
 pub mod PhaseRows
 pub mod ZoneRows
 pub mod WorkedTraces
+mod StillRows
 pub mod StreamRows
 pub mod ViewRows
 pub mod LimitRows

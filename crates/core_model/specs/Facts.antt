@@ -1,5 +1,5 @@
 -- What a request carries, and what a zone keeps: facts on their own fields and on the trace.
-use Rattle.std.specs.Prelude.{ℕ, ◌+◌, ◌≡◌, ◌⊎◌, ◌<◌, ◌≤◌, Bool, true, false, Option, None, Some, IsNone, List, [], ◌∷◌, ◌++◌, length, drop, map, reverse, if◌then◌else◌}
+use Rattle.std.specs.Prelude.{ℕ, ◌+◌, ◌≡◌, ◌⊎◌, ◌<◌, ◌≤◌, Bool, true, false, Option, None, Some, IsNone, List, [], ◌∷◌, ◌++◌, length, drop, map, reverse, slice_get, if◌then◌else◌}
 use Rattle.std.specs.List.{AllByRecursion}
 use Rattle.blk_base.specs.declared.journal_entry.Entry.{Entry}
 use Rattle.blk_base.specs.declared.place.Lba.{Lba}
@@ -297,6 +297,8 @@ pub record IsSoundDesk (s : Session) (desk : Desk) : Type 0 where
   pub requests : desk.requests ≡ s.script
   -- no request is answered as stopped before the stop notice of every zone has come
   pub stops_notified : (w : Writer) → answer_of desk.log w ≡ Some reply.Stopped → notified_zones s.sizes ≤ desk.notices
+  -- and none waits for the notices once they have
+  pub parked_early : 0 < length desk.parked → desk.notices < notified_zones s.sizes
 
 -- where an address is mapped, by the last write of it or the window
 abbrev pub mapping_in : List Entry → List Logged → ℕ → Mapping
@@ -357,10 +359,10 @@ Answers s t (at.Logical l) = (a : ℕ) → zone_of s.sizes.zones a ≡ l.zone �
 Answers s t (at.Journal j) = RestsAt s t j.busy j.broken
 Answers s t other = Unit {0}
 
--- What it was told, and is so from then on: the session is stopped. A lock is never released since a write of its address
--- was aborted.
+-- What it was told, and is so from then on: the session is stopped, and so no answer waits for the stop notices before. A
+-- lock is never released since a write of its address was aborted.
 abbrev pub WasTold : Trace → ZoneData → Type 0
-WasTold t (at.Desk desk) = 0 < desk.notices → has_stopped t ≡ true
+WasTold t (at.Desk desk) = 0 < desk.notices + length desk.parked → has_stopped t ≡ true
 WasTold t (at.Logical l) = (a : ℕ) → is_among a l.retired ≡ true → (has_stopped t ≡ true) × HasBelow a l.next (aborted t)
 WasTold t (at.Journal j) = is_closed j ≡ true → has_stopped t ≡ true
 WasTold t other = Unit {0}
@@ -395,5 +397,7 @@ pub record ZoneOk (s : Session) (t : Trace) (number : ℕ) (z : Zone) : Type 0 w
   pub lanes : length z.ports.outboxes ≡ zone_count s.sizes
   pub inbox : AllByRecursion (ItemOk s t number) z.ports.inbox
   pub outboxes : Each (λ to. AllByRecursion (ItemOk s t to)) z.ports.outboxes
+  -- what it posts to itself is in its inbox
+  pub to_itself : (lane : List Item) → slice_get z.ports.outboxes number ≡ Some lane → lane ≡ []
   pub own : DataOk s t number z.keeps
   pub counted : made_by z.keeps ≤ z.steps

@@ -25,6 +25,7 @@ use Rattle.core_model.specs.LogicalRows.{LogicalServes}
 use Rattle.core_model.specs.JournalRows.{PhysicalServes, JournalServes, JournalEnds, all_refused}
 use Rattle.core_model.specs.DeviceRows.{DeviceServes, DeviceWorks}
 use Rattle.core_model.specs.Zones.{zone_number}
+use Rattle.plain_laws.specs.Sums.{Each}
 
 -- What a zone does with the item at the front of its inbox, or the desk with none: what it keeps then, what happens, and
 -- what it posts.
@@ -106,6 +107,11 @@ pub record HasNothing (sizes : Sizes) (z : Zone) : Type 0 where
 -- A zone has no work: there is nothing to do, or it made all its steps.
 abbrev pub IsIdle : Sizes → Zone → Type 0
 IsIdle sizes z = HasNothing sizes z ⊎ (step_limit ≤ z.steps)
+
+-- Nothing is left to do in a core: each zone has nothing to do, and all that it posted to another has moved there.
+pub record IsStill (sizes : Sizes) (zones : List Zone) : Type 0 where
+  pub nothing : Each (λ n z. HasNothing sizes z) zones
+  pub all_moved : Each (λ n z. (to : ℕ) (lane : List Item) → to ≢ n → slice_get z.ports.outboxes to ≡ Some lane → lane ≡ []) zones
 
 -- The core: its zones by number, and what has happened.
 pub record Core : Type 0 where

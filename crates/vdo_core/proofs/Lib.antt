@@ -14,3 +14,4 @@ mod NoFaults
 pub mod JournalLaws
 pub mod SessionLaws
 mod MoveLaws
+mod RestLaws

@@ -1,10 +1,10 @@
 -- What becomes of a core by an event, by a list of them, and with the trace that they make, whatever happened before.
-use Rattle.std.specs.Prelude.{ℕ, ◌≡◌, ◌≢◌, ◌⊎◌, Bool, Some, List, [], ◌∷◌, ◌++◌, slice_get, slice_set}
+use Rattle.std.specs.Prelude.{ℕ, ◌≡◌, ◌≢◌, ◌<◌, ◌⊎◌, Bool, Some, List, [], ◌∷◌, ◌++◌, slice_get, slice_set}
 use Rattle.disk_model.specs.Seen.{Seen}
 use Rattle.core_model.specs.declared.items.Item.{Item}
 use Rattle.core_model.specs.declared.sizes.Sizes.{Sizes}
 use Rattle.core_model.specs.declared.zones.Zone.{Zone}
-use Rattle.core_model.specs.Steps.{Core, IsIdle, ZoneStep, Leads, with_inbox, with_outboxes}
+use Rattle.core_model.specs.Steps.{Core, IsIdle, ZoneStep, Leads, step_limit, with_inbox, with_outboxes}
 use Rattle.core_model.specs.Trace.{Trace}
 use Rattle.step_parts.specs.DeviceLog.{HasCalled}
 use Rattle.vdo_core.specs.Moves.{MovesNothing}
@@ -42,6 +42,10 @@ pub record MovesAll (from to : ℕ) (old new : List Zone) : Type 0 where
 abbrev pub HasNoWork : Sizes → List Zone → Event → Type 0
 HasNoWork sizes zones (event.Step number) = (z : Zone) → slice_get zones number ≡ Some z → IsIdle sizes z
 HasNoWork sizes zones (event.Move from to) = MovesNothing zones from to
+
+-- each zone may step once more
+abbrev pub HaveStepsLeft : List Zone → Type 0
+HaveStepsLeft zones = (n : ℕ) (z : Zone) → slice_get zones n ≡ Some z → z.steps < step_limit
 
 -- an event: the zone steps, or all moves; or nothing happens, where there is no work for it
 abbrev pub PlaysOne : Bool → Bool → Sizes → Event → List Zone → List Zone → Seen → Seen → Trace → Type 0

@@ -1,4 +1,4 @@
-ghost use Rattle.std.specs.Prelude.{◌≡◌, ◌↔◌, ℕ, Bool, Some, List, slice_get};
+ghost use Rattle.std.specs.Prelude.{◌≡◌, ◌↔◌, ◌≤◌, ℕ, Bool, Some, List, slice_get};
 ghost use Rattle.disk_model.specs.Seen.{Seen};
 ghost use Rattle.core_model.specs.declared.zones.Zone.{Zone};
 ghost use Rattle.core_model.specs.Legal.{Legal};
@@ -8,7 +8,7 @@ ghost use Rattle.core_model.specs.Trace.{Trace, lines};
 ghost use Rattle.step_parts.specs.declared.fault.StepFault.{StepFault};
 ghost use Rattle.vdo_core.specs.Causes.{MayFault, MayFaultAfter};
 ghost use Rattle.vdo_core.specs.Done.{IsDone};
-ghost use Rattle.vdo_core.specs.Plays.{core_with};
+ghost use Rattle.vdo_core.specs.Plays.{HasNoWork, HaveStepsLeft, core_with};
 ghost use Rattle.vdo_core.specs.declared.events.Event.{Event};
 ghost use Rattle.vdo_model.specs.DeskLog.{AllAnswered};
 
@@ -24,4 +24,11 @@ pub fn a_legal_core_never_fails()
 /// A legal core is done exactly where each request of the script is answered.
 pub fn a_legal_core_is_done_when_all_are_answered()
     ensures { (s : Session) (core : Core) → Legal s core → IsDone core.zones ↔ AllAnswered s.script (lines core.trace) }
+{}
+
+/// A legal core of which no event has work is done, unless a zone made all the steps that it may: so no request waits for what
+/// never comes. A stream may have a request under way.
+pub fn a_legal_core_without_work_is_done()
+    ensures { (s : Session) (core : Core) → 1 ≤ s.sizes.depth → Legal s core → HaveStepsLeft core.zones
+        → ((e : Event) → HasNoWork s.sizes core.zones e) → IsDone core.zones }
 {}

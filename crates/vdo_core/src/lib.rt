@@ -19,7 +19,10 @@ mod zones;
 
 pub use cores::{Core, CoreZones, Setup};
 pub use events::{Event, play, step};
-pub use laws::{a_legal_core_is_done_when_all_are_answered, a_legal_core_never_fails};
+pub use laws::{
+    a_legal_core_is_done_when_all_are_answered, a_legal_core_never_fails,
+    a_legal_core_without_work_is_done,
+};
 pub use moving::move_items;
 pub use starting::begin;
 pub use step_parts::{StepFault, Stepped};

@@ -176,6 +176,7 @@ desk_begins {s} {t} {n} {old} known new made posts (DeskBegins.answers w r v a n
           requests = own.sound.requests;
           stops_notified = stops_answer old.notices (notified_zones s.sizes) w a (line.Begin w ∷ old.log) own.sound.stops_notified
               (λ same. notified_enough s.sizes old (once_stopped s.sizes (is_notified s.sizes old) v.asks v.at.0 (once ∙ ap (λ (b : Reply). Some b) same)));
+          parked_early = own.sound.parked_early;
         };
         kept = line_kept known answered (began ∷ t) second (line_kept known began t first own.kept);
         answers = tt;
@@ -193,7 +194,7 @@ desk_begins {s} {t} {n} {old} known new made posts (DeskBegins.sends w r v next_
     (record {
       number_is = own.number_is;
       lists = record { log_is = ap (λ (ls : List DeskLine). line.Begin w ∷ ls) own.lists.log_is; marks_is = own.lists.marks_is };
-      sound = record { requests = own.sound.requests; stops_notified = own.sound.stops_notified };
+      sound = record { requests = own.sound.requests; stops_notified = own.sound.stops_notified; parked_early = own.sound.parked_early };
       kept = line_kept known began t clears own.kept;
       answers = tt;
       told = own.told;
@@ -218,16 +219,37 @@ module _ {s : Session} {t : Trace} {n : ℕ} {old : Desk} {v : Vio} (known : Kno
   flush_asked : v.asks ≡ Flush → request_at s.script v.request ≡ Some request.Flush
   flush_asked flush = (vio_ok known).asked ∙ ap (λ (q : Asks). Some (asked q v.at v.bytes)) flush
 
+  -- an answer that waits for the stop notices is one since the session is stopped
+  cause_stopped : (r : Request) (a : Reply) → is_stopped a ≡ true → HasCause s t v.request r a → has_stopped t ≡ true
+  cause_stopped (request.Write at bytes fua) reply.Stopped is cause = cause.0
+  cause_stopped (request.Discard at) reply.Stopped is cause = cause.0
+  cause_stopped (request.Read at) reply.Stopped is cause = cause.0
+  cause_stopped request.Flush reply.Stopped is cause = cause
+  cause_stopped (request.Read at) reply.Damaged is cause = absurd cause
+  cause_stopped (request.Write at bytes fua) reply.Damaged is cause = absurd cause
+  cause_stopped (request.Discard at) reply.Damaged is cause = absurd cause
+  cause_stopped request.Flush reply.Damaged is cause = absurd cause
+  cause_stopped r other is cause = absurd cc
+
+  earned_stopped : (a : Reply) → is_stopped a ≡ true → IsEarned s t (mark_of_vio v) (request_of v) a (is_marked v.asks a) → has_stopped t ≡ true
+  earned_stopped reply.Stopped is k = cause_stopped (request_of v) reply.Stopped is k
+  earned_stopped reply.Damaged is k = cause_stopped (request_of v) reply.Damaged is k
+  earned_stopped other is k = absurd cc
+
   pub desk_serves : (new : Desk) (made : Trace) (posts : List Post) → DeskServes s.sizes old v new made posts → ActKept s t n (at.Desk old) (item.Request v ∷ []) (at.Desk new) made posts
   desk_serves new made posts (DeskServes.parks a is answer stopped unnotified i m q) =
       let own = known.own in
       rw (i, m, q) (act_none known (record {
         number_is = own.number_is;
         lists = record { log_is = own.lists.log_is; marks_is = own.lists.marks_is };
-        sound = record { requests = own.sound.requests; stops_notified = own.sound.stops_notified };
+        sound = record {
+          requests = own.sound.requests;
+          stops_notified = own.sound.stops_notified;
+          parked_early = λ some. let few = ltb-false (1 + s.sizes.zones) old.notices unnotified in omega (arith, few);
+        };
         kept = every-append (KeptOk s t phase.Reply) old.parked (v ∷ []) own.kept (((vio_ok known), known.front_ok.0.1, is), tt);
         answers = tt;
-        told = own.told;
+        told = λ heard. earned_stopped a stopped (earned is a answer);
       }) tt)
   desk_serves new made posts (DeskServes.answers a is answer notified unmarked i m q) =
       let own = known.own in
@@ -241,6 +263,7 @@ module _ {s : Session} {t : Trace} {n : ℕ} {old : Desk} {v : Vio} (known : Kno
         sound = record {
           requests = own.sound.requests;
           stops_notified = stops_answer old.notices (notified_zones s.sizes) v.request a old.log own.sound.stops_notified (λ same. notified_enough s.sizes old (notified (ap is_stopped same)));
+          parked_early = own.sound.parked_early;
         };
         kept = line_kept known h t clears own.kept;
         answers = tt;
@@ -259,7 +282,7 @@ module _ {s : Session} {t : Trace} {n : ℕ} {old : Desk} {v : Vio} (known : Kno
           log_is = ap (λ (ls : List DeskLine). line.Answer v.request reply.Ok ∷ ls) own.lists.log_is;
           marks_is = ap (λ (ms : List FlushMark). mark ∷ ms) own.lists.marks_is;
         };
-        sound = record { requests = own.sound.requests; stops_notified = stops_answer old.notices (notified_zones s.sizes) v.request reply.Ok old.log own.sound.stops_notified (λ same. absurd cc) };
+        sound = record { requests = own.sound.requests; stops_notified = stops_answer old.notices (notified_zones s.sizes) v.request reply.Ok old.log own.sound.stops_notified (λ same. absurd cc); parked_early = own.sound.parked_early };
         kept = line_kept known h t clears own.kept;
         answers = tt;
         told = own.told;
@@ -277,7 +300,7 @@ desk_hears {s} {t} {n} {old} known =
     act_none known (record {
       number_is = own.number_is;
       lists = record { log_is = own.lists.log_is; marks_is = own.lists.marks_is };
-      sound = record { requests = own.sound.requests; stops_notified = λ w stopped. (let enough = own.sound.stops_notified w stopped in omega (arith, enough)) };
+      sound = record { requests = own.sound.requests; stops_notified = λ w stopped. (let enough = own.sound.stops_notified w stopped in omega (arith, enough)); parked_early = λ some. absurd (omega (arith, some)) };
       kept = tt;
       answers = tt;
       told = λ heard. known.front_ok.0.0;

@@ -153,10 +153,14 @@ module _ (s : Session) (session : IsSession s) where
   data_at_start n (at.Desk d) h = record {
     number_is = h.number_is;
     lists = record { log_is = h.log; marks_is = h.marks };
-    sound = record { requests = h.requests; stops_notified = λ w is. absurd (let none = rw h.log at is in cc) };
+    sound = record {
+      requests = h.requests;
+      stops_notified = λ w is. absurd (let none = rw h.log at is in cc);
+      parked_early = λ some. let none = ap length h.parked in absurd (omega (arith, some, none));
+    };
     kept = nobody_at_start n (at.Desk d) h;
     answers = tt;
-    told = λ heard. let none = h.notices in absurd (omega (arith, heard, none));
+    told = λ heard. let none = h.notices in let nobody = ap length h.parked in absurd (omega (arith, heard, none, nobody));
   }
   data_at_start n (at.Logical l) h = record {
     number_is = h.number_is;
@@ -190,6 +194,7 @@ module _ (s : Session) (session : IsSession s) where
     lanes = f.lanes;
     inbox = subst (λ (items : List Item). AllByRecursion (ItemOk s [] n) items) (sym f.inbox) tt;
     outboxes = λ to lane e. subst (λ (items : List Item). AllByRecursion (ItemOk s [] to) items) (sym (every-get (λ lane. lane ≡ []) z.ports.outboxes to lane f.outboxes e)) tt;
+    to_itself = λ lane e. every-get (λ lane. lane ≡ []) z.ports.outboxes n lane f.outboxes e;
     own = data_at_start n z.keeps f.own;
     counted = omega (arith, none_made s n z.keeps f.own);
   }

@@ -145,6 +145,7 @@ module _ (s : Session) (h : Happening) (t : Trace) where
     lanes = ok.lanes;
     inbox = items_on n z.ports.inbox (part (λ k. total (token_of s.sizes k).item z.ports.inbox) (λ k. omega arith)) ok.inbox;
     outboxes = lanes_on z.ports.outboxes (part (λ k. total (total (token_of s.sizes k).item) z.ports.outboxes) (λ k. omega arith)) ok.outboxes;
+    to_itself = ok.to_itself;
     own = record {
       number_is = ok.own.number_is;
       lists = lists_kept z.keeps (λ is. off (ok.own.number_is ∙ is)) ok.own.lists;

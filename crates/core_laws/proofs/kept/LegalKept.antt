@@ -1,6 +1,6 @@
 -- Each step and each move keeps a core legal, and so does each list of events.
 use Rattle.std.proofs.Common.{◌≡◌, ℕ, zero, suc, ◌+◌, ◌<◌, ◌≤◌, Bool, true, false, Some, List, [], ◌∷◌, ◌++◌, length, nat_eq, slice_get, slice_set, refl, ap, sym, ◌∙◌, subst, arith}
-use Rattle.core_laws.proofs.Common.{AllByRecursion, Balanced, Each, Each-put_other, GivesRight, HasHonestReads, IsSession, Item, ItemOk, Post, RightTrace, Session, Token, Trace, Writer, Zone, ZoneData, ZoneOk, block_token, entry_token, eqb-true, every-append, every-map, holder_token, idle_at, is_sealed, journal_token, lease_token, length-put, made_by, notice_token, request_token, room_token, same_Some, total, zone_number}
+use Rattle.core_laws.proofs.Common.{AllByRecursion, Balanced, Each, Each-put_other, GivesRight, HasHonestReads, IsSession, Item, ItemOk, Post, RightTrace, Session, Token, Trace, Writer, Zone, ZoneData, ZoneOk, block_token, entry_token, eq-eqb, eqb-true, every-append, every-map, holder_token, idle_at, is_sealed, journal_token, lease_token, length-put, made_by, notice_token, request_token, room_token, same_Some, total, zone_number}
 use Rattle.core_model.specs.Arrivals.{arrivals_at}
 use Rattle.core_model.specs.Legal.{Legal}
 use Rattle.core_model.specs.Steps.{Act, Core, StepOf, sent_to, sent, delivered, posted}
@@ -27,6 +27,14 @@ each-posted P zero x (y ∷ ys) each k (suc n) l e = each (suc n) l e
 each-posted P (suc to) x (y ∷ ys) each k zero l e = each 0 l e
 each-posted P (suc to) x (y ∷ ys) each k (suc n) l e = each-posted (λ m. P (suc m)) to x ys (λ m. each (suc m)) k n l e
 
+-- the other lanes stay
+get-posted : (to n : ℕ) (x : Item) (lanes : List (List Item)) → (to ≡ n → ⊥) → slice_get (posted to x lanes) n ≡ slice_get lanes n
+get-posted to n x [] ne = refl
+get-posted zero zero x (y ∷ ys) ne = absurd (ne refl)
+get-posted zero (suc n) x (y ∷ ys) ne = refl
+get-posted (suc to) zero x (y ∷ ys) ne = refl
+get-posted (suc to) (suc n) x (y ∷ ys) ne = get-posted to n x ys (λ same. ne (ap suc same))
+
 sent_ok : (s : Session) (t : Trace) (n : ℕ) (b : Bool) (to : ℕ) (it : Item) (z : Zone) → nat_eq to z.number ≡ b → ItemOk s t to it → ZoneOk s t n z → ZoneOk s t n (sent_to b to it z)
 sent_ok s t n true to it z e k ok =
     let home : to ≡ n = eqb-true to z.number e ∙ ok.number_is in
@@ -35,6 +43,7 @@ sent_ok s t n true to it z e k ok =
       lanes = ok.lanes;
       inbox = every-append (ItemOk s t n) z.ports.inbox (it ∷ []) ok.inbox (subst (λ (m : ℕ). ItemOk s t m it) home k, tt);
       outboxes = ok.outboxes;
+      to_itself = ok.to_itself;
       own = ok.own;
       counted = ok.counted;
     }
@@ -43,9 +52,13 @@ sent_ok s t n false to it z e k ok = record {
   lanes = length-posted to it z.ports.outboxes ∙ ok.lanes;
   inbox = ok.inbox;
   outboxes = each-posted (ItemOk s t) to it z.ports.outboxes ok.outboxes k;
+  to_itself = λ lane had. ok.to_itself lane (sym (get-posted to n it z.ports.outboxes (λ same. elsewhere same)) ∙ had);
   own = ok.own;
   counted = ok.counted;
 }
+  where
+    elsewhere : to ≡ n → ⊥
+    elsewhere same = let here : nat_eq to z.number ≡ true = eq-eqb to z.number (same ∙ sym ok.number_is) in cc
 
 delivered_ok : (s : Session) (t : Trace) (n : ℕ) (ps : List Post) (z : Zone) → AllByRecursion (PostOk s t) ps → ZoneOk s t n z → ZoneOk s t n (delivered s.sizes ps z)
 delivered_ok s t n [] z k ok = ok
@@ -85,7 +98,7 @@ module _ (s : Session) (session : IsSession s) (old new : Core) (legal : Legal s
   zone_ok' : ZoneOk s t' st.number st.zone'
   zone_ok' =
       let served : Zone = record st.zone { keeps = st.zone'.keeps; ports = record st.zone.ports { inbox = st.step.rest }; steps = st.zone.steps + 1 } in
-      let first : ZoneOk s t' st.number served = record { number_is = zone_ok.number_is; lanes = zone_ok.lanes; inbox = beside.inbox; outboxes = beside.outboxes; own = stepped.own; counted = counted } in
+      let first : ZoneOk s t' st.number served = record { number_is = zone_ok.number_is; lanes = zone_ok.lanes; inbox = beside.inbox; outboxes = beside.outboxes; to_itself = zone_ok.to_itself; own = stepped.own; counted = counted } in
       subst (λ (z : Zone). ZoneOk s t' st.number z) (sym st.step.lanes) (delivered_ok s t' st.number st.step.posts served stepped.posts_ok first)
 
   zones_is : new.zones ≡ slice_set old.zones st.number st.zone'

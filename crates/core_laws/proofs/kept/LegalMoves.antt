@@ -31,6 +31,7 @@ module _ (s : Session) (old new : Core) (m : MoveOf old new) (legal : Legal s ol
     lanes = length-put m.source.ports.outboxes m.to m.left ∙ source_ok.lanes;
     inbox = source_ok.inbox;
     outboxes = Each-put {P = λ to. AllByRecursion (ItemOk s old.trace to)} {Q = λ to. AllByRecursion (ItemOk s old.trace to)} m.source.ports.outboxes m.to (m.part ++ m.left) m.left m.outbox source_ok.outboxes (λ j x h. h) parts.1;
+    to_itself = λ lane had. source_ok.to_itself lane (sym (get-put_other m.source.ports.outboxes m.to m.from m.left m.apart) ∙ had);
     own = source_ok.own;
     counted = source_ok.counted;
   }
@@ -41,6 +42,7 @@ module _ (s : Session) (old new : Core) (m : MoveOf old new) (legal : Legal s ol
     lanes = target_ok.lanes;
     inbox = every-append (ItemOk s old.trace m.to) m.target.ports.inbox m.part target_ok.inbox parts.0;
     outboxes = target_ok.outboxes;
+    to_itself = target_ok.to_itself;
     own = target_ok.own;
     counted = target_ok.counted;
   }

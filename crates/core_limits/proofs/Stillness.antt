@@ -1,0 +1,164 @@
+-- A legal core in which nothing is left to do has answered each request: nobody holds a lock or waits for one, no block of the
+-- journal goes round, and the stop notices of all zones have come if the session is stopped.
+use Rattle.std.proofs.Common.{◌≡◌, ℕ, ◌≤◌, Bool, true, false, not, cond, Some, List, [], ◌∷◌, ◌++◌, length, slice_get, refl, sym, ap, ◌∙◌, subst, inl, inr, arith}
+use Rattle.std.proofs.lemmas.List.{nil_from_length}
+use Rattle.core_laws.proofs.Common.{AllAnswered, AllByRecursion, DataOk, Desk, IsNextLine, Item, JournalZone, LogicalZone, Phase, Session, Token, Vio, WaitsOk, Writer, Zone, ZoneData, as_items, bit, cases_Bool, cases_lt, desk_zone, device_zone, eqb_tells, given, heard_at, held_at, holder_token, holds, idle_at, is_answer, is_begin, is_sealed, is_word, journal_token, kept_by, lines, notice_token, notified_by, notified_zones, queued, room_token, total, total-get, total_alone, total_zero, weight}
+use Rattle.core_model.specs.declared.items.Phase.TheVariants as phase
+use Rattle.core_model.specs.declared.zones.ZoneData.TheVariants as at
+use Rattle.core_model.specs.Legal.{Legal}
+use Rattle.core_model.specs.LogicalRows.{is_held}
+use Rattle.core_model.specs.Steps.{Core, IsStill, MayBegin}
+use Rattle.core_model.specs.Tokens.{one_journal}
+use Rattle.vdo_model.specs.declared.report.DeskLine.TheVariants.{Begin}
+use Rattle.core_laws.proofs.kept.ZoneKinds.{desk_sits, device_sits}
+use Rattle.core_laws.proofs.tokens.Known.{IsIn, kept_in}
+use Rattle.core_laws.proofs.trace.DeskOfTrace.{desk_log_right}
+use Rattle.core_limits.proofs.DeskLimits.{lines_are, log_few}
+use Rattle.core_limits.proofs.FullLogs.{answered_when_full}
+use Rattle.core_limits.proofs.Rooms.{carried, only_desk, split_sum}
+use Rattle.core_limits.proofs.StillLogs.{all_there}
+
+-- requests weigh nothing as blocks of the journal, and as stop notices
+no_block : (vs : List Vio) → total is_sealed (as_items vs) ≡ 0
+no_block [] = refl
+no_block (v ∷ vs) = omega (arith, no_block vs)
+
+no_word : (vs : List Vio) → total is_word (as_items vs) ≡ 0
+no_word [] = refl
+no_word (v ∷ vs) = omega (arith, no_word vs)
+
+-- and those in a phase without a lock weigh none
+no_lock : (q : Phase) (vs : List Vio) → holds q ≡ false → AllByRecursion (IsIn q) vs → total holder_token.item (as_items vs) ≡ 0
+no_lock q [] free all = refl
+no_lock q (v ∷ vs) free all = let here = ap (λ (p : Phase). bit (holds p)) all.0 ∙ ap bit free in omega (arith, here, no_lock q vs free all.1)
+
+module _ (s : Session) (core : Core) (legal : Legal s core) (still : IsStill s.sizes core.zones) where
+  own : (n : ℕ) (z : Zone) → slice_get core.zones n ≡ Some z → (d : ZoneData) → z.keeps ≡ d → DataOk s core.trace n d
+  own n z had d keeps = subst (λ (k : ZoneData). DataOk s core.trace n k) keeps (legal.each n z had).own
+
+  -- no lane has an item, so a zone carries only what it keeps
+  lane_empty : (n : ℕ) (z : Zone) → slice_get core.zones n ≡ Some z → (to : ℕ) (lane : List Item) → slice_get z.ports.outboxes to ≡ Some lane → lane ≡ []
+  lane_empty n z had to lane there = elim (eqb_tells to n) [
+    | inl same ↦ (legal.each n z had).to_itself lane (subst (λ (i : ℕ). slice_get z.ports.outboxes i ≡ Some lane) same.1 there)
+    | inr other ↦ still.all_moved n z had to lane other.1 there
+  ]
+
+  carried_kept : (t : Token) (n : ℕ) (z : Zone) → slice_get core.zones n ≡ Some z → carried t z ≡ queued t.item z.keeps
+  carried_kept t n z had =
+      let inbox = ap (total t.item) (still.nothing n z had).inbox in
+      let lanes = total_zero (total t.item) z.ports.outboxes (λ to lane there. ap (total t.item) (lane_empty n z had to lane there)) in
+      omega (arith, inbox, lanes)
+
+  -- where that weighs nothing, all that is held is the zones' own
+  own_alone : (t : Token) → ((n : ℕ) (z : Zone) → slice_get core.zones n ≡ Some z → queued t.item z.keeps ≡ 0) → total (weight t) core.zones ≡ total (λ (z : Zone). t.own z.keeps) core.zones
+  own_alone t none =
+      let zero = total_zero (carried t) core.zones (λ n z had. carried_kept t n z had ∙ none n z had) in
+      omega (arith, split_sum t core.zones, zero)
+
+  -- The journal is idle.
+  one_idle : (n : ℕ) (z : Zone) → slice_get core.zones n ≡ Some z → (j : JournalZone) → z.keeps ≡ at.Journal j → j.busy ≡ false
+  one_idle n z had j keeps = elim (cases_Bool j.busy) [
+    | inr idle ↦ idle
+    | inl busy ↦
+        let held = own_alone journal_token (λ m y there. no_block (kept_by y.keeps)) in
+        let alone = total_alone (λ (y : Zone). idle_at y.keeps) core.zones n z had (λ m y there ne. other m y.keeps ne (legal.each m y there).own) in
+        let here : idle_at z.keeps ≡ 0 = ap idle_at keeps ∙ ap (λ (b : Bool). bit (not b)) busy in
+        let given_here : one_journal z.keeps ≡ 1 = ap one_journal keeps in
+        let most = total-get (given journal_token) core.zones n z had in
+        let balance = legal.journal in
+        absurd (omega (arith, held, alone, here, given_here, most, balance))
+  ]
+    where
+      mine : DataOk s core.trace n (at.Journal j)
+      mine = own n z had (at.Journal j) keeps
+
+      other : (m : ℕ) (d : ZoneData) → (m ≡ n → ⊥) → DataOk s core.trace m d → idle_at d ≡ 0
+      other m (at.Journal k) ne ok = absurd (ne (ok.number_is ∙ sym mine.number_is))
+      other m d ne ok = refl
+
+  journal_keeps_none : (n : ℕ) (z : Zone) → slice_get core.zones n ≡ Some z → (j : JournalZone) → z.keeps ≡ at.Journal j → kept_by (at.Journal j) ≡ []
+  journal_keeps_none n z had j keeps =
+      let unused = (own n z had (at.Journal j) keeps).sound.1 (one_idle n z had j keeps) in
+      ap (λ (vs : List Vio). vs ++ j.waiting) unused.unfilled ∙ unused.unawaited
+
+  -- Nobody holds a lock, so nobody waits for one.
+  no_holder : (n : ℕ) (z : Zone) → slice_get core.zones n ≡ Some z → queued holder_token.item z.keeps ≡ 0
+  no_holder n z had = by z.keeps refl
+    where
+      by : (d : ZoneData) → z.keeps ≡ d → queued holder_token.item d ≡ 0
+      by (at.Desk desk) keeps = no_lock phase.Reply desk.parked refl (kept_in s core.trace (at.Desk desk) (own n z had (at.Desk desk) keeps).kept)
+      by (at.Logical l) keeps = no_lock phase.Wait l.waiting refl (kept_in s core.trace (at.Logical l) (own n z had (at.Logical l) keeps).kept)
+      by (at.Journal j) keeps = ap (λ (vs : List Vio). total holder_token.item (as_items vs)) (journal_keeps_none n z had j keeps)
+      by other keeps = refl
+
+  none_held : (n : ℕ) (z : Zone) → slice_get core.zones n ≡ Some z → (l : LogicalZone) → z.keeps ≡ at.Logical l → l.held ≡ []
+  none_held n z had l keeps =
+      let held = own_alone holder_token no_holder in
+      let none = total_zero (λ (y : Zone). holder_token.own y.keeps) core.zones (λ m y there. refl) in
+      let here = total-get (given holder_token) core.zones n z had in
+      let same = ap held_at keeps in
+      let balance = legal.holders in
+      nil_from_length l.held (omega (arith, held, none, here, same, balance))
+
+  none_waits : (n : ℕ) (z : Zone) → slice_get core.zones n ≡ Some z → (l : LogicalZone) → z.keeps ≡ at.Logical l → l.waiting ≡ []
+  none_waits n z had l keeps = by l.waiting (own n z had (at.Logical l) keeps).sound.locks.waits
+    where
+      by : (vs : List Vio) → AllByRecursion (WaitsOk l.zone l.next l.held) vs → vs ≡ []
+      by [] waits = refl
+      by (v ∷ vs) waits = absurd (let locked = waits.0.locked in let none = ap (is_held v.at.0) (none_held n z had l keeps) in cc)
+
+  -- No answer waits for the stop notices: all of them have come, or none was sent.
+  none_parked : (n : ℕ) (z : Zone) → slice_get core.zones n ≡ Some z → (desk : Desk) → z.keeps ≡ at.Desk desk → desk.parked ≡ []
+  none_parked n z had desk keeps = nil_from_length desk.parked (elim (cases_lt 0 (length desk.parked)) [
+    | inr none ↦ omega (arith, none)
+    | inl some ↦
+        let k = own n z had (at.Desk desk) keeps in
+        let device = device_sits s core.trace core.zones legal.each legal.count in
+        let d = own (device_zone s.sizes) device.zone device.had (at.Device device.it) device.keeps in
+        let stopped : device.it.stopped ≡ true = d.lists.stopped_is ∙ k.told (omega (arith, some)) in
+        let held = own_alone (notice_token s.sizes) (λ m y there. no_word (kept_by y.keeps)) in
+        let heard = total_alone (λ (y : Zone). heard_at y.keeps) core.zones n z had (λ m y there ne. other m y.keeps ne (legal.each m y there).own) in
+        let here = ap heard_at keeps in
+        let sent = total-get (given (notice_token s.sizes)) core.zones (device_zone s.sizes) device.zone device.had in
+        let all : notified_by s.sizes device.zone.keeps ≡ notified_zones s.sizes = ap (notified_by s.sizes) device.keeps ∙ ap (λ (b : Bool). cond b (notified_zones s.sizes) 0) stopped in
+        let early = k.sound.parked_early some in
+        let balance = legal.stop_notices in
+        absurd (omega (arith, held, heard, here, sent, all, early, balance))
+  ])
+    where
+      mine : DataOk s core.trace n (at.Desk desk)
+      mine = own n z had (at.Desk desk) keeps
+
+      other : (m : ℕ) (d : ZoneData) → (m ≡ n → ⊥) → DataOk s core.trace m d → heard_at d ≡ 0
+      other m (at.Desk k) ne ok = absurd (ne (ok.number_is ∙ sym mine.number_is))
+      other m d ne ok = refl
+
+  -- So no zone keeps a request, and as many were answered as begun.
+  kept_none : (n : ℕ) (z : Zone) → slice_get core.zones n ≡ Some z → kept_by z.keeps ≡ []
+  kept_none n z had = by z.keeps refl
+    where
+      by : (d : ZoneData) → z.keeps ≡ d → kept_by d ≡ []
+      by (at.Desk desk) keeps = none_parked n z had desk keeps
+      by (at.Logical l) keeps = none_waits n z had l keeps
+      by (at.Journal j) keeps = journal_keeps_none n z had j keeps
+      by other keeps = refl
+
+  as_many_answered : total is_begin (lines core.trace) ≡ total is_answer (lines core.trace)
+  as_many_answered =
+      let held = own_alone room_token (λ n z had. ap (λ (vs : List Vio). total room_token.item (as_items vs)) (kept_none n z had)) in
+      sym (only_desk s core legal is_begin) ∙ sym legal.room ∙ held ∙ only_desk s core legal is_answer
+
+  -- no stream may begin a request
+  none_begins : (w : Writer) → IsNextLine s.sizes.depth s.script (Begin w) (lines core.trace) → ⊥
+  none_begins w next =
+      let desk = desk_sits s core.trace core.zones legal.each legal.count in
+      let k = own desk_zone desk.zone desk.had (at.Desk desk.it) desk.keeps in
+      let may : MayBegin s.sizes (at.Desk desk.it) = (w, rw (sym k.sound.requests, sym k.lists.log_is) at next) in
+      (still.nothing desk_zone desk.zone desk.had).none_begins (subst (MayBegin s.sizes) (sym desk.keeps) may)
+
+  pub all_answered : 1 ≤ s.sizes.depth → AllAnswered s.script (lines core.trace)
+  all_answered depth =
+      let log = lines core.trace in
+      let right = desk_log_right s core.trace legal.right in
+      let there = all_there s.sizes.depth s.script log right (omega (arith, as_many_answered)) depth none_begins in
+      answered_when_full s.sizes.depth s.script log right (omega (arith, lines_are log, log_few s.sizes.depth s.script log right, there, as_many_answered))
