@@ -1,5 +1,5 @@
 -- What the desk does: it begins requests, and answers them.
-use Rattle.std.specs.Prelude.{ℕ, ◌+◌, ◌≡◌, ◌≤◌, Bool, true, false, Option, None, Some, List, [], ◌∷◌, ◌++◌, nat_lt, if◌then◌else◌}
+use Rattle.std.specs.Prelude.{ℕ, ◌+◌, ◌≡◌, Bool, true, false, Option, None, Some, List, [], ◌∷◌, ◌++◌, nat_lt, if◌then◌else◌}
 use Rattle.blk_base.specs.Sectors.{zero_block}
 use Rattle.blk_base.specs.declared.place.ZoneId.{ZoneId}
 use Rattle.blk_base.specs.declared.place.ZoneId.TheVariants as id
@@ -19,14 +19,10 @@ use Rattle.core_model.specs.declared.items.Phase.TheVariants as phase
 use Rattle.core_model.specs.declared.items.Vio.{Vio}
 use Rattle.core_model.specs.declared.sizes.Sizes.{Sizes}
 use Rattle.core_model.specs.DeskData.{Desk}
-use Rattle.core_model.specs.Zones.{notified_zones}
 use Rattle.core_model.specs.Trace.{Trace, Says, Flushes}
 use Rattle.core_model.specs.Vios.{Post, begun_vio, turned}
 
 -- the stop notice of every zone has come to the desk
-abbrev pub IsNotified : Sizes → Desk → Type 0
-IsNotified sizes desk = notified_zones sizes ≤ desk.notices
-
 abbrev pub is_notified : Sizes → Desk → Bool
 is_notified sizes desk = nat_lt (1 + sizes.zones) desk.notices
 

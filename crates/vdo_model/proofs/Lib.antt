@@ -10,5 +10,4 @@ pub mod MarkRows
 pub mod StopRows
 pub mod AfterStopRows
 pub mod RunRows
-pub mod ServableRows
 pub mod ZoneOrderRows

@@ -7,4 +7,3 @@ pub mod RightReads
 pub mod FlushMarks
 pub mod Stops
 pub mod RightRuns
-pub mod Servable
