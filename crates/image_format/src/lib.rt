@@ -1,4 +1,4 @@
-//! Makes an empty image on a device, so that a stop at any moment leaves the device as it was, or no image, or an empty
+//! Makes an empty image on a device, so that a stop at any moment leaves what the old image said, or no image, or an empty
 //! one.
 #![tactic(auto)]
 

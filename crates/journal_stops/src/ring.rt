@@ -19,9 +19,9 @@ ghost use Rattle.journal_stops.specs.Rings.{IsWhole, IsRing, IsAtRest, IsUnderWa
 ghost use Rattle.journal_stops.specs.Sealed.{Sealed, IsSealed, next_of, head_of, window_of, front_of};
 
 /// A journal in which no sector is as late as the first sequence is at rest, and has no block; and where nothing is
-/// pending, it is at rest as it is in the one image. So each image that a stop leaves can be opened again with a first
-/// sequence two past its last one, or later, and so can each sound image. With the first sequence that it had, a journal
-/// goes on where its last block is whole, nothing is later, and the ring has a slot for the next one.
+/// pending, it is at rest as it is in the one image. So the journal of each image that a stop leaves is at rest with a first
+/// sequence two past its last one, or later, and so is that of each sound image. With the first sequence that it had, a
+/// journal goes on where its last block is whole, nothing is later, and the ring has a slot for the next one.
 pub fn a_journal_begins_at_rest()
     ensures empty { (image : Blocks) (g : Geometry) (start : ℕ) → 1 ≤ start → 0 < g.journal
         → ((slot number sequence head : ℕ) (entries : List Entry) → slot < g.journal → number < 8

@@ -44,7 +44,8 @@ pub record HasWrongCount (image : Image) (at : Pbn) (stored mapped : ℕ) : Type
   pub unshared : AreUnshared image
   pub wrong : IsCountsFault image at stored mapped
 
--- what it has fits its sizes, on any device
+-- On any device: sizes within their limits, a count of at most the limit for each data block, and a point for each sector of
+-- counters. Of pages and links it says nothing.
 pub record Fits (opened : Opened) : Type 0 where
   pub sizes : IsGeometry opened.head.geometry
   pub counters : length opened.counters.items ≡ all_blocks opened.head.geometry

@@ -1,4 +1,4 @@
-//! An image whose last session wasn't closed is made one that was, so that it says the same; and one that was closed is
+//! An image whose last session wasn't closed is made one that was, and a sound one says the same then; one that was closed is
 //! opened for a session.
 #![tactic(auto)]
 

@@ -60,7 +60,8 @@ fn put_links<D: Disk>(device: &mut D, changes: &Changes, links: &[Link]) -> Resu
     Ok(())
 }
 
-// Writes this page, if they do. A device that isn't honest may have given a link past its end: nothing is written there.
+// Writes this page, if they do. That a link is below the device's end isn't promised here: nothing is written at one that
+// isn't.
 fn put_page<D: Disk>(device: &mut D, changes: &Changes, link: Link) -> Result<(), Failed>
     ensures { Acts D.tells D.honest (D.seen device.old) (D.seen device.new) (HasPage changes.now link) (IsPageDone changes.now link) result }
 {

@@ -12,7 +12,7 @@ ghost use Rattle.recovery_laws.specs.Calls.{ArePuts, IsPut, recovery_calls};
 ghost use Rattle.recovery_laws.specs.Kept.{AreKept, AreStopsKept, IsRecovered, IsToRecover, SayTheSame, image_in, recovered_super};
 ghost use Rattle.recovery_laws.specs.Written.{AreFull, AreUnderway};
 
-/// While an image is recovered it is sound and says the same, with its other blocks as they were, and afterwards it is
+/// While a sound image is recovered it is sound and says the same, with its other blocks as they were, and afterwards it is
 /// closed too: of each of these, whatever way it came there. It does nothing.
 pub fn blocks_underway_say_the_same()
     ensures underway { (blocks now : Blocks) (sound : IsSound blocks) → sound.head.clean ≡ false → AreUnderway (image_in blocks sound) now
@@ -27,10 +27,10 @@ pub fn blocks_underway_say_the_same()
         → AreKept (image_in middle first.sound) now → AreKept old now }
 {}
 
-/// Recovery makes its writes in any order, with reads among them; then a flush, the superblock, and a flush. Whatever a
-/// stop leaves at any moment of that, also where a call failed and no other was made behind it, is sound and says the same,
-/// with each block as it was that is neither the superblock's, nor a page's, nor the counters'; and afterwards nothing is
-/// pending and the image is closed. It does nothing.
+/// Recovery makes its writes in any order, with reads among them; then a flush, the superblock, and a flush. Of a sound image
+/// on which nothing is pending, whatever a stop leaves at any moment of that, also where a call failed and no other was made
+/// behind it, is sound and says the same, with each block as it was that is neither the superblock's, nor a page's, nor the
+/// counters'; and afterwards nothing is pending and the image is closed. It does nothing.
 pub fn recovery_keeps_what_an_image_says()
     // While not all writes are made.
     ensures parts { (opening blocks : Blocks) (first calls : List Call) (to : IsToRecover opening first blocks) → AllByRecursion (IsPut (image_in blocks to.sound)) calls

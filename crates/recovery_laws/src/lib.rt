@@ -1,4 +1,4 @@
-//! What recovery keeps: the laws over definitions alone by which an image says the same at each moment of it.
+//! What recovery keeps: the laws over definitions alone by which a sound image says the same at each moment of it.
 #![tactic(auto)]
 
 mod laws;

@@ -46,7 +46,8 @@ IsMadeOrNot tells sink_tells g before after status report (Some fault.Sink) held
 IsMadeOrNot tells sink_tells g before after status report (Some why) held faults held' faults' =
     IsNotMade tells sink_tells g before after status report why held faults held' faults'
 
--- Either way, a stop at any moment leaves what was there, or no image, or an empty one; and the script isn't looked at.
+-- Either way, a stop at any moment leaves what the old image said, or no image, or an empty one; and the script isn't looked
+-- at.
 pub record MakesImage (s : Setting) (g : Geometry) (before after : Outside) (status : ℕ) (report : RunReport) (ended : Option Fault) : Type 0 where
   pub ends : IsMadeOrNot s.device_tells s.sink_tells g before.device after.device status report ended before.held before.sink_faults after.held after.sink_faults
   pub stays : Stays before.device after.device

@@ -14,7 +14,7 @@ use Rattle.vdo_model.specs.declared.report.RunReport.{RunReport}
 use Rattle.vdo_model.specs.FlushMarks.{Moment, lines_of, calls_of, AreFlushMarks}
 use Rattle.vdo_model.specs.Stops.{RightAfterStops}
 
--- an image can be opened with this superblock, and then its addresses have these values
+-- an image has this superblock, and a window by which its addresses have these values; whether a run opens it isn't said
 pub record OpensWith (head : Super) (image : Blocks) (values : ℕ → List ℕ) : Type 0 where
   pub superblock : super_of_image image ≡ Ok head
   pub has_values : GivesValues head.geometry head.start image values

@@ -289,16 +289,18 @@ fn status_of_device<D: Disk, S: Source, K: Sink>(
 /// served on the device's image by the zones of a core, whose steps and moves come in the order of the schedule N (0
 /// where none is given). Their answers are put to `out`, one line for each. What earlier runs wrote is there again: it
 /// is read from the window of the recovery journal. `format`, with the sizes of an image as its options: an empty image
-/// is made on the device, and a line says so. `recover`: an image whose last session wasn't closed is closed, so that
-/// it says the same, and how many entries of its journal were used is told; nothing is written where it was closed.
+/// is made on the device, and a line says so. `recover`: an image whose last session wasn't closed is closed, and how many
+/// entries of its journal were used is told; a sound one says the same then; nothing is written where it was closed.
 /// `audit`: each data block whose stored count isn't the number of its mappings is told, or how many are used where
 /// none differs; nothing is written. `status`: what the image says of itself is told, and nothing is written.
 ///
-/// A stop before or within any call of the device leaves an image that can be opened again. In it each address has the
-/// value of one of its writes: of none older than the last one that was answered before a flush was begun which was
-/// answered too (docs/DESIGN.md, "A stop"). The report's marks say which calls of the device made the flushes last. A stop
-/// while an image is made leaves what was there, or no image, or an empty one. One while a sound image is recovered leaves a
-/// sound one that says the same.
+/// On an honest device on which nothing was pending, a stop before or within any call leaves an image with the superblock
+/// that it had and a journal with a window. By that window each address has the value of one of its writes: of none older
+/// than the last one that was answered before a flush was begun which was answered too (docs/DESIGN.md, "A stop"). That a
+/// later run opens this image isn't claimed: a run refuses one whose sequences are used up, and one with a new page of the
+/// block map in its window. The report's marks say which calls of the device made the flushes last. A stop while an image is
+/// made leaves what the old image said, or no image, or an empty one. One while a sound image is recovered leaves a sound one
+/// that says the same.
 ///
 /// | Status | Comes where |
 /// |---|---|
