@@ -1,15 +1,60 @@
 #!/bin/sh
 # Tries the commands that work on image files, on files in a new folder: what each prints, its status, and what it leaves.
-# It prints a line for each try that went wrong, and ends with 0 where none did.
-top=$(cd "$(dirname "$0")/.." && pwd) || exit 1
+# It prints a line for each try that went wrong, then how many went well and what was left out, and ends with 0 where none
+# went wrong. The program is built where a source is newer, unless VDO names another. It takes some two minutes.
+unset CDPATH
+top=$(cd -- "$(dirname -- "$0")/.." && pwd) || exit 1
 folder=$(mktemp -d) || exit 1
-trap 'umount "$folder/full" 2>/dev/null; chmod -R u+w "$folder"; rm -rf "$folder"' EXIT
+leave() {
+    umount "$folder/full" "$folder/sealed" 2>/dev/null
+    chmod -R u+w "$folder"
+    rm -rf "$folder"
+}
+trap leave EXIT
+trap 'exit 129' HUP
+trap 'exit 130' INT
+trap 'exit 143' TERM
+chmod 755 "$folder"
 cd "$folder" || exit 1
+well=0
 wrong=0
 
-# It is built where a source is newer, and then called by itself.
-"$top/vdo" - 154 format >built || exit 1
-vdo=$top/crates/vdo/out/vdo
+# It is built, and then called by itself.
+if [ -n "$VDO" ]; then
+    vdo=$VDO
+else
+    "$top/vdo" --build || exit 1
+    vdo=$top/crates/vdo/out/vdo
+fi
+
+# say_wrong TEXT: a try went wrong.
+say_wrong() {
+    echo "$1"
+    wrong=$((wrong + 1))
+}
+
+# leave_out TEXT: something can't be tried here.
+leave_out() {
+    echo "left out: $1"
+}
+
+# same TEXT TEXT WHAT: two texts are equal.
+same() {
+    if [ "$1" = "$2" ]; then
+        well=$((well + 1))
+    else
+        say_wrong "$3: '$1', not '$2'"
+    fi
+}
+
+# alike FILE FILE WHAT: two files have the same bytes.
+alike() {
+    if cmp -s "$1" "$2"; then
+        well=$((well + 1))
+    else
+        say_wrong "$3"
+    fi
+}
 
 # try STATUS TEXT WORD..: the program with these words ends with this status and prints this text.
 try() {
@@ -17,20 +62,10 @@ try() {
     text=$2
     shift 2
     printed=$("$vdo" "$@" </dev/null 2>errors)
-    found=$?
-    if [ "$found" != "$status" ] || [ "$printed" != "$text" ]; then
-        echo "vdo $*: status $found, not $status; printed '$printed', not '$text'"
-        wrong=1
-    fi
+    same "$? $printed" "$status $text" "vdo $*"
 }
 
-# same TEXT TEXT WHAT: two texts are equal.
-same() {
-    if [ "$1" != "$2" ]; then
-        echo "$3: '$1', not '$2'"
-        wrong=1
-    fi
-}
+python=$(command -v python3) || leave_out 'python3 is missing, so no other program is asked what an image says'
 
 # bytes FILE FROM COUNT: bytes of a file, in hexadecimal.
 bytes() {
@@ -48,12 +83,12 @@ agree() {
     for command in audit status; do
         printed=$("$vdo" "$1" "$2" "$command" </dev/null 2>errors)
         found=$?
-        if command -v python3 >errors; then
-            plain=$(python3 "$top/tools/whole_image.py" "$command" "$1" "$2")
+        if [ -n "$python" ]; then
+            plain=$($python "$top/tools/whole_image.py" "$command" "$1" "$2")
             same "$found $printed" "$? $plain" "$command of $1"
         fi
     done
-    cmp -s "$1" before || { echo "$1 was written"; wrong=1; }
+    alike "$1" before "$1 was written"
 }
 
 # mend FILE BLOCKS: what the recovery of a copy of a file prints is what the plain program finds. A second one finds it closed,
@@ -64,13 +99,13 @@ mend() {
     audited="$? $audited"
     printed=$("$vdo" mended "$2" recover </dev/null 2>errors)
     found=$?
-    if command -v python3 >errors; then
-        plain=$(python3 "$top/tools/whole_image.py" recover "$1" "$2")
+    if [ -n "$python" ]; then
+        plain=$($python "$top/tools/whole_image.py" recover "$1" "$2")
         same "$found $printed" "$? $plain" "recover of $1"
     fi
     case "$found $printed" in
         '0 recovered '*) try 0 clean mended "$2" recover ;;
-        *) cmp -s "$1" mended || { echo "$1 was written"; wrong=1; } ;;
+        *) alike "$1" mended "$1 was written" ;;
     esac
     printed=$("$vdo" mended "$2" audit </dev/null 2>errors)
     same "$? $printed" "$audited" "audit of $1 after its recovery"
@@ -86,7 +121,7 @@ same "$(bytes image 36864 4)" 564d5031 'the first root'
 # The same again; on a larger device; and with other sizes over it, of which nothing is left.
 cp image again
 try 0 'formatted 154 blocks, 1 slab of 64, logical 1000' again 154 format
-cmp -s image again || { echo 'an image that is made again differs'; wrong=1; }
+alike image again 'an image that is made again differs'
 try 0 'formatted 154 blocks, 1 slab of 64, logical 1000' again 4000000000 format
 same "$(wc -c <again | tr -d ' ')" 630784 'size of an image on a larger device'
 try 0 'formatted 223 blocks, 2 slabs of 64, logical 1000' again 223 format --slabs 2
@@ -105,7 +140,7 @@ try 0 'audit clean, used 0 of 128' again 223 audit
 agree image 154
 agree again 223
 try 0 clean image 154 recover
-cmp -s image kept || { echo 'a closed image was written'; wrong=1; }
+alike image kept 'a closed image was written'
 mend again 223
 
 # A byte is changed in each region: in the superblock, the recovery journal, a root and its last slot, the index, a data
@@ -170,6 +205,7 @@ used 2 of 64
 logical 1000' stopped 154 status
 try 0 'audit clean, used 2 of 64' stopped 154 audit
 mend stopped 154
+cp stopped unclosed
 cp stopped kept
 try 0 'recovered 2 entries' stopped 154 recover
 same "$(bytes stopped 48 16)" 01000000000000000300000000000000 'clean, and start 3'
@@ -187,7 +223,7 @@ cp kept stopped
 put stopped 348160 130
 cp stopped kept
 try 4 'bad image: page 85 header' stopped 154 recover
-cmp -s stopped kept || { echo 'an image that was refused was written'; wrong=1; }
+alike stopped kept 'an image that was refused was written'
 
 # Files without an image; one that is a block short, past whose end stand zeros, and fewer blocks than its image has.
 : >bare
@@ -213,7 +249,7 @@ try 8 'layout: needs 154 blocks, has 153' small 153 format
 same "$(wc -c <small | tr -d ' ')" 0 'size of a file on which no image was made'
 cp image kept
 try 8 'layout: size height' kept 154 format --height 4
-cmp -s image kept || { echo 'an image that was refused was written'; wrong=1; }
+alike image kept 'an image that was refused was written'
 
 # An image in memory is made first.
 try 0 'formatted 154 blocks, 1 slab of 64, logical 1000
@@ -243,23 +279,168 @@ try 3 'device fault' directory 154 audit
 try 3 'device fault' directory 154 status
 try 3 'device fault' directory 154 recover
 try 3 'device fault' missing/image 154 format
+mkfifo pipe
+try 3 'device fault' pipe 154 format
+try 3 'device fault' pipe 154 status
+
+# What another user may only read is looked at, and not changed.
 if [ "$(id -u)" != 0 ]; then
+    another=
+elif command -v setpriv >errors && setpriv --reuid=65534 --regid=65534 --clear-groups "$vdo" - 154 format >errors 2>&1; then
+    another='setpriv --reuid=65534 --regid=65534 --clear-groups'
+else
+    another=no
+fi
+if [ "$another" = no ]; then
+    leave_out 'no other user can run the program, so nothing is tried on files that may only be read'
+else
     : >closed
+    cp image readable
     chmod 0 closed
+    chmod 444 readable
+    cp readable kept
+    caller=$vdo
+    # with "as_another", "$vdo" is called by the other user
+    as_another=$folder/as_another
+    printf '#!/bin/sh\nexec %s "%s" "$@"\n' "$another" "$caller" >"$as_another"
+    chmod 755 "$as_another"
+    vdo=$as_another
     try 3 'device fault' closed 154 format
     try 3 'device fault' closed 154 recover
+    try 3 'device fault' closed 154 status
+    try 0 'audit clean, used 0 of 64' readable 154 audit
+    try 3 'device fault' readable 154 format
+    try 3 'device fault' readable 154 recover
+    vdo=$caller
+    alike readable kept 'a file that may only be read was written'
 fi
+
+# A file system that may only be read.
+if [ "$(id -u)" = 0 ] && mkdir sealed && mount -t tmpfs -o size=4m tmpfs sealed 2>errors; then
+    cp image sealed/image
+    mount -o remount,ro sealed 2>errors
+    try 0 'audit clean, used 0 of 64' sealed/image 154 audit
+    try 3 'device fault' sealed/image 154 recover
+    try 3 'device fault' sealed/absent 154 status
+    umount sealed
+else
+    leave_out 'no file system can be mounted here, so none is tried that may only be read'
+fi
+
+# One at a time: whoever changes a file holds it alone, and those that look at it share it.
+if command -v flock >errors; then
+    cp image held
+    cp held kept
+    for command in format recover audit status; do
+        printed=$(flock -x held "$vdo" held 154 "$command" 2>errors)
+        same "$? $printed" '3 device fault' "$command of a file that another changes"
+    done
+    for command in format recover; do
+        printed=$(flock -s held "$vdo" held 154 "$command" 2>errors)
+        same "$? $printed" '3 device fault' "$command of a file that another looks at"
+    done
+    printed=$(flock -s held "$vdo" held 154 audit 2>errors)
+    same "$? $printed" '0 audit clean, used 0 of 64' 'audit of a file that another looks at'
+    alike held kept 'a file that another holds was written'
+else
+    leave_out 'flock is missing, so no file is held by another program'
+fi
+
+# pair NUMBER COMMAND: format of two slabs beside this command of an image of one. At least one of the two is done, each says
+# that it was or that the file is held, and the image is whole.
+pair() {
+    cp "$3" both
+    "$vdo" both 223 format --slabs 2 >first 2>errors &
+    second=$("$vdo" both 223 "$2" 2>errors)
+    second="$? $second"
+    wait $!
+    first="$? $(cat first)"
+    case "$first+$second" in
+        '3 device fault+3 device fault') say_wrong "pair $1: neither was done" ;;
+        '0 formatted 223 blocks, 2 slabs of 64, logical 1000+'* | '3 device fault+'*) well=$((well + 1)) ;;
+        *) say_wrong "pair $1: '$first' beside '$second'" ;;
+    esac
+    case $second in
+        '0 formatted 223 blocks, 1 slab of 64, logical 1000' | '0 formatted 154 blocks, 1 slab of 64, logical 1000' | '0 recovered 2 entries' | '0 clean' | '3 device fault') ;;
+        *) say_wrong "pair $1: $2 '$second'" ;;
+    esac
+    audited=$("$vdo" both 223 audit 2>errors)
+    case $audited in
+        'audit clean, used 0 of 64' | 'audit clean, used 0 of 128' | 'audit clean, used 2 of 64') ;;
+        *) say_wrong "pair $1: an audit says '$audited'" ;;
+    esac
+}
+number=0
+while [ "$number" -lt 100 ]; do
+    pair "$number" format image
+    pair "$number" recover unclosed
+    number=$((number + 1))
+done
+
+# A standard stream that is closed is never the image: an audit of more than 64 KiB of text.
+try 0 'formatted 4187 blocks, 1 slab of 4096, logical 1000' many 4187 format --slab-blocks 4096
+for sector in 0 1 2 3 4 5 6 7; do
+    head -c 504 /dev/zero | tr '\000' '\001' |
+        dd of=many bs=1 seek=$((4181 * 4096 + 512 * sector + 8)) conv=notrunc 2>errors || exit 1
+done
+cp many kept
+"$vdo" many 4187 audit >lines
+same "$?" 6 'status of an audit of many blocks that differ'
+same "$(wc -l <lines | tr -d ' ')" 4033 'lines of an audit of many blocks that differ'
+same "$(tail -n 1 lines)" 'audit differs 4032' 'the last line of an audit of many blocks that differ'
+[ "$(wc -c <lines)" -gt 65536 ] || say_wrong 'the audit has too few bytes'
+cp lines told
+"$vdo" many 4187 audit >lines <&-
+same "$?" 6 'status of an audit without an input'
+alike lines told 'an audit without an input tells something else'
+"$vdo" many 4187 audit >lines 2>&-
+same "$?" 6 'status of an audit without a place for errors'
+alike lines told 'an audit without a place for errors tells something else'
+"$vdo" many 4187 audit >&-
+same "$?" 6 'status of an audit without an output'
+"$vdo" many 4187 audit <&- >&-
+same "$?" 6 'status of an audit without an input and an output'
+"$vdo" many 4187 audit <&- >&- 2>&-
+same "$?" 6 'status of an audit without any stream'
+alike many kept 'an audit wrote the image'
+"$vdo" many 4187 status >&-
+same "$?" 7 'status of a status without an output'
+"$vdo" many 4187 status <&- >&- 2>&-
+same "$?" 7 'status of a status without any stream'
+alike many kept 'a status wrote the image'
+"$vdo" image 154 format >&-
+same "$?" 7 'status of a format without an output'
+same "$("$vdo" image 154 audit)" 'audit clean, used 0 of 64' 'an image that was made without an output'
+"$vdo" run <&- >lines
+same "$? $(cat lines)" '7 read fault' 'a run without an input'
 if [ -c /dev/full ]; then
     "$vdo" image 154 audit >/dev/full 2>errors
     same "$?" 7 'status of an audit that could not be put'
     try 3 'device fault' /dev/full 154 format
+else
+    leave_out 'there is no /dev/full'
 fi
+
+# A device larger than any memory.
+try 5 'no memory' - 4294967295 run
 
 # A file system with room for 16 blocks, where one can be made: a write fails, and what is left is no image.
 if [ "$(id -u)" = 0 ] && mkdir full && mount -t tmpfs -o size=65536 tmpfs full 2>errors; then
     try 3 'device fault' full/image 154 format
     try 4 'bad image: not an image' full/image 154 recover
     umount full
+else
+    leave_out 'no file system can be mounted here, so none is tried that is full'
 fi
 
-exit "$wrong"
+# A file that may grow no further.
+printed=$(trap '' XFSZ; ulimit -f 8; "$vdo" grown 154 format 2>errors)
+same "$? $printed" '3 device fault' 'format of a file that may grow no further'
+
+# The examples of README and of the manual.
+if [ -n "$python" ]; then
+    $python "$top/tools/examples.py" "$vdo" || say_wrong 'an example of the documents is wrong'
+fi
+
+echo "image files: $well tries went well, $wrong went wrong"
+[ "$wrong" = 0 ]

@@ -1,13 +1,12 @@
-ghost use Rattle.std.specs.Prelude.{◌≡◌, IfOk};
+ghost use Rattle.std.specs.Prelude.{◌≡◌};
 ghost use Rattle.disk_model.specs.Causes.{HasCause};
 
 use crate::places::{read_block, write_block};
 use blk_base::{Block, Pbn};
 use disk_model::{Disk, Failed};
-use std::fs::{OpenFile, OpenOptions};
+use std::fs::OpenFile;
 use std::io;
 use std::os::unix::fs::FileExt;
-use std::rt::Files;
 
 /// A file as a device of blocks of 4,096 bytes. Block n is the bytes from 4,096 n on; what lies behind the end of the file
 /// reads as zeros. The file grows as blocks are written, and never past the last block.
@@ -62,22 +61,6 @@ impl<F: Drop> FileDisk<F> {
             }
         }
     }
-}
-
-/// Opens a file as a device of so many blocks. Where there is none at the path, an empty one is made. It fails as the system
-/// does.
-pub fn open_disk<R: Files>(rt: &R, path: &str, blocks: u32) -> io::Result<FileDisk<R::File>>
-where
-    R::File: FileExt,
-    ensures blocks { IfOk result (λ disk. disk.blocks ≡ blocks) }
-    ensures faults { IfOk result (λ disk. disk.faults ≡ 0) }
-{
-    let file = OpenOptions::new()
-        .read(true)
-        .write(true)
-        .create(true)
-        .open(rt, path)?;
-    Ok(FileDisk::new(file, blocks))
 }
 
 impl<F: FileExt + OpenFile + Drop> Disk for FileDisk<F> {

@@ -2,6 +2,8 @@
 #![tactic(auto)]
 
 mod disk;
+mod opening;
 mod places;
 
-pub use disk::{FileDisk, open_disk};
+pub use disk::FileDisk;
+pub use opening::{Access, open_disk};

@@ -1,7 +1,7 @@
 use crate::reading::reads;
 use blk_base::{Block, Pbn};
 use disk_model::{Disk, Failed};
-use file_disk::open_disk;
+use file_disk::{Access, open_disk};
 use std::fs::{File, OpenFile};
 use std::io;
 use std::test::Fail;
@@ -47,7 +47,7 @@ const PATH: &str = "image";
 
 // A file that wasn't there gets its blocks 2 and 0, and reads as zeros behind its end.
 fn write_some(rt: &HostRuntime) -> Result<(), Wrong> {
-    let mut disk = open_disk(rt, PATH, 4)?;
+    let mut disk = open_disk(rt, PATH, 4, Access::Change)?;
     if !reads(&mut disk, 3, &Block::zero()) {
         return Err(Wrong::Behind);
     }
@@ -67,7 +67,7 @@ fn write_some(rt: &HostRuntime) -> Result<(), Wrong> {
 
 // Opened again it has these blocks, zeros between them, and grows to its last block.
 fn find_them(rt: &HostRuntime) -> Result<(), Wrong> {
-    let mut disk = open_disk(rt, PATH, 4)?;
+    let mut disk = open_disk(rt, PATH, 4, Access::Change)?;
     let found = [
         reads(&mut disk, 0, &block_of(1)),
         reads(&mut disk, 1, &Block::zero()),
@@ -96,6 +96,43 @@ fn a_file_keeps_its_blocks(rt: HostRuntime) -> Result<(), Fail> {
 
 #[test]
 fn a_folder_is_no_device(rt: HostRuntime) -> Result<(), Fail> {
-    assert_eq!(rt; open_disk(&rt, ".", 4).is_err(), true);
+    assert_eq!(rt; open_disk(&rt, ".", 4, Access::Change).is_err(), true);
+    Ok(())
+}
+
+fn may_open(rt: &HostRuntime, path: &str, access: Access) -> bool {
+    open_disk(rt, path, 4, access).is_ok()
+}
+
+// Whether others may change a file, and look at it, while it is open.
+fn open_to_others(rt: &HostRuntime, path: &str, access: Access) -> io::Result<(bool, bool)> {
+    let held = open_disk(rt, path, 4, access)?;
+    let others = (
+        may_open(rt, path, Access::Change),
+        may_open(rt, path, Access::Look),
+    );
+    let _held: File = held.into_file();
+    Ok(others)
+}
+
+#[test]
+fn a_file_is_changed_by_one_alone(rt: HostRuntime) -> Result<(), Fail> {
+    assert_eq!(rt; open_to_others(&rt, PATH, Access::Change)?, (false, false));
+    assert_eq!(rt; open_to_others(&rt, PATH, Access::Look)?, (false, true));
+    assert_eq!(rt; may_open(&rt, PATH, Access::Change), true);
+    Ok(())
+}
+
+// What a write and a read of a file say that is looked at.
+fn look(rt: &HostRuntime) -> io::Result<(bool, bool)> {
+    let mut disk = open_disk(rt, PATH, 4, Access::Look)?;
+    let wrote = disk.write(Pbn(0), &block_of(1)).is_ok();
+    Ok((wrote, reads(&mut disk, 0, &block_of(1))))
+}
+
+#[test]
+fn a_file_that_is_looked_at_is_read_alone(rt: HostRuntime) -> Result<(), Fail> {
+    assert_eq!(rt; write_some(&rt), Ok(()));
+    assert_eq!(rt; look(&rt)?, (false, true));
     Ok(())
 }

@@ -1,3 +1,4 @@
+use file_disk::Access;
 use std::alloc::{AllocError, Global};
 use std::{env, io};
 use vdo_cli::Words;
@@ -25,8 +26,13 @@ pub(crate) enum Device {
     Fresh,
     /// In memory, with so many blocks.
     Memory(u32),
-    /// A file, as so many blocks.
-    File(String, u32),
+    /// A file as a device.
+    File {
+        path: String,
+        /// How many blocks it has.
+        blocks: u32,
+        access: Access,
+    },
 }
 
 /// A command line: a device, and the words of a command.
@@ -60,11 +66,28 @@ fn names_run(texts: &[String]) -> bool {
     texts.first().is_some_and(|text| text.as_str() == "run")
 }
 
-fn device_of(alloc: Global, image: &str, blocks: u32) -> Result<Device, AllocError> {
+/// What a command does to the blocks of its device: an audit and a status look at them alone.
+fn access_of(command: &[String]) -> Access {
+    match command.first() {
+        Some(name) if name.as_str() == "audit" || name.as_str() == "status" => Access::Look,
+        _ => Access::Change,
+    }
+}
+
+fn device_of(
+    alloc: Global,
+    image: &str,
+    blocks: u32,
+    access: Access,
+) -> Result<Device, AllocError> {
     if image == "-" {
         return Ok(Device::Memory(blocks));
     }
-    Ok(Device::File(String::from_str(alloc, image)?, blocks))
+    Ok(Device::File {
+        path: String::from_str(alloc, image)?,
+        blocks,
+        access,
+    })
 }
 
 /// A command line is nothing, or `run` with its options, or `IMAGE BLOCKS` and a command, which isn't `run` yet.
@@ -87,7 +110,7 @@ fn line_of(alloc: Global, texts: &[String]) -> Result<CommandLine, Obstacle> {
     }
     let words = words_of(alloc, command)?;
     Ok(CommandLine {
-        device: device_of(alloc, image.as_str(), blocks)?,
+        device: device_of(alloc, image.as_str(), blocks, access_of(command))?,
         words,
     })
 }

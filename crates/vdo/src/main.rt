@@ -76,7 +76,8 @@ fn run_in_memory<R: Threads + Wait + Sync>(
     Ok(streams.run(rt, words, made.device).status)
 }
 
-/// A command on its device. Threads are started by `threads`, and files opened by `rt`.
+/// A command on its device. Threads are started by `threads`, and files opened by `rt`. A file that another program holds
+/// can't be opened.
 fn run_on<R: Threads + Wait + Sync>(
     threads: &R,
     rt: &HostRuntime,
@@ -92,7 +93,11 @@ fn run_on<R: Threads + Wait + Sync>(
         Device::Memory(blocks) => {
             Ok(run_in_memory(threads, rt.alloc(), &words, blocks, streams)?)
         }
-        Device::File(path, blocks) => match open_disk(rt, path.as_str(), blocks) {
+        Device::File {
+            path,
+            blocks,
+            access,
+        } => match open_disk(rt, path.as_str(), blocks, access) {
             Ok(file) => Ok(streams.run(threads, &words, file).status),
             Err(_) => Err(Obstacle::Device),
         },
