@@ -44,7 +44,7 @@ fn block_of(claim: Result<Claim, Refusal>) -> Result<u32, Refusal> {
     Ok(claim?.block().0)
 }
 
-// Row 32: a block as high as can be, a free one, one with a tree page; and one outside.
+// A block as high as can be, a free one, one with a tree page; and one outside.
 #[test]
 fn what_cannot_be_shared(rt: HostRuntime) -> Result<(), Fail> {
     let mut counts = opened_counts(rt.alloc())?;
