@@ -1,4 +1,4 @@
-ghost use Rattle.std.specs.Prelude.{◌≡◌, ◌<◌, ◌≤◌, ◌++◌, [], ◌∷◌, true, false, reverse, replicate, length, slice_set, IfOk, OnOk, OnErr};
+ghost use Rattle.std.specs.Prelude.{◌≡◌, ◌<◌, ◌≤◌, ◌^◌, ◌++◌, [], ◌∷◌, true, false, reverse, replicate, length, slice_set, IfOk, OnOk, OnErr};
 ghost use Rattle.std.specs.Bool.{OnTrue, OnFalse};
 ghost use Rattle.blk_base.specs.Sectors.{zero_block};
 ghost use Rattle.disk_model.specs.declared.call.Call.TheVariants.{Read, Write, Flush};
@@ -53,11 +53,11 @@ impl Model for MemDisk {
 fn copy_all(alloc: Global, blocks: &[Block]) -> Result<Vec<Block>, AllocError>
     ensures { IfOk result (λ v. v.items ≡ blocks.now) }
 {
-    let mut copies = Vec::new(alloc);
+    let mut copies = Vec::with_capacity(alloc, blocks.len())?;
     for block in blocks {
         let mut copy = Block::zero();
         copy.copy_from(block);
-        copies.push(copy)?;
+        copies.push_reserved(copy);
     }
     Ok(copies)
 }
@@ -84,15 +84,18 @@ fn push(calls: &mut Vec<Call>, call: Call) -> bool
 }
 
 impl MemDisk {
-    /// A device of so many blocks of zeros.
+    /// A device of so many blocks of zeros. All room is asked for before any block is written.
     pub fn zeroed(alloc: Global, blocks: u32) -> Result<MemDisk, AllocError>
         ensures { IfOk result (λ d. d ≡ fresh (replicate blocks zero_block)) }
     {
-        let mut zeros = Vec::new(alloc);
-        for _ in 0..blocks {
-            zeros.push(Block::zero())?;
+        let count = blocks as usize;
+        let mut opening = Vec::with_capacity(alloc, count)?;
+        let mut zeros = Vec::with_capacity(alloc, count)?;
+        for made in 0..count {
+            opening.push_reserved(Block::zero());
+            zeros.push_reserved(Block::zero());
         }
-        MemDisk::from_blocks(alloc, zeros)
+        Ok(MemDisk::begun(alloc, opening, zeros))
     }
 
     /// A device with these blocks. More than a `u32` can count are refused as too many for any memory.
@@ -103,7 +106,16 @@ impl MemDisk {
             return Err(AllocError);
         }
         let opening = copy_all(alloc, &blocks)?;
-        Ok(MemDisk {
+        Ok(MemDisk::begun(alloc, opening, blocks))
+    }
+
+    // A device with these blocks, which has not been called yet.
+    fn begun(alloc: Global, opening: Vec<Block>, blocks: Vec<Block>) -> MemDisk
+        requires few { length blocks.items < 2 ^ 32 }
+        requires same { opening.items ≡ blocks.items }
+        ensures { result ≡ fresh blocks.items }
+    {
+        MemDisk {
             opening,
             blocks,
             calls: Vec::new(alloc),
@@ -111,7 +123,7 @@ impl MemDisk {
             fuse: Fuse::Unset,
             faults: 0,
             unkept: 0,
-        })
+        }
     }
 
     /// Plans these faults, in place of those that were planned. Their numbers count from this call on.

@@ -1,6 +1,0 @@
-use Rattle.std.proofs.lemmas.Grind.{common_steps}
-use Rattle.std.proofs.Common.{arith}
-use Rattle.disk_model.proofs.memory.MemDisk.zeroed.Goals as goal
-
-pub loop-preserved : goal.loop-preserved
-loop-preserved c = grind (arith, common_steps)
