@@ -1,0 +1,16 @@
+pub mod ContentLaws
+pub mod BelowLaws
+pub mod PointLaws
+pub mod StepLaws
+pub mod TurnLaws
+pub mod StoredLaws
+pub mod ImageLaws
+pub mod UpdateLaws
+pub mod KeepLaws
+pub mod MayLaws
+pub mod UnusedLaws
+pub mod Example
+pub mod WriteExample
+pub mod PointRows
+pub mod TurnRows
+pub mod CounterRows

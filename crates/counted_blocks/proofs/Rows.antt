@@ -1,0 +1,93 @@
+-- A slab that took two of the four updates that the example's entries give it, and those that it can't have taken.
+use Rattle.std.proofs.Common.{ℕ, zero, suc, ◌≡◌, ◌/◌, ◌%◌, ◌<◌, ◌==◌, false, List, [], ◌∷◌, ◌++◌, Contains, replicate, get_or, refl, sym, ◌∙◌, ap, subst, inl, inr, arith}
+use Rattle.std.proofs.Math.Nat.{mod-lt}
+use Rattle.std.proofs.lemmas.Bool.Decides.{eqb_tells}
+use Rattle.std.proofs.lemmas.List.{get_or-replicate, length-replicate}
+use Rattle.std.proofs.lemmas.List.Elements.{All-cons, All-nil}
+use Rattle.blk_base.specs.Counters.{sector_of_offset, sectors_per_slab}
+use Rattle.blk_base.specs.Regions.{ReferenceBlock, references_of}
+use Rattle.blk_base.specs.Sectors.{sector}
+use Rattle.blk_base.specs.declared.point.Point.{Point}
+use Rattle.byte_fields.specs.Fields.{number_at}
+use Rattle.disk_model.specs.Log.{Blocks}
+use Rattle.image_model.proofs.CountLaws.{is_first_or_behind, none_in_nothing}
+use Rattle.image_model.proofs.Example.{small}
+use Rattle.image_model.proofs.ZeroLaws.{no_commit}
+use Rattle.image_model.specs.Counts.{commit_at}
+use Rattle.image_model.specs.Empty.{IsEmpty}
+use Rattle.reference_blocks.specs.References.{point_at}
+use Rattle.reference_blocks.specs.Updates.{AreRising, counters_after}
+use Rattle.slab_codec.specs.declared.forms.SlabEntry.{SlabEntry}
+use Rattle.count_laws.specs.Counters.{points_at}
+use Rattle.count_laws.proofs.Example.{counter_none, four, opened}
+use Rattle.count_laws.proofs.WriteExample.{other_points}
+use Rattle.counted_blocks.specs.Taken.{HasTaken, place_in, taken_at}
+
+abbrev update : ℕ → ℕ → SlabEntry
+update point offset = record { point = record { 0 = point }; offset = offset }
+
+-- the newest first
+abbrev taken : List SlabEntry
+taken = update 514 1 ∷ update 512 0 ∷ []
+
+abbrev later : List SlabEntry
+later = update 519 1 ∷ update 516 1 ∷ []
+
+abbrev points : List Point
+points = record { 0 = 0 } ∷ []
+
+rising : AreRising small points taken
+rising = (
+  All-cons (λ (e : SlabEntry). e.point.0 < 514) (update 512 0) [] (omega arith) (All-nil (λ (e : SlabEntry). e.point.0 < 514)),
+  omega arith,
+  (All-nil (λ (e : SlabEntry). e.point.0 < 512), omega arith, tt),
+)
+
+one_of_two : (P : SlabEntry → Type 0) (x y : SlabEntry) → P x → P y → (e : SlabEntry) → Contains (x ∷ y ∷ []) e → P e
+one_of_two P x y first second e has = elim (is_first_or_behind x (y ∷ []) e has) [
+  | inl same ↦ subst P same first
+  | inr behind ↦ elim (is_first_or_behind y [] e behind) [ inl same ↦ subst P same second | inr none ↦ absurd (none_in_nothing e none) ]
+]
+
+differs : (m n : ℕ) → (m ≡ n → ⊥) → (m == n) ≡ false
+differs m n apart = elim (eqb_tells m n) [ inl same ↦ absurd (apart same.1) | inr other ↦ other.0 ]
+
+parts : (offset : ℕ) → points_at small four (place_in 0 offset) ≡ taken_at offset taken ++ taken_at offset later
+parts zero = refl
+parts (suc zero) = refl
+parts (suc (suc k)) = rw (differs 0 (suc (suc k)) (λ (same : ◌≡◌ {A = ℕ} 0 (suc (suc k))). omega (arith, same)), differs 1 (suc (suc k)) (λ (same : ◌≡◌ {A = ℕ} 1 (suc (suc k))). omega (arith, same))) (other_points k)
+
+-- two updates make these counters
+counters_are : counters_after (0 ∷ 0 ∷ 0 ∷ []) taken ≡ 1 ∷ 1 ∷ 0 ∷ []
+counters_are = refl
+
+module _ (blocks : Blocks) (empty : IsEmpty small blocks) where
+  commit_none : (n : ℕ) → n < sectors_per_slab small → 0 ≡ commit_at small blocks 0 n
+  commit_none n below =
+      let in_block : n / 8 < references_of small = omega (arith, below) in
+      sym (ap (number_at 8 0) (ap (sector (n % 8)) (empty.made (ReferenceBlock 0 (n / 8)) (omega arith, in_block) tt)) ∙ no_commit (n % 8) (mod-lt n (omega arith)))
+
+  point_none : (n : ℕ) → n < sectors_per_slab small → (point_at points n).0 ≡ 0
+  point_none zero below = refl
+  point_none (suc n) below = absurd (omega (arith, below))
+
+  has_taken : HasTaken (opened blocks empty) four 0 points (replicate 64 0) taken
+  has_taken = record {
+    commits = λ n below. point_none n below ∙ commit_none n below;
+    size = length-replicate {A = ℕ} 64 0;
+    counters = λ offset inside. get_or-replicate 64 offset 0 0 inside ∙ sym (counter_none blocks empty offset inside);
+    inside = one_of_two (λ e. e.offset < 64) (update 514 1) (update 512 0) (omega arith) (omega arith);
+    rising = rising;
+    later = later;
+    parts = λ offset inside. parts offset;
+    order = λ e other has has_other.
+        one_of_two (λ x. x.point.0 < other.point.0) (update 514 1) (update 512 0)
+        (one_of_two (λ y. 514 < y.point.0) (update 519 1) (update 516 1) (omega arith) (omega arith) other has_other)
+        (one_of_two (λ y. 512 < y.point.0) (update 519 1) (update 516 1) (omega arith) (omega arith) other has_other) e has;
+    newer = one_of_two (λ y. (point_at points (sector_of_offset small y.offset)).0 < y.point.0) (update 519 1) (update 516 1) (omega arith) (omega arith);
+    small = one_of_two (λ e. e.point.0 < 18446744073709551616) (update 514 1) (update 512 0) (omega arith) (omega arith);
+  }
+
+  -- one that leaves out an update between two others
+  left_out : HasTaken (opened blocks empty) four 0 points (replicate 64 0) (update 516 1 ∷ update 512 0 ∷ []) → ⊥
+  left_out has = let first = ap (λ (ns : List ℕ). get_or ns 0 0) (has.parts 1 (omega arith)) in let no : ◌≡◌ {A = ℕ} 514 516 = first in omega (arith, no)
