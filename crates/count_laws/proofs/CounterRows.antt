@@ -104,7 +104,7 @@ module _ (blocks : Blocks) (empty : IsEmpty small blocks) where
   lower_than_opened other slab n bytes low it = let least = it.commit in omega (arith, least, low)
 
   -- a commit point of a later session, which no update of these entries has
-  later_commit : (bytes : List ℕ) → number_at 8 0 bytes ≡ 519 → IsCounted image [] 0 0 bytes → ⊥
+  pub later_commit : (bytes : List ℕ) → number_at 8 0 bytes ≡ 519 → IsCounted image [] 0 0 bytes → ⊥
   later_commit bytes is it = elim it.reached [
     | inl same ↦ let low = low_commit in omega (arith, same, is, low)
     | inr (x, there, has) ↦ none_in_nothing (number_at 8 0 bytes) has

@@ -138,7 +138,7 @@ module _ (blocks : Blocks) (empty : IsEmpty small blocks) where
 
   -- All of them: the newest, and each before it.
 
-  leaf_missing : AreInTurn image (at_point (remap 5 Unmapped Zero) 512 ∷ []) → ⊥
+  pub leaf_missing : AreInTurn image (at_point (remap 5 Unmapped Zero) 512 ∷ []) → ⊥
   leaf_missing turns = unlinked_leaf turns.0
 
   leaf_too_late : AreInTurn image (at_point leaf 514 ∷ at_point (remap 5 Unmapped Zero) 512 ∷ []) → ⊥
@@ -148,6 +148,9 @@ module _ (blocks : Blocks) (empty : IsEmpty small blocks) where
 
   two_by_sum : (running : RunningCount image four (pbn 86) 0) → running.now ≡ 2 → ⊥
   two_by_sum running is = let sum = running.sum in omega (arith, sum, is)
+
+  none_by_sum : (running : RunningCount image four (pbn 86) 0) → running.now ≡ 0 → ⊥
+  none_by_sum running is = let sum = running.sum in omega (arith, sum, is)
 
   two_by_points : (running : RunningCount image four (pbn 86) 0) → running.now ≡ 2 → ⊥
   two_by_points running is =

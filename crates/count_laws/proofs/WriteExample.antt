@@ -126,8 +126,8 @@ module _ (blocks : Blocks) (empty : IsEmpty small blocks) (room : needed_blocks 
   no_journal zero slot one same = omega (arith, same)
   no_journal (suc slab) slot one same = omega (arith, one)
 
-  may_write : MayWrite blocks [] image four four 149 written
-  may_write = record {
+  pub may_write : (log : List Call) → MayWrite blocks log image four four 149 written
+  may_write log = record {
     sectors = λ slab n in_slab below here. counted slab n in_slab below;
     behind = λ slab n in_slab past below here. (let none = other_commits (n % 8) (mod-lt n (omega arith)) (omega (arith, past, below)) in omega (arith, none));
     no_lower = λ x n point there here has surely.
@@ -154,19 +154,24 @@ module _ (blocks : Blocks) (empty : IsEmpty small blocks) (room : needed_blocks 
   flushed : CountsStand blocks log image four four
   flushed =
       counts_kept blocks (Write (pbn 149) written true ∷ []) image four four (Flush true) (λ slab i in_slab below. tt) (λ slab slot in_slab below. tt)
-      (counts_after_write blocks [] image four four (pbn 149) written true may_write (counts_stand blocks empty room whole))
+      (counts_after_write blocks [] image four four (pbn 149) written true (may_write []) (counts_stand blocks empty room whole))
 
-  pub counts_without_window : CountsStand blocks log image four []
-  counts_without_window = counts_with_window blocks log image four four [] flushed (λ x point there has. inr (inl (settled_counts x.slab x.offset point there has)))
+  -- whatever was done before, each of their updates is counted
+  pub all_counted : (older : List Call) (place_of : DataPlace) (point : ℕ) → IsDataPlace small place_of → Contains (points_at small four place_of) point
+      → SurelyCounters blocks (Flush true ∷ Write (pbn 149) written true ∷ older) small place_of.slab (sector_of_offset small place_of.offset) (λ bytes. point ≤ number_at 8 0 bytes)
+  all_counted older x point there has = settled_counts x.slab x.offset there has
     where
-      settled_counts : (slab offset point : ℕ) → IsDataPlace small (record { slab = slab; offset = offset }) → Contains (points_at small four (record { slab = slab; offset = offset })) point
-          → SurelyCounters blocks log small slab (sector_of_offset small offset) (λ bytes. point ≤ number_at 8 0 bytes)
-      settled_counts (suc slab) offset point there has = let one = there.0 in absurd (omega (arith, one))
-      settled_counts zero offset point there has =
+      settled_counts : (slab offset : ℕ) → IsDataPlace small (record { slab = slab; offset = offset }) → Contains (points_at small four (record { slab = slab; offset = offset })) point
+          → SurelyCounters blocks (Flush true ∷ Write (pbn 149) written true ∷ older) small slab (sector_of_offset small offset) (λ bytes. point ≤ number_at 8 0 bytes)
+      settled_counts (suc slab) offset there has = let one = there.0 in absurd (omega (arith, one))
+      settled_counts zero offset there has =
           let inside = there.1 in
           let low = all_below (place offset) point has in
-          subst (λ (n : ℕ). SurelyCounters blocks log small 0 n (λ bytes. point ≤ number_at 8 0 bytes)) (sym (in_first_sector offset inside))
+          subst (λ (n : ℕ). SurelyCounters blocks (Flush true ∷ Write (pbn 149) written true ∷ older) small 0 n (λ bytes. point ≤ number_at 8 0 bytes)) (sym (in_first_sector offset inside))
           ((let is = its_commit in omega (arith, low, is)), tt)
+
+  pub counts_without_window : CountsStand blocks log image four []
+  counts_without_window = counts_with_window blocks log image four four [] flushed (λ x point there has. inr (inl (all_counted [] x point there has)))
 
   module _ (left : Blocks) (is : IsImage blocks log left) where
     pub stored_without_window : Stores (later_image image left []) (place 1) (Ok 1)
