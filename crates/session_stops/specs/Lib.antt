@@ -1,0 +1,4 @@
+pub mod Pages
+pub mod Beginnings
+pub mod Sessions
+pub mod Closings
