@@ -2,3 +2,4 @@ pub mod MinimaLaws
 pub mod MarkLaws
 pub mod HistoryLaws
 pub mod PageLists
+pub mod Rows

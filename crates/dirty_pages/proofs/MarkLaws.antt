@@ -1,13 +1,13 @@
 -- What the trees of least numbers tell of the marks.
 use Rattle.std.specs.Prelude.{ℕ, zero, suc, ◌≡◌, ◌≢◌, ◌<◌, ◌≤◌, min, ◌⊎◌, List, ◌∷◌, length, map, Option, None, Some, replicate, refl}
-use Rattle.std.proofs.Common.{sym, ◌∙◌, ap, inl, inr, arith}
+use Rattle.std.proofs.Common.{sym, ◌∙◌, ap, subst, inl, inr, arith}
 use Rattle.std.proofs.Math.ListN.{get_or-map, get_or-eq_default}
 use Rattle.std.proofs.lemmas.Bool.{cases_lt}
 use Rattle.std.proofs.lemmas.List.{get_or-set_same, get_or-set_other}
 use Rattle.blk_base.specs.declared.point.Point.{Point}
 use Rattle.dirty_pages.specs.declared.marks.Marks.{Marks}
 use Rattle.dirty_pages.specs.Minima.{key_at, IsLeast}
-use Rattle.dirty_pages.specs.Marks.{clean, HasPoint, IsDue, IsBeingWritten, marks_at, with_marks, handed_out, HandsOut, NoneIsDue, IsLowPoint, AreClean, due_by, due_of, unwritten_by, unwritten_of}
+use Rattle.dirty_pages.specs.Marks.{clean, HasPoint, IsDue, IsBeingWritten, marks_at, with_marks, handed_out, IsFirstDue, NoneIsEverDue, HandsOut, NoneIsDue, IsLowPoint, AreClean, due_by, due_of, unwritten_by, unwritten_of}
 
 pub map-replicate : {X Y : Type 0} (f : X → Y) (x : X) (n : ℕ) → map f (replicate n x) ≡ replicate n (f x)
 map-replicate f x zero = refl
@@ -90,8 +90,53 @@ hands_out pages new point page first is reached after = record {
   due = first_due pages page first is;
   reached = reached;
   least = λ other later due. is.least other later.0 (due_at pages other ∙ due-is (marks_at pages other) later due);
+  lowest = λ other due. elim (cases_lt other page) [
+    | inl before ↦ absurd (is.first other before (due_at pages other ∙ due-is (marks_at pages other) (record { 0 = first }) due))
+    | inr behind ↦ behind
+  ];
   after = after;
 }
+
+pub is_first_due : (pages : List Marks) (page first : ℕ) → IsLeast (map due_of pages) page first → IsFirstDue pages (record { 0 = first })
+is_first_due pages page first is = record {
+  number = page;
+  due = first_due pages page first is;
+  least = λ other later due. is.least other later.0 (due_at pages other ∙ due-is (marks_at pages other) later due);
+}
+
+pub none_is_ever_due : (pages : List Marks) → ((page : ℕ) → key_at (map due_of pages) page ≡ None) → NoneIsEverDue pages
+none_is_ever_due pages none page first due =
+    let some : Some first.0 ≡ None = sym (due-is (marks_at pages page) first due) ∙ sym (due_at pages page) ∙ none page in
+    cc
+
+-- which page is handed out, and the low point, are one
+same_point : (p q : Point) → p.0 ≡ q.0 → p ≡ q
+same_point p q same = ap (λ (n : ℕ). let r : Point = record { 0 = n } in r) same
+
+pub one_is_handed_out : (old new new' : List Marks) (point : Point) (number number' : ℕ) → HandsOut old new point number → HandsOut old new' point number'
+    → (number ≡ number') × (new ≡ new')
+one_is_handed_out old new new' point number number' one other =
+    let first : one.first ≡ other.first = same_point one.first other.first (omega (arith, one.least number' other.first other.due, other.least number one.first one.due)) in
+    let below = one.lowest number' (subst (λ (p : Point). IsDue (marks_at old number') p) (sym first) other.due) in
+    let above = other.lowest number (subst (λ (p : Point). IsDue (marks_at old number) p) first one.due) in
+    let same : number ≡ number' = omega (arith, below, above) in
+    (same, one.after ∙ ap (λ (n : ℕ). with_marks old n handed_out) same ∙ sym other.after)
+
+pub out_or_none : (old new : List Marks) (point : Point) (number : ℕ) → HandsOut old new point number → NoneIsDue old point → ⊥
+out_or_none old new point number out none = omega (arith, out.reached, none number out.first out.due)
+
+pub one_first_due : (pages : List Marks) (first first' : Point) → IsFirstDue pages first → IsFirstDue pages first' → first ≡ first'
+one_first_due pages first first' one other = same_point first first' (omega (arith, one.least other.number first' other.due, other.least one.number first one.due))
+
+pub one_low_point : (pages : List Marks) (low low' : Point) → IsLowPoint pages low → IsLowPoint pages low' → low ≡ low'
+one_low_point pages low low' one other = same_point low low' (omega (arith, one.least other.number low' other.has, other.least one.number low one.has))
+
+pub low_or_clean : (pages : List Marks) (low : Point) → IsLowPoint pages low → AreClean pages → ⊥
+low_or_clean pages low is are =
+    elim is.has [
+      | inl dirty ↦ absurd (let none = ap (λ (m : Marks). m.dirty) (are is.number) in cc)
+      | inr writing ↦ absurd (let none = ap (λ (m : Marks). m.writing) (are is.number) in cc)
+    ]
 
 pub none_is_due : (pages : List Marks) (point : Point) → ((page : ℕ) → key_at (map due_of pages) page ≡ None) → NoneIsDue pages point
 none_is_due pages point none page first due =

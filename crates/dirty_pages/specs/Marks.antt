@@ -46,12 +46,24 @@ marks_at pages number = slice_index_or pages number clean
 abbrev pub with_marks : List Marks → ℕ → (Marks → Marks) → List Marks
 with_marks pages number change = slice_set pages number (change (marks_at pages number))
 
--- of the pages that are due the one with the least first point is handed out, if that is at most the point
+-- the least point with which a page is due
+pub record IsFirstDue (pages : List Marks) (first : Point) : Type 0 where
+  pub number : ℕ
+  pub due : IsDue (marks_at pages number) first
+  pub least : (other : ℕ) (later : Point) → IsDue (marks_at pages other) later → first.0 ≤ later.0
+
+-- no page is due, at whatever point
+abbrev pub NoneIsEverDue : List Marks → Type 0
+NoneIsEverDue pages = (number : ℕ) (first : Point) → IsDue (marks_at pages number) first → ⊥
+
+-- of the pages that are due the one with the least first point is handed out, if that is at most the point; of several with
+-- the same first point that is the one with the least number
 pub record HandsOut (old new : List Marks) (point : Point) (number : ℕ) : Type 0 where
   pub first : Point
   pub due : IsDue (marks_at old number) first
   pub reached : first.0 ≤ point.0
   pub least : (other : ℕ) (later : Point) → IsDue (marks_at old other) later → first.0 ≤ later.0
+  pub lowest : (other : ℕ) → IsDue (marks_at old other) first → number ≤ other
   pub after : new ≡ with_marks old number handed_out
 
 -- no page is due at the point

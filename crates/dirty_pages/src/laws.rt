@@ -1,8 +1,8 @@
-ghost use Rattle.std.specs.Prelude.{◌≡◌, ◌≤◌, List, Some};
+ghost use Rattle.std.specs.Prelude.{◌≡◌, ◌≤◌, ℕ, List, Some};
 ghost use Rattle.blk_base.specs.declared.place.PageId.{PageId};
 ghost use Rattle.blk_base.specs.declared.point.Point.{Point};
 ghost use Rattle.dirty_pages.specs.declared.marks.Marks.{Marks};
-ghost use Rattle.dirty_pages.specs.Marks.{HasPoint, clean};
+ghost use Rattle.dirty_pages.specs.Marks.{AreClean, HandsOut, HasPoint, IsFirstDue, IsLowPoint, NoneIsDue, NoneIsEverDue, clean};
 ghost use Rattle.dirty_pages.specs.History.{Event, IsWaiting, IsUnwritten, IsUnreported, IsAfter, AtMost};
 
 /// A change is kept until it is on the device: over all that happens to a page from any marks on, one that was made since
@@ -22,4 +22,16 @@ pub fn no_change_is_lost()
 pub fn a_page_is_being_written_until_it_is_written()
     ensures { (old new : Marks) (events : List Event) (page : PageId) (first : Point) → IsAfter old events page new
         → IsUnreported events page → old.writing ≡ Some first → new.writing ≡ Some first }
+{}
+
+/// Of all pages one is the next to be written, or none is; and so it is with the first point that is due, and with the low
+/// point.
+pub fn the_next_page_to_write_is_one()
+    ensures out { (old new other : List Marks) (point : Point) (number page : ℕ) → HandsOut old new point number → HandsOut old other point page
+        → (number ≡ page) × (new ≡ other) }
+    ensures none { (old new : List Marks) (point : Point) (number : ℕ) → HandsOut old new point number → NoneIsDue old point → ⊥ }
+    ensures due { (pages : List Marks) (first other : Point) → IsFirstDue pages first → IsFirstDue pages other → first ≡ other }
+    ensures never { (pages : List Marks) (first : Point) → IsFirstDue pages first → NoneIsEverDue pages → ⊥ }
+    ensures low { (pages : List Marks) (low other : Point) → IsLowPoint pages low → IsLowPoint pages other → low ≡ other }
+    ensures clean { (pages : List Marks) (low : Point) → IsLowPoint pages low → AreClean pages → ⊥ }
 {}

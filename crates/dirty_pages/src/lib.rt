@@ -15,9 +15,12 @@
 mod laws;
 mod marks;
 mod minima;
+mod numbered;
 mod table;
 
-pub use laws::{a_page_is_being_written_until_it_is_written, no_change_is_lost};
+pub use laws::{
+    a_page_is_being_written_until_it_is_written, no_change_is_lost, the_next_page_to_write_is_one,
+};
 pub use marks::Marks;
 pub use minima::Minima;
 pub use table::DirtyPages;

@@ -1,6 +1,7 @@
-ghost use Rattle.std.specs.Prelude.{◌≡◌, ◌<◌, ◌≤◌, ◌+◌, ◌*◌, ◌/◌, ◌^◌, ℕ, length, drop, replicate, slice_set, IfOk, IfSome, IfNone, IsTrue, ◌↔◌};
-ghost use Rattle.dirty_pages.specs.Minima.{is_at_most, lesser_of, key_at, IsLeast, IsTreeBut, IsTree};
+ghost use Rattle.std.specs.Prelude.{◌≡◌, ◌<◌, ◌*◌, ◌^◌, ℕ, length, drop, replicate, slice_set, IfOk, IfSome, IfNone};
+ghost use Rattle.dirty_pages.specs.Minima.{key_at, IsLeast, IsTreeBut, IsTree};
 
+use crate::numbered::{Numbered, lesser, node_of, number_in};
 use blk_base::repeated;
 use std::alloc::{AllocError, Global};
 use std::marker::Model;
@@ -10,21 +11,22 @@ use std::marker::Model;
 #[derive(Drop)]
 pub struct Minima {
     // The root is at 1, the children of node k are at 2k and 2k + 1, and the numbers of the slots are the last ones.
-    nodes: Vec<Option<u64>>,
+    nodes: Vec<Option<Numbered>>,
     leaves: usize,
 }
 
 impl Model for Minima {
-    ghost use Rattle.std.specs.Prelude.{◌≡◌, ◌<◌, ◌*◌, ◌^◌, ℕ, List, Option, length, drop};
-    ghost use Rattle.dirty_pages.specs.Minima.{IsTree};
+    ghost use Rattle.std.specs.Prelude.{◌≡◌, ◌<◌, ◌*◌, ◌^◌, ℕ, List, Option, length};
+    ghost use Rattle.dirty_pages.specs.Minima.{AreNamed, IsTree, numbers_in};
 
     ghost Value = { List (Option ℕ) };
 
-    ghost view = { λ m. drop m.leaves m.nodes.items };
+    ghost view = { λ m. numbers_in m.leaves m.nodes.items };
 
     ghost invariant = { λ m. record {
       size : length m.nodes.items ≡ 2 * m.leaves;
       bound : m.leaves < 2 ^ 32;
+      named : AreNamed m.leaves m.nodes.items;
       tree : IsTree m.leaves m.nodes.items;
     } };
 }
@@ -47,14 +49,14 @@ impl Minima {
         ensures { self.new ≡ slice_set self.old slot number }
     {
         let leaf = self.leaves + slot;
-        if self.nodes[leaf] == number {
+        if number_in(self.nodes[leaf]) == number {
             return;
         }
-        self.nodes[leaf] = number;
+        self.nodes[leaf] = node_of(slot, number);
         settle(&mut self.nodes, self.leaves, leaf / 2);
     }
 
-    /// The slot that has the least number, with that number; `None` exactly where no slot has one.
+    /// The slot that has the least number, with that number; of several the first one. `None` exactly where no slot has one.
     pub fn least(&self) -> Option<(usize, u64)>
         ensures some { IfSome result (λ (slot, number). IsLeast self.now slot number) }
         ensures none { IfNone result ((slot : ℕ) → key_at self.now slot ≡ None) }
@@ -62,14 +64,13 @@ impl Minima {
         if self.leaves == 0 {
             return None;
         }
-        let number = self.nodes[1]?;
-        let leaf = winning_leaf(&self.nodes, self.leaves);
-        Some((leaf - self.leaves, number))
+        let first = self.nodes[1]?;
+        Some((first.slot as usize, first.number))
     }
 }
 
-// Gives each inner node from this one up to the root the lesser of its children.
-fn settle(nodes: &mut [Option<u64>], leaves: usize, from: usize)
+// Gives each inner node from this one up to the root that of its children which comes first.
+fn settle(nodes: &mut [Option<Numbered>], leaves: usize, from: usize)
     requires size { length nodes.old ≡ 2 * leaves }
     requires bound { leaves < 2 ^ 32 }
     requires inside { from < leaves }
@@ -81,47 +82,5 @@ fn settle(nodes: &mut [Option<u64>], leaves: usize, from: usize)
     while at > 0 {
         nodes[at] = lesser(nodes[2 * at], nodes[2 * at + 1]);
         at /= 2;
-    }
-}
-
-// A leaf that has the number of the root.
-fn winning_leaf(nodes: &[Option<u64>], leaves: usize) -> usize
-    requires size { length nodes.now ≡ 2 * leaves }
-    requires bound { leaves < 2 ^ 32 }
-    requires some { 0 < leaves }
-    requires tree { IsTree leaves nodes.now }
-    ensures leaf { leaves ≤ result }
-    ensures inside { result < 2 * leaves }
-    ensures same { key_at nodes.now result ≡ key_at nodes.now 1 }
-{
-    let mut at = 1;
-    while at < leaves {
-        at = if is_first_lesser(nodes[2 * at], nodes[2 * at + 1]) {
-            2 * at
-        } else {
-            2 * at + 1
-        };
-    }
-    at
-}
-
-fn lesser(left: Option<u64>, right: Option<u64>) -> Option<u64>
-    ensures { result ≡ lesser_of left right }
-{
-    if is_first_lesser(left, right) {
-        left
-    } else {
-        right
-    }
-}
-
-// Whether the first is at most the second; none is above all numbers.
-fn is_first_lesser(left: Option<u64>, right: Option<u64>) -> bool
-    ensures { result ≡ is_at_most left right }
-{
-    match (left, right) {
-        (Some(number), Some(other)) => number <= other,
-        (None, Some(_)) => false,
-        (_, None) => true,
     }
 }

@@ -1,5 +1,5 @@
 ghost use Rattle.std.specs.Prelude.{◌≡◌, ◌<◌, length, replicate, slice_set, IfOk, IfSome, IfNone};
-ghost use Rattle.dirty_pages.specs.Marks.{clean, changed_at, settled, marks_at, with_marks, HandsOut, NoneIsDue, IsBeingWritten, IsLowPoint, AreClean};
+ghost use Rattle.dirty_pages.specs.Marks.{clean, changed_at, settled, marks_at, with_marks, IsFirstDue, NoneIsEverDue, HandsOut, NoneIsDue, IsBeingWritten, IsLowPoint, AreClean};
 
 use crate::{Marks, Minima};
 use blk_base::{Point, repeated};
@@ -62,7 +62,8 @@ impl DirtyPages {
     }
 
     /// Hands out a page to be written: of the pages that aren't being written the one with the least first dirty point, if
-    /// that is at most this point. It is being written from now on, and what changes it isn't in that write.
+    /// that is at most this point, and of several with that point the one with the least number. It is being written from
+    /// now on, and what changes it isn't in that write.
     ///
     /// `None` exactly where no page that isn't being written has a first dirty point at or below this one.
     pub fn take_expired(&mut self, point: Point) -> Option<usize>
@@ -77,6 +78,16 @@ impl DirtyPages {
         let marks = self.marks[page];
         self.set(page, marks.handed_out());
         Some(page)
+    }
+
+    /// The least point with which a page is due to be written: the first dirty point of those that aren't being written.
+    /// `None` exactly where there is none.
+    pub fn first_due(&self) -> Option<Point>
+        ensures some { IfSome result (IsFirstDue self.now) }
+        ensures none { IfNone result (NoneIsEverDue self.now) }
+    {
+        let (_, first) = self.due.least()?;
+        Some(Point(first))
     }
 
     /// The write of a page that was handed out is durable: a flush covers it. What changed the page since isn't.

@@ -131,7 +131,7 @@ its_point (suc n) first due = let no : ◌≡◌ {A = Option Point} None (Some f
 
 handed_out_now : HandsOutBlock dirtied out [] said 0
 handed_out_now = record {
-  first = record { first = p 1024; due = record { idle = refl; dirty = refl }; reached = omega arith; least = its_point; after = refl };
+  first = record { first = p 1024; due = record { idle = refl; dirty = refl }; reached = omega arith; least = its_point; lowest = λ other due. omega arith; after = refl };
   says = refl;
   keeps = refl;
   same = refl;

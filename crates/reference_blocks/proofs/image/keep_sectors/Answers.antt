@@ -1,4 +1,4 @@
-use Rattle.std.proofs.Common.{List, ℕ, ◌∙◌, ◌+◌, ◌-◌, ◌*◌, ◌++◌, take, drop, ap, ap₂, arith}
+use Rattle.std.proofs.Common.{List, ℕ, ◌∙◌, ◌-◌, ◌*◌, ◌++◌, take, drop, ap, ap₂, arith}
 use borrow.Rule.Slice.PartMut.{Post-is}
 use Rattle.blk_base.specs.declared.point.Point.{Point}
 use Rattle.reference_blocks.proofs.image.keep_sectors.Goals as goal
