@@ -1,0 +1,10 @@
+pub mod ListLaws
+pub mod HeardLaws
+pub mod MarkLaws
+pub mod FallLaws
+pub mod FlowLaws
+pub mod StillLaws
+pub mod KeepLaws
+pub mod Rows
+pub mod ReapLaws
+pub mod ClauseRows
