@@ -1,9 +1,10 @@
 -- What the calls keep of a cache.
-use Rattle.std.specs.Prelude.{ℕ, ◌≡◌, ◌≢◌, ◌<◌, ◌≤◌, Bool, false, List, [], ◌∷◌, ◌++◌, length, All}
+use Rattle.std.specs.Prelude.{ℕ, ◌≡◌, ◌≢◌, ◌<◌, ◌≤◌, Bool, true, false, Option, None, is_some, map, replicate, List, [], ◌∷◌, ◌++◌, length, All}
 use Rattle.std.proofs.Common.{ap, ◌∙◌, sym, subst, arith, get_or, set, inl, inr, length-append}
 use Rattle.std.proofs.lemmas.Bool.{cases_eq}
-use Rattle.std.proofs.lemmas.List.{get_or_default, get_or-set_same, get_or-set_other, length-set}
-use Rattle.std.proofs.lemmas.List.Elements.{All-set, All-push}
+use Rattle.std.proofs.lemmas.List.{get_or_default, get_or-set_same, get_or-set_other, length-map, length-replicate, length-set}
+use Rattle.std.proofs.Math.ListN.{get_or-map}
+use Rattle.std.proofs.lemmas.List.Elements.{All-nil, All-set, All-push}
 use Rattle.blk_base.specs.declared.place.PageId.{PageId}
 use Rattle.blk_base.specs.declared.place.Mapping.{Mapping}
 use Rattle.blk_base.specs.declared.geometry.Geometry.{Geometry}
@@ -11,11 +12,13 @@ use Rattle.page_codec.specs.declared.forms.MapPage.{MapPage}
 use Rattle.page_codec.specs.Grammar.{HoldsMapping}
 use Rattle.page_codec.proofs.HeldLaws.{held-set}
 use Rattle.dirty_pages.specs.declared.marks.Marks.{Marks}
-use Rattle.dirty_pages.specs.Marks.{IsBeingWritten, marks_at, with_marks, clean_of}
+use Rattle.dirty_pages.specs.Marks.{IsBeingWritten, clean, marks_at, with_marks, clean_of}
 use Rattle.dirty_pages.proofs.MarkLaws.{changed_elsewhere}
+use Rattle.dirty_pages.proofs.PageLists.{replicate_at}
 use Rattle.map_page_cache.specs.Index.{Index, HasSlot}
-use Rattle.map_page_cache.specs.CachedPages.{CachedPages, IsCache, IsPageOf, IsThere, IsIn, IsWriting, with_mapping}
+use Rattle.map_page_cache.specs.CachedPages.{CachedPages, IsCache, IsPageOf, IsThere, IsIn, IsWriting, HasNoFrame, with_mapping}
 use Rattle.map_page_cache.specs.Frames.{IsAt, Follows, AreFlags}
+use Rattle.map_page_cache.specs.Turns.{NoneClean, Turns, flags_of, no_turns}
 use Rattle.map_page_cache.proofs.FrameLaws.{page_in, at_by, one_frame, absent_at, none_absent, set_at, push_at, apart-change}
 
 -- a page that is there has a frame, and what is in its frame is there
@@ -111,7 +114,41 @@ form-entry cache page frame slot mapping content form stood holds =
     form-set cache frame (with_mapping slot mapping content) form stood.inside (page-set cache.geometry slot mapping content own holds')
     (λ k other at. other (one_frame cache.pages page k frame form.apart (subst (λ (p : PageId). IsAt cache.pages p k) stood.named at) (in_at cache page frame content stood)))
 
--- the flags of the frames with clean pages
+-- a cache without a page
+pub opened_form : (g : Geometry) (frames : ℕ) (pages : List MapPage) (marks : List Marks) (turns : Turns) → pages ≡ [] → marks ≡ replicate frames clean
+    → IsCache (record { geometry = g; frames = frames; pages = pages; marks = marks; turns = turns })
+opened_form g frames pages marks turns none are_clean = rw (none, are_clean) (record {
+  fits = omega arith;
+  marks = length-replicate frames clean;
+  each = All-nil (IsPageOf g);
+  apart = λ j k d below other same. absurd (omega arith);
+  empty = λ frame past. replicate_at frames frame clean;
+})
+
+-- the flags of the frames with clean pages: there are none at first
+pub no_flags : (turns : Turns) (frames count : ℕ) (marks : List Marks) → turns ≡ no_turns frames → count ≡ 0 → AreFlags (flags_of turns) frames count marks
+no_flags turns frames count marks is none =
+    let flags : flags_of turns ≡ map (λ (o : Option ℕ). is_some o) (replicate frames None) = ap (λ (t : Turns). flags_of t) is in
+    record {
+      size = ap (λ (fs : List Bool). length fs) flags ∙ length-map (replicate frames None) (λ (o : Option ℕ). is_some o) ∙ length-replicate frames None;
+      here = λ frame below. absurd (omega arith);
+      empty = λ frame past. ap (λ (fs : List Bool). get_or fs frame false) flags
+          ∙ get_or-map (λ (o : Option ℕ). is_some o) (replicate frames None) frame None ∙ ap (λ (o : Option ℕ). is_some o) (replicate_at frames frame None);
+    }
+
+-- where no frame is empty or has a clean page, there is none for another page
+pub no_frame : (cache : CachedPages) → IsCache cache → AreFlags (flags_of cache.turns) cache.frames (length cache.pages) cache.marks → cache.frames ≤ length cache.pages
+    → NoneClean cache.turns → HasNoFrame cache
+no_frame cache form are full none = record {
+  full = omega (arith, form.fits);
+  unclean = λ frame inside clean_is.
+      let flag = are.here frame (omega (arith, full)) ∙ ap clean_of clean_is in
+      let not = get_or-map (λ (o : Option ℕ). is_some o) cache.turns.frames frame None ∙ ap (λ (o : Option ℕ). is_some o) (none frame) in
+      true-false (sym flag ∙ not);
+}
+  where
+    true-false : true ≡ false → ⊥
+    true-false is = cc
 
 -- the flag of one frame is set as its marks are now, and those of the others stayed; no other frame has a page that had none
 pub flags-set : (flags flags' : List Bool) (frames count count' frame : ℕ) (flag : Bool) (marks marks' : List Marks) → AreFlags flags frames count marks → frame < frames

@@ -3,3 +3,5 @@ pub mod FrameLaws
 pub mod CacheLaws
 pub mod RunLaws
 pub mod StepLaws
+pub mod OneLaws
+pub mod Rows

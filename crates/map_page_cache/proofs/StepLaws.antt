@@ -1,7 +1,8 @@
 -- Each call by what the code computes. Callers know a cache by its view, `known`.
-use Rattle.std.specs.Prelude.{ℕ, ◌≡◌, ◌<◌, Bool, List, [], ◌∷◌, ◌++◌, length, refl}
+use Rattle.std.specs.Prelude.{ℕ, ◌≡◌, ◌<◌, Bool, true, false, List, is_some, Option, [], ◌∷◌, ◌++◌, length, refl}
 use Rattle.std.proofs.Common.{ap, ◌∙◌, sym, subst, arith, get_or, set}
-use Rattle.std.proofs.lemmas.List.{length-set}
+use Rattle.std.specs.Bool.{then_some}
+use Rattle.std.proofs.lemmas.List.{length-set, map-set}
 use Rattle.blk_base.specs.declared.place.PageId.{PageId}
 use Rattle.blk_base.specs.declared.place.Mapping.{Mapping}
 use Rattle.blk_base.specs.declared.point.Point.{Point}
@@ -12,25 +13,41 @@ use Rattle.dirty_pages.specs.Marks.{IsBeingWritten, clean, marks_at, with_marks,
 use Rattle.dirty_pages.proofs.MarkLaws.{changed_here, changed_elsewhere}
 use Rattle.map_page_cache.specs.CachedPages.{CachedPages, IsCache, IsPageOf, IsAbsent, Fills, GivesUp, with_mapping, Sets, IsWriting, Writes}
 use Rattle.map_page_cache.specs.Frames.{IsAt, AreFlags}
+use Rattle.map_page_cache.specs.Turns.{IsLongestClean, Turns, flags_of, with_turn}
 use Rattle.map_page_cache.proofs.FrameLaws.{one_frame, absent_at}
 use Rattle.map_page_cache.proofs.CacheLaws.{form-change, form-set, form-push, form-entry, at_in, in_at, content_at, flags-set}
 
-pub sets : (known cache : CachedPages) (page : PageId) (frame slot : ℕ) (mapping : Mapping) (point : Point) (content content' : MapPage) (marks : List Marks)
+-- another order of the clean frames
+turned : (cache : CachedPages) (turns : Turns) → IsCache cache → IsCache (record cache { turns = turns })
+turned cache turns form = record { fits = form.fits; marks = form.marks; each = form.each; apart = form.apart; empty = form.empty }
+
+pub sets : (known cache : CachedPages) (page : PageId) (frame slot : ℕ) (mapping : Mapping) (point : Point) (content content' : MapPage) (marks : List Marks) (turns : Turns)
     → cache ≡ known → IsCache cache → IsAt known.pages page frame → content ≡ get_or cache.pages frame content → HoldsMapping known.geometry page.level mapping
-    → content' ≡ with_mapping slot mapping content → marks ≡ with_marks cache.marks frame (changed_at point)
-    → Sets known (record { geometry = cache.geometry; frames = cache.frames; pages = set cache.pages frame content'; marks = marks }) page slot mapping point
-sets known cache page frame slot mapping point content content' marks same form at is holds content_is marks_are =
+    → content' ≡ with_mapping slot mapping content → marks ≡ with_marks cache.marks frame (changed_at point) → turns ≡ with_turn frame false cache.turns
+    → Sets known (record { geometry = cache.geometry; frames = cache.frames; pages = set cache.pages frame content'; marks = marks; turns = turns }) page slot mapping point
+sets known cache page frame slot mapping point content content' marks turns same form at is holds content_is marks_are turns_are =
     let stood = at_in known page frame content at (subst (λ (c : CachedPages). content ≡ get_or c.pages frame content) same is) in
     let size = length-set known.pages frame (with_mapping slot mapping content) in
     let inside = at.inside in
-    rw (content_is, marks_are, same) (record {
-      form = form-change (record known { pages = set known.pages frame (with_mapping slot mapping content) }) frame (changed_at point)
-          (form-entry known page frame slot mapping content (rw same at form) stood holds) (omega arith);
+    rw (content_is, marks_are, turns_are, same) (record {
+      form = turned (record known { pages = set known.pages frame (with_mapping slot mapping content); marks = with_marks known.marks frame (changed_at point) }) (with_turn frame false known.turns)
+          (form-change (record known { pages = set known.pages frame (with_mapping slot mapping content) }) frame (changed_at point)
+          (form-entry known page frame slot mapping content (rw same at form) stood holds) (omega arith));
       frame = frame;
       content = content;
       stood = stood;
       after = refl;
     })
+
+is_some-then_some : (flag : Bool) (n : ℕ) → is_some (then_some flag n) ≡ flag
+is_some-then_some true n = refl
+is_some-then_some false n = refl
+
+-- the flags of the clean frames, when one frame has a turn
+pub flags_turned : (turns new : Turns) (frame : ℕ) (flag : Bool) → new ≡ with_turn frame flag turns → flags_of new ≡ set (flags_of turns) frame flag
+flags_turned turns new frame flag is =
+    ap (λ (t : Turns). flags_of t) is ∙ map-set (λ (o : Option ℕ). is_some o) turns.frames frame _
+    ∙ ap (λ (b : Bool). set (flags_of turns) frame b) (is_some-then_some flag _)
 
 -- the flag of a page whose marks a call changed
 pub flags-changed : (cache : CachedPages) (count' frame : ℕ) (change : Marks → Marks) (flag : Bool) (flags flags' : List Bool) (marks : List Marks) → IsCache cache
@@ -43,12 +60,19 @@ flags-changed cache count' frame change flag flags flags' marks form are inside 
     (is ∙ ap clean_of (sym (ap (λ (ms : List Marks). marks_at ms frame) marks_are ∙ changed_here cache.marks frame change (omega arith))))
     (λ other apart. ap (λ (ms : List Marks). marks_at ms other) marks_are ∙ changed_elsewhere cache.marks frame other change apart) written
 
-pub writes : (known cache : CachedPages) (page : PageId) (frame : ℕ) (marks : List Marks) → cache ≡ known → IsCache cache
-    → IsAt known.pages page frame → marks ≡ with_marks cache.marks frame settled
-    → Writes known (record { geometry = cache.geometry; frames = cache.frames; pages = cache.pages; marks = marks }) page
-writes known cache page frame marks same form at marks_are =
+pub writes : (known cache : CachedPages) (page : PageId) (frame : ℕ) (marks : List Marks) (turns : Turns) → cache ≡ known → IsCache cache
+    → IsAt known.pages page frame → marks ≡ with_marks cache.marks frame settled → turns ≡ with_turn frame (clean_of (settled (marks_at cache.marks frame))) cache.turns
+    → Writes known (record { geometry = cache.geometry; frames = cache.frames; pages = cache.pages; marks = marks; turns = turns }) page
+writes known cache page frame marks turns same form at marks_are turns_are =
     let found = content_at known page frame at in
-    rw (marks_are, same) (record { form = form-change known frame settled (rw same at form) at.inside; frame = frame; content = found.0; stood = found.1; after = refl })
+    rw (marks_are, turns_are, same) (record {
+      form = turned (record known { marks = with_marks known.marks frame settled }) (with_turn frame (clean_of (settled (marks_at known.marks frame))) known.turns)
+          (form-change known frame settled (rw same at form) at.inside);
+      frame = frame;
+      content = found.0;
+      stood = found.1;
+      after = refl;
+    })
 
 -- the frame of a page that is being written
 pub writing_in : (cache : CachedPages) (page : PageId) (frame : ℕ) → IsCache cache → IsAt cache.pages page frame → IsWriting cache page
@@ -56,26 +80,30 @@ pub writing_in : (cache : CachedPages) (page : PageId) (frame : ℕ) → IsCache
 writing_in cache page frame form at out =
     subst (λ (k : ℕ). IsBeingWritten (marks_at cache.marks k)) (one_frame cache.pages page out.frame frame form.apart (in_at cache page out.frame out.content out.stands) at) out.marks
 
-pub fills : (known cache : CachedPages) (page : PageId) (content : MapPage) (copy : MapPage) → cache ≡ known → IsCache cache → IsAbsent known page → content.head.page ≡ page
-    → IsPageOf known.geometry content → length known.pages < known.frames → copy ≡ content
-    → Fills known (record { geometry = cache.geometry; frames = cache.frames; pages = cache.pages ++ copy ∷ []; marks = cache.marks }) content
-fills known cache page content copy same form absent named held room copied =
-    rw (copied, same) (record {
-      form = form-push known content (rw same at form) room held (subst (λ (p : PageId). IsAbsent known p) (sym named) absent);
+pub fills : (known cache : CachedPages) (page : PageId) (content : MapPage) (copy : MapPage) (turns : Turns) → cache ≡ known → IsCache cache → IsAbsent known page → content.head.page ≡ page
+    → IsPageOf known.geometry content → length known.pages < known.frames → copy ≡ content → turns ≡ with_turn (length cache.pages) true cache.turns
+    → Fills known (record { geometry = cache.geometry; frames = cache.frames; pages = cache.pages ++ copy ∷ []; marks = cache.marks; turns = turns }) content
+fills known cache page content copy turns same form absent named held room copied turns_are =
+    rw (copied, turns_are, same) (record {
+      form = turned (record known { pages = known.pages ++ content ∷ [] }) (with_turn (length known.pages) true known.turns)
+          (form-push known content (rw same at form) room held (subst (λ (p : PageId). IsAbsent known p) (sym named) absent));
       room = room;
       after = refl;
     })
 
-pub gives_up : (known cache : CachedPages) (page : PageId) (frame : ℕ) (content copy : MapPage) → cache ≡ known → IsCache cache → IsAbsent known page → content.head.page ≡ page
-    → IsPageOf known.geometry content → length known.pages ≡ known.frames → frame < length known.pages → marks_at known.marks frame ≡ clean → copy ≡ content
-    → GivesUp known (record { geometry = cache.geometry; frames = cache.frames; pages = set cache.pages frame copy; marks = cache.marks }) content
-gives_up known cache page frame content copy same form absent named held full inside is_clean copied =
-    rw (copied, same) (record {
-      form = form-set known frame content (rw same at form) inside held
-          (λ k other at. absent_at known.pages page absent k (subst (λ (p : PageId). IsAt known.pages p k) named at));
+pub gives_up : (known cache : CachedPages) (page : PageId) (frame : ℕ) (content copy : MapPage) (turns : Turns) → cache ≡ known → IsCache cache → IsAbsent known page → content.head.page ≡ page
+    → IsPageOf known.geometry content → length known.pages ≡ known.frames → frame < length known.pages → marks_at known.marks frame ≡ clean → IsLongestClean known.turns frame → copy ≡ content
+    → turns ≡ with_turn frame true cache.turns
+    → GivesUp known (record { geometry = cache.geometry; frames = cache.frames; pages = set cache.pages frame copy; marks = cache.marks; turns = turns }) content
+gives_up known cache page frame content copy turns same form absent named held full inside is_clean longest copied turns_are =
+    rw (copied, turns_are, same) (record {
+      form = turned (record known { pages = set known.pages frame content }) (with_turn frame true known.turns)
+          (form-set known frame content (rw same at form) inside held
+          (λ k other at. absent_at known.pages page absent k (subst (λ (p : PageId). IsAt known.pages p k) named at)));
       full = full;
       frame = frame;
       inside = inside;
       clean = is_clean;
+      longest = longest;
       after = refl;
     })

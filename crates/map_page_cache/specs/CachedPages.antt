@@ -1,5 +1,5 @@
 -- What a cache keeps: pages by their frames, and what of each isn't durable yet.
-use Rattle.std.specs.Prelude.{ℕ, ◌≡◌, ◌≢◌, ◌<◌, ◌≤◌, List, [], ◌∷◌, ◌++◌, length, All, Contains, replicate, slice_index_or, slice_set}
+use Rattle.std.specs.Prelude.{ℕ, ◌≡◌, ◌≢◌, ◌<◌, ◌≤◌, true, false, List, [], ◌∷◌, ◌++◌, length, All, Contains, replicate, slice_index_or, slice_set}
 use Rattle.blk_base.specs.declared.place.PageId.{PageId}
 use Rattle.blk_base.specs.declared.place.Mapping.{Mapping}
 use Rattle.blk_base.specs.declared.point.Point.{Point}
@@ -7,19 +7,21 @@ use Rattle.blk_base.specs.declared.geometry.Geometry.{Geometry}
 use Rattle.page_codec.specs.declared.forms.MapPage.{MapPage}
 use Rattle.page_codec.specs.Grammar.{AreHeld}
 use Rattle.dirty_pages.specs.declared.marks.Marks.{Marks}
-use Rattle.dirty_pages.specs.Marks.{clean, marks_at, with_marks, changed_at, settled, HandsOut, IsBeingWritten}
+use Rattle.dirty_pages.specs.Marks.{clean, clean_of, marks_at, with_marks, changed_at, settled, HandsOut, IsBeingWritten}
+use Rattle.map_page_cache.specs.Turns.{IsLongestClean, Turns, no_turns, with_turn}
 
--- The sizes of the image, how many frames there are, the pages in those that aren't empty, which are the first ones, and
--- the marks of all frames.
+-- The sizes of the image, how many frames there are, the pages in those that aren't empty, which are the first ones, the
+-- marks of all frames, and in which order they came to have clean pages.
 pub record CachedPages : Type 0 where
   pub geometry : Geometry
   pub frames : ℕ
   pub pages : List MapPage
   pub marks : List Marks
+  pub turns : Turns
 
 -- each frame is empty
 abbrev pub no_pages : Geometry → ℕ → CachedPages
-no_pages g frames = record { geometry = g; frames = frames; pages = []; marks = replicate frames clean }
+no_pages g frames = record { geometry = g; frames = frames; pages = []; marks = replicate frames clean; turns = no_turns frames }
 
 -- a page of an image with these sizes, with what the format of pages can hold
 pub record IsPageOf (g : Geometry) (content : MapPage) : Type 0 where
@@ -52,16 +54,17 @@ IsAbsent cache page = All (λ content. content.head.page ≢ page) cache.pages
 pub record Fills (old new : CachedPages) (content : MapPage) : Type 0 where
   pub form : IsCache new
   pub room : length old.pages < old.frames
-  pub after : new ≡ record old { pages = old.pages ++ content ∷ [] }
+  pub after : new ≡ record old { pages = old.pages ++ content ∷ []; turns = with_turn (length old.pages) true old.turns }
 
--- no frame was empty, and the page is in the frame of a clean page, which was given up
+-- no frame was empty, and the page is in the frame of the page that was clean for the longest time, which was given up
 pub record GivesUp (old new : CachedPages) (content : MapPage) : Type 0 where
   pub form : IsCache new
   pub full : length old.pages ≡ old.frames
   pub frame : ℕ
   pub inside : frame < length old.pages
   pub clean : marks_at old.marks frame ≡ clean
-  pub after : new ≡ record old { pages = slice_set old.pages frame content }
+  pub longest : IsLongestClean old.turns frame
+  pub after : new ≡ record old { pages = slice_set old.pages frame content; turns = with_turn frame true old.turns }
 
 -- every frame has a page that is dirty or being written
 pub record HasNoFrame (cache : CachedPages) : Type 0 where
@@ -87,6 +90,7 @@ pub record Sets (old new : CachedPages) (page : PageId) (slot : ℕ) (mapping : 
   pub after : new ≡ record old {
     pages = slice_set old.pages frame (with_mapping slot mapping content);
     marks = with_marks old.marks frame (changed_at point);
+    turns = with_turn frame false old.turns;
   }
 
 -- the page that was changed first, of those that are due, is handed out as it is
@@ -110,4 +114,7 @@ pub record Writes (old new : CachedPages) (page : PageId) : Type 0 where
   pub frame : ℕ
   pub content : MapPage
   pub stood : IsIn old page frame content
-  pub after : new ≡ record old { marks = with_marks old.marks frame settled }
+  pub after : new ≡ record old {
+    marks = with_marks old.marks frame settled;
+    turns = with_turn frame (clean_of (settled (marks_at old.marks frame))) old.turns;
+  }

@@ -1,4 +1,5 @@
 pub mod CachedPages
 pub mod Index
+pub mod Turns
 pub mod Frames
 pub mod Runs

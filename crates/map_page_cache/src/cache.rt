@@ -1,9 +1,10 @@
 ghost use Rattle.std.specs.Prelude.{◌≡◌, ◌<◌, IfOk, OnOk, OnErr, ◌⊎◌, IfSome, IfNone, IsTrue, ◌↔◌, length};
 ghost use Rattle.page_codec.specs.declared.forms.MapPage.{MapPage};
 ghost use Rattle.page_codec.specs.Grammar.{HoldsMapping};
-ghost use Rattle.dirty_pages.specs.Marks.{clean, marks_at, NoneIsDue, IsLowPoint, AreClean};
+ghost use Rattle.dirty_pages.specs.Marks.{clean, marks_at, NoneIsDue, IsFirstDue, NoneIsEverDue, IsLowPoint, AreClean};
 ghost use Rattle.map_page_cache.specs.CachedPages.{CachedPages, no_pages, IsPageOf, IsCache, IsThere, IsAbsent, Fills, GivesUp, HasNoFrame, with_mapping, Sets, Expires, IsWriting, Writes};
 ghost use Rattle.map_page_cache.specs.Frames.{IsAt};
+ghost use Rattle.map_page_cache.specs.Turns.{IsLongestClean};
 
 use crate::NoFrame;
 use crate::clean::CleanFrames;
@@ -34,16 +35,17 @@ impl Model for Cache {
     ghost use Rattle.std.specs.Prelude.{◌≤◌, length, vec_capacity};
     ghost use Rattle.map_page_cache.specs.CachedPages.{CachedPages, IsCache};
     ghost use Rattle.map_page_cache.specs.Frames.{Follows, AreFlags};
+    ghost use Rattle.map_page_cache.specs.Turns.{flags_of};
 
     ghost Value = { CachedPages };
 
-    ghost view = { λ c. record { geometry = c.geometry; frames = c.room; pages = c.pages.items; marks = c.marks } };
+    ghost view = { λ c. record { geometry = c.geometry; frames = c.room; pages = c.pages.items; marks = c.marks; turns = c.clean } };
 
     ghost invariant = { λ c. record {
-      form : IsCache (record { geometry = c.geometry; frames = c.room; pages = c.pages.items; marks = c.marks });
+      form : IsCache (record { geometry = c.geometry; frames = c.room; pages = c.pages.items; marks = c.marks; turns = c.clean });
       room : c.room ≤ vec_capacity c.pages;
       index : Follows c.index c.room c.pages.items;
-      clean : AreFlags c.clean c.room (length c.pages.items) c.marks;
+      clean : AreFlags (flags_of c.clean) c.room (length c.pages.items) c.marks;
     } };
 }
 
@@ -131,6 +133,7 @@ impl Cache {
         requires full { length self.old.pages ≡ self.old.frames }
         requires inside { frame < length self.old.pages }
         requires clean { marks_at self.old.marks frame ≡ clean }
+        requires longest { IsLongestClean self.old.turns frame }
         ensures { GivesUp self.old self.new from.now }
     {
         let content = &mut self.pages[frame];
@@ -176,6 +179,15 @@ impl Cache {
             Some(frame) => self.marks.marks(frame as usize).writing.is_some(),
             None => false,
         }
+    }
+
+    /// The least point with which a page is due to be written: the first dirty point of those that aren't being written.
+    /// `None` exactly where there is none.
+    pub fn first_due(&self) -> Option<Point>
+        ensures some { IfSome result (IsFirstDue self.now.marks) }
+        ensures none { IfNone result (NoneIsEverDue self.now.marks) }
+    {
+        self.marks.first_due()
     }
 
     /// The write of a page that was handed out is durable: a flush covers it. What was set since isn't.

@@ -1,4 +1,5 @@
-ghost use Rattle.std.specs.Prelude.{◌≡◌, ◌<◌, ℕ, false, true, length, replicate, slice_set, slice_index_or, IfOk, IfSome, IfNone};
+ghost use Rattle.std.specs.Prelude.{◌≡◌, ◌<◌, length, IfOk, IfSome, IfNone};
+ghost use Rattle.map_page_cache.specs.Turns.{IsLongestClean, NoneClean, no_turns, with_turn};
 
 use dirty_pages::Minima;
 use std::alloc::{AllocError, Global};
@@ -13,17 +14,17 @@ pub(crate) struct CleanFrames {
 }
 
 impl Model for CleanFrames {
-    ghost use Rattle.std.specs.Prelude.{List, Bool, map, is_some};
+    ghost use Rattle.map_page_cache.specs.Turns.{Turns};
 
-    ghost Value = { List Bool };
+    ghost Value = { Turns };
 
-    ghost view = { λ c. map is_some c.turns };
+    ghost view = { λ c. record { last = c.turn; frames = c.turns } };
 }
 
 impl CleanFrames {
     /// So many frames, none of which has a clean page.
     pub(crate) fn new(alloc: Global, frames: u32) -> Result<CleanFrames, AllocError>
-        ensures { IfOk result (λ flags. flags ≡ replicate frames false) }
+        ensures { IfOk result (λ turns. turns ≡ no_turns frames) }
     {
         Ok(CleanFrames {
             turns: Minima::new(alloc, frames)?,
@@ -33,8 +34,8 @@ impl CleanFrames {
 
     /// The page of a frame is clean from now on, or isn't.
     pub(crate) fn set(&mut self, frame: usize, is_clean: bool)
-        requires { frame < length self.old }
-        ensures { self.new ≡ slice_set self.old frame is_clean }
+        requires { frame < length self.old.frames }
+        ensures { self.new ≡ with_turn frame is_clean self.old }
     {
         self.turn = self.turn.wrapping_add(1);
         self.turns.set(frame, is_clean.then_some(self.turn));
@@ -42,8 +43,8 @@ impl CleanFrames {
 
     /// The frame whose page has been clean for the longest time.
     pub(crate) fn first(&self) -> Option<usize>
-        ensures some { IfSome result (λ frame. slice_index_or self.now frame false ≡ true) }
-        ensures none { IfNone result ((frame : ℕ) → slice_index_or self.now frame false ≡ false) }
+        ensures some { IfSome result (IsLongestClean self.now) }
+        ensures none { IfNone result (NoneClean self.now) }
     {
         let (frame, _) = self.turns.least()?;
         Some(frame)

@@ -1,11 +1,11 @@
-ghost use Rattle.std.specs.Prelude.{◌≡◌, ◌≤◌, List};
+ghost use Rattle.std.specs.Prelude.{◌≡◌, ◌≤◌, ◌⊎◌, List};
 ghost use Rattle.blk_base.specs.declared.place.PageId.{PageId};
 ghost use Rattle.blk_base.specs.declared.point.Point.{Point};
 ghost use Rattle.page_codec.specs.declared.forms.MapPage.{MapPage};
-ghost use Rattle.dirty_pages.specs.Marks.{IsLowPoint, AreClean};
+ghost use Rattle.dirty_pages.specs.Marks.{IsLowPoint, AreClean, NoneIsDue};
 ghost use Rattle.dirty_pages.specs.History.{IsUnwritten, IsUnreported};
-ghost use Rattle.map_page_cache.specs.CachedPages.{CachedPages, IsPageOf, IsCache, IsThere, Expires, IsWriting};
-ghost use Rattle.map_page_cache.specs.Runs.{Call, LeadTo, IsContent, events_of};
+ghost use Rattle.map_page_cache.specs.CachedPages.{CachedPages, IsPageOf, IsCache, IsThere, Fills, GivesUp, HasNoFrame, Expires, IsWriting};
+ghost use Rattle.map_page_cache.specs.Runs.{Call, Leads, LeadTo, IsContent, events_of};
 
 /// A page that is there has one content, and one that the format of pages can hold. Whatever the calls from any cache on
 /// were: it is as it was then or was installed since, with what was set in it since.
@@ -35,4 +35,13 @@ pub fn a_page_is_out_until_it_is_written()
     ensures kept { (old new : CachedPages) (calls : List Call) (page : PageId) → IsCache old → LeadTo old calls new
         → IsUnreported (events_of calls) page → IsWriting old page → IsWriting new page }
     ensures idle { (old new : CachedPages) (page : PageId) (point : Point) (copy : MapPage) → IsCache old → Expires old new point page copy → IsWriting old page → ⊥ }
+{}
+
+/// Each call has one result, also which page it gives up or hands out; and it has one of its answers alone.
+pub fn a_call_has_one_result()
+    ensures after { (old new other : CachedPages) (call : Call) → IsCache old → Leads old call new → Leads old call other → new ≡ other }
+    ensures out { (old new other : CachedPages) (point : Point) (page out : PageId) (copy into : MapPage) → Expires old new point page copy → Expires old other point out into
+        → (page ≡ out) × (copy ≡ into) × (new ≡ other) }
+    ensures none { (old new : CachedPages) (point : Point) (page : PageId) (copy : MapPage) → Expires old new point page copy → NoneIsDue old.marks point → ⊥ }
+    ensures refused { (old new : CachedPages) (content : MapPage) → HasNoFrame old → Fills old new content ⊎ GivesUp old new content → ⊥ }
 {}

@@ -1,11 +1,11 @@
-use Rattle.std.proofs.Common.{◌≡◌, ◌<◌, length, ap, ◌∙◌, sym, subst}
+use Rattle.std.proofs.Common.{true, ◌≡◌, ◌<◌, length, ap, ◌∙◌, sym, subst}
 use Rattle.std.proofs.lemmas.List.{length-set, set-get_or}
 use Rattle.page_codec.specs.declared.forms.MapPage.{MapPage}
 use Rattle.dirty_pages.specs.Marks.{clean_of, marks_at, clean}
 use Rattle.map_page_cache.specs.contracts.cache.Cache.{the_view}
 use Rattle.map_page_cache.specs.CachedPages.{CachedPages, IsAbsent}
 use Rattle.map_page_cache.proofs.FrameLaws.{at_by, absent_at, follows-replace}
-use Rattle.map_page_cache.proofs.StepLaws.{gives_up, flags-changed}
+use Rattle.map_page_cache.proofs.StepLaws.{gives_up, flags-changed, flags_turned}
 use Rattle.map_page_cache.proofs.cache.Cache.replace.Goals as goal
 
 pub remove-requires : goal.remove-requires
@@ -24,8 +24,8 @@ insert-requires-clause-absent c = λ s has.
 
 pub returns : goal.returns
 returns c =
-    gives_up c.args.self.now (the_view c.self.inside) c.args.page c.args.frame c.args.from.now c.copy_page.new.into c.self.view_is c.self.invariant.form c.requires.absent c.requires.named
-    c.requires.held c.requires.full c.requires.inside c.requires.clean c.copy_page.ensures
+    gives_up c.args.self.now (the_view c.self.inside) c.args.page c.args.frame c.args.from.now c.copy_page.new.into c.set.new.self c.self.view_is c.self.invariant.form c.requires.absent c.requires.named
+    c.requires.held c.requires.full c.requires.inside c.requires.clean c.requires.longest c.copy_page.ensures c.set.ensures
 
 pub invariant_of-self : goal.invariant_of-self
 invariant_of-self c =
@@ -41,5 +41,5 @@ invariant_of-self c =
       index = follows-replace c.self.inside.index c.remove.new.self c.insert.new.self cache.frames place cache.pages c.copy_page.new.into gone.head.page c.args.page
           c.self.invariant.index c.self.invariant.form.apart at c.remove.ensures c.insert.ensures (ap (λ (m : MapPage). m.head.page) c.copy_page.ensures ∙ c.requires.named);
       clean = flags-changed cache _ place (λ own. own) _ _ _ _ c.self.invariant.form c.self.invariant.clean inside (sym (set-get_or cache.marks place clean)) (sym (ap clean_of clean_is))
-          c.set.ensures (length-set cache.pages place c.copy_page.new.into);
+          (flags_turned c.self.inside.clean c.set.new.self place true c.set.ensures) (length-set cache.pages place c.copy_page.new.into);
     }
