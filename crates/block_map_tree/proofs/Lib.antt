@@ -4,3 +4,5 @@ pub mod StepLaws
 pub mod FindLaws
 pub mod OpeningLaws
 pub mod HistoryLaws
+pub mod OneLaws
+pub mod Rows

@@ -1,5 +1,5 @@
 -- Each call by what the code computes. Callers know a tree by its view, `known`.
-use Rattle.std.specs.Prelude.{ℕ, ◌≡◌, ◌<◌, List, [], length, slice_index_or, slice_set, refl}
+use Rattle.std.specs.Prelude.{ℕ, ◌≡◌, ◌<◌, Bool, true, false, IsTrue, Option, None, Some, IfSome, IfNone, is_some, List, [], length, slice_index_or, slice_set, refl}
 use Rattle.std.proofs.Common.{sym, ◌∙◌, ap, subst, inl, inr, arith}
 use Rattle.std.proofs.lemmas.List.{get_or_default}
 use Rattle.blk_base.specs.declared.place.PageId.{PageId}
@@ -14,7 +14,7 @@ use Rattle.page_codec.proofs.HeldLaws.{held_above}
 use Rattle.dirty_pages.specs.declared.marks.Marks.{Marks}
 use Rattle.dirty_pages.specs.Marks.{HandsOut, marks_at, with_marks, changed_at, handed_out, settled}
 use Rattle.dirty_pages.proofs.MarkLaws.{due_inside, out_inside}
-use Rattle.block_map_tree.specs.Pages.{IsInner, above, slot_of}
+use Rattle.block_map_tree.specs.Pages.{IsInner, IsOnPath, IsRoot, above, slot_of}
 use Rattle.block_map_tree.specs.Tree.{Tree, IsTree, IsAt, IsThere, IsLinkable, Links, Expires, IsWriting, Writes, number_of, mappings_of}
 use Rattle.block_map_tree.proofs.TreeLaws.{HasPlace, marks_keep, marks_move_none, marks_move_none_back, links, place_above}
 
@@ -85,3 +85,27 @@ expires known tree new into page point n row same form out inner number stands g
       form = handed_form tree new point n form out;
       set = ap (λ (ms : List Marks). record { forest = tree.forest; pages = tree.pages; marks = ms }) (out.after ∙ ap (λ (k : ℕ). with_marks tree.marks k handed_out) (sym number));
     })
+
+some_of : (o : Option Point) → is_some o ≡ true → (point : Point) × (o ≡ Some point)
+some_of None is = cc
+some_of (Some point) is = (point, refl)
+
+-- whether a page is being written, by its marks
+pub out_so : (known tree : Tree) (page : PageId) (n : ℕ) (marks : Marks) (some : Bool) → tree ≡ known → IsInner tree.forest page → n ≡ number_of tree.forest page
+    → marks ≡ marks_at tree.marks n → some ≡ is_some marks.writing → (IsTrue some → IsWriting known page) × (IsWriting known page → IsTrue some)
+out_so known tree page n marks some same inner number is flag =
+    let here : marks ≡ marks_at tree.marks (number_of tree.forest page) = is ∙ ap (λ (k : ℕ). marks_at tree.marks k) number in (
+      (λ yes'.
+          let point = some_of marks.writing (sym flag ∙ yes') in
+          subst (λ (t : Tree). IsWriting t page) same (record { inner = inner; marks = record { first = point.0; is = ap (λ (m : Marks). m.writing) (sym here) ∙ point.1 } })),
+      (λ out.
+          let out' = subst (λ (t : Tree). IsWriting t page) (sym same) out in
+          flag ∙ ap (λ (m : Marks). is_some m.writing) here ∙ ap (λ (o : Option Point). is_some o) out'.marks.is),
+    )
+
+-- whether a page may be linked, by what the page above stands at
+pub linkable_so : (tree : Tree) (page : PageId) (found : Option Pbn) (some : Bool) → IsOnPath tree.forest page × (IsRoot tree.forest page → ⊥)
+    → IfSome found (IsAt tree (above page)) → IfNone found ((at : Pbn) → IsAt tree (above page) at → ⊥) → some ≡ is_some found
+    → (IsTrue some → IsLinkable tree page × IsThere tree (above page)) × (IsLinkable tree page × IsThere tree (above page) → IsTrue some)
+linkable_so tree page None some on at none flag = ((λ yes'. absurd (let no' : true ≡ false = sym yes' ∙ flag in cc)), λ is. absurd (none is.1.at is.1.stands))
+linkable_so tree page (Some b) some on at none flag = ((λ yes'. (record { path = on.0; lower = on.1 }, record { at = b; stands = at })), λ is. flag)

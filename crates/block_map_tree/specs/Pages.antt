@@ -65,6 +65,10 @@ pub record IsOnPath (f : Forest) (page : PageId) : Type 0 where
   pub there : page ≡ page_at page.level address
   pub tree : IsTreeOf f page.tree
 
+-- the first of the addresses below a page
+abbrev pub first_below : PageId → ℕ
+first_below page = (page.index * PAGE_SLOTS ^ page.level * TREES + page.tree) * PAGE_SLOTS
+
 -- the root of a tree
 pub record IsRoot (f : Forest) (page : PageId) : Type 0 where
   pub tree : IsTreeOf f page.tree

@@ -11,9 +11,9 @@ ghost use Rattle.block_map_tree.specs.declared.forms.Path.{Path};
 ghost use Rattle.block_map_tree.specs.Pages.{IsTreeOf, IsRoot, above, page_on, page_at};
 ghost use Rattle.block_map_tree.specs.Tree.{Tree, IsTree, IsAt, IsThere, IsFound, IsLinkable, Links, Expires, IsWriting, Writes, marks_of};
 ghost use Rattle.block_map_tree.specs.Opening.{IsOpened, all_trees};
-ghost use Rattle.block_map_tree.specs.History.{Call, LeadTo, events_of};
+ghost use Rattle.block_map_tree.specs.History.{Call, Leads, LeadTo, events_of};
 ghost use Rattle.blk_base.specs.Regions.{IsDataBlock};
-ghost use Rattle.dirty_pages.specs.Marks.{IsLowPoint, AreClean};
+ghost use Rattle.dirty_pages.specs.Marks.{IsLowPoint, AreClean, NoneIsDue};
 ghost use Rattle.dirty_pages.specs.History.{IsWaiting, IsUnwritten, IsUnreported, AtMost};
 
 /// What is opened of all trees of an image is opened of those of each zone.
@@ -66,4 +66,12 @@ pub fn no_link_is_lost()
         → IsUnwritten (events_of calls) page point → AreClean new.marks → ⊥ }
     ensures kept { (old new : Tree) (calls : List Call) (page : PageId) (point : Point) → IsTree old → LeadTo old calls new
         → IsWaiting (events_of calls) page point → AtMost (marks_of new page).dirty point }
+{}
+
+/// Each call has one result, also which page it hands out; and it has one of its answers alone.
+pub fn a_call_has_one_result()
+    ensures after { (old new other : Tree) (call : Call) → Leads old call new → Leads old call other → new ≡ other }
+    ensures out { (old new other : Tree) (point : Point) (page out : PageId) (into copy : MapPage) → IsTree old → Expires old new point page into → Expires old other point out copy
+        → (page ≡ out) × (into ≡ copy) × (new ≡ other) }
+    ensures none { (old new : Tree) (point : Point) (page : PageId) (into : MapPage) → Expires old new point page into → NoneIsDue old.marks point → ⊥ }
 {}

@@ -25,8 +25,9 @@ mod slots;
 
 pub use forms::{Forest, Found, Path};
 pub use laws::{
-    a_link_adds_one_page, a_missing_page_may_be_linked, a_page_is_out_until_it_is_written,
-    a_walk_finds_one_thing, an_image_is_opened_by_zones, no_link_is_lost,
+    a_call_has_one_result, a_link_adds_one_page, a_missing_page_may_be_linked,
+    a_page_is_out_until_it_is_written, a_walk_finds_one_thing, an_image_is_opened_by_zones,
+    no_link_is_lost,
 };
 pub use nodes::TreeNodes;
 pub use paths::path;

@@ -1,15 +1,17 @@
-ghost use Rattle.std.specs.Prelude.{◌≡◌, ◌<◌, ◌≤◌, [], IfSome, IfNone, IfOk, length, slice_set, slice_index_or};
+ghost use Rattle.std.specs.Prelude.{◌≡◌, ◌<◌, ◌≤◌, ◌↔◌, [], IsTrue, IfSome, IfNone, IfOk, length, slice_set, slice_index_or};
 ghost use Rattle.blk_base.specs.declared.place.Pbn.{Pbn};
 ghost use Rattle.blk_base.specs.declared.point.Point.{Point};
 ghost use Rattle.blk_base.specs.declared.place.PageId.{PageId};
 ghost use Rattle.blk_base.specs.Limits.{IsGeometry};
 ghost use Rattle.blk_base.specs.Regions.{IsDataBlock};
-ghost use Rattle.dirty_pages.specs.Marks.{NoneIsDue, IsLowPoint, AreClean};
+ghost use Rattle.dirty_pages.specs.Marks.{NoneIsDue, IsFirstDue, NoneIsEverDue, IsLowPoint, AreClean};
 ghost use Rattle.block_map_tree.specs.Pages.{IsTreeOf, IsPath, above};
 ghost use Rattle.block_map_tree.specs.Tree.{IsAt, IsThere, IsFound, IsLinkable, Links, Expires, IsWriting, Writes, mapping_of};
 ghost use Rattle.block_map_tree.specs.Opening.{IsOpened, IsOpening, forest_of};
 
-use crate::numbers::{SLOTS, has_tree, number, page_above, page_numbered, slot, width};
+use crate::numbers::{
+    SLOTS, has_tree, is_below_a_root, is_inner, number, page_above, page_numbered, slot, width,
+};
 use crate::opening::{count_pages, take_over};
 use crate::{Forest, Found, Path};
 use blk_base::{
@@ -115,6 +117,13 @@ impl TreeNodes {
         self.marks.change(number, point);
     }
 
+    /// Whether a page may be linked now: it is on a path of the logical size, is no root, and the page above it is there.
+    pub fn may_link(&self, page: PageId) -> bool
+        ensures { IsTrue result ↔ (IsLinkable self.now page × IsThere self.now (above page)) }
+    {
+        is_below_a_root(page, &self.forest) && self.at(page_above(page)).is_some()
+    }
+
     /// The block of a page; `None` exactly where the page is no root and isn't linked, or is of another zone's trees.
     pub fn at(&self, page: PageId) -> Option<Pbn>
         ensures some { IfSome result (IsAt self.now page) }
@@ -156,6 +165,26 @@ impl TreeNodes {
         };
         into.mappings.copy_from(&self.pages[number]);
         Some(page)
+    }
+
+    /// The least point with which a page is due to be written: the first point of a link in those that aren't being written.
+    /// `None` exactly where there is none.
+    pub fn first_due(&self) -> Option<Point>
+        ensures some { IfSome result (IsFirstDue self.now.marks) }
+        ensures none { IfNone result (NoneIsEverDue self.now.marks) }
+    {
+        self.marks.first_due()
+    }
+
+    /// Whether the page was handed out and its write isn't durable yet.
+    pub fn is_being_written(&self, page: PageId) -> bool
+        ensures { IsTrue result ↔ IsWriting self.now page }
+    {
+        if !is_inner(page, &self.forest) {
+            return false;
+        }
+        let number = number(page, &self.forest);
+        number < self.pages.len() && self.marks.marks(number).writing.is_some()
     }
 
     /// Says that a page that was handed out is on the device.

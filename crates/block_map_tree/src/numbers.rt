@@ -1,5 +1,5 @@
 ghost use Rattle.std.specs.Prelude.{◌≡◌, ◌<◌, ◌≤◌, ◌*◌, ◌^◌, ◌↔◌, IsTrue};
-ghost use Rattle.block_map_tree.specs.Pages.{above, slot_of, IsForest, IsTreeOf, IsInner};
+ghost use Rattle.block_map_tree.specs.Pages.{above, first_below, slot_of, IsForest, IsTreeOf, IsOnPath, IsRoot, IsInner};
 ghost use Rattle.block_map_tree.specs.Tree.{trees_of, number_of, most_rows};
 
 use crate::Forest;
@@ -40,6 +40,51 @@ pub(crate) fn has_tree(forest: &Forest, tree: u8) -> bool
 {
     let tree = u32::from(tree);
     tree < TREES && tree % forest.zones == forest.zone
+}
+
+/// Whether a page is of a zone's trees and no leaf.
+pub(crate) fn is_inner(page: PageId, forest: &Forest) -> bool
+    requires { IsForest forest.now }
+    ensures { IsTrue result ↔ IsInner forest.now page }
+{
+    let height = forest.geometry.height;
+    let level = u32::from(page.level);
+    has_tree(forest, page.tree)
+        && 1 <= level
+        && level < height
+        && page.index < width(height - 1 - level)
+}
+
+/// Whether a page is on a path of the logical size, and no root.
+pub(crate) fn is_below_a_root(page: PageId, forest: &Forest) -> bool
+    requires { IsForest forest.now }
+    ensures { IsTrue result ↔ (IsOnPath forest.now page × (IsRoot forest.now page → ⊥)) }
+{
+    has_tree(forest, page.tree)
+        && u32::from(page.level) + 1 < forest.geometry.height
+        && first_address(page) < u64::from(forest.geometry.logical)
+}
+
+// The first of the addresses below a page that is no root.
+fn first_address(page: PageId) -> u64
+    requires level { page.level < 2 }
+    requires tree { page.tree < TREES }
+    ensures { result ≡ first_below page }
+{
+    (first_leaf(page) * u64::from(TREES) + u64::from(page.tree)) * u64::from(SLOTS)
+}
+
+// The number in its tree of the first leaf below a page that is no root.
+fn first_leaf(page: PageId) -> u64
+    requires { page.level < 2 }
+    ensures value { result ≡ page.index * PAGE_SLOTS ^ page.level }
+    ensures bound { result < 2 ^ 42 }
+{
+    let index = u64::from(page.index);
+    match page.level {
+        0 => index,
+        _ => index * u64::from(SLOTS),
+    }
 }
 
 /// The number of a page that is no leaf.
