@@ -1,2 +1,5 @@
 pub mod ReceiptLaws
+pub mod NumberLaws
+pub mod OneAnswer
 mod Rows
+mod NumberRows

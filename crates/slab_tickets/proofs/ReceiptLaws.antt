@@ -1,5 +1,5 @@
 -- What the desk knows of the steps of its zone, and that its receipts are right.
-use Rattle.std.specs.Prelude.{◌<◌, ◌+◌, ◌++◌, length}
+use Rattle.std.specs.Prelude.{◌<◌, ◌++◌, length}
 use Rattle.std.proofs.Common.{◌∙◌, get_or, set}
 use Rattle.slab_tickets.specs.Tickets.{IsOutAt}
 use Rattle.std.specs.Prelude.{ℕ, ◌≡◌, Bool, true, false, not, List, [], ◌∷◌, All, Option, None, Some, is_some, ◌==◌}
@@ -22,7 +22,8 @@ use Rattle.slab_counts.specs.declared.tickets.Ticket.{Ticket}
 use Rattle.slab_counts.specs.declared.tickets.Receipt.{Receipt}
 use Rattle.slab_tickets.specs.declared.forms.Waiting.{Waiting}
 use Rattle.slab_tickets.specs.declared.forms.Withdrawn.TheVariants.{Nothing}
-use Rattle.slab_tickets.specs.Tickets.{Desk, empty_desk, IsNow, IsBelow, NoneWaits, Withdraws, is_served, begun, worth_of}
+use Rattle.slab_tickets.specs.Tickets.{Desk, empty_desk, IsBelow, NoneWaits, Withdraws, is_served, begun, worth_of}
+use Rattle.slab_tickets.specs.Numbers.{AskedBehind, IsBehind}
 use Rattle.slab_tickets.specs.Calls.{Call, Begins, Issued, Given, Withdrawn', Does, LeadTo, IsRight, last_free_of, step_of}
 
 -- what is found at a place
@@ -55,14 +56,6 @@ calls_tell zone room (Withdrawn' ticket result ∷ calls) desk (before, lead, di
 
 -- the tickets that wait asked behind the last step that ended with a free block
 
-abbrev AskedBehind : Option ℕ → Waiting → Type 0
-AskedBehind last waiting = is_served waiting ≡ false → IsBelow last waiting.asked
-
-record IsBehind (desk : Desk) : Type 0 where
-  strict : (step : ℕ) → IsNow desk step → IsBelow desk.last_free step
-  never : desk.step ≡ None → desk.last_free ≡ None
-  waiting : All (AskedBehind desk.last_free) desk.out
-
 behind_as : (new made : Desk) → new ≡ made → IsBehind made → IsBehind new
 behind_as new made is behind = subst (λ (d : Desk). IsBehind d) (sym is) behind
 
@@ -94,7 +87,7 @@ begun_full old step behind below = record {
   waiting = behind.waiting;
 }
 
-call_keeps : (call : Call) (old new : Desk) → IsBehind old → Does call old new → IsBehind new
+pub call_keeps : (call : Call) (old new : Desk) → IsBehind old → Does call old new → IsBehind new
 call_keeps (Begins true step) old new behind did = behind_as new (begun true step old) did.2 (begun_free old step behind did.0 did.1)
 call_keeps (Begins false step) old new behind did = behind_as new (begun false step old) did.1 (begun_full old step behind did.0)
 call_keeps (Issued writer ticket) old new behind did = behind_as new _ did.1.after (record {
@@ -114,8 +107,11 @@ call_keeps (Withdrawn' ticket result) old new behind did = behind_as new _ did.a
       (All-but_first (λ (w : Waiting). w.number == ticket.number) (AskedBehind old.last_free) old.out behind.waiting);
 })
 
+pub opened_behind : (zone room : ℕ) → IsBehind (empty_desk zone room)
+opened_behind zone room = record { strict = λ s now. cc; never = λ is. refl; waiting = All-nil (AskedBehind None) }
+
 calls_keep : (zone room : ℕ) (calls : List Call) (desk : Desk) → LeadTo (empty_desk zone room) calls desk → IsBehind desk
-calls_keep zone room [] desk same = behind_as desk (empty_desk zone room) same (record { strict = λ s now. cc; never = λ is. refl; waiting = All-nil (AskedBehind None) })
+calls_keep zone room [] desk same = behind_as desk (empty_desk zone room) same (opened_behind zone room)
 calls_keep zone room (call ∷ calls) desk (before, lead, did) = call_keeps call before desk (calls_keep zone room calls before lead) did
 
 -- a receipt is that of a ticket to which no block went
@@ -123,16 +119,19 @@ receipt_of : (block : Option Pbn) (given receipt : Receipt) → Nothing receipt 
 receipt_of None given receipt is = (refl, let same : receipt ≡ given = cc in ap (λ (r : Receipt). r.asked) same)
 receipt_of (Some b) given receipt is = cc
 
-pub right_receipt : (zone room : ℕ) (calls : List Call) (old new : Desk) (ticket : Ticket) (receipt : Receipt) → LeadTo (empty_desk zone room) calls old
-    → Withdraws old new ticket (Nothing receipt) → IsRight calls receipt
-right_receipt zone room calls old new ticket receipt lead did =
-    let told = calls_tell zone room calls old lead in
-    let behind = calls_keep zone room calls old lead in
+pub behind_receipt : (old new : Desk) (ticket : Ticket) (receipt : Receipt) → IsBehind old → Withdraws old new ticket (Nothing receipt) → IsBelow old.last_free receipt.asked
+behind_receipt old new ticket receipt behind did =
     let worthless = receipt_of did.waiting.block _ receipt did.worth_is in
     let place = position-Some (λ (w : Waiting). w.number == ticket.number) old.out did.place did.waiting did.here in
     let asked : AskedBehind old.last_free did.waiting
     = subst (λ (w : Waiting). AskedBehind old.last_free w) did.is (behind.waiting did.place did.waiting place.0) in
-    subst (λ (last : Option ℕ). IsBelow last receipt.asked) told.0 (subst (λ (n : ℕ). IsBelow old.last_free n) (sym worthless.1) (asked worthless.0))
+    subst (λ (n : ℕ). IsBelow old.last_free n) (sym worthless.1) (asked worthless.0)
+
+pub right_receipt : (zone room : ℕ) (calls : List Call) (old new : Desk) (ticket : Ticket) (receipt : Receipt) → LeadTo (empty_desk zone room) calls old
+    → Withdraws old new ticket (Nothing receipt) → IsRight calls receipt
+right_receipt zone room calls old new ticket receipt lead did =
+    let told = calls_tell zone room calls old lead in
+    subst (λ (last : Option ℕ). IsBelow last receipt.asked) told.0 (behind_receipt old new ticket receipt (calls_keep zone room calls old lead) did)
 
 -- a ticket is out while one with its number stands there, as from when it is issued
 

@@ -1,2 +1,3 @@
 pub mod Tickets
+pub mod Numbers
 pub mod Calls

@@ -13,5 +13,9 @@ mod laws;
 mod tickets;
 
 pub use forms::{Waiting, Withdrawn};
-pub use laws::{a_ticket_is_out_until_it_is_withdrawn, every_receipt_is_right};
+pub use laws::{
+    a_call_changes_one_ticket, a_call_has_one_result, a_ticket_is_out_until_it_is_withdrawn,
+    every_receipt_is_right, tickets_ask_behind_the_last_free_step,
+    tickets_have_numbers_of_their_own,
+};
 pub use tickets::Tickets;

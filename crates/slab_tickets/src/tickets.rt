@@ -1,4 +1,4 @@
-ghost use Rattle.std.specs.Prelude.{◌≡◌, ◌==◌, ℕ, not, false, position, IsTrue, IfOk};
+ghost use Rattle.std.specs.Prelude.{◌≡◌, ◌==◌, ◌↔◌, ℕ, not, false, position, IsTrue, IfOk};
 ghost use Rattle.slab_tickets.specs.Tickets.{empty_desk, IsNow, IsNext, IsBelow, NoneWaits, HasRoom, Issues, Gives, IsOutAt, Withdraws, begun, is_served};
 
 use crate::{Waiting, Withdrawn};
@@ -66,6 +66,28 @@ impl Tickets {
             self.last_free = self.step;
         }
         self.step = Some(step);
+    }
+
+    /// The number of the step under way; `None` exactly where no step was begun.
+    pub fn step(&self) -> Option<u64>
+        ensures { result ≡ self.now.step }
+    {
+        self.step
+    }
+
+    /// Whether there is room for one more ticket, and a number.
+    pub fn has_room(&self) -> bool
+        ensures { IsTrue result ↔ HasRoom self.now }
+    {
+        self.out.len() < self.room as usize && self.issued < u32::MAX
+    }
+
+    /// Whether the ticket is out.
+    pub fn is_out(&self, ticket: &Ticket) -> bool
+        ensures yes { IsTrue result → (place : ℕ) × IsOutAt self.now ticket.now place }
+        ensures no { (result ≡ false) → ¬ ((place : ℕ) × IsOutAt self.now ticket.now place) }
+    {
+        place_of(&self.out, ticket.number).is_some()
     }
 
     /// Gives a ticket to a request that finds no free block. A step was begun.
