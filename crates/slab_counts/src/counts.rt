@@ -202,6 +202,15 @@ impl SlabCounts {
         self.counters[offset] == 0 && self.claims[offset] == 0
     }
 
+    /// Whether there is a claim on the block of this slab.
+    pub fn is_claimed(&self, at: Pbn) -> bool
+        requires { IsOfSlab self.now at }
+        ensures claimed { IsTrue result ↔ IsClaimed self.now at }
+        ensures within { IsWithin self.now }
+    {
+        self.claims[(at.0 - self.start) as usize] > 0
+    }
+
     /// The counter of a block of this slab.
     pub fn count(&self, at: Pbn) -> u16
         requires { IsOfSlab self.now at }
