@@ -62,6 +62,14 @@ impl Gate {
         })
     }
 
+    /// Whether there is room for one more flush, and a number for its generation.
+    pub fn has_room(&self) -> bool
+        ensures { IsTrue result ↔ HasRoom self.now }
+    {
+        self.waiting.len() < self.room as usize
+            && self.counts.len() as u64 <= u64::MAX - self.oldest
+    }
+
     /// A flush begins. It gives its generation, which is the one of now from here on.
     pub fn begin(&mut self, request: Writer) -> u64
         requires { HasRoom self.old }
@@ -92,6 +100,17 @@ impl Gate {
         let newest = self.counts.len() - 1;
         self.counts[newest] += 1;
         self.oldest + newest as u64
+    }
+
+    /// Whether a write of this generation is under way.
+    pub fn is_under_way(&self, generation: u64) -> bool
+        ensures { IsTrue result ↔ (0 < slice_index self.now.under_way generation) }
+    {
+        if generation < self.oldest {
+            return false;
+        }
+        let place = generation - self.oldest;
+        place < self.counts.len() as u64 && self.counts[place as usize] > 0
     }
 
     /// A write of this generation is done: counts and map are updated. It is reported at most as often as `answered` gave

@@ -1,2 +1,3 @@
 pub mod UpdateLaws
+pub mod OutLaws
 pub mod Rows

@@ -1,4 +1,4 @@
-ghost use Rattle.std.specs.Prelude.{◌≡◌, ◌*◌, ◌<◌, length, IfOk, IfSome, IfNone};
+ghost use Rattle.std.specs.Prelude.{◌≡◌, ◌*◌, ◌<◌, ◌↔◌, length, IsTrue, IfOk, IfSome, IfNone};
 ghost use Rattle.blk_base.specs.Counters.{sectors_per_slab};
 ghost use Rattle.blk_base.specs.Limits.{IsGeometry};
 ghost use Rattle.dirty_pages.specs.Marks.{IsBeingWritten, marks_at};
@@ -96,6 +96,14 @@ impl ReferenceBlocks {
         ensures { self.new ≡ written self.old block }
     {
         self.dirty.written(block as usize);
+    }
+
+    /// Whether the block with this number is being written: it was handed out, and that isn't reported yet.
+    pub fn is_being_written(&self, block: u64) -> bool
+        ensures { IsTrue result ↔ IsBeingWritten (marks_at self.now.blocks block) }
+    {
+        let count = self.layout.sectors_per_slab().div_ceil(8);
+        block < u64::from(count) && self.dirty.marks(block as usize).writing.is_some()
     }
 
     /// The commit point with which a sector of the slab was handed out last, or else that of the image.

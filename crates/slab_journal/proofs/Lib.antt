@@ -1,3 +1,4 @@
 pub mod UnsettledRows
 pub mod LowLaws
 pub mod SlabLaws
+pub mod SealLaws

@@ -91,6 +91,13 @@ impl SlabJournal {
         Ok(())
     }
 
+    /// Whether the point is above those of all updates that were taken.
+    pub fn rises(&self, point: Point) -> bool
+        ensures { IsTrue result ↔ (self.now.last.0 < point.0) }
+    {
+        self.last.0 < point.0
+    }
+
     /// How many updates wait in the block being filled. It takes no more once these are 320.
     pub fn waiting(&self) -> usize
         ensures value { result ≡ length self.now.filling }
@@ -129,6 +136,13 @@ impl SlabJournal {
             slab: self.slab,
             entries,
         })
+    }
+
+    /// Whether a sealed block with this sequence isn't durable yet.
+    pub fn is_writing(&self, sequence: u64) -> bool
+        ensures { IsTrue result ↔ (IsWriting self.now × (sequence ≡ self.now.durable)) }
+    {
+        self.durable < self.sequence && sequence == self.durable
     }
 
     /// The sealed block, which has this sequence, is durable.

@@ -11,7 +11,9 @@ mod covering;
 mod entries;
 mod forms;
 mod journal;
+mod laws;
 
 pub use entries::UPDATES_PER_BLOCK;
 pub use forms::Full;
 pub use journal::SlabJournal;
+pub use laws::a_sealed_block_takes_one_slot;

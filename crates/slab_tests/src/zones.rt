@@ -6,9 +6,9 @@ use crate::images::{TWO_ZONES, image_of_two_zones};
 use crate::plain_zone::{PlainAsked, PlainZone};
 use crate::tickets::{self, ASKER, Clock, worth_of};
 use crate::writing::{self, MetWrites};
-use blk_base::{Layout, Pbn};
+use blk_base::{Layout, Pbn, Point, Update};
 use slab_counts::{Claim, Refusal, Ticket};
-use slab_zone::{Asked, Need, SlabZone};
+use slab_zone::{Asked, Need, SlabPart, SlabWork, SlabZone};
 use std::alloc::{AllocError, Global};
 use std::test::Fail;
 
@@ -386,5 +386,39 @@ fn what_a_zone_does_not_share(rt: HostRuntime) -> Result<(), Fail> {
         Ok(111),
     ];
     assert_eq!(rt; [full, free, page, other, shared], wanted);
+    Ok(())
+}
+
+// What a zone tells before it is asked for more: a share makes a claim, and no ticket or block is out.
+#[test]
+fn what_may_be_called(rt: HostRuntime) -> Result<(), Fail> {
+    let opened = image_of_two_zones(rt.alloc())?;
+    let mut zone = SlabZone::new(rt.alloc(), 1, 2, 1, &opened)?;
+    zone.begin_step(7);
+    let before = zone.is_claimed(Pbn(111));
+    let shared = block_of(zone.claim_share(Pbn(111)));
+    let update = Update {
+        at: Pbn(111),
+        point: Point(2000),
+    };
+    let work = SlabWork {
+        at: Pbn(123),
+        slab: 1,
+        part: SlabPart::Journal,
+        number: 1,
+    };
+    let ticket = Ticket {
+        zone: 1,
+        number: 0,
+        asked: 7,
+    };
+    let blocks = [zone.owns(Pbn(106)), zone.owns(Pbn(85)), before];
+    let claimed = [zone.is_claimed(Pbn(111)), zone.may_take(&update)];
+    let out = [zone.is_out(&ticket), zone.is_work_out(work)];
+    assert_eq!(rt; (zone.step(), shared), (Some(7), Ok(111)));
+    assert_eq!(rt;
+        (blocks, claimed, out, zone.has_ticket_room()),
+        ([true, false, false], [true, true], [false, false], true)
+    );
     Ok(())
 }

@@ -21,10 +21,10 @@ Cell = Option (Option Pbn)
 abbrev chosen : Bool → Cell → Cell → Cell
 chosen b x y = cond b x y
 
-out_read : (ws : List Waiting) (k : ℕ) (w : Waiting) → k < length ws → get_or ws k w ≡ w → slice_get ws k ≡ Some w
+pub out_read : (ws : List Waiting) (k : ℕ) (w : Waiting) → k < length ws → get_or ws k w ≡ w → slice_get ws k ≡ Some w
 out_read ws k w below is = slice_get_read ws (length ws) k w refl below (sym is)
 
-unserved : (w : Waiting) → not (is_served w) ≡ true → w.block ≡ None
+pub unserved : (w : Waiting) → not (is_served w) ≡ true → w.block ≡ None
 unserved w is = by_block w.block is
   where
     by_block : (o : Option Pbn) → not (is_some o) ≡ true → o ≡ None

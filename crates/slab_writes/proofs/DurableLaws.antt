@@ -28,7 +28,7 @@ abbrev zero_point : Point
 zero_point = record { 0 = 0 }
 
 -- the point isn't above all at which the slab was opened or that were taken
-abbrev IsBounded : List Point → List SlabEntry → ℕ → Point → Type 0
+abbrev pub IsBounded : List Point → List SlabEntry → ℕ → Point → Type 0
 IsBounded points us n p = (p.0 ≤ (point_at points n).0) ⊎ ((f : SlabEntry) × Contains us f × (p.0 ≤ f.point.0))
 
 bounded_more : (points : List Point) (e : SlabEntry) (us : List SlabEntry) (n : ℕ) (p : Point) → IsBounded points us n p → IsBounded points (e ∷ us) n p
@@ -40,13 +40,13 @@ lower points us n p q least (inl low) = inl (omega (arith, least, low))
 lower points us n p q least (inr taken) = inr (taken.0, taken.1, omega (arith, least, taken.2))
 
 -- so the next update is above it
-below_next : (g : Geometry) (points : List Point) (e : SlabEntry) (us : List SlabEntry) (p : Point) → AreRising g points (e ∷ us) → IsBounded points us (sector_of_offset g e.offset) p → p.0 < e.point.0
+pub below_next : (g : Geometry) (points : List Point) (e : SlabEntry) (us : List SlabEntry) (p : Point) → AreRising g points (e ∷ us) → IsBounded points us (sector_of_offset g e.offset) p → p.0 < e.point.0
 below_next g points e us p rising (inl low) = omega (arith, low, rising.1)
 below_next g points e us p rising (inr taken) =
     let older = All-contains (λ (f : SlabEntry). f.point.0 < e.point.0) us taken.0 rising.0 taken.1 in omega (arith, taken.2, older)
 
 -- what is known of the journal after these calls
-record IsJournal (g : Geometry) (points : List Point) (calls : List Call) (log : Slab) : Type 0 where
+pub record IsJournal (g : Geometry) (points : List Point) (calls : List Call) (log : Slab) : Type 0 where
   pub geometry : log.geometry ≡ g
   pub ring : length log.slots ≡ g.slab_journal
   pub within : (log.durable ≤ log.sequence) × (log.sequence ≤ log.durable + 1)
@@ -56,7 +56,7 @@ record IsJournal (g : Geometry) (points : List Point) (calls : List Call) (log :
   pub bounded : (n : ℕ) → IsBounded points (updates_of calls) n (point_at log.commits n)
 
 -- and of the reference blocks
-record AreReferences (g : Geometry) (points : List Point) (calls : List Call) (r : References) : Type 0 where
+pub record AreReferences (g : Geometry) (points : List Point) (calls : List Call) (r : References) : Type 0 where
   pub geometry : r.geometry ≡ g
   pub applied : length r.applied ≡ sectors_per_slab g
   pub handed : length r.handed ≡ sectors_per_slab g
@@ -65,7 +65,7 @@ record AreReferences (g : Geometry) (points : List Point) (calls : List Call) (r
   pub applied_bounded : (n : ℕ) → IsBounded points (updates_of calls) n (point_at r.applied n)
   pub handed_bounded : (n : ℕ) → IsBounded points (updates_of calls) n (point_at r.handed n)
 
-record IsKnown (g : Geometry) (points : List Point) (calls : List Call) (w : Writes) : Type 0 where
+pub record IsKnown (g : Geometry) (points : List Point) (calls : List Call) (w : Writes) : Type 0 where
   pub journal : IsJournal g points calls w.journal
   pub blocks : AreReferences g points calls w.blocks
 
@@ -306,7 +306,7 @@ all_above g points (e ∷ us) x rising there = elim (split e us x there) [
   | inr before ↦ all_above g points us x rising.2 before
 ]
 
-known : (g : Geometry) (slab : ℕ) (commits : List Point) (calls : List Call) (w : Writes) → IsGeometry g → length (points_of g slab commits) ≡ sectors_per_slab g → LeadTo (opening g slab commits) calls w
+pub known : (g : Geometry) (slab : ℕ) (commits : List Point) (calls : List Call) (w : Writes) → IsGeometry g → length (points_of g slab commits) ≡ sectors_per_slab g → LeadTo (opening g slab commits) calls w
     → AreRising g (points_of g slab commits) (updates_of calls) → IsKnown g (points_of g slab commits) calls w
 known g slab commits [] w sizes size is rising = subst (λ (v : Writes). IsKnown g (points_of g slab commits) [] v) (sym is) (known_opening g slab (points_of g slab commits) size)
 known g slab commits (Taken e ∷ calls) w sizes size (before, lead, did) rising =

@@ -3,3 +3,6 @@ pub mod CallLaws
 pub mod DurableLaws
 pub mod OutLaws
 pub mod Rows
+pub mod CommitLaws
+pub mod HandedLaws
+pub mod CommitRows

@@ -4,7 +4,7 @@ use Rattle.std.proofs.Common.{sym, ◌∙◌, ap, subst, arith, inl, inr, get_or
 use Rattle.dirty_pages.specs.declared.marks.Marks.{Marks}
 use Rattle.dirty_pages.specs.Marks.{clean, handed_out, marks_at}
 use Rattle.slab_journal.specs.Slab.{Slab}
-use Rattle.slab_writes.specs.Due.{IsDue}
+use Rattle.slab_writes.specs.Due.{IsDue, NoneDue}
 use Rattle.slab_writes.specs.Writes.{Writes, IsOut, IsOutAs}
 use Rattle.slab_writes.specs.declared.forms.Need.{Need}
 use Rattle.slab_writes.specs.declared.forms.SlabPart.{SlabPart}
@@ -28,3 +28,12 @@ due_is_out need old new counters bytes work (inr reference) =
     = ap (λ (ms : List Marks). marks_at ms work.number) first.after ∙ get_or-set_same old.blocks.blocks work.number (handed_out (marks_at old.blocks.blocks work.number)) clean inside in
     let out : IsOutAs part.References work.number new = record { first = first.first; is = ap (λ (m : Marks). m.writing) now ∙ first.due.dirty } in
     subst (λ (kind : SlabPart). IsOutAs kind work.number new) (sym did.part) out
+
+-- where a block is handed out, there is one that is wanted and isn't being written
+pub due_or_none : (need : Need) (old new : Writes) (counters bytes : List ℕ) (work : SlabWork) → IsDue need old new counters bytes work → NoneDue need old → ⊥
+due_or_none need old new counters bytes work (inl journal) none =
+    let writing = none.journal journal.0 in
+    omega (arith, writing, journal.1.seals.none_writing)
+due_or_none need old new counters bytes work (inr reference) none =
+    let first = reference.1.hands_out.first in
+    none.reference reference.0 work.number first.first (omega (arith, first.reached)) first.due

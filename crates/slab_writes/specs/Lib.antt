@@ -1,4 +1,5 @@
 pub mod Writes
 pub mod Due
 pub mod Calls
+pub mod Commits
 pub mod Viewed

@@ -14,7 +14,9 @@ mod writes;
 
 pub use forms::{Need, SlabPart, SlabWork};
 pub use laws::{
-    a_block_is_out_once_it_is_handed_out, a_journal_block_has_updates_of_the_slab,
-    a_reference_block_has_its_updates, every_update_below_the_low_point_is_durable,
+    a_block_is_due_or_none_is, a_block_is_out_once_it_is_handed_out,
+    a_commit_point_is_of_a_reported_block, a_journal_block_has_updates_of_the_slab,
+    a_reference_block_has_its_updates, commit_points_do_not_fall,
+    every_update_below_the_low_point_is_durable,
 };
 pub use writes::SlabWrites;

@@ -74,6 +74,13 @@ impl SlabWrites {
         self.journal.waiting() < UPDATES_PER_BLOCK
     }
 
+    /// Whether the point is above those of all updates before.
+    pub fn rises(&self, point: Point) -> bool
+        ensures { IsTrue result ↔ (self.now.journal.last.0 < point.0) }
+    {
+        self.journal.rises(point)
+    }
+
     /// Takes an update of a data block of this slab. Its point is above those of all updates before.
     pub fn take(&mut self, update: &Update)
         requires place { IsOfSlab self.old.journal update.now.at }
@@ -93,6 +100,7 @@ impl SlabWrites {
     {
         self.journal.low_point()
     }
+
     /// Hands out a block that the need is for, if there is one that isn't being written: the journal block, or where its
     /// slot can't be overwritten the reference block that was dirtied first, with the slab's counters as they are now.
     pub fn due(&mut self, need: Need, counters: &[u8], into: &mut Block) -> Option<SlabWork>
@@ -103,6 +111,16 @@ impl SlabWrites {
         match self.wanted(need)? {
             SlabPart::Journal => self.write_journal(into),
             SlabPart::References => self.write_reference(counters, into),
+        }
+    }
+
+    /// Whether the block of this work was handed out, and that isn't reported yet.
+    pub fn is_out(&self, work: SlabWork) -> bool
+        ensures { IsTrue result ↔ IsOut self.now work }
+    {
+        match work.part {
+            SlabPart::Journal => self.journal.is_writing(work.number),
+            SlabPart::References => self.blocks.is_being_written(work.number),
         }
     }
 

@@ -47,7 +47,7 @@ serves_counters old desk new desk' (inr serves) k = claims_counters old new serv
 
 -- a call that takes no update
 quiet_counters : (call : counts.Call) (old new : Zone) → TakesNone call → counts.Does call old new → (k : ℕ) → counters_at new.slabs k ≡ counters_at old.slabs k
-quiet_counters (counts.Begins free step) old new none did k = ap (λ (z : Zone). counters_at z.slabs k) did.3
+quiet_counters (counts.Begins free step) old new none did k = ap (λ (z : Zone). counters_at z.slabs k) did.1.after
 quiet_counters (counts.Asks' writer (asked.Block at)) old new none did k = claims_counters old.slabs new.slabs at did.1.claims k
 quiet_counters (counts.Asks' writer (asked.Ticket ticket)) old new none did k = ap (λ (z : Zone). counters_at z.slabs k) did.1.same
 quiet_counters (counts.Withdraws' ticket result) old new none did k = ap (λ (z : Zone). counters_at z.slabs k) did.same

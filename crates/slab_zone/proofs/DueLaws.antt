@@ -10,6 +10,7 @@ use Rattle.slab_writes.specs.Due.{IsDue, NoneDue}
 use Rattle.slab_writes.specs.Writes.{Writes}
 use Rattle.slab_writes.specs.declared.forms.Need.{Need}
 use Rattle.slab_writes.specs.declared.forms.SlabWork.{SlabWork}
+use Rattle.slab_writes.proofs.OutLaws.{due_or_none}
 use Rattle.zone_counts.specs.Zone.{slab_at}
 use Rattle.slab_zone.specs.Whole.{nothing, writes_at}
 use Rattle.slab_zone.specs.Writing.{IsDueAmong, NoneDueBefore}
@@ -19,11 +20,12 @@ pub read_as : (writes : List Writes) (k : ℕ) (s : Writes) → k < length write
 read_as writes k s inside read = read ∙ get_or_default writes k s nothing inside
 
 pub due_here : (need : Need) (slabs : List Counts) (old : List Writes) (k : ℕ) (s new : Writes) (counters bytes : List ℕ) (found : Option SlabWork) → k < length old → s ≡ get_or old k s
-    → counters ≡ (slab_at slabs k).counters → IfSome found (λ work. IsDue need s new counters bytes work) → IfSome found (λ work. IsDueAmong need slabs old (set old k new) bytes work)
-due_here need slabs old k s new counters bytes None inside read are due = due
-due_here need slabs old k s new counters bytes (Some work) inside read are due = record {
+    → counters ≡ (slab_at slabs k).counters → NoneDueBefore need old k → IfSome found (λ work. IsDue need s new counters bytes work) → IfSome found (λ work. IsDueAmong need slabs old (set old k new) bytes work)
+due_here need slabs old k s new counters bytes None inside read are before due = due
+due_here need slabs old k s new counters bytes (Some work) inside read are before due = record {
   place = k;
   inside = inside;
+  before = before;
   slab = new;
   due = subst (λ (cs : List ℕ). IsDue need (writes_at old k) new cs bytes work) are (subst (λ (w : Writes). IsDue need w new counters bytes work) (read_as old k s inside read) due);
   after = refl;
@@ -42,3 +44,17 @@ none_here need old k s None none inside read here before = λ j below. elim (cas
   | inl early ↦ before j early
   | inr past ↦ subst (λ (n : ℕ). NoneDue need (writes_at old n)) (let is : k ≡ j = omega (arith, below, past) in is) (subst (λ (w : Writes). NoneDue need w) (read_as old k s inside read) here)
 ]
+
+-- a block that is due is of one slab, and then not each is being written
+pub one_slab : (need : Need) (slabs : List Counts) (old new new' : List Writes) (bytes bytes' : List ℕ) (work work' : SlabWork) (one : IsDueAmong need slabs old new bytes work) (other : IsDueAmong need slabs old new' bytes' work')
+    → one.place ≡ other.place
+one_slab need slabs old new new' bytes bytes' work work' one other = elim (cases_lt one.place other.place) [
+  | inl below ↦ absurd (due_or_none need _ one.slab _ bytes work one.due (other.before one.place below))
+  | inr above ↦ elim (cases_lt other.place one.place) [
+    | inl less ↦ absurd (due_or_none need _ other.slab _ bytes' work' other.due (one.before other.place less))
+    | inr equal ↦ omega arith
+  ]
+]
+
+pub due_or_none_in : (need : Need) (slabs : List Counts) (old new : List Writes) (bytes : List ℕ) (work : SlabWork) → IsDueAmong need slabs old new bytes work → NoneDueBefore need old (length old) → ⊥
+due_or_none_in need slabs old new bytes work due none = due_or_none need _ due.slab _ bytes work due.due (none due.place due.inside)

@@ -19,10 +19,10 @@ use Rattle.slab_writes.specs.declared.forms.Need.{Need}
 use Rattle.slab_writes.specs.declared.forms.SlabPart.TheVariants as part
 use Rattle.slab_writes.specs.declared.forms.SlabWork.{SlabWork}
 use Rattle.zone_counts.specs.Calls as counts
-use Rattle.zone_counts.specs.Zone.{Zone}
+use Rattle.zone_counts.specs.Zone.{Zone, IsOfZone}
 use Rattle.slab_zone.specs.Lesser.{IsLesser}
 use Rattle.slab_zone.specs.Whole.{WholeZone, AreOfSlab, AreOfZone, AreOpenedWrites, writes_at}
-use Rattle.slab_zone.specs.Writing.{HasRoomAt, RisesIn, TakesUpdate, IsDueAmong, IsDueIn, NoneDueBefore, IsOutIn, SettlesIn, IsLowPointBefore, NoneUnsettledBefore}
+use Rattle.slab_zone.specs.Writing.{HasRoomAt, MayTake, RisesIn, TakesUpdate, IsDueAmong, IsDueIn, NoneDueBefore, IsOutIn, SettlesIn, IsLowPointBefore, NoneUnsettledBefore}
 use Rattle.slab_zone.specs.Calls.{Call, Counted, Taken, Written, TakesNone, HandsOutWith, WritesSlab, AreAbove, HandsOut, Reports, calls_of, counted_of, updates_in}
 
 -- four slabs of 16 data blocks each, which begin at 85, 104, 123 and 142; the second of two zones has 104 and 142
@@ -138,6 +138,22 @@ does_not_rise = λ is. omega (arith, is)
 abbrev after : WholeZone
 after = record { counts = record zone { slabs = slab 1 1 ∷ slab 3 2 ∷ [] }; writes = waits ∷ opened 3 ∷ [] }
 
+-- MayTake: of the zone, with room, and above what was taken
+update_here : IsOfZone zone (at 107)
+update_here = record { data_block = record { slab = 1; offset = 3; inside = (omega arith, omega arith); stands = refl }; own = refl }
+
+may_take_it : MayTake first update
+may_take_it = record { own = update_here; room = none_waits; rises = rises }
+
+update_of_the_other_zone : ¬ MayTake first (record update { at = at 85 })
+update_of_the_other_zone = λ is. let no : 0 ≡ 1 = is.own.own in omega (arith, no)
+
+where_no_room_is : ¬ MayTake filled update
+where_no_room_is = λ is. no_room_in_slab_one is.room
+
+at_a_point_taken : ¬ MayTake (record first { writes = waits ∷ opened 3 ∷ [] }) update
+at_a_point_taken = λ is. does_not_rise is.rises
+
 takes_it : TakesUpdate first after update (slab 1 1)
 takes_it = record { takes = (omega arith, refl); changes = record { serves = inl (inl refl, refl, refl); same = refl }; writes = refl }
 
@@ -152,8 +168,11 @@ forgets_the_step = λ is. let no : 0 ≡ 1 = ap (λ (z : Zone). z.zone) is.chang
 
 -- IsDueAmong, NoneDueBefore: a block of the second slab
 module _ (need : Need) (now : Writes) (bytes : List ℕ) (work : SlabWork) where
-  due_of_the_second : IsDue need (opened 3) now (slab 3 2).counters bytes work → IsDueAmong need zone.slabs both (opened 1 ∷ now ∷ []) bytes work
-  due_of_the_second due = record { place = 1; inside = omega arith; slab = now; due = due; after = refl }
+  due_of_the_second : NoneDue need (opened 1) → IsDue need (opened 3) now (slab 3 2).counters bytes work → IsDueAmong need zone.slabs both (opened 1 ∷ now ∷ []) bytes work
+  due_of_the_second none due = record { place = 1; inside = omega arith; before = λ k below. let here : k ≡ 0 = omega (arith, below) in rw here none; slab = now; due = due; after = refl }
+
+  due_of_the_first_too : ¬ NoneDue need (opened 1) → (is : IsDueAmong need zone.slabs both (opened 1 ∷ now ∷ []) bytes work) → ¬ (is.place ≡ 1)
+  due_of_the_first_too due is second = due (is.before 0 (omega (arith, second)))
 
   a_slab_is_lost : ¬ IsDueAmong need zone.slabs both [] bytes work
   a_slab_is_lost is = elim (cases_eq is.place 0) [

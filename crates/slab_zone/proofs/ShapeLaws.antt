@@ -40,7 +40,7 @@ changes_shape : (old new : Zone) (at : Pbn) (c : Counts) → Changes old new at 
 changes_shape old new at c did = shaped old new new.slabs new.desk did.same (serves_many _ old.desk new.slabs new.desk did.serves ∙ length-set old.slabs (place_of old at) c)
 
 pub call_shape : (call : Call) (old new : Zone) → Does call old new → IsShaped old new
-call_shape (Begins free step) old new did = shaped old new old.slabs _ did.3 refl
+call_shape (Begins free step) old new did = shaped old new old.slabs _ did.1.after refl
 call_shape (Asks' writer (asked.Block at)) old new did = shaped old new new.slabs old.desk did.1.same (claimed_many old.slabs new.slabs at did.1.claims)
 call_shape (Asks' writer (asked.Ticket ticket)) old new did = shaped old new old.slabs new.desk did.1.same refl
 call_shape (Withdraws' ticket result) old new did = shaped old new old.slabs new.desk did.same refl

@@ -1,12 +1,12 @@
 -- What a zone hands out after its calls, what is durable, and that its receipts are right.
-use Rattle.std.specs.Prelude.{ℕ, ◌≡◌, ◌*◌, ◌/◌, ◌%◌, ◌<◌, List, [], length, take, drop, Contains}
+use Rattle.std.specs.Prelude.{ℕ, ◌≡◌, ◌*◌, ◌/◌, ◌%◌, ◌<◌, ◌⊎◌, List, [], length, take, drop, Contains}
 use Rattle.std.proofs.Common.{sym, ◌∙◌, ap, subst, arith, inl, inr, refl}
 use Rattle.blk_base.specs.Counters.{sectors_per_slab}
 use Rattle.blk_base.specs.Limits.{IsGeometry}
 use Rattle.blk_base.specs.declared.geometry.Geometry.{Geometry}
 use Rattle.blk_base.specs.declared.place.Pbn.{Pbn}
 use Rattle.blk_base.specs.declared.point.Point.{Point}
-use Rattle.reference_blocks.specs.References.{HandsOutBlock, points_of, sectors_of}
+use Rattle.reference_blocks.specs.References.{HandsOutBlock, point_at, points_of, sectors_of}
 use Rattle.reference_blocks.specs.Updates.{AreRising, counters_after, up_to}
 use Rattle.slab_codec.specs.Reference.{reference_bytes}
 use Rattle.slab_codec.specs.Spelling.{block_bytes}
@@ -18,12 +18,14 @@ use Rattle.slab_journal.specs.Unsettled.{IsUnsettled}
 use Rattle.slab_tickets.specs.Tickets.{empty_desk}
 use Rattle.slab_tickets.specs.declared.forms.Withdrawn.TheVariants.{Nothing}
 use Rattle.slab_writes.specs.Calls as writes
+use Rattle.slab_writes.specs.Commits.{IsReported}
 use Rattle.slab_writes.specs.Due.{IsDue}
 use Rattle.slab_writes.specs.Writes.{Writes, opening}
 use Rattle.slab_writes.specs.declared.forms.Need.{Need}
 use Rattle.slab_writes.specs.declared.forms.SlabPart.TheVariants as part
 use Rattle.slab_writes.specs.declared.forms.SlabWork.{SlabWork}
 use Rattle.slab_writes.proofs.CallLaws.{filling_taken, reference_says}
+use Rattle.slab_writes.proofs.CommitLaws.{commit_reported}
 use Rattle.slab_writes.proofs.DurableLaws.{settled_is_durable}
 use Rattle.zone_counts.specs.Asking.{WithdrawsFrom}
 use Rattle.zone_counts.specs.Calls.{IsRight}
@@ -100,6 +102,11 @@ module _ (g : Geometry) (zone zones room : ℕ) (all : List ℕ) (commits : List
         → Contains (updates_in g n calls) entry → ¬ IsUnsettled (writes_at z.writes (n / zones)).journal entry → IsDurableIn g n calls entry
     durable z calls entry many lead above there settled =
         settled_is_durable g n commits (calls_of g n calls) (writes_at z.writes (n / zones)) entry sizes (points_many g n commits many inside) (leads z calls lead) (rising z calls lead above) there settled
+
+    pub commit_told : (z : WholeZone) (calls : List Call) (sector : ℕ) → length commits ≡ g.slabs * sectors_per_slab g → LeadTo first calls z
+        → let point = point_at (writes_at z.writes (n / zones)).journal.commits sector in (point ≡ record { 0 = 0 }) ⊎ IsReported g (calls_of g n calls) sector point
+    commit_told z calls sector many lead =
+        commit_reported g sizes n commits (calls_of g n calls) (writes_at z.writes (n / zones)) sector (points_many g n commits many inside) (leads z calls lead)
 
   -- the slab of a due block is of the zone
   module _ (need : Need) (old new : WholeZone) (calls : List Call) (bytes : List ℕ) (work : SlabWork) (lead : LeadTo first calls old) (did : IsDueIn need old new bytes work) where

@@ -11,7 +11,7 @@ use Rattle.slab_writes.specs.Due.{IsDue, NoneDue}
 use Rattle.slab_writes.specs.Writes.{Writes, IsOut, Settles, taken}
 use Rattle.slab_writes.specs.declared.forms.Need.{Need}
 use Rattle.slab_writes.specs.declared.forms.SlabWork.{SlabWork}
-use Rattle.zone_counts.specs.Zone.{Changes, place_of, slab_at, slab_of}
+use Rattle.zone_counts.specs.Zone.{Changes, IsOfZone, place_of, slab_at, slab_of}
 use Rattle.slab_zone.specs.Whole.{WholeZone, writes_at, writes_of}
 
 -- the journal of the block's slab takes one more update
@@ -22,23 +22,17 @@ HasRoomAt z at = length (writes_of z at).journal.filling < 320
 abbrev pub RisesIn : WholeZone → Update → Type 0
 RisesIn z update = (writes_of z update.at).journal.last.0 < update.point.0
 
+-- an update that the zone may take: of one of its blocks, whose slab has room, with a point above those before
+pub record MayTake (z : WholeZone) (update : Update) : Type 0 where
+  pub own : IsOfZone z.counts update.at
+  pub room : HasRoomAt z update.at
+  pub rises : RisesIn z update
+
 -- the update fits its counter and is taken, and is to be written; the oldest ticket gets the block if it became free
 pub record TakesUpdate (old new : WholeZone) (update : Update) (slab : Counts) : Type 0 where
   pub takes : Takes (half_of update.point.0) (slab_of old.counts update.at) slab update.at
   pub changes : Changes old.counts new.counts update.at slab
   pub writes : new.writes ≡ slice_set old.writes (place_of old.counts update.at) (taken (writes_of old update.at) update)
-
--- of one of the slabs a block is written now that the need is for, with the counters as they are
-pub record IsDueAmong (need : Need) (slabs : List Counts) (old new : List Writes) (bytes : List ℕ) (work : SlabWork) : Type 0 where
-  pub place : ℕ
-  pub inside : place < length old
-  pub slab : Writes
-  pub due : IsDue need (writes_at old place) slab (slab_at slabs place).counters bytes work
-  pub after : new ≡ slice_set old place slab
-
-pub record IsDueIn (need : Need) (old new : WholeZone) (bytes : List ℕ) (work : SlabWork) : Type 0 where
-  pub due : IsDueAmong need old.counts.slabs old.writes new.writes bytes work
-  pub same : new ≡ record old { writes = new.writes }
 
 -- of the first so many slabs each block that the need is for is being written
 abbrev pub NoneDueBefore : Need → List Writes → ℕ → Type 0
@@ -46,6 +40,19 @@ NoneDueBefore need writes count = (k : ℕ) → k < count → NoneDue need (writ
 
 abbrev pub NoneDueIn : Need → WholeZone → Type 0
 NoneDueIn need z = NoneDueBefore need z.writes (length z.writes)
+
+-- of the first slab that has one a block is written now that the need is for, with the counters as they are
+pub record IsDueAmong (need : Need) (slabs : List Counts) (old new : List Writes) (bytes : List ℕ) (work : SlabWork) : Type 0 where
+  pub place : ℕ
+  pub inside : place < length old
+  pub before : NoneDueBefore need old place
+  pub slab : Writes
+  pub due : IsDue need (writes_at old place) slab (slab_at slabs place).counters bytes work
+  pub after : new ≡ slice_set old place slab
+
+pub record IsDueIn (need : Need) (old new : WholeZone) (bytes : List ℕ) (work : SlabWork) : Type 0 where
+  pub due : IsDueAmong need old.counts.slabs old.writes new.writes bytes work
+  pub same : new ≡ record old { writes = new.writes }
 
 -- a block of a slab of the zone was handed out to be written, and that isn't reported yet
 pub record IsOutIn (z : WholeZone) (work : SlabWork) : Type 0 where

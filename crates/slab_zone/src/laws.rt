@@ -4,7 +4,7 @@ ghost use Rattle.blk_base.specs.Limits.{IsGeometry};
 ghost use Rattle.blk_base.specs.declared.geometry.Geometry.{Geometry};
 ghost use Rattle.blk_base.specs.declared.place.Pbn.{Pbn};
 ghost use Rattle.blk_base.specs.declared.point.Point.{Point};
-ghost use Rattle.reference_blocks.specs.References.{points_of, sectors_of};
+ghost use Rattle.reference_blocks.specs.References.{point_at, points_of, sectors_of};
 ghost use Rattle.reference_blocks.specs.Updates.{counters_after, up_to};
 ghost use Rattle.slab_codec.specs.Reference.{reference_bytes};
 ghost use Rattle.slab_codec.specs.Spelling.{block_bytes};
@@ -14,14 +14,15 @@ ghost use Rattle.slab_counts.specs.declared.tickets.Receipt.{Receipt};
 ghost use Rattle.slab_tickets.specs.Tickets.{empty_desk};
 ghost use Rattle.slab_tickets.specs.declared.forms.Withdrawn.TheVariants.{Nothing};
 ghost use Rattle.slab_writes.specs.Calls as writes;
+ghost use Rattle.slab_writes.specs.Commits.{IsReported};
 ghost use Rattle.slab_writes.specs.declared.forms.Need.{Need};
 ghost use Rattle.slab_writes.specs.declared.forms.SlabPart.TheVariants.{Journal, References};
 ghost use Rattle.slab_writes.specs.declared.forms.SlabWork.{SlabWork};
 ghost use Rattle.zone_counts.specs.Asking.{WithdrawsFrom};
 ghost use Rattle.zone_counts.specs.Calls.{IsRight};
 ghost use Rattle.slab_zone.specs.Whole.{WholeZone, IsWhole, IsOpeningWhole, writes_at};
-ghost use Rattle.slab_zone.specs.Writing.{IsDueIn, IsOutIn, SettlesIn, IsLowPointIn, NoneUnsettledIn};
-ghost use Rattle.slab_zone.specs.Calls.{Call, Written, Does, LeadTo, HandsOut, Reports, AreAbove, IsDurableIn, counted_of, updates_in};
+ghost use Rattle.slab_zone.specs.Writing.{IsDueIn, NoneDueIn, IsOutIn, SettlesIn, IsLowPointIn, NoneUnsettledIn};
+ghost use Rattle.slab_zone.specs.Calls.{Call, Written, Does, LeadTo, HandsOut, Reports, AreAbove, IsDurableIn, calls_of, counted_of, updates_in};
 
 /// Over every list of calls a zone stays as it must be: each slab has the numbers of its blocks, within the limit, and its own
 /// journal and reference blocks; where a ticket waits no block is free.
@@ -90,4 +91,22 @@ pub fn every_update_below_the_low_point_is_durable()
         → length commits ≡ g.slabs * sectors_per_slab g → LeadTo first calls new → slab < g.slabs → slab % zones ≡ zone
         → AreAbove g (points_of g slab commits) (updates_in g slab calls) → Contains (updates_in g slab calls) entry
         → NoneUnsettledIn new → IsDurableIn g slab calls entry }
+{}
+
+/// A block is handed out of the first slab that has one which isn't being written, so of one slab; and where it is, not each
+/// block that the need is for is being written.
+pub fn due_takes_the_first_slab()
+    ensures slab { (need : Need) (old new new' : WholeZone) (bytes bytes' : List ℕ) (work work' : SlabWork) → (one : IsDueIn need old new bytes work)
+        → (other : IsDueIn need old new' bytes' work') → one.due.place ≡ other.due.place }
+    ensures some { (need : Need) (old new : WholeZone) (bytes : List ℕ) (work : SlabWork) → IsDueIn need old new bytes work → ¬ NoneDueIn need old }
+{}
+
+/// Over every list of calls from an opened zone on, a commit point in a slab's journal is 0, or that with which the reference
+/// block of its sector was handed out before it was reported as durable.
+pub fn a_commit_point_is_of_a_reported_block()
+    ensures { (g : Geometry) (zone zones room : ℕ) (all : List ℕ) (commits : List Point) (tree_pages : List Pbn) (first new : WholeZone) (calls : List Call)
+        (slab sector : ℕ) → IsOpeningWhole g zone zones room all commits tree_pages first → IsWhole first → length commits ≡ g.slabs * sectors_per_slab g
+        → LeadTo first calls new → slab < g.slabs → slab % zones ≡ zone
+        → let point = point_at (writes_at new.writes (slab / zones)).journal.commits sector in
+        (point ≡ record { 0 = 0 }) ⊎ IsReported g (calls_of g slab calls) sector point }
 {}

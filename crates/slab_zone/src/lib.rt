@@ -15,9 +15,10 @@ mod writing;
 mod zone;
 
 pub use laws::{
-    a_block_is_out_until_it_is_reported, a_journal_block_has_updates_taken_here,
-    a_reference_block_has_its_updates, every_receipt_is_right,
-    every_update_below_the_low_point_is_durable, written_blocks_are_calls, zones_stay_settled,
+    a_block_is_out_until_it_is_reported, a_commit_point_is_of_a_reported_block,
+    a_journal_block_has_updates_taken_here, a_reference_block_has_its_updates,
+    due_takes_the_first_slab, every_receipt_is_right, every_update_below_the_low_point_is_durable,
+    written_blocks_are_calls, zones_stay_settled,
 };
 pub use slab_tickets::Withdrawn;
 pub use slab_writes::{Need, SlabPart, SlabWork};

@@ -1,14 +1,14 @@
-ghost use Rattle.std.specs.Prelude.{◌≡◌, ◌<◌, ◌≤◌, ◌*◌, ◌↔◌, ℕ, All, length, Bool, true, false, IsTrue, IfErr, IfOk, IfSome, IfNone, OnOk, OnErr};
+ghost use Rattle.std.specs.Prelude.{◌≡◌, ◌<◌, ◌≤◌, ◌*◌, ◌↔◌, ℕ, All, length, false, IsTrue, IfErr, IfOk, IfSome, IfNone, OnOk, OnErr};
 ghost use Rattle.blk_base.specs.Counters.{limit_of, sectors_per_slab};
 ghost use Rattle.blk_base.specs.Limits.{IsGeometry};
 ghost use Rattle.blk_base.specs.Points.{half_of};
 ghost use Rattle.slab_counts.specs.Counts.{Counts, IsFree, HasRoom, IsStray, counter_of, claimed, unclaimed, with_page};
 ghost use Rattle.slab_counts.specs.declared.refusals.Refusal.TheVariants.{Full};
-ghost use Rattle.slab_tickets.specs.Tickets.{IsNow, IsBelow, IsOutAt, begun, HasRoom as HasTicket};
-ghost use Rattle.zone_counts.specs.Zone.{IsOfZone, IsClaimedIn, NoneFree, Changes, slab_of, used_in, with_slab};
+ghost use Rattle.slab_tickets.specs.Tickets.{IsNow, IsBelow, IsOutAt, HasRoom as HasTicket};
+ghost use Rattle.zone_counts.specs.Zone.{BeginsStep, IsOfZone, IsClaimedIn, Changes, slab_of, used_in, with_slab};
 ghost use Rattle.zone_counts.specs.Asking.{Asks, WithdrawsFrom, SharesIn, IsRefusedIn};
 ghost use Rattle.slab_zone.specs.Whole.{IsOpeningWhole, IsWhole};
-ghost use Rattle.slab_zone.specs.Writing.{HasRoomAt, RisesIn, TakesUpdate, IsDueIn, NoneDueIn, IsOutIn, SettlesIn, IsLowPointIn, NoneUnsettledIn};
+ghost use Rattle.slab_zone.specs.Writing.{HasRoomAt, MayTake, RisesIn, TakesUpdate, IsDueIn, NoneDueIn, IsOutIn, SettlesIn, IsLowPointIn, NoneUnsettledIn};
 
 use crate::opening::opening_writes;
 use crate::writing::{first_due, least_low_point};
@@ -71,11 +71,46 @@ impl SlabZone {
     /// A step of the zone begins, with a number above that of the one before.
     pub fn begin_step(&mut self, step: u64)
         requires { IsBelow self.old.counts.desk.step step }
-        ensures begins { (free : Bool) × (free ≡ true → ¬ NoneFree self.old.counts.slabs) × (free ≡ false → NoneFree self.old.counts.slabs)
-            × (self.new.counts ≡ record self.old.counts { desk = begun free step self.old.counts.desk }) }
+        ensures begins { BeginsStep self.old.counts self.new.counts step }
         ensures writes { self.new.writes ≡ self.old.writes }
     {
         self.counts.begin_step(step);
+    }
+
+    /// The number of the step under way; `None` exactly where no step was begun.
+    pub fn step(&self) -> Option<u64>
+        ensures { result ≡ self.now.counts.desk.step }
+    {
+        self.counts.step()
+    }
+
+    /// Whether there is room for one more ticket, and a number.
+    pub fn has_ticket_room(&self) -> bool
+        ensures { IsTrue result ↔ HasTicket self.now.counts.desk }
+    {
+        self.counts.has_ticket_room()
+    }
+
+    /// Whether the ticket is out.
+    pub fn is_out(&self, ticket: &Ticket) -> bool
+        ensures yes { IsTrue result → (place : ℕ) × IsOutAt self.now.counts.desk ticket.now place }
+        ensures no { (result ≡ false) → ¬ ((place : ℕ) × IsOutAt self.now.counts.desk ticket.now place) }
+    {
+        self.counts.is_out(ticket)
+    }
+
+    /// Whether it is a data block of one of the slabs of the zone.
+    pub fn owns(&self, at: Pbn) -> bool
+        ensures { IsTrue result ↔ IsOfZone self.now.counts at }
+    {
+        self.counts.owns(at)
+    }
+
+    /// Whether it is a data block of the zone, on which there is a claim.
+    pub fn is_claimed(&self, at: Pbn) -> bool
+        ensures { IsTrue result ↔ IsClaimedIn self.now.counts at }
+    {
+        self.counts.is_claimed(at)
     }
 
     /// Asks for a block: it gives the zone's lowest free block, claimed, and a ticket exactly where none is free. A step was
@@ -166,6 +201,19 @@ impl SlabZone {
         slab.has_room()
     }
 
+    /// Whether the zone may take the update: it is of one of its blocks, whose slab has room for it, and its point is above
+    /// those of the slab's updates before.
+    pub fn may_take(&self, update: &Update) -> bool
+        ensures { IsTrue result ↔ MayTake self.now update.now }
+    {
+        if !self.counts.owns(update.at) {
+            return false;
+        }
+        let place = self.counts.place(update.at);
+        let slab = &self.writes[place];
+        slab.rises(update.point) && self.has_room(update.at)
+    }
+
     /// Takes an update of a block of this zone, whose slab has room for it; its point is above those of the slab's updates
     /// before. It is refused, with the counter, exactly where a decrement finds 0, or an increment finds the limit or no
     /// claim. If the block becomes free, it goes to the oldest ticket without one. The update is to be written.
@@ -185,7 +233,7 @@ impl SlabZone {
         Ok(())
     }
 
-    /// Hands out a block that the need is for, with what it is to say; `None` exactly where each such block of the zone is
+    /// Hands out a block that the need is for, of the first slab that has one, with what it is to say; `None` exactly where each such block of the zone is
     /// being written. It is the full block of a slab's journal (`Full`), or one that holds updates (`Head`), or where its slot
     /// can't be overwritten the reference block of its slab that was dirtied first, or any dirty reference block (`All`).
     /// While a sealed block of a slab's journal isn't durable, the next one counts as being written.
@@ -195,6 +243,17 @@ impl SlabZone {
         ensures same { IfNone result (self.new ≡ self.old) }
     {
         first_due(&mut self.writes, &self.counts, need, into)
+    }
+
+    /// Whether the block of this work was handed out by this zone, and that isn't reported yet.
+    pub fn is_work_out(&self, work: SlabWork) -> bool
+        ensures { IsTrue result ↔ IsOutIn self.now work }
+    {
+        if !self.counts.owns_slab(work.slab) {
+            return false;
+        }
+        let slab = &self.writes[self.counts.place_of_slab(work.slab)];
+        slab.is_out(work)
     }
 
     /// The write of a block that was handed out is durable: a flush covers it.

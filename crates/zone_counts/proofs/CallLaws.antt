@@ -70,8 +70,8 @@ as_zone : (new made : Zone) → new ≡ made → IsZone made → IsZone new
 as_zone new made same is = subst (λ (x : Zone). IsZone x) (sym same) is
 
 call_keeps : (call : Call) (old new : Zone) → IsZone old → Does call old new → IsZone new
-call_keeps (Begins true step) old new is did = as_zone new _ did.3 (record { slabs = is.slabs; desk = is.desk; settled = is.settled })
-call_keeps (Begins false step) old new is did = as_zone new _ did.3 (record { slabs = is.slabs; desk = is.desk; settled = is.settled })
+call_keeps (Begins true step) old new is did = as_zone new _ did.1.after (record { slabs = is.slabs; desk = is.desk; settled = is.settled })
+call_keeps (Begins false step) old new is did = as_zone new _ did.1.after (record { slabs = is.slabs; desk = is.desk; settled = is.settled })
 call_keeps (Asks' writer (asked.Block at)) old new is did = as_zone new _ did.1.same (zone_claimed old new.slabs at is did.1.claims)
 call_keeps (Asks' writer (asked.Ticket ticket)) old new is did = as_zone new _ did.1.same (record {
   slabs = is.slabs;
@@ -131,15 +131,15 @@ on_tickets : (first z : Zone) (calls : List Call) → IsZone first → LeadTo fi
 on_tickets first z [] is same none = same_desk first.desk first.desk z.desk None None (ap (λ (x : Zone). x.desk) same) (record { calls = []; lead = refl; last_is = refl; step_is = refl })
 on_tickets first z (Begins true step ∷ calls) is (before, lead, did) none =
     let on = on_tickets first before calls is lead none in
-    same_desk first.desk (begun true step before.desk) z.desk _ _ (ap (λ (x : Zone). x.desk) did.3) (record {
+    same_desk first.desk (begun true step before.desk) z.desk _ _ (ap (λ (x : Zone). x.desk) did.1.after) (record {
       calls = tickets.Begins true step ∷ on.calls;
-      lead = (before.desk, on.lead, (quiet before (calls_keep first before calls is lead) (did.1 refl), did.0, refl));
+      lead = (before.desk, on.lead, (quiet before (calls_keep first before calls is lead) (did.1.some refl), did.0, refl));
       last_is = on.step_is;
       step_is = refl;
     })
 on_tickets first z (Begins false step ∷ calls) is (before, lead, did) none =
     let on = on_tickets first before calls is lead none in
-    same_desk first.desk (begun false step before.desk) z.desk _ _ (ap (λ (x : Zone). x.desk) did.3) (record {
+    same_desk first.desk (begun false step before.desk) z.desk _ _ (ap (λ (x : Zone). x.desk) did.1.after) (record {
       calls = tickets.Begins false step ∷ on.calls;
       lead = (before.desk, on.lead, (did.0, refl));
       last_is = on.last_is;

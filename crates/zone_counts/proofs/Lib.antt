@@ -6,3 +6,6 @@ pub mod CallLaws
 pub mod ClaimLaws
 pub mod Rows
 pub mod UsedLaws
+pub mod SlabSums
+pub mod BlockLaws
+pub mod OneAnswer

@@ -1,5 +1,5 @@
 -- For each clause of what a zone answers a case that it accepts, and one that breaks it alone.
-use Rattle.std.specs.Prelude.{ℕ, ◌≡◌, false, ◌<◌, List, [], ◌∷◌, slice_index, Option, None, Some}
+use Rattle.std.specs.Prelude.{ℕ, ◌≡◌, true, false, ◌<◌, List, [], ◌∷◌, slice_index, Option, None, Some}
 use Rattle.std.proofs.Common.{sym, ◌∙◌, ap, subst, arith, inl, inr, refl, set}
 use Rattle.std.proofs.lemmas.Bool.{cases_eq, false≢true}
 use Rattle.blk_base.specs.declared.geometry.Geometry.{Geometry}
@@ -9,7 +9,12 @@ use Rattle.slab_counts.specs.Counts.{Counts, IsOfSlab, IsFree, HasNoFree, Claims
 use Rattle.slab_counts.specs.declared.refusals.Refusal.TheVariants.{NotData, NotLive}
 use Rattle.slab_counts.specs.declared.tickets.Ticket.{Ticket}
 use Rattle.slab_tickets.specs.Tickets.{Desk}
-use Rattle.zone_counts.specs.Zone.{Zone, IsOf, IsClaimedIn, NoneFree, ClaimsLowest, Serves, IsSettled, slab_at, slabs_of_zone}
+use Rattle.zone_counts.specs.Zone.{Zone, BeginsBehind, IsOf, IsClaimedIn, NoneFree, ClaimsLowest, Serves, IsSettled, slab_at, slabs_of_zone}
+use Rattle.blk_base.specs.declared.point.Half.TheVariants.{Increment, Decrement}
+use Rattle.slab_tickets.specs.declared.forms.Withdrawn.TheVariants.{Block, Nothing}
+use Rattle.zone_counts.specs.ByBlock.{has_block, counter_in, claims_in, out_with, makes, drops, maps, unmaps, withdraws, served_block}
+use Rattle.zone_counts.specs.Calls.{Call, Asks', Withdraws', Shares', Extends, Drops, SpendsPage, Applies}
+use Rattle.zone_counts.specs.declared.forms.Asked.TheVariants as asked
 use Rattle.zone_counts.specs.Asking.{GivesBlock, GivesTicket, IsRefusedIn}
 
 -- two slabs of one block each: 85 and, behind a reference block and four of a journal, 91
@@ -124,13 +129,13 @@ claimed_without_a_trace b = λ is. elim (cases_eq is.place 0) [
 ]
 
 -- Serves: a ticket that waits gets a free block, and nothing changes where none waits or none is free
-serves_the_ticket : Serves some.slabs waiting one_claimed.slabs (record waiting { out = record { number = 5; asked = 8; writer = asker; block = Some (at 91) } ∷ [] })
+abbrev serves_the_ticket : Serves some.slabs waiting one_claimed.slabs (record waiting { out = record { number = 5; asked = 8; writer = asker; block = Some (at 91) } ∷ [] })
 serves_the_ticket = inr (record { block = at 91; claims = lowest; gives = record { place = 0; oldest = refl; waiting = record { number = 5; asked = 8; writer = asker; block = None }; is = refl; after = refl } })
 
 nobody_waits : Serves some.slabs quiet some.slabs quiet
 nobody_waits = inl (inl refl, refl, refl)
 
-nothing_is_free : Serves full.slabs waiting full.slabs waiting
+abbrev nothing_is_free : Serves full.slabs waiting full.slabs waiting
 nothing_is_free = inl (inr none_free, refl, refl)
 
 kept_from_the_ticket : ¬ Serves some.slabs waiting some.slabs waiting
@@ -175,3 +180,94 @@ three_of_eight = refl
 
 two_of_eight : slabs_of_zone (record ones { slabs = 8 }) 2 3 ≡ 2
 two_of_eight = refl
+
+-- BeginsBehind: as some block is free, or none is
+abbrev next_step : Zone → Zone
+next_step z = record z { desk = record z.desk { step = Some 10 } }
+
+begins_behind_a_full_step : BeginsBehind false full (next_step full) 10
+begins_behind_a_full_step = record { some = λ is. cc; none = λ is. none_free; after = refl }
+
+begins_behind_a_free_block : BeginsBehind true some (record some { desk = record quiet { step = Some 10; last_free = Some 9 } }) 10
+begins_behind_a_free_block = record { some = λ is. one_free; none = λ is. cc; after = refl }
+
+said_to_be_full : (new : Zone) → ¬ BeginsBehind false some new 10
+said_to_be_full new = λ is. one_free (is.none refl)
+
+said_to_be_free : (new : Zone) → ¬ BeginsBehind true full new 10
+said_to_be_free new = λ is. is.some refl none_free
+
+without_the_number : ¬ BeginsBehind false full full 10
+without_the_number = λ is. let same : ◌≡◌ {A = Option ℕ} (Some 9) (Some 10) = ap (λ (z : Zone). z.desk.step) is.after in let no : ◌≡◌ {A = ℕ} 9 10 = cc in omega (arith, no)
+
+-- has_block: from its first data block up to its last
+has_its_block : has_block (at 91) (slab 1 5 2) ≡ true
+has_its_block = refl
+
+not_the_one_before : has_block (at 90) (slab 1 5 2) ≡ false
+not_the_one_before = refl
+
+not_the_one_behind : has_block (at 92) (slab 1 5 2) ≡ false
+not_the_one_behind = refl
+
+-- counter_in, claims_in: of the one slab that has the block
+abbrev counted : List Counts
+counted = slab 0 3 1 ∷ slab 1 5 2 ∷ []
+
+counter_of_second : counter_in (at 91) counted ≡ 5
+counter_of_second = refl
+
+claims_of_second : claims_in (at 91) counted ≡ 2
+claims_of_second = refl
+
+counter_outside : counter_in (at 86) counted ≡ 0
+counter_outside = refl
+
+claims_outside : claims_in (at 86) counted ≡ 0
+claims_outside = refl
+
+-- out_with: the tickets that have the block
+abbrev with_block : Desk
+with_block = record waiting { out = record { number = 4; asked = 8; writer = asker; block = Some (at 91) } ∷ record { number = 5; asked = 8; writer = asker; block = None } ∷ [] }
+
+one_has_it : out_with (at 91) with_block ≡ 1
+one_has_it = refl
+
+none_has_the_other : out_with (at 85) with_block ≡ 0
+none_has_the_other = refl
+
+-- makes, drops, maps, unmaps, withdraws
+abbrev given : Call
+given = Asks' asker (asked.Block (at 91))
+
+abbrev waits : Call
+waits = Asks' asker (asked.Ticket (record { zone = 0; number = 5; asked = 8 }))
+
+made_by_calls : makes given (at 91) ∷ makes (Shares' (at 91)) (at 91) ∷ makes (Extends (at 91)) (at 91) ∷ [] ≡ 1 ∷ 1 ∷ 1 ∷ []
+made_by_calls = refl
+
+not_made : makes given (at 85) ∷ makes waits (at 91) ∷ makes (Drops (at 91)) (at 91) ∷ makes (SpendsPage (at 91)) (at 91) ∷ [] ≡ 0 ∷ 0 ∷ 0 ∷ 0 ∷ []
+not_made = refl
+
+dropped_by_calls : drops (Drops (at 91)) (at 91) ∷ drops (Drops (at 91)) (at 85) ∷ drops (SpendsPage (at 91)) (at 91) ∷ [] ≡ 1 ∷ 0 ∷ 0 ∷ []
+dropped_by_calls = refl
+
+mapped_by_calls : maps (Applies Increment (at 91) (slab 1 1 0)) (at 91) ∷ maps (Applies Decrement (at 91) (slab 1 1 0)) (at 91) ∷ maps given (at 91) ∷ [] ≡ 1 ∷ 0 ∷ 0 ∷ []
+mapped_by_calls = refl
+
+unmapped_by_calls : unmaps (Applies Decrement (at 91) (slab 1 1 0)) (at 91) ∷ unmaps (Applies Increment (at 91) (slab 1 1 0)) (at 91) ∷ unmaps (Drops (at 91)) (at 91) ∷ [] ≡ 1 ∷ 0 ∷ 0 ∷ []
+unmapped_by_calls = refl
+
+abbrev second_ticket : Ticket
+second_ticket = record { zone = 0; number = 5; asked = 8 }
+
+withdrawn_by_calls : withdraws (Withdraws' second_ticket (Block (at 91))) (at 91) ∷ withdraws (Withdraws' second_ticket (Block (at 91))) (at 85)
+    ∷ withdraws (Withdraws' second_ticket (Nothing (record { zone = 0; asked = 8; withdrawn = 9 }))) (at 91) ∷ [] ≡ 1 ∷ 0 ∷ 0 ∷ []
+withdrawn_by_calls = refl
+
+-- served_block
+served_to_the_ticket : served_block serves_the_ticket ≡ Some (at 91)
+served_to_the_ticket = refl
+
+served_to_nobody : served_block nothing_is_free ≡ None
+served_to_nobody = refl

@@ -1,14 +1,14 @@
 -- Lists of calls of a zone, and the last step at whose end it had a free block.
-use Rattle.std.specs.Prelude.{ℕ, ◌≡◌, Bool, true, false, List, [], ◌∷◌, Option, None, Some}
+use Rattle.std.specs.Prelude.{ℕ, ◌≡◌, Bool, true, List, [], ◌∷◌, Option, None, Some}
 use Rattle.blk_base.specs.declared.place.Pbn.{Pbn}
 use Rattle.blk_base.specs.declared.point.Half.{Half}
 use Rattle.blk_base.specs.declared.request.Writer.{Writer}
 use Rattle.slab_counts.specs.Counts.{Counts, HasRoom, Takes, claimed, unclaimed, with_page}
 use Rattle.slab_counts.specs.declared.tickets.Ticket.{Ticket}
 use Rattle.slab_counts.specs.declared.tickets.Receipt.{Receipt}
-use Rattle.slab_tickets.specs.Tickets.{HasRoom as HasTicket, IsBelow, begun}
+use Rattle.slab_tickets.specs.Tickets.{HasRoom as HasTicket, IsBelow}
 use Rattle.slab_tickets.specs.declared.forms.Withdrawn.{Withdrawn}
-use Rattle.zone_counts.specs.Zone.{Zone, IsOfZone, IsClaimedIn, NoneFree, Changes, slab_of, with_slab}
+use Rattle.zone_counts.specs.Zone.{Zone, IsOfZone, IsClaimedIn, BeginsBehind, Changes, slab_of, with_slab}
 use Rattle.zone_counts.specs.Asking.{Asks, WithdrawsFrom, SharesIn}
 use Rattle.zone_counts.specs.declared.forms.Asked.{Asked}
 
@@ -26,8 +26,7 @@ pub data Call : Type 0 where
 
 -- what a call does, as its contract says
 abbrev pub Does : Call → Zone → Zone → Type 0
-Does (Begins free step) old new = IsBelow old.desk.step step × (free ≡ true → ¬ NoneFree old.slabs) × (free ≡ false → NoneFree old.slabs)
-    × (new ≡ record old { desk = begun free step old.desk })
+Does (Begins free step) old new = IsBelow old.desk.step step × BeginsBehind free old new step
 Does (Asks' writer answer) old new = HasTicket old.desk × Asks old new writer answer
 Does (Withdraws' ticket result) old new = WithdrawsFrom old new ticket result
 Does (Shares' at) old new = SharesIn old new at

@@ -1,4 +1,5 @@
 pub mod Zone
 pub mod Asking
 pub mod Calls
+pub mod ByBlock
 pub mod Viewed

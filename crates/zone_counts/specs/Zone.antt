@@ -1,12 +1,12 @@
 -- The slabs of a physical zone: what their blocks are worth to those who ask, and to the tickets that are out.
-use Rattle.std.specs.Prelude.{ℕ, ◌≡◌, ◌+◌, ◌-◌, ◌*◌, ◌/◌, ◌%◌, ◌<◌, ◌⊎◌, List, [], length, sum_by, slice_index_or, slice_set}
+use Rattle.std.specs.Prelude.{ℕ, ◌≡◌, ◌+◌, ◌-◌, ◌*◌, ◌/◌, ◌%◌, ◌<◌, ◌⊎◌, Bool, true, false, List, [], length, sum_by, slice_index_or, slice_set}
 use Rattle.blk_base.specs.Regions.{IsDataBlock, first_slab_of, slab_stride_of}
 use Rattle.blk_base.specs.Limits.{IsGeometry}
 use Rattle.blk_base.specs.declared.geometry.Geometry.{Geometry}
 use Rattle.blk_base.specs.declared.place.Pbn.{Pbn}
 use Rattle.slab_counts.specs.Counts.{Counts, IsOpening, HasNoFree, ClaimsFree, claims_of, used_of}
 use Rattle.slab_counts.specs.Kept.{IsWithin}
-use Rattle.slab_tickets.specs.Tickets.{Desk, empty_desk, NoneWaits, Gives}
+use Rattle.slab_tickets.specs.Tickets.{Desk, empty_desk, NoneWaits, Gives, begun}
 
 -- `zone` is the number of this zone, of `zones`. Slab n of the image belongs to zone n mod `zones`, and is the slab
 -- n / `zones` of those.
@@ -111,6 +111,15 @@ pub record IsZone (z : Zone) : Type 0 where
   pub slabs : AreSlabs z.geometry z.zone z.zones z.slabs
   pub desk : z.desk.zone ≡ z.zone
   pub settled : IsSettled z.slabs z.desk
+
+-- a step begins, behind one at whose end some block was free, or none was
+pub record BeginsBehind (free : Bool) (old new : Zone) (step : ℕ) : Type 0 where
+  pub some : free ≡ true → ¬ NoneFree old.slabs
+  pub none : free ≡ false → NoneFree old.slabs
+  pub after : new ≡ record old { desk = begun free step old.desk }
+
+abbrev pub BeginsStep : Zone → Zone → ℕ → Type 0
+BeginsStep old new step = (free : Bool) × BeginsBehind free old new step
 
 -- how many slabs of the image are of the zone
 abbrev pub slabs_of_zone : Geometry → ℕ → ℕ → ℕ

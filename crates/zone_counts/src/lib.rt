@@ -15,6 +15,10 @@ mod used;
 mod zone;
 
 pub use forms::Asked;
-pub use laws::{a_claim_is_of_its_zone, every_receipt_is_right, zones_stay_settled};
+pub use laws::{
+    a_block_has_one_home, a_call_has_one_result, a_claim_is_of_its_zone,
+    a_ticket_waits_where_no_block_is_free, calls_move_claims_and_counters, every_receipt_is_right,
+    what_is_served_is_what_became_free, zones_stay_settled,
+};
 pub use slab_tickets::Withdrawn;
 pub use zone::ZoneCounts;

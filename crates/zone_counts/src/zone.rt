@@ -1,11 +1,11 @@
-ghost use Rattle.std.specs.Prelude.{◌≡◌, ◌<◌, ◌≤◌, ◌*◌, ◌/◌, ◌↔◌, ℕ, All, length, Bool, true, false, IsTrue, IfErr, IfOk, OnOk, OnErr};
+ghost use Rattle.std.specs.Prelude.{◌≡◌, ◌<◌, ◌≤◌, ◌*◌, ◌/◌, ◌%◌, ◌↔◌, ℕ, All, length, false, IsTrue, IfErr, IfOk, OnOk, OnErr};
 ghost use Rattle.blk_base.specs.Counters.{limit_of};
 ghost use Rattle.blk_base.specs.Limits.{IsGeometry};
 ghost use Rattle.blk_base.specs.Points.{half_of};
 ghost use Rattle.slab_counts.specs.Counts.{Counts, IsFree, HasRoom, Takes, IsStray, counter_of, claimed, unclaimed, with_page};
 ghost use Rattle.slab_counts.specs.declared.refusals.Refusal.TheVariants.{Full};
-ghost use Rattle.slab_tickets.specs.Tickets.{IsNow, IsBelow, IsOutAt, begun, HasRoom as HasTicket};
-ghost use Rattle.zone_counts.specs.Zone.{IsZone, IsOfZone, IsClaimedIn, IsOpeningZone, NoneFree, Changes, place_of, slab_at, slab_of, used_in, with_slab};
+ghost use Rattle.slab_tickets.specs.Tickets.{IsNow, IsBelow, IsOutAt, HasRoom as HasTicket};
+ghost use Rattle.zone_counts.specs.Zone.{IsZone, IsOfZone, IsClaimedIn, IsOpeningZone, BeginsStep, Changes, place_of, slab_at, slab_of, used_in, with_slab};
 ghost use Rattle.zone_counts.specs.Asking.{Asks, WithdrawsFrom, SharesIn, IsRefusedIn};
 
 use crate::Asked;
@@ -81,11 +81,49 @@ impl ZoneCounts {
     /// A step of the zone begins, with a number above that of the one before.
     pub fn begin_step(&mut self, step: u64)
         requires { IsBelow self.old.desk.step step }
-        ensures { (free : Bool) × (free ≡ true → ¬ NoneFree self.old.slabs) × (free ≡ false → NoneFree self.old.slabs)
-            × (self.new ≡ record self.old { desk = begun free step self.old.desk }) }
+        ensures { BeginsStep self.old self.new step }
     {
         let is_free = has_free(&mut self.slabs, &mut self.mark);
         self.tickets.begin_step(step, is_free);
+    }
+
+    /// The number of the step under way; `None` exactly where no step was begun.
+    pub fn step(&self) -> Option<u64>
+        ensures { result ≡ self.now.desk.step }
+    {
+        self.tickets.step()
+    }
+
+    /// Whether there is room for one more ticket, and a number.
+    pub fn has_ticket_room(&self) -> bool
+        ensures { IsTrue result ↔ HasTicket self.now.desk }
+    {
+        self.tickets.has_room()
+    }
+
+    /// Whether the ticket is out.
+    pub fn is_out(&self, ticket: &Ticket) -> bool
+        ensures yes { IsTrue result → (place : ℕ) × IsOutAt self.now.desk ticket.now place }
+        ensures no { (result ≡ false) → ¬ ((place : ℕ) × IsOutAt self.now.desk ticket.now place) }
+    {
+        self.tickets.is_out(ticket)
+    }
+
+    /// Whether it is a data block of one of the slabs of the zone.
+    pub fn owns(&self, at: Pbn) -> bool
+        ensures { IsTrue result ↔ IsOfZone self.now at }
+    {
+        find_slab(&self.layout, self.zone, self.zones, &self.slabs, at).is_some()
+    }
+
+    /// Whether it is a data block of the zone, on which there is a claim.
+    pub fn is_claimed(&self, at: Pbn) -> bool
+        ensures { IsTrue result ↔ IsClaimedIn self.now at }
+    {
+        match find_slab(&self.layout, self.zone, self.zones, &self.slabs, at) {
+            Some(place) => self.slabs[place].is_claimed(at),
+            None => false,
+        }
     }
 
     /// Asks for a block: it gives the zone's lowest free block, claimed, and a ticket exactly where none is free. A step was
@@ -237,6 +275,13 @@ impl ZoneCounts {
         ensures inside { result < length self.now.slabs }
     {
         place_of(&self.layout, self.zone, self.zones, &self.slabs, at)
+    }
+
+    /// Whether the slab with this number in the image is one of this zone.
+    pub fn owns_slab(&self, slab: u32) -> bool
+        ensures { IsTrue result ↔ ((slab < self.now.geometry.slabs) × (slab % self.now.zones ≡ self.now.zone)) }
+    {
+        slab < self.layout.geometry.slabs && slab % self.zones == self.zone
     }
 
     /// Where the slab with this number in the image, which is one of this zone, stands among those of the zone.

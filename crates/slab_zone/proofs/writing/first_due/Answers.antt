@@ -14,7 +14,7 @@ returns-then-is_some-clause-some c =
     let inside : k < length old = omega (arith, c.loop-place.writes.ok, c.loop-place-test.true, c.len.ensures) in
     subst (λ (ws : List Writes). IfSome c.due-work.result (λ (w : SlabWork). IsDueAmong c.args.need c.args.counts.now.slabs ws (set old k c.due-work.new.self) c.due-work.new.into w)) c.loop-place.invariant.same
     (due_here c.args.need c.args.counts.now.slabs old k c.index_mut-slab.result.now c.due-work.new.self c.counters.result.now c.due-work.new.into c.due-work.result inside c.index_mut-slab.ensures.value
-    c.counters.ensures.value c.due-work.ensures.some)
+    c.counters.ensures.value c.loop-place.invariant.none c.due-work.ensures.some)
 
 pub loop-place-preserved : goal.loop-place-preserved
 loop-place-preserved c =

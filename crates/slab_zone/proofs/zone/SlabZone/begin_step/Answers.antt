@@ -10,4 +10,4 @@ pub invariant_of-self : goal.invariant_of-self
 invariant_of-self c =
     let below = subst (λ (z : WholeZone). IsBelow z.counts.desk.step c.args.step) (sym c.self.view_is) c.requires in
     let did = c.begin_step.ensures in
-    call_keeps (Begins did.0 c.args.step) (whole_of c.self.inside) c.begin_step.new.self c.self.invariant (below, did.1, did.2, did.3)
+    call_keeps (Begins did.0 c.args.step) (whole_of c.self.inside) c.begin_step.new.self c.self.invariant (below, did.1)
