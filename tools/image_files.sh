@@ -26,6 +26,10 @@ else
     "$top/vdo" --build || exit 1
     vdo=$top/crates/vdo/out/vdo
 fi
+[ -x "$vdo" ] || {
+    echo "there is no program $vdo"
+    exit 1
+}
 
 # say_wrong TEXT: a try went wrong.
 say_wrong() {
