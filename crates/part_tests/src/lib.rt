@@ -1,4 +1,4 @@
-//! Tests of the parts that the zones are made of: each public call on known input, and long runs against plain slow bodies.
+//! Tests of the parts that the zones are made of: each public call on known input.
 #![tactic(auto)]
 
 #[cfg(test)]
@@ -11,8 +11,6 @@ mod kernels;
 mod lanes;
 #[cfg(test)]
 mod locks;
-#[cfg(test)]
-mod met;
 #[cfg(test)]
 mod names;
 #[cfg(test)]

@@ -1,15 +1,14 @@
 ghost use Rattle.std.specs.Prelude.{◌≡◌, ◌+◌, ◌<◌, ◌≤◌, ◌^◌, length};
 ghost use Rattle.recovery_journal.specs.Log.{IsWriting};
 
-mod plain;
-
-use crate::met::Met;
-use crate::recovery::plain::{PlainJournal, Written};
 use blk_base::{Entry, Geometry, Lba, Mapping, Pbn, Point};
 use recovery_journal::Journal;
-use std::alloc::AllocError;
 use std::cmp;
 use std::test::Fail;
+
+/// What is told of a block that was written: its sequence, its head and the number of its entries; whether no other could be
+/// sealed meanwhile; and the place of an entry that was added meanwhile, if it was taken.
+type Written = ((u64, u64, usize), bool, Option<(u64, usize)>);
 
 fn entry(number: u32) -> Entry {
     Entry::Remap {
@@ -213,107 +212,5 @@ fn blocks_of_an_earlier_session_stay_needed(rt: HostRuntime) -> Result<(), Fail>
         ((Some((entry(9), 4608)), 5120), (None, false), [5, 12]),
     );
     assert_eq!(rt; (filled, reaped), wanted);
-    Ok(())
-}
-
-// A journal and a plain one, of two zones, which do the same.
-fn add_both(
-    journal: &mut Journal,
-    plain: &mut PlainJournal,
-    met: &mut Met,
-    first: u32,
-    count: u32,
-) -> Result<bool, AllocError>
-    requires { journal.old.sequence < 2 ^ 55 }
-    ensures sequence { journal.new.sequence ≡ journal.old.sequence }
-    ensures zones { length journal.new.marks ≡ length journal.old.marks }
-{
-    let mut same = true;
-    for k in 0..count {
-        let number = first.wrapping_add(k);
-        let place = add(journal, number);
-        met.refuse(place.is_none());
-        same &= place == plain.append(entry(number))?;
-    }
-    Ok(same)
-}
-
-fn hand_out_both(journal: &mut Journal, plain: &mut PlainJournal, count: u32) -> bool
-    ensures sequence { journal.new.sequence ≡ journal.old.sequence }
-    ensures zones { length journal.new.marks ≡ length journal.old.marks }
-{
-    let mut same = true;
-    for k in 0..count {
-        same &= hand_out(journal) == plain.next_committed();
-    }
-    same
-}
-
-// One step, which a number chooses.
-fn step(
-    journal: &mut Journal,
-    plain: &mut PlainJournal,
-    met: &mut Met,
-    number: u64,
-) -> Result<bool, AllocError>
-    requires sequence { journal.old.sequence < 2 ^ 54 }
-    requires zones { length journal.old.marks ≡ 2 }
-    ensures sequence { journal.new.sequence ≤ journal.old.sequence + 1 }
-    ensures zones { length journal.new.marks ≡ 2 }
-{
-    let rest = number / 4;
-    let small = (rest % 250) as u32;
-    match number % 4 {
-        0 => add_both(journal, plain, met, small, small),
-        1 => {
-            let written = write(journal, small);
-            met.write(written.is_some());
-            Ok(written == plain.write(entry(small))?)
-        }
-        2 => Ok(hand_out_both(journal, plain, small)),
-        _ => {
-            let zone = small % 2;
-            let point = journal
-                .head()
-                .saturating_mul(512)
-                .saturating_add(rest % 4096);
-            plain.watermark(zone as usize, reap(journal, zone, point));
-            Ok(true)
-        }
-    }
-}
-
-// How many of 300 steps both make alike before the first that they don't.
-fn count_alike(
-    journal: &mut Journal,
-    plain: &mut PlainJournal,
-    met: &mut Met,
-) -> Result<u64, AllocError>
-    requires sequence { journal.old.sequence ≤ 5 }
-    requires zones { length journal.old.marks ≡ 2 }
-{
-    let mut number = 1_u64;
-    for turn in 0..300_u64 {
-        number = number
-            .wrapping_mul(6364136223846793005)
-            .wrapping_add(1442695040888963407);
-        if !step(journal, plain, met, number >> 33)? || journal.head() != plain.head() {
-            return Ok(turn);
-        }
-    }
-    Ok(300)
-}
-
-#[test]
-fn as_the_plain_journal(rt: HostRuntime) -> Result<(), Fail> {
-    let mut journal = Journal::new(rt.alloc(), &Geometry::DEFAULT, 5, 2)?;
-    let mut plain = PlainJournal::new(rt.alloc(), 8, 5);
-    let mut met = Met::nothing();
-    let alike = count_alike(&mut journal, &mut plain, &mut met);
-    let reaped = journal.head() > 20;
-    assert_eq!(rt;
-        (alike, met.at_least(10), reaped),
-        (Ok(300), [true, false, true], true)
-    );
     Ok(())
 }

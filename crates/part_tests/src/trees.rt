@@ -1,17 +1,13 @@
 ghost use Rattle.std.specs.Prelude.{◌≡◌, ◌<◌, ◌≤◌, ◌+◌, ◌/◌, ◌%◌, IfOk, replicate, slice_set};
 ghost use Rattle.blk_base.specs.Limits.{logical_limit};
 ghost use Rattle.blk_base.specs.declared.place.Mapping.TheVariants.{Unmapped, At};
-ghost use Rattle.blk_base.specs.declared.place.PageId.{PageId};
-ghost use Rattle.block_map_tree.specs.Tree.{IsTree, IsWriting};
+ghost use Rattle.block_map_tree.specs.Pages.{page_at as page_of};
+ghost use Rattle.block_map_tree.specs.Tree.{IsTree};
 ghost use Rattle.block_map_tree.specs.Opening.{IsOpened, forest_of};
 
-mod plain;
-
-use crate::met::Met;
 use blk_base::{Geometry, Lba, Mapping, Mappings, Opened, OpenedPage, PageId, Pbn, Point, Super};
 use block_map_tree::{Forest, Found, TreeNodes, path};
 use page_codec::{MapPage, PageHead};
-use plain::{Plain, page_at};
 use std::alloc::{AllocError, Global};
 use std::test::Fail;
 
@@ -49,6 +45,24 @@ fn paths_of_some_addresses(rt: HostRuntime) {
     assert_eq!(rt; lead, [true; 4]);
 }
 
+// The page of a level above an address.
+fn page_at(at: Lba, level: u8) -> PageId
+    requires { level < 3 }
+    ensures { result ≡ page_of level at.0 }
+{
+    let leaf = at.0 / 812;
+    let index = match level {
+        0 => leaf / 60,
+        1 => leaf / 60 / 812,
+        _ => leaf / 60 / 659_344,
+    };
+    PageId {
+        tree: (leaf % 60) as u8,
+        level,
+        index,
+    }
+}
+
 // A page of an image of these sizes, as `take_expired` fills it.
 fn blank_page() -> MapPage {
     MapPage {
@@ -61,17 +75,6 @@ fn blank_page() -> MapPage {
     }
 }
 
-// Whether the tree has what the list of links says.
-fn is_like(tree: &TreeNodes, plain: &Plain, at: Lba) -> bool
-    requires sizes { tree.now.forest ≡ FOREST }
-    requires inside { at.0 < GEOMETRY.logical }
-    requires own { at.0 / 812 % 60 % 30 ≡ 0 }
-{
-    tree.find(&path(at, GEOMETRY.height)) == plain.find(at, 3)
-        && tree.at(page_at(at, 0)) == plain.at(page_at(at, 0))
-        && tree.low_point() == plain.low_point()
-}
-
 // Links the highest page that the path misses, if there is one, and gives it.
 fn link_next(tree: &mut TreeNodes, at: Lba, block: Pbn, point: Point) -> Option<PageId>
     requires form { IsTree tree.old }
@@ -81,7 +84,6 @@ fn link_next(tree: &mut TreeNodes, at: Lba, block: Pbn, point: Point) -> Option<
     requires block { (85 ≤ block.0) × (block.0 < 149) }
     ensures form { IsTree tree.new }
     ensures sizes { tree.new.forest ≡ FOREST }
-    ensures out { (page : PageId) → IsWriting tree.old page → IsWriting tree.new page }
 {
     match tree.find(&path(at, GEOMETRY.height)) {
         Found::Leaf(_) => None,
@@ -91,147 +93,6 @@ fn link_next(tree: &mut TreeNodes, at: Lba, block: Pbn, point: Point) -> Option<
             Some(page)
         }
     }
-}
-
-// Links the page in both.
-fn link_both(
-    tree: &mut TreeNodes,
-    plain: &mut Plain,
-    at: Lba,
-    point: Point,
-) -> Result<(), AllocError>
-    requires form { IsTree tree.old }
-    requires sizes { tree.old.forest ≡ FOREST }
-    requires inside { at.0 < GEOMETRY.logical }
-    requires own { at.0 / 812 % 60 % 30 ≡ 0 }
-    ensures form { IsTree tree.new }
-    ensures sizes { tree.new.forest ≡ FOREST }
-    ensures out { (page : PageId) → IsWriting tree.old page → IsWriting tree.new page }
-{
-    let block = Pbn(85 + at.0 % 64);
-    match link_next(tree, at, block, point) {
-        Some(page) => plain.link(page, block, point),
-        None => Ok(()),
-    }
-}
-
-// A page is handed out and reported at once. Whether it is the same page of both.
-fn write_one(tree: &mut TreeNodes, plain: &mut Plain, limit: Point) -> bool
-    requires form { IsTree tree.old }
-    requires sizes { tree.old.forest ≡ FOREST }
-    ensures form { IsTree tree.new }
-    ensures sizes { tree.new.forest ≡ FOREST }
-    ensures out { (page : PageId) → IsWriting tree.old page → IsWriting tree.new page }
-{
-    let mut into = blank_page();
-    let taken = tree.take_expired(limit, &mut into);
-    let alike = taken == plain.take_expired(limit);
-    let Some(page) = taken else {
-        return alike;
-    };
-    tree.written(page);
-    plain.written(page);
-    alike
-}
-
-// A page is linked, one is handed out, another is linked, another written, and then the first one is reported. Whether
-// both trees do alike.
-fn cycle(
-    tree: &mut TreeNodes,
-    plain: &mut Plain,
-    one: Lba,
-    other: Lba,
-    limit: Point,
-    met: &mut Met,
-) -> Result<bool, AllocError>
-    requires form { IsTree tree.old }
-    requires sizes { tree.old.forest ≡ FOREST }
-    requires one { (one.0 < GEOMETRY.logical) × (one.0 / 812 % 60 % 30 ≡ 0) }
-    requires other { (other.0 < GEOMETRY.logical) × (other.0 / 812 % 60 % 30 ≡ 0) }
-    ensures form { IsTree tree.new }
-    ensures sizes { tree.new.forest ≡ FOREST }
-{
-    link_both(tree, plain, one, Point(limit.0 ^ 3))?;
-    let linked = is_like(tree, plain, one);
-    let mut into = blank_page();
-    let taken = tree.take_expired(limit, &mut into);
-    let handed_out = taken == plain.take_expired(limit);
-    let Some(page) = taken else {
-        return Ok(linked && handed_out);
-    };
-    let links = count_links(&into.mappings) == plain.count_below(page);
-    link_both(tree, plain, other, Point(limit.0 ^ 12))?;
-    let written = write_one(tree, plain, limit);
-    let still = is_like(tree, plain, other);
-    tree.written(page);
-    plain.written(page);
-    met.write(true);
-    Ok(
-        [
-            linked,
-            handed_out,
-            into.head.page == page,
-            links,
-            written,
-            still,
-        ] == [true; 6],
-    )
-}
-
-fn count_links(mappings: &Mappings) -> usize {
-    let mut count: usize = 0;
-    for mapping in mappings.as_slice() {
-        if *mapping != Mapping::Unmapped {
-            count = count.saturating_add(1);
-        }
-    }
-    count
-}
-
-// The next of a fixed sequence of numbers.
-fn next(number: u64) -> u64 {
-    number
-        .wrapping_mul(6_364_136_223_846_793_005)
-        .wrapping_add(1_442_695_040_888_963_407)
-}
-
-// An address of the two trees by a number.
-fn address(number: u64) -> Lba
-    ensures { (result.0 < GEOMETRY.logical) × (result.0 / 812 % 60 % 30 ≡ 0) }
-{
-    let tree = (number >> 40) % 2 * 30;
-    let leaf = (number >> 20) % 820;
-    Lba(((leaf * 60 + tree) * 812) as u32)
-}
-
-// How many of 300 cycles go alike before the first that doesn't.
-fn count_alike(tree: &mut TreeNodes, plain: &mut Plain, met: &mut Met) -> Result<u32, AllocError>
-    requires form { IsTree tree.old }
-    requires sizes { tree.old.forest ≡ FOREST }
-{
-    let mut number = 1;
-    for step in 0..300_u32 {
-        let one = address(number);
-        number = next(number);
-        let limit = Point(number >> 55);
-        if !cycle(tree, plain, one, address(number), limit, met)? {
-            return Ok(step);
-        }
-        number = next(number);
-    }
-    Ok(300)
-}
-
-#[test]
-fn like_a_list_of_links(rt: HostRuntime) -> Result<(), Fail> {
-    let mut tree = small_tree(rt.alloc())?;
-    let mut plain = Plain::new(rt.alloc(), &GEOMETRY);
-    plain.open(page_at(Lba(243_600), 1), Pbn(90))?;
-    plain.open(page_at(Lba(243_600), 0), Pbn(91))?;
-    let mut met = Met::nothing();
-    let alike = count_alike(&mut tree, &mut plain, &mut met);
-    assert_eq!(rt; (alike, met.at_least(50)), (Ok(300), [false, false, true]));
-    Ok(())
 }
 
 // A page that leads to one block.

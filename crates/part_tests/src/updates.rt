@@ -1,14 +1,9 @@
-ghost use Rattle.std.specs.Prelude.{◌≡◌, ◌+◌, ◌<◌, ◌≤◌, ◌^◌, length};
+ghost use Rattle.std.specs.Prelude.{◌≡◌, ◌+◌, ◌<◌, ◌≤◌, length};
 ghost use Rattle.slab_journal.specs.Slab.{IsWriting};
 
-mod plain;
-
-use crate::met::Met;
-use crate::updates::plain::{PlainJournal, Written};
 use blk_base::{Geometry, Pbn, Point, Update};
 use slab_codec::SlabJournalBlock;
 use slab_journal::SlabJournal;
-use std::alloc::AllocError;
 use std::test::Fail;
 
 // Two sectors of counters, two slots; the first data block of slab 0 is 85.
@@ -18,6 +13,10 @@ const SMALL: Geometry = Geometry {
     nonce: 7,
     ..Geometry::DEFAULT
 };
+
+/// What is told of a block that was written: its sequence, the number of its updates and the sums of their points and
+/// offsets; and whether no other could be sealed meanwhile.
+type Written = ((u64, usize, u64, u64), bool);
 
 // Adds an update, and tells whether it was taken.
 fn add(journal: &mut SlabJournal, point: u64, offset: u32) -> bool
@@ -118,8 +117,11 @@ fn cover_first_block(journal: &mut SlabJournal) -> ([bool; 3], [Option<Written>;
 #[test]
 fn a_slot_waits_for_its_sectors(rt: HostRuntime) -> Result<(), Fail> {
     let mut journal = SlabJournal::new(rt.alloc(), &SMALL, 0)?;
+    let clean = journal.low_point();
     let filled = fill_both_slots(&mut journal);
+    let low = journal.low_point();
     let covered = cover_first_block(&mut journal);
+    let low_points = [clean, low, journal.low_point()];
     let written = [
         None,
         Some(((1, 2, 1025, 1007), true)),
@@ -131,97 +133,27 @@ fn a_slot_waits_for_its_sectors(rt: HostRuntime) -> Result<(), Fail> {
         ([true; 4], written, waiting),
         ([false, false, true], written_then),
     );
+    let low_wanted = [None, Some(Point(600)), None];
     assert_eq!(rt; (filled, covered), wanted);
+    assert_eq!(rt; low_points, low_wanted);
     Ok(())
 }
 
-// A journal and a plain one, which do the same.
-fn add_both(
-    journal: &mut SlabJournal,
-    plain: &mut PlainJournal,
-    met: &mut Met,
-    first: u64,
-    count: u32,
-) -> Result<bool, AllocError>
-    requires small { (journal.old.geometry ≡ SMALL) × (journal.old.slab ≡ 0) }
-    requires rises { (journal.old.last.0 < first) × (first + count < 2 ^ 64) }
-    ensures last { journal.new.last.0 < first + count }
-    ensures small { (journal.new.geometry ≡ SMALL) × (journal.new.slab ≡ 0) }
-    ensures sectors { length journal.new.commits ≡ length journal.old.commits }
-{
-    let mut same = true;
-    for k in 0..count {
-        let point = first + u64::from(k);
-        let offset = (point % 1000) as u32;
-        let added = add(journal, point, offset);
-        met.refuse(!added);
-        same &= added == plain.add(point, offset)?;
-    }
-    Ok(same)
-}
-
-// One step, which a number chooses. `now` is the point that the updates have reached.
-fn step(
-    journal: &mut SlabJournal,
-    plain: &mut PlainJournal,
-    met: &mut Met,
-    now: u64,
-    number: u64,
-) -> Result<bool, AllocError>
-    requires small { (journal.old.geometry ≡ SMALL) × (journal.old.slab ≡ 0) }
-    requires rises { (journal.old.last.0 < now) × (now + 250 < 2 ^ 64) }
-    requires sectors { length journal.old.commits ≡ 2 }
-    ensures last { journal.new.last.0 < now + 250 }
-    ensures small { (journal.new.geometry ≡ SMALL) × (journal.new.slab ≡ 0) }
-    ensures sectors { length journal.new.commits ≡ 2 }
-{
-    let rest = number / 4;
-    match number % 4 {
-        0 => add_both(journal, plain, met, now, (rest % 250) as u32),
-        1 => {
-            let written = write(journal);
-            met.write(written.is_some());
-            Ok(written == plain.write())
-        }
-        _ => {
-            let sector = (rest % 2) as u32;
-            let point = now.saturating_sub(rest / 2 % 1500);
-            journal.reference_durable(sector, Point(point));
-            plain.reference_durable(sector as usize, point);
-            Ok(true)
-        }
-    }
-}
-
-// How many of 300 steps both make alike before the first that they don't.
-fn count_alike(
-    journal: &mut SlabJournal,
-    plain: &mut PlainJournal,
-    met: &mut Met,
-) -> Result<u64, AllocError>
+// How many of 330 updates are taken before the block being filled has no room.
+fn fill(journal: &mut SlabJournal) -> u32
     requires small { (journal.old.geometry ≡ SMALL) × (journal.old.slab ≡ 0) }
     requires last { journal.old.last.0 ≡ 511 }
-    requires sectors { length journal.old.commits ≡ 2 }
 {
-    let mut number = 1_u64;
-    for turn in 0..300_u64 {
-        number = number
-            .wrapping_mul(6364136223846793005)
-            .wrapping_add(1442695040888963407);
-        let alike = step(journal, plain, met, 512 + turn * 250, number >> 33)?;
-        if !alike || journal.may_overwrite() != plain.may_overwrite() {
-            return Ok(turn);
-        }
+    let mut taken = 0_u32;
+    for k in 0..330_u32 {
+        taken += u32::from(add(journal, 512 + u64::from(k), k));
     }
-    Ok(300)
+    taken
 }
 
 #[test]
-fn as_the_plain_journal(rt: HostRuntime) -> Result<(), Fail> {
+fn a_block_has_320_updates(rt: HostRuntime) -> Result<(), Fail> {
     let mut journal = SlabJournal::new(rt.alloc(), &SMALL, 0)?;
-    let mut plain = PlainJournal::new(rt.alloc(), 2);
-    let mut met = Met::nothing();
-    let alike = count_alike(&mut journal, &mut plain, &mut met);
-    assert_eq!(rt; (alike, met.at_least(10)), (Ok(300), [true, false, true]));
+    assert_eq!(rt; (fill(&mut journal), journal.waiting()), (320, 320));
     Ok(())
 }

@@ -1,4 +1,2 @@
-pub mod HeldLaws
 pub mod OutLaws
 pub mod TestedLaws
-pub mod WritingLaws

@@ -1,11 +1,20 @@
--- The zone of the tests, and what a test holds of it.
+-- The slab and the zone of the tests, and what a test holds of the zone.
 use Rattle.std.specs.Prelude.{ℕ, ◌≡◌, ◌≤◌, List}
+use Rattle.blk_base.specs.Regions.{slab_start_of}
 use Rattle.blk_base.specs.declared.geometry.Geometry.{Geometry}
+use Rattle.slab_counts.specs.Counts.{Counts}
+use Rattle.slab_counts.specs.Kept.{IsWithin}
 use Rattle.slab_counts.specs.declared.tickets.Ticket.{Ticket}
 use Rattle.slab_tests.specs.Out.{AreOut}
 use Rattle.slab_writes.specs.Writes.{Writes}
 use Rattle.slab_zone.specs.Whole.{writes_at}
 use Rattle.zone_counts.specs.Zone.{Zone}
+
+-- 64 blocks from block 85 on
+pub record IsFirstSlab (counts : Counts) : Type 0 where
+  pub within : IsWithin counts
+  pub first : slab_start_of counts.geometry counts.slab ≡ 85
+  pub blocks : counts.geometry.slab_blocks ≡ 64
 
 -- eight slabs of 16 blocks
 abbrev pub two_zones : Geometry

@@ -18,10 +18,10 @@ pub(crate) const TWO_ZONES: Geometry = Geometry {
 /// The first data block.
 pub(crate) const FIRST: u32 = 85;
 
-// The counters of the first blocks: one of a tree page, one as high as can be, and three almost so.
-const COUNTERS: [u8; 6] = [1, 254, 253, 252, 250, 3];
+// The counters of the first blocks: one of a tree page, one as high as can be, three almost so, and the only free one.
+const COUNTERS: [u8; 7] = [1, 254, 253, 252, 250, 3, 0];
 
-/// An image whose first block has a tree page, whose next five are mapped, and whose others are free.
+/// An image whose first block has a tree page, whose seventh is free, and whose others are mapped.
 pub(crate) fn opened_image(alloc: Global) -> Result<Opened, AllocError>
     ensures counters { IfOk result (λ opened. length opened.counters.items ≡ 64) }
     ensures limit { IfOk result (λ opened. All (λ counter. counter ≤ 254) opened.counters.items) }
@@ -57,12 +57,12 @@ pub(crate) fn opening_counter(k: usize) -> u8
 {
     match COUNTERS.get(k) {
         Some(counter) => (*counter).min(254),
-        None => 0,
+        None => 1,
     }
 }
 
-/// An image of eight slabs. In the order of the blocks of the second of two zones, the first has a tree page, the next five
-/// are mapped, and the others are free.
+/// An image of eight slabs. In the order of the blocks of the second of two zones, the first has a tree page, the seventh is
+/// free, and the others are mapped.
 pub(crate) fn image_of_two_zones(alloc: Global) -> Result<Opened, AllocError>
     ensures sizes { IfOk result (λ opened. opened.head.geometry ≡ two_zones) }
     ensures counters { IfOk result (λ opened. length opened.counters.items ≡ 128) }

@@ -1,4 +1,4 @@
-//! Tests of what keeps the data blocks of slabs: each public call on known input, and long runs against plain slow bodies.
+//! Tests of what keeps the data blocks of slabs, and of what of a slab is written: each public call on known input.
 #![tactic(auto)]
 
 #[cfg(test)]
@@ -6,16 +6,8 @@ mod counts;
 #[cfg(test)]
 mod images;
 #[cfg(test)]
-mod plain_counts;
-#[cfg(test)]
-mod plain_tickets;
-#[cfg(test)]
-mod plain_writes;
-#[cfg(test)]
-mod plain_zone;
+mod references;
 #[cfg(test)]
 mod tickets;
-#[cfg(test)]
-mod writing;
 #[cfg(test)]
 mod zones;

@@ -1,4 +1,4 @@
-use Rattle.std.proofs.Common.{ℕ, ◌≡◌, ◌<◌, ◌≤◌, ◌-◌, ◌/◌, ◌%◌, ◌∷◌, [], ◌∙◌, ap, sym, subst, refl, arith}
+use Rattle.std.proofs.Common.{ℕ, ◌≡◌, ◌<◌, ◌≤◌, ◌-◌, ◌/◌, ◌%◌, ◌∙◌, ap, sym, subst, arith}
 use Rattle.blk_base.specs.declared.place.PageId.{PageId}
 use Rattle.blk_base.specs.Regions.{IsDataBlock}
 use Rattle.block_map_tree.specs.declared.forms.Forest.{Forest}
@@ -6,8 +6,7 @@ use Rattle.block_map_tree.specs.declared.forms.Path.{Path}
 use Rattle.block_map_tree.specs.declared.forms.Found.TheVariants.{Missing}
 use Rattle.block_map_tree.specs.Pages.{IsTreeOf, page_at, page_on, above}
 use Rattle.block_map_tree.specs.Tree.{Tree, IsTree, IsThere, IsFound, IsLinkable}
-use Rattle.block_map_tree.specs.History.{Link}
-use Rattle.block_map_tree.proofs.HistoryLaws.{missing_linkable, still_out}
+use Rattle.block_map_tree.proofs.HistoryLaws.{missing_linkable}
 use Rattle.part_tests.specs.declared.trees.TheConstants.{FOREST}
 use Rattle.part_tests.proofs.trees.link_next.Goals as goal
 
@@ -38,10 +37,3 @@ pub find-requires-clause-tree : goal.find-requires-clause-tree
 find-requires-clause-tree c =
     let tree_is = ap (λ (p : Path). p.tree) c.path.ensures.path in
     own_tree c.args.tree.now c.path.result.tree c.requires.sizes (omega arith) (ap (λ (t : ℕ). t % 30) tree_is ∙ c.requires.own)
-
-pub returns-in-Missing-clause-out : goal.returns-in-Missing-clause-out
-returns-in-Missing-clause-out c =
-    let both = linkable _ _ _ _ _ c.requires.form c.requires.sizes c.requires.inside c.requires.own (ap (λ (p : Path). p.tree) c.path.ensures.path)
-    c.path.ensures.leads c.in-Missing.ensures c.page_at-page.ensures in
-    λ out is_out. still_out c.args.tree.now c.link.new.self (Link c.page_at-page.result c.args.block c.args.point ∷ []) out c.requires.form
-    (c.args.tree.now, refl, (both.0, c.link.ensures)) tt is_out

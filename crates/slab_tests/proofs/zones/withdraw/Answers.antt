@@ -16,8 +16,8 @@ withdraw-requires-clause-out c =
     still_out c.args.zone.now.counts.desk c.args.zone.now.counts.desk held c.args.held.now.clock.issued c.args.held.now.clock.step c.requires.out i c.remove-ticket.result inside
     (c.remove-ticket.ensures.value ∙ get_or_default held i c.remove-ticket.result no_ticket inside)
 
-pub returns-clause-second : goal.returns-clause-second
-returns-clause-second c =
+pub returns : goal.returns
+returns c =
     let held = c.args.held.now.tickets.items in
     let i = c.args.place % c.len-count.result in
     let inside : i < length held = omega (arith, mod_below c.args.place c.len-count.result (omega (arith, c.if-count-eq0.false)), c.len-count.ensures, c.args.held.now.tickets.ok) in

@@ -1,8 +1,0 @@
-use Rattle.slab_tests.specs.Tested.{AreUpTo, IsSecond}
-use Rattle.slab_tests.proofs.zones.count_alike.Given as goal
-
-abbrev pub invariant-loop-turn : goal.invariant-loop-turn
-invariant-loop-turn l = record {
-  second : IsSecond l.zone.counts l.held.tickets.items l.held.clock.issued l.held.clock.step;
-  last : AreUpTo l.zone.writes l.last;
-}
