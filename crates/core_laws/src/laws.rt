@@ -29,7 +29,7 @@ ghost use Rattle.core_model.specs.declared.sizes.Sizes.{Sizes};
 ghost use Rattle.core_model.specs.Legal.{Legal};
 ghost use Rattle.core_model.specs.Reports.{ShowsValues, opening_values, progress_of, report_of};
 ghost use Rattle.core_model.specs.RightTraces.{IsHeldBack, IsWrite, StopsAtFailure};
-ghost use Rattle.core_model.specs.Sessions.{Session, IsSession, HasHonestReads, said_by};
+ghost use Rattle.core_model.specs.Sessions.{Session, IsFair, IsSession, said_by};
 ghost use Rattle.core_model.specs.Start.{IsFirst};
 ghost use Rattle.core_model.specs.Steps.{Act, CallsDevice, Core, HasAct, Leads, MayBegin, MoveOf, StepOf, ZoneStep};
 ghost use Rattle.core_model.specs.Trace.{Enters, Trace, aborted, calls, committed, entries_of, entry_of, is_ok, is_read, lines, marks, moments, places};
@@ -110,17 +110,17 @@ pub fn the_log_hands_out_what_is_committed()
         → head_of j.log ≡ s.sizes.start }
 {}
 
-/// On an honest device each read that a legal core answered gave the last settled write before its place.
+/// Where the session is fair, each read that a legal core answered gave the last settled write before its place.
 pub fn a_legal_core_reads_right()
-    ensures { (s : Session) (core : Core) → IsSession s → Legal s core → HasHonestReads s core.trace
+    ensures { (s : Session) (core : Core) → IsSession s → Legal s core → IsFair s core.trace
         → ReadsRight (opening_values s) s.script (lines core.trace) (report_of s core.trace).places (report_of s core.trace).histories }
 {}
 
-/// Each flush that a legal core answered Ok has its mark, and a stop before or within any call of the device leaves each
-/// address a value no older than its last flushed one.
+/// Each flush that a legal core answered Ok has its mark, whatever the device does; and where the session is fair, a stop before
+/// or within any call of the device leaves each address a value no older than its last flushed one.
 pub fn a_legal_core_is_right_after_a_stop()
     ensures marked { (s : Session) (core : Core) → IsSession s → Legal s core → AreFlushMarks s.script (moments core.trace) (marks core.trace) }
-    ensures stops { (s : Session) (core : Core) → IsSession s → Legal s core
+    ensures stops { (s : Session) (core : Core) → IsSession s → Legal s core → IsFair s core.trace
         → RightAfterStops (ShowsValues s) s.blocks s.before s.sizes.geometry.logical (opening_values s) (report_of s core.trace) (calls core.trace) }
 {}
 

@@ -6,7 +6,6 @@ use Rattle.core_model.specs.declared.items.Item.TheVariants as item
 use Rattle.core_model.specs.declared.zones.ZoneData.TheVariants as at
 use Rattle.core_model.specs.Legal.{Legal, share}
 use Rattle.core_model.specs.Limits.{most_requests, requests_in}
-use Rattle.core_model.specs.Sessions.{HasNoneLeft, HasWholeBlocks}
 use Rattle.core_model.specs.Steps.{Core}
 use Rattle.core_model.specs.Tokens.{kept_items}
 use Rattle.core_laws.proofs.kept.FirstState.{total_at_most}
@@ -40,14 +39,6 @@ entries_few s t right =
     omega (arith, names, over_script s.script)
 
 -- no more blocks are sealed than the journal has
--- no more blocks of the journal are used than there are
-few_used : (s : Session) → IsSession s → s.sizes.opened ≤ s.sizes.geometry.journal
-few_used s session = by session.journal
-  where
-    by : HasWholeBlocks s ⊎ HasNoneLeft s → s.sizes.opened ≤ s.sizes.geometry.journal
-    by (inl whole) = omega (arith, whole.at_rest.ring.ring, whole.all_needed, whole.opened)
-    by (inr none) = omega (arith, none.full)
-
 pub blocks_few : (s : Session) (t : Trace) → RightTrace s t → length (sealed t) ≤ s.sizes.geometry.journal
 blocks_few s [] right = omega arith
 blocks_few s (Seals ∷ t) right = let left = right.0.left in omega (arith, left)
@@ -106,7 +97,7 @@ module _ (s : Session) (core : Core) (legal : Legal s core) (n : ℕ) (z : Zone)
     pub sequence_within : (j : JournalZone) → z.keeps ≡ at.Journal j → j.log.sequence < 2 ^ 55
     sequence_within j keeps =
         let sequence = (own_ok (at.Journal j) keeps).lists.log_is.sequence_is in
-        omega (arith, sequence, session.start.1, few_used s session, blocks_few s core.trace legal.right, session.sizes.journal.1)
+        omega (arith, sequence, session.start.1, session.used, blocks_few s core.trace legal.right, session.sizes.journal.1)
 
     pub filling_within : (j : JournalZone) → z.keeps ≡ at.Journal j → length j.filling ≤ 192
     filling_within j keeps = (own_ok (at.Journal j) keeps).sound.0

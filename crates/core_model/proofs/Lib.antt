@@ -4,3 +4,4 @@ pub mod PortLaws
 pub mod SlotLaws
 pub mod LockLaws
 pub mod CountLaws
+pub mod FairLaws

@@ -1,5 +1,6 @@
 pub mod CauseRows
 pub mod FollowRows
+mod FairRows
 pub mod PhaseRows
 pub mod ZoneRows
 pub mod WorkedTraces

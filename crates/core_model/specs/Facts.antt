@@ -49,7 +49,7 @@ use Rattle.core_model.specs.LogicalRows.{is_among, is_held, mapped_by}
 use Rattle.core_model.specs.Phases.{row, number_at, stage_row}
 use Rattle.core_model.specs.Zones.{zone_number, zone_count, notified_zones}
 use Rattle.core_model.specs.RightTraces.{IsOpen, IsPending, MapsTo, NeedsBlock, Quiet, IsCommitted, AllBelow, HasPlace, HasBelow, HasCause}
-use Rattle.core_model.specs.Sessions.{Session, HasHonestReads, IsFresh, OnBlock, NewReads, NewStands, ReadsAs, AtRest, OnItsWay, ReadsBlock, said_by, value_at}
+use Rattle.core_model.specs.Sessions.{Session, IsFair, IsFresh, OnBlock, NewReads, NewStands, ReadsAs, AtRest, OnItsWay, ReadsBlock, said_by, value_at}
 use Rattle.plain_laws.specs.Sums.{total, Each}
 use Rattle.core_model.specs.Tokens.{lock_weight}
 use Rattle.core_model.specs.Trace.{Trace, all_of, filled, sealed, moments, lines, calls, marks, places, entered, committed, done, aborted, taken, has_taken, has_stopped, of_address, newest, logged_of, entry_of, entries_of}
@@ -175,11 +175,11 @@ Carries s t v phase.Arrive = IsUndrawn t v.request v.asks
 Carries s t v phase.Wait = IsPlaced s t v × (has_taken t v.request ≡ false)
 Carries s t v phase.Claim = Holds s t v × (v.asks ≡ Write) × NeedsBlock t v.request v.bytes
 Carries s t v phase.Store = Holds s t v × (v.asks ≡ Write) × IsToFresh s v.new
-Carries s t v phase.Enter = Holds s t v × MapsTo v.asks v.bytes v.new × OnBlock (IsFresh s) v.new × OnBlock (λ x. ReadsAs s t x.0 v.bytes) v.new
+Carries s t v phase.Enter = Holds s t v × MapsTo v.asks v.bytes v.new × OnBlock (IsFresh s) v.new × (IsFair s t → OnBlock (λ x. ReadsAs s t x.0 v.bytes) v.new)
 Carries s t v phase.Pending = HasPendingEntry s t v.asks v.bytes (logged v)
 Carries s t v phase.Settle = IsEntered s t v × IsCommitted t (logged v) × AllBelow t v.at.0 v.place × OnBlock (IsFresh s) v.new
 Carries s t v phase.Load = Looks s t v × IsToInside s v.old
-Carries s t v phase.Loaded = Looks s t v × (HasHonestReads s t → v.bytes ≡ value_at s t v.at.0)
+Carries s t v phase.Loaded = Looks s t v × (IsFair s t → v.bytes ≡ value_at s t v.at.0)
 Carries s t v phase.AbortClaim = Holds s t v × MayReply s t v v.answer
 Carries s t v phase.Abort = Holds s t v × MayReply s t v v.answer
 Carries s t v phase.AbortEnteredClaim = IsEntered s t v × MayReply s t v v.answer × (has_stopped t ≡ true)
@@ -197,13 +197,14 @@ pub record IsSealed (s : Session) (t : Trace) (vios : List Vio) (at : ℕ) : Typ
   pub sequence : at ≡ s.sizes.start + (s.sizes.opened + length older)
   pub left : s.sizes.opened + length older + 1 < s.sizes.geometry.journal
 
--- What stands on the device while a block with these requests is at a stage.
+-- Where a block with these requests is at a stage: which entries are committed; and where the session is fair, what stands on
+-- the device.
 abbrev pub StandsAt : Session → Trace → List Vio → ℕ → Stage → Type 0
-StandsAt s t vios at stage.Cover = (k : IsSealed s t vios at) × AtRest s t k.older × NewReads s t (all_logged vios)
-StandsAt s t vios at stage.Write = (k : IsSealed s t vios at) × AtRest s t k.older × NewStands s t (all_logged vios)
-StandsAt s t vios at stage.Harden = (k : IsSealed s t vios at) × OnItsWay s t k.older (all_logged vios) × ReadsBlock s t k.older (all_logged vios)
-StandsAt s t vios at stage.Commit = (all_of (sealed t) ≡ all_logged vios ++ committed t) × AtRest s t (sealed t)
-StandsAt s t vios at stage.Fail = (k : IsSealed s t vios at) × (AtRest s t k.older ⊎ OnItsWay s t k.older (all_logged vios)) × (has_stopped t ≡ true)
+StandsAt s t vios at stage.Cover = (k : IsSealed s t vios at) × (IsFair s t → AtRest s t k.older × NewReads s t (all_logged vios))
+StandsAt s t vios at stage.Write = (k : IsSealed s t vios at) × (IsFair s t → AtRest s t k.older × NewStands s t (all_logged vios))
+StandsAt s t vios at stage.Harden = (k : IsSealed s t vios at) × (IsFair s t → OnItsWay s t k.older (all_logged vios) × ReadsBlock s t k.older (all_logged vios))
+StandsAt s t vios at stage.Commit = (all_of (sealed t) ≡ all_logged vios ++ committed t) × (IsFair s t → AtRest s t (sealed t))
+StandsAt s t vios at stage.Fail = (k : IsSealed s t vios at) × (IsFair s t → AtRest s t k.older ⊎ OnItsWay s t k.older (all_logged vios)) × (has_stopped t ≡ true)
 
 -- a request that a zone keeps, or that is in a block, is in one phase
 abbrev pub KeptOk : Session → Trace → Phase → Vio → Type 0
@@ -346,10 +347,10 @@ IsSound s (at.Physical p) = AllByRecursion (IsFresh s) p.free
 IsSound s (at.Journal j) = (length j.filling ≤ 192) × (j.busy ≡ false → IsUnused j.filling j.waiting)
 IsSound s other = Unit {0}
 
--- What stands on the device while no block is under way.
+-- While no block is under way all that was sealed is committed; and where the session is fair, it stands on the device.
 abbrev pub RestsAt : Session → Trace → (busy broken : Bool) → Type 0
 RestsAt s t true broken = broken ≡ false
-RestsAt s t false false = (all_of (sealed t) ≡ committed t) × AtRest s t (sealed t)
+RestsAt s t false false = (all_of (sealed t) ≡ committed t) × (IsFair s t → AtRest s t (sealed t))
 RestsAt s t false true = Unit {0}
 
 -- What it answers for: a logical zone for its addresses that are free (all entries of them are done), the journal for

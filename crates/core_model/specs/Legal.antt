@@ -6,7 +6,7 @@ use Rattle.core_model.specs.Arrivals.{arrivals_at}
 use Rattle.core_model.specs.Facts.{ZoneOk}
 use Rattle.core_model.specs.Zones.{zone_count, notified_zones}
 use Rattle.core_model.specs.RightTraces.{RightTrace, GivesRight}
-use Rattle.core_model.specs.Sessions.{Session, HasHonestReads}
+use Rattle.core_model.specs.Sessions.{Session, IsFair}
 use Rattle.core_model.specs.Steps.{Core}
 use Rattle.core_model.specs.Streams.{Flows}
 use Rattle.plain_laws.specs.Sums.{Each}
@@ -44,5 +44,5 @@ pub record Legal (s : Session) (core : Core) : Type 0 where
   -- requests come to each logical zone in the order in which they were sent
   pub in_order : (zone : ℕ) → zone < s.sizes.zones → Flows (arrivals_at s zone) core.trace core.zones
   pub right : RightTrace s core.trace
-  -- on an honest device alone
-  pub gives_right : HasHonestReads s core.trace → GivesRight s core.trace
+  -- where the session is fair
+  pub gives_right : IsFair s core.trace → GivesRight s core.trace

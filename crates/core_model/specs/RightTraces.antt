@@ -25,7 +25,7 @@ use Rattle.vdo_model.specs.declared.report.Placed.{Placed}
 use Rattle.core_model.specs.declared.zones.Logged.{Logged}
 use Rattle.core_model.specs.declared.items.Asks.{Asks}
 use Rattle.core_model.specs.declared.items.Asks.TheVariants as asks
-use Rattle.core_model.specs.Sessions.{OnBlock, Session, Shown, value_at}
+use Rattle.core_model.specs.Sessions.{IsFair, OnBlock, Session, Shown, value_at}
 use Rattle.core_model.specs.Vios.{asked}
 use Rattle.core_model.specs.Trace.{Happening, Says, Flushes, Draws, Enters, Seals, Commits, Sets, Gives, Takes, Aborts, Calls, Fails, Trace, Gift, moments, lines, places, entered, filled, sealed, all_of, committed, done, aborted, gifts, taken, has_taken, is_read, is_ok, has_stopped, has_read_fault, of_address, logged_of, gift_of, entries_of}
 
@@ -245,10 +245,10 @@ MayFollow s (Aborts e) t = AbortMayFollow s e t
 MayFollow s (Calls c) t = CallMayFollow c t
 MayFollow s (Fails w c kept) t = FailureMayFollow s w c t
 
--- the trace is right: at each moment what happened may follow, and the device has what it must
+-- the trace is right: at each moment what happened may follow, and where the session is fair, the device has what it must
 abbrev pub RightTrace : Session → Trace → Type 0
-RightTrace s [] = Shown s []
-RightTrace s (h ∷ t) = MayFollow s h t × Shown s (h ∷ t) × RightTrace s t
+RightTrace s [] = IsFair s [] → Shown s []
+RightTrace s (h ∷ t) = MayFollow s h t × (IsFair s (h ∷ t) → Shown s (h ∷ t)) × RightTrace s t
 
 -- each read was given the value of its address
 abbrev pub GivesRight : Session → Trace → Type 0

@@ -29,8 +29,9 @@ use Rattle.blk_base.specs.declared.journal_entry.CommittedEntry.{CommittedEntry}
 use Rattle.journal_stops.specs.Sealed as blocks
 
 -- What is fixed: the sizes, the script, the blocks that the device had when its log began, its log before the session,
--- the one image that a stop left then, the blocks that its journal has, the entries of these, and the data blocks that are
--- free in it. The newest block and the newest entry stand first.
+-- the one image that a stop left then, the blocks that its journal has, the entries of its window, and the data blocks that are
+-- free in it. The newest block and the newest entry stand first. Of the device, its image and the blocks of the journal all is
+-- said where the session is fair, and nothing else.
 pub record Session : Type 0 where
   pub sizes : Sizes
   pub script : Script
@@ -77,21 +78,26 @@ pub record HasNoneLeft (s : Session) : Type 0 where
   pub window_is : s.window ≡ said_by committed
   pub full : s.sizes.opened + 1 ≡ s.sizes.geometry.journal
 
--- the session can be served
+-- the session can be served, whatever the device does
 pub record IsSession (s : Session) : Type 0 where
   pub sizes : IsGeometry s.sizes.geometry
   pub start : (1 ≤ s.sizes.start) × (s.sizes.start < 2 ^ 54)
+  -- one block of the journal stays free
+  pub used : s.sizes.opened < s.sizes.geometry.journal
   pub zones : 1 ≤ s.sizes.zones
   -- it is no larger than it may be
   pub limits : IsLimited s.sizes s.script
-  pub room : needed_blocks s.sizes.geometry ≤ length s.blocks
   pub served : AllByRecursion (AllByRecursion IsServed) s.script
-  pub one_image : HasOneImage s.blocks s.before s.image
-  -- the journal of the image has whole blocks, and may go on; or none is left
-  pub journal : HasWholeBlocks s ⊎ HasNoneLeft s
   pub of_image : AllByRecursion (IsOfImage s.sizes.geometry) s.window
   pub free : AllByRecursion (IsFresh s) s.free
   pub distinct : AreDistinct s.free
+
+-- The image is as it was opened: the device has room for it and had no other, and its journal says what the session knows.
+pub record IsAsOpened (s : Session) : Type 0 where
+  pub room : needed_blocks s.sizes.geometry ≤ length s.blocks
+  pub one_image : HasOneImage s.blocks s.before s.image
+  -- the journal of the image has whole blocks, and may go on; or none is left
+  pub journal : HasWholeBlocks s ⊎ HasNoneLeft s
 
 -- the device's log
 abbrev pub log : Session → Trace → List Call
@@ -102,6 +108,12 @@ abbrev pub HasHonestReads : Session → Trace → Type 0
 HasHonestReads s [] = Unit {0}
 HasHonestReads s (Calls (Read at bytes true) ∷ t) = (length bytes ≡ 4096) × IsMixOf (device.settled s.blocks (log s t) at.0) bytes × HasHonestReads s t
 HasHonestReads s (other ∷ t) = HasHonestReads s t
+
+-- The session is fair: its reads were honest, and the image as it was opened. What it promises of images, and of the values of
+-- addresses, rests on that.
+pub record IsFair (s : Session) (t : Trace) : Type 0 where
+  pub honest : HasHonestReads s t
+  pub opened : IsAsOpened s
 
 -- whatever a stop leaves in a block is these bytes; and whatever a read may give is
 abbrev pub Stands : Session → Trace → ℕ → List ℕ → Type 0

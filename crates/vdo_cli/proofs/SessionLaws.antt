@@ -22,13 +22,12 @@ use Rattle.disk_model.proofs.SeenLaws.{stays_on}
 use Rattle.disk_model.proofs.SinceLaws.{image_since}
 use Rattle.image_layout.specs.Opened.{super_of_image}
 use Rattle.image_layout.specs.Values.{journal_of, value_of}
-use Rattle.image_model.specs.Windows.{IsOfImage}
 use Rattle.core_model.specs.declared.sizes.Sizes.{Sizes}
 use Rattle.core_model.specs.declared.zones.Zone.{Zone}
 use Rattle.core_model.specs.Legal.{Legal}
 use Rattle.core_model.specs.Reports.{report_of}
 use Rattle.core_model.specs.RightTraces.{MayAnswer, MayFollow, RightTrace}
-use Rattle.core_model.specs.Sessions.{Session, IsSession, IsServed, HasHonestReads}
+use Rattle.core_model.specs.Sessions.{Session, IsFair, IsSession, IsServed, HasHonestReads}
 use Rattle.core_model.specs.Start.{IsFirst}
 use Rattle.core_model.specs.Steps.{Leads}
 use Rattle.core_model.specs.Trace.{Aborts, Calls, Commits, Draws, Enters, Seals, Fails, Flushes, Gives, Happening, Says, Sets, Takes, Trace, calls, has_read_fault, has_stopped, lines, moments}
@@ -43,9 +42,8 @@ use Rattle.vdo_core.specs.FreeBlocks.{free_of}
 use Rattle.vdo_core.specs.Plays.{core_with}
 use Rattle.vdo_core.specs.Done.{IsDone}
 use Rattle.vdo_core.proofs.DoneLaws.{answered_when_done}
-use Rattle.vdo_core.proofs.JournalLaws.{sealed_from, stands, window_of_image}
-use Rattle.vdo_core.proofs.SessionLaws.{imagined, is_of, is_session}
-use Rattle.vdo_core.proofs.FreeLaws.{free_distinct, free_fresh}
+use Rattle.vdo_core.proofs.JournalLaws.{sealed_from, stands}
+use Rattle.vdo_core.proofs.SessionLaws.{bare, can_serve, is_of, is_session}
 use Rattle.vdo_model.specs.DeskLog.{AllAnswered, answer_of}
 use Rattle.vdo_model.specs.RightReads.{ReadsRight}
 use Rattle.vdo_model.proofs.NameLaws.{same_tells}
@@ -171,7 +169,7 @@ module _ (tells honest : Bool) (head : Super) (window : List Entry) (used : ℕ)
       (legal_first s (core_with first []) (begins s over) session)
 
   abbrev over : Session
-  over = imagined (run_sizes head used) script window can
+  over = bare (run_sizes head used) script window can
 
   pub session : IsSession over
   session = is_session (run_sizes head used) script window can
@@ -213,31 +211,32 @@ module _ (tells honest : Bool) (head : Super) (window : List Entry) (used : ℕ)
       free = free_of head.geometry window;
     }
 
+    real_over : IsOver head window used script real
+    real_over = record { sizes_is = refl; script_is = refl; window_is = refl; free_is = refl }
+
     real_session : IsSession real
-    real_session = record {
-      sizes = can.geometry;
-      start = can.start;
-      zones = can.zones;
-      limits = can.limits;
-      room = room;
-      served = can.served;
-      one_image = one;
-      journal = stands real serves.found.last serves.found.entries can.start.0 count serves.is_window.is_window serves.mapped.0 serves.used_is refl;
-      of_image = subst (AllByRecursion (IsOfImage head.geometry)) (sym serves.mapped.0)
-          (window_of_image head.geometry head.start serves.found.last (journal_of head.geometry image) serves.found.entries serves.is_window.is_window);
-      free = free_fresh head.geometry can.geometry real refl;
-      distinct = free_distinct head.geometry can.geometry window;
-    }
+    real_session = can_serve (run_sizes head used) script window real can real_over
 
     real_legal : Legal real (core_with last trace)
-    real_legal = legal_over real real_session (record { sizes_is = refl; script_is = refl; window_is = refl; free_is = refl })
+    real_legal = legal_over real real_session real_over
+
+    -- it is fair
+    real_fair : IsFair real trace
+    real_fair = record {
+      honest = honest_reads real trace (called.given told fair);
+      opened = record {
+        room = room;
+        one_image = one;
+        journal = stands real serves.found.last serves.found.entries can.start.0 count serves.is_window.is_window serves.mapped.0 serves.used_is refl;
+      };
+    }
 
     reads_of_image : ReadsRight (value_of image window) report.requests report.desk report.places report.histories
-    reads_of_image = report_reads_right real trace real_session real_legal.right (real_legal.gives_right (honest_reads real trace (called.given told fair)))
+    reads_of_image = report_reads_right real trace real_session real_legal.right (real_legal.gives_right real_fair)
 
     stops_of_image : super_of_image image ≡ Ok head → RightAfterStops (OpensWith head) before.opening before.log head.geometry.logical (value_of image window) report (calls trace)
     stops_of_image says later prefix calls_are other is =
-        let (values, shows, right) = report_stops_right real trace real_session real_legal.right later prefix calls_are other is in
+        let (values, shows, right) = report_stops_right real trace real_session real_legal.right real_fair later prefix calls_are other is in
         let size : length other ≡ length image = is.size ∙ sym one.size in (
           values,
           record { superblock = same_super image other (some_blocks image head says) size shows.0 ∙ says; has_values = shows.1 },

@@ -1,7 +1,7 @@
 -- Rows that pin what a core is and begins with, when it is done, and what there is to move and room for: for each clause a
 -- small case that it accepts, and one that breaks it alone.
-use Rattle.std.proofs.Common.{ℕ, ◌≡◌, ◌≤◌, ◌+◌, ◌-◌, ◌*◌, Bool, true, false, List, [], ◌∷◌, length, replicate, Some, slice_get, refl, ap, sym, ◌∙◌, subst, inl, inr, arith}
-use Rattle.std.proofs.lemmas.List.{length-replicate, nil_from_length}
+use Rattle.std.proofs.Common.{ℕ, ◌≡◌, ◌≤◌, ◌+◌, ◌-◌, ◌*◌, Bool, true, false, List, [], ◌∷◌, length, replicate, Some, slice_get, refl, ap, sym, ◌∙◌, subst, arith}
+use Rattle.std.proofs.lemmas.List.{length-replicate}
 use Rattle.blk_base.specs.declared.geometry.Geometry.{Geometry}
 use Rattle.blk_base.specs.declared.journal_entry.Entry.{Entry}
 use Rattle.blk_base.specs.declared.journal_entry.Entry.TheVariants.{NewPage, Remap}
@@ -10,9 +10,6 @@ use Rattle.blk_base.specs.declared.place.Mapping.{Mapping}
 use Rattle.blk_base.specs.declared.place.Mapping.TheVariants.{Unmapped, Zero, At}
 use Rattle.blk_base.specs.declared.place.Pbn.{Pbn}
 use Rattle.blk_base.specs.declared.request.Request.TheVariants as request
-use Rattle.image_model.specs.Windows.{entries_from}
-use Rattle.image_model.proofs.WindowLaws.{one_first}
-use Rattle.journal_room.specs.Room.{AreUsed, GoesOn}
 use Rattle.vdo_model.specs.Scripts.{Script}
 use Rattle.vdo_model.specs.declared.report.DeskLine.{DeskLine}
 use Rattle.core_model.specs.DeskData.{Desk}
@@ -24,7 +21,7 @@ use Rattle.core_model.specs.declared.zones.ZoneData.{ZoneData}
 use Rattle.core_model.specs.declared.zones.ZoneData.TheVariants as at
 use Rattle.core_model.specs.Limits.{HasRoomToBegin, IsWithin}
 use Rattle.core_model.specs.SessionLimits.{requests_in}
-use Rattle.core_model.specs.Sessions.{IsSession, Session, said_by}
+use Rattle.core_model.specs.Sessions.{IsSession, Session}
 use Rattle.core_model.specs.Start.{IsFirst}
 use Rattle.core_model.specs.Steps.{MayBegin, StepOf}
 use Rattle.core_model.specs.Steps.Leads.{rests, steps}
@@ -211,8 +208,9 @@ module _ (g : Geometry) where
     crowded-not_of_a_device : (stopped : Bool) (calls : ℕ) → BeginsCrowded (sizes 1 4) (at.Device (record { stopped = stopped; calls = calls })) → ⊥
     crowded-not_of_a_device stopped calls crowd = crowd
 
-  -- CanBegin: over the blocks of a journal, with a script that is served and within the limits
-  module _ (journal : List (List ℕ)) (window : List Entry) (at : Lba) where
+  -- CanBegin: with a window of the image, a block of the journal that stays free, and a script that is served and within the
+  -- limits
+  module _ (window : List Entry) (at : Lba) where
     begins-not_without_a_zone : (script : Script) → CanBegin (sizes 1 0) script window → ⊥
     begins-not_without_a_zone script can = omega (arith, can.zones)
 
@@ -224,18 +222,12 @@ module _ (g : Geometry) where
     begins-of_depth_1 script can = record {
       geometry = can.geometry;
       start = can.start;
+      used = can.used;
       zones = can.zones;
       depth = omega arith;
       limits = record { streams = can.limits.streams; depth = omega arith; requests = can.limits.requests; zones = can.limits.zones };
       served = can.served;
-      journal = can.journal;
-      count = can.count;
-      whole = can.whole;
-      last = can.last;
-      committed = can.committed;
-      is_window = can.is_window;
-      window_is = can.window_is;
-      opened = can.opened;
+      of_image = can.of_image;
     }
 
     begins-not_of_depth_0 : (script : Script) → CanBegin (of_depth 0) script window → ⊥
@@ -253,24 +245,21 @@ module _ (g : Geometry) where
     begins-not_with_17_streams : CanBegin (sizes 1 1) (replicate 17 []) window → ⊥
     begins-not_with_17_streams can = omega (arith, can.limits.streams)
 
-    begins-not_with_more_entries : (script : Script) (entry : Entry) → CanBegin (sizes 1 1) script (entry ∷ window) → ⊥
-    begins-not_with_more_entries script entry can = by can.opened
-      where
-        by : AreUsed g 1 can.journal can.last 0 → ⊥
-        by (inr none) = let some = can.geometry.journal.0 in omega (arith, none.1, some)
-        by (inl used) =
-            let is = can.is_window in
-            let first = one_first g 1 can.journal can.last is.first 1 is.is_first used.0.ends.first in
-            let none : is.blocks ≡ [] = nil_from_length is.blocks (omega (arith, is.count, first, used.1)) in
-            let size = ap length (can.window_is ∙ ap said_by (is.entries ∙ ap (entries_from is.first) none)) in
-            omega (arith, size)
+    begins-not_with_no_block_left : (script : Script) → CanBegin (record (sizes 1 1) { opened = g.journal }) script window → ⊥
+    begins-not_with_no_block_left script can = omega (arith, can.used)
 
-    begins-not_with_another_window : (script : Script) (can : CanBegin (sizes 1 1) script window) → can.committed ≡ [] → 1 ≤ length window → ⊥
-    begins-not_with_another_window script can none some = let size = ap length (can.window_is ∙ ap said_by none) in omega (arith, size, some)
+    begins-with_one_block_left : (script : Script) → CanBegin (sizes 1 1) script window → CanBegin (record (sizes 1 1) { opened = g.journal - 1 }) script window
+    begins-with_one_block_left script can = record {
+      geometry = can.geometry;
+      start = can.start;
+      used = let some = can.used in omega (arith, some);
+      zones = can.zones;
+      depth = can.depth;
+      limits = record { streams = can.limits.streams; depth = omega arith; requests = can.limits.requests; zones = can.limits.zones };
+      served = can.served;
+      of_image = can.of_image;
+    }
 
-    -- all slots but one are used where no block may follow the last one
-    begins-not_behind_a_torn_block : (script : Script) (can : CanBegin (sizes 1 1) script window) → (GoesOn g 1 can.journal can.last → ⊥) → ⊥
-    begins-not_behind_a_torn_block script can torn = elim can.opened [
-      | inl used ↦ torn used.0
-      | inr none ↦ let some = can.geometry.journal.0 in omega (arith, none.1, some)
-    ]
+    -- each entry of the window is of the image
+    begins-not_with_an_entry_past_the_image : (script : Script) (address : Lba) → g.logical ≤ address.0 → CanBegin (sizes 1 1) script (Remap address Unmapped Unmapped ∷ window) → ⊥
+    begins-not_with_an_entry_past_the_image script address past can = let inside = can.of_image.0.0 in omega (arith, inside, past)

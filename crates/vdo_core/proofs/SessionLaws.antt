@@ -1,18 +1,8 @@
--- A session for what was read of an image, whatever else is on the device: that of an image that has only this.
-use Rattle.std.proofs.Common.{ℕ, zero, suc, ◌≡◌, ◌≤◌, Bool, List, [], ◌∷◌, ◌++◌, length, take, replicate, refl, sym, ◌∙◌, ap, subst, arith, length-append}
-use Rattle.std.proofs.lemmas.List.{length-replicate}
-use Rattle.std.proofs.Math.Seq.{take-append_seam}
-use Rattle.std.specs.List.{AllByRecursion}
-use Rattle.blk_base.specs.Regions.{needed_blocks}
-use Rattle.blk_base.specs.Sectors.{zero_block}
+-- A session for what was read of an image, whatever is on the device: nothing is said of that.
+use Rattle.std.proofs.Common.{◌≡◌, ◌≤◌, Bool, List, [], ◌++◌, length, refl, sym, ◌∙◌, ap, subst, arith}
 use Rattle.blk_base.specs.declared.journal_entry.Entry.{Entry}
-use Rattle.disk_model.specs.Log.{block_at}
 use Rattle.disk_model.specs.Seen.{Seen}
-use Rattle.image_layout.specs.Values.{journal_of}
-use Rattle.image_model.specs.Windows.{IsOfImage, IsWindow}
-use Rattle.journal_room.specs.Room.{AreUsed}
 use Rattle.vdo_model.specs.Scripts.{Script}
-use Rattle.plain_laws.proofs.ListLaws.{every-append}
 use Rattle.core_model.specs.declared.sizes.Sizes.{Sizes}
 use Rattle.core_model.specs.declared.zones.Zone.{Zone}
 use Rattle.core_model.specs.declared.zones.ZoneData.{ZoneData}
@@ -34,80 +24,41 @@ use Rattle.vdo_core.specs.Plays.{LeadsTo, core_with}
 use Rattle.vdo_core.specs.Starts.{IsOf}
 use Rattle.vdo_core.specs.declared.events.Event.{Event}
 use Rattle.vdo_core.proofs.FreeLaws.{free_distinct, free_fresh}
-use Rattle.vdo_core.proofs.JournalLaws.{sealed_from, stands, window_of_image}
 use Rattle.vdo_core.proofs.NoFaults.{none_fails_by}
 use Rattle.vdo_core.proofs.PlayLaws.{leads_on}
 
-zeros_length : length zero_block ≡ 4096
-unfolding zero_block
-zeros_length = let zero : ℕ = 0 in length-replicate 4096 zero
-
-whole_at : (blocks : List (List ℕ)) (b : ℕ) → AllByRecursion (λ block. length block ≡ 4096) blocks → length (block_at blocks b) ≡ 4096
-whole_at [] b whole = zeros_length
-whole_at (block ∷ blocks) zero whole = whole.0
-whole_at (block ∷ blocks) (suc b) whole = whole_at blocks b whole.1
-
-whole_zeros : (n : ℕ) → AllByRecursion (λ block. length block ≡ 4096) (replicate n zero_block)
-whole_zeros zero = tt
-whole_zeros (suc n) = (zeros_length, whole_zeros n)
+-- any session of these sizes, script, window and free blocks can be served, whatever else it says of a device
+pub can_serve : (sizes : Sizes) (script : Script) (window : List Entry) (s : Session) → CanBegin sizes script window → IsOf s sizes script window (free_of sizes.geometry window) → IsSession s
+can_serve sizes script window s can over =
+    let same : s.sizes.geometry ≡ sizes.geometry = ap (λ (z : Sizes). z.geometry) over.sizes_is in
+    let free : s.free ≡ free_of sizes.geometry s.window = over.free_is ∙ ap (free_of sizes.geometry) (sym over.window_is) in
+    record {
+      sizes = rw over.sizes_is can.geometry;
+      start = rw over.sizes_is can.start;
+      used = rw over.sizes_is can.used;
+      zones = rw over.sizes_is can.zones;
+      limits = rw (over.sizes_is, over.script_is) can.limits;
+      served = rw over.script_is can.served;
+      of_image = rw (over.sizes_is, over.window_is) can.of_image;
+      free = rw free (free_fresh sizes.geometry can.geometry s same);
+      distinct = rw free (free_distinct sizes.geometry can.geometry s.window);
+    }
 
 module _ (sizes : Sizes) (script : Script) (window : List Entry) (can : CanBegin sizes script window) where
-  -- the image: no superblock, the journal, and zeros behind it
-  abbrev behind : List (List ℕ)
-  behind = replicate (needed_blocks sizes.geometry) zero_block
+  -- the session, with no device
+  abbrev pub bare : Session
+  bare = record { sizes = sizes; script = script; blocks = []; before = []; image = []; sealed = []; window = window; free = free_of sizes.geometry window }
 
-  abbrev image : List (List ℕ)
-  image = zero_block ∷ (can.journal ++ behind)
-
-  whole : AllByRecursion (λ block. length block ≡ 4096) image
-  whole = (zeros_length, every-append (λ block. length block ≡ 4096) can.journal behind can.whole (whole_zeros (needed_blocks sizes.geometry)))
-
-  journal_is : journal_of sizes.geometry image ≡ can.journal
-  journal_is = subst (λ (n : ℕ). take n (can.journal ++ behind) ≡ can.journal) can.count (take-append_seam can.journal behind)
-
-  pub is_window : IsWindow sizes.geometry sizes.start (journal_of sizes.geometry image) can.last can.committed
-  is_window = subst (λ (journal : List (List ℕ)). IsWindow sizes.geometry sizes.start journal can.last can.committed) (sym journal_is) can.is_window
-
-  pub opened : AreUsed sizes.geometry sizes.start (journal_of sizes.geometry image) can.last sizes.opened
-  opened = subst (λ (journal : List (List ℕ)). AreUsed sizes.geometry sizes.start journal can.last sizes.opened) (sym journal_is) can.opened
-
-  pub count : length (journal_of sizes.geometry image) ≡ sizes.geometry.journal
-  count = ap length journal_is ∙ can.count
-
-  abbrev pub imagined : Session
-  imagined = record {
-    sizes = sizes;
-    script = script;
-    blocks = image;
-    before = [];
-    image = image;
-    sealed = sealed_from image sizes.geometry sizes.start can.last can.committed can.start.0 count is_window sizes.opened opened;
-    window = window;
-    free = free_of sizes.geometry window;
-  }
-
-  pub is_of : IsOf imagined sizes script window (free_of sizes.geometry window)
+  pub is_of : IsOf bare sizes script window (free_of sizes.geometry window)
   is_of = record { sizes_is = refl; script_is = refl; window_is = refl; free_is = refl }
 
-  pub is_session : IsSession imagined
-  is_session = record {
-    sizes = can.geometry;
-    start = can.start;
-    zones = can.zones;
-    limits = can.limits;
-    room = (let all = length-append can.journal behind in let some = length-replicate (needed_blocks sizes.geometry) zero_block in omega (arith, all, some));
-    served = can.served;
-    one_image = record { size = refl; whole = λ b below. whole_at image b whole; only = λ b below. (refl, tt) };
-    journal = stands imagined can.last can.committed can.start.0 count is_window can.window_is opened refl;
-    of_image = subst (AllByRecursion (IsOfImage sizes.geometry)) (sym can.window_is) (window_of_image sizes.geometry sizes.start can.last can.journal can.committed can.is_window);
-    free = free_fresh sizes.geometry can.geometry imagined refl;
-    distinct = free_distinct sizes.geometry can.geometry window;
-  }
+  pub is_session : IsSession bare
+  is_session = can_serve sizes script window bare can is_of
 
   -- a first core of it is reached
-  abbrev pub first_reached : (zones : List Zone) → IsFirst imagined (core_with zones []) → IsReached sizes zones
+  abbrev pub first_reached : (zones : List Zone) → IsFirst bare (core_with zones []) → IsReached sizes zones
   first_reached zones begins = record {
-    session = imagined;
+    session = bare;
     first = zones;
     trace = [];
     sizes_are = refl;

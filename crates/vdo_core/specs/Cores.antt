@@ -1,17 +1,15 @@
 -- A core as a whole, and what it can begin with.
-use Rattle.std.specs.Prelude.{ℕ, ◌≡◌, ◌<◌, ◌≤◌, ◌^◌, List, [], length}
+use Rattle.std.specs.Prelude.{ℕ, ◌≡◌, ◌<◌, ◌≤◌, ◌^◌, List, []}
 use Rattle.std.specs.List.{AllByRecursion}
 use Rattle.blk_base.specs.Limits.{IsGeometry}
 use Rattle.blk_base.specs.declared.geometry.Super.{Super}
-use Rattle.blk_base.specs.declared.journal_entry.CommittedEntry.{CommittedEntry}
 use Rattle.blk_base.specs.declared.journal_entry.Entry.{Entry}
-use Rattle.image_model.specs.Windows.{IsWindow}
-use Rattle.journal_room.specs.Room.{AreUsed}
+use Rattle.image_model.specs.Windows.{IsOfImage}
 use Rattle.vdo_model.specs.Scripts.{Script}
 use Rattle.core_model.specs.declared.sizes.Sizes.{Sizes}
 use Rattle.core_model.specs.declared.zones.Zone.{Zone}
 use Rattle.core_model.specs.SessionLimits.{IsLimited}
-use Rattle.core_model.specs.Sessions.{Session, IsSession, IsServed, said_by}
+use Rattle.core_model.specs.Sessions.{Session, IsSession, IsServed}
 use Rattle.core_model.specs.Start.{IsFirst}
 use Rattle.core_model.specs.Steps.{Leads}
 use Rattle.core_model.specs.Trace.{Trace}
@@ -45,20 +43,15 @@ sizes_of setup head used =
     record { geometry = head.geometry; start = head.start; opened = used; zones = setup.logical_zones; depth = setup.depth }
 
 -- A core can begin with these sizes, this script and the entries of the window, the newest first: the session is no larger
--- than it may be, its requests are served, and the blocks of some journal have that window, and so many of them are used.
+-- than it may be, one block of the journal stays free, its requests are served, and the entries are of an image of these sizes.
+-- Of what the device has nothing is asked.
 pub record CanBegin (sizes : Sizes) (script : Script) (window : List Entry) : Type 0 where
   pub geometry : IsGeometry sizes.geometry
   pub start : (1 ≤ sizes.start) × (sizes.start < 2 ^ 54)
+  pub used : sizes.opened < sizes.geometry.journal
   pub zones : 1 ≤ sizes.zones
   -- a request may be under way
   pub depth : 1 ≤ sizes.depth
   pub limits : IsLimited sizes script
   pub served : AllByRecursion (AllByRecursion IsServed) script
-  pub journal : List (List ℕ)
-  pub count : length journal ≡ sizes.geometry.journal
-  pub whole : AllByRecursion (λ block. length block ≡ 4096) journal
-  pub last : ℕ
-  pub committed : List CommittedEntry
-  pub is_window : IsWindow sizes.geometry sizes.start journal last committed
-  pub window_is : window ≡ said_by committed
-  pub opened : AreUsed sizes.geometry sizes.start journal last sizes.opened
+  pub of_image : AllByRecursion (IsOfImage sizes.geometry) window

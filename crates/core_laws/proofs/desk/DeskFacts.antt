@@ -1,6 +1,6 @@
 -- What the acts of the desk owe.
 use Rattle.std.proofs.Common.{◌≡◌, ℕ, ◌+◌, ◌<◌, ◌≤◌, if◌then◌else◌, Bool, true, false, nat_lt, Option, None, Some, IsNone, List, [], ◌∷◌, refl, ap, sym, ◌∙◌, subst, inl, inr, arith}
-use Rattle.core_laws.proofs.Common.{AllByRecursion, Answer as Reply, Asks, Desk, DeskLine, Flushes, FlushMark, HasAddress, HasCause, IsEarned, IsNextLine, IsOpen, IsSession, KeptOk, Lba, MayAnswer, MayReply, Phase, Post, Request, RightTrace, Says, Session, Sizes, Trace, Vio, Writer, answer_of, asked, begun, begun_vio, cases_Bool, desk_zone, done, eqb_tells, every-append, has_stopped, lines, logged_of, ltb-false, ltb-true, moments, none_is, notified_zones, option_cases, request_at, request_of, same_Some, same_tells, zone_at, zone_of, IsForBlock}
+use Rattle.core_laws.proofs.Common.{AllByRecursion, Answer as Reply, Asks, Desk, DeskLine, Flushes, FlushMark, HasAddress, HasCause, IsEarned, IsNextLine, IsOpen, IsSession, KeptOk, Lba, MayAnswer, MayReply, Phase, Post, Request, RightTrace, Says, Session, Sizes, Trace, Vio, Writer, answer_of, asked, begun, begun_vio, cases_Bool, desk_zone, done, eqb_tells, every-append, fair_before, has_stopped, lines, logged_of, ltb-false, ltb-true, moments, none_is, notified_zones, option_cases, request_at, request_of, same_Some, same_tells, zone_at, zone_of, IsForBlock}
 use Rattle.blk_base.specs.Sectors.{zero_block}
 use Rattle.blk_base.specs.declared.place.ZoneId.TheVariants as id
 use Rattle.blk_base.specs.declared.request.Answer.TheVariants as reply
@@ -167,7 +167,7 @@ desk_begins {s} {t} {n} {old} known new made posts (DeskBegins.answers w r v a n
     let second = plain_clears known answered (began ∷ t) tt own.number_is (unborn (late s t w known.session known.right next)) tt in
     rw (i, m, q) (record {
       right = (((open_now.is_begun, open_now.unanswered), all), shown_plain s (began ∷ t) answered tt begun_right.1, begun_right);
-      gives = λ gives. gives;
+      gives = λ gives fair. gives (fair_before s began t (fair_before s answered (began ∷ t) fair));
       owns = (reaches known second, (reaches known first, tt));
       own = record {
         number_is = own.number_is;
@@ -190,7 +190,7 @@ desk_begins {s} {t} {n} {old} known new made posts (DeskBegins.sends w r v next_
     let asked : request_at s.script w ≡ Some r = rw own.sound.requests at asks in
     let began = Says (line.Begin w) in
     let clears = plain_clears known began t tt own.number_is tt tt in
-    rw (i, m, q) (act_one known began clears (λ gives. gives) (begins_right s t w known.session known.right next)
+    rw (i, m, q) (act_one known began clears (λ gives fair. gives (fair_before s began t fair)) (begins_right s t w known.session known.right next)
     (record {
       number_is = own.number_is;
       lists = record { log_is = ap (λ (ls : List DeskLine). line.Begin w ∷ ls) own.lists.log_is; marks_is = own.lists.marks_is };
@@ -255,7 +255,7 @@ module _ {s : Session} {t : Trace} {n : ℕ} {old : Desk} {v : Vio} (known : Kno
       let own = known.own in
       let h = Says (line.Answer v.request a) in
       let clears = plain_clears known h t tt own.number_is (own_request known) tt in
-      rw (i, m, q) (act_one known h clears (λ gives. gives)
+      rw (i, m, q) (act_one known h clears (λ gives fair. gives (fair_before s h t fair))
       ((((vio_ok known).is_open.is_begun, (vio_ok known).is_open.unanswered), answer_cause is a answer unmarked), shown_plain s t h tt (shown_of s t known.right), known.right)
       (record {
         number_is = own.number_is;
@@ -274,7 +274,7 @@ module _ {s : Session} {t : Trace} {n : ℕ} {old : Desk} {v : Vio} (known : Kno
       let mark : FlushMark = mark_of_vio v in
       let h = Flushes mark in
       let clears = plain_clears known h t tt own.number_is (own_request known) tt in
-      rw (i, m, q) (act_one known h clears (λ gives. gives)
+      rw (i, m, q) (act_one known h clears (λ gives fair. gives (fair_before s h t fair))
       ((((vio_ok known).is_open.is_begun, (vio_ok known).is_open.unanswered), flush_asked flush, flush_mark is flush answer), shown_plain s t h tt (shown_of s t known.right), known.right)
       (record {
         number_is = own.number_is;

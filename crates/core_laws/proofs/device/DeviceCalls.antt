@@ -1,6 +1,6 @@
 -- The device's calls: what they write, what reads give, and which data blocks they are of.
 use Rattle.std.proofs.Common.{◌≡◌, ◌≢◌, ℕ, zero, suc, ◌*◌, ◌<◌, ◌≤◌, ◌^◌, Bool, Some, List, [], ◌∷◌, ◌++◌, length, length-append, get_or, subst, inl, inr, arith, ◌⊎◌, false, Option, None, ap, sym, ◌∙◌, ◌+◌, true, refl}
-use Rattle.core_laws.proofs.Common.{all_of, AllByRecursion, AreAllThere, asked, Asks, AtRest, Call, Calls, ComesLast, committed, device_zone, done, entered, entries_of, Entry, entry_of, eqb_tells, every-front, every-get, every-map, filled, Geometry, Happening, HasBlocks, HasWholeBlocks, IsFresh, IsServed, IsSession, IsWrite, Lba, log, Logged, Mapping, MayFollow, newest, NewStands, of_address, OnBlock, OnItsWay, Pbn, Quiet, ReadsAs, ReadsBlock, Request, request_at, RightTrace, sealed, Session, Stands, Trace, value_from, value_written, Writer}
+use Rattle.core_laws.proofs.Common.{all_of, AllByRecursion, AreAllThere, asked, Asks, AtRest, Call, Calls, ComesLast, committed, device_zone, done, entered, entries_of, Entry, entry_of, eqb_tells, every-front, every-get, every-map, filled, Geometry, Happening, HasBlocks, HasWholeBlocks, IsAsOpened, IsFair, IsFresh, IsServed, IsSession, IsWrite, Lba, log, Logged, Mapping, MayFollow, newest, NewStands, of_address, OnBlock, OnItsWay, Pbn, Quiet, ReadsAs, ReadsBlock, Request, request_at, RightTrace, sealed, Session, Shown, Stands, Trace, value_from, value_written, Writer}
 use Rattle.std.proofs.Math.Nat.{mod-lt, mul-le-mul_left}
 use Rattle.std.proofs.lemmas.List.Elements.{All-from_recursion}
 use Rattle.blk_base.specs.Limits.{IsGeometry, logical_limit}
@@ -90,10 +90,10 @@ whole_written s w asks.Discard at bytes session is = zeros_length
 whole_written s w asks.Flush at bytes session is = zeros_length
 
 -- A block that the window names had 4096 bytes.
-pub window_whole : (s : Session) (a : ℕ) (x : Pbn) → IsSession s → mapping_of s.window a ≡ At x → length (block_at s.image x.0) ≡ 4096
-window_whole s a x session is = session.one_image.whole x.0 (omega (arith, data_block_inside s.sizes.geometry x.0 (window_data s a x session is), session.room))
+pub window_whole : (s : Session) (a : ℕ) (x : Pbn) → IsSession s → IsAsOpened s → mapping_of s.window a ≡ At x → length (block_at s.image x.0) ≡ 4096
+window_whole s a x session opened is = opened.one_image.whole x.0 (omega (arith, data_block_inside s.sizes.geometry x.0 (window_data s a x session is), opened.room))
 
--- A read of the device gives the value of its address, where the device is honest.
+-- A read of the device gives the value of its address, where the session is fair.
 
 -- what stands is what a read gives
 pub stands_reads : (s : Session) (t : Trace) (x : ℕ) (bytes : List ℕ) → Stands s t x bytes → ReadsAs s t x bytes
@@ -117,13 +117,13 @@ none_between front (e ∷ between) behind is =
     absurd (omega (arith, longer, all, rest))
 
 -- What an address has, by its last write or the window.
-module _ (s : Session) (t : Trace) (session : IsSession s) (right : RightTrace s t) where
+module _ (s : Session) (t : Trace) (session : IsSession s) (right : RightTrace s t) (fair : IsFair s t) where
   newest_of : (P : Logged → Type 0) (es : List Logged) (a : ℕ) (e : Logged) → newest (of_address a es) ≡ Some e → AllByRecursion P es → P e
   newest_of P es a e is all = newest_has P (of_address a es) e is (each_of_address P a es all)
 
   -- a value that is mapped to a block is whole
   pub value_whole : (es : List Logged) (a : ℕ) (x : Pbn) (o : Option Logged) → AllByRecursion (IsWrite s t) es → newest (of_address a es) ≡ o → mapped_by o (mapping_of s.window a) ≡ At x → length (value_from s a o) ≡ 4096
-  value_whole es a x None writes is maps = let value : value_of s.image s.window a ≡ device.block_at s.image x.0 = ap (value_in s.image) maps in ap length value ∙ window_whole s a x session maps
+  value_whole es a x None writes is maps = let value : value_of s.image s.window a ≡ device.block_at s.image x.0 = ap (value_in s.image) maps in ap length value ∙ window_whole s a x session fair.opened maps
   value_whole es a x (Some e) writes is maps =
       let write = newest_of (IsWrite s t) es a e is writes in
       ap (λ o. length (value_written o)) write.asked ∙ whole_written s e.request write.asks e.at write.bytes session write.asked
@@ -154,14 +154,14 @@ module _ (s : Session) (t : Trace) (session : IsSession s) (right : RightTrace s
       by (inl rest) = rest.1 a
       by (inr way) = way.1 a
 
-  -- a read of the block that an address is mapped to gives its value, where the device is honest
+  -- a read of the block that an address is mapped to gives its value
   pub read_value : (a : ℕ) (latest : Option Logged) (x : Pbn) (bytes : List ℕ) → Quiet t a → latest ≡ newest (of_address a (done t)) → mapped_by latest (mapping_of s.window a) ≡ At x
       → length bytes ≡ 4096 → IsMixOf (device.settled s.blocks (log s t) x.0) bytes → bytes ≡ value_from s a latest
   read_value a latest x bytes quiet is maps size mix =
       let same : newest (of_address a (committed t)) ≡ latest = ap newest quiet.all_done ∙ sym is in
       let maps_now : mapping_of (entries_of s.window (committed t)) a ≡ At x = mapping_by s.window (committed t) a ∙ ap (λ o. mapped_by o (mapping_of s.window a)) same ∙ maps in
       let here : Stands s t x.0 (value_from s a (newest (of_address a (committed t))))
-      = subst (OnBlock (λ y. Stands s t y.0 (value_from s a (newest (of_address a (committed t)))))) maps_now (quiet_stands a quiet (shown_of s t right).journal) in
+      = subst (OnBlock (λ y. Stands s t y.0 (value_from s a (newest (of_address a (committed t)))))) maps_now (quiet_stands a quiet (shown_of s t right fair).journal) in
       let stands : Stands s t x.0 (value_from s a latest) = subst (λ (o : Option Logged). Stands s t x.0 (value_from s a o)) same here in
       block_of_mix (device.settled s.blocks (log s t) x.0) (value_from s a latest) bytes (value_whole (done t) a x latest (done_writes s t right) (sym is) maps) size mix (stands_reads s t x.0 _ stands)
 
@@ -206,8 +206,8 @@ store_reads s t x bytes = subst (λ (options : List (List ℕ)). AllByRecursion 
 -- The block of some entries.
 
 -- where a block is left, the journal of the opened image has whole blocks, and those of the writes stand on them
-pub whole_opening : (s : Session) → IsSession s → s.sizes.opened + 1 < s.sizes.geometry.journal → HasWholeBlocks s
-whole_opening s session left = by session.journal
+pub whole_opening : (s : Session) → IsAsOpened s → s.sizes.opened + 1 < s.sizes.geometry.journal → HasWholeBlocks s
+whole_opening s opened left = by opened.journal
   where
     by : HasWholeBlocks s ⊎ HasNoneLeft s → HasWholeBlocks s
     by (inl whole) = whole
@@ -320,13 +320,9 @@ module _ (s : Session) (t : Trace) (older : List (List Logged)) (es : List Logge
   pub slot_reads : ReadsBlock s (Calls (Write slot bytes true) ∷ t) older es
   slot_reads = is_written s.blocks (log s t) s.sizes.geometry s.sizes.start (blocks_of s older) (sealed_with s es) slot bytes place says
 
-  pub slot_call : (h : Happening) (ok : Bool) → IsCallOf h (Write slot bytes ok) → MayFollow s h t → AtRest s (h ∷ t) older ⊎ OnItsWay s (h ∷ t) older es → committed t ≡ all_of older → RightTrace s (h ∷ t)
-  slot_call h ok is may stands committed_is = (
-    may,
-    record {
-      superblock = stands_kept s h t 0 _ (block_spared is 0 (λ same. omega (arith, same, place))) (shown_of s t right).superblock;
-      journal = inr (record { block = es; older = older; sealed_is = (call_sealed s t is).sealed_same ∙ sealed_is; committed_is = (call_sealed s t is).committed_same ∙ committed_is; stands = stands });
-      filling = rw (call_filled t is) (new_reads_kept s h t (filled t) (data_spared h ok is (filled t) parts.0) (shown_of s t right).filling);
-    },
-    right,
-  )
+  pub slot_shown : (h : Happening) (ok : Bool) → IsCallOf h (Write slot bytes ok) → AtRest s (h ∷ t) older ⊎ OnItsWay s (h ∷ t) older es → committed t ≡ all_of older → Shown s t → Shown s (h ∷ t)
+  slot_shown h ok is stands committed_is stood = record {
+    superblock = stands_kept s h t 0 _ (block_spared is 0 (λ same. omega (arith, same, place))) stood.superblock;
+    journal = inr (record { block = es; older = older; sealed_is = (call_sealed s t is).sealed_same ∙ sealed_is; committed_is = (call_sealed s t is).committed_same ∙ committed_is; stands = stands });
+    filling = rw (call_filled t is) (new_reads_kept s h t (filled t) (data_spared h ok is (filled t) parts.0) stood.filling);
+  }

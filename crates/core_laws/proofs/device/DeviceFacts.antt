@@ -1,6 +1,6 @@
 -- What the acts of the device zone owe: it stores, loads and flushes for requests, and flushes and writes for sealed blocks.
 use Rattle.std.proofs.Common.{◌≡◌, ℕ, zero, suc, ◌+◌, ◌<◌, ◌≤◌, Bool, true, false, Some, IsSome, List, [], ◌∷◌, ◌++◌, map, refl, ap, sym, ◌∙◌, subst, inl, inr, arith, ◌⊎◌}
-use Rattle.core_laws.proofs.Common.{all_logged, all_of, AllByRecursion, asked, Asks, AtRest, Call, calls, Calls, DataOk, DeviceZone, done, each_at, ended, entered, Entry, entry_of, eqb_tells, every-map, Fails, FailureMayFollow, Happening, has_read_fault, has_stopped, HasAddress, HasCause, HasHonestReads, HasWholeBlocks, is_ok, is_read, IsChange, IsEarned, IsFresh, IsMadeFor, IsOpen, IsSealed, IsSession, IsToFresh, KeptOk, Lba, log, logged, Logged, logical_zones, Mapping, MapsTo, MayFollow, moments, NewReads, NewStands, notified, OnBlock, OnItsWay, Pbn, place_of, places, Post, ReadsAs, ReadsBlock, request_of, RightTrace, same_self, same_Some, SealedBlock, Session, Sizes, some_is, Stage, StandsAt, Trace, value_at, value_from, Vio, VioOk, Writer, zone_count, zone_number}
+use Rattle.core_laws.proofs.Common.{all_logged, all_of, AllByRecursion, asked, Asks, AtRest, Call, calls, Calls, DataOk, DeviceZone, done, each_at, ended, entered, Entry, entry_of, eqb_tells, every-map, Fails, FailureMayFollow, fair_before, Happening, has_read_fault, has_stopped, HasAddress, HasCause, HasWholeBlocks, is_ok, is_read, IsAsOpened, IsChange, IsEarned, IsFair, IsFresh, IsMadeFor, IsOpen, IsSealed, IsSession, IsToFresh, KeptOk, Lba, log, logged, Logged, logical_zones, Mapping, MapsTo, MayFollow, moments, NewReads, NewStands, notified, OnBlock, OnItsWay, Pbn, place_of, places, Post, ReadsAs, ReadsBlock, request_of, RightTrace, same_self, same_Some, SealedBlock, Session, Shown, Sizes, some_is, Stage, StandsAt, Trace, value_at, value_from, Vio, VioOk, Writer, zone_count, zone_number}
 use Rattle.image_layout.specs.Values.{mapping_of}
 use Rattle.vdo_model.specs.FlushMarks.{IsMark, successes}
 use Rattle.core_model.specs.declared.items.Asks.TheVariants.{Read, Write, Discard, Flush}
@@ -9,13 +9,13 @@ use Rattle.core_model.specs.DeviceRows.{DeviceServes, counted, stop_notices, Dev
 use Rattle.core_model.specs.LogicalRows.{mapped_by}
 use Rattle.core_laws.proofs.kept.ActKept.{Known, Mine, weighed, PostOk, ActKept, act_none, act_one, vio_ok, in_phase, carries_at}
 use Rattle.core_laws.proofs.kept.Keys.{OfBlock, Clears, claim_one}
-use Rattle.core_laws.proofs.device.DeviceCalls.{IsSpelled, call_clears, data_misses, old_data, quiet_call, quiet_journal, read_value, slot_call, slot_misses, slot_reads, slot_way, spelled_sealed, store_call, store_reads, whole_opening}
+use Rattle.core_laws.proofs.device.DeviceCalls.{IsSpelled, call_clears, data_misses, old_data, quiet_call, quiet_journal, read_value, slot_misses, slot_reads, slot_shown, slot_way, spelled_sealed, store_call, store_reads, whole_opening}
 use Rattle.core_laws.proofs.journal.SealedBlocks.{blocks_length, entries_in_order, every_logged, logged_length}
 use Rattle.image_model.specs.Windows.{LeadsToData}
 use Rattle.disk_model.specs.Log.{Misses}
 use Rattle.core_laws.proofs.kept.Carried.{holds_kept, looks_kept, pending_over, sealed_kept, vio_kept}
 use Rattle.core_laws.proofs.journal.JournalFacts.{home_within, stopped_post}
-use Rattle.core_laws.proofs.kept.Spared.{mapping_by, honest_before}
+use Rattle.core_laws.proofs.kept.Spared.{mapping_by}
 use Rattle.core_laws.proofs.kept.StandsOn.{AreElsewhere, IsCallOf, block_spared, call_sealed, failed, journal_spared, map_kept, map_more, new_kept, on_each, rests_kept, rests_unlogged, spares_all, succeeded, way_kept, write_spares}
 use Rattle.blk_base.specs.Regions.{journal_slot_of, IsDataBlock}
 use Rattle.journal_codec.specs.Spelling.{block_bytes}
@@ -33,7 +33,7 @@ use Rattle.journal_stops.specs.Rings.{IsWhole, place_of as slot_place}
 use Rattle.journal_stops.specs.Sealed.{next_of}
 use Rattle.journal_stops.proofs.StepLaws.{spelled_whole, ends}
 use Rattle.core_model.specs.Sessions.{blocks_of, sealed_with}
-use Rattle.core_laws.proofs.trace.DeskOfTrace.{HasData, all_done, committed_data}
+use Rattle.core_laws.proofs.trace.DeskOfTrace.{HasData, all_done, committed_data, shown_of}
 use Rattle.journal_stops.specs.Sealed.{IsSealed as IsSealedBlock}
 
 -- a write changes its block
@@ -113,8 +113,8 @@ module _ {s : Session} {t : Trace} {n : ℕ} {old : DeviceZone} {v : Vio} (known
       (inr (call_sealed s t is, journal_spared s is (data_misses s.sizes.geometry x v.bytes success fresh.is_data), ((λ a y named. block_spared is y.0 (λ same. fresh.unnamed a y named (sym same))), write_spares is (entered t) (unnamed x store to))))
 
   -- what it carries then to the journal
-  stored_carries : (u : Trace) (x : Pbn) (q : Asks) (m : Mapping) → q ≡ Write → m ≡ At x → IsFresh s x → ReadsAs s u x.0 v.bytes → MapsTo q v.bytes m × OnBlock (IsFresh s) m × OnBlock (λ y. ReadsAs s u y.0 v.bytes) m
-  stored_carries u x q m is to fresh reads = rw (is, to) (tt, fresh, reads)
+  stored_carries : (u : Trace) (x : Pbn) (q : Asks) (m : Mapping) → q ≡ Write → m ≡ At x → IsFresh s x → ReadsAs s u x.0 v.bytes → MapsTo q v.bytes m × OnBlock (IsFresh s) m × (IsFair s u → OnBlock (λ y. ReadsAs s u y.0 v.bytes) m)
+  stored_carries u x q m is to fresh reads = rw (is, to) (tt, fresh, λ fair. reads)
 
   -- the read of its block is made for it
   made_for : (x : Pbn) (bytes : List ℕ) (success : Bool) → v.phase ≡ phase.Load → v.old ≡ At x → IsMadeFor s t v.request (call.Read x bytes success)
@@ -122,11 +122,11 @@ module _ {s : Session} {t : Trace} {n : ℕ} {old : DeviceZone} {v : Vio} (known
       let carries = in_phase known phase.Load is in
       (v.at, (vio_ok known).asked ∙ ap (λ q. Some (asked q v.at v.bytes)) carries.0.is_read, sym carries.0.held.old_is ∙ from)
 
-  load_value : (x : Pbn) (bytes : List ℕ) → v.phase ≡ phase.Load → v.old ≡ At x → HasHonestReads s (Calls (call.Read x bytes true) ∷ t) → bytes ≡ value_at s t v.at.0
-  load_value x bytes is from honest =
+  load_value : (x : Pbn) (bytes : List ℕ) → v.phase ≡ phase.Load → v.old ≡ At x → IsFair s (Calls (call.Read x bytes true) ∷ t) → bytes ≡ value_at s t v.at.0
+  load_value x bytes is from fair =
       let carries = in_phase known phase.Load is in
       let maps = ap (λ o. mapped_by o (mapping_of s.window v.at.0)) carries.0.latest ∙ sym (mapping_by s.window (done t) v.at.0) ∙ sym carries.0.held.old_is ∙ from in
-      read_value s t known.session known.right v.at.0 v.latest x bytes carries.0.held.quiet carries.0.latest maps honest.0 honest.1 ∙ ap (value_from s v.at.0) carries.0.latest
+      read_value s t known.session known.right (fair_before s (Calls (call.Read x bytes true)) t fair) v.at.0 v.latest x bytes carries.0.held.quiet carries.0.latest maps fair.honest.0 fair.honest.1 ∙ ap (value_from s v.at.0) carries.0.latest
 
   pub device_serves : (new : DeviceZone) (made : Trace) (posts : List Post) → DeviceServes s.sizes old v new made posts → ActKept s t n (at.Device old) (item.Request v ∷ []) (at.Device new) made posts
   device_serves new made posts (device.stores x is to runs inside e m p) =
@@ -134,7 +134,7 @@ module _ {s : Session} {t : Trace} {n : ℕ} {old : DeviceZone} {v : Vio} (known
       let carries = in_phase known phase.Store is in
       let fresh : IsFresh s x = subst (IsToFresh s) to carries.2 in
       let stored_now = stored_carries (h ∷ t) x v.asks v.new carries.1 to fresh (store_reads s t x v.bytes) in
-      rw (e, m, p) (act_one known h (stored x true succeeded is to fresh) (λ g honest. g honest)
+      rw (e, m, p) (act_one known h (stored x true succeeded is to fresh) (λ g fair. g (fair_before s h t fair))
       (store_call s t x v.bytes true succeeded (record { succeeds = refl; goes_on = λ writes. goes runs }) fresh (unnamed x is to) known.right) (after_call known.own (call.Write x v.bytes true) refl)
       ((omega arith, (vio_kept s h t v tt (vio_ok known), (holds_kept s h t v tt tt carries.0, stored_now.0, stored_now.1, stored_now.2), refl)), tt))
   device_serves new made posts (device.store_fails x kept is to runs inside e m p) =
@@ -143,7 +143,7 @@ module _ {s : Session} {t : Trace} {n : ℕ} {old : DeviceZone} {v : Vio} (known
       let carries = in_phase known phase.Store is in
       let fresh : IsFresh s x = subst (IsToFresh s) to carries.2 in
       let now = store_call s t x v.bytes false failed (record { is_open = (vio_ok known).is_open; fails = refl; goes_on = λ writes. goes runs; made_for = tt }) fresh (unnamed x is to) known.right in
-      rw (e, m, p) (act_one known h (stored x false failed is to fresh) (λ g honest. g honest) now (after_failure known.own v.request c kept true refl refl)
+      rw (e, m, p) (act_one known h (stored x false failed is to fresh) (λ g fair. g (fair_before s h t fair)) now (after_failure known.own v.request c kept true refl refl)
       (stopped_post s (h ∷ t) v now refl (vio_kept s h t v tt (vio_ok known)) (holds_kept s h t v tt tt carries.0) (write_changes v.asks carries.1), notices_ok s (h ∷ t) refl))
   device_serves new made posts (device.store_unmade is halts e m p) =
       let carries = in_phase known phase.Store is in
@@ -152,13 +152,13 @@ module _ {s : Session} {t : Trace} {n : ℕ} {old : DeviceZone} {v : Vio} (known
       let c = call.Read x bytes true in
       let carries = in_phase known phase.Load is in
       let here = vio_kept s (Calls c) t v tt (vio_ok known) in
-      rw (e, m, p) (act_one known (Calls c) (quiet c succeeded (λ y. tt)) (λ g honest. g honest.2)
+      rw (e, m, p) (act_one known (Calls c) (quiet c succeeded (λ y. tt)) (λ g fair. g (fair_before s (Calls c) t fair))
       (quiet_call s t c succeeded (record { succeeds = refl; goes_on = λ (writes : true ≡ false). absurd cc }) (λ x. tt) known.right) (after_call known.own c refl) (
         (
           home,
           (
             record { asked = here.asked ∙ ap Some (asks_same v.asks v.at v.bytes bytes carries.0.is_read); is_open = here.is_open; address = here.address; home = here.home },
-            (looks_kept s (Calls c) t v tt tt carries.0, λ honest. load_value x bytes is from honest),
+            (looks_kept s (Calls c) t v tt tt carries.0, λ fair. load_value x bytes is from fair),
             refl,
           ),
         ),
@@ -169,21 +169,21 @@ module _ {s : Session} {t : Trace} {n : ℕ} {old : DeviceZone} {v : Vio} (known
       let h = Fails v.request c kept in
       let k = looks_kept s h t v tt tt (in_phase known phase.Load is).0 in
       let may : FailureMayFollow s v.request c t = record { is_open = (vio_ok known).is_open; fails = refl; goes_on = λ (writes : true ≡ false). absurd cc; made_for = made_for x bytes false is from } in
-      rw (e, m, p) (act_one known h (quiet c failed (λ x. tt)) (λ g honest. g honest) (quiet_call s t c failed may (λ x. tt) known.right) (after_failure known.own v.request c kept old.stopped refl known.own.lists.stopped_is)
+      rw (e, m, p) (act_one known h (quiet c failed (λ x. tt)) (λ g fair. g (fair_before s h t fair)) (quiet_call s t c failed may (λ x. tt) known.right) (after_failure known.own v.request c kept old.stopped refl known.own.lists.stopped_is)
       ((home, (vio_kept s h t v tt (vio_ok known), (k.held, cause_fault s (h ∷ t) v.request v.asks v.at v.bytes k.is_read (some_is _ _ k.held.is_placed.placed) (rw (same_self v.request) refl)), refl)), tt))
   device_serves new made posts (device.flushes is runs e m p) =
       let c = call.Flush true in
       let h = Calls c in
       let mark : IsMark (moments (h ∷ t)) (mark_of_vio (answered_flush old v))
       = record { later = []; older = moments t; at = refl; calls = ap (λ m. m + 1) known.own.lists.calls_is; begun_by_then = (vio_ok known).is_open.is_begun; not_answered = (vio_ok known).is_open.unanswered } in
-      rw (e, m, p) (act_one known h (quiet c succeeded (λ x. tt)) (λ g honest. g honest) (quiet_call s t c succeeded (record { succeeds = refl; goes_on = λ writes. goes runs }) (λ x. tt) known.right)
+      rw (e, m, p) (act_one known h (quiet c succeeded (λ x. tt)) (λ g fair. g (fair_before s h t fair)) (quiet_call s t c succeeded (record { succeeds = refl; goes_on = λ writes. goes runs }) (λ x. tt) known.right)
       (after_call known.own c refl)
       ((omega arith, (vio_kept s h t v tt (vio_ok known), subst (λ (q : Asks). IsEarned s (h ∷ t) (mark_of_vio (answered_flush old v)) (request_of v) reply.Ok (is_marked q reply.Ok)) (sym (in_phase known phase.Flush is)) mark, refl)), tt))
   device_serves new made posts (device.flush_fails kept is runs e m p) =
       let c = call.Flush false in
       let h = Fails v.request c kept in
       let may : FailureMayFollow s v.request c t = record { is_open = (vio_ok known).is_open; fails = refl; goes_on = λ writes. goes runs; made_for = tt } in
-      rw (e, m, p) (act_one known h (quiet c failed (λ x. tt)) (λ g honest. g honest) (quiet_call s t c failed may (λ x. tt) known.right) (after_failure known.own v.request c kept true refl refl)
+      rw (e, m, p) (act_one known h (quiet c failed (λ x. tt)) (λ g fair. g (fair_before s h t fair)) (quiet_call s t c failed may (λ x. tt) known.right) (after_failure known.own v.request c kept true refl refl)
       (unflushed_post s (h ∷ t) v refl (vio_kept s h t v tt (vio_ok known)) (in_phase known phase.Flush is), notices_ok s (h ∷ t) refl))
   device_serves new made posts (device.flush_unmade is halts e m p) =
       rw (e, m, p) (act_none known known.own (unflushed_post s t v (sym known.own.lists.stopped_is ∙ halts) (vio_ok known) (in_phase known phase.Flush is), tt))
@@ -229,7 +229,7 @@ spelled s t v session right k =
     }
 
 module _ (s : Session) (t : Trace) (b : SealedBlock) (session : IsSession s) (vios : AllByRecursion (KeptOk s t phase.Pending) b.vios) (right : RightTrace s t) (k : IsSealed s t b.vios b.sequence)
-    (head : b.head ≡ s.sizes.start) where
+    (head : b.head ≡ s.sizes.start) (as_opened : IsAsOpened s) where
   abbrev es : List Logged
   es = all_logged b.vios
 
@@ -237,7 +237,7 @@ module _ (s : Session) (t : Trace) (b : SealedBlock) (session : IsSession s) (vi
   left_before = let left = k.left in omega (arith, left)
 
   whole : HasWholeBlocks s
-  whole = whole_opening s session left_before
+  whole = whole_opening s as_opened left_before
 
   sequence_is : b.sequence ≡ next_of s.sizes.start (blocks_of s k.older)
   sequence_is = let opened = whole.opened in let at = k.sequence in omega (arith, at, opened, blocks_length s k.older)
@@ -268,79 +268,108 @@ module _ (s : Session) (t : Trace) (b : SealedBlock) (session : IsSession s) (vi
     pub right : RightTrace s (h ∷ t)
     pub stands : StandsAt s (h ∷ t) b.vios b.sequence next
 
-  -- the slot is written
-  module _ (right : RightTrace s t) (k : IsSealed s t b.vios b.sequence) (slot : Pbn) (place : IsItsSlot s.sizes b slot) (rest : AtRest s t k.older) (new : NewStands s t (all_logged b.vios)) where
+  -- the slot is written, where the session is fair
+  module _ (right : RightTrace s t) (k : IsSealed s t b.vios b.sequence) (slot : Pbn) (place : IsItsSlot s.sizes b slot) (fair : IsFair s t) (rest : AtRest s t k.older) (new : NewStands s t (all_logged b.vios)) where
     way_on : (ok : Bool) → OnItsWay s (Calls (call.Write slot (journal_bytes s.sizes b) ok) ∷ t) k.older (all_logged b.vios)
-    way_on ok = slot_way s t k.older (all_logged b.vios) slot (journal_bytes s.sizes b) session (all_fresh s t b session vios right k head) (can_seal s t b session vios right k head) (place_is s t b session vios right k head slot place)
-        (says s t b session vios right k head) right (left_before s t b session vios right k head) k.sealed_is rest new ok
+    way_on ok = slot_way s t k.older (all_logged b.vios) slot (journal_bytes s.sizes b) session (all_fresh s t b session vios right k head fair.opened) (can_seal s t b session vios right k head fair.opened)
+        (place_is s t b session vios right k head fair.opened slot place) (says s t b session vios right k head fair.opened) right (left_before s t b session vios right k head fair.opened) k.sealed_is rest new ok
 
     reads_on : ReadsBlock s (Calls (call.Write slot (journal_bytes s.sizes b) true) ∷ t) k.older (all_logged b.vios)
-    reads_on = slot_reads s t k.older (all_logged b.vios) slot (journal_bytes s.sizes b) session (all_fresh s t b session vios right k head) (can_seal s t b session vios right k head) (place_is s t b session vios right k head slot place)
-        (says s t b session vios right k head) right (left_before s t b session vios right k head) k.sealed_is rest new
+    reads_on = slot_reads s t k.older (all_logged b.vios) slot (journal_bytes s.sizes b) session (all_fresh s t b session vios right k head fair.opened) (can_seal s t b session vios right k head fair.opened)
+        (place_is s t b session vios right k head fair.opened slot place) (says s t b session vios right k head fair.opened) right (left_before s t b session vios right k head fair.opened) k.sealed_is rest new
 
-    right_on : (h : Happening) (ok : Bool) → IsCallOf h (call.Write slot (journal_bytes s.sizes b) ok) → MayFollow s h t → AtRest s (h ∷ t) k.older ⊎ OnItsWay s (h ∷ t) k.older (all_logged b.vios) → RightTrace s (h ∷ t)
-    right_on h ok is may stands = slot_call s t k.older (all_logged b.vios) slot (journal_bytes s.sizes b) session (all_fresh s t b session vios right k head) (can_seal s t b session vios right k head)
-        (place_is s t b session vios right k head slot place) (says s t b session vios right k head) right (left_before s t b session vios right k head) k.sealed_is rest new h ok is may stands k.committed_is
+    shown_on : (h : Happening) (ok : Bool) → IsCallOf h (call.Write slot (journal_bytes s.sizes b) ok) → AtRest s (h ∷ t) k.older ⊎ OnItsWay s (h ∷ t) k.older (all_logged b.vios) → Shown s (h ∷ t)
+    shown_on h ok is stands = slot_shown s t k.older (all_logged b.vios) slot (journal_bytes s.sizes b) session (all_fresh s t b session vios right k head fair.opened) (can_seal s t b session vios right k head fair.opened)
+        (place_is s t b session vios right k head fair.opened slot place) (says s t b session vios right k head fair.opened) right (left_before s t b session vios right k head fair.opened) k.sealed_is rest new h ok is stands
+        k.committed_is (shown_of s t right fair)
 
   module _ (goes : has_stopped t ≡ false) where
     -- one that succeeds
     makes_by : (q : Stage) (c : Call) (slot : Pbn) → IsItsSlot s.sizes b slot → call_of s.sizes b slot true q ≡ Some c → RightTrace s t → StandsAt s t b.vios b.sequence q → Made (Calls c) (next_stage q)
-    makes_by stage.Cover c slot place is right (k, rest, reads) =
+    makes_by stage.Cover c slot place is right (k, stands) =
+        let h = Calls (call.Flush true) in
         rw (sym (same_Some _ _ is)) (record {
           right = quiet_call s t (call.Flush true) succeeded (record { succeeds = refl; goes_on = λ writes. goes }) (λ x. tt) right;
-          stands = (sealed_over s t succeeded b.vios b.sequence k, flush_rest s t k.older succeeded rest, flushed s t (all_logged b.vios) reads);
+          stands = (
+            sealed_over s t succeeded b.vios b.sequence k,
+            λ fair. let before = stands (fair_before s h t fair) in (flush_rest s t k.older succeeded before.0, flushed s t (all_logged b.vios) before.1),
+          );
         })
-    makes_by stage.Write c slot place is right (k, rest, new) =
-        let way = way_on right k slot place rest new true in
+    makes_by stage.Write c slot place is right (k, stands) =
+        let h = Calls (call.Write slot (journal_bytes s.sizes b) true) in
         rw (sym (same_Some _ _ is)) (record {
-          right = right_on right k slot place rest new (Calls (call.Write slot (journal_bytes s.sizes b) true)) true succeeded (record { succeeds = refl; goes_on = λ writes. goes }) (inr way);
-          stands = (sealed_over s t succeeded b.vios b.sequence k, way, reads_on right k slot place rest new);
+          right = (
+            record { succeeds = refl; goes_on = λ writes. goes },
+            λ fair.
+                let was = fair_before s h t fair in
+                let before = stands was in
+                shown_on right k slot place was before.0 before.1 h true succeeded (inr (way_on right k slot place was before.0 before.1 true)),
+            right,
+          );
+          stands = (
+            sealed_over s t succeeded b.vios b.sequence k,
+            λ fair.
+                let was = fair_before s h t fair in
+                let before = stands was in
+                (way_on right k slot place was before.0 before.1 true, reads_on right k slot place was before.0 before.1),
+          );
         })
-    makes_by stage.Harden c slot place is right (k, way, reads) =
+    makes_by stage.Harden c slot place is right (k, stands) =
         let h = Calls (call.Flush true) in
-        let stands : AtRest s (h ∷ t) (all_logged b.vios ∷ k.older) = (
-          inl (way.0.0, ends s.blocks (log s t) s.sizes.geometry s.sizes.start (blocks_of s k.older) (sealed_with s (all_logged b.vios)) reads way.0.1),
+        let on : IsFair s (h ∷ t) → AtRest s (h ∷ t) (all_logged b.vios ∷ k.older) = (λ (fair : IsFair s (h ∷ t)).
+        let before = stands (fair_before s h t fair) in
+        let way = before.0 in (
+          inl (way.0.0, ends s.blocks (log s t) s.sizes.geometry s.sizes.start (blocks_of s k.older) (sealed_with s (all_logged b.vios)) before.1 way.0.1),
           map_more s (h ∷ t) (all_logged b.vios) (all_of k.older) (map_kept s h t (all_of k.older) ((λ a x named. tt), spares_all h (λ x. tt) (all_of k.older)) way.1)
               (new_kept s h t (all_logged b.vios) (spares_all h (λ x. tt) (all_logged b.vios)) way.2),
-        ) in
+        )) in
         rw (sym (same_Some _ _ is)) (record {
           right = quiet_call s t (call.Flush true) succeeded (record { succeeds = refl; goes_on = λ writes. goes }) (λ x. tt) right;
-          stands = (ap all_of k.sealed_is ∙ ap (λ (es : List Logged). all_logged b.vios ++ es) (sym k.committed_is), rw k.sealed_is stands);
+          stands = (ap all_of k.sealed_is ∙ ap (λ (es : List Logged). all_logged b.vios ++ es) (sym k.committed_is), λ fair. rw k.sealed_is (on fair));
         })
     makes_by other c slot place is right stands = absurd cc
 
     -- and one that fails, kept in the log or not
     fails_by : (q : Stage) (c : Call) (slot : Pbn) (kept : Bool) (w : Writer) → IsOpen t w → IsItsSlot s.sizes b slot → call_of s.sizes b slot false q ≡ Some c → RightTrace s t → StandsAt s t b.vios b.sequence q
         → Made (Fails w c kept) stage.Fail
-    fails_by stage.Cover c slot kept w is_open place is right (k, rest, reads) =
+    fails_by stage.Cover c slot kept w is_open place is right (k, stands) =
+        let h = Fails w (call.Flush false) kept in
         rw (sym (same_Some _ _ is)) (record {
-          right = quiet_call s t {h = Fails w (call.Flush false) kept} (call.Flush false) failed (record { is_open = is_open; fails = refl; goes_on = λ writes. goes; made_for = tt }) (λ x. tt) right;
-          stands = (sealed_over s t {h = Fails w (call.Flush false) kept} failed b.vios b.sequence k, inl (flush_rest s t {h = Fails w (call.Flush false) kept} k.older failed rest), refl);
+          right = quiet_call s t {h = h} (call.Flush false) failed (record { is_open = is_open; fails = refl; goes_on = λ writes. goes; made_for = tt }) (λ x. tt) right;
+          stands = (sealed_over s t {h = h} failed b.vios b.sequence k, (λ fair. inl (flush_rest s t {h = h} k.older failed (stands (fair_before s h t fair)).0)), refl);
         })
-    fails_by stage.Write c slot kept w is_open place is right (k, rest, new) =
+    fails_by stage.Write c slot kept w is_open place is right (k, stands) =
         let h = Fails w (call.Write slot (journal_bytes s.sizes b) false) kept in
         rw (sym (same_Some _ _ is)) (record {
-          right = right_on right k slot place rest new h false failed (record { is_open = is_open; fails = refl; goes_on = λ writes. goes; made_for = tt }) (left kept);
-          stands = (sealed_over s t {h = h} failed b.vios b.sequence k, left kept, refl);
+          right = (
+            record { is_open = is_open; fails = refl; goes_on = λ writes. goes; made_for = tt },
+            λ fair.
+                let was = fair_before s h t fair in
+                let before = stands was in
+                shown_on right k slot place was before.0 before.1 h false failed (left kept was),
+            right,
+          );
+          stands = (sealed_over s t {h = h} failed b.vios b.sequence k, (λ fair. left kept (fair_before s h t fair)), refl);
         })
       where
-        left : (kept : Bool) → AtRest s (Fails w (call.Write slot (journal_bytes s.sizes b) false) kept ∷ t) k.older
+        left : (kept : Bool) → IsFair s t → AtRest s (Fails w (call.Write slot (journal_bytes s.sizes b) false) kept ∷ t) k.older
             ⊎ OnItsWay s (Fails w (call.Write slot (journal_bytes s.sizes b) false) kept ∷ t) k.older (all_logged b.vios)
-        left true = inr (way_on right k slot place rest new false)
-        left false = inl (rests_unlogged s w (call.Write slot (journal_bytes s.sizes b) false) t k.older rest)
-    fails_by stage.Harden c slot kept w is_open place is right (k, way, reads) =
+        left true was = let before = stands was in inr (way_on right k slot place was before.0 before.1 false)
+        left false was = inl (rests_unlogged s w (call.Write slot (journal_bytes s.sizes b) false) t k.older (stands was).0)
+    fails_by stage.Harden c slot kept w is_open place is right (k, stands) =
+        let h = Fails w (call.Flush false) kept in
         rw (sym (same_Some _ _ is)) (record {
-          right = quiet_call s t {h = Fails w (call.Flush false) kept} (call.Flush false) failed (record { is_open = is_open; fails = refl; goes_on = λ writes. goes; made_for = tt }) (λ x. tt) right;
-          stands = (sealed_over s t {h = Fails w (call.Flush false) kept} failed b.vios b.sequence k, inr (flush_way s t {h = Fails w (call.Flush false) kept} k.older (all_logged b.vios) failed way), refl);
+          right = quiet_call s t {h = h} (call.Flush false) failed (record { is_open = is_open; fails = refl; goes_on = λ writes. goes; made_for = tt }) (λ x. tt) right;
+          stands = (sealed_over s t {h = h} failed b.vios b.sequence k, (λ fair. inr (flush_way s t {h = h} k.older (all_logged b.vios) failed (stands (fair_before s h t fair)).0)), refl);
         })
     fails_by other c slot kept w is_open place is right stands = absurd cc
 
 -- where it is not made
 unmade_by : (s : Session) (t : Trace) (b : SealedBlock) (q : Stage) (c : Call) (slot : Pbn) → has_stopped t ≡ true → call_of s.sizes b slot false q ≡ Some c → StandsAt s t b.vios b.sequence q
     → StandsAt s t b.vios b.sequence stage.Fail
-unmade_by s t b stage.Cover c slot stopped is (k, rest, reads) = (k, inl rest, stopped)
-unmade_by s t b stage.Write c slot stopped is (k, rest, new) = (k, inl rest, stopped)
-unmade_by s t b stage.Harden c slot stopped is (k, way, reads) = (k, inr way, stopped)
+unmade_by s t b stage.Cover c slot stopped is (k, stands) = (k, (λ fair. inl (stands fair).0), stopped)
+unmade_by s t b stage.Write c slot stopped is (k, stands) = (k, (λ fair. inl (stands fair).0), stopped)
+unmade_by s t b stage.Harden c slot stopped is (k, stands) = (k, (λ fair. inr (stands fair).0), stopped)
 unmade_by s t b other c slot stopped is stands = absurd cc
 
 zone_is : (s : Session) (b : SealedBlock) (q : Stage) (c : Call) (slot : Pbn) → call_of s.sizes b slot true q ≡ Some c → zone_number s.sizes (next_zone q) < zone_count s.sizes
@@ -381,7 +410,7 @@ module _ {s : Session} {t : Trace} {n : ℕ} {old : DeviceZone} {b : SealedBlock
   device_works new made posts (device.makes c slot v vs first place is runs e m p) =
       let k = known.own in
       let now = makes_by s t b known.session vios_ok head_is (sym k.lists.stopped_is ∙ runs) b.stage c slot place is known.right stands in
-      rw (e, m, p) (act_one known (Calls c) (clears slot true c succeeded place is) (λ g honest. g (honest_before s (Calls c) t honest)) now.right
+      rw (e, m, p) (act_one known (Calls c) (clears slot true c succeeded place is) (λ g fair. g (fair_before s (Calls c) t fair)) now.right
       (after_call k c (call_is s.sizes b b.stage c slot true is).0)
       ((zone_is s b b.stage c slot is, ((vios_over s t succeeded b.vios vios_ok, now.stands, head_is), refl)), tt))
   device_works new made posts (device.fails c slot kept v vs first place is runs e m p) =
@@ -391,7 +420,7 @@ module _ {s : Session} {t : Trace} {n : ℕ} {old : DeviceZone} {b : SealedBlock
       let now = fails_by s t b known.session vios_ok head_is (sym k.lists.stopped_is ∙ runs) b.stage c slot kept v.request is_open place is known.right stands in
       let says_so = call_is s.sizes b b.stage c slot false is in
       let stops : has_stopped (h ∷ t) ≡ true = rw says_so.1 refl in
-      rw (e, m, p) (act_one known h (clears slot false c failed place is) (λ g honest. g honest) now.right
+      rw (e, m, p) (act_one known h (clears slot false c failed place is) (λ g fair. g (fair_before s h t fair)) now.right
       (after_failure k v.request c kept true says_so.0 (sym stops))
       ((omega arith, ((vios_over s t {h = h} failed b.vios vios_ok, now.stands, head_is), refl)), notices_ok s (h ∷ t) stops))
   device_works new made posts (device.unmade c slot v vs first is halts e m p) =

@@ -1,7 +1,7 @@
 -- What the acts of the journal owe: entries are handed in, wait, or are refused; a block is sealed, and its entries are
 -- committed, or it failed.
 use Rattle.std.proofs.Common.{◌≡◌, ◌≢◌, ◌++◌, ◌≤◌, suc, Option, append_assoc, length-append, ℕ, ◌<◌, true, Some, IsNone, IsSome, List, [], ◌∷◌, refl, ap, arith, ◌+◌, Bool, false, length, sym, ◌∙◌, inl, inr, subst}
-use Rattle.core_laws.proofs.Common.{all_logged, all_of, AllByRecursion, asked, Asks, AtRest, bit, BlockOk, Carries, Commits, committed, DataOk, done, each_at, entered, Enters, entry_of, every-append, filled, Happening, has_stopped, HasCause, HasFullJournal, HasPendingEntry, HasPlace, holder_weight, Holds, IsChange, IsFull, IsPlaced, IsSession, JournalLists, JournalZone, KeptEach, KeptOk, Lba, Logged, logged, logged_of, ltb-false, ltb-true, Mapping, MapsTo, MayReply, NewReads, OnBlock, or_parts, place_of, places, Post, ReadsAs, Request, RestsAt, RightTrace, same_self, same_tells, same_writer, sealed, SealedBlock, Seals, Session, some_is, Stage, StandsAt, total, Trace, turned, value_written, Vio, VioOk, Writer, zone_count, zone_number, zone_of, zone_of_stage}
+use Rattle.core_laws.proofs.Common.{all_logged, all_of, AllByRecursion, asked, Asks, AtRest, bit, BlockOk, Carries, Commits, committed, DataOk, done, each_at, entered, Enters, entry_of, every-append, fair_before, filled, Happening, has_stopped, HasCause, HasFullJournal, HasPendingEntry, HasPlace, holder_weight, Holds, IsChange, IsFair, IsFull, IsPlaced, IsSession, JournalLists, JournalZone, KeptEach, KeptOk, Lba, Logged, logged, logged_of, ltb-false, ltb-true, Mapping, MapsTo, MayReply, NewReads, OnBlock, or_parts, place_of, places, Post, ReadsAs, Request, RestsAt, RightTrace, same_self, same_tells, same_writer, sealed, SealedBlock, Seals, Session, Shown, some_is, Stage, StandsAt, total, Trace, turned, value_written, Vio, VioOk, Writer, zone_count, zone_number, zone_of, zone_of_stage}
 use Rattle.std.proofs.Math.Nat.{mod-lt}
 use Rattle.core_model.specs.declared.items.Asks.TheVariants.{Read, Write, Discard, Flush}
 use Rattle.core_model.specs.JournalRows.{JournalEnds, JournalServes, all_again, all_dropped, all_refused, entered_by, hands_out, has_block, has_room, is_closed, next_block, refused}
@@ -127,6 +127,20 @@ module _ (s : Session) (t : Trace) (v : Vio) (right : RightTrace s t) (ok : VioO
   abbrev enters : Happening
   enters = Enters (logged v)
 
+  shown_on : IsFair s (enters ∷ t) → Shown s (enters ∷ t)
+  shown_on fair =
+      let before = fair_before s enters t fair in
+      let stood = shown_of s t right before in
+      record {
+        superblock = stands_kept s enters t 0 _ tt stood.superblock;
+        journal = journal_kept s enters t (record { sealed_same = refl; committed_same = refl }) tt (silent s t enters (λ x. tt) (all_of (sealed t))) stood.journal;
+        filling = (
+          on_each v.new (λ x to reads. reads_kept s enters t x.0 _ tt reads)
+              (subst (λ (r : Option Request). OnBlock (λ x. ReadsAs s t x.0 (value_written r)) v.new) (sym ok.asked) (reads_now s t v.asks v.at v.bytes v.new carries.1 (carries.3 before))),
+          new_reads_kept s enters t (filled t) (spares_all enters (λ x. tt) (filled t)) stood.filling,
+        );
+      }
+
   pub enter_right : RightTrace s (enters ∷ t)
   enter_right = (
     record {
@@ -140,15 +154,7 @@ module _ (s : Session) (t : Trace) (v : Vio) (right : RightTrace s t) (ok : VioO
       new_data = on_each v.new (λ x to fresh. fresh.is_data) carries.2;
       old_is = carries.0.old_is ∙ mapping_same s.window (done t) (committed t) v.at.0 (sym carries.0.quiet.all_done);
     },
-    record {
-      superblock = stands_kept s enters t 0 _ tt (shown_of s t right).superblock;
-      journal = journal_kept s enters t (record { sealed_same = refl; committed_same = refl }) tt (silent s t enters (λ x. tt) (all_of (sealed t))) (shown_of s t right).journal;
-      filling = (
-        on_each v.new (λ x to reads. reads_kept s enters t x.0 _ tt reads)
-            (subst (λ (r : Option Request). OnBlock (λ x. ReadsAs s t x.0 (value_written r)) v.new) (sym ok.asked) (reads_now s t v.asks v.at v.bytes v.new carries.1 carries.3)),
-        new_reads_kept s enters t (filled t) (spares_all enters (λ x. tt) (filled t)) (shown_of s t right).filling,
-      );
-    },
+    shown_on,
     right,
   )
 
@@ -173,7 +179,7 @@ module _ (s : Session) (t : Trace) (v : Vio) (right : RightTrace s t) (ok : VioO
     refl,
   )
 
-rests_idle : (s : Session) (t : Trace) (busy broken : Bool) → busy ≡ false → broken ≡ false → RestsAt s t busy broken → (all_of (sealed t) ≡ committed t) × AtRest s t (sealed t)
+rests_idle : (s : Session) (t : Trace) (busy broken : Bool) → busy ≡ false → broken ≡ false → RestsAt s t busy broken → (all_of (sealed t) ≡ committed t) × (IsFair s t → AtRest s t (sealed t))
 rests_idle s t busy broken p q k = let here : RestsAt s t false false = rw (p, q) at k in here
 
 -- a journal that is busy goes on so, and didn't fail
@@ -276,14 +282,14 @@ module _ {s : Session} {t : Trace} {n : ℕ} {old : JournalZone} {v : Vio} (know
       }) tt)
   journal_serves new made posts (journal.enters is closed block room busy e m p) =
       let same : record (entered_by v old) { busy = old.busy } ≡ entered_by v old = refl in
-      rw (e, m, p) (act_one known (Enters (logged v)) (entry_clears is closed block room) (λ g honest. g honest) (entry_right is closed block room)
+      rw (e, m, p) (act_one known (Enters (logged v)) (entry_clears is closed block room) (λ g fair. g (fair_before s (Enters (logged v)) t fair)) (entry_right is closed block room)
       (entry_data is closed block room old.busy busy (busy_on s t (Enters (logged v) ∷ t) old.busy old.broken busy known.own.answers)) tt)
   journal_serves new made posts (journal.enters_first is closed block room idle e m p) =
       let h = Enters (logged v) in
       let rest = rests_idle s t old.busy old.broken idle (sound is closed block room) known.own.answers in
-      rw (e, m, p) (act_one known h (entry_clears is closed block room) (λ g honest. g honest) (entry_right is closed block room)
+      rw (e, m, p) (act_one known h (entry_clears is closed block room) (λ g fair. g (fair_before s (Enters (logged v)) t fair)) (entry_right is closed block room)
       (entry_data is closed block room true refl (sound is closed block room))
-      ((omega arith, ((tt, (rest.0, rests_kept s h t (sealed t) tt (silent s t h (λ x. tt) (all_of (sealed t))) rest.1), known.own.lists.log_is.head_is), refl)), tt))
+      ((omega arith, ((tt, (rest.0, λ fair. rests_kept s h t (sealed t) tt (silent s t h (λ x. tt) (all_of (sealed t))) (rest.1 (fair_before s h t fair))), known.own.lists.log_is.head_is), refl)), tt))
 
 -- The journal hears that the session is stopped.
 pub journal_notified : {s : Session} {t : Trace} {n : ℕ} {old : JournalZone} → Known s t n (at.Journal old) (item.StopNotice ∷ [])
@@ -370,25 +376,26 @@ module _ {s : Session} {t : Trace} {n : ℕ} {old : JournalZone} {b : SealedBloc
     has : HasPendingEntry s t v.asks v.bytes (logged v)
     has = carries_at s t v phase.Pending mine.0.2 mine.0.1
 
-    stands : (all_of (sealed t) ≡ all_logged b.vios ++ committed t) × AtRest s t (sealed t)
+    stands : (all_of (sealed t) ≡ all_logged b.vios ++ committed t) × (IsFair s t → AtRest s t (sealed t))
     stands = stands_as stage.Commit is
 
     next : all_of (sealed t) ≡ all_logged vs ++ (logged v ∷ committed t)
     next = stands.0 ∙ ap (λ (us : List Vio). all_logged us ++ committed t) vios ∙ append_assoc (all_logged vs) (logged v ∷ []) (committed t)
 
-    rest_on : AtRest s (commits ∷ t) (sealed t)
-    rest_on = rests_kept s commits t (sealed t) tt (silent s t commits (λ x. tt) (all_of (sealed t))) stands.1
+    rest_on : IsFair s (commits ∷ t) → AtRest s (commits ∷ t) (sealed t)
+    rest_on fair = rests_kept s commits t (sealed t) tt (silent s t commits (λ x. tt) (all_of (sealed t))) (stands.1 (fair_before s commits t fair))
+
+    commit_shown : IsFair s (commits ∷ t) → Shown s (commits ∷ t)
+    commit_shown fair =
+        let stood = shown_of s t known.right (fair_before s commits t fair) in
+        record {
+          superblock = stands_kept s commits t 0 _ tt stood.superblock;
+          journal = inl (record { rest = all_logged vs; all = next; stands = rest_on fair });
+          filling = new_reads_kept s commits t (filled t) (spares_all commits (λ x. tt) (filled t)) stood.filling;
+        }
 
     commit_right : RightTrace s (commits ∷ t)
-    commit_right = (
-      record { is_open = mine.0.0.is_open; rest = all_logged vs; next = next },
-      record {
-        superblock = stands_kept s commits t 0 _ tt (shown_of s t known.right).superblock;
-        journal = inl (record { rest = all_logged vs; all = next; stands = rest_on });
-        filling = new_reads_kept s commits t (filled t) (spares_all commits (λ x. tt) (filled t)) (shown_of s t known.right).filling;
-      },
-      known.right,
-    )
+    commit_right = (record { is_open = mine.0.0.is_open; rest = all_logged vs; next = next }, commit_shown, known.right)
 
     weighs : (k : Key) → total (λ w. (token_of s.sizes k).item (item.Request w)) b.vios ≡ (token_of s.sizes k).item (item.Request v) + total (λ w. (token_of s.sizes k).item (item.Request w)) vs
     weighs k = ap (total (λ w. (token_of s.sizes k).item (item.Request w))) vios
@@ -425,7 +432,7 @@ module _ {s : Session} {t : Trace} {n : ℕ} {old : JournalZone} {b : SealedBloc
 
   -- The next block is sealed.
   module _ (v : Vio) (vs : List Vio) (is : b.stage ≡ stage.Commit) (done_with : b.vios ≡ []) (filling : old.filling ≡ v ∷ vs) where
-    all_there : (all_of (sealed t) ≡ committed t) × AtRest s t (sealed t)
+    all_there : (all_of (sealed t) ≡ committed t) × (IsFair s t → AtRest s t (sealed t))
     all_there = let k = stands_as stage.Commit is in (k.0 ∙ ap (λ (us : List Vio). all_logged us ++ committed t) done_with, k.1)
 
     filled_is : filled t ≡ all_logged (v ∷ vs)
@@ -437,19 +444,18 @@ module _ {s : Session} {t : Trace} {n : ℕ} {old : JournalZone} {b : SealedBloc
     left : s.sizes.opened + length (sealed t) + 1 < s.sizes.geometry.journal
     left = filled_left s t known.right (omega (arith, count))
 
-    rest_sealed : AtRest s (Seals ∷ t) (sealed t)
-    rest_sealed = rests_kept s Seals t (sealed t) tt (silent s t Seals (λ x. tt) (all_of (sealed t))) all_there.1
+    rest_sealed : IsFair s (Seals ∷ t) → AtRest s (Seals ∷ t) (sealed t)
+    rest_sealed fair = rests_kept s Seals t (sealed t) tt (silent s t Seals (λ x. tt) (all_of (sealed t))) (all_there.1 (fair_before s Seals t fair))
+
+    seal_shown : IsFair s (Seals ∷ t) → Shown s (Seals ∷ t)
+    seal_shown fair = record {
+      superblock = stands_kept s Seals t 0 _ tt (shown_of s t known.right (fair_before s Seals t fair)).superblock;
+      journal = inr (record { block = filled t; older = sealed t; sealed_is = refl; committed_is = sym all_there.0; stands = inl (rest_sealed fair) });
+      filling = tt;
+    }
 
     seal_right : RightTrace s (Seals ∷ t)
-    seal_right = (
-      record { some = omega (arith, count); all_committed = all_there.0; left = left },
-      record {
-        superblock = stands_kept s Seals t 0 _ tt (shown_of s t known.right).superblock;
-        journal = inr (record { block = filled t; older = sealed t; sealed_is = refl; committed_is = sym all_there.0; stands = inl rest_sealed });
-        filling = tt;
-      },
-      known.right,
-    )
+    seal_right = (record { some = omega (arith, count); all_committed = all_there.0; left = left }, seal_shown, known.right)
 
     seal_clears : Clears s n (Mine s t (at.Journal old) (item.Block b ∷ [])) Seals t
     seal_clears = record { zone = known.own.number_is; request = tt; address = tt; block = λ x. inr (λ inside. tt); journal = inl (weighed (omega arith)) }
@@ -472,8 +478,10 @@ module _ {s : Session} {t : Trace} {n : ℕ} {old : JournalZone} {b : SealedBloc
               sequence = omega (arith, sequence);
               left = left;
             },
-            rest_sealed,
-            subst (NewReads s (Seals ∷ t)) filled_is (new_reads_kept s Seals t (filled t) (spares_all Seals (λ x. tt) (filled t)) (shown_of s t known.right).filling),
+            λ fair. (
+              rest_sealed fair,
+              subst (NewReads s (Seals ∷ t)) filled_is (new_reads_kept s Seals t (filled t) (spares_all Seals (λ x. tt) (filled t)) (shown_of s t known.right (fair_before s Seals t fair)).filling),
+            ),
           ),
           known.own.lists.log_is.head_is,
         )
@@ -482,7 +490,7 @@ module _ {s : Session} {t : Trace} {n : ℕ} {old : JournalZone} {b : SealedBloc
   journal_ends new made posts (journal.commits v vs is vios next_there e m p) =
       let k = known.own in
       let h = Commits (logged v) in
-      rw (e, m, p) (act_one known h (clears v vs is vios) (λ g honest. g honest) (commit_right v vs is vios)
+      rw (e, m, p) (act_one known h (clears v vs is vios) (λ g fair. g (fair_before s h t fair)) (commit_right v vs is vios)
       (record {
         number_is = k.number_is;
         lists = record {
@@ -501,7 +509,7 @@ module _ {s : Session} {t : Trace} {n : ℕ} {old : JournalZone} {b : SealedBloc
   journal_ends new made posts (journal.seals v vs is done_with filling due e m p) =
       let k = known.own in
       let kept = kept_sealed v vs is done_with filling in
-      rw (e, m, p) (act_one known Seals (seal_clears v vs is done_with filling) (λ g honest. g honest) (seal_right v vs is done_with filling)
+      rw (e, m, p) (act_one known Seals (seal_clears v vs is done_with filling) (λ g fair. g (fair_before s Seals t fair)) (seal_right v vs is done_with filling)
       (record {
         number_is = k.number_is;
         lists = record {

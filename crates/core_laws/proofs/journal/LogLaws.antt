@@ -3,8 +3,8 @@ use Rattle.std.proofs.Common.{ℕ, zero, suc, ◌+◌, ◌<◌, ◌≡◌, List,
 use Rattle.std.proofs.lemmas.List.{reverse-append}
 use Rattle.std.proofs.Math.Seq.{take-append_seam}
 use Rattle.blk_base.specs.declared.journal_entry.CommittedEntry.{CommittedEntry}
-use Rattle.core_laws.proofs.Common.{AreAllThere, ComesLast, Commits, Enters, Entry, IsLogOf, Logged, RightTrace, Seals, Session, Trace, Vio, all_logged, all_of, committed, entry_of, filled, sealed}
-use Rattle.core_laws.proofs.trace.DeskOfTrace.{shown_of}
+use Rattle.core_laws.proofs.Common.{Commits, Enters, Entry, IsLogOf, Logged, RightTrace, Seals, Session, Trace, Vio, all_logged, all_of, committed, entry_of, filled, sealed}
+use Rattle.core_laws.proofs.trace.DeskOfTrace.{committed_sealed}
 use Rattle.core_laws.proofs.journal.SealedBlocks.{block_length, logged_length, map_both, map_length, reverse_more}
 use Rattle.core_model.specs.JournalRows.{HasNext, IsSealable, appended, handed_out, sealed_log}
 use Rattle.core_model.specs.Sessions.{said_by}
@@ -125,17 +125,9 @@ has_next s t log vs k left some =
 
 -- What was handed out is what is committed, since all others stand behind it.
 
--- the entries of sealed blocks that aren't committed
-behind_committed : (s : Session) (t : Trace) → RightTrace s t → (rest : List Logged) × (all_of (sealed t) ≡ rest ++ committed t)
-behind_committed s t right = by (shown_of s t right).journal
-  where
-    by : AreAllThere s t ⊎ ComesLast s t → (rest : List Logged) × (all_of (sealed t) ≡ rest ++ committed t)
-    by (inl k) = (k.rest, k.all)
-    by (inr k) = (k.block, ap all_of k.sealed_is ∙ ap (λ (es : List Logged). k.block ++ es) (sym k.committed_is))
-
 pub log_handed : (s : Session) (t : Trace) (log : Log) → RightTrace s t → IsLogOf s t log → take log.handed (said_by log.entries) ≡ reverse (map entry_of (committed t))
 log_handed s t log right k =
-    let left = behind_committed s t right in
+    let left = committed_sealed s t right in
     let done = reverse (map entry_of (committed t)) in
     let all : said_by log.entries ≡ done ++ reverse (map entry_of left.0) =
     k.entries_are ∙ ap (λ (es : List Logged). reverse (map entry_of es)) left.1 ∙ ap reverse (map_both entry_of left.0 (committed t)) ∙ reverse-append (map entry_of left.0) (map entry_of (committed t)) in

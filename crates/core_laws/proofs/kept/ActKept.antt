@@ -1,6 +1,6 @@
 -- What each act may use and what it owes.
 use Rattle.std.proofs.Common.{◌≡◌, ℕ, ◌+◌, ◌<◌, ◌≤◌, true, Some, IsNone, List, [], ◌∷◌, ◌++◌, refl, subst, inl, inr, arith, false}
-use Rattle.core_laws.proofs.Common.{all_of, AllByRecursion, begun, Calls, Carries, claims, Commits, DataOk, DeviceZone, done, entered, Enters, Fails, filled, GivesRight, Happening, HasHonestReads, holds, IsSession, IsWrite, Item, ItemOk, kept_by, KeptEach, KeptOk, lines, logged_of, LogicalZone, none_is, not_both, option_cases, Pbn, Phase, place_of, Placed, places, Post, RightTrace, same_Some, same_tells, sealed, Seals, Session, Shown, total, Trace, Vio, VioOk, Writer, zone_count, zone_number, ZoneData, cases_Bool, has_taken, Says, Flushes, Takes}
+use Rattle.core_laws.proofs.Common.{all_of, AllByRecursion, begun, Calls, Carries, claims, Commits, DataOk, DeviceZone, done, entered, Enters, Fails, fair_before, filled, GivesRight, Happening, holds, IsFair, IsSession, IsWrite, Item, ItemOk, kept_by, KeptEach, KeptOk, lines, logged_of, LogicalZone, none_is, not_both, option_cases, Pbn, Phase, place_of, Placed, places, Post, RightTrace, same_Some, same_tells, sealed, Seals, Session, Shown, total, Trace, Vio, VioOk, Writer, zone_count, zone_number, ZoneData, cases_Bool, has_taken, Says, Flushes, Takes}
 use Rattle.blk_base.specs.declared.place.Mapping.TheVariants.{At}
 use Rattle.core_model.specs.declared.items.Item.TheVariants as item
 use Rattle.core_model.specs.declared.items.Phase.TheVariants as phase
@@ -57,7 +57,7 @@ PostOk s t post = (zone_number s.sizes post.0 < zone_count s.sizes) × ItemOk s 
 -- it must.
 pub record ActKept (s : Session) (t : Trace) (n : ℕ) (d : ZoneData) (front : List Item) (new : ZoneData) (made : Trace) (posts : List Post) : Type 0 where
   pub right : RightTrace s (made ++ t)
-  pub gives : (HasHonestReads s t → GivesRight s t) → HasHonestReads s (made ++ t) → GivesRight s (made ++ t)
+  pub gives : (IsFair s t → GivesRight s t) → IsFair s (made ++ t) → GivesRight s (made ++ t)
   pub owns : Owns s t n d front made
   pub own : DataOk s (made ++ t) n new
   pub posts_ok : AllByRecursion (PostOk s (made ++ t)) posts
@@ -79,9 +79,11 @@ plain_journal s t (Calls c) is = absurd is
 plain_journal s t (Fails w c kept) is = absurd is
 plain_journal s t other is = (record { sealed_same = refl; committed_same = refl }, tt, ((λ a x named. tt), spares_all other (λ x. tt) (entered t)))
 
--- It stands after a happening that writes no block of it, and adds nothing to the journal.
-pub shown_kept : (s : Session) (h : Happening) (t : Trace) → SparesSealed s h t → filled (h ∷ t) ≡ filled t → SparesJournal s h → SparesMap s h (entered t) → SparesBlock h 0 → Shown s t → Shown s (h ∷ t)
-shown_kept s h t same filling journal blocks first k =
+-- What stands where the session is fair stands after a happening that writes no block of it, and adds nothing to the journal.
+pub shown_kept : (s : Session) (h : Happening) (t : Trace) → SparesSealed s h t → filled (h ∷ t) ≡ filled t → SparesJournal s h → SparesMap s h (entered t) → SparesBlock h 0 → (IsFair s t → Shown s t)
+    → IsFair s (h ∷ t) → Shown s (h ∷ t)
+shown_kept s h t same filling journal blocks first before fair =
+    let k = before (fair_before s h t fair) in
     let entries = spares_parts h (filled t) (all_of (sealed t)) (subst (SparesBlocks h) (entered_parts t) blocks.1) in
     record {
       superblock = stands_kept s h t 0 _ first k.superblock;
@@ -89,7 +91,7 @@ shown_kept s h t same filling journal blocks first k =
       filling = rw filling (new_reads_kept s h t (filled t) entries.0 k.filling);
     }
 
-pub shown_plain : (s : Session) (t : Trace) (h : Happening) → IsPlain h → Shown s t → Shown s (h ∷ t)
+pub shown_plain : (s : Session) (t : Trace) (h : Happening) → IsPlain h → (IsFair s t → Shown s t) → IsFair s (h ∷ t) → Shown s (h ∷ t)
 shown_plain s t (Enters e) is k = absurd is
 shown_plain s t (Commits e) is k = absurd is
 shown_plain s t Seals is k = absurd is
@@ -120,10 +122,10 @@ module _ {s : Session} {t : Trace} {n : ℕ} {d : ZoneData} {front : List Item} 
 
   -- an act over which nothing happens
   pub act_none : {new : ZoneData} {posts : List Post} → DataOk s t n new → AllByRecursion (PostOk s t) posts → ActKept s t n d front new [] posts
-  act_none own posts = record { right = known.right; gives = λ gives honest. gives honest; owns = tt; own = own; posts_ok = posts }
+  act_none own posts = record { right = known.right; gives = λ gives fair. gives fair; owns = tt; own = own; posts_ok = posts }
 
   -- and one over which one thing happens, that is its own
-  pub act_one : (h : Happening) {new : ZoneData} {posts : List Post} → Clears s n (Mine s t d front) h t → ((HasHonestReads s t → GivesRight s t) → HasHonestReads s (h ∷ t) → GivesRight s (h ∷ t)) → RightTrace s (h ∷ t)
+  pub act_one : (h : Happening) {new : ZoneData} {posts : List Post} → Clears s n (Mine s t d front) h t → ((IsFair s t → GivesRight s t) → IsFair s (h ∷ t) → GivesRight s (h ∷ t)) → RightTrace s (h ∷ t)
       → DataOk s (h ∷ t) n new → AllByRecursion (PostOk s (h ∷ t)) posts → ActKept s t n d front new (h ∷ []) posts
   act_one h clears gives right own posts = record { right = right; gives = gives; owns = (reaches clears, tt); own = own; posts_ok = posts }
 

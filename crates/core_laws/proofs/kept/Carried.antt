@@ -1,6 +1,6 @@
 -- What requests and sealed blocks carry stays where the next happening is about something else.
 use Rattle.std.proofs.Common.{◌≡◌, ℕ, ◌≤◌, Bool, true, false, Option, None, Some, List, [], ◌∷◌, ◌++◌, refl, ap, sym, ◌∙◌, subst, arith}
-use Rattle.core_laws.proofs.Common.{AllByRecursion, Answer, BlockOk, Carries, Happening, HasCause, Holds, IsEarned, IsEntered, IsPlaced, IsSealed, IsUndrawn, Item, ItemOk, KeptOk, Logged, Looks, MayReply, Pbn, Phase, Request, SealedBlock, Session, Stage, StandsAt, Trace, Vio, VioOk, Writer, all_logged, all_of, done, entered, gift_of, gifts, has_taken, holds, logged, logged_of, newest, place_of, places, request_of, sealed, total}
+use Rattle.core_laws.proofs.Common.{AllByRecursion, Answer, BlockOk, Carries, Happening, HasCause, Holds, IsEarned, IsEntered, IsPlaced, IsSealed, IsUndrawn, Item, ItemOk, KeptOk, Logged, Looks, MayReply, Pbn, Phase, Request, SealedBlock, Session, Stage, StandsAt, Trace, Vio, VioOk, Writer, all_logged, all_of, done, entered, fair_before, gift_of, gifts, has_taken, holds, logged, logged_of, newest, place_of, places, request_of, sealed, total}
 use Rattle.blk_base.specs.declared.place.Mapping.TheVariants.{At}
 use Rattle.blk_base.specs.declared.request.Answer.TheVariants as reply
 use Rattle.blk_base.specs.declared.request.Request.TheVariants as request
@@ -10,7 +10,7 @@ use Rattle.core_model.specs.declared.items.Phase.TheVariants as phase
 use Rattle.core_model.specs.declared.items.Stage.TheVariants as stage
 use Rattle.core_model.specs.DeskRows.{is_marked, mark_of_vio}
 use Rattle.core_laws.proofs.kept.Keys.{Key, OfRequest, OfAddress, OfBlock, OfJournal, token_of, Spares, own_name, holder_one, claim_one}
-use Rattle.core_laws.proofs.kept.Spared.{SparesRequest, SparesAddress, open_kept, place_same, entry_same, slot_same, abort_same, gift_same, take_same, stop_kept, fault_kept, abort_kept, full_kept, needs_kept, journal_full_kept, mapping_same, quiet_kept, committed_kept, below_kept, pending_kept, mark_kept, honest_before, value_same, done_at}
+use Rattle.core_laws.proofs.kept.Spared.{SparesRequest, SparesAddress, open_kept, place_same, entry_same, slot_same, abort_same, gift_same, take_same, stop_kept, fault_kept, abort_kept, full_kept, needs_kept, journal_full_kept, mapping_same, quiet_kept, committed_kept, below_kept, pending_kept, mark_kept, value_same, done_at}
 use Rattle.core_laws.proofs.kept.StandsOn.{SparesBlock, SparesBlocks, SparesJournal, SparesMap, SparesSealed, block_reads_kept, comes_stands, new_kept, new_reads_kept, on_both, reads_kept, rests_kept, sealed_spared, spares_parts, way_kept}
 
 none_weigh : (vs : List Vio) → total (λ v. 0) vs ≡ 0
@@ -118,7 +118,7 @@ module _ (s : Session) (h : Happening) (t : Trace) where
   by_phase v phase.Wait r a b k = (placed_kept v r k.0, take_same h t v.request r ∙ k.1)
   by_phase v phase.Claim r a b k = (holds_kept v r (a refl) k.0, k.1, needs_kept h t v.request v.bytes (take_same h t v.request r) k.2)
   by_phase v phase.Store r a b k = (holds_kept v r (a refl) k.0, k.1, k.2)
-  by_phase v phase.Enter r a b k = (holds_kept v r (a refl) k.0, k.1, k.2, on_both v.new (λ x to fresh reads. reads_kept s h t x.0 v.bytes (b refl x to fresh.is_data) reads) k.2 k.3)
+  by_phase v phase.Enter r a b k = (holds_kept v r (a refl) k.0, k.1, k.2, λ fair. on_both v.new (λ x to fresh reads. reads_kept s h t x.0 v.bytes (b refl x to fresh.is_data) reads) k.2 (k.3 (fair_before s h t fair)))
   by_phase v phase.Pending r a b k = record {
     is_entered = entered_kept v r k.is_entered;
     pending = pending_kept h t (logged v) (a refl) k.pending;
@@ -130,7 +130,7 @@ module _ (s : Session) (h : Happening) (t : Trace) where
   }
   by_phase v phase.Settle r a b k = (entered_kept v r k.0, committed_kept h t (logged v) (a refl) k.1, below_kept h t v.at.0 v.place (a refl) k.2, k.3)
   by_phase v phase.Load r a b k = (looks_kept v r (a refl) k.0, k.1)
-  by_phase v phase.Loaded r a b k = (looks_kept v r (a refl) k.0, λ honest. k.1 (honest_before s h t honest) ∙ sym (value_same s h t v.at.0 (a refl)))
+  by_phase v phase.Loaded r a b k = (looks_kept v r (a refl) k.0, λ fair. k.1 (fair_before s h t fair) ∙ sym (value_same s h t v.at.0 (a refl)))
   by_phase v phase.AbortClaim r a b k = (holds_kept v r (a refl) k.0, reply_kept v v.answer r k.1)
   by_phase v phase.Abort r a b k = (holds_kept v r (a refl) k.0, reply_kept v v.answer r k.1)
   by_phase v phase.AbortEnteredClaim r a b k = (entered_kept v r k.0, reply_kept v v.answer r k.1, stop_kept h t k.2)
@@ -179,18 +179,35 @@ module _ (s : Session) (h : Happening) (t : Trace) where
   }
 
   by_stage : (vs : List Vio) (n : ℕ) (q : Stage) → SparesSealed s h t → SparesJournal s h → SparesMap s h (all_of (sealed t)) → StandsAt s t vs n q → StandsAt s (h ∷ t) vs n q
-  by_stage vs n stage.Cover same journal map (k, stands, reads) =
-      let apart = blocks_spared s h t vs n k map in
-      (sealed_kept vs n same k, rests_kept s h t k.older journal (apart.0, apart.1.1) stands, new_reads_kept s h t (all_logged vs) apart.1.0 reads)
-  by_stage vs n stage.Write same journal map (k, stands, new) =
-      let apart = blocks_spared s h t vs n k map in
-      (sealed_kept vs n same k, rests_kept s h t k.older journal (apart.0, apart.1.1) stands, new_kept s h t (all_logged vs) apart.1.0 new)
-  by_stage vs n stage.Harden same journal map (k, way, reads) =
-      (sealed_kept vs n same k, way_kept s h t k.older (all_logged vs) journal (last_spared s h t vs n k map) way, block_reads_kept s h t k.older (all_logged vs) journal way reads)
-  by_stage vs n stage.Commit same journal map (all, stands) =
-      (ap all_of same.sealed_same ∙ all ∙ ap (λ es. all_logged vs ++ es) (sym same.committed_same), rw same.sealed_same (rests_kept s h t (sealed t) journal map stands))
-  by_stage vs n stage.Fail same journal map (k, stands, stopped) =
-      (sealed_kept vs n same k, comes_stands s h t k.older (all_logged vs) journal (last_spared s h t vs n k map) stands, stop_kept h t stopped)
+  by_stage vs n stage.Cover same journal map (k, stands) = (
+    sealed_kept vs n same k,
+    λ fair.
+        let apart = blocks_spared s h t vs n k map in
+        let before = stands (fair_before s h t fair) in
+        (rests_kept s h t k.older journal (apart.0, apart.1.1) before.0, new_reads_kept s h t (all_logged vs) apart.1.0 before.1),
+  )
+  by_stage vs n stage.Write same journal map (k, stands) = (
+    sealed_kept vs n same k,
+    λ fair.
+        let apart = blocks_spared s h t vs n k map in
+        let before = stands (fair_before s h t fair) in
+        (rests_kept s h t k.older journal (apart.0, apart.1.1) before.0, new_kept s h t (all_logged vs) apart.1.0 before.1),
+  )
+  by_stage vs n stage.Harden same journal map (k, stands) = (
+    sealed_kept vs n same k,
+    λ fair.
+        let before = stands (fair_before s h t fair) in
+        (way_kept s h t k.older (all_logged vs) journal (last_spared s h t vs n k map) before.0, block_reads_kept s h t k.older (all_logged vs) journal before.0 before.1),
+  )
+  by_stage vs n stage.Commit same journal map (all, stands) = (
+    ap all_of same.sealed_same ∙ all ∙ ap (λ es. all_logged vs ++ es) (sym same.committed_same),
+    λ fair. rw same.sealed_same (rests_kept s h t (sealed t) journal map (stands (fair_before s h t fair))),
+  )
+  by_stage vs n stage.Fail same journal map (k, stands, stopped) = (
+    sealed_kept vs n same k,
+    λ fair. comes_stands s h t k.older (all_logged vs) journal (last_spared s h t vs n k map) (stands (fair_before s h t fair)),
+    stop_kept h t stopped,
+  )
 
   block_weighs : (b : SealedBlock) (k : Key) → total (λ v. (token_of s.sizes k).item (item.Request v)) b.vios ≤ (token_of s.sizes k).item (item.Block b)
   block_weighs b (OfRequest w) = omega arith

@@ -1,6 +1,6 @@
 -- One session that can be served, over a device of zeros, and the core at its start: so that there is a legal core.
 use Rattle.std.proofs.Common.{◌≡◌, ℕ, zero, suc, ◌+◌, ◌<◌, ◌≤◌, false, List, [], ◌∷◌, length, get_or, replicate, drop, refl, sym, ◌∙◌, ap, subst, inl, inr, arith}
-use Rattle.core_laws.proofs.Common.{AllByRecursion, AreDistinct, Desk, DeviceZone, Each, Geometry, IsFresh, IsSession, Item, JournalZone, LogicalZone, Pbn, PhysicalZone, Request, Session, Sizes, Zone, ZoneData, cases_lt, eqb_tells, get_or-replicate, get_or-take, get_or_past, is_block, length-replicate, same_Some, total, zone_count}
+use Rattle.core_laws.proofs.Common.{AllByRecursion, AreDistinct, Desk, DeviceZone, Each, Geometry, IsAsOpened, IsFair, IsFresh, IsSession, Item, JournalZone, LogicalZone, Pbn, PhysicalZone, Request, Session, Sizes, Zone, ZoneData, cases_lt, eqb_tells, get_or-replicate, get_or-take, get_or_past, is_block, length-replicate, same_Some, total, zone_count}
 use Rattle.std.proofs.lemmas.Grind.{get_or_after_one}
 use Rattle.blk_base.specs.Limits.{IsGeometry}
 use Rattle.blk_base.specs.Sectors.{sector, zero_block}
@@ -101,20 +101,29 @@ run_fresh blocks_there offset first (suc n) at_offset inside = (
   run_fresh blocks_there (suc offset) (suc first) n (omega arith) (omega arith),
 )
 
-pub small_served : (n : ℕ) → 154 ≤ n → IsSession (small_session n)
-small_served n room = record {
+pub small_served : (n : ℕ) → IsSession (small_session n)
+small_served n = record {
   sizes = geometry_ok;
   start = (omega arith, omega arith);
+  used = omega arith;
   zones = omega arith;
   limits = record { streams = omega arith; depth = omega arith; requests = omega arith; zones = omega arith };
-  room = omega (arith, room, length-replicate n zero_block);
   served = (((zeros_length, refl), (tt, (tt, tt))), tt);
-  one_image = zeros_image n;
-  journal = inl (record { at_rest = zeros_at_rest geometry 1 n (omega arith) (omega arith); all_needed = refl; window_is = refl; opened = refl });
   of_image = tt;
   free = run_fresh n 0 85 64 (omega arith) (omega arith);
   distinct = run_distinct 85 64;
 }
+
+-- and where the device is large enough, it begins as a fair one
+pub small_opened : (n : ℕ) → 154 ≤ n → IsAsOpened (small_session n)
+small_opened n room = record {
+  room = omega (arith, room, length-replicate n zero_block);
+  one_image = zeros_image n;
+  journal = inl (record { at_rest = zeros_at_rest geometry 1 n (omega arith) (omega arith); all_needed = refl; window_is = refl; opened = refl });
+}
+
+pub small_fair : (n : ℕ) → 154 ≤ n → IsFair (small_session n) []
+small_fair n room = record { honest = tt; opened = small_opened n room }
 
 -- the core
 
@@ -196,5 +205,5 @@ small_first n = record {
 }
 
 -- .. is legal.
-pub small_legal : (n : ℕ) → 154 ≤ n → Legal (small_session n) small_core
-small_legal n room = legal_first (small_session n) small_core (small_first n) (small_served n room)
+pub small_legal : (n : ℕ) → Legal (small_session n) small_core
+small_legal n = legal_first (small_session n) small_core (small_first n) (small_served n)

@@ -1,7 +1,7 @@
 -- A core at its start is legal, with an empty trace.
 use Rattle.std.proofs.Common.{◌≡◌, ℕ, suc, ◌⊎◌, ◌≤◌, Bool, false, not, List, [], ◌∷◌, ◌++◌, length, refl, sym, ◌∙◌, ap, subst, inl, inr, arith}
 use Rattle.core_laws.proofs.journal.LogLaws.{log_at_start}
-use Rattle.core_laws.proofs.Common.{all_logged, AllByRecursion, answers_of, arrival, as_items, AtMost, AtRest, Balanced, begins_of, bit, block_token, blocks_at, DataOk, desk_zone, DeskLine, Each, entry_token, every-get, given, HasBlocks, HasWholeBlocks, holder_token, in_log, is_answer, is_begin, is_block, is_entry, IsFresh, IsSession, Item, ItemOk, journal_token, KeptEach, KeptOk, Lba, lease_token, Lock, lock_weight, LocksOk, Logged, logical_zone, LogicalZone, made_by, MapOk, Mapping, newest, notice_token, notified_by, of_address, OnBlock, one_physical, Pbn, queued, request_token, RestsAt, room_token, Session, Shown, Stands, Token, total, Trace, Vio, weight, Zone, zone_count, ZoneData, ZoneOk}
+use Rattle.core_laws.proofs.Common.{all_logged, AllByRecursion, answers_of, arrival, as_items, AtMost, AtRest, Balanced, begins_of, bit, block_token, blocks_at, DataOk, desk_zone, DeskLine, Each, entry_token, every-get, given, HasBlocks, HasWholeBlocks, holder_token, in_log, is_answer, is_begin, is_block, is_entry, IsAsOpened, IsFresh, IsSession, Item, ItemOk, journal_token, KeptEach, KeptOk, Lba, lease_token, Lock, lock_weight, LocksOk, Logged, logical_zone, LogicalZone, made_by, MapOk, Mapping, newest, notice_token, notified_by, of_address, OnBlock, one_physical, Pbn, queued, request_token, RestsAt, room_token, Session, Shown, Stands, Token, total, Trace, Vio, weight, Zone, zone_count, ZoneData, ZoneOk}
 use Rattle.blk_base.specs.declared.place.Mapping.TheVariants.{Unmapped, Zero, At}
 use Rattle.image_layout.specs.Values.{mapping_of, value_in}
 use Rattle.journal_stops.proofs.StepLaws.{opened}
@@ -88,29 +88,32 @@ no_words s n (at.Desk d) h = h.notices
 no_words s n (at.Device d) h = sym (ap (λ (b : Bool). notified_by s.sizes (at.Device (record d { stopped = b }))) h.stopped)
 no_words s n other h = refl
 
--- what the device has
+-- what the device has, where the image is as it was opened
 
-module _ (s : Session) (session : IsSession s) where
+module _ (s : Session) (session : IsSession s) (as_opened : IsAsOpened s) where
   -- the block that the window maps an address to has its value
   first_stands : (a : ℕ) (m : Mapping) → mapping_of s.window a ≡ m → OnBlock (λ x. Stands s [] x.0 (value_in s.image m)) m
   first_stands a Unmapped e = tt
   first_stands a Zero e = tt
-  first_stands a (At y) e = session.one_image.only y.0 (omega (arith, session.room, data_block_inside s.sizes.geometry y.0 (window_data s a y session e)))
+  first_stands a (At y) e = as_opened.one_image.only y.0 (omega (arith, as_opened.room, data_block_inside s.sizes.geometry y.0 (window_data s a y session e)))
 
   first_blocks : HasWholeBlocks s ⊎ HasNoneLeft s → HasBlocks s [] []
-  first_blocks (inl whole) = inl (whole, opened s.blocks s.before s.sizes.geometry s.sizes.start s.image s.sealed (omega (arith, session.room)) session.one_image whole.at_rest)
-  first_blocks (inr none) = inr (record { none = refl; opening = none; same = λ slot below. session.one_image.only (block_of_slot slot) (omega (arith, session.room, below)) })
+  first_blocks (inl whole) = inl (whole, opened s.blocks s.before s.sizes.geometry s.sizes.start s.image s.sealed (omega (arith, as_opened.room)) as_opened.one_image whole.at_rest)
+  first_blocks (inr none) = inr (record { none = refl; opening = none; same = λ slot below. as_opened.one_image.only (block_of_slot slot) (omega (arith, as_opened.room, below)) })
 
   at_rest : AtRest s [] []
-  at_rest = (first_blocks session.journal, λ a. first_stands a (mapping_of s.window a) refl)
+  at_rest = (first_blocks as_opened.journal, λ a. first_stands a (mapping_of s.window a) refl)
 
   pub shown_at_start : Shown s []
   shown_at_start = record {
-    superblock = session.one_image.only 0 (omega (arith, session.room));
+    superblock = as_opened.one_image.only 0 (omega (arith, as_opened.room));
     journal = inl (record { rest = []; all = refl; stands = at_rest });
     filling = tt;
   }
 
+-- what each zone has
+
+module _ (s : Session) (session : IsSession s) where
   -- an address is mapped to a block of the window
   held_at_start : (a : ℕ) (m : Mapping) → mapping_of s.window a ≡ m → HoldsMapping m
   held_at_start a Unmapped e = tt
@@ -183,7 +186,7 @@ module _ (s : Session) (session : IsSession s) where
     };
     sound = ((let none = ap length h.filling in omega (arith, none)), λ idle. record { unfilled = h.filling; unawaited = h.waiting });
     kept = nobody_at_start n (at.Journal j) h;
-    answers = subst (λ (b : Bool). RestsAt s [] b j.broken) (sym h.busy) (subst (λ (b : Bool). RestsAt s [] false b) (sym h.broken) (refl, at_rest));
+    answers = subst (λ (b : Bool). RestsAt s [] b j.broken) (sym h.busy) (subst (λ (b : Bool). RestsAt s [] false b) (sym h.broken) (refl, λ fair. at_rest s session fair.opened));
     told = λ closed. absurd (let notified = h.notified in let broken = h.broken in let opened : is_closed j ≡ false = rw (notified, broken) refl in cc);
   }
   data_at_start n (at.Device d) h = record { number_is = h.number_is; lists = record { calls_is = h.calls; stopped_is = h.stopped }; sound = tt; kept = tt; answers = tt; told = tt }
@@ -221,8 +224,8 @@ module _ (s : Session) (session : IsSession s) where
     room = balanced_at_start s zones first room_token (no_lines is_answer is_begin s);
     stop_notices = balanced_at_start s zones first (notice_token s.sizes) (no_words s);
     in_order = λ zone below. flows_at_start zones zone first;
-    right = shown_at_start;
-    gives_right = λ honest. tt;
+    right = λ fair. shown_at_start s session fair.opened;
+    gives_right = λ fair. tt;
   }
 
 -- A core at its start is legal.

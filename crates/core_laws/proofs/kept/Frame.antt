@@ -1,6 +1,6 @@
 -- A zone that weighs nothing for what a happening is about keeps all its facts. Paid once for all kinds of zone and item.
 use Rattle.std.proofs.Common.{◌≡◌, ◌≢◌, ◌⊎◌, ℕ, ◌≤◌, ◌==◌, Bool, true, false, Some, List, [], ◌∷◌, ◌++◌, slice_get, refl, ap, sym, ◌∙◌, subst, inl, inr, arith}
-use Rattle.core_laws.proofs.Common.{all_of, AllBelow, AllByRecursion, Answers, calls, Calls, Commits, committed, desk_zone, device_zone, done, drawn, Draws, Each, entered, Enters, eq-eqb, eqb_tells, every-front, Fails, filled, Flushes, Gives, Happening, has_stopped, HasLists, Item, ItemOk, journal_zone, kept_by, KeptEach, KeptOk, lines, logical_zone, marks, name_of, of_address, Phase, physical_zone, places, RestsAt, Says, sealed, Seals, Session, Sets, Sizes, taken, Takes, Token, total, total-append, total-get, Trace, Vio, WasTold, weight, Zone, zone_number, zone_of, ZoneData, ZoneOk}
+use Rattle.core_laws.proofs.Common.{all_of, AllBelow, AllByRecursion, Answers, calls, Calls, Commits, committed, desk_zone, device_zone, done, drawn, Draws, Each, entered, Enters, eq-eqb, eqb_tells, every-front, Fails, fair_before, filled, Flushes, Gives, Happening, has_stopped, HasLists, Item, ItemOk, journal_zone, kept_by, KeptEach, KeptOk, lines, logical_zone, marks, name_of, of_address, Phase, physical_zone, places, RestsAt, Says, sealed, Seals, Session, Sets, Sizes, taken, Takes, Token, total, total-append, total-get, Trace, Vio, WasTold, weight, Zone, zone_number, zone_of, ZoneData, ZoneOk}
 use Rattle.vdo_model.specs.FlushMarks.{successes}
 use Rattle.vdo_model.specs.ZoneOrder.{places_in}
 use Rattle.core_model.specs.declared.items.Item.TheVariants.{Request}
@@ -95,7 +95,7 @@ module _ (s : Session) (h : Happening) (t : Trace) where
   rests_on false false spares k =
       let same = spares refl in
       let blocks = sealed_spared s h t same.2 in
-      (ap all_of same.0.sealed_same ∙ k.0 ∙ sym same.0.committed_same, rw same.0.sealed_same (rests_kept s h t (sealed t) same.1 blocks k.1))
+      (ap all_of same.0.sealed_same ∙ k.0 ∙ sym same.0.committed_same, λ fair. rw same.0.sealed_same (rests_kept s h t (sealed t) same.1 blocks (k.1 (fair_before s h t fair))))
   rests_on false true spares k = tt
 
   pub answers_kept : (d : ZoneData) → ((k : Key) → 1 ≤ (token_of s.sizes k).own d → Spares s t h k) → Answers s t d → Answers s (h ∷ t) d

@@ -1,6 +1,6 @@
 -- Each step and each move keeps a core legal, and so does each list of events.
 use Rattle.std.proofs.Common.{◌≡◌, ℕ, zero, suc, ◌+◌, ◌<◌, ◌≤◌, Bool, true, false, Some, List, [], ◌∷◌, ◌++◌, length, nat_eq, slice_get, slice_set, refl, ap, sym, ◌∙◌, subst, arith}
-use Rattle.core_laws.proofs.Common.{AllByRecursion, Balanced, Each, Each-put_other, GivesRight, HasHonestReads, IsSession, Item, ItemOk, Post, RightTrace, Session, Token, Trace, Writer, Zone, ZoneData, ZoneOk, block_token, entry_token, eq-eqb, eqb-true, every-append, every-map, holder_token, idle_at, is_sealed, journal_token, lease_token, length-put, made_by, notice_token, request_token, room_token, same_Some, total, zone_number}
+use Rattle.core_laws.proofs.Common.{AllByRecursion, Balanced, Each, Each-put_other, GivesRight, IsFair, IsSession, Item, ItemOk, Post, RightTrace, Session, Token, Trace, Writer, Zone, ZoneData, ZoneOk, block_token, entry_token, eq-eqb, eqb-true, every-append, every-map, holder_token, idle_at, is_sealed, journal_token, lease_token, length-put, made_by, notice_token, request_token, room_token, same_Some, total, zone_number}
 use Rattle.core_model.specs.Arrivals.{arrivals_at}
 use Rattle.core_model.specs.Legal.{Legal}
 use Rattle.core_model.specs.Steps.{Act, Core, StepOf, sent_to, sent, delivered, posted}
@@ -152,5 +152,5 @@ module _ (s : Session) (session : IsSession s) (old new : Core) (legal : Legal s
         (course s old.trace legal.right st.number st.zone.keeps st.step.front st.zone'.keeps st.made st.step.posts st.step.act zone_ok.own here.front_ok kept_here))
         (legal.in_order zone below);
     right = subst (RightTrace s) (sym trace_is) stepped.right;
-    gives_right = subst (λ (t : Trace). HasHonestReads s t → GivesRight s t) (sym trace_is) (stepped.gives legal.gives_right);
+    gives_right = subst (λ (t : Trace). IsFair s t → GivesRight s t) (sym trace_is) (stepped.gives legal.gives_right);
   }

@@ -1,6 +1,6 @@
 -- A move keeps a core legal, and so does each list of events.
 use Rattle.std.proofs.Common.{◌≡◌, ◌++◌, length, slice_set, ap, sym, ◌∙◌, subst, arith}
-use Rattle.core_laws.proofs.Common.{AllByRecursion, Each, Each-put, GivesRight, HasHonestReads, IsSession, ItemOk, RightTrace, Session, Trace, Writer, Zone, ZoneOk, block_token, entry_token, every-append, every-front, get-put_other, holder_token, journal_token, lease_token, length-put, notice_token, request_token, room_token}
+use Rattle.core_laws.proofs.Common.{AllByRecursion, Each, Each-put, GivesRight, IsFair, IsSession, ItemOk, RightTrace, Session, Trace, Writer, Zone, ZoneOk, block_token, entry_token, every-append, every-front, get-put_other, holder_token, journal_token, lease_token, length-put, notice_token, request_token, room_token}
 use Rattle.core_model.specs.Arrivals.{arrivals_at}
 use Rattle.core_model.specs.Legal.{Legal}
 use Rattle.core_model.specs.Steps as steps
@@ -73,7 +73,7 @@ module _ (s : Session) (old new : Core) (m : MoveOf old new) (legal : Legal s ol
     stop_notices = balance_move (notice_token s.sizes) old new m legal.stop_notices;
     in_order = λ zone below. flows_move Writer (arrivals_at s zone) s.sizes (λ e. absurd (omega (arith, e))) old new m (legal.in_order zone below);
     right = subst (RightTrace s) (sym trace_is) legal.right;
-    gives_right = subst (λ (t : Trace). HasHonestReads s t → GivesRight s t) (sym trace_is) legal.gives_right;
+    gives_right = subst (λ (t : Trace). IsFair s t → GivesRight s t) (sym trace_is) legal.gives_right;
   }
 
 -- every list of events keeps a core legal

@@ -1,8 +1,7 @@
 -- Facts on the trace stay where the next happening is about something else.
 use Rattle.std.proofs.Common.{◌≡◌, ◌≢◌, ℕ, ◌+◌, ◌<◌, ◌==◌, Bool, true, false, not, ◌&&◌, ◌||◌, if◌then◌else◌, Option, None, Some, List, [], ◌∷◌, ◌≤◌, length, refl, ap, sym, ◌∙◌, inl, inr, arith}
-use Rattle.core_laws.proofs.Common.{Aborts, AllBelow, Calls, Commits, DeskLine, Draws, Enters, Entry, Fails, Flushes, FlushMark, Gives, Happening, HasBelow, HasHonestReads, IsCommitted, HasFullJournal, IsFull, IsOpen, IsPending, Logged, NeedsBlock, Quiet, Says, Seals, Session, Sets, Takes, Trace, Writer, aborted, begun, committed, done, entered, entries_of, eqb_tells, gift_of, gifts, has_read_fault, has_stopped, has_taken, is_read, lines, logged_of, moments, newest, of_address, place_of, places, same_writer, taken, value_at}
+use Rattle.core_laws.proofs.Common.{Aborts, AllBelow, Calls, Commits, DeskLine, Draws, Enters, Entry, Fails, Flushes, FlushMark, Gives, Happening, HasBelow, IsCommitted, HasFullJournal, IsFull, IsOpen, IsPending, Logged, NeedsBlock, Quiet, Says, Seals, Session, Sets, Takes, Trace, Writer, aborted, begun, committed, done, entered, entries_of, eqb_tells, gift_of, gifts, has_read_fault, has_stopped, has_taken, is_read, lines, logged_of, moments, newest, of_address, place_of, places, same_writer, taken, value_at}
 use Rattle.blk_base.specs.declared.request.Answer.TheVariants as reply
-use Rattle.disk_model.specs.declared.call.Call.TheVariants.{Read}
 use Rattle.image_layout.specs.Values.{mapping_of}
 use Rattle.vdo_model.specs.FlushMarks.{Moment, Desk, Device, IsMark}
 use Rattle.vdo_model.specs.declared.report.DeskLine.TheVariants.{Begin, Answer}
@@ -172,11 +171,6 @@ needs_kept h t w bytes same needs = record { not_zeros = needs.not_zeros; none_t
 pub full_kept : (s : Session) (h : Happening) (t : Trace) (w : Writer) (bytes : List ℕ) → has_taken (h ∷ t) w ≡ has_taken t w → IsFull s t w bytes → IsFull s (h ∷ t) w bytes
 full_kept s h t w bytes same (inl full) = inl (journal_full_kept s h t full)
 full_kept s h t w bytes same (inr full) = inr (needs_kept h t w bytes same full.0, taken_kept s h t full.1)
-
--- an honest device was so before
-pub honest_before : (s : Session) (h : Happening) (t : Trace) → HasHonestReads s (h ∷ t) → HasHonestReads s t
-honest_before s (Calls (Read at bytes true)) t k = k.2
-honest_before s other t k = k
 
 -- what an address is mapped to, by the writes of it
 pub mapping_by : (window : List Entry) (es : List Logged) (a : ℕ) → mapping_of (entries_of window es) a ≡ mapped_by (newest (of_address a es)) (mapping_of window a)

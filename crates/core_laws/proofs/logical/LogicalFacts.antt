@@ -1,6 +1,6 @@
 -- What the acts of a logical zone owe: a request draws its place, and is done with its lock.
 use Rattle.std.proofs.Common.{◌≡◌, ℕ, ◌+◌, ◌==◌, Bool, true, false, if◌then◌else◌, Some, IsNone, List, [], ◌∷◌, ◌++◌, refl, ap, sym, ◌∙◌, inl, inr, arith, ◌<◌, IsSome, subst}
-use Rattle.core_laws.proofs.Common.{Aborts, AllBelow, AllByRecursion, Asks, DataOk, DeskLine, Draws, FlushMark, Follows, Gives, GivesRight, Happening, HasAddress, HasEarned, HasHonestReads, IsChange, IsCommitted, IsEntered, IsForBlock, IsFresh, IsOfZone, IsPlaced, IsUndrawn, KeptOk, Lba, Lock, LocksOk, Logged, LogicalZone, Looks, MayReply, OnBlock, Pbn, Phase, Placed, PlaceMayFollow, Post, Quiet, RightTrace, Session, Sets, Trace, Vio, VioOk, Writer, aborted, answer_of, asked, before_begin, done, ended, eq-eqb, eqb_tells, every-append, every-map, gift, gift_of, gifts, has_stopped, holds, lines, logged, logged_of, logical_zone, mapping_in, places, request_at, same_self, same_writer, some_is, turned, value_at, zone_number, zone_of}
+use Rattle.core_laws.proofs.Common.{Aborts, AllBelow, AllByRecursion, Asks, DataOk, DeskLine, Draws, FlushMark, Follows, Gives, GivesRight, Happening, HasAddress, HasEarned, IsChange, IsCommitted, IsEntered, IsFair, IsForBlock, IsFresh, IsOfZone, IsPlaced, IsUndrawn, KeptOk, Lba, Lock, LocksOk, Logged, LogicalZone, Looks, MayReply, OnBlock, Pbn, Phase, Placed, PlaceMayFollow, Post, Quiet, RightTrace, Session, Sets, Trace, Vio, VioOk, Writer, aborted, answer_of, asked, before_begin, done, ended, eq-eqb, eqb_tells, every-append, every-map, fair_before, gift, gift_of, gifts, has_stopped, holds, lines, logged, logged_of, logical_zone, mapping_in, places, request_at, same_self, same_writer, some_is, turned, value_at, zone_number, zone_of}
 use Rattle.core_model.specs.declared.items.Asks.TheVariants.{Read, Write, Discard, Flush}
 use Rattle.core_model.specs.Legal.{ComesAfter}
 use Rattle.core_model.specs.LogicalRows.{is_among, is_held, lock_of, placed, place_of_vio, drawn_by, goes_on, LogicalServes, arrives_retired, arrives_free, arrives_held, settles, gives, aborts, aborts_entered, released, granted, retire, all_stopped, all_for, with_slot}
@@ -128,8 +128,8 @@ module _ {s : Session} {t : Trace} {n : ℕ} {l : LogicalZone} {v : Vio} (known 
     others_wait : AllByRecursion (KeptOk s t' phase.Wait) l.waiting
     others_wait = line_kept known (Draws p) t clears known.own.kept
 
-    gives_same : (HasHonestReads s t → GivesRight s t) → HasHonestReads s t' → GivesRight s t'
-    gives_same f honest = f honest
+    gives_same : (IsFair s t → GivesRight s t) → IsFair s t' → GivesRight s t'
+    gives_same f fair = f (fair_before s (Draws p) t fair)
 
     pub retired_kept : is_among v.at.0 l.retired ≡ true → ActKept s t n (at.Logical l) (item.Request v ∷ []) (at.Logical (drawn_by l v)) (Draws p ∷ []) ((id.Desk, item.Request (ended phase.Reply reply.Stopped v')) ∷ [])
     retired_kept retired =
@@ -241,7 +241,7 @@ module _ {s : Session} {t : Trace} {n : ℕ} {l : LogicalZone} {v : Vio} (known 
     settles_kept : (more : List Post) → granted s.sizes v.at.0 (with_slot l v) ≡ Some more → After (released v.at.0 (with_slot l v)) (Sets (logged v) ∷ []) ((id.Desk, item.Request (ended phase.Reply reply.Ok v)) ∷ more)
     settles_kept more grants =
         let both = release_ok s set_t n (with_slot l v) known.session right_set slot_ok v (leased phase.Settle is refl) home quiet_set below_set more grants in
-        act_one known (Sets e) clears_set (λ f honest. f honest) right_set both.0
+        act_one known (Sets e) clears_set (λ f fair. f (fair_before s (Sets e) t fair)) right_set both.0
         ((omega arith, (vio_over s (Sets e) t v refl (vio_ok known), done_earned s set_t (mark_of_vio v) v.asks v.at v.bytes facts.0.is_change (rw (same_self v.request) (some_is (Some e) e refl)), refl)), both.1)
 
   -- It is given its bytes.
@@ -249,7 +249,7 @@ module _ {s : Session} {t : Trace} {n : ℕ} {l : LogicalZone} {v : Vio} (known 
     abbrev u : Trace
     u = Gives (gift v) ∷ t
 
-    looked : Looks s t v × (HasHonestReads s t → v.bytes ≡ value_at s t v.at.0)
+    looked : Looks s t v × (IsFair s t → v.bytes ≡ value_at s t v.at.0)
     looked = in_phase known phase.Loaded is
 
     clears_give : Clears s n (Mine s t (at.Logical l) (item.Request v ∷ [])) (Gives (gift v)) t
@@ -291,7 +291,7 @@ module _ {s : Session} {t : Trace} {n : ℕ} {l : LogicalZone} {v : Vio} (known 
     gives_kept : (more : List Post) → granted s.sizes v.at.0 l ≡ Some more → After (released v.at.0 l) (Gives (gift v) ∷ []) ((id.Desk, item.Request (ended phase.Reply (reply.Bytes v.bytes) v)) ∷ more)
     gives_kept more grants =
         let both = release_ok s u n l known.session right_give given_ok v (leased phase.Loaded is refl) home (quiet_same v.at.0 looked.0.held.quiet) below_give more grants in
-        act_one known (Gives (gift v)) clears_give (λ f honest. (looked.1 honest, f honest)) right_give both.0
+        act_one known (Gives (gift v)) clears_give (λ f fair. let before = fair_before s (Gives (gift v)) t fair in (looked.1 before, f before)) right_give both.0
         ((omega arith, (vio_over s (Gives (gift v)) t v refl (vio_ok known), given_earned s u (mark_of_vio v) v.asks v.at v.bytes v.place looked.0.is_read (rw (same_self v.request) refl), refl)), both.1)
 
   -- It is aborted, before its entry was handed in ..
@@ -334,7 +334,7 @@ module _ {s : Session} {t : Trace} {n : ℕ} {l : LogicalZone} {v : Vio} (known 
     aborts_entered_kept : After (retire v.at.0 l) (Aborts (logged v) ∷ []) ((id.Desk, item.Request (turned phase.Reply v)) ∷ all_stopped (all_for v.at.0 l.waiting))
     aborts_entered_kept =
         let both = retire_ok s (gone ∷ t) n l known.session right_abort gone_ok v (leased phase.AbortEntered is refl) home carries_it.2 (λ place less. inl (refl, less)) in
-        act_one known gone clears_abort (λ f honest. f honest) right_abort both.0
+        act_one known gone clears_abort (λ f fair. f (fair_before s gone t fair)) right_abort both.0
         ((omega arith, (vio_over s gone t v refl (vio_ok known), reply_said s gone t v v.answer (record { of_place = refl; of_entry = refl; of_slot = refl; of_gift = refl; of_take = refl }) carries_it.1, refl)), both.1)
 
   -- each act of a logical zone

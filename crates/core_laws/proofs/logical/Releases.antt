@@ -72,7 +72,7 @@ module _ (s : Session) (t : Trace) (n : ℕ) (l : LogicalZone) (session : IsSess
       among,
       (
         record { asked = ok.asked ∙ ap (λ (r : Request). Some r) (asked_read u.asks u zero_block is_read); is_open = ok.is_open; address = ok.address; home = ok.home },
-        (looks, λ honest. is),
+        (looks, λ fair. is),
         ap (zone_number s.sizes) (sym home),
       ),
     )

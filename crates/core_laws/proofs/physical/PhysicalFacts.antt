@@ -1,7 +1,7 @@
 -- What the acts of the physical zone owe.
 use Rattle.std.proofs.Common.{◌≡◌, ℕ, zero, suc, ◌<◌, ◌≤◌, ◌%◌, ◌/◌, true, Some, List, [], ◌∷◌, length, drop, slice_get, refl, ap, sym, ◌∙◌, subst, inr, arith}
 use Rattle.std.proofs.Math.Nat.{mod-lt}
-use Rattle.core_laws.proofs.Common.{AllByRecursion, Happening, Holds, IsFresh, IsFull, Pbn, PhysicalZone, Post, Session, TakeMayFollow, Takes, Trace, Vio, asked, taken, zone_count, zone_number, zone_of}
+use Rattle.core_laws.proofs.Common.{AllByRecursion, Happening, Holds, IsFresh, IsFull, Pbn, PhysicalZone, Post, Session, TakeMayFollow, Takes, Trace, Vio, asked, fair_before, taken, zone_count, zone_number, zone_of}
 use Rattle.blk_base.specs.declared.place.ZoneId.TheVariants as id
 use Rattle.core_model.specs.declared.items.Item.TheVariants as item
 use Rattle.core_model.specs.declared.items.Phase.TheVariants as phase
@@ -52,7 +52,7 @@ module _ {s : Session} {t : Trace} {n : ℕ} {old : PhysicalZone} {v : Vio} (kno
       let h : Happening = Takes v.request x in
       let may : TakeMayFollow s v.request x t =
       record { is_open = (vio_ok known).is_open; asked = (v.at, v.bytes, (vio_ok known).asked ∙ ap (λ q. Some (asked q v.at v.bytes)) k.1, k.2); next = left.0 } in
-      rw (i, m, q) (act_one known h (plain_clears known h t tt own.number_is (own_request known) tt) (λ gives honest. gives honest)
+      rw (i, m, q) (act_one known h (plain_clears known h t tt own.number_is (own_request known) tt) (λ gives fair. gives (fair_before s h t fair))
       (may, shown_plain s t h tt (shown_of s t known.right), known.right)
       (record { number_is = own.number_is; lists = record { left = left.1 }; sound = free.1; kept = tt; answers = tt; told = tt })
       ((omega arith, (vio_over s h t v refl (vio_ok known), (still_holds s t v x k.0, k.1, free.0), refl)), tt))

@@ -1,7 +1,7 @@
 -- The desk log of a right trace is well formed, and each done entry is a committed one, each committed one an entered
 -- one.
 use Rattle.std.proofs.Common.{ℕ, ◌≡◌, ◌<◌, ◌==◌, List, [], ◌∷◌, ◌++◌, append_assoc, Some, IsNone, ap, refl, sym, ◌∙◌, subst, inl, inr, arith}
-use Rattle.core_laws.proofs.Common.{all_of, AllByRecursion, Answer as Reply, answer_of, begun, cases_Bool, committed, DeskLine, done, each_at, entered, eqb_tells, every-map, filled, Happening, IsDeskLog, IsWrite, lines, Logged, logged_of, MayFollow, none_is, not_both, of_address, OnBlock, option_cases, RightTrace, same_self, same_Some, same_tells, Script, Session, Sets, Shown, Trace, Writer}
+use Rattle.core_laws.proofs.Common.{all_of, AllByRecursion, Answer as Reply, answer_of, begun, cases_Bool, committed, Commits, DeskLine, done, each_at, entered, eqb_tells, every-map, filled, Happening, IsDeskLog, IsFair, IsWrite, lines, Logged, logged_of, MayFollow, none_is, not_both, of_address, OnBlock, option_cases, RightTrace, same_self, same_Some, same_tells, Script, Session, Sets, Shown, Trace, Writer}
 use Rattle.vdo_model.specs.declared.report.DeskLine.TheVariants.{Begin, Answer}
 use Rattle.core_laws.proofs.trace.Growth.{desk_grows, entered_grows, committed_grows, done_grows, begun_more, write_stays}
 use Rattle.core_laws.proofs.kept.StandsOn.{entered_parts}
@@ -26,8 +26,8 @@ answered_begun depth script (Answer v b ∷ older) w a log is = elim (same_tells
   | inr other ↦ answered_begun depth script older w a log.1 (rw other.0 at is)
 ]
 
--- what stands on the device at the end of a trace
-pub shown_of : (s : Session) (t : Trace) → RightTrace s t → Shown s t
+-- what stands on the device at the end of a trace, where the session is fair
+pub shown_of : (s : Session) (t : Trace) → RightTrace s t → IsFair s t → Shown s t
 shown_of s [] right = right
 shown_of s (h ∷ t) right = right.1
 
@@ -95,16 +95,18 @@ entered_apart s (h ∷ t) right =
     let rest = entered_apart s t right.2 in
     entered_grows AreApart s h t right.0 rest (λ e came next. (next.once, rest))
 
--- the committed entries are the oldest of those that were handed in
+-- the committed entries are the oldest of those in sealed blocks
+pub committed_sealed : (s : Session) (t : Trace) → RightTrace s t → (rest : List Logged) × (all_of (sealed t) ≡ rest ++ committed t)
+committed_sealed s [] right = ([], refl)
+committed_sealed s (Commits e ∷ t) right = (right.0.rest, right.0.next)
+committed_sealed s (Seals ∷ t) right = (filled t, ap (λ (es : List Logged). filled t ++ es) right.0.all_committed)
+committed_sealed s (other ∷ t) right = committed_sealed s t right.2
+
+-- and so of those that were handed in
 pub committed_part : (s : Session) (t : Trace) → RightTrace s t → (newer : List Logged) × (entered t ≡ newer ++ committed t)
-committed_part s t right = elim (shown_of s t right).journal [
-  | inl there ↦ (filled t ++ there.rest, entered_parts t ∙ ap (λ (es : List Logged). filled t ++ es) there.all ∙ sym (append_assoc (filled t) there.rest (committed t)))
-  | inr comes ↦ (
-    filled t ++ comes.block,
-    entered_parts t ∙ ap (λ (es : List Logged). filled t ++ es) (ap all_of comes.sealed_is ∙ ap (λ (es : List Logged). comes.block ++ es) (sym comes.committed_is))
-        ∙ sym (append_assoc (filled t) comes.block (committed t)),
-  )
-]
+committed_part s t right =
+    let (rest, all) = committed_sealed s t right in
+    (filled t ++ rest, entered_parts t ∙ ap (λ (es : List Logged). filled t ++ es) all ∙ sym (append_assoc (filled t) rest (committed t)))
 
 -- what holds of a list without its first element holds of each of its ends
 end_has : (P : List Logged → Type 0) → ((e : Logged) (es : List Logged) → P (e ∷ es) → P es) → (newer older : List Logged) → P (newer ++ older) → P older

@@ -1,6 +1,6 @@
 -- The reads of a right trace are right, and so is its report, which has the zones' lists of places.
 use Rattle.std.proofs.Common.{ℕ, ◌≡◌, ◌<◌, nat_lt, true, List, [], ◌∷◌, Some, IsNone, if◌then◌else◌, refl, sym, ◌∙◌, ap, subst, inl, inr, arith, length}
-use Rattle.core_laws.proofs.Common.{AllAnswered, AllByRecursion, Fails, Flushes, Gift, Gives, GivesRight, HasCause, HistoryEntry, IsSession, Lba, Logged, Placed, RightTrace, Says, Session, Sets, Trace, Writer, answer_of, bytes_of, calls, done, each_both, eqb_tells, every-map, gift_of, gifts, le-ltb, lines, lt-ltb, marks, newest, not_both, of_address, places, request_at, same_Some, same_tells, value_from, zone_of}
+use Rattle.core_laws.proofs.Common.{AllAnswered, AllByRecursion, Fails, Flushes, Gift, Gives, GivesRight, HasCause, HistoryEntry, IsFair, IsSession, Lba, Logged, Placed, RightTrace, Says, Session, Sets, Trace, Writer, answer_of, bytes_of, calls, done, each_both, eqb_tells, every-map, gift_of, gifts, le-ltb, lines, lt-ltb, marks, newest, not_both, of_address, places, request_at, same_Some, same_tells, value_from, zone_of}
 use Rattle.vdo_model.specs.Histories.{history_of, is_settled}
 use Rattle.vdo_model.specs.RightReads.{value_below, ReadsRight}
 use Rattle.vdo_model.specs.declared.report.DeskLine.TheVariants.{Begin, Answer}
@@ -140,11 +140,11 @@ report_reads_right s t session right gives =
     reads_same s.sizes.zones s.sizes.geometry.logical s.script (lines t) (progress_of t) (opening_values s) (places t) (listed_places s t) (listed s t session right)
     (places_drawn s t right) (reads_right s t session right gives)
 
--- a stop at any moment leaves what it may
-pub report_stops_right : (s : Session) (t : Trace) → IsSession s → RightTrace s t
+-- where the session is fair, a stop at any moment leaves what it may
+pub report_stops_right : (s : Session) (t : Trace) → IsSession s → RightTrace s t → IsFair s t
     → RightAfterStops (ShowsValues s) s.blocks s.before s.sizes.geometry.logical (opening_values s) (report_of s t) (calls t)
-report_stops_right s t session right later prefix calls_are image is =
-    let (values, has, shows) = stops_right s t session right later prefix calls_are image is in (
+report_stops_right s t session right fair later prefix calls_are image is =
+    let (values, has, shows) = stops_right s t session right fair later prefix calls_are image is in (
       values,
       has,
       λ a below. subst (λ (history : List HistoryEntry). MayShow s.script (lines t) (marks t) (calls t) (length prefix) history (opening_values s a) (values a))

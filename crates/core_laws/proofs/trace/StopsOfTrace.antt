@@ -1,6 +1,6 @@
 -- A stop before or after any call of a right trace is right.
 use Rattle.std.proofs.Common.{ℕ, min, drop, length-drop, length-take, ◌+◌, ◌-◌, ◌≡◌, ◌⊎◌, ◌<◌, false, List, [], ◌∷◌, ◌++◌, length, refl, ◌∙◌, ap, inl, inr, arith, ◌≤◌, Bool, true, sym, subst, append_assoc, IsSome}
-use Rattle.core_laws.proofs.Common.{all_of, AllByRecursion, answer_of, append-nil, AreAllThere, AtRest, begun, bytes_of, Call, calls, Calls, ComesLast, committed, DeskLine, done, each_both, entered, entries_of, every-append, every-front, every-map, filled, FlushMark, HasBlocks, HasWholeBlocks, HistoryEntry, IsSession, IsWrite, lines, log, Logged, Mapping, MapStands, Mark, marks, newest, NewStands, of_address, OnBlock, OnItsWay, places, request_at, RightTrace, RunReport, same_self, sealed, Session, Shown, Stands, Trace, value_from, value_written, Writer}
+use Rattle.core_laws.proofs.Common.{all_of, AllByRecursion, answer_of, append-nil, AreAllThere, AtRest, begun, bytes_of, Call, calls, Calls, ComesLast, committed, DeskLine, done, each_both, entered, entries_of, every-append, every-front, every-map, fair_part, filled, FlushMark, HasBlocks, HasWholeBlocks, HistoryEntry, IsFair, IsSession, IsWrite, lines, log, Logged, Mapping, MapStands, Mark, marks, newest, NewStands, of_address, OnBlock, OnItsWay, places, request_at, RightTrace, RunReport, same_self, sealed, Session, Shown, Stands, Trace, value_from, value_written, Writer}
 use Rattle.blk_base.specs.declared.place.Mapping.TheVariants.{Unmapped, Zero, At}
 use Rattle.disk_model.specs.Images.{IsImage}
 use Rattle.disk_model.specs.Log.{Blocks, block_at}
@@ -62,7 +62,7 @@ pub record FrontOf (es : List Logged) : Type 0 where
   pub older : List Logged
   pub parts : es ≡ newer ++ older
 
-module _ (s : Session) (u : Trace) (image : Blocks) (session : IsSession s) (is : IsImage s.blocks (log s u) image) where
+module _ (s : Session) (u : Trace) (image : Blocks) (session : IsSession s) (fair : IsFair s u) (is : IsImage s.blocks (log s u) image) where
   -- a window whose blocks all name the first sequence has the entries of all
   all_in_window : (older : List (List Logged)) (last : ℕ) → HasWholeBlocks s → IsWindow s.sizes.geometry s.sizes.start (journal_of s.sizes.geometry image) last (window_of s.sizes.start (blocks_of s older)) → HasWindow s image (all_of older)
   all_in_window older last whole k = record {
@@ -81,15 +81,15 @@ module _ (s : Session) (u : Trace) (image : Blocks) (session : IsSession s) (is 
   -- where the journal is as it was opened, it is that of the opened image
   opened_journal : (older : List (List Logged)) → StandsAsOpened s u older → journal_of s.sizes.geometry image ≡ journal_of s.sizes.geometry s.image
   opened_journal older k =
-      let size : length image ≡ length s.image = is.size ∙ sym session.one_image.size in
+      let size : length image ≡ length s.image = is.size ∙ sym fair.opened.one_image.size in
       ext_get_or zero_block (journal_of s.sizes.geometry image) (journal_of s.sizes.geometry s.image)
       (length-take s.sizes.geometry.journal (drop 1 image) ∙ ap (min s.sizes.geometry.journal) (length-drop 1 image ∙ ap (λ (n : ℕ). n - 1) size ∙ sym (length-drop 1 s.image))
       ∙ sym (length-take s.sizes.geometry.journal (drop 1 s.image)))
       (λ slot below.
       let there : slot < s.sizes.geometry.journal = omega (arith, below, length-take s.sizes.geometry.journal (drop 1 image)) in
-      let room : block_of_slot slot < length s.blocks = omega (arith, there, session.room) in
+      let room : block_of_slot slot < length s.blocks = omega (arith, there, fair.opened.room) in
       slot_there s.sizes.geometry image slot there
-      ∙ block_of_image s.blocks (log s u) image (block_of_slot slot) (block_at s.image (block_of_slot slot)) room (session.one_image.whole (block_of_slot slot) room) (k.same slot there) is
+      ∙ block_of_image s.blocks (log s u) image (block_of_slot slot) (block_at s.image (block_of_slot slot)) room (fair.opened.one_image.whole (block_of_slot slot) room) (k.same slot there) is
       ∙ sym (slot_there s.sizes.geometry s.image slot there))
 
   rest_window : (older : List (List Logged)) → AtRest s u older → HasWindow s image (all_of older)
@@ -97,7 +97,7 @@ module _ (s : Session) (u : Trace) (image : Blocks) (session : IsSession s) (is 
     where
       by : HasBlocks s u older → HasWindow s image (all_of older)
       by (inl (whole, at_rest)) =
-          all_in_window older (last_of older) whole (window_at_rest s.blocks (log s u) s.sizes.geometry s.sizes.start (blocks_of s older) image (last_of older) (omega (arith, session.room)) at_rest is (last_is older))
+          all_in_window older (last_of older) whole (window_at_rest s.blocks (log s u) s.sizes.geometry s.sizes.start (blocks_of s older) image (last_of older) (omega (arith, fair.opened.room)) at_rest is (last_is older))
       by (inr k) = record {
         last = k.opening.last;
         shown = k.opening.committed;
@@ -108,7 +108,7 @@ module _ (s : Session) (u : Trace) (image : Blocks) (session : IsSession s) (is 
   -- where the last block comes, the image has the others, or its first sectors too
   coming_window : (older : List (List Logged)) (es : List Logged) → OnItsWay s u older es → HasWindow s image (all_of older) ⊎ ((part : FrontOf es) × HasWindow s image (part.older ++ all_of older))
   coming_window older es way =
-      elim (window_under_way s.blocks (log s u) s.sizes.geometry s.sizes.start (blocks_of s older) (sealed_with s es) image (last_of older) (omega (arith, session.room)) way.0.1 is (last_is older)) [
+      elim (window_under_way s.blocks (log s u) s.sizes.geometry s.sizes.start (blocks_of s older) (sealed_with s es) image (last_of older) (omega (arith, fair.opened.room)) way.0.1 is (last_is older)) [
         | inl old ↦ inl (all_in_window older (last_of older) way.0.0 old)
         | inr (n, some, few, new) ↦
             let front = front_part s n es in
@@ -176,17 +176,17 @@ module _ (s : Session) (u : Trace) (image : Blocks) (session : IsSession s) (is 
   -- The superblock stays.
   pub same_superblock : Shown s u → block_at image 0 ≡ block_at s.image 0
   same_superblock shown =
-      let some : 0 < length s.blocks = omega (arith, session.room) in
-      block_of_image s.blocks (log s u) image 0 (block_at s.image 0) some (session.one_image.whole 0 some) shown.superblock is
+      let some : 0 < length s.blocks = omega (arith, fair.opened.room) in
+      block_of_image s.blocks (log s u) image 0 (block_at s.image 0) some (fair.opened.one_image.whole 0 some) shown.superblock is
 
   -- An address has the value of its newest entry, or that which it had.
   module _ (right : RightTrace s u) (es : List Logged) (a : ℕ) (stand : MapStands s u es) (writes : AllByRecursion (IsWrite s u) es) (to_data : AreData s es) where
     by_mapping : (m : Mapping) → mapping_of (entries_of s.window es) a ≡ m → value_in image m ≡ value_from s a (newest (of_address a es))
     by_mapping (At x) maps =
         let inside = data_block_inside s.sizes.geometry x.0 (mapped_is_data s es a x session to_data maps) in
-        let whole = value_whole s u session right es a x (newest (of_address a es)) writes refl (sym (mapping_by s.window es a) ∙ maps) in
+        let whole = value_whole s u session right fair es a x (newest (of_address a es)) writes refl (sym (mapping_by s.window es a) ∙ maps) in
         let stands : Stands s u x.0 (value_from s a (newest (of_address a es))) = subst (OnBlock (λ y. Stands s u y.0 (value_from s a (newest (of_address a es))))) maps (stand a) in
-        block_of_image s.blocks (log s u) image x.0 _ (omega (arith, inside, session.room)) whole stands is
+        block_of_image s.blocks (log s u) image x.0 _ (omega (arith, inside, fair.opened.room)) whole stands is
     by_mapping Unmapped maps = sym (zeros_by s u es a (newest (of_address a es)) Unmapped (λ x off. cc) refl refl writes (sym (mapping_by s.window es a) ∙ maps))
     by_mapping Zero maps = sym (zeros_by s u es a (newest (of_address a es)) Zero (λ x off. cc) refl refl writes (sym (mapping_by s.window es a) ∙ maps))
 
@@ -353,19 +353,20 @@ abbrev pub drawn_report : Session → Trace → RunReport
 drawn_report s t = record (report_of s t) { places = places t; histories = drawn_histories s t }
 
 -- A stop before or after any call of a right trace is right.
-pub stops_right : (s : Session) (t : Trace) → IsSession s → RightTrace s t
+pub stops_right : (s : Session) (t : Trace) → IsSession s → RightTrace s t → IsFair s t
     → RightAfterStops (ShowsValues s) s.blocks s.before s.sizes.geometry.logical (opening_values s) (drawn_report s t) (calls t)
-stops_right s t session right later prefix calls_are image is =
+stops_right s t session right fair later prefix calls_are image is =
     let c = cut t later prefix calls_are in
     let u = c.older in
     let right_cut = right_part s c.newer u (subst (RightTrace s) c.parts right) in
-    let stands = shown_of s u right_cut in
+    let fair_cut = fair_part s c.newer u (subst (IsFair s) c.parts fair) in
+    let stands = shown_of s u right_cut fair_cut in
     let is_cut : IsImage s.blocks (log s u) image = subst (λ (cs : List Call). IsImage s.blocks (cs ++ s.before) image) (sym c.calls_are) is in
-    let entries = image_entries s u image session is_cut stands in
+    let entries = image_entries s u image session fair_cut is_cut stands in
     let writes = each_older (IsWrite s u) entries.more entries.es (subst (AllByRecursion (IsWrite s u)) entries.of_entered (entered_writes s u right_cut)) in
     let to_data = each_older (HasData s) entries.more entries.es (subst (AreData s) entries.of_entered (entered_data s u right_cut)) in (
       value_of image (entries_of s.window entries.es),
-      (same_superblock s u image session is_cut stands, record { last = entries.window.last; window = entries.window.shown; is_window = entries.window.is_window; values_are = ap (value_of image) entries.window.said }),
+      (same_superblock s u image session fair_cut is_cut stands, record { last = entries.window.last; window = entries.window.shown; is_window = entries.window.is_window; values_are = ap (value_of image) entries.window.said }),
       λ a below. may_show s t session right prefix c entries.es entries.more entries.fewer entries.of_entered entries.has_committed a below
-          (value_of image (entries_of s.window entries.es) a) (shown_value s u image session is_cut right_cut entries.es a entries.stand writes to_data),
+          (value_of image (entries_of s.window entries.es) a) (shown_value s u image session fair_cut is_cut right_cut entries.es a entries.stand writes to_data),
     )

@@ -1,0 +1,162 @@
+-- Rows that pin what is owed of any device and what of a fair session alone: for each clause a case that it accepts, and one
+-- that breaks it alone. A session that is fair when it begins, over a new image, stands in core_laws.
+use Rattle.std.proofs.Common.{ℕ, ◌≡◌, ◌≢◌, ◌⊎◌, ◌+◌, ◌<◌, ◌≤◌, true, false, List, [], ◌∷◌, ◌++◌, length, refl, ap, subst, inl, inr, arith}
+use Rattle.blk_base.specs.Regions.{needed_blocks}
+use Rattle.blk_base.specs.Sectors.{sector}
+use Rattle.blk_base.specs.declared.journal_entry.Entry.{Entry}
+use Rattle.blk_base.specs.declared.place.Pbn.{Pbn}
+use Rattle.disk_model.specs.Images.{IsMixOf}
+use Rattle.disk_model.specs.Log.{block_at, settled}
+use Rattle.disk_model.specs.declared.call.Call.TheVariants.{Read, Write, Flush}
+use Rattle.core_model.specs.declared.items.Phase.TheVariants as phase
+use Rattle.core_model.specs.declared.items.Stage.TheVariants as stage
+use Rattle.core_model.specs.declared.items.Vio.{Vio}
+use Rattle.core_model.specs.Facts.{Carries, Holds, IsSealed, Looks, RestsAt, StandsAt}
+use Rattle.core_model.specs.Legal.{Legal}
+use Rattle.core_model.specs.RightTraces.{GivesRight, MapsTo, MayFollow, RightTrace}
+use Rattle.core_model.specs.Sessions.{AtRest, HasNoneLeft, HasWholeBlocks, IsAsOpened, IsFair, IsFresh, IsSession, NewReads, NewStands, OnBlock, OnItsWay, ReadsAs, ReadsBlock, Session, Shown, value_at}
+use Rattle.core_model.specs.Steps.{Core}
+use Rattle.core_model.specs.Trace.{Calls, Flushes, Happening, Trace, all_of, committed, has_stopped, sealed}
+use Rattle.core_model.specs.Vios.{all_logged}
+use Rattle.core_model.proofs.FairLaws.{fair_before, fair_on}
+use Rattle.core_model.proofs.rows.WorkedTraces.{session, begun}
+
+-- IsSession: one block of the journal stays free
+session-not_with_all_blocks_used : (s : Session) → s.sizes.opened ≡ s.sizes.geometry.journal → IsSession s → ⊥
+session-not_with_all_blocks_used s all is = omega (arith, all, is.used)
+
+session-with_one_block_left : (s : Session) → IsSession s → s.sizes.opened + 1 ≤ s.sizes.geometry.journal
+session-with_one_block_left s is = let used = is.used in omega (arith, used)
+
+-- IsAsOpened: there is room for the image
+opened-not_on_a_small_device : (s : Session) → length s.blocks < needed_blocks s.sizes.geometry → IsAsOpened s → ⊥
+opened-not_on_a_small_device s small is = omega (arith, small, is.room)
+
+no_device : IsAsOpened session → ⊥
+no_device is = opened-not_on_a_small_device session (omega arith) is
+
+-- the device had no other image: none where a block differs, and none where a write isn't flushed
+opened-not_where_a_block_differs : (s : Session) (b : ℕ) → s.before ≡ [] → b < length s.blocks → block_at s.blocks b ≢ block_at s.image b → IsAsOpened s → ⊥
+opened-not_where_a_block_differs s b none below differs is = let only = rw none at (is.one_image.only b below) in differs only.0
+
+-- and the journal of the image says what the session knows: blocks that were sealed have its window
+opened-not_with_another_window : (s : Session) (e : Entry) → s.sealed ≡ [] → s.sizes.opened + 1 < s.sizes.geometry.journal → s.window ≡ e ∷ [] → IsAsOpened s → ⊥
+opened-not_with_another_window s e none left window is = by is.journal
+  where
+    by : HasWholeBlocks s ⊎ HasNoneLeft s → ⊥
+    by (inl whole) = let same : e ∷ [] ≡ [] = rw (window, none) at whole.window_is in absurd cc
+    by (inr full) = let all = full.full in omega (arith, all, left)
+
+-- IsFair: of a session as it was opened, a trace without a read is, and one with a read of what the device has
+module _ (s : Session) (opened : IsAsOpened s) where
+  fair-when_it_begins : IsFair s []
+  fair-when_it_begins = record { honest = tt; opened = opened }
+
+  fair-behind_a_write : (x : Pbn) (bytes : List ℕ) → IsFair s (Calls (Write x bytes true) ∷ Calls (Flush true) ∷ [])
+  fair-behind_a_write x bytes = fair_on s (Calls (Write x bytes true)) (Calls (Flush true) ∷ []) refl (fair_on s (Calls (Flush true)) [] refl fair-when_it_begins)
+
+  fair-behind_a_read : (x : Pbn) → s.before ≡ [] → length (block_at s.blocks x.0) ≡ 4096 → IsFair s (Calls (Read x (block_at s.blocks x.0) true) ∷ [])
+  fair-behind_a_read x none whole = record {
+    honest = (whole, rw none (λ i below. inl refl), tt);
+    opened = opened;
+  }
+
+  -- not behind one that gave another sector
+  fair-not_behind_a_lie : (x : Pbn) (bytes : List ℕ) → s.before ≡ [] → sector 0 bytes ≢ sector 0 (block_at s.blocks x.0) → IsFair s (Calls (Read x bytes true) ∷ []) → ⊥
+  fair-not_behind_a_lie x bytes none differs fair = by (rw none at (fair.honest.1 0 (omega arith)))
+    where
+      by : (sector 0 bytes ≡ sector 0 (block_at s.blocks x.0)) ⊎ ⊥ → ⊥
+      by (inl same) = differs same
+      by (inr nothing) = nothing
+
+-- nor where the image isn't as it was opened
+fair-not_without_a_device : (t : Trace) → IsFair session t → ⊥
+fair-not_without_a_device t fair = no_device fair.opened
+
+-- RightTrace: where the session isn't fair, nothing must stand on the device; where it is, it must
+right-of_any_device : RightTrace session []
+right-of_any_device fair = absurd (fair-not_without_a_device [] fair)
+
+right-goes_on_over_any_device : (s : Session) (h : Happening) (t : Trace) → MayFollow s h t → (IsFair s (h ∷ t) → ⊥) → RightTrace s t → RightTrace s (h ∷ t)
+right-goes_on_over_any_device s h t may unfair right = (may, (λ fair. absurd (unfair fair)), right)
+
+right-not_where_a_fair_one_lost_it : (s : Session) (h : Happening) (t : Trace) → IsFair s (h ∷ t) → (Shown s (h ∷ t) → ⊥) → RightTrace s (h ∷ t) → ⊥
+right-not_where_a_fair_one_lost_it s h t fair lost right = lost (right.1 fair)
+
+right-not_by_what_may_not_follow : (s : Session) (h : Happening) (t : Trace) → (MayFollow s h t → ⊥) → RightTrace s (h ∷ t) → ⊥
+right-not_by_what_may_not_follow s h t never right = never right.0
+
+-- Carries: a request that goes to the journal owes that its block is fresh, and what a read of it gives where that is fair
+module _ (s : Session) (t : Trace) (v : Vio) where
+  enter-with_nothing_read : (IsFair s t → ⊥) → Holds s t v → MapsTo v.asks v.bytes v.new → OnBlock (IsFresh s) v.new → Carries s t v phase.Enter
+  enter-with_nothing_read unfair holds maps fresh = (holds, maps, fresh, λ fair. absurd (unfair fair))
+
+  enter-not_without_its_data : IsFair s t → (OnBlock (λ x. ReadsAs s t x.0 v.bytes) v.new → ⊥) → Carries s t v phase.Enter → ⊥
+  enter-not_without_its_data fair lost carries = lost (carries.3 fair)
+
+  enter-not_to_a_taken_block : (OnBlock (IsFresh s) v.new → ⊥) → Carries s t v phase.Enter → ⊥
+  enter-not_to_a_taken_block taken carries = taken carries.2
+
+  -- a read that got its bytes has its value where that is fair
+  loaded-with_any_bytes : (IsFair s t → ⊥) → Looks s t v → Carries s t v phase.Loaded
+  loaded-with_any_bytes unfair looks = (looks, λ fair. absurd (unfair fair))
+
+  loaded-not_with_a_wrong_value : IsFair s t → v.bytes ≢ value_at s t v.at.0 → Carries s t v phase.Loaded → ⊥
+  loaded-not_with_a_wrong_value fair wrong carries = wrong (carries.1 fair)
+
+-- StandsAt: at each stage the block is sealed, or its entries are those that aren't committed, and the rest is owed where that
+-- is fair
+module _ (s : Session) (t : Trace) (vios : List Vio) (at : ℕ) where
+  cover-of_any_device : (IsFair s t → ⊥) → IsSealed s t vios at → StandsAt s t vios at stage.Cover
+  cover-of_any_device unfair k = (k, λ fair. absurd (unfair fair))
+
+  cover-not_without_its_data : IsFair s t → (NewReads s t (all_logged vios) → ⊥) → StandsAt s t vios at stage.Cover → ⊥
+  cover-not_without_its_data fair lost stands = lost (stands.1 fair).1
+
+  write-of_any_device : (IsFair s t → ⊥) → IsSealed s t vios at → StandsAt s t vios at stage.Write
+  write-of_any_device unfair k = (k, λ fair. absurd (unfair fair))
+
+  write-not_without_its_data : IsFair s t → (NewStands s t (all_logged vios) → ⊥) → StandsAt s t vios at stage.Write → ⊥
+  write-not_without_its_data fair lost stands = lost (stands.1 fair).1
+
+  harden-of_any_device : (IsFair s t → ⊥) → IsSealed s t vios at → StandsAt s t vios at stage.Harden
+  harden-of_any_device unfair k = (k, λ fair. absurd (unfair fair))
+
+  harden-not_without_its_block : IsFair s t → ((k : IsSealed s t vios at) → ReadsBlock s t k.older (all_logged vios) → ⊥) → StandsAt s t vios at stage.Harden → ⊥
+  harden-not_without_its_block fair lost stands = lost stands.0 (stands.1 fair).1
+
+  commit-of_any_device : (IsFair s t → ⊥) → all_of (sealed t) ≡ all_logged vios ++ committed t → StandsAt s t vios at stage.Commit
+  commit-of_any_device unfair left = (left, λ fair. absurd (unfair fair))
+
+  commit-not_of_others : all_of (sealed t) ≢ all_logged vios ++ committed t → StandsAt s t vios at stage.Commit → ⊥
+  commit-not_of_others others stands = others stands.0
+
+  commit-not_before_it_stands : IsFair s t → (AtRest s t (sealed t) → ⊥) → StandsAt s t vios at stage.Commit → ⊥
+  commit-not_before_it_stands fair lost stands = lost (stands.1 fair)
+
+  fail-of_any_device : (IsFair s t → ⊥) → IsSealed s t vios at → has_stopped t ≡ true → StandsAt s t vios at stage.Fail
+  fail-of_any_device unfair k stopped = (k, (λ fair. absurd (unfair fair)), stopped)
+
+  fail-not_where_none_stopped : has_stopped t ≡ false → StandsAt s t vios at stage.Fail → ⊥
+  fail-not_where_none_stopped goes stands = let stopped = stands.2 in absurd cc
+
+  fail-not_without_the_older : IsFair s t → ((k : IsSealed s t vios at) → AtRest s t k.older ⊎ OnItsWay s t k.older (all_logged vios) → ⊥) → StandsAt s t vios at stage.Fail → ⊥
+  fail-not_without_the_older fair lost stands = lost stands.0 (stands.1 fair)
+
+  -- RestsAt: while no block is under way, all is committed, and stands where that is fair
+  rests-on_any_device : (IsFair s t → ⊥) → all_of (sealed t) ≡ committed t → RestsAt s t false false
+  rests-on_any_device unfair all = (all, λ fair. absurd (unfair fair))
+
+  rests-not_with_an_entry_left : all_of (sealed t) ≢ committed t → RestsAt s t false false → ⊥
+  rests-not_with_an_entry_left left rests = left rests.0
+
+  rests-not_before_it_stands : IsFair s t → (AtRest s t (sealed t) → ⊥) → RestsAt s t false false → ⊥
+  rests-not_before_it_stands fair lost rests = lost (rests.1 fair)
+
+-- Legal: each read was given the value of its address, where the session is fair
+legal-not_with_a_wrong_gift : (s : Session) (core : Core) → IsFair s core.trace → (GivesRight s core.trace → ⊥) → Legal s core → ⊥
+legal-not_with_a_wrong_gift s core fair wrong legal = wrong (legal.gives_right fair)
+
+-- What was fair was so before.
+fair-before_too : (s : Session) (h : Happening) (t : Trace) → IsFair s (h ∷ t) → IsFair s t
+fair-before_too = fair_before
