@@ -2,6 +2,7 @@ pub mod ActKept
 pub mod Arrivals
 pub mod Carried
 pub mod Counted
+pub mod NewImages
 pub mod FirstCore
 pub mod FirstState
 pub mod Frame

@@ -1,46 +1,18 @@
--- One session that can be served, over a device of zeros, and the core at its start: so that there is a legal core.
+-- One session that can be served, over a new image, and the core at its start: so that there is a legal core, and a fair
+-- session.
 use Rattle.std.proofs.Common.{◌≡◌, ℕ, zero, suc, ◌+◌, ◌<◌, ◌≤◌, false, List, [], ◌∷◌, length, get_or, replicate, drop, refl, sym, ◌∙◌, ap, subst, inl, inr, arith}
-use Rattle.core_laws.proofs.Common.{AllByRecursion, AreDistinct, Desk, DeviceZone, Each, Geometry, IsAsOpened, IsFair, IsFresh, IsSession, Item, JournalZone, LogicalZone, Pbn, PhysicalZone, Request, Session, Sizes, Zone, ZoneData, cases_lt, eqb_tells, get_or-replicate, get_or-take, get_or_past, is_block, length-replicate, same_Some, total, zone_count}
-use Rattle.std.proofs.lemmas.Grind.{get_or_after_one}
+use Rattle.core_laws.proofs.Common.{AllByRecursion, AreDistinct, Desk, DeviceZone, Each, Geometry, IsFair, IsFresh, IsSession, Item, JournalZone, LogicalZone, Pbn, PhysicalZone, Request, Session, Sizes, Zone, ZoneData, cases_lt, eqb_tells, get_or-replicate, get_or-take, get_or_past, is_block, length-replicate, same_Some, total, zone_count}
 use Rattle.blk_base.specs.Limits.{IsGeometry}
-use Rattle.blk_base.specs.Sectors.{sector, zero_block}
+use Rattle.blk_base.specs.Sectors.{zero_block}
 use Rattle.blk_base.specs.declared.request.Request.TheVariants as request
-use Rattle.disk_model.specs.Images.{HasOneImage}
-use Rattle.image_layout.specs.Values.{journal_of}
-use Rattle.journal_codec.specs.Grammar.{IsSector}
+use Rattle.image_layout.specs.FirstImage.{first_blocks}
 use Rattle.core_model.specs.declared.zones.ZoneData.TheVariants as at
 use Rattle.core_model.specs.Legal.{Legal}
 use Rattle.core_model.specs.Start.{first_log, IsFirstLogical, IsFirstData, IsFirstZone, IsFirst}
 use Rattle.core_model.specs.Steps.{Core}
 use Rattle.core_laws.proofs.kept.FirstState.{legal_first}
+use Rattle.core_laws.proofs.kept.NewImages.{new_fair}
 use Rattle.core_laws.proofs.lists.Zeros.{zeros_length}
-use Rattle.journal_stops.specs.Rings.{IsAtRest}
-use Rattle.journal_stops.proofs.ShownLaws.{begins_anew}
-use Rattle.image_model.proofs.ZeroLaws.{no_journal_sector}
-
--- a device of zeros
-
-zeros_at : (n b : ℕ) → get_or (replicate n zero_block) b zero_block ≡ zero_block
-zeros_at n b = elim (cases_lt b n) [
-  | inl below ↦ get_or-replicate n b zero_block zero_block below
-  | inr past ↦ get_or_past (replicate n zero_block) b zero_block (omega (arith, length-replicate n zero_block, past))
-]
-
--- it has one image, and an empty window
-zeros_image : (n : ℕ) → HasOneImage (replicate n zero_block) [] (replicate n zero_block)
-zeros_image n = record {
-  size = refl;
-  whole = λ b below. ap length (zeros_at n b) ∙ zeros_length;
-  only = λ b below. (refl, tt);
-}
-
-zeros_at_rest : (g : Geometry) (start n : ℕ) → 1 ≤ start → 0 < g.journal → IsAtRest (replicate n zero_block) [] g start []
-zeros_at_rest g start n low some =
-    begins_anew (replicate n zero_block) g start low some (λ slot number sequence head entries below few has.
-    absurd (no_journal_sector g.nonce number sequence head entries few (subst (λ (block : List ℕ). IsSector g.nonce number (sector number block) sequence head entries) (journal_zeros slot below) has)))
-  where
-    journal_zeros : (slot : ℕ) → slot < g.journal → get_or (journal_of g (replicate n zero_block)) slot zero_block ≡ zero_block
-    journal_zeros slot below = get_or-take g.journal (drop 1 (replicate n zero_block)) slot zero_block below ∙ get_or_after_one (replicate n zero_block) slot zero_block ∙ zeros_at n (1 + slot)
 
 -- the sizes of the default image with a small slab, two logical zones, and a script of one stream
 
@@ -53,16 +25,13 @@ sizes = record { geometry = geometry; start = 1; opened = 0; zones = 2; depth = 
 abbrev script : List (List Request)
 script = (request.Write (record { 0 = 5 }) zero_block false ∷ request.Read (record { 0 = 5 }) ∷ request.Flush ∷ []) ∷ []
 
-abbrev blocks : ℕ → List (List ℕ)
-blocks n = replicate n zero_block
-
 -- all data blocks of its slab are free
 abbrev run : ℕ → ℕ → List Pbn
 run first zero = []
 run first (suc n) = record { 0 = first } ∷ run (suc first) n
 
-abbrev pub small_session : ℕ → Session
-small_session n = record { sizes = sizes; script = script; blocks = blocks n; before = []; image = blocks n; sealed = []; window = []; free = run 85 64 }
+abbrev pub small_session : Session
+small_session = record { sizes = sizes; script = script; blocks = first_blocks geometry; before = []; image = first_blocks geometry; sealed = []; window = []; free = run 85 64 }
 
 geometry_ok : IsGeometry geometry
 geometry_ok = record {
@@ -90,19 +59,19 @@ run_distinct first (suc n) x = elim (eqb_tells first x) [
   | inr other ↦ rw other.0 (omega (arith, run_distinct (suc first) n x))
 ]
 
-run_fresh : (blocks_there offset first n : ℕ) → first ≡ 85 + offset → offset + n ≤ 64 → AllByRecursion (IsFresh (small_session blocks_there)) (run first n)
-run_fresh blocks_there offset first zero at_offset inside = tt
-run_fresh blocks_there offset first (suc n) at_offset inside = (
+run_fresh : (offset first n : ℕ) → first ≡ 85 + offset → offset + n ≤ 64 → AllByRecursion (IsFresh small_session) (run first n)
+run_fresh offset first zero at_offset inside = tt
+run_fresh offset first (suc n) at_offset inside = (
   record {
     is_data = record { slab = 0; offset = offset; inside = (omega arith, omega arith); stands = sym at_offset };
     unnamed = λ a y e. absurd (cc);
     inside = omega arith;
   },
-  run_fresh blocks_there (suc offset) (suc first) n (omega arith) (omega arith),
+  run_fresh (suc offset) (suc first) n (omega arith) (omega arith),
 )
 
-pub small_served : (n : ℕ) → IsSession (small_session n)
-small_served n = record {
+pub small_served : IsSession small_session
+small_served = record {
   sizes = geometry_ok;
   start = (omega arith, omega arith);
   used = omega arith;
@@ -110,20 +79,13 @@ small_served n = record {
   limits = record { streams = omega arith; depth = omega arith; requests = omega arith; zones = omega arith };
   served = (((zeros_length, refl), (tt, (tt, tt))), tt);
   of_image = tt;
-  free = run_fresh n 0 85 64 (omega arith) (omega arith);
+  free = run_fresh 0 85 64 (omega arith) (omega arith);
   distinct = run_distinct 85 64;
 }
 
--- and where the device is large enough, it begins as a fair one
-pub small_opened : (n : ℕ) → 154 ≤ n → IsAsOpened (small_session n)
-small_opened n room = record {
-  room = omega (arith, room, length-replicate n zero_block);
-  one_image = zeros_image n;
-  journal = inl (record { at_rest = zeros_at_rest geometry 1 n (omega arith) (omega arith); all_needed = refl; window_is = refl; opened = refl });
-}
-
-pub small_fair : (n : ℕ) → 154 ≤ n → IsFair (small_session n) []
-small_fair n room = record { honest = tt; opened = small_opened n room }
+-- and it is fair when it begins
+pub small_fair : IsFair small_session []
+small_fair = new_fair small_session small_served (record { blocks = refl; unwritten = refl; image = refl; unsealed = refl; no_window = refl; unused = refl })
 
 -- the core
 
@@ -175,27 +137,27 @@ each_of P [] h i y e = absurd (cc)
 each_of P (x ∷ xs) h zero y e = subst (P 0) (same_Some _ _ e) h.0
 each_of P (x ∷ xs) h (suc i) y e = each_of (λ k. P (suc k)) xs h.1 i y e
 
-empty_first : (n number : ℕ) (keeps : ZoneData) → IsFirstData (small_session n) number keeps → IsFirstZone (small_session n) number (empty_zone number keeps)
-empty_first n number keeps own = record { number_is = refl; steps = refl; lanes = refl; inbox = refl; outboxes = all_empty (zone_count sizes); own = own }
+empty_first : (number : ℕ) (keeps : ZoneData) → IsFirstData small_session number keeps → IsFirstZone small_session number (empty_zone number keeps)
+empty_first number keeps own = record { number_is = refl; steps = refl; lanes = refl; inbox = refl; outboxes = all_empty (zone_count sizes); own = own }
 
-logical_first : (n zone : ℕ) → zone < 2 → IsFirstLogical (small_session n) (1 + zone) (logical zone)
-logical_first n zone below = record { number_is = refl; among = below; notified = refl; next = refl; places = refl; held = refl; waiting = refl; retired = refl; window = refl; slots = refl }
+logical_first : (zone : ℕ) → zone < 2 → IsFirstLogical small_session (1 + zone) (logical zone)
+logical_first zone below = record { number_is = refl; among = below; notified = refl; next = refl; places = refl; held = refl; waiting = refl; retired = refl; window = refl; slots = refl }
 
 -- The core of this session at its start ..
-pub small_first : (n : ℕ) → IsFirst (small_session n) small_core
-small_first n = record {
+pub small_first : IsFirst small_session small_core
+small_first = record {
   count = refl;
-  each = each_of (IsFirstZone (small_session n)) small_core.zones (
-    empty_first n 0 (at.Desk small_desk) (record { number_is = refl; requests = refl; log = refl; marks = refl; notices = refl; parked = refl }),
+  each = each_of (IsFirstZone small_session) small_core.zones (
+    empty_first 0 (at.Desk small_desk) (record { number_is = refl; requests = refl; log = refl; marks = refl; notices = refl; parked = refl }),
     (
-      empty_first n 1 (at.Logical (logical 0)) (logical_first n 0 (omega arith)),
+      empty_first 1 (at.Logical (logical 0)) (logical_first 0 (omega arith)),
       (
-        empty_first n 2 (at.Logical (logical 1)) (logical_first n 1 (omega arith)),
+        empty_first 2 (at.Logical (logical 1)) (logical_first 1 (omega arith)),
         (
-          empty_first n 3 (at.Physical small_physical) (record { number_is = refl; notified = refl; free = refl }),
+          empty_first 3 (at.Physical small_physical) (record { number_is = refl; notified = refl; free = refl }),
           (
-            empty_first n 4 (at.Journal small_journal) (record { number_is = refl; notified = refl; busy = refl; broken = refl; log = refl; filling = refl; waiting = refl; entered = refl; committed = refl }),
-            (empty_first n 5 (at.Device small_device) (record { number_is = refl; stopped = refl; calls = refl }), tt),
+            empty_first 4 (at.Journal small_journal) (record { number_is = refl; notified = refl; busy = refl; broken = refl; log = refl; filling = refl; waiting = refl; entered = refl; committed = refl }),
+            (empty_first 5 (at.Device small_device) (record { number_is = refl; stopped = refl; calls = refl }), tt),
           ),
         ),
       ),
@@ -205,5 +167,5 @@ small_first n = record {
 }
 
 -- .. is legal.
-pub small_legal : (n : ℕ) → Legal (small_session n) small_core
-small_legal n = legal_first (small_session n) small_core (small_first n) (small_served n)
+pub small_legal : Legal small_session small_core
+small_legal = legal_first small_session small_core small_first small_served

@@ -97,9 +97,9 @@ module _ (s : Session) (t : Trace) (n : ℕ) (l : LogicalZone) (session : IsSess
   -- whoever has the lock goes on
   pub goes_ok : (post : Post) → goes_on s.sizes l u ≡ Some post → PostOk s t post
   goes_ok post goes = goes_by (PostOk s t) s.sizes l u post goes (λ reads. read_ok reads (mapping_at l u.at.0) refl)
-      (λ writes zero. (omega arith, (ok, (holds, zeros_mapped u.asks writes (zero_bytes u.asks writes ok.asked zero), tt, tt), refl)))
+      (λ writes zero. (omega arith, (ok, (holds, zeros_mapped u.asks writes (zero_bytes u.asks writes ok.asked zero), tt, λ fair. tt), refl)))
       (λ writes others. (omega arith, (ok, (holds, writes, record { not_zeros = others_are u.bytes others; none_taken = none_taken }), refl)))
-      (λ discards. (omega arith, (ok, (holds, discard_mapped u.asks discards, tt, tt), refl)))
+      (λ discards. (omega arith, (ok, (holds, discard_mapped u.asks discards, tt, λ fair. tt), refl)))
 
 -- A greater place has a lower one still.
 pub has_below_more : (a m n : ℕ) (es : List Logged) → m ≤ n → HasBelow a m es → HasBelow a n es

@@ -1,7 +1,7 @@
 -- The desk log of a right trace is well formed, and each done entry is a committed one, each committed one an entered
 -- one.
 use Rattle.std.proofs.Common.{ℕ, ◌≡◌, ◌<◌, ◌==◌, List, [], ◌∷◌, ◌++◌, append_assoc, Some, IsNone, ap, refl, sym, ◌∙◌, subst, inl, inr, arith}
-use Rattle.core_laws.proofs.Common.{all_of, AllByRecursion, Answer as Reply, answer_of, begun, cases_Bool, committed, Commits, DeskLine, done, each_at, entered, eqb_tells, every-map, filled, Happening, IsDeskLog, IsFair, IsWrite, lines, Logged, logged_of, MayFollow, none_is, not_both, of_address, OnBlock, option_cases, RightTrace, same_self, same_Some, same_tells, Script, Session, Sets, Shown, Trace, Writer}
+use Rattle.core_laws.proofs.Common.{all_of, AllByRecursion, Answer as Reply, answer_of, begun, cases_Bool, committed, Commits, DeskLine, done, each_at, entered, eqb_tells, every-map, filled, Happening, IsDeskLog, IsFair, IsWrite, lines, Logged, logged_of, MayFollow, none_is, not_both, of_address, OnBlock, option_cases, RightTrace, same_self, same_Some, same_tells, Script, sealed, Seals, Session, Sets, Shown, Trace, Writer}
 use Rattle.vdo_model.specs.declared.report.DeskLine.TheVariants.{Begin, Answer}
 use Rattle.core_laws.proofs.trace.Growth.{desk_grows, entered_grows, committed_grows, done_grows, begun_more, write_stays}
 use Rattle.core_laws.proofs.kept.StandsOn.{entered_parts}
