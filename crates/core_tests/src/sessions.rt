@@ -69,23 +69,17 @@ pub(crate) fn troubled_of(
 // A block of the device.
 fn read_block<D: Disk>(device: &mut D, at: Pbn) -> Result<Block, Unplayed>
     requires { at.0 < (D.seen device.old).size }
-    ensures whole { IfOk result (λ block. length block ≡ 4096) }
     ensures size { (D.seen device.new).size ≡ (D.seen device.old).size }
 {
     let mut block = Block::zero();
     let Ok(()) = device.read(at, &mut block) else {
         return Err(Unplayed::Device);
     };
-    // Looked at for the proof alone: a block has 4096 bytes.
-    let _bytes = &block.bytes;
     Ok(block)
 }
 
 // One more item.
-fn push_block(blocks: &mut Vec<Block>, block: Block) -> Result<(), Unplayed>
-    requires { length block ≡ 4096 }
-    ensures whole { IfOk result (λ done. AllByRecursion (λ b. length b ≡ 4096) blocks.old.items → AllByRecursion (λ b. length b ≡ 4096) blocks.new.items) }
-{
+fn push_block(blocks: &mut Vec<Block>, block: Block) -> Result<(), Unplayed> {
     match blocks.push(block) {
         Ok(()) => Ok(()),
         Err(_) => Err(Unplayed::Memory),
@@ -99,7 +93,6 @@ pub(crate) fn read_journal<D: Disk>(
     device: &mut D,
 ) -> Result<Vec<Block>, Unplayed>
     requires { needed_blocks layout.now.geometry ≤ (D.seen device.old).size }
-    ensures whole { IfOk result (λ journal. AllByRecursion (λ block. length block ≡ 4096) journal.items) }
     ensures size { (D.seen device.new).size ≡ (D.seen device.old).size }
 {
     let mut journal = Vec::new(alloc);
@@ -132,7 +125,6 @@ fn begin(
     requests: Requests,
 ) -> Result<Core, Unplayed>
     requires sizes { IsGeometry geometry.now }
-    requires whole { AllByRecursion (λ block. length block ≡ 4096) journal.now }
     requires served { AllByRecursion (AllByRecursion IsServed) requests }
     ensures { IfOk result (λ core. core.sizes.geometry ≡ geometry.now) }
 {

@@ -1,21 +1,20 @@
 -- A script that was read can be served over the image that was opened.
-use Rattle.std.proofs.Common.{ℕ, ◌≡◌, Bool, List, [], ◌∷◌, refl, sym, subst, arith}
+use Rattle.std.proofs.Common.{ℕ, ◌≡◌, Bool, List, [], ◌∷◌, refl, arith}
 use Rattle.std.specs.List.{AllByRecursion}
 use Rattle.blk_base.specs.declared.geometry.Super.{Super}
 use Rattle.blk_base.specs.declared.journal_entry.Entry.{Entry}
 use Rattle.blk_base.specs.declared.request.Request.{Request}
 use Rattle.blk_base.specs.declared.request.Request.TheVariants.{Read, Write, Discard, Flush}
 use Rattle.disk_model.specs.Seen.{Seen}
-use Rattle.image_model.specs.Windows.{IsOfImage}
 use Rattle.core_model.specs.SessionLimits.{requests_in}
 use Rattle.core_model.specs.Sessions.{IsServed}
 use Rattle.plain_laws.proofs.ListLaws.{every-map}
 use Rattle.stream_text.specs.ReadingBytes.{EachRequest, IsPlainRequest, IsWholeScript}
 use Rattle.stream_text.specs.StreamRows.{count_of}
 use Rattle.vdo_core.specs.Cores.{CanBegin}
-use Rattle.vdo_core.proofs.JournalLaws.{leaves_one, window_of_image}
+use Rattle.vdo_core.proofs.JournalLaws.{entries_of_image, leaves_one}
 use Rattle.vdo_model.specs.Scripts.{Script}
-use Rattle.vdo_cli.specs.Openings.{CanServe, IsOpened}
+use Rattle.vdo_cli.specs.Openings.{IsOpened}
 use Rattle.vdo_cli.specs.Sessions.{run_sizes}
 
 -- a request that is plain is served
@@ -33,17 +32,12 @@ same_count : (script : Script) → count_of script ≡ requests_in script
 same_count [] = refl
 same_count (requests ∷ script) = let rest = same_count script in omega (arith, rest)
 
--- each entry of a window that is served is of the image
-window_served : (head : Super) (journal : List (List ℕ)) (window : List Entry) (used : ℕ) → CanServe head journal window used → AllByRecursion (IsOfImage head.geometry) window
-window_served head journal window used serves =
-    subst (AllByRecursion (IsOfImage head.geometry)) (sym serves.mapped.0) (window_of_image head.geometry head.start serves.found.last journal serves.found.entries serves.is_window.is_window)
-
 pub can_begin : (tells honest : Bool) (before now : Seen) (head : Super) (window : List Entry) (used : ℕ) (script : Script) → IsOpened tells honest before now head window used → IsWholeScript script
     → AllByRecursion (AllByRecursion IsServed) script → CanBegin (run_sizes head used) script window
 can_begin tells honest before now head window used script opened whole served = record {
   geometry = opened.read.is_head.sizes;
   start = opened.read.is_head.start;
-  used = leaves_one head.geometry head.start opened.journal opened.serves.found.last used opened.serves.used_is;
+  used = let left = leaves_one head.geometry head.start opened.journal opened.serves.found.last used opened.serves.used_is in omega (arith, left);
   zones = omega arith;
   depth = omega arith;
   limits = record {
@@ -53,5 +47,5 @@ can_begin tells honest before now head window used script opened whole served = 
     zones = omega arith;
   };
   served = served;
-  of_image = window_served head opened.journal window used opened.serves;
+  of_image = entries_of_image head.geometry head.start opened.serves.found.last opened.journal opened.serves.found.entries window opened.serves.mapped.0 opened.serves.is_window.is_window;
 }

@@ -27,7 +27,7 @@ use Rattle.core_model.specs.declared.zones.Zone.{Zone}
 use Rattle.core_model.specs.Legal.{Legal}
 use Rattle.core_model.specs.Reports.{report_of}
 use Rattle.core_model.specs.RightTraces.{MayAnswer, MayFollow, RightTrace}
-use Rattle.core_model.specs.Sessions.{Session, IsFair, IsSession, IsServed, HasHonestReads}
+use Rattle.core_model.specs.Sessions.{Session, IsFair, IsSession, IsServed}
 use Rattle.core_model.specs.Start.{IsFirst}
 use Rattle.core_model.specs.Steps.{Leads}
 use Rattle.core_model.specs.Trace.{Aborts, Calls, Commits, Draws, Enters, Seals, Fails, Flushes, Gives, Happening, Says, Sets, Takes, Trace, calls, has_read_fault, has_stopped, lines, moments}
@@ -36,14 +36,14 @@ use Rattle.core_laws.proofs.trace.AbortsOfTrace.{stops_at_failure}
 use Rattle.core_laws.proofs.trace.MarksOfTrace.{marks_right}
 use Rattle.core_laws.proofs.trace.ReportOfTrace.{report_reads_right, report_stops_right, run_right}
 use Rattle.core_laws.proofs.kept.LegalMoves.{legal_leads}
-use Rattle.step_parts.specs.DeviceLog.{GivesSettled, HasCalled, RoseBy, failed_calls}
+use Rattle.step_parts.specs.DeviceLog.{HasCalled, RoseBy, failed_calls}
 use Rattle.vdo_core.specs.Cores.{CanBegin, sizes_of}
 use Rattle.vdo_core.specs.FreeBlocks.{free_of}
 use Rattle.vdo_core.specs.Plays.{core_with}
 use Rattle.vdo_core.specs.Done.{IsDone}
 use Rattle.vdo_core.proofs.DoneLaws.{answered_when_done}
 use Rattle.vdo_core.proofs.JournalLaws.{sealed_from, stands}
-use Rattle.vdo_core.proofs.SessionLaws.{bare, can_serve, is_of, is_session}
+use Rattle.vdo_core.proofs.SessionLaws.{bare, can_serve, honest_reads, is_of, is_session}
 use Rattle.vdo_model.specs.DeskLog.{AllAnswered, answer_of}
 use Rattle.vdo_model.specs.RightReads.{ReadsRight}
 use Rattle.vdo_model.proofs.NameLaws.{same_tells}
@@ -86,12 +86,6 @@ failed_behind : (newer older : Trace) → failed_calls older ≤ failed_calls (n
 failed_behind [] older = omega arith
 failed_behind (Fails w c kept ∷ t) older = let rest = failed_behind t older in omega (arith, rest)
 failed_behind (other ∷ t) older = failed_behind t older
-
--- reads that gave what was settled are honest
-honest_reads : (s : Session) (t : Trace) → GivesSettled s.blocks s.before t → HasHonestReads s t
-honest_reads s [] given = tt
-honest_reads s (Calls (Read at bytes true) ∷ t) given = (given.0, given.1, honest_reads s t given.2)
-honest_reads s (other ∷ t) given = honest_reads s t given
 
 -- why a request may be answered so is a call that failed, where only that explains its answer
 cause_failed : (s : Session) (t : Trace) (w : Writer) (r : Request) (a : Reply) → MayAnswer s t w r a → HasFault a → 1 ≤ failed_calls t
@@ -169,7 +163,7 @@ module _ (tells honest : Bool) (head : Super) (window : List Entry) (used : ℕ)
       (legal_first s (core_with first []) (begins s over) session)
 
   abbrev over : Session
-  over = bare (run_sizes head used) script window can
+  over = bare (run_sizes head used) script window
 
   pub session : IsSession over
   session = is_session (run_sizes head used) script window can

@@ -44,9 +44,14 @@ module _ (g : Geometry) where
   said_of_image [] each = tt
   said_of_image (committed ∷ window) each = (each.0, said_of_image window each.1)
 
-  pub window_of_image : (start last : ℕ) (journal : List (List ℕ)) (window : List CommittedEntry) → IsWindow g start journal last window → AllByRecursion (IsOfImage g) (said_by window)
+  window_of_image : (start last : ℕ) (journal : List (List ℕ)) (window : List CommittedEntry) → IsWindow g start journal last window → AllByRecursion (IsOfImage g) (said_by window)
   window_of_image start last journal window is =
       subst (λ (entries : List CommittedEntry). AllByRecursion (IsOfImage g) (said_by entries)) (sym is.entries) (said_of_image _ (of_blocks journal last is.first is.blocks is.replayable))
+
+  -- so are these, if they are its entries
+  pub entries_of_image : (start last : ℕ) (journal : List (List ℕ)) (window : List CommittedEntry) (entries : List Entry) → entries ≡ said_by window → IsWindow g start journal last window
+      → AllByRecursion (IsOfImage g) entries
+  entries_of_image start last journal window entries says is = subst (AllByRecursion (IsOfImage g)) (sym says) (window_of_image start last journal window is)
 
 -- Where a session may go on, the journal is at rest with the blocks of the window, all of which are needed.
 module _ (image : Blocks) (g : Geometry) (start last : ℕ) (window : List CommittedEntry) (some : 1 ≤ start) (count : length (journal_of g image) ≡ g.journal)

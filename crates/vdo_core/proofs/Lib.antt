@@ -7,6 +7,7 @@ mod StrayLaws
 mod ZoneLaws
 mod CauseRows
 mod CoreRows
+mod FairRows
 pub mod PlayRows
 mod ToolRows
 mod LaneLaws

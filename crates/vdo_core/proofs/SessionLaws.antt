@@ -1,21 +1,25 @@
 -- A session for what was read of an image, whatever is on the device: nothing is said of that.
-use Rattle.std.proofs.Common.{◌≡◌, ◌≤◌, Bool, List, [], ◌++◌, length, refl, sym, ◌∙◌, ap, subst, arith}
+use Rattle.std.proofs.Common.{◌≡◌, ◌≤◌, Bool, true, List, [], ◌∷◌, ◌++◌, length, refl, sym, ◌∙◌, ap, subst, arith}
+use Rattle.std.specs.List.{AllByRecursion}
 use Rattle.blk_base.specs.declared.journal_entry.Entry.{Entry}
+use Rattle.blk_base.specs.declared.place.Pbn.{Pbn}
 use Rattle.disk_model.specs.Seen.{Seen}
+use Rattle.disk_model.specs.declared.call.Call.TheVariants.{Read}
 use Rattle.vdo_model.specs.Scripts.{Script}
 use Rattle.core_model.specs.declared.sizes.Sizes.{Sizes}
 use Rattle.core_model.specs.declared.zones.Zone.{Zone}
 use Rattle.core_model.specs.declared.zones.ZoneData.{ZoneData}
 use Rattle.core_model.specs.Facts.{DataOk}
 use Rattle.core_model.specs.Legal.{Legal}
-use Rattle.core_model.specs.Sessions.{Session, IsSession}
+use Rattle.core_model.specs.Sessions.{AreDistinct, HasHonestReads, IsFresh, IsSession, Session}
 use Rattle.core_model.specs.Start.{IsFirst}
 use Rattle.core_model.specs.Steps.Leads.{rests}
-use Rattle.core_model.specs.Trace.{Trace}
+use Rattle.core_model.specs.Trace.{Calls, Trace}
 use Rattle.core_model.specs.Zones.{desk_zone}
 use Rattle.core_laws.proofs.kept.FirstState.{legal_first}
 use Rattle.core_laws.proofs.kept.LegalMoves.{legal_leads}
 use Rattle.core_laws.proofs.kept.ZoneKinds.{desk_sits}
+use Rattle.step_parts.specs.DeviceLog.{GivesSettled}
 use Rattle.step_parts.specs.declared.fault.StepFault.{StepFault}
 use Rattle.vdo_core.specs.Causes.{MayFaultBy}
 use Rattle.vdo_core.specs.Cores.{CanBegin, IsReached}
@@ -40,25 +44,25 @@ can_serve sizes script window s can over =
       limits = rw (over.sizes_is, over.script_is) can.limits;
       served = rw over.script_is can.served;
       of_image = rw (over.sizes_is, over.window_is) can.of_image;
-      free = rw free (free_fresh sizes.geometry can.geometry s same);
-      distinct = rw free (free_distinct sizes.geometry can.geometry s.window);
+      free = subst (λ (xs : List Pbn). AllByRecursion (IsFresh s) xs) (sym free) (free_fresh sizes.geometry can.geometry s same);
+      distinct = subst AreDistinct (sym free) (free_distinct sizes.geometry can.geometry s.window);
     }
 
-module _ (sizes : Sizes) (script : Script) (window : List Entry) (can : CanBegin sizes script window) where
-  -- the session, with no device
-  abbrev pub bare : Session
-  bare = record { sizes = sizes; script = script; blocks = []; before = []; image = []; sealed = []; window = window; free = free_of sizes.geometry window }
+-- the session, with no device
+abbrev pub bare : Sizes → Script → List Entry → Session
+bare sizes script window = record { sizes = sizes; script = script; blocks = []; before = []; image = []; sealed = []; window = window; free = free_of sizes.geometry window }
 
-  pub is_of : IsOf bare sizes script window (free_of sizes.geometry window)
+module _ (sizes : Sizes) (script : Script) (window : List Entry) (can : CanBegin sizes script window) where
+  pub is_of : IsOf (bare sizes script window) sizes script window (free_of sizes.geometry window)
   is_of = record { sizes_is = refl; script_is = refl; window_is = refl; free_is = refl }
 
-  pub is_session : IsSession bare
-  is_session = can_serve sizes script window bare can is_of
+  pub is_session : IsSession (bare sizes script window)
+  is_session = can_serve sizes script window (bare sizes script window) can is_of
 
   -- a first core of it is reached
-  abbrev pub first_reached : (zones : List Zone) → IsFirst bare (core_with zones []) → IsReached sizes zones
+  abbrev pub first_reached : (zones : List Zone) → IsFirst (bare sizes script window) (core_with zones []) → IsReached sizes zones
   first_reached zones begins = record {
-    session = bare;
+    session = bare sizes script window;
     first = zones;
     trace = [];
     sizes_are = refl;
@@ -66,6 +70,12 @@ module _ (sizes : Sizes) (script : Script) (window : List Entry) (can : CanBegin
     is_first = begins;
     leads = rests;
   }
+
+-- reads that gave what was settled are honest
+pub honest_reads : (s : Session) (t : Trace) → GivesSettled s.blocks s.before t → HasHonestReads s t
+honest_reads s [] given = tt
+honest_reads s (Calls (Read at bytes true) ∷ t) given = (given.0, given.1, honest_reads s t given.2)
+honest_reads s (other ∷ t) given = honest_reads s t given
 
 -- what is reached is legal, and leads to what is reached, and nothing fails there
 module _ (sizes : Sizes) (zones : List Zone) (reached : IsReached sizes zones) where

@@ -8,7 +8,7 @@ invariant_of-result c =
     let sizes = sizes_of c.args.setup.now c.args.head.now c.args.used in
     let window = reverse c.args.window.now in
     record {
-      reached = first_reached sizes c.args.requests window c.requires c.in_ok-zones.zones (c.in_ok-zones.ensures (bare sizes c.args.requests window c.requires) (rw (c.in_ok-free.ensures, c.of-layout.ensures) (is_of sizes c.args.requests window c.requires)));
+      reached = first_reached sizes c.args.requests window c.requires c.in_ok-zones.zones (c.in_ok-zones.ensures (bare sizes c.args.requests window) (rw (c.in_ok-free.ensures, c.of-layout.ensures) (is_of sizes c.args.requests window c.requires)));
       has_room = c.in_ok-room.ensures;
     }
 
