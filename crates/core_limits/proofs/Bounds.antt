@@ -1,6 +1,6 @@
 -- How long the lists of a legal core get: its locks by the requests that are under way, its slots and retired addresses by the
 -- entries of the journal, and those by the journal's blocks.
-use Rattle.std.proofs.Common.{ℕ, ◌^◌, ◌≡◌, ◌<◌, ◌≤◌, ◌⊎◌, Bool, true, false, Some, List, [], ◌∷◌, IsNone, length, length-append, slice_get, refl, ap, ◌∙◌, subst, inl, inr, arith}
+use Rattle.std.proofs.Common.{ℕ, ◌^◌, ◌≡◌, ◌<◌, ◌≤◌, Bool, true, false, Some, List, [], ◌∷◌, IsNone, length, length-append, slice_get, refl, ap, ◌∙◌, subst, inl, inr, arith}
 use Rattle.core_laws.proofs.Common.{bit, committed, DataOk, DeviceZone, ended_at, entered, entered_at, entry_token, every-map, given, held_at, holder_token, holds, IsSession, IsWrite, Item, journal_zone, JournalZone, Logged, logged_of, LogicalZone, made_by, RightTrace, room_token, same_tells, sealed, Seals, Session, some_is, total, total-get, total_alone, Trace, Vio, weight, Writer, Zone, ZoneData}
 use Rattle.core_model.specs.declared.items.Item.TheVariants as item
 use Rattle.core_model.specs.declared.zones.ZoneData.TheVariants as at

@@ -1,5 +1,5 @@
 -- A fair session was fair before, and it stays so while nothing is read of the device.
-use Rattle.std.proofs.Common.{◌≡◌, true, false, List, [], ◌∷◌, ◌++◌}
+use Rattle.std.proofs.Common.{◌≡◌, true, false, [], ◌∷◌, ◌++◌}
 use Rattle.disk_model.specs.declared.call.Call.TheVariants.{Read, Write, Flush}
 use Rattle.core_model.specs.Sessions.{HasHonestReads, IsFair, Session}
 use Rattle.core_model.specs.Trace.{Calls, Happening, Trace, is_read}

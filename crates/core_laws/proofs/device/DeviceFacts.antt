@@ -1,6 +1,6 @@
 -- What the acts of the device zone owe: it stores, loads and flushes for requests, and flushes and writes for sealed blocks.
 use Rattle.std.proofs.Common.{◌≡◌, ℕ, zero, suc, ◌+◌, ◌<◌, ◌≤◌, Bool, true, false, Some, IsSome, List, [], ◌∷◌, ◌++◌, map, refl, ap, sym, ◌∙◌, subst, inl, inr, arith, ◌⊎◌}
-use Rattle.core_laws.proofs.Common.{all_logged, all_of, AllByRecursion, asked, Asks, AtRest, Call, calls, Calls, DataOk, DeviceZone, done, each_at, ended, entered, Entry, entry_of, eqb_tells, every-map, Fails, FailureMayFollow, fair_before, Happening, has_read_fault, has_stopped, HasAddress, HasCause, HasWholeBlocks, is_ok, is_read, IsAsOpened, IsChange, IsEarned, IsFair, IsFresh, IsMadeFor, IsOpen, IsSealed, IsSession, IsToFresh, KeptOk, Lba, log, logged, Logged, logical_zones, Mapping, MapsTo, MayFollow, moments, NewReads, NewStands, notified, OnBlock, OnItsWay, Pbn, place_of, places, Post, ReadsAs, ReadsBlock, request_of, RightTrace, same_self, same_Some, SealedBlock, Session, Shown, Sizes, some_is, Stage, StandsAt, Trace, value_at, value_from, Vio, VioOk, Writer, zone_count, zone_number}
+use Rattle.core_laws.proofs.Common.{all_logged, all_of, AllByRecursion, asked, Asks, AtRest, Call, calls, Calls, DataOk, DeviceZone, done, each_at, ended, entered, Entry, entry_of, eqb_tells, every-map, Fails, FailureMayFollow, fair_before, Happening, has_read_fault, has_stopped, HasAddress, HasCause, HasWholeBlocks, is_ok, is_read, IsAsOpened, IsChange, IsEarned, IsFair, IsFresh, IsMadeFor, IsOpen, IsSealed, IsSession, IsToFresh, KeptOk, Lba, log, logged, Logged, logical_zones, Mapping, MapsTo, moments, NewReads, NewStands, notified, OnBlock, OnItsWay, Pbn, place_of, places, Post, ReadsAs, ReadsBlock, request_of, RightTrace, same_self, same_Some, SealedBlock, Session, Shown, Sizes, some_is, Stage, StandsAt, Trace, value_at, value_from, Vio, VioOk, Writer, zone_count, zone_number}
 use Rattle.image_layout.specs.Values.{mapping_of}
 use Rattle.vdo_model.specs.FlushMarks.{IsMark, successes}
 use Rattle.core_model.specs.declared.items.Asks.TheVariants.{Read, Write, Discard, Flush}

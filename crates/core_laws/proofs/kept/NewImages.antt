@@ -1,6 +1,6 @@
 -- A session over a new image, to which nothing was written, is as it was opened: so it is fair when it begins, on every device
 -- that has this image, and so long as its reads are honest.
-use Rattle.std.proofs.Common.{◌≡◌, ◌-◌, ℕ, zero, suc, ◌+◌, ◌<◌, ◌≤◌, true, List, [], ◌∷◌, length, length-append, get_or, replicate, drop, refl, ◌∙◌, ap, subst, inl, inr, arith}
+use Rattle.std.proofs.Common.{◌≡◌, ◌-◌, ℕ, zero, suc, ◌<◌, ◌≤◌, true, List, [], ◌∷◌, length, length-append, get_or, replicate, refl, ◌∙◌, ap, subst, inl, inr, arith}
 use Rattle.core_laws.proofs.Common.{Calls, Geometry, IsAsOpened, IsFair, IsSession, Pbn, Session, cases_lt, get_or-replicate, get_or-take, get_or_past, length-replicate}
 use Rattle.blk_base.specs.Regions.{needed_blocks}
 use Rattle.blk_base.specs.Sectors.{sector, zero_block}

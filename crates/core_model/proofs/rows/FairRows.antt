@@ -1,12 +1,11 @@
 -- Rows that pin what is owed of any device and what of a fair session alone: for each clause a case that it accepts, and one
 -- that breaks it alone. A session that is fair when it begins, over a new image, stands in core_laws.
-use Rattle.std.proofs.Common.{ℕ, ◌≡◌, ◌≢◌, ◌⊎◌, ◌+◌, ◌<◌, ◌≤◌, true, false, List, [], ◌∷◌, ◌++◌, length, refl, ap, subst, inl, inr, arith}
+use Rattle.std.proofs.Common.{ℕ, ◌≡◌, ◌≢◌, ◌⊎◌, ◌+◌, ◌<◌, ◌≤◌, true, false, List, [], ◌∷◌, ◌++◌, length, refl, inl, inr, arith}
 use Rattle.blk_base.specs.Regions.{needed_blocks}
 use Rattle.blk_base.specs.Sectors.{sector}
 use Rattle.blk_base.specs.declared.journal_entry.Entry.{Entry}
 use Rattle.blk_base.specs.declared.place.Pbn.{Pbn}
-use Rattle.disk_model.specs.Images.{IsMixOf}
-use Rattle.disk_model.specs.Log.{block_at, settled}
+use Rattle.disk_model.specs.Log.{block_at}
 use Rattle.disk_model.specs.declared.call.Call.TheVariants.{Read, Write, Flush}
 use Rattle.core_model.specs.declared.items.Phase.TheVariants as phase
 use Rattle.core_model.specs.declared.items.Stage.TheVariants as stage
@@ -16,10 +15,10 @@ use Rattle.core_model.specs.Legal.{Legal}
 use Rattle.core_model.specs.RightTraces.{GivesRight, MapsTo, MayFollow, RightTrace}
 use Rattle.core_model.specs.Sessions.{AtRest, HasNoneLeft, HasWholeBlocks, IsAsOpened, IsFair, IsFresh, IsSession, NewReads, NewStands, OnBlock, OnItsWay, ReadsAs, ReadsBlock, Session, Shown, value_at}
 use Rattle.core_model.specs.Steps.{Core}
-use Rattle.core_model.specs.Trace.{Calls, Flushes, Happening, Trace, all_of, committed, has_stopped, sealed}
+use Rattle.core_model.specs.Trace.{Calls, Happening, Trace, all_of, committed, has_stopped, sealed}
 use Rattle.core_model.specs.Vios.{all_logged}
 use Rattle.core_model.proofs.FairLaws.{fair_before, fair_on}
-use Rattle.core_model.proofs.rows.WorkedTraces.{session, begun}
+use Rattle.core_model.proofs.rows.WorkedTraces.{session}
 
 -- IsSession: one block of the journal stays free
 session-not_with_all_blocks_used : (s : Session) → s.sizes.opened ≡ s.sizes.geometry.journal → IsSession s → ⊥
