@@ -426,7 +426,7 @@ else
 fi
 
 # A device larger than any memory.
-try 5 'no memory' - 4294967295 run
+try 5 'no memory' - 4294967295 audit
 
 # A file system with room for 16 blocks, where one can be made: a write fails, and what is left is no image.
 if [ "$(id -u)" = 0 ] && mkdir full && mount -t tmpfs -o size=65536 tmpfs full 2>errors; then
