@@ -1,5 +1,5 @@
 -- Where the counts stand each image has, for each data block, the running count of all entries as its stored count.
-use Rattle.std.proofs.Common.{ℕ, ◌≡◌, ◌/◌, ◌%◌, ◌<◌, ◌≤◌, nat_le, true, List, ◌++◌, length, Contains, Result, Ok, refl, sym, ◌∙◌, subst, inl, inr, arith}
+use Rattle.std.proofs.Common.{ℕ, ◌≡◌, ◌/◌, ◌%◌, ◌<◌, ◌≤◌, nat_le, true, List, ◌++◌, length, Contains, Result, Ok, refl, sym, ◌∙◌, ap, subst, inl, inr, arith}
 use Rattle.std.proofs.Math.Nat.{mod-lt}
 use Rattle.std.proofs.lemmas.Bool.{le-leb}
 use Rattle.blk_base.specs.Counters.{limit_of, sector_of_offset, sectors_per_slab}
@@ -20,9 +20,23 @@ use Rattle.image_model.specs.Sound.{IsDataPlace}
 use Rattle.recovery_laws.proofs.CountsKept.{sector_inside}
 use Rattle.journal_stops.specs.Mapped.{later_image}
 use Rattle.slab_codec.specs.declared.forms.SlabEntry.{SlabEntry}
-use Rattle.count_laws.specs.Counters.{CountsStand, HasUpdate, IsCounted, IsKnown, SurelyCounters, SurelyJournal, entry_at, points_at}
+use Rattle.count_laws.specs.Counters.{CountsStand, HasUpdate, IsCounted, IsKnown, IsOfSector, SurelyCounters, SurelyJournal, counter_in, entry_at, points_at}
 use Rattle.count_laws.specs.Points.{ArePointed, past, up_to}
 use Rattle.count_laws.proofs.PointLaws.{count_came, count_within, has_update, in_first, in_past, of_past, past_rises, points_rise, split_at, updates_has}
+
+-- A commit point fixes the counters of its sector.
+
+pub one_sector : (opened : Image) (entries : List CommittedEntry) (slab n : ℕ) (bytes other : List ℕ) (place : DataPlace) → IsCounted opened entries slab n bytes
+    → IsCounted opened entries slab n other → number_at 8 0 bytes ≡ number_at 8 0 other → IsOfSector opened.geometry slab n place
+    → counter_in opened.geometry bytes place ≡ counter_in opened.geometry other place
+one_sector opened entries slab n bytes other place is again same there = one_count (counter_in opened.geometry bytes place) (counter_in opened.geometry other place) (sym (is.counters place there) ∙ as_other ∙ again.counters place there)
+  where
+    as_other : count_after (limit_of opened.geometry) (counter_of opened place) (up_to (number_at 8 0 bytes) (points_at opened.geometry entries place))
+        ≡ count_after (limit_of opened.geometry) (counter_of opened place) (up_to (number_at 8 0 other) (points_at opened.geometry entries place))
+    as_other = ap (λ (commit : ℕ). count_after (limit_of opened.geometry) (counter_of opened place) (up_to commit (points_at opened.geometry entries place))) same
+
+    one_count : (x y : ℕ) → ◌≡◌ {A = Result ℕ ℕ} (Ok x) (Ok y) → x ≡ y
+    one_count x y e = cc e
 
 -- The sectors of a slab's counters are inside.
 

@@ -16,7 +16,7 @@ ghost use Rattle.image_model.specs.Sound.{AreStored, AreTrue, AreUnshared, IsDat
 ghost use Rattle.journal_stops.specs.Mapped.{ShowsEntries, later_image};
 ghost use Rattle.slab_codec.specs.declared.forms.SlabEntry.{SlabEntry};
 ghost use Rattle.count_laws.specs.Closed.{HasClosedCounts};
-ghost use Rattle.count_laws.specs.Counters.{CountsStand, HasUpdate, IsCounted, IsKnown, MayWrite, SurelyCounters, SurelyJournal, UpdateStands, entry_at, points_at};
+ghost use Rattle.count_laws.specs.Counters.{CountsStand, HasUpdate, IsCounted, IsKnown, IsOfSector, MayWrite, SurelyCounters, SurelyJournal, UpdateStands, counter_in, entry_at, points_at};
 ghost use Rattle.count_laws.specs.Points.{ArePointed, next_point};
 ghost use Rattle.count_laws.specs.Turns.{AreInTurn};
 
@@ -29,6 +29,11 @@ pub fn counts_that_stand_are_true()
         → counter_of opened place ≤ limit_of opened.geometry
         → count_after (limit_of opened.geometry) (counter_of opened place) (points_at opened.geometry entries place) ≡ Ok count
         → Stores (later_image opened image window) place (Ok count) }
+
+    // A commit point fixes the counters of its sector.
+    ensures one { (opened : Image) (entries : List CommittedEntry) (slab n : ℕ) (bytes other : List ℕ) (place : DataPlace) → IsCounted opened entries slab n bytes
+        → IsCounted opened entries slab n other → number_at 8 0 bytes ≡ number_at 8 0 other → IsOfSector opened.geometry slab n place
+        → counter_in opened.geometry bytes place ≡ counter_in opened.geometry other place }
 
     // A sound image that was closed is one to begin on.
     ensures closed { (blocks : Blocks) (sound : IsSound blocks) → IsTrue sound.head.clean → HasClosedCounts (image_of sound.head blocks sound.window) }

@@ -34,7 +34,7 @@ use Rattle.stop_laws.specs.Journals.{Surely}
 use Rattle.journal_stops.specs.Sealed.{Sealed, next_of}
 use Rattle.journal_stops.proofs.ShownLaws.{window_at_rest, window_under_way}
 use Rattle.session_stops.specs.Beginnings.{IsAsOpened, IsToServe, head_in, opened_in}
-use Rattle.session_stops.specs.Closings.{IsClosedNow, IsClosing, IsWrittenOut, last_in}
+use Rattle.session_stops.specs.Closings.{IsClosedImage, IsClosing, IsWrittenOut, last_in}
 use Rattle.session_stops.specs.Pages.{PutsOnly}
 use Rattle.session_stops.specs.Sessions.{StandsAtRest, StandsUnderWay, ShowsSoundly}
 use Rattle.session_stops.proofs.SurelyLaws.{goes_on}
@@ -349,7 +349,7 @@ module _ (base : Blocks) (to : IsToServe base) where
     values_are = λ a. sym (is.kept.same.values a);
   }
 
-  pub closed_values : (opening : Blocks) (log : List Call) (blocks : List Sealed) (now : Blocks) → IsWrittenOut opening log base to blocks → (is : IsClosedNow opening log base to blocks now)
+  pub closed_values : (opening : Blocks) (log : List Call) (blocks : List Sealed) (now : Blocks) → IsWrittenOut opening log base to blocks → (is : IsClosedImage opening log base to blocks now)
       → ShowsValues g (next_start base to.sound + 2 ^ 18) now (value_of (image_in is.old is.shows.sound))
   closed_values opening log blocks now all is = record {
     sound = is.recovered.kept.sound;

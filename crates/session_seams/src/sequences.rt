@@ -12,7 +12,7 @@ ghost use Rattle.journal_stops.specs.Sealed.{Sealed};
 ghost use Rattle.recovery_laws.specs.Calls.{ArePuts, IsPut, recovery_calls};
 ghost use Rattle.recovery_laws.specs.Kept.{AreKept, AreStopsKept, IsRecovered, IsToRecover, image_in};
 ghost use Rattle.session_stops.specs.Beginnings.{IsAsOpened, IsToServe, head_in, opened_in};
-ghost use Rattle.session_stops.specs.Closings.{IsClosedNow, IsClosing, IsWrittenOut};
+ghost use Rattle.session_stops.specs.Closings.{IsClosedImage, IsClosing, IsWrittenOut};
 ghost use Rattle.session_stops.specs.Pages.{PutsOnly};
 ghost use Rattle.session_stops.specs.Sessions.{StandsAtRest, StandsUnderWay, ShowsSoundly};
 ghost use Rattle.vdo_model.specs.declared.report.RunReport.{RunReport};
@@ -82,5 +82,5 @@ pub fn how_far_sequences_rise()
     ensures closing_values { (base : Blocks) (to : IsToServe base) (opening : Blocks) (log : List Call) (blocks : List Sealed) (now : Blocks) → IsWrittenOut opening log base to blocks
         → (is : IsClosing opening log base to blocks now) → ShowsValues to.sound.head.geometry (next_start base to.sound + 2 ^ 18) now (value_of (image_in is.old is.shows.sound)) }
     ensures closed_values { (base : Blocks) (to : IsToServe base) (opening : Blocks) (log : List Call) (blocks : List Sealed) (now : Blocks) → IsWrittenOut opening log base to blocks
-        → (is : IsClosedNow opening log base to blocks now) → ShowsValues to.sound.head.geometry (next_start base to.sound + 2 ^ 18) now (value_of (image_in is.old is.shows.sound)) }
+        → (is : IsClosedImage opening log base to blocks now) → ShowsValues to.sound.head.geometry (next_start base to.sound + 2 ^ 18) now (value_of (image_in is.old is.shows.sound)) }
 {}

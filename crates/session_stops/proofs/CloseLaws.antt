@@ -35,7 +35,7 @@ use Rattle.journal_stops.proofs.ShownLaws.{window_at_rest}
 use Rattle.recovery_laws.proofs.StillLaws.{same_journal}
 use Rattle.count_laws.proofs.ContentLaws.{contents_some, one_of_weaker}
 use Rattle.session_stops.specs.Beginnings.{IsToServe, head_in, opened_in}
-use Rattle.session_stops.specs.Closings.{IsClosedNow, IsClosing, IsWrittenOut, closed_head, closing_calls, closing_write, last_in}
+use Rattle.session_stops.specs.Closings.{IsClosedImage, IsClosing, IsWrittenOut, closed_head, closing_calls, closing_write, last_in}
 use Rattle.session_stops.specs.Sessions.{ShowsSoundly}
 use Rattle.session_stops.proofs.FullLaws.{image_is_full}
 use Rattle.session_stops.proofs.SoundImages.{rest_sound}
@@ -149,7 +149,7 @@ module _ (opening : Blocks) (log : List Call) (base : Blocks) (to : IsToServe ba
     recovered : sector 0 (block_at now 0) ≡ sector 0 new_bytes → IsRecovered image sound.last now
     recovered same = full_is_recovered old now sound full_now (accepted same)
 
-    pub is_closed : sector 0 (block_at now 0) ≡ sector 0 new_bytes → IsClosedNow opening log base to blocks now
+    pub is_closed : sector 0 (block_at now 0) ≡ sector 0 new_bytes → IsClosedImage opening log base to blocks now
     is_closed same = record {
       old = old;
       is_image = old_is;
@@ -213,7 +213,7 @@ module _ (opening : Blocks) (log : List Call) (base : Blocks) (to : IsToServe ba
 
 -- And once it is flushed.
 closed : (opening : Blocks) (log : List Call) (base : Blocks) (to : IsToServe base) (blocks : List Sealed) → IsToClose opening (Flush true ∷ log) base to blocks
-    → (now : Blocks) → IsImage opening (closing_calls base to blocks log) now → IsClosedNow opening (Flush true ∷ log) base to blocks now
+    → (now : Blocks) → IsImage opening (closing_calls base to blocks log) now → IsClosedImage opening (Flush true ∷ log) base to blocks now
 closed opening log base to blocks close now is =
     is_closed opening (Flush true ∷ log) base to blocks close (closing_calls base to blocks log)
     (λ b behind. settled-write_other opening (Flush true ∷ log) (record { 0 = 0 }) (super_block (closed_head base to blocks)) true b (λ same. omega (arith, same, behind))) now is
@@ -261,5 +261,5 @@ module _ (opening : Blocks) (log : List Call) (base : Blocks) (to : IsToServe ba
   session_unflushed all ok now is = closing_unflushed opening log base to blocks (to_close opening log base to blocks all) ok now is
 
   pub session_closed : IsWrittenOut opening (Flush true ∷ log) base to blocks → (now : Blocks) → IsImage opening (closing_calls base to blocks log) now
-      → IsClosedNow opening (Flush true ∷ log) base to blocks now
+      → IsClosedImage opening (Flush true ∷ log) base to blocks now
   session_closed all now is = closed opening log base to blocks (to_close opening (Flush true ∷ log) base to blocks all) now is

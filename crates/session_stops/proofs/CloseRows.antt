@@ -19,7 +19,7 @@ use Rattle.recovery_laws.specs.Kept.{image_in}
 use Rattle.recovery_laws.specs.Written.{AreFull}
 use Rattle.count_laws.specs.Counters.{SurelyCounters, points_at}
 use Rattle.session_stops.specs.Beginnings.{IsToServe, head_in, opened_in}
-use Rattle.session_stops.specs.Closings.{AreCounted, IsClosedNow, IsClosing, IsWrittenOut, closing_calls, closing_write, last_in}
+use Rattle.session_stops.specs.Closings.{AreCounted, IsClosedImage, IsClosing, IsWrittenOut, closing_calls, closing_write, last_in}
 use Rattle.session_stops.specs.Pages.{PagesStand}
 use Rattle.session_stops.specs.Sessions.{StandsAtRest}
 use Rattle.session_stops.proofs.CallSteps.{rest_quiet}
@@ -29,16 +29,16 @@ use Rattle.session_stops.proofs.PageSteps.{pages_missed}
 use Rattle.session_stops.proofs.SessionRows.{block, each_counted, log_counts, rest_is, risen, start, to, with_counts}
 
 module _ (blocks : Blocks) (empty : IsEmpty small blocks) (whole : (b : ℕ) → b < length blocks → length (block_at blocks b) ≡ 4096) where
-  abbrev base_to : IsToServe blocks
+  abbrev pub base_to : IsToServe blocks
   base_to = to blocks empty whole
 
-  abbrev first : ℕ
+  abbrev pub first : ℕ
   first = start blocks empty whole
 
-  abbrev list : List Sealed
+  abbrev pub list : List Sealed
   list = block blocks empty whole ∷ []
 
-  abbrev log : List Call
+  abbrev pub log : List Call
   log = log_counts blocks empty whole
 
   all_counted : AreCounted blocks log (opened_in blocks base_to) (entries_of first list)
@@ -66,7 +66,7 @@ module _ (blocks : Blocks) (empty : IsEmpty small blocks) (whole : (b : ℕ) →
   closing : (ok : Bool) (now : Blocks) → IsImage blocks (closing_write blocks base_to list ok ∷ log) now → IsClosing blocks log blocks base_to list now
   closing ok now is = session_closing blocks log blocks base_to list written_out ok now is
 
-  closed : (now : Blocks) → IsImage blocks (closing_calls blocks base_to list log) now → IsClosedNow blocks (Flush true ∷ log) blocks base_to list now
+  pub closed : (now : Blocks) → IsImage blocks (closing_calls blocks base_to list log) now → IsClosedImage blocks (Flush true ∷ log) blocks base_to list now
   closed now is = session_closed blocks log blocks base_to list flushed_out now is
 
   last_is : last_in blocks base_to list ≡ first
@@ -108,12 +108,12 @@ module _ (blocks : Blocks) (empty : IsEmpty small blocks) (whole : (b : ℕ) →
 
   -- Once it is closed: not the session's superblock, and no other value.
 
-  unclosed : (now : Blocks) (is : IsClosedNow blocks (Flush true ∷ log) blocks base_to list now) → is.recovered.kept.sound.head.clean ≡ false → ⊥
+  unclosed : (now : Blocks) (is : IsClosedImage blocks (Flush true ∷ log) blocks base_to list now) → is.recovered.kept.sound.head.clean ≡ false → ⊥
   unclosed now is open_yet = let clean : true ≡ false = sym (ap (λ (h : Super). h.clean) is.recovered.closed) ∙ open_yet in absurd (cc clean)
 
-  other_value_then : (now : Blocks) (is : IsClosedNow blocks (Flush true ∷ log) blocks base_to list now) (address : ℕ)
+  other_value_then : (now : Blocks) (is : IsClosedImage blocks (Flush true ∷ log) blocks base_to list now) (address : ℕ)
       → (value_of (image_in now is.recovered.kept.sound) address ≡ value_of (image_in is.old is.shows.sound) address → ⊥) → ⊥
   other_value_then now is address differs = differs (is.recovered.kept.same.values address)
 
-  no_image_then : (now : Blocks) (is : IsClosedNow blocks (Flush true ∷ log) blocks base_to list now) → (IsImage blocks (Flush true ∷ log) is.old → ⊥) → ⊥
+  no_image_then : (now : Blocks) (is : IsClosedImage blocks (Flush true ∷ log) blocks base_to list now) → (IsImage blocks (Flush true ∷ log) is.old → ⊥) → ⊥
   no_image_then now is never = never is.is_image

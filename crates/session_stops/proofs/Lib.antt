@@ -18,3 +18,4 @@ pub mod PageRows
 pub mod BeginRows
 pub mod SessionRows
 pub mod CloseRows
+pub mod ImageRows

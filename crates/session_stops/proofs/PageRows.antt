@@ -82,13 +82,13 @@ leaf_head = record { geometry = small; page = leaf_page; at = pbn 85 }
 abbrev pub root_head : PageHead
 root_head = record { geometry = small; page = root; at = pbn 9 }
 
-abbrev nothing : List Mapping
+abbrev pub nothing : List Mapping
 nothing = replicate 812 Unmapped
 
-abbrev some_mapped : List Mapping
+abbrev pub some_mapped : List Mapping
 some_mapped = set (set nothing 5 Zero) 6 (At (pbn 86))
 
-abbrev with_link : List Mapping
+abbrev pub with_link : List Mapping
 with_link = set nothing 0 (At (pbn 85))
 
 abbrev pub empty_leaf : List ℕ
@@ -100,16 +100,16 @@ full_leaf = page_bytes leaf_head some_mapped
 abbrev pub linked_root : List ℕ
 linked_root = page_bytes root_head with_link
 
-leaf_is_empty : IsPage leaf_head empty_leaf nothing
+pub leaf_is_empty : IsPage leaf_head empty_leaf nothing
 leaf_is_empty = record { spelled = refl; held = held_unmapped small 0 }
 
-leaf_is_full : IsPage leaf_head full_leaf some_mapped
+pub leaf_is_full : IsPage leaf_head full_leaf some_mapped
 leaf_is_full = record {
   spelled = refl;
   held = held-set small 0 6 (set nothing 5 Zero) (At (pbn 86)) (held-set small 0 5 nothing Zero (held_unmapped small 0) refl) (data_block 1 (omega arith), omega arith);
 }
 
-root_is : IsPage root_head linked_root with_link
+pub root_is : IsPage root_head linked_root with_link
 root_is = record { spelled = refl; held = held-set small 1 0 nothing (At (pbn 85)) (held_unmapped small 1) (data_block 0 (omega arith), omega arith) }
 
 nothing_there : (slot : ℕ) → slot < 812 → get_or nothing slot Unmapped ≡ Unmapped

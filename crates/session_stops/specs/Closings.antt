@@ -58,7 +58,7 @@ pub record IsClosing (opening : Blocks) (log : List Call) (base : Blocks) (to : 
   pub head : ((kept.sound.head ≡ head_in base to) × (kept.sound.last ≡ last_in base to blocks)) ⊎ (kept.sound.head ≡ closed_head base to blocks)
 
 -- Once it is closed: they say the same, and are closed.
-pub record IsClosedNow (opening : Blocks) (log : List Call) (base : Blocks) (to : IsToServe base) (blocks : List Sealed) (now : Blocks) : Type 0 where
+pub record IsClosedImage (opening : Blocks) (log : List Call) (base : Blocks) (to : IsToServe base) (blocks : List Sealed) (now : Blocks) : Type 0 where
   pub old : Blocks
   pub is_image : IsImage opening log old
   pub shows : ShowsSoundly (opened_in base to) (head_in base to) old (entries_of to.sound.head.start blocks)

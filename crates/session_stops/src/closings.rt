@@ -7,7 +7,7 @@ ghost use Rattle.journal_stops.specs.Mapped.{later_image};
 ghost use Rattle.journal_stops.specs.Sealed.{Sealed, window_of};
 ghost use Rattle.recovery_laws.specs.Written.{AreFull};
 ghost use Rattle.session_stops.specs.Beginnings.{IsToServe, opened_in};
-ghost use Rattle.session_stops.specs.Closings.{IsClosedNow, IsClosing, IsWrittenOut, closing_calls, closing_write};
+ghost use Rattle.session_stops.specs.Closings.{IsClosedImage, IsClosing, IsWrittenOut, closing_calls, closing_write};
 
 /// Once all of a session is on the device, each image that a stop leaves says all of it by itself, and the superblock may say
 /// that it is closed. While it is written, failed or not, each image is sound and says the same; once it is flushed each is
@@ -20,7 +20,7 @@ pub fn a_session_is_closed()
     ensures unflushed { (base : Blocks) (to : IsToServe base) (opening : Blocks) (log : List Call) (blocks : List Sealed) → IsWrittenOut opening log base to blocks
         → (ok : Bool) (now : Blocks) → IsImage opening (Flush false ∷ closing_write base to blocks ok ∷ log) now → IsClosing opening log base to blocks now }
     ensures closed { (base : Blocks) (to : IsToServe base) (opening : Blocks) (log : List Call) (blocks : List Sealed) → IsWrittenOut opening (Flush true ∷ log) base to blocks
-        → (now : Blocks) → IsImage opening (closing_calls base to blocks log) now → IsClosedNow opening (Flush true ∷ log) base to blocks now }
+        → (now : Blocks) → IsImage opening (closing_calls base to blocks log) now → IsClosedImage opening (Flush true ∷ log) base to blocks now }
 
     // Where nothing is pending before, nothing is pending afterwards.
     ensures one { (base : Blocks) (to : IsToServe base) (opening : Blocks) (log : List Call) (blocks : List Sealed) (image : Blocks) → 0 < length opening

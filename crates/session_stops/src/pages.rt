@@ -10,7 +10,7 @@ ghost use Rattle.disk_model.specs.declared.call.Call.{Call};
 ghost use Rattle.disk_model.specs.declared.call.Call.TheVariants.{Write, Flush};
 ghost use Rattle.disk_model.specs.Images.{IsImage, HasOneImage};
 ghost use Rattle.disk_model.specs.Log.{Blocks, Misses, block_at};
-ghost use Rattle.image_model.specs.Maps.{Image, ArePagesGood, head_of, page_at, put_last};
+ghost use Rattle.image_model.specs.Maps.{Image, ArePagesGood, head_of, mapping_in, page_at, put_last};
 ghost use Rattle.image_model.specs.Sound.{IsSound};
 ghost use Rattle.page_codec.specs.Grammar.{IsPage, IsSlot};
 ghost use Rattle.page_codec.specs.declared.forms.PageHead.{PageHead};
@@ -33,6 +33,10 @@ pub fn images_show_the_pages_that_stand()
     ensures good { (opening : Blocks) (log : List Call) (opened : Image) (start : ℕ) (entries : List CommittedEntry) (image : Blocks)
         (shown : HasInWindow opened.geometry start image entries) → HasWholeBlocks opened → ArePagesOnIt opened entries (length opening)
         → PagesStand opening log opened entries shown.window → IsImage opening log image → ArePagesGood (later_image opened image shown.window) }
+
+    // Bytes that say all of a page say one mapping in each slot.
+    ensures one { (opened : Image) (entries : List CommittedEntry) (page : PageId) (at : Pbn) (bytes other : List ℕ) (slot : ℕ) → slot < PAGE_SLOTS
+        → SaysTheRest opened entries [] page at bytes → SaysTheRest opened entries [] page at other → mapping_in bytes slot ≡ mapping_in other slot }
 
     // Where no slot is left to a window, each page says by itself what it says with the window of the image.
     ensures full { (opening : Blocks) (log : List Call) (opened : Image) (start : ℕ) (entries : List CommittedEntry) (image : Blocks)

@@ -1,11 +1,12 @@
 use Rattle.count_laws.proofs.ImageLaws.{all_stored, all_unshared, closed_counts, commits_timely, true_count, updates_timely}
-use Rattle.count_laws.proofs.StoredLaws.{stored}
+use Rattle.count_laws.proofs.StoredLaws.{one_sector, stored}
 use Rattle.count_laws.proofs.counts.counts_that_stand_are_true.Goals as goal
 
 pub returns : goal.returns
 returns c = record {
   stored = λ opening log opened entries window behind from image place count room stand all pointed is there fits runs.
       stored opening log opened entries window stand image is room behind from all pointed place there count fits runs;
+  one = one_sector;
   closed = closed_counts;
   counts = λ opening log opened entries from start image s room closed turns pointed stand is. (
     true_count opening log opened entries from closed turns pointed start image s stand is room,
