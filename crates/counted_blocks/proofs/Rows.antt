@@ -1,5 +1,5 @@
 -- A slab that took two of the four updates that the example's entries give it, and those that it can't have taken.
-use Rattle.std.proofs.Common.{ℕ, zero, suc, ◌≡◌, ◌/◌, ◌%◌, ◌<◌, ◌==◌, false, List, [], ◌∷◌, ◌++◌, Contains, replicate, get_or, refl, sym, ◌∙◌, ap, subst, inl, inr, arith}
+use Rattle.std.proofs.Common.{ℕ, zero, suc, ◌≡◌, ◌/◌, ◌%◌, ◌<◌, ◌==◌, false, List, [], ◌∷◌, ◌++◌, Contains, replicate, slice_index, get_or, refl, sym, ◌∙◌, ap, subst, inl, inr, arith}
 use Rattle.std.proofs.Math.Nat.{mod-lt}
 use Rattle.std.proofs.lemmas.Bool.Decides.{eqb_tells}
 use Rattle.std.proofs.lemmas.List.{get_or-replicate, length-replicate}
@@ -91,3 +91,30 @@ module _ (blocks : Blocks) (empty : IsEmpty small blocks) where
   -- one that leaves out an update between two others
   left_out : HasTaken (opened blocks empty) four 0 points (replicate 64 0) (update 516 1 ∷ update 512 0 ∷ []) → ⊥
   left_out has = let first = ap (λ (ns : List ℕ). get_or ns 0 0) (has.parts 1 (omega arith)) in let no : ◌≡◌ {A = ℕ} 514 516 = first in omega (arith, no)
+
+  -- one with an update of no data block, out of order, or at a point of more than 64 bits
+  outside : HasTaken (opened blocks empty) four 0 points (replicate 64 0) (update 512 64 ∷ []) → ⊥
+  outside has = let inside = has.inside (update 512 64) (0, omega arith, refl) in omega (arith, inside)
+
+  out_of_order : HasTaken (opened blocks empty) four 0 points (replicate 64 0) (update 512 0 ∷ update 514 1 ∷ []) → ⊥
+  out_of_order has = let earlier = has.rising.0 0 (update 0 0) (omega arith) in omega (arith, earlier)
+
+  too_late : HasTaken (opened blocks empty) four 0 points (replicate 64 0) (update 18446744073709551616 0 ∷ []) → ⊥
+  too_late has = let low = has.small (update 18446744073709551616 0) (0, omega arith, refl) in omega (arith, low)
+
+  -- a slab that was opened with another commit point, another number of counters, or another counter
+  other_commit : (others : List Point) → (point_at others 0).0 ≡ 7 → HasTaken (opened blocks empty) four 0 others (replicate 64 0) taken → ⊥
+  other_commit others is has = let same = has.commits 0 (omega arith) in let none = commit_none 0 (omega arith) in omega (arith, same, none, is)
+
+  other_size : HasTaken (opened blocks empty) four 0 points (replicate 63 0) taken → ⊥
+  other_size has = let size = has.size in let long = length-replicate {A = ℕ} 63 0 in omega (arith, size, long)
+
+  other_counter : (first : List ℕ) → slice_index first 0 ≡ 1 → HasTaken (opened blocks empty) four 0 points first taken → ⊥
+  other_counter first is has = let same = has.counters 0 (omega arith) in let none = counter_none blocks empty 0 (omega arith) in omega (arith, same, none, is)
+
+  -- what comes later is later than what was taken, and than the opened commit point
+  later_before : (has : HasTaken (opened blocks empty) four 0 points (replicate 64 0) taken) → Contains has.later (update 511 0) → ⊥
+  later_before has there = let after = has.order (update 512 0) (update 511 0) (1, omega arith, refl) there in omega (arith, after)
+
+  later_old : (has : HasTaken (opened blocks empty) four 0 points (replicate 64 0) taken) → Contains has.later (update 0 0) → ⊥
+  later_old has there = let new = has.newer (update 0 0) there in omega (arith, new)

@@ -10,10 +10,10 @@ use Rattle.disk_model.specs.declared.call.Call.TheVariants.{Flush}
 use Rattle.disk_model.specs.Images.{IsImage}
 use Rattle.disk_model.specs.Log.{Blocks, block_at}
 use Rattle.image_model.specs.Empty.{IsEmpty}
-use Rattle.image_model.specs.Maps.{value_of}
+use Rattle.image_model.specs.Maps.{mapping_of, value_of}
 use Rattle.image_model.specs.Sound.{IsDataPlace}
 use Rattle.image_model.proofs.Example.{small}
-use Rattle.journal_stops.specs.Mapped.{later_image}
+use Rattle.journal_stops.specs.Mapped.{later_image, mapping_after}
 use Rattle.journal_stops.specs.Sealed.{Sealed, entries_of, window_of}
 use Rattle.recovery_laws.specs.Kept.{image_in}
 use Rattle.recovery_laws.specs.Written.{AreFull}
@@ -103,6 +103,10 @@ module _ (blocks : Blocks) (empty : IsEmpty small blocks) (whole : (b : ℕ) →
       → (value_of (image_in now is.kept.sound) address ≡ value_of (image_in is.old is.shows.sound) address → ⊥) → ⊥
   other_value now is address differs = differs (is.kept.same.values address)
 
+  other_entries : (now : Blocks) (is : IsClosing blocks log blocks base_to list now) (address : ℕ)
+      → (mapping_of (later_image (opened_in blocks base_to) is.old is.shows.shows.shown.window) address ≡ mapping_after (opened_in blocks base_to) (entries_of first list) address → ⊥) → ⊥
+  other_entries now is address differs = differs (is.shows.shows.mappings address)
+
   no_image : (now : Blocks) (is : IsClosing blocks log blocks base_to list now) → (IsImage blocks log is.old → ⊥) → ⊥
   no_image now is never = never is.is_image
 
@@ -114,6 +118,10 @@ module _ (blocks : Blocks) (empty : IsEmpty small blocks) (whole : (b : ℕ) →
   other_value_then : (now : Blocks) (is : IsClosedImage blocks (Flush true ∷ log) blocks base_to list now) (address : ℕ)
       → (value_of (image_in now is.recovered.kept.sound) address ≡ value_of (image_in is.old is.shows.sound) address → ⊥) → ⊥
   other_value_then now is address differs = differs (is.recovered.kept.same.values address)
+
+  other_entries_then : (now : Blocks) (is : IsClosedImage blocks (Flush true ∷ log) blocks base_to list now) (address : ℕ)
+      → (mapping_of (later_image (opened_in blocks base_to) is.old is.shows.shows.shown.window) address ≡ mapping_after (opened_in blocks base_to) (entries_of first list) address → ⊥) → ⊥
+  other_entries_then now is address differs = differs (is.shows.shows.mappings address)
 
   no_image_then : (now : Blocks) (is : IsClosedImage blocks (Flush true ∷ log) blocks base_to list now) → (IsImage blocks (Flush true ∷ log) is.old → ⊥) → ⊥
   no_image_then now is never = never is.is_image

@@ -226,6 +226,10 @@ module _ (blocks : Blocks) (empty : IsEmpty small blocks) (whole : (b : ℕ) →
   not_of_counts (inl (slab, i, inside, same)) = omega (arith, same)
   not_of_counts (inr (slab, slot, inside, same)) = omega (arith, same)
 
+  past_the_slab : IsOfCounts small 154 → ⊥
+  past_the_slab (inl (slab, i, inside, same)) = let in_slab = inside.0 in let here = inside.1 in omega (arith, same, in_slab, here)
+  past_the_slab (inr (slab, slot, inside, same)) = let in_slab = inside.0 in let here = inside.1 in omega (arith, same, in_slab, here)
+
   abbrev pub log_counts : List Call
   log_counts = Flush true ∷ Write (pbn 149) written true ∷ log_root
 
