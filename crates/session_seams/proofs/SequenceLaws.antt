@@ -2,7 +2,6 @@
 use Rattle.std.proofs.Common.{ℕ, ◌≡◌, ◌⊎◌, ◌+◌, ◌-◌, ◌<◌, ◌≤◌, ◌^◌, Bool, true, false, IsTrue, List, [], ◌∷◌, ◌++◌, length, Ok, refl, sym, ◌∙◌, ap, subst, inl, inr, arith}
 use Rattle.std.specs.List.{AllByRecursion}
 use Rattle.std.proofs.lemmas.Bool.{cases_Bool}
-use Rattle.std.proofs.lemmas.List.{take-take}
 use Rattle.blk_base.specs.Sectors.{sector}
 use Rattle.blk_base.specs.declared.geometry.Geometry.{Geometry}
 use Rattle.blk_base.specs.declared.geometry.Super.{Super}
@@ -11,7 +10,7 @@ use Rattle.disk_model.specs.declared.call.Call.{Call}
 use Rattle.disk_model.specs.declared.call.Call.TheVariants.{Read, Write, Flush}
 use Rattle.disk_model.specs.Images.{IsImage, HasOneImage}
 use Rattle.disk_model.specs.Log.{Blocks, block_at, contents}
-use Rattle.disk_model.proofs.ImageLaws.{all_weaker, sector_of_mix}
+use Rattle.disk_model.proofs.ImageLaws.{all_weaker}
 use Rattle.disk_model.proofs.OneImageLaws.{one_image-opening}
 use Rattle.image_format.specs.Runs.{as_failed}
 use Rattle.image_layout.specs.Opened.{super_of_image}
@@ -37,6 +36,7 @@ use Rattle.session_stops.specs.Beginnings.{IsAsOpened, IsToServe, head_in, opene
 use Rattle.session_stops.specs.Closings.{IsClosedImage, IsClosing, IsWrittenOut, last_in}
 use Rattle.session_stops.specs.Pages.{PutsOnly}
 use Rattle.session_stops.specs.Sessions.{StandsAtRest, StandsUnderWay, ShowsSoundly}
+use Rattle.session_stops.proofs.BeginLaws.{is_true, super_of_mix}
 use Rattle.session_stops.proofs.SurelyLaws.{goes_on}
 use Rattle.session_seams.specs.Logs.{StopsRight}
 use Rattle.session_seams.specs.Sequences.{AreStopsServed, CanBegin, IsHeadKept, ShowsValues, next_by, next_start}
@@ -60,10 +60,6 @@ next_clean head last is = rw is refl
 
 pub next_open : (head : Super) (last : ℕ) → head.clean ≡ false → next_by head last ≡ last + 2
 next_open head last is = rw is refl
-
-is_true : (b : Bool) → IsTrue b → b ≡ true
-is_true true is = refl
-is_true false is = absurd (cc is)
 
 true_is : (b : Bool) → b ≡ true → IsTrue b
 true_is true is = refl
@@ -178,9 +174,6 @@ module _ (opening blocks : Blocks) (first : List Call) (to : IsToRecover opening
   abbrev IsKeptHead : List ℕ → Type 0
   IsKeptHead = IsHeadKept blocks sound
 
-  idem : (content : List ℕ) → sector 0 (sector 0 content) ≡ sector 0 content
-  idem content = take-take 512 512 content (omega arith)
-
   by_first : (content other : List ℕ) → sector 0 content ≡ sector 0 other → IsKeptHead content → IsKeptHead other
   by_first content other same (inl is) = inl (first_sector_says other content (length blocks) (sym same) ∙ is)
   by_first content other same (inr is) = inr (first_sector_says other content (length blocks) (sym same) ∙ is)
@@ -208,10 +201,7 @@ module _ (opening blocks : Blocks) (first : List Call) (to : IsToRecover opening
       let size : length now ≡ length blocks = is.size ∙ sym to.one.size in
       let all = heads_of older (behind newer older (subst (AllByRecursion (PutsOnly 0 IsKeptHead)) parts each)) in
       let long : 0 < length opening = (let size = to.one.size in let long = some in omega (arith, size, long)) in
-      let here : IsKeptHead (block_at now 0) =
-      by_first (sector 0 (block_at now 0)) (block_at now 0) (idem (block_at now 0))
-      (sector_of_mix IsKeptHead (contents opening (older ++ first) 0) (block_at now 0) 0 (omega arith) (is.sectors 0 long)
-      (all_weaker IsKeptHead (λ content. IsKeptHead (sector 0 content)) (contents opening (older ++ first) 0) (λ content holds. by_first content (sector 0 content) (sym (idem content)) holds) all)) in
+      let here = super_of_mix IsKeptHead by_first opening (older ++ first) now long is all in
       let says : super_of_image now ≡ super_of (block_at now 0) (length blocks) =
       first_of_image now (let long = some in omega (arith, long, size)) ∙ ap (super_of (block_at now 0)) size in
       next_by_heads blocks now sound to.unclean size kept (elim here [ inl old ↦ inl (says ∙ old) | inr new ↦ inr (says ∙ new) ])

@@ -1,5 +1,5 @@
 -- While nothing was done but to the superblock, each image is sound, and says the same as the opened one.
-use Rattle.std.proofs.Common.{ℕ, ◌≡◌, ◌⊎◌, ◌+◌, ◌/◌, ◌%◌, ◌*◌, ◌<◌, ◌≤◌, ◌^◌, Bool, true, false, IsTrue, List, ◌∷◌, length, get_or, All, Option, Some, None, Ok, refl, sym, ◌∙◌, ap, subst, inl, inr, arith}
+use Rattle.std.proofs.Common.{ℕ, ◌≡◌, ◌⊎◌, ◌+◌, ◌/◌, ◌%◌, ◌*◌, ◌<◌, ◌≤◌, ◌^◌, Bool, true, false, IsTrue, List, ◌∷◌, length, get_or, All, Some, Ok, refl, sym, ◌∙◌, ap, subst, inl, inr, arith}
 use Rattle.std.specs.List.{AllByRecursion}
 use Rattle.std.proofs.lemmas.List.{take-take}
 use Rattle.blk_base.specs.Counters.{sector_of_offset}
@@ -10,7 +10,6 @@ use Rattle.blk_base.specs.declared.geometry.Geometry.{Geometry}
 use Rattle.blk_base.specs.declared.geometry.Super.{Super}
 use Rattle.blk_base.specs.declared.journal_entry.Entry.{Entry}
 use Rattle.blk_base.specs.declared.layout.DataPlace.{DataPlace}
-use Rattle.blk_base.specs.declared.place.Mapping.{Mapping}
 use Rattle.blk_base.specs.declared.place.PageId.{PageId}
 use Rattle.blk_base.specs.declared.place.Pbn.{Pbn}
 use Rattle.blk_base.specs.declared.sizes.TheConstants.{PAGE_SLOTS}
@@ -44,11 +43,8 @@ use Rattle.recovery_laws.proofs.SuperLaws.{first_of_image, first_sector_says}
 use Rattle.recovery_laws.proofs.WindowFacts.{IsKnown}
 use Rattle.session_stops.specs.Beginnings.{HeadStands, IsAsOpened, IsBeginning, IsHeadOf, IsToServe, head_in, opened_in}
 use Rattle.session_stops.specs.Pages.{PutsOnly}
+use Rattle.session_stops.proofs.PagePlaces.{by_put}
 use Rattle.session_stops.proofs.SurelyLaws.{goes_on, missed}
-
-abbrev by_put : Mapping → Option Mapping → Mapping
-by_put before (Some m) = m
-by_put before None = before
 
 -- Blocks that are those of a sound image that was closed, but for the superblock.
 module _ (base now : Blocks) (sound : IsSound base) (closed : IsClosed (image_in base sound) sound.head.start sound.last) (size : length now ≡ length base)
@@ -185,7 +181,23 @@ module _ (base now : Blocks) (sound : IsSound base) (closed : IsClosed (image_in
     closed = λ is. still_closed;
   }
 
+-- What all contents of block 0 have by their first sectors, each mix of them has.
+
+idem : (content : List ℕ) → sector 0 (sector 0 content) ≡ sector 0 content
+idem content = take-take 512 512 content (omega arith)
+
+pub super_of_mix : (P : List ℕ → Type 0) → ((content other : List ℕ) → sector 0 content ≡ sector 0 other → P content → P other)
+    → (opening : Blocks) (log : List Call) (image : Blocks) → 0 < length opening → IsImage opening log image → AllByRecursion P (contents opening log 0) → P (block_at image 0)
+super_of_mix P by_first opening log image some is all =
+    by_first (sector 0 (block_at image 0)) (block_at image 0) (idem (block_at image 0))
+    (sector_of_mix P (contents opening log 0) (block_at image 0) 0 (omega arith) (is.sectors 0 some)
+    (all_weaker P (λ content. P (sector 0 content)) (contents opening log 0) (λ content holds. by_first content (sector 0 content) (sym (idem content)) holds) all))
+
 -- The images of a session's beginning.
+
+pub is_true : (b : Bool) → IsTrue b → b ≡ true
+is_true true is = refl
+is_true false is = absurd (cc is)
 
 module _ (base : Blocks) (to : IsToServe base) where
   closed_base : IsClosed (opened_in base to) to.sound.head.start to.sound.last
@@ -193,21 +205,6 @@ module _ (base : Blocks) (to : IsToServe base) where
 
   early : to.sound.last + 2 < 2 ^ 54
   early = let late = to.late in let next = closed_base.next in omega (arith, late, next)
-
-  -- the first sector says which superblock it is
-  idem : (content : List ℕ) → sector 0 (sector 0 content) ≡ sector 0 content
-  idem content = take-take 512 512 content (omega arith)
-
-  first_of : (content : List ℕ) (head : Super) → super_of content (length base) ≡ Ok head → super_of (sector 0 content) (length base) ≡ Ok head
-  first_of content head is = first_sector_says (sector 0 content) content (length base) (idem content) ∙ is
-
-  -- the same of all contents, and so of each mix
-  pub super_of_mix : (P : List ℕ → Type 0) → ((content other : List ℕ) → sector 0 content ≡ sector 0 other → P content → P other)
-      → (opening : Blocks) (log : List Call) (image : Blocks) → 0 < length opening → IsImage opening log image → AllByRecursion P (contents opening log 0) → P (block_at image 0)
-  super_of_mix P by_first opening log image some is all =
-      by_first (sector 0 (block_at image 0)) (block_at image 0) (idem (block_at image 0))
-      (sector_of_mix P (contents opening log 0) (block_at image 0) 0 (omega arith) (is.sectors 0 some)
-      (all_weaker P (λ content. P (sector 0 content)) (contents opening log 0) (λ content holds. by_first content (sector 0 content) (sym (idem content)) holds) all))
 
   head_by_first : (content other : List ℕ) → sector 0 content ≡ sector 0 other → IsHeadOf base to content → IsHeadOf base to other
   head_by_first content other same (inl is) = inl (first_sector_says other content (length base) (sym same) ∙ is)
@@ -218,10 +215,6 @@ module _ (base : Blocks) (to : IsToServe base) where
 
   same_super : (image : Blocks) → length image ≡ length base → super_of_image image ≡ super_of (block_at image 0) (length base)
   same_super image size = let some = some_blocks in first_of_image image (omega (arith, size, some)) ∙ ap (super_of (block_at image 0)) size
-
-  is_true : (b : Bool) → IsTrue b → b ≡ true
-  is_true true is = refl
-  is_true false is = absurd (cc is)
 
   as_it_was : to.sound.head ≡ record { geometry = to.sound.head.geometry; clean = true; start = to.sound.head.start }
   as_it_was = ap (λ (clean : Bool). record { geometry = to.sound.head.geometry; clean = clean; start = to.sound.head.start }) (is_true to.sound.head.clean to.clean)

@@ -27,7 +27,7 @@ use Rattle.count_laws.proofs.StoredLaws as stored
 use Rattle.session_stops.specs.Beginnings.{IsToServe, opened_in}
 use Rattle.session_stops.specs.Closings.{IsWrittenOut}
 use Rattle.session_stops.specs.Sessions.{StandsAtRest}
-use Rattle.session_stops.proofs.MapImages.{rest_sees}
+use Rattle.session_stops.proofs.MapImages.{rest_seen}
 use Rattle.session_stops.proofs.NewPages.{turns_made}
 use Rattle.session_stops.proofs.PagePlaces.{pages_on_it}
 use Rattle.session_stops.proofs.PageStops.{pages_are_full}
@@ -104,7 +104,7 @@ module _ (base : Blocks) (to : IsToServe base) (opening : Blocks) (log : List Ca
 
     page_full : (page : PageId) (at : Pbn) → page_at now page ≡ Some at → IsFullPage now page at (block_at image at.0)
     page_full =
-        let sees = rest_sees base to opening log blocks rest image is in
+        let sees = (rest_seen base to opening log blocks rest image is).0 in
         let on_it = pages_on_it opened to.sound.pages to.sound.last (known base base to.sound) entries (turns_made opened entries rest.behind.turns) (length opening) wide in
         subst (λ (list : List CommittedEntry). (page : PageId) (at : Pbn) → page_at (later_image opened image list) page ≡ Some at → IsFullPage (later_image opened image list) page at (block_at image at.0))
         sees.1 (pages_are_full opening log opened start entries image sees.0.shown rest.behind.whole on_it all.pages is)

@@ -91,7 +91,7 @@ module _ (base : Blocks) (to : IsToServe base) where
     unshared at address (page, level, there) mapped =
         unshared_after opened entries turns to.sound.unshared at address (page, level, sym (same_page page) ∙ there) (sym (same_mapping address) ∙ mapped)
 
-    pub is_sound : HasGoodCounts now shown.last → IsSound image
+    is_sound : HasGoodCounts now shown.last → IsSound image
     is_sound good = record {
       head = head_in base to;
       last = shown.last;
@@ -108,9 +108,12 @@ module _ (base : Blocks) (to : IsToServe base) where
     sees : Sees opened start image entries shown.window
     sees = (shows, same_window)
 
-    pub shows_soundly : HasGoodCounts now shown.last → ShowsSoundly opened (head_in base to) image entries
+    shows_soundly : HasGoodCounts now shown.last → ShowsSoundly opened (head_in base to) image entries
     unfolding is_sound
     shows_soundly good = record { sound = is_sound good; is_head = refl; shows = shows; same = same_window }
+
+    pub seen : Sees opened start image entries shown.window × (HasGoodCounts now shown.last → ShowsSoundly opened (head_in base to) image entries)
+    seen = (sees, shows_soundly)
 
   journal_inside : (opening : Blocks) → length opening ≡ length base → 1 + g.journal ≤ length opening
   journal_inside opening size = let enough = room base base to.sound in omega (arith, enough, size)
@@ -132,25 +135,16 @@ module _ (base : Blocks) (to : IsToServe base) where
       all = window_split g start blocks rest.journal.ring;
     }
 
-    pub rest_sees : Sees opened start image (entries_of start blocks) (window_of start blocks)
+    pub rest_seen : Sees opened start image (entries_of start blocks) (window_of start blocks)
+        × (HasGoodCounts (later_image opened image (window_of start blocks)) (next_of start blocks - 1) → ShowsSoundly opened (head_in base to) image (entries_of start blocks))
     unfolding at_rest
-    rest_sees =
-        sees opening log image is rest.behind.size rest.behind.whole rest.behind.super (entries_of start blocks) rest.behind.turns at_rest rest.behind.pages
-        (let reach = rest.behind.reach in let late = to.late in let last = last_is in omega (arith, reach, late, last))
-        (λ slot number sequence head list inside below valid.
-        let early = rest_of_its_time opening log g start blocks image (journal_inside opening rest.behind.size) rest.journal is slot number sequence head list inside below valid in
-        let last = last_is in omega (arith, early, last))
-
-    pub rest_shows : HasGoodCounts (later_image opened image (window_of start blocks)) (next_of start blocks - 1) → ShowsSoundly opened (head_in base to) image (entries_of start blocks)
-    unfolding at_rest
-    rest_shows good =
+    rest_seen =
         let reach = rest.behind.reach in let late = to.late in let last = last_is in
-        shows_soundly opening log image is rest.behind.size rest.behind.whole rest.behind.super (entries_of start blocks) rest.behind.turns at_rest rest.behind.pages
+        seen opening log image is rest.behind.size rest.behind.whole rest.behind.super (entries_of start blocks) rest.behind.turns at_rest rest.behind.pages
         (omega (arith, reach, late, last))
         (λ slot number sequence head list inside below valid.
         let early = rest_of_its_time opening log g start blocks image (journal_inside opening rest.behind.size) rest.journal is slot number sequence head list inside below valid in
         omega (arith, early, last))
-        good
 
   -- One is.
 
@@ -189,23 +183,14 @@ module _ (base : Blocks) (to : IsToServe base) where
         → IsSector g.nonce number (sector number (get_or (journal_of g image) slot zero_block)) sequence head list → sequence ≤ next_of start blocks
     sectors_early = way_of_its_time opening log g start blocks block image (journal_inside opening way.behind.size) way.journal is
 
-    pub before_sees : IsWindow g start (journal_of g image) (next_of start blocks - 1) (window_of start blocks) → Sees opened start image (entries_of start blocks) (window_of start blocks)
+    before_seen : IsWindow g start (journal_of g image) (next_of start blocks - 1) (window_of start blocks) → Sees opened start image (entries_of start blocks) (window_of start blocks)
+        × (HasGoodCounts (later_image opened image (window_of start blocks)) (next_of start blocks - 1) → ShowsSoundly opened (head_in base to) image (entries_of start blocks))
     unfolding before_window
-    before_sees window =
+    before_seen window =
         let reach = way.behind.reach in let late = to.late in let last = before_last_is in
-        sees opening log image is way.behind.size way.behind.whole way.behind.super (entries_of start blocks) way.behind.turns (before_window window) pages_before
+        seen opening log image is way.behind.size way.behind.whole way.behind.super (entries_of start blocks) way.behind.turns (before_window window) pages_before
         (omega (arith, reach, late, last))
         (λ slot number sequence head list inside below valid. let early = sectors_early slot number sequence head list inside below valid in omega (arith, early, last))
-
-    pub before_shows : (window : IsWindow g start (journal_of g image) (next_of start blocks - 1) (window_of start blocks))
-        → HasGoodCounts (later_image opened image (window_of start blocks)) (next_of start blocks - 1) → ShowsSoundly opened (head_in base to) image (entries_of start blocks)
-    unfolding before_window
-    before_shows window good =
-        let reach = way.behind.reach in let late = to.late in let last = before_last_is in
-        shows_soundly opening log image is way.behind.size way.behind.whole way.behind.super (entries_of start blocks) way.behind.turns (before_window window) pages_before
-        (omega (arith, reach, late, last))
-        (λ slot number sequence head list inside below valid. let early = sectors_early slot number sequence head list inside below valid in omega (arith, early, last))
-        good
 
     -- its first sectors
     module _ (n : ℕ) where
@@ -243,43 +228,37 @@ module _ (base : Blocks) (to : IsToServe base) where
         all = window_split g start (front ∷ blocks) (front_grows g start n blocks block way.journal.ring way.journal.is_sealed);
       }
 
-      pub front_sees : IsWindow g start (journal_of g image) (next_of start blocks - 1 + 1) (window_of start (front_of n block ∷ blocks))
+      front_seen : IsWindow g start (journal_of g image) (next_of start blocks - 1 + 1) (window_of start (front_of n block ∷ blocks))
           → Sees opened start image (entries_of start (front_of n block ∷ blocks)) (window_of start (front_of n block ∷ blocks))
+          × (HasGoodCounts (later_image opened image (window_of start (front_of n block ∷ blocks))) (next_of start blocks - 1 + 1)
+          → ShowsSoundly opened (head_in base to) image (entries_of start (front_of n block ∷ blocks)))
       unfolding front_window
-      front_sees window =
+      front_seen window =
           let reach = way.behind.reach in let late = to.late in let last = before_last_is in
-          sees opening log image is way.behind.size way.behind.whole way.behind.super (entries_of start (front ∷ blocks)) turns_front (front_window window) pages_front
+          seen opening log image is way.behind.size way.behind.whole way.behind.super (entries_of start (front ∷ blocks)) turns_front (front_window window) pages_front
           (omega (arith, reach, late, last))
           (λ slot number sequence head list inside below valid. let early = sectors_early slot number sequence head list inside below valid in omega (arith, early, last))
 
-      pub front_shows : (window : IsWindow g start (journal_of g image) (next_of start blocks - 1 + 1) (window_of start (front_of n block ∷ blocks)))
-          → HasGoodCounts (later_image opened image (window_of start (front_of n block ∷ blocks))) (next_of start blocks - 1 + 1)
-          → ShowsSoundly opened (head_in base to) image (entries_of start (front_of n block ∷ blocks))
-      unfolding front_window
-      front_shows window good =
-          let reach = way.behind.reach in let late = to.late in let last = before_last_is in
-          shows_soundly opening log image is way.behind.size way.behind.whole way.behind.super (entries_of start (front ∷ blocks)) turns_front (front_window window) pages_front
-          (omega (arith, reach, late, last))
-          (λ slot number sequence head list inside below valid. let early = sectors_early slot number sequence head list inside below valid in omega (arith, early, last))
-          good
-
-    pub way_shows : (IsWindow g start (journal_of g image) (next_of start blocks - 1) (window_of start blocks) → HasGoodCounts (later_image opened image (window_of start blocks)) (next_of start blocks - 1))
-        → ((n : ℕ) → 1 ≤ n → n ≤ 8 → IsWindow g start (journal_of g image) (next_of start blocks - 1 + 1) (window_of start (front_of n block ∷ blocks))
+    pub way_shows : (Sees opened start image (entries_of start blocks) (window_of start blocks)
+        → HasGoodCounts (later_image opened image (window_of start blocks)) (next_of start blocks - 1))
+        → ((n : ℕ) → Sees opened start image (entries_of start (front_of n block ∷ blocks)) (window_of start (front_of n block ∷ blocks))
         → HasGoodCounts (later_image opened image (window_of start (front_of n block ∷ blocks))) (next_of start blocks - 1 + 1))
         → (entries : List CommittedEntry) × Extends entries (entries_of start blocks) × Extends (entries_of start (block ∷ blocks)) entries
         × ShowsSoundly opened (head_in base to) image entries
     way_shows old new =
         elim (window_under_way opening log g start blocks block image before_last (journal_inside opening way.behind.size) way.journal is before_last_is) [
-          | inl window ↦ (
-            entries_of start blocks,
-            ([], refl),
-            (entries_next start blocks block, newest_block start blocks block),
-            before_shows window (old window),
-          )
-          | inr (n, some, few, window) ↦ (
-            entries_of start (front_of n block ∷ blocks),
-            front_extends start n blocks block,
-            block_extends start n blocks block,
-            front_shows n window (new n some few window),
-          )
+          | inl window ↦
+              let found = before_seen window in (
+                entries_of start blocks,
+                ([], refl),
+                (entries_next start blocks block, newest_block start blocks block),
+                found.1 (old found.0),
+              )
+          | inr (n, some, few, window) ↦
+              let found = front_seen n window in (
+                entries_of start (front_of n block ∷ blocks),
+                front_extends start n blocks block,
+                block_extends start n blocks block,
+                found.1 (new n found.0),
+              )
         ]

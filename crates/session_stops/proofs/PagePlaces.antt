@@ -24,7 +24,7 @@ use Rattle.journal_stops.proofs.NewestLaws.{newest_is_block, newest_page_same}
 use Rattle.session_stops.specs.Pages.{ArePagesOnIt}
 use Rattle.session_stops.proofs.NewPages.{AreMadeNew, MakesNew}
 
-block_put : (x y : Pbn) → Some (At x) ≡ Some (At y) → x ≡ y
+pub block_put : (x y : Pbn) → Some (At x) ≡ Some (At y) → x ≡ y
 block_put x y is = cc is
 
 -- the block of the newest entry that makes a page is a data block
@@ -63,7 +63,7 @@ root_or_below opened entries page at linked =
           inl (omega (arith, high, level), found.0, ap (λ (b : Pbn). b.0) (chosen (page.index == 0) (record { 0 = block_of opened.geometry (Root page.tree) }) at root))
     ]
 
-abbrev by_put : Mapping → Option Mapping → Mapping
+abbrev pub by_put : Mapping → Option Mapping → Mapping
 by_put before (Some m) = m
 by_put before None = before
 

@@ -34,6 +34,7 @@ use Rattle.journal_stops.proofs.OpenedLaws.{page_with_none, rooted_old_page, slo
 use Rattle.session_stops.specs.Pages.{EmptyPageStands, NewPagesStand, PageStands, PagesStand, PutsOnly, SaysTheRest, SlotStands}
 use Rattle.session_stops.proofs.NewPages.{AreMadeNew, MakesNew}
 use Rattle.count_laws.specs.Turns.{IsPageAfter}
+use Rattle.session_stops.proofs.PagePlaces.{block_put}
 use Rattle.session_stops.proofs.SurelyLaws.{goes_on}
 
 -- A page by its contents.
@@ -182,9 +183,6 @@ above_linked opened entries page at below is =
 
 same_block : (x y : Pbn) → Some x ≡ Some y → x ≡ y
 same_block x y is = cc is
-
-block_put : (x y : Pbn) → Some (At x) ≡ Some (At y) → x ≡ y
-block_put x y is = cc is
 
 no_page_yet : (o : Option Pbn) → ((at : Pbn) → o ≡ Some at → ⊥) → o ≡ None
 no_page_yet (Some at) never = absurd (never at refl)

@@ -23,7 +23,7 @@ use Rattle.count_laws.proofs.ImageLaws.{closed_counts, commits_timely, true_coun
 use Rattle.count_laws.proofs.KeepLaws.{counts_grow, counts_with_more}
 use Rattle.session_stops.specs.Beginnings.{IsToServe, head_in, opened_in}
 use Rattle.session_stops.specs.Sessions.{AreFew, ShowsSoundly, StandsAtRest, StandsUnderWay, entries_next, window_from}
-use Rattle.session_stops.proofs.MapImages.{HasGoodCounts, Sees, before_sees, front_sees, rest_sees, rest_shows, turns_front, way_shows}
+use Rattle.session_stops.proofs.MapImages.{HasGoodCounts, Sees, rest_seen, turns_front, way_shows}
 use Rattle.session_stops.proofs.WindowLists.{newest_block, window_earlier, window_newest}
 use Rattle.session_stops.proofs.PointedBlocks.{blocks_pointed}
 
@@ -73,10 +73,10 @@ module _ (base : Blocks) (to : IsToServe base) where
         let pointed = blocks_pointed start blocks rest.behind.few in
         let next = pointed.1 in
         good opening log image is rest.behind.size (entries_of start blocks) (window_of start blocks) (next_of start blocks - 1) rest.behind.turns pointed.0 (omega (arith, next, some))
-        (omega (arith, some)) (rest_sees base to opening log blocks rest image is) rest.behind.counts
+        (omega (arith, some)) (rest_seen base to opening log blocks rest image is).0 rest.behind.counts
 
     pub rest_sound : ShowsSoundly opened (head_in base to) image (entries_of start blocks)
-    rest_sound = rest_shows base to opening log blocks rest image is rest_good
+    rest_sound = (rest_seen base to opening log blocks rest image is).1 rest_good
 
   module _ (opening : Blocks) (log : List Call) (blocks : List Sealed) (block : Sealed) (way : StandsUnderWay opening log base to blocks block) (image : Blocks) (is : IsImage opening log image) where
     abbrev older : List CommittedEntry
@@ -114,14 +114,12 @@ module _ (base : Blocks) (to : IsToServe base) where
     way_sound =
         let some = way.journal.some in
         way_shows base to opening log blocks block way image is
-        (λ window.
+        (λ sees.
         let pointed = blocks_pointed start blocks way.behind.few in
         let next = pointed.1 in
-        good opening log image is way.behind.size older (window_of start blocks) (next_of start blocks - 1) way.behind.turns pointed.0 (omega (arith, next, some)) (omega (arith, some))
-        (before_sees base to opening log blocks block way image is window) counts_before)
-        (λ n first most window.
+        good opening log image is way.behind.size older (window_of start blocks) (next_of start blocks - 1) way.behind.turns pointed.0 (omega (arith, next, some)) (omega (arith, some)) sees counts_before)
+        (λ n sees.
         let pointed = blocks_pointed start (front_of n block ∷ blocks) (few_front n) in
         let next = pointed.1 in
         good opening log image is way.behind.size (entries_of start (front_of n block ∷ blocks)) (window_of start (front_of n block ∷ blocks)) (next_of start blocks - 1 + 1)
-        (turns_front base to opening log blocks block way image is n) pointed.0 (omega (arith, next, some)) (omega (arith, some))
-        (front_sees base to opening log blocks block way image is n window) (counts_front n))
+        (turns_front base to opening log blocks block way image is n) pointed.0 (omega (arith, next, some)) (omega (arith, some)) sees (counts_front n))
