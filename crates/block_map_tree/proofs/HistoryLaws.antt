@@ -10,7 +10,7 @@ use Rattle.blk_base.specs.declared.point.Point.{Point}
 use Rattle.blk_base.specs.Regions.{Root, block_of}
 use Rattle.page_codec.specs.declared.forms.MapPage.{MapPage}
 use Rattle.dirty_pages.specs.declared.marks.Marks.{Marks}
-use Rattle.dirty_pages.specs.Marks.{IsLowPoint, AreClean, marks_at, with_marks, changed_at, handed_out, settled}
+use Rattle.dirty_pages.specs.Marks.{HasPoint, IsLowPoint, AreClean, marks_at, with_marks, changed_at, handed_out, settled}
 use Rattle.dirty_pages.specs.History.{IsWaiting, IsUnwritten, IsUnreported, Becomes, IsAfter, AtMost}
 use Rattle.dirty_pages.proofs.MarkLaws.{due_inside, out_inside}
 use Rattle.dirty_pages.proofs.HistoryLaws as dirty
@@ -175,6 +175,13 @@ pub not_written : (old new : Tree) (calls : List Call) (page : PageId) (point : 
     → IsUnwritten (events_of calls) page point → AreClean new.marks → ⊥
 not_written old new calls page point form lead unwritten written =
     dirty.not_clean (marks_of old page) (marks_of new page) (events_of calls) page point (unwritten_after old new calls page point form lead unwritten) unwritten (written (number_of new.forest page))
+
+-- its page has a point that isn't above it
+pub owed_point : (old new : Tree) (calls : List Call) (page : PageId) (point : Point) → IsTree old → LeadTo old calls new → IsUnwritten (events_of calls) page point
+    → (number : ℕ) × (low : Point) × HasPoint (marks_at new.marks number) low × (low.0 ≤ point.0)
+owed_point old new calls page point form lead unwritten =
+    let has = dirty.has_point (marks_of old page) (marks_of new page) (events_of calls) page point (unwritten_after old new calls page point form lead unwritten) unwritten in
+    (number_of new.forest page, has.0, has.1, has.2)
 
 -- a page that was handed out is being written until it is reported
 pub is_out : (old new : Tree) (page : PageId) (point : Point) (into : MapPage) → Expires old new point page into → IsWriting new page

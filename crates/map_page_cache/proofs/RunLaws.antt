@@ -9,7 +9,7 @@ use Rattle.blk_base.specs.declared.point.Point.{Point}
 use Rattle.blk_base.proofs.PageIdLaws.{same_or_not}
 use Rattle.page_codec.specs.declared.forms.MapPage.{MapPage}
 use Rattle.dirty_pages.specs.declared.marks.Marks.{Marks}
-use Rattle.dirty_pages.specs.Marks.{IsLowPoint, AreClean, clean, marks_at, with_marks, changed_at, handed_out, settled}
+use Rattle.dirty_pages.specs.Marks.{HasPoint, IsLowPoint, AreClean, clean, marks_at, with_marks, changed_at, handed_out, settled}
 use Rattle.dirty_pages.specs.History.{IsUnwritten, IsUnreported, IsAfter}
 use Rattle.dirty_pages.proofs.MarkLaws.{changed_here, changed_elsewhere}
 use Rattle.dirty_pages.proofs.PageLists.{at_set, listed_or_not}
@@ -180,6 +180,13 @@ pub owed_not_clean : (old new : CachedPages) (calls : List Call) (page : PageId)
     → IsUnwritten (events_of calls) page point → AreClean new.marks → ⊥
 owed_not_clean old new calls page point form lead unwritten are =
     dirty.not_clean _ _ (events_of calls) page point (after old new calls page form lead) unwritten (are (place_of new.pages page))
+
+-- its page has a point that isn't above it
+pub owed_point : (old new : CachedPages) (calls : List Call) (page : PageId) (point : Point) → IsCache old → LeadTo old calls new → IsUnwritten (events_of calls) page point
+    → (number : ℕ) × (low : Point) × HasPoint (marks_at new.marks number) low × (low.0 ≤ point.0)
+owed_point old new calls page point form lead unwritten =
+    let has = dirty.has_point (marks_of old page) (marks_of new page) (events_of calls) page point (after old new calls page form lead) unwritten in
+    (place_of new.pages page, has.0, has.1, has.2)
 
 -- a page that was handed out is being written until it is reported
 pub still_out : (old new : CachedPages) (calls : List Call) (page : PageId) → IsCache old → LeadTo old calls new

@@ -1,0 +1,3 @@
+pub mod KeepLaws
+pub mod StepLaws
+pub mod CallLaws

@@ -1,0 +1,4 @@
+pub mod ZoneMap
+pub mod Serving
+pub mod Writing
+pub mod Calls

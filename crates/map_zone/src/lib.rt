@@ -1,0 +1,23 @@
+//! The block map of one logical zone: what each address of its trees is mapped to, as the entries of the recovery journal
+//! say that were applied.
+//!
+//! The pages of the trees that are no leaves are always in memory (`block_map_tree`); leaves are cached (`map_page_cache`).
+//! Where a leaf isn't there, the caller reads its block and installs it. Entries change pages in memory: a page that one
+//! changed is handed out to be written some time later, and reported when that write is durable. Of what isn't durable the
+//! zone knows the least point.
+//!
+//! All room is taken in `MapZone::new`: no later call can be refused for memory.
+#![tactic(auto)]
+
+mod forms;
+mod laws;
+mod places;
+mod points;
+mod zone;
+
+pub use forms::{Applied, Looked, NotInstalled};
+pub use laws::nothing_unwritten_is_below_the_low_point;
+pub use zone::MapZone;
+
+#[cfg(test)]
+mod tests;
