@@ -110,7 +110,7 @@ none_is_ever_due pages none page first due =
     cc
 
 -- which page is handed out, and the low point, are one
-same_point : (p q : Point) → p.0 ≡ q.0 → p ≡ q
+pub same_point : (p q : Point) → p.0 ≡ q.0 → p ≡ q
 same_point p q same = ap (λ (n : ℕ). let r : Point = record { 0 = n } in r) same
 
 pub one_is_handed_out : (old new new' : List Marks) (point : Point) (number number' : ℕ) → HandsOut old new point number → HandsOut old new' point number'

@@ -1,3 +1,5 @@
 pub mod KeepLaws
 pub mod StepLaws
 pub mod CallLaws
+pub mod ShownLaws
+pub mod OneLaws

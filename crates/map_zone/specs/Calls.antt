@@ -11,7 +11,9 @@ use Rattle.blk_base.specs.declared.place.Pbn.{Pbn}
 use Rattle.blk_base.specs.declared.point.Point.{Point}
 use Rattle.dirty_pages.specs.History.{Changed, Event, HandedOut, Written}
 use Rattle.page_codec.specs.Grammar.{IsPage}
+use Rattle.page_codec.specs.declared.forms.MapPage.{MapPage}
 use Rattle.block_map_tree.specs.Pages.{above}
+use Rattle.map_page_cache.specs.CachedPages.{IsThere}
 use Rattle.map_zone.specs.declared.forms.Applied.TheVariants.{Done}
 use Rattle.map_zone.specs.Serving.{Applies, Installs, MayApply, MayInstall}
 use Rattle.map_zone.specs.Writing.{IsOut, Settles, Takes}
@@ -24,6 +26,10 @@ pub data Call : Type 0 where
   Install : PageId → List ℕ → Call
   HandOut : PageId → Pbn → List ℕ → Call
   Write : PageId → Call
+
+-- no leaf is in memory
+abbrev pub HasNoLeaf : ZoneMap → Type 0
+HasNoLeaf m = (page : PageId) (content : MapPage) → IsThere m.cache page content → ⊥
 
 -- a call leads from one map to another
 abbrev pub Leads : ZoneMap → Call → ZoneMap → Type 0

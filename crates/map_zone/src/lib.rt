@@ -16,7 +16,9 @@ mod points;
 mod zone;
 
 pub use forms::{Applied, Looked, NotInstalled};
-pub use laws::nothing_unwritten_is_below_the_low_point;
+pub use laws::{
+    a_call_has_one_result, nothing_unwritten_is_below_the_low_point, what_was_applied_is_shown,
+};
 pub use zone::MapZone;
 
 #[cfg(test)]
