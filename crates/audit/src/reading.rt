@@ -6,6 +6,7 @@ ghost use Rattle.blk_base.specs.Regions.{needed_blocks};
 ghost use Rattle.disk_model.specs.Log.{Blocks};
 ghost use Rattle.disk_model.specs.Since.{IsUntouched};
 ghost use Rattle.journal_window.specs.Windows.{IsWindowOf};
+ghost use Rattle.replay_map.specs.Forms.{HasForm};
 
 use crate::Contents;
 use blk_base::Super;
@@ -32,6 +33,7 @@ pub fn read_contents<D: Disk>(
     requires sizes { IsGeometry head.now.geometry }
     requires room { needed_blocks head.now.geometry ≤ (D.seen device.old).size }
     requires window { (journal : Blocks) × IsWindowOf head.now journal window.now }
+    ensures form { IfOk result (λ contents. HasForm head.now.geometry contents.map.links.items contents.map.slots.items) }
     ensures contents { IfOk result (AreContents D.tells D.honest head.now window.now (D.seen device.old) (D.seen device.new)) }
     ensures fault { IfErr result (AuditWithFails D.tells D.honest head.now window.now (D.seen device.old) (D.seen device.new)) }
     ensures untouched { IsUntouched D.tells (D.seen device.old) (D.seen device.new) }

@@ -2,6 +2,7 @@
 use Rattle.std.proofs.Common.{ℕ, ◌≡◌, ◌≤◌, Bool, IsTrue, true, false, List, All, Result, Ok, Err, IsErrAnd, length, refl, sym, ◌∙◌, ap, subst, inl, inr}
 use Rattle.audit.proofs.AuditLaws.{both_follow}
 use Rattle.audit.specs.Audits.{AuditWithFails, BothShow, IsOpenedTo}
+use Rattle.block_map_tree.specs.Opening.{IsOpened as AreTrees, all_trees}
 use Rattle.blk_base.specs.Counters.{limit_of}
 use Rattle.blk_base.specs.Limits.{IsGeometry}
 use Rattle.blk_base.specs.Regions.{needed_blocks}
@@ -75,8 +76,9 @@ module _ (tells honest : Bool) (head : Superblock) (window : WindowState) (befor
   check_failed contents Unclean are fails = absurd fails
 
   pub fits_with : (contents : Contents) (opened : Opened) → IsGeometry head.geometry → AreContents tells honest head window before now contents → opened.head ≡ head
-      → opened.counters.items ≡ contents.counts.counts.items → length opened.commits.items ≡ length contents.counts.sectors.items → Fits opened
-  fits_with contents opened sizes are same counters commits =
+      → opened.counters.items ≡ contents.counts.counts.items → length opened.commits.items ≡ length contents.counts.sectors.items
+      → AreTrees (all_trees head.geometry) opened.pages.items → Fits opened
+  fits_with contents opened sizes are same counters commits pages =
       let geometry : head.geometry ≡ opened.head.geometry = sym (ap (λ (h : Superblock). h.geometry) same) in
       let g = head.geometry in record {
         sizes = subst IsGeometry geometry sizes;
@@ -84,6 +86,7 @@ module _ (tells honest : Bool) (head : Superblock) (window : WindowState) (befor
         limit = subst (λ (h : Geometry). All (λ (n : ℕ). n ≤ limit_of h) opened.counters.items) geometry
             (subst (λ (ns : List ℕ). All (λ (n : ℕ). n ≤ limit_of g) ns) (sym counters) are.limit);
         commits = subst (λ (h : Geometry). length opened.commits.items ≡ all_sectors h) geometry (commits ∙ are.sectors);
+        pages = subst (λ (h : Geometry). AreTrees (all_trees h) opened.pages.items) geometry pages;
       }
 
   -- the faults of an audit come here too

@@ -9,6 +9,7 @@ use Rattle.blk_base.specs.declared.geometry.Super.{Super as Superblock}
 use Rattle.blk_base.specs.declared.layout.DataPlace.{DataPlace}
 use Rattle.blk_base.specs.declared.opened.Opened.{Opened}
 use Rattle.blk_base.specs.declared.place.Mapping.TheVariants.{At}
+use Rattle.blk_base.specs.declared.place.PageId.{PageId}
 use Rattle.blk_base.specs.declared.place.Pbn.{Pbn}
 use Rattle.count_updates.specs.Numbers.{all_blocks, all_sectors}
 use Rattle.disk_model.specs.Log.{Blocks}
@@ -33,6 +34,11 @@ use Rattle.rebuild.proofs.ReadExample.{head_is_read, head_of, next_failed, no_en
 use Rattle.rebuild.proofs.RecoveryRows.{head_there, with_head}
 use Rattle.rebuild.proofs.Rows.{seen}
 use Rattle.rebuild.proofs.ShownLaws.{audit_last}
+use Rattle.blk_base.specs.declared.opened.OpenedPage.{OpenedPage}
+use Rattle.block_map_tree.specs.Opening.{IsOpened, all_trees}
+use Rattle.replay_map.specs.Forms.{HasForm}
+use Rattle.session_opening.specs.Pages.{ArePages}
+use Rattle.session_opening.proofs.FormedLaws.{opened_all}
 use Rattle.rebuild.specs.Openings.{CheckFails, Fits, HasWrongCount, IsCleanImage, IsOpenedFrom, IsOpenedWith, IsOpening, IsOpeningRefusal, IsOpeningResult, IsRight, OpenWithFails, OpeningFails, OpensRight}
 use Rattle.rebuild.specs.Recoveries.{IsTold}
 use Rattle.audit.specs.declared.forms.Contents.{Contents}
@@ -65,10 +71,18 @@ module _ (image : Image) (at : Pbn) (stored mapped : ℕ) where
   with_shared_page : (block : Pbn) (address : ℕ) → IsTreePage image block → mapping_of image address ≡ At block → HasWrongCount image at stored mapped → ⊥
   with_shared_page block address page maps is = is.unshared block address page maps
 
--- It fits its sizes: 64 counters, and one commit point.
+no_links : HasForm small [] []
+no_links = record {
+  each = λ link there. absurd (let inside = there.1 in omega (arith, inside));
+  parents = λ link there. absurd (let inside = there.1 in omega (arith, inside));
+  once = λ i j d less inside. absurd (omega (arith, inside));
+  slots_once = λ i j d less inside. absurd (omega (arith, inside));
+}
+
+-- It fits its sizes: 64 counters, one commit point, and the roots of all trees.
 module _ (opened : Opened) (head : opened.head ≡ head_of true) where
-  fits_small : opened.counters.items ≡ replicate 64 0 → opened.commits.items ≡ record { 0 = 0 } ∷ [] → Fits opened
-  fits_small counters commits =
+  fits_small : opened.counters.items ≡ replicate 64 0 → opened.commits.items ≡ record { 0 = 0 } ∷ [] → ArePages small [] opened.pages.items → Fits opened
+  fits_small counters commits pages =
       let within : All (λ (n : ℕ). n ≤ limit_of small) (replicate 64 0) = All-replicate (λ (n : ℕ). n ≤ limit_of small) 64 0 (omega arith) in
       record {
         sizes = subst (λ (h : Superblock). IsGeometry h.geometry) (sym head) small_is;
@@ -76,7 +90,17 @@ module _ (opened : Opened) (head : opened.head ≡ head_of true) where
         limit = subst (λ (h : Superblock). All (λ (n : ℕ). n ≤ limit_of h.geometry) opened.counters.items) (sym head)
             (subst (λ (ns : List ℕ). All (λ (n : ℕ). n ≤ limit_of small) ns) (sym counters) within);
         commits = ap length commits ∙ sym (ap (λ (h : Superblock). all_sectors h.geometry) head);
+        pages = subst (λ (h : Superblock). IsOpened (all_trees h.geometry) opened.pages.items) (sym head) (opened_all small small_is [] [] no_links opened.pages.items pages);
       }
+
+  -- pages
+  no_roots : opened.pages.items ≡ [] → Fits opened → ⊥
+  no_roots none fits =
+      let high : opened.head.geometry.height ≡ 2 = ap (λ (h : Superblock). h.geometry.height) head in
+      let root : PageId = record { tree = 0; level = 1; index = 0 } in
+      let listed = fits.pages.roots root (record { tree = record { inside = omega arith; own = refl }; level = sym high; index = refl }) in
+      let inside = listed.1.1 in
+      omega (arith, inside, ap (λ (ps : List OpenedPage). length ps) none)
 
   -- commits
   fewer_commits : opened.commits.items ≡ [] → Fits opened → ⊥

@@ -1,10 +1,11 @@
 -- One more page, one more block of counters, one more slab.
-use Rattle.std.proofs.Common.{ℕ, ◌≡◌, ◌⊎◌, ◌+◌, ◌<◌, ◌≤◌, ◌^◌, Bool, IsTrue, List, [], ◌∷◌, ◌++◌, Contains, Result, Ok, Some, get_or, length, take, sym, ◌∙◌, ap, subst, inl, inr, arith}
+use Rattle.std.proofs.Common.{ℕ, ◌≡◌, ◌⊎◌, ◌+◌, ◌<◌, ◌≤◌, ◌^◌, Bool, IsTrue, All, List, [], ◌∷◌, ◌++◌, Contains, Result, Ok, Some, get_or, length, take, sym, ◌∙◌, ap, subst, inl, inr, arith}
 use Rattle.std.proofs.lemmas.Bool.{cases_lt}
 use Rattle.std.proofs.lemmas.List.{take_more}
 use Rattle.std.proofs.lemmas.List.Elements.{Contains-get_or}
+use Rattle.blk_base.proofs.RegionLaws.{data_block_inside}
 use Rattle.blk_base.specs.Limits.{IsGeometry}
-use Rattle.blk_base.specs.Regions.{ReferenceBlock, Root, IsPlace, block_of, references_of}
+use Rattle.blk_base.specs.Regions.{ReferenceBlock, Root, IsPlace, block_of, needed_blocks, references_of}
 use Rattle.blk_base.specs.declared.geometry.Geometry.{Geometry}
 use Rattle.blk_base.specs.declared.place.Mapping.{Mapping}
 use Rattle.blk_base.specs.declared.place.PageId.{PageId}
@@ -26,9 +27,11 @@ use Rattle.recovery_laws.specs.Kept.{image_in}
 use Rattle.recovery_laws.proofs.StopLaws.{page_inside}
 use Rattle.replay_counts.specs.declared.forms.SectorPoints.{SectorPoints}
 use Rattle.replay_map.proofs.TreeLaws.{root_linked}
+use Rattle.replay_map.specs.Forms.{HasForm}
 use Rattle.replay_map.specs.Walks.{IsRoot}
 use Rattle.replay_map.specs.Sums.{root_page}
 use Rattle.replay_map.specs.declared.changes.SlotId.{SlotId}
+use Rattle.replay_map.specs.declared.found.SlotChange.{SlotChange}
 use Rattle.replay_map.specs.declared.links.Link.{Link}
 use Rattle.rebuild.proofs.ActLaws.{acts_as, acts_yet, still_written, then_acts, written}
 use Rattle.rebuild.proofs.DoneLaws.{counters_done, pages_done}
@@ -64,17 +67,6 @@ module _ (tells honest : Bool) where
       → Acts tells honest seen seen (HasPage changes link) (IsPageDone changes link) (Ok tt)
   page_unchanged seen changes link none =
       acts_yet tells honest seen (HasPage changes link) (IsPageDone changes link) (λ first blocks start calls made has. λ change. absurd (none change))
-
-  pub page_past_end : (seen : Seen) (changes : List (SlotId × Mapping)) (link : Link) → seen.size ≤ link.at.0 → (IsTrue tells → length seen.opening ≡ seen.size)
-      → Acts tells honest seen seen (HasPage changes link) (IsPageDone changes link) (Ok tt)
-  page_past_end seen changes link past told =
-      acts_yet tells honest seen (HasPage changes link) (IsPageDone changes link)
-      (λ first blocks start calls made has. λ change.
-      let below = page_below_end first blocks start link.page link.at has.1 in
-      let size = start.to.one.size in
-      let opening = ap (λ (bs : Blocks). length bs) made.stays.opening in
-      let all = told start.told in
-      absurd (omega (arith, below, size, opening, all, past)))
 
   -- The roots.
 
@@ -219,3 +211,11 @@ module _ (tells honest : Bool) where
         counters_done image counts sectors (more ++ calls) has.counts
             (subst (λ (h : Geometry). AreSlabsDone h sectors h.slabs image (more ++ calls)) (sym has.sizes) done),
       ))
+
+-- The links of a map of this form stand on the device.
+pub links_inside : (g : Geometry) (links : List Link) (slots : List SlotChange) (size : ℕ) (seen : List Link) → seen ≡ links → needed_blocks g ≤ size → HasForm g links slots → All (λ (link : Link). link.at.0 < size) seen
+links_inside g links slots size seen same room form k d below =
+    let there = Contains-get_or seen k d below in
+    let of = form.each (get_or seen k d) (subst (λ (ls : List Link). Contains ls (get_or seen k d)) same there) in
+    let inside = data_block_inside g (get_or seen k d).at.0 of.data_block in
+    omega (arith, inside, room)

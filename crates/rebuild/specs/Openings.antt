@@ -8,6 +8,7 @@ use Rattle.blk_base.specs.declared.geometry.Super.{Super as Superblock}
 use Rattle.blk_base.specs.declared.journal_entry.CommittedEntry.{CommittedEntry}
 use Rattle.blk_base.specs.declared.opened.Opened.{Opened}
 use Rattle.blk_base.specs.declared.place.Pbn.{Pbn}
+use Rattle.block_map_tree.specs.Opening.{IsOpened, all_trees}
 use Rattle.count_updates.specs.Numbers.{all_blocks, all_sectors}
 use Rattle.disk_model.specs.Log.{Blocks}
 use Rattle.disk_model.specs.Seen.{Seen}
@@ -44,13 +45,14 @@ pub record HasWrongCount (image : Image) (at : Pbn) (stored mapped : ℕ) : Type
   pub unshared : AreUnshared image
   pub wrong : IsCountsFault image at stored mapped
 
--- On any device: sizes within their limits, a count of at most the limit for each data block, and a point for each sector of
--- counters. Of pages and links it says nothing.
+-- What it has fits its sizes, on any device: its counters and commit points, and its pages, which are the roots of all trees
+-- and each page that one of them leads to and that is no leaf, once and at its block.
 pub record Fits (opened : Opened) : Type 0 where
   pub sizes : IsGeometry opened.head.geometry
   pub counters : length opened.counters.items ≡ all_blocks opened.head.geometry
   pub limit : All (λ counter. counter ≤ limit_of opened.head.geometry) opened.counters.items
   pub commits : length opened.commits.items ≡ all_sectors opened.head.geometry
+  pub pages : IsOpened (all_trees opened.head.geometry) opened.pages.items
 
 -- By the map and the counts that were read.
 

@@ -1,4 +1,5 @@
-ghost use Rattle.std.specs.Prelude.{◌<◌};
+ghost use Rattle.std.specs.Prelude.{◌<◌, ◌≤◌, All};
+ghost use Rattle.blk_base.specs.Regions.{needed_blocks};
 ghost use Rattle.blk_base.specs.declared.sizes.TheConstants.{TREES};
 ghost use Rattle.replay_map.specs.Walks.{IsRoot};
 ghost use Rattle.rebuild.specs.Acts.{Acts};
@@ -17,6 +18,8 @@ pub(crate) fn put_pages<D: Disk>(
     changes: &Changes,
     links: &[Link],
 ) -> Result<(), Failed>
+    requires room { needed_blocks layout.now.geometry ≤ (D.seen device.old).size }
+    requires inside { All (λ link. link.at.0 < (D.seen device.old).size) links.now }
     ensures { Acts D.tells D.honest (D.seen device.old) (D.seen device.new) (HasPages layout.now.geometry changes.now links.now) ArePagesDone result }
 {
     put_roots(device, layout, changes)?;
@@ -25,6 +28,7 @@ pub(crate) fn put_pages<D: Disk>(
 
 // Writes those of the roots.
 fn put_roots<D: Disk>(device: &mut D, layout: &Layout, changes: &Changes) -> Result<(), Failed>
+    requires { needed_blocks layout.now.geometry ≤ (D.seen device.old).size }
     ensures { Acts D.tells D.honest (D.seen device.old) (D.seen device.new) (HasRoots layout.now.geometry changes.now)
         (AreRootsDone layout.now.geometry changes.now TREES) result }
 {
@@ -52,6 +56,7 @@ fn root_of(layout: &Layout, tree: u8) -> Link
 
 // Writes those of these pages.
 fn put_links<D: Disk>(device: &mut D, changes: &Changes, links: &[Link]) -> Result<(), Failed>
+    requires { All (λ link. link.at.0 < (D.seen device.old).size) links.now }
     ensures { Acts D.tells D.honest (D.seen device.old) (D.seen device.new) (HasLinks changes.now links.now) (AreLinksDone changes.now links.now) result }
 {
     for link in links {
@@ -60,15 +65,12 @@ fn put_links<D: Disk>(device: &mut D, changes: &Changes, links: &[Link]) -> Resu
     Ok(())
 }
 
-// Writes this page, if they do. That a link is below the device's end isn't promised here: nothing is written at one that
-// isn't.
+// Writes this page, if they do.
 fn put_page<D: Disk>(device: &mut D, changes: &Changes, link: Link) -> Result<(), Failed>
+    requires { link.at.0 < (D.seen device.old).size }
     ensures { Acts D.tells D.honest (D.seen device.old) (D.seen device.new) (HasPage changes.now link) (IsPageDone changes.now link) result }
 {
     if !has_changes(link.page, changes) {
-        return Ok(());
-    }
-    if device.blocks() <= link.at.0 {
         return Ok(());
     }
     write_page(device, changes, link)

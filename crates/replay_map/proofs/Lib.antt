@@ -22,3 +22,5 @@ pub mod ReplayLaws
 pub mod Rows
 pub mod WalkRows
 pub mod ReplayRows
+pub mod FormLaws
+mod FormRows

@@ -5,6 +5,7 @@ pub mod Reads
 pub mod Sums
 pub mod Taken
 pub mod Walks
+pub mod Forms
 pub mod Replayed
 pub mod Shares
 pub mod Finding

@@ -2,6 +2,7 @@ ghost use Rattle.std.specs.Prelude.{◌≤◌, IfOk, IfErr};
 ghost use Rattle.blk_base.specs.Regions.{needed_blocks};
 ghost use Rattle.disk_model.specs.Since.{IsUntouched};
 ghost use Rattle.replay_map.specs.Finding.{FindFails, IsMapFound};
+ghost use Rattle.replay_map.specs.Forms.{HasForm};
 ghost use Rattle.replay_map.specs.Reads.{IsShown, LeadToData};
 
 use crate::Changes;
@@ -24,6 +25,7 @@ pub(crate) fn find_map<D: Disk>(
     requires data { LeadToData layout.now.geometry changes.now }
     ensures map { IfOk result (λ found. IsShown D.tells D.honest layout.now.geometry changes.now (D.seen device.old) (D.seen device.new)
         (λ image. IsMapFound image found)) }
+    ensures form { IfOk result (λ found. HasForm layout.now.geometry found.links.items found.slots.items) }
     ensures fault { IfErr result (FindFails D.tells D.honest layout.now.geometry changes.now (D.seen device.old) (D.seen device.new)) }
     ensures untouched { IsUntouched D.tells (D.seen device.old) (D.seen device.new) }
 {

@@ -1,6 +1,7 @@
-ghost use Rattle.std.specs.Prelude.{◌≡◌, ◌<◌, ◌++◌, Some, IfOk, OnOk};
+ghost use Rattle.std.specs.Prelude.{◌≡◌, ◌<◌, ◌++◌, [], Some, IfOk, OnOk};
 ghost use Rattle.blk_base.specs.declared.sizes.TheConstants.{PAGE_SLOTS};
 ghost use Rattle.image_model.specs.Maps.{Image, page_at};
+ghost use Rattle.replay_map.specs.Forms.{links_in};
 ghost use Rattle.replay_map.specs.Links.{AreLinks, AreOfSlots, link_of};
 ghost use Rattle.replay_map.specs.Pages.{IsReadAs};
 
@@ -25,8 +26,10 @@ pub fn links_of(
     mappings: &Mappings,
 ) -> Result<Vec<Link>, AllocError>
     requires { page.now.page.index < PAGE_SLOTS }
-    ensures { IfOk result (λ links. (image : Image) → page_at image page.now.page ≡ Some page.now.at → IsReadAs image page.now mappings.now
+    ensures links { IfOk result (λ links. (image : Image) → page_at image page.now.page ≡ Some page.now.at → IsReadAs image page.now mappings.now
         → AreLinks image page.now.page links.items) }
+    ensures leaf { IfOk result (λ links. page.now.page.level ≡ 0 → links.items ≡ []) }
+    ensures slots { IfOk result (λ links. 0 < page.now.page.level → links.items ≡ links_in page.now.page mappings.now PAGE_SLOTS) }
 {
     if page.page.level == 0 {
         return Ok(Vec::new(alloc));
@@ -38,7 +41,8 @@ pub fn links_of(
 fn links_of_slots(alloc: Global, page: PageId, mappings: &Mappings) -> Result<Vec<Link>, AllocError>
     requires inner { 0 < page.level }
     requires few { page.index < PAGE_SLOTS }
-    ensures { IfOk result (λ links. AreOfSlots page mappings.now PAGE_SLOTS links.items) }
+    ensures of_slots { IfOk result (λ links. AreOfSlots page mappings.now PAGE_SLOTS links.items) }
+    ensures exact { IfOk result (λ links. links.items ≡ links_in page mappings.now PAGE_SLOTS) }
 {
     let mut links = Vec::new(alloc);
     for slot in 0..PAGE_SLOTS {

@@ -4,6 +4,7 @@ ghost use Rattle.blk_base.specs.Regions.{needed_blocks};
 ghost use Rattle.disk_model.specs.Log.{Blocks};
 ghost use Rattle.disk_model.specs.Since.{IsUntouched};
 ghost use Rattle.journal_window.specs.Windows.{IsWindowOf};
+ghost use Rattle.replay_map.specs.Forms.{HasForm};
 ghost use Rattle.replay_map.specs.Replayed.{IsMapRead, IsReplayed, MapFails, ReplayFails};
 
 use crate::finding::find_map;
@@ -30,6 +31,7 @@ pub fn replay<D: Disk>(
     requires below { head.now.start < 2 ^ 54 }
     requires room { needed_blocks head.now.geometry ≤ (D.seen device.old).size }
     ensures map { IfOk result (IsReplayed D.tells D.honest head.now (D.seen device.old) (D.seen device.new)) }
+    ensures form { IfOk result (λ map. HasForm head.now.geometry map.links.items map.slots.items) }
     ensures fault { IfErr result (ReplayFails D.tells D.honest head.now (D.seen device.old) (D.seen device.new)) }
     ensures untouched { IsUntouched D.tells (D.seen device.old) (D.seen device.new) }
 {
@@ -57,6 +59,7 @@ pub fn replay_with<D: Disk>(
     requires room { needed_blocks head.now.geometry ≤ (D.seen device.old).size }
     requires window { (journal : Blocks) × IsWindowOf head.now journal window.now }
     ensures map { IfOk result (IsMapRead D.tells D.honest head.now.geometry window.now (D.seen device.old) (D.seen device.new)) }
+    ensures form { IfOk result (λ map. HasForm head.now.geometry map.links.items map.slots.items) }
     ensures fault { IfErr result (MapFails D.tells D.honest head.now.geometry window.now.entries (D.seen device.old) (D.seen device.new)) }
     ensures untouched { IsUntouched D.tells (D.seen device.old) (D.seen device.new) }
 {

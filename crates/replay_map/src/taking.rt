@@ -2,6 +2,7 @@ ghost use Rattle.std.specs.Prelude.{◌≡◌, ◌<◌, ◌^◌, ◌++◌, Some,
 ghost use Rattle.blk_base.specs.declared.sizes.TheConstants.{PAGE_SLOTS};
 ghost use Rattle.image_model.specs.Maps.{Image, page_at};
 ghost use Rattle.replay_map.specs.Changes.{AreNewest, changed};
+ghost use Rattle.replay_map.specs.Forms.{Takes, changes_in, links_in};
 ghost use Rattle.replay_map.specs.Pages.{IsReadAs};
 ghost use Rattle.replay_map.specs.Taken.{AreBelow, AreChanges, Gained, GainedMapped, block_in, change_in};
 ghost use Rattle.replay_map.specs.Walks.{HasTaken};
@@ -21,8 +22,9 @@ pub(crate) fn take_page(
     found: &mut Found,
 ) -> Result<(), AllocError>
     requires { 0 < page.now.page.level → page.now.page.index < PAGE_SLOTS }
-    ensures { OnOk result ((image : Image) → page_at image page.now.page ≡ Some page.now.at → AreNewest image.window changes.now
+    ensures taken { OnOk result ((image : Image) → page_at image page.now.page ≡ Some page.now.at → AreNewest image.window changes.now
         → IsReadAs image page.now mappings.now → HasTaken image page.now.page found.old found.new) }
+    ensures exact { OnOk result (Takes page.now.page mappings.now changes.now found.old found.new) }
 {
     if page.page.level == 0 {
         take_leaf(page, mappings, changes, found)
@@ -39,8 +41,9 @@ fn take_leaf(
     found: &mut Found,
 ) -> Result<(), AllocError>
     requires { page.now.page.level ≡ 0 }
-    ensures { OnOk result ((image : Image) → page_at image page.now.page ≡ Some page.now.at → AreNewest image.window changes.now
+    ensures taken { OnOk result ((image : Image) → page_at image page.now.page ≡ Some page.now.at → AreNewest image.window changes.now
         → IsReadAs image page.now mappings.now → HasTaken image page.now.page found.old found.new) }
+    ensures exact { OnOk result (Takes page.now.page mappings.now changes.now found.old found.new) }
 {
     push_mapped(mappings, &mut found.mapped)?;
     push_changes(page.page, changes, &mut found.slots)
@@ -57,8 +60,9 @@ fn take_inner(
     requires inner { 0 < page.now.page.level }
     requires low { page.now.page.level < 2 ^ 8 }
     requires few { page.now.page.index < PAGE_SLOTS }
-    ensures { OnOk result ((image : Image) → page_at image page.now.page ≡ Some page.now.at → AreNewest image.window changes.now
+    ensures taken { OnOk result ((image : Image) → page_at image page.now.page ≡ Some page.now.at → AreNewest image.window changes.now
         → IsReadAs image page.now mappings.now → HasTaken image page.now.page found.old found.new) }
+    ensures exact { OnOk result (Takes page.now.page mappings.now changes.now found.old found.new) }
 {
     push_links(alloc, page, mappings, &mut found.links)?;
     push_changes(page.page, changes, &mut found.slots)
@@ -72,8 +76,9 @@ fn push_links(
     links: &mut Vec<Link>,
 ) -> Result<(), AllocError>
     requires { page.now.page.index < PAGE_SLOTS }
-    ensures { OnOk result ((image : Image) → page_at image page.now.page ≡ Some page.now.at → IsReadAs image page.now mappings.now
+    ensures gained { OnOk result ((image : Image) → page_at image page.now.page ≡ Some page.now.at → IsReadAs image page.now mappings.now
         → Gained links.old.items links.new.items (AreBelow image page.now.page)) }
+    ensures exact { OnOk result (0 < page.now.page.level → links.new.items ≡ links.old.items ++ links_in page.now.page mappings.now PAGE_SLOTS) }
 {
     let below = links_of(alloc, page, mappings)?;
     links.extend_from_slice(below.as_slice())?;
@@ -106,7 +111,8 @@ fn push_changes(
     changes: &Changes,
     slots: &mut Vec<SlotChange>,
 ) -> Result<(), AllocError>
-    ensures { OnOk result (Gained slots.old.items slots.new.items (AreChanges changes.now page PAGE_SLOTS)) }
+    ensures gained { OnOk result (Gained slots.old.items slots.new.items (AreChanges changes.now page PAGE_SLOTS)) }
+    ensures exact { OnOk result (slots.new.items ≡ slots.old.items ++ changes_in changes.now page PAGE_SLOTS) }
 {
     for slot in 0..PAGE_SLOTS {
         push_change(page, slot, changes, slots)?;

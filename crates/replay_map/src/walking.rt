@@ -4,6 +4,7 @@ ghost use Rattle.blk_base.specs.Regions.{needed_blocks};
 ghost use Rattle.blk_base.specs.declared.sizes.TheConstants.{PAGE_SLOTS, TREES};
 ghost use Rattle.disk_model.specs.Since.{IsUntouched};
 ghost use Rattle.image_model.specs.Maps.{target_of};
+ghost use Rattle.replay_map.specs.Forms.{AddsForm, HasVisited, IsInTree, IsRootPage};
 ghost use Rattle.replay_map.specs.Links.{page_below};
 ghost use Rattle.replay_map.specs.Pages.{IsReadAs};
 ghost use Rattle.replay_map.specs.Reads.{AreLeading, IsPageBlock, IsShown, LeadToData};
@@ -34,6 +35,7 @@ pub(crate) fn walk_trees<D: Disk>(
     requires data { LeadToData layout.now.geometry changes.now }
     ensures walked { OnOk result (IsShown D.tells D.honest layout.now.geometry changes.now (D.seen device.old) (D.seen device.new)
         (λ image. WalkedTrees image TREES found.old found.new)) }
+    ensures form { OnOk result (AddsForm layout.now.geometry (IsRootPage layout.now.geometry) (IsInTrees TREES) found.old found.new) }
     ensures fault { IfErr result (WalkFails D.tells D.honest layout.now.geometry changes.now (D.seen device.old) (D.seen device.new)
         (λ image. Unit {0}) (IsInTrees TREES)) }
     ensures untouched { IsUntouched D.tells (D.seen device.old) (D.seen device.new) }
@@ -75,8 +77,10 @@ fn walk<D: Disk>(
     requires few { 0 < top.page.level → top.page.index < PAGE_SLOTS }
     requires first { 1 < top.page.level → top.page.index ≡ 0 }
     requires low { top.page.level ≤ 2 }
+    requires place { IsInTree layout.now.geometry top.page }
     ensures walked { OnOk result (IsShown D.tells D.honest layout.now.geometry changes.now (D.seen device.old) (D.seen device.new)
         (λ image. IsLinked image top → WalkedUnder image top.page found.old found.new)) }
+    ensures form { OnOk result (AddsForm layout.now.geometry (λ page. page ≡ top.page) (IsUnder top.page) found.old found.new) }
     ensures fault { IfErr result (WalkFails D.tells D.honest layout.now.geometry changes.now (D.seen device.old) (D.seen device.new)
         (λ image. IsLinked image top) (IsUnder top.page)) }
     ensures untouched { IsUntouched D.tells (D.seen device.old) (D.seen device.new) }
@@ -139,9 +143,11 @@ fn visit<D: Disk>(
     requires data { LeadToData layout.now.geometry changes.now }
     requires stands { IsPageBlock layout.now.geometry top.at }
     requires few { 0 < top.page.level → top.page.index < PAGE_SLOTS }
+    requires place { IsInTree layout.now.geometry top.page }
     ensures walked { OnOk result (IsShown D.tells D.honest layout.now.geometry changes.now (D.seen device.old) (D.seen device.new)
         (λ image. IsLinked image top → WalkedUpTo image top.page 0 found.old found.new × IsReadAs image (head_at layout.now.geometry top) into.new)) }
     ensures data { OnOk result (AreLeading layout.now.geometry into.new) }
+    ensures form { OnOk result (HasVisited layout.now.geometry top.page into.new 0 found.old found.new) }
     ensures fault { IfErr result (WalkFails D.tells D.honest layout.now.geometry changes.now (D.seen device.old) (D.seen device.new)
         (λ image. IsLinked image top) (IsUpTo top.page 0)) }
     ensures untouched { IsUntouched D.tells (D.seen device.old) (D.seen device.new) }

@@ -1,4 +1,6 @@
 pub mod PlaceLaws
 pub mod PageLaws
+pub mod ListedLaws
 pub mod StartLaws
+pub mod FormedLaws
 pub mod Rows

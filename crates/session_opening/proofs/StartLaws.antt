@@ -1,12 +1,8 @@
 -- What a session starts with is what its image has.
-use Rattle.std.proofs.Common.{ℕ, zero, suc, ◌≡◌, ◌+◌, ◌-◌, ◌*◌, ◌/◌, ◌^◌, ◌<◌, ◌≤◌, ◌&&◌, ◌==◌, if◌then◌else◌, Bool, true, false, Option, Some, None, IsSome, List, [], ◌∷◌, ◌++◌, length, map, reverse, Contains, get_or, refl, sym, ◌∙◌, ap, ap₂, subst, inl, inr, arith}
-use Rattle.std.specs.List.{AllPairs}
+use Rattle.std.proofs.Common.{ℕ, zero, suc, ◌≡◌, ◌+◌, ◌-◌, ◌*◌, ◌/◌, ◌^◌, ◌<◌, ◌≤◌, ◌&&◌, ◌==◌, if◌then◌else◌, Bool, true, false, Option, Some, None, IsSome, List, [], ◌∷◌, ◌++◌, map, reverse, Contains, refl, sym, ◌∙◌, ap, ap₂, subst, inl, inr, arith}
 use Rattle.std.proofs.lemmas.Bool.{cases_lt}
-use Rattle.std.proofs.lemmas.Grind.{reverse_onto}
-use Rattle.std.proofs.lemmas.List.{length-map, reverse-reverse}
-use Rattle.std.proofs.lemmas.List.Elements.{Contains-append_left, Contains-append_right, Contains-append_cases, Contains-get_or, All-append}
-use Rattle.std.proofs.lemmas.List.Kept.{AllPairs-cons}
-use Rattle.std.proofs.lemmas.List.Quantifiers.{all_pairs_push}
+use Rattle.std.proofs.lemmas.List.{length-map}
+use Rattle.std.proofs.lemmas.List.Elements.{Contains-append_left, Contains-append_right, Contains-append_cases}
 use Rattle.std.proofs.Math.ListN.{get_or-map}
 use Rattle.blk_base.specs.Counters.{sectors_per_slab}
 use Rattle.blk_base.specs.Limits.{IsGeometry}
@@ -40,52 +36,11 @@ use Rattle.replay_map.specs.Replayed.{AreAllLinks, HasMap}
 use Rattle.replay_map.specs.Sums.{root_page}
 use Rattle.replay_map.specs.declared.links.Link.{Link}
 use Rattle.replay_map.specs.declared.recovered.RecoveredMap.{RecoveredMap}
+use Rattle.session_opening.proofs.ListedLaws.{behind_in, in_map, in_reverse, in_roots, linked_every, linked_once, of_map, of_reverse, pairs_append, roots_in, roots_once}
 use Rattle.session_opening.proofs.PlaceLaws.{block_linked, linked_has, tells}
 use Rattle.session_opening.specs.Pages.{AreLinked, ArePages, root_link, roots_below}
 use Rattle.session_opening.specs.Places.{AreLeading, block_by, mapping_to}
 use Rattle.session_opening.specs.Starts.{AreCommits, AreCounters, AreInnerPages, ArePageBlocks, IsInnerPage, IsStart}
-
--- Lists.
-
-module _ {X : Type 0} where
-  behind_in : (x : X) (xs : List X) (y : X) → Contains xs y → Contains (x ∷ xs) y
-  behind_in x xs y (k, inside, is) = (suc k, omega (arith, inside), is)
-
-  in_reverse : (xs : List X) (x : X) → Contains xs x → Contains (reverse xs) x
-  in_reverse [] x has = absurd (none_in_nothing x has)
-  in_reverse (first ∷ xs) x has =
-      subst (λ (ys : List X). Contains ys x) (sym (reverse_onto xs first []))
-      (elim (is_first_or_behind first xs x has) [
-        | inl is ↦ Contains-append_right (reverse xs) (first ∷ []) x (0, omega arith, is)
-        | inr behind ↦ Contains-append_left (reverse xs) (first ∷ []) x (in_reverse xs x behind)
-      ])
-
-  of_reverse : (xs : List X) (x : X) → Contains (reverse xs) x → Contains xs x
-  of_reverse xs x has = subst (λ (ys : List X). Contains ys x) (reverse-reverse xs) (in_reverse (reverse xs) x has)
-
-  pairs_append : (R : X → X → Type 0) (xs ys : List X) → AllPairs R xs → AllPairs R ys → ((x y : X) → Contains xs x → Contains ys y → R x y) → AllPairs R (xs ++ ys)
-  pairs_append R [] ys first second across = second
-  pairs_append R (x ∷ xs) ys first second across =
-      AllPairs-cons R x (xs ++ ys)
-      (All-append (R x) xs ys (λ k d inside. first 0 (suc k) d (omega arith) (omega (arith, inside)))
-      (λ k d inside. across x (get_or ys k d) (is_first x xs) (Contains-get_or ys k d inside)))
-      (pairs_append R xs ys (λ i j d less inside. first (suc i) (suc j) d (omega (arith, less)) (omega (arith, inside))) second
-      (λ a b has has'. across a b (behind_in x xs a has) has'))
-
-module _ {X Y : Type 0} (f : X → Y) where
-  in_map : (xs : List X) (x : X) → Contains xs x → Contains (map f xs) (f x)
-  in_map [] x has = absurd (none_in_nothing x has)
-  in_map (first ∷ xs) x has = elim (is_first_or_behind first xs x has) [
-    | inl is ↦ (0, omega arith, ap f is)
-    | inr behind ↦ behind_in (f first) (map f xs) (f x) (in_map xs x behind)
-  ]
-
-  of_map : (xs : List X) (y : Y) → Contains (map f xs) y → (x : X) × Contains xs x × (f x ≡ y)
-  of_map [] y has = absurd (none_in_nothing y has)
-  of_map (first ∷ xs) y has = elim (is_first_or_behind (f first) (map f xs) y has) [
-    | inl is ↦ (first, is_first first xs, is)
-    | inr behind ↦ let found = of_map xs y behind in (found.0, behind_in first xs found.0 found.1, found.2)
-  ]
 
 -- Slots of a page that is no leaf: none of them is zeros.
 
@@ -200,71 +155,6 @@ module _ (image : Image) (sizes : IsGeometry image.geometry) where
         | inr behind ↦ linked_each named pages (λ other has'. each other (behind_in link named other has')) linked.1 opened behind
       ]
 
-    linked_every : (named : List Link) (pages : List OpenedPage) → AreLinked links named pages → (link : Link) → Contains named link
-        → (opened : OpenedPage) × Contains pages opened × (opened.page ≡ link.page)
-    linked_every [] [] linked link has = absurd (none_in_nothing link has)
-    linked_every [] (page ∷ pages) linked link has = absurd linked
-    linked_every (first ∷ named) [] linked link has = absurd linked
-    linked_every (first ∷ named) (page ∷ pages) linked link has = elim (is_first_or_behind first named link has) [
-      | inl is ↦ (page, is_first page pages, linked.0.0 ∙ ap (λ (l : Link). l.page) is)
-      | inr behind ↦ let found = linked_every named pages linked.1 link behind in (found.0, behind_in page pages found.0 found.1, found.2)
-    ]
-
-    linked_alike : (named : List Link) (pages : List OpenedPage) → AreLinked links named pages
-        → (length named ≡ length pages) × ((i : ℕ) (d : OpenedPage) (e : Link) → i < length pages → (get_or pages i d).page ≡ (get_or named i e).page)
-    linked_alike [] [] linked = (refl, λ i d e inside. absurd (omega (arith, inside)))
-    linked_alike [] (page ∷ pages) linked = absurd linked
-    linked_alike (link ∷ named) [] linked = absurd linked
-    linked_alike (link ∷ named) (page ∷ pages) linked =
-        let rest = linked_alike named pages linked.1 in (ap suc rest.0, at_place rest.1)
-      where
-        at_place : ((i : ℕ) (d : OpenedPage) (e : Link) → i < length pages → (get_or pages i d).page ≡ (get_or named i e).page)
-            → (i : ℕ) (d : OpenedPage) (e : Link) → i < length (page ∷ pages) → (get_or (page ∷ pages) i d).page ≡ (get_or (link ∷ named) i e).page
-        at_place rest zero d e inside = linked.0.0
-        at_place rest (suc i) d e inside = rest i d e (omega (arith, inside))
-
-    abbrev Differ : Link → Link → Type 0
-    Differ first second = first.page ≡ second.page → ⊥
-
-    linked_once : (named : List Link) (pages : List OpenedPage) → AreLinked links named pages → AllPairs Differ named
-        → AllPairs (λ (first second : OpenedPage). first.page ≡ second.page → ⊥) pages
-    linked_once named pages linked apart i j d less inside same =
-        let alike = linked_alike named pages linked in
-        let e : Link = record { page = d.page; at = d.at } in
-        let size = alike.0 in
-        apart i j e less (omega (arith, inside, size))
-        (sym (alike.1 i d e (omega (arith, less, inside))) ∙ same ∙ alike.1 j d e inside)
-
-    -- Roots.
-
-    in_roots : (trees : ℕ) (link : Link) → Contains (roots_below g trees) link → (tree : ℕ) × (tree < trees) × (root_link g tree ≡ link)
-    in_roots zero link has = absurd (none_in_nothing link has)
-    in_roots (suc n) link has = elim (Contains-append_cases (roots_below g n) (root_link g n ∷ []) link has) [
-      | inl before ↦ let found = in_roots n link before in let below = found.1 in (found.0, omega (arith, below), found.2)
-      | inr last ↦ elim (is_first_or_behind (root_link g n) [] link last) [
-        | inl is ↦ (n, omega arith, is)
-        | inr none ↦ absurd (none_in_nothing link none)
-      ]
-    ]
-
-    roots_in : (trees tree : ℕ) → tree < trees → Contains (roots_below g trees) (root_link g tree)
-    roots_in zero tree below = absurd (omega (arith, below))
-    roots_in (suc n) tree below = elim (cases_lt tree n) [
-      | inl less ↦ Contains-append_left (roots_below g n) (root_link g n ∷ []) (root_link g tree) (roots_in n tree less)
-      | inr most ↦
-          let same : n ≡ tree = omega (arith, below, most) in
-          Contains-append_right (roots_below g n) (root_link g n ∷ []) (root_link g tree) (0, omega arith, ap (root_link g) same)
-    ]
-
-    roots_once : (trees : ℕ) → AllPairs Differ (roots_below g trees)
-    roots_once zero = λ i j d less inside. absurd (omega (arith, inside))
-    roots_once (suc n) = all_pairs_push Differ (roots_below g n) (root_link g n) (roots_once n) (λ k d inside same.
-        let found = in_roots n (get_or (roots_below g n) k d) (Contains-get_or (roots_below g n) k d inside) in
-        let tree = ap (λ (l : Link). l.page.tree) found.2 in
-        let tree_too = ap (λ (p : PageId). p.tree) same in
-        let below = found.1 in
-        absurd (omega (arith, tree, tree_too, below)))
-
     -- All of them.
 
     pub inner_pages : (pages : List OpenedPage) → ArePagesGood image → ArePages g links pages → AreInnerPages image pages
@@ -277,7 +167,7 @@ module _ (image : Image) (sizes : IsGeometry image.geometry) where
             | inl lower ↦
                 let some : IsSome (block_by links page) = subst (λ (o : Option Pbn). IsSome o) (sym (block_is page lower ∙ there)) refl in
                 let found = made.are_inner.every page high some in
-                let opened = linked_every named pages made.linked found.0 (Contains-append_right (roots_below g TREES) made.inner found.0 found.1) in
+                let opened = linked_every links named pages made.linked found.0 (Contains-append_right (roots_below g TREES) made.inner found.0 found.1) in
                 (opened.0, opened.1, opened.2 ∙ found.2)
             | inr top ↦
                 let under = under_root image (let low = sizes.height.0 in omega (arith, low)) page at there in
@@ -286,13 +176,13 @@ module _ (image : Image) (sizes : IsGeometry image.geometry) where
                 let index : page.index ≡ 0 = sym (up_none page.index) ∙ ap (λ (n : ℕ). page.index / PAGE_SLOTS ^ n) (sym none) ∙ under.3 in
                 let is_level : page.level ≡ g.height - 1 = omega (arith, level, top) in
                 let root : root_page g page.tree ≡ page = ap₂ (λ (l i : ℕ). record { tree = page.tree; level = l; index = i }) (sym is_level) (sym index) in
-                let opened = linked_every named pages made.linked (root_link g page.tree)
-                (Contains-append_left (roots_below g TREES) made.inner (root_link g page.tree) (roots_in TREES page.tree range.0)) in
+                let opened = linked_every links named pages made.linked (root_link g page.tree)
+                (Contains-append_left (roots_below g TREES) made.inner (root_link g page.tree) (roots_in g TREES page.tree range.0)) in
                 (opened.0, opened.1, opened.2 ∙ root)
           ];
-      once = linked_once named pages made.linked
-          (pairs_append Differ (roots_below g TREES) made.inner (roots_once TREES) made.are_inner.once (λ root link is_root is_inner same.
-          let found = in_roots TREES root is_root in
+      once = linked_once links named pages made.linked
+          (pairs_append (λ (first second : Link). first.page ≡ second.page → ⊥) (roots_below g TREES) made.inner (roots_once g TREES) made.are_inner.once (λ root link is_root is_inner same.
+          let found = in_roots g TREES root is_root in
           let lower = ((are link).0 (made.are_inner.each link is_inner).1).0 in
           let level = ap (λ (l : Link). l.page.level) found.2 in
           let level_too = ap (λ (p : PageId). p.level) same in
@@ -305,7 +195,7 @@ module _ (image : Image) (sizes : IsGeometry image.geometry) where
         each : (link : Link) → Contains named link → (0 < link.page.level) × (page_at image link.page ≡ Some link.at)
         each link has = elim (Contains-append_cases (roots_below g TREES) made.inner link has) [
           | inl is_root ↦
-              let found = in_roots TREES link is_root in
+              let found = in_roots g TREES link is_root in
               let low = sizes.height.0 in
               let here : (0 < (root_link g found.0).page.level) × (page_at image (root_link g found.0).page ≡ Some (root_link g found.0).at) =
               (omega (arith, low), root_there found.0 found.1) in

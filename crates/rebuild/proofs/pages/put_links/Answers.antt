@@ -26,3 +26,11 @@ returns g c =
     let disk = g.D.Disk in
     subst (λ (links : List Link). Acts disk.tells disk.honest (disk.seen c.args.device.now) (disk.seen c.loop-link.device) (HasLinks c.args.changes.now c.args.links.now)
     (AreLinksDone c.args.changes.now links) (Ok tt)) (take_all c.loop-link.link-index c.args.links.now c.loop-link-test.false) c.loop-link.invariant
+
+pub put_page-requires : goal.put_page-requires
+put_page-requires g c =
+    let size = c.loop-link.invariant.stays.size in
+    let inside : c.loop-link.link-index < length c.args.links.now = omega arith in
+    let first : Link = record { page = record { tree = 0; level = 0; index = 0 }; at = record { 0 = 0 } } in
+    let here = c.requires c.loop-link.link-index first inside in
+    omega (arith, here, size)

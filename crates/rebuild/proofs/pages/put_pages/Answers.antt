@@ -1,4 +1,4 @@
-use Rattle.std.proofs.Common.{Err}
+use Rattle.std.proofs.Common.{Err, arith}
 use Rattle.rebuild.proofs.ActLaws.{acts_as, still_failed}
 use Rattle.rebuild.proofs.TurnLaws.{both_pages}
 use Rattle.rebuild.specs.Done.{HasPages, HasRoots}
@@ -12,3 +12,6 @@ returns-in_err-put_roots g c =
 
 pub returns : goal.returns
 returns g c = both_pages _ _ _ _ _ _ _ _ c.put_links.result c.args.layout.now.sizes c.in_ok-put_roots.ensures c.put_links.ensures
+
+pub put_links-requires : goal.put_links-requires
+put_links-requires g c = let size = c.in_ok-put_roots.ensures.stays.size in λ k d below. let inside = c.requires.inside k d below in omega (arith, inside, size)

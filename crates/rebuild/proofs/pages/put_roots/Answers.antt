@@ -1,5 +1,6 @@
-use Rattle.std.proofs.Common.{ℕ, ◌≡◌, Ok, Err, arith, subst}
+use Rattle.std.proofs.Common.{ℕ, ◌≡◌, Ok, Err, inr, arith, subst}
 use Rattle.blk_base.specs.declared.sizes.TheConstants.{TREES}
+use Rattle.replay_map.proofs.SlotLaws.{page_inside}
 use Rattle.rebuild.proofs.ActLaws.{still_failed}
 use Rattle.rebuild.proofs.TurnLaws.{no_roots, one_root_more}
 use Rattle.rebuild.specs.Acts.{Acts}
@@ -25,3 +26,10 @@ returns g c =
     let disk = g.D.Disk in
     subst (λ (n : ℕ). Acts disk.tells disk.honest (disk.seen c.args.device.now) (disk.seen c.loop-tree.device) (HasRoots c.args.layout.now.geometry c.args.changes.now)
     (AreRootsDone c.args.layout.now.geometry c.args.changes.now n) (Ok tt)) all c.loop-tree.invariant
+
+pub put_page-requires : goal.put_page-requires
+put_page-requires g c =
+    let size = c.loop-tree.invariant.stays.size in
+    let room = c.requires in
+    let root = c.root_of-root.ensures in
+    page_inside c.args.layout.now.geometry c.root_of-root.result.at _ (omega (arith, size, room)) (inr (c.loop-tree.tree, omega arith, root.1))

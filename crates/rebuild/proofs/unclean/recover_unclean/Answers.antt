@@ -1,6 +1,8 @@
 use Rattle.std.proofs.Common.{List, inl, inr, sym, subst}
 use Rattle.blk_base.specs.declared.journal_entry.CommittedEntry.{CommittedEntry}
 use Rattle.disk_model.proofs.SinceLaws.{untouched_on}
+use Rattle.blk_base.specs.declared.geometry.Geometry.{Geometry}
+use Rattle.replay_map.specs.Forms.{HasForm}
 use Rattle.replay_map.specs.Changes.{AreNewest}
 use Rattle.rebuild.proofs.UncleanLaws.{passed_as, read_refused, recovered_as, write_failed_as}
 use Rattle.rebuild.proofs.unclean.recover_unclean.Goals as goal
@@ -35,3 +37,8 @@ returns g c =
     c.in_ok-window.ensures.window c.in_ok-contents.ensures.contents c.read_contents.ensures.untouched
     (subst (λ (entries : List CommittedEntry). AreNewest entries c.in-Ok.changes) (sym c.entries.ensures) c.in-Ok.ensures) c.requires.room
     c.of-layout.result.geometry c.last.result c.of-layout.ensures c.last.ensures c.in-Ok-write_contents.ensures
+
+pub write_contents-requires-clause-form : goal.write_contents-requires-clause-form
+write_contents-requires-clause-form g c =
+    let map = c.in_ok-contents.contents.map in
+    subst (λ (g' : Geometry). HasForm g' map.links.items map.slots.items) (sym c.of-layout.ensures) c.in_ok-contents.ensures.form

@@ -1,6 +1,6 @@
 use Rattle.std.proofs.Common.{Err, arith}
 use Rattle.rebuild.proofs.ActLaws.{acts_as, still_failed}
-use Rattle.rebuild.proofs.TurnLaws.{both_done}
+use Rattle.rebuild.proofs.TurnLaws.{both_done, links_inside}
 use Rattle.rebuild.specs.Done.{ArePagesDone, HasContents}
 use Rattle.rebuild.proofs.unclean.write_blocks.Goals as goal
 
@@ -19,3 +19,7 @@ returns g c =
 
 pub put_slabs-requires-clause-room : goal.put_slabs-requires-clause-room
 put_slabs-requires-clause-room g c = let size = c.in_ok-put_pages.ensures.stays.size in let room = c.requires.room in omega (arith, size, room)
+
+pub put_pages-requires-clause-inside : goal.put_pages-requires-clause-inside
+put_pages-requires-clause-inside g c =
+    links_inside c.args.layout.now.geometry c.args.contents.now.map.links.items c.args.contents.now.map.slots.items _ c.deref.result.now c.deref.ensures.value c.requires.room c.requires.form

@@ -2,6 +2,7 @@ use Rattle.std.proofs.Common.{◌≤◌, sym, subst, arith, List, Option, Some, 
 use Rattle.blk_base.specs.declared.geometry.Geometry.{Geometry}
 use Rattle.blk_base.specs.declared.place.Pbn.{Pbn}
 use Rattle.replay_map.proofs.FindLaws.{walk_fails}
+use Rattle.replay_map.proofs.FormLaws.{whole_form}
 use Rattle.replay_map.proofs.FoundLaws.{map_found, share_found}
 use Rattle.replay_map.proofs.PageLaws.{passed_on}
 use Rattle.replay_map.specs.Finding.{FindFails}
@@ -45,3 +46,7 @@ returns-in-Ok-Some-clause-fault g c =
       λ image has.
           share_found image (subst (λ (sizes : Geometry). 1 ≤ sizes.height) (sym has.geometry) (omega (arith, high))) c.walk_trees.new.found _ (c.new.ensures.items, c.new-2.ensures.items, c.new-3.ensures.items) (shown.2 image has) c.in-Ok-Some.at own,
     )
+
+pub returns-in-Ok-None-clause-form : goal.returns-in-Ok-None-clause-form
+returns-in-Ok-None-clause-form g c =
+    whole_form c.args.layout.now.geometry c.walk_trees.new.found _ c.new.ensures.items c.new-2.ensures.items c.in_ok-walk_trees.ensures.form

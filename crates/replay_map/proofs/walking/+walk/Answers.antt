@@ -3,6 +3,9 @@ use Rattle.blk_base.specs.declared.place.Pbn.{Pbn}
 use Rattle.blk_base.specs.declared.sizes.TheConstants.{PAGE_SLOTS}
 use Rattle.disk_model.proofs.SinceLaws.{untouched_on}
 use Rattle.image_model.specs.Maps.{Image, target_of}
+use Rattle.blk_base.specs.declared.place.PageId.{PageId}
+use Rattle.replay_map.proofs.FormLaws.{all_visited, below_in_tree, leaf_visited, slot_passed, slot_walked, target_at}
+use Rattle.replay_map.specs.Forms.{IsInTree}
 use Rattle.replay_map.proofs.PageLaws.{passed_on}
 use Rattle.replay_map.proofs.ReadLaws.{shown_by_none}
 use Rattle.replay_map.proofs.SlotLaws.{failed_slot, passed_slot, target_stands, walked_slot}
@@ -14,7 +17,7 @@ use Rattle.replay_map.proofs.walking.+walk.Goals.{in-None, in-Some+in_ok-walk-in
 use Rattle.replay_map.proofs.walking.+walk.Goals as goal
 
 pub loop-slot-init : goal.loop-slot-init
-loop-slot-init g t c = record { shown = c.in_ok-visit.ensures.walked; untouched = c.visit.ensures.untouched }
+loop-slot-init g t c = record { shown = c.in_ok-visit.ensures.walked; form = c.in_ok-visit.ensures.form; untouched = c.visit.ensures.untouched }
 
 pub returns-then-top-eq0-clause-walked : goal.returns-then-top-eq0-clause-walked
 returns-then-top-eq0-clause-walked g t c =
@@ -63,6 +66,8 @@ walk-requires g t c κs within =
     let room = c.requires.room in
     let low = c.requires.low in
     let leads : target_of c.get.result ≡ _ = sym c.target.ensures ∙ c.in-Some.is in
+    let place = subst (λ (p : PageId). IsInTree c.args.layout.now.geometry p) (sym (ap (λ (l : Link). l.page) c.link_below-below.ensures))
+    (below_in_tree c.args.layout.now.geometry c.args.top.page c.loop-slot.slot c.requires.place (omega (arith, some)) inside) in
     let stands = target_stands c.args.layout.now.geometry _ c.in-Some.at (c.in_ok-visit.ensures.data c.loop-slot.slot inside) (ap target_of (sym c.get.ensures.value) ∙ leads) in (
       omega (arith, level, some, measure),
       (
@@ -75,7 +80,7 @@ walk-requires g t c κs within =
               subst (λ (p : Pbn). IsPageBlock c.args.layout.now.geometry p) (sym at) stands,
               (
                 (λ inner. let first = c.requires.first (omega (arith, inner, level, some)) in omega (arith, index, first, inside)),
-                ((λ inner. absurd (omega (arith, inner, level, low, some))), omega (arith, level, low)),
+                ((λ inner. absurd (omega (arith, inner, level, low, some))), (omega (arith, level, low), place)),
               ),
             ),
           ),
@@ -116,12 +121,24 @@ loop-slot-preserved g t c =
       | in-None w ↦ rw (w.device-is, w.found-is) (record {
         shown = passed_slot tells honest sizes changes c.args.top c.visit.new.into c.loop-slot.slot c.loop-slot-test.true (omega (arith, some))
             before middle c.args.found.now c.loop-slot.found (ap target_of (sym c.get.ensures.value) ∙ sym c.target.ensures ∙ w.in-None.is) c.loop-slot.invariant.shown;
+        form = slot_passed sizes c.args.top.page c.visit.new.into c.loop-slot.slot c.args.found.now c.loop-slot.found c.loop-slot-test.true c.loop-slot.invariant.form;
         untouched = c.loop-slot.invariant.untouched;
       })
       | in-Some+in_ok-walk-in-Some w ↦ rw (w.device-is, w.found-is) (record {
         shown = walked_slot tells honest sizes changes c.args.top c.visit.new.into c.loop-slot.slot c.loop-slot-test.true (omega (arith, some)) w.link_below-below.result w.in-Some.at
             (ap target_of (sym c.get.ensures.value) ∙ sym c.target.ensures ∙ w.in-Some.is) w.link_below-below.ensures
             before middle (g.D.Disk.seen w.walk.new.device) c.args.found.now c.loop-slot.found w.walk.new.found c.loop-slot.invariant.shown w.in_ok-walk-in-Some.ensures.walked;
+        form = slot_walked sizes c.args.top.page c.visit.new.into c.loop-slot.slot w.link_below-below.result w.in-Some.at c.args.found.now c.loop-slot.found w.walk.new.found (omega (arith, some))
+            c.loop-slot-test.true (target_at _ w.in-Some.at (ap target_of (sym c.get.ensures.value) ∙ sym c.target.ensures ∙ w.in-Some.is)) w.link_below-below.ensures
+            c.loop-slot.invariant.form w.in_ok-walk-in-Some.ensures.form;
         untouched = untouched_on tells _ _ _ c.loop-slot.invariant.untouched w.walk.ensures.untouched;
       })
     ]
+
+pub returns-then-top-eq0-clause-form : goal.returns-then-top-eq0-clause-form
+returns-then-top-eq0-clause-form g t c = leaf_visited c.args.layout.now.geometry c.args.top.page c.visit.new.into c.args.found.now c.visit.new.found c.in_ok-visit.ensures.form
+
+pub returns-clause-form : goal.returns-clause-form
+returns-clause-form g t c =
+    let some = c.if-top-eq0.false in
+    all_visited c.args.layout.now.geometry c.args.top.page c.visit.new.into c.loop-slot.slot c.args.found.now c.loop-slot.found (omega (arith, some)) c.loop-slot.invariant.form

@@ -1,6 +1,7 @@
 use Rattle.disk_model.specs.Since.{IsUntouched}
+use Rattle.replay_map.specs.Forms.{AddsForm, IsRootPage}
 use Rattle.replay_map.specs.Reads.{IsShown}
-use Rattle.replay_map.specs.Walks.{WalkedTrees}
+use Rattle.replay_map.specs.Walks.{IsInTrees, WalkedTrees}
 use Rattle.replay_map.proofs.walking.walk_trees.Given as goal
 
 abbrev pub invariant-loop-tree : goal.invariant-loop-tree
@@ -9,5 +10,6 @@ invariant-loop-tree g l =
     record {
       shown : IsShown disk.tells disk.honest l.layout.geometry l.changes (disk.seen l.fn.device) (disk.seen l.device)
           (λ image. WalkedTrees image l.tree l.fn.found l.found);
+      form : AddsForm l.layout.geometry (IsRootPage l.layout.geometry) (IsInTrees l.tree) l.fn.found l.found;
       untouched : IsUntouched disk.tells (disk.seen l.fn.device) (disk.seen l.device);
     }
