@@ -1,9 +1,9 @@
 ghost use Rattle.std.specs.Prelude.{◌<◌};
 
-use crate::spelled::{Spelling, difference};
 use blk_base::{Block, Pbn};
 use block_names::Name;
 use byte_fields::put_u32;
+use test_images::{Spelling, difference, with_byte};
 use uds_chapters::{
     Added, Chapter, OpenChapter, PageFind, Record, location, page_find, place_of, read_page,
 };
@@ -223,13 +223,6 @@ fn a_name_is_found_among_records(rt: HostRuntime) {
         location(records, &name(680)),
     );
     assert_eq!(rt; places, (Ok(0), Some(Pbn(92)), None));
-}
-
-fn with_byte(mut block: Block, at: usize, byte: u8) -> Block {
-    if at < 4096 {
-        block.bytes[at] = byte;
-    }
-    block
 }
 
 // What a block says of the first name, taken for the first page.

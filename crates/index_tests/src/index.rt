@@ -148,6 +148,26 @@ fn a_full_chapter_is_written_and_found(rt: HostRuntime) -> Result<(), Fail> {
     Ok(())
 }
 
+// The pages that are written of a chapter that is closed with one name, how many chapters are kept, and the look for it.
+fn close_early(alloc: Global) -> Result<Option<(u32, u32, Looked)>, AllocError> {
+    let mut device = device(alloc)?;
+    let Some(mut index) = load(alloc, &mut device)? else {
+        return Ok(None);
+    };
+    index.learn(&name(7), place(7));
+    index.finish();
+    let pages = write_pages(&mut index, &mut device);
+    let look = look_up(&mut index, &mut device, &name(7));
+    Ok(Some((pages, index.chapters(), look)))
+}
+
+#[test]
+fn a_chapter_is_closed_early(rt: HostRuntime) -> Result<(), Fail> {
+    let closed = close_early(rt.alloc())?;
+    assert_eq!(rt; closed, Some((4, 1, (1, Some(place(7))))));
+    Ok(())
+}
+
 // What an index that is loaded anew says of three names, where reads succeed, and of the first where they fail.
 fn load_again(alloc: Global) -> Result<Option<(u32, [Looked; 4])>, AllocError> {
     let mut device = device(alloc)?;

@@ -12,9 +12,3 @@ mod claims;
 mod index;
 #[cfg(test)]
 mod sharing;
-#[cfg(test)]
-mod slow;
-#[cfg(test)]
-mod spelled;
-#[cfg(test)]
-mod steps;

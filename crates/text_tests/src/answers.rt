@@ -1,10 +1,11 @@
 //! The answers of one stream, as they are put.
-use crate::shared::first_other;
+use crate::reports::{Put, report_of};
 use blk_base::{Answer, Block, Lba, Request, Writer};
 use disk_model::{Failed, MemSink, MemSource};
 use std::alloc::{AllocError, Global};
 use std::test::Fail;
 use stream_text::{AnswerRoom, put_answers, read_script};
+use test_images::first_other;
 use vdo_model::{DeskLine, Placed, Requests, Rows, RunReport};
 
 fn block(first: u8, rest: u8) -> Block {
@@ -95,17 +96,8 @@ fn report(alloc: Global) -> Result<RunReport, AllocError> {
     let requests = requests(alloc)?;
     let desk = desk_lines(alloc)?;
     let places = places(alloc)?;
-    Ok(RunReport {
-        requests,
-        desk,
-        marks: Rows::new(alloc),
-        places,
-        histories: Rows::new(alloc),
-    })
+    Ok(report_of(alloc, requests, desk, places))
 }
-
-/// What a put gives, and where the sink holds other bytes then.
-type Put = (Result<(), Failed>, Option<usize>);
 
 /// Puts the answers of a report into a sink with this room.
 fn put(alloc: Global, report: &RunReport, room: usize, want: &[u8]) -> Result<Put, AllocError> {
@@ -158,13 +150,8 @@ fn one_read(alloc: Global, block: Block) -> Result<RunReport, AllocError> {
     let answer = Answer::Bytes(block);
     lines.push(DeskLine::Begin { request })?;
     lines.push(DeskLine::Answer { request, answer })?;
-    Ok(RunReport {
-        requests,
-        desk: Rows::from_vec(lines),
-        marks: Rows::new(alloc),
-        places: Rows::new(alloc),
-        histories: Rows::new(alloc),
-    })
+    let desk = Rows::from_vec(lines);
+    Ok(report_of(alloc, requests, desk, Rows::new(alloc)))
 }
 
 // Runs of the same byte are put as one.

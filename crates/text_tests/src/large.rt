@@ -1,4 +1,5 @@
 //! As many requests as a script may have, read and put; and one more.
+use crate::reports::report_of;
 use blk_base::{Answer, Block, Writer};
 use disk_model::{Failed, MemSource, Sink};
 use std::alloc::{AllocError, Global};
@@ -97,13 +98,7 @@ fn places(alloc: Global, lines: u32) -> Result<Rows<Placed>, AllocError> {
 fn report(alloc: Global, lines: u32, requests: Requests) -> Result<RunReport, AllocError> {
     let desk = desk(alloc, lines)?;
     let places = places(alloc, lines)?;
-    Ok(RunReport {
-        requests,
-        desk,
-        marks: Rows::new(alloc),
-        places,
-        histories: Rows::new(alloc),
-    })
+    Ok(report_of(alloc, requests, desk, places))
 }
 
 /// How often the answers' lines of such a script are put, how many bytes they have, and the weight of these.

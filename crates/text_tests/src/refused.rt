@@ -1,5 +1,4 @@
 //! The line and the fault of each script that is refused.
-use crate::agreeing::both_say;
 use crate::scripts::read;
 use std::alloc::{AllocError, Global};
 use std::test::Fail;
@@ -137,12 +136,10 @@ const PAIRS: [Refused; 23] = [
     ("0 discard 0 65536\n0 write 5 1*61", 2, BlockLength),
 ];
 
-/// The first of these that is refused otherwise, or where a plain slow reader says otherwise.
-fn first_other(alloc: Global, rows: &[Refused]) -> Result<Option<&'static str>, AllocError> {
+/// The first of these that is refused otherwise.
+fn other_refusal(alloc: Global, rows: &[Refused]) -> Result<Option<&'static str>, AllocError> {
     for (text, line, fault) in rows {
-        let told = read(alloc, text.as_bytes())?;
-        let slow = both_say(alloc, text.as_bytes())?;
-        if told != Some(Err((*line, *fault))) || slow != Some(Some(*fault)) {
+        if read(alloc, text.as_bytes())? != Some(Err((*line, *fault))) {
             return Ok(Some(*text));
         }
     }
@@ -151,25 +148,25 @@ fn first_other(alloc: Global, rows: &[Refused]) -> Result<Option<&'static str>, 
 
 #[test]
 fn words_are_refused(rt: HostRuntime) -> Result<(), Fail> {
-    assert_eq!(rt; first_other(rt.alloc(), &WORDS)?, None);
+    assert_eq!(rt; other_refusal(rt.alloc(), &WORDS)?, None);
     Ok(())
 }
 
 #[test]
 fn numbers_are_refused(rt: HostRuntime) -> Result<(), Fail> {
-    assert_eq!(rt; first_other(rt.alloc(), &NUMBERS)?, None);
+    assert_eq!(rt; other_refusal(rt.alloc(), &NUMBERS)?, None);
     Ok(())
 }
 
 #[test]
 fn limits_are_kept(rt: HostRuntime) -> Result<(), Fail> {
-    assert_eq!(rt; first_other(rt.alloc(), &LIMITS)?, None);
+    assert_eq!(rt; other_refusal(rt.alloc(), &LIMITS)?, None);
     Ok(())
 }
 
 #[test]
 fn the_first_of_two_faults_is_named(rt: HostRuntime) -> Result<(), Fail> {
-    assert_eq!(rt; first_other(rt.alloc(), &PAIRS)?, None);
+    assert_eq!(rt; other_refusal(rt.alloc(), &PAIRS)?, None);
     Ok(())
 }
 
@@ -201,14 +198,23 @@ fn padded(
     Ok(text)
 }
 
+/// The fault of a script, if it has one; none of either where memory runs out.
+fn fault_of(alloc: Global, text: &[u8]) -> Result<Option<Option<LineFault>>, AllocError> {
+    Ok(match read(alloc, text)? {
+        Some(Ok(_)) => Some(None),
+        Some(Err((_, fault))) => Some(Some(fault)),
+        None => None,
+    })
+}
+
 #[test]
 fn a_line_has_32768_bytes(rt: HostRuntime) -> Result<(), Fail> {
     let mut other = None;
     for row in PADDED {
         let longest = padded(rt.alloc(), row, 32768)?;
         let longer = padded(rt.alloc(), row, 32769)?;
-        if both_say(rt.alloc(), &longest)? != Some(row.3)
-            || both_say(rt.alloc(), &longer)? != Some(Some(TooLong))
+        if fault_of(rt.alloc(), &longest)? != Some(row.3)
+            || fault_of(rt.alloc(), &longer)? != Some(Some(TooLong))
         {
             other = Some(row.1);
         }

@@ -1,11 +1,10 @@
 //! Scripts of the whole grammar: what each asks for; how refusals are printed; and the requests of a seed.
-use crate::agreeing::both_say;
-use crate::shared::not_shown;
 use blk_base::Request;
 use disk_model::MemSource;
 use std::alloc::{AllocError, Global};
 use std::test::Fail;
 use stream_text::{LineFault, ReadScript, ScriptRefusal, read_script, workload};
+use test_images::not_shown;
 use vdo_model::Requests;
 
 /// What became of a script: the stream, kind, address, first and last byte of its last request that is found stream after
@@ -76,9 +75,7 @@ const SERVED: [(&str, (u8, u8, u32, u8, u8, usize)); 20] = [
 fn scripts_are_served(rt: HostRuntime) -> Result<(), Fail> {
     let mut other = None;
     for (text, want) in SERVED {
-        if read(rt.alloc(), text.as_bytes())? != Some(Ok(want))
-            || both_say(rt.alloc(), text.as_bytes())? != Some(None)
-        {
+        if read(rt.alloc(), text.as_bytes())? != Some(Ok(want)) {
             other = Some(text);
         }
     }
@@ -139,7 +136,7 @@ fn refusals_are_printed(rt: HostRuntime) {
         (ReadScript::Read, "read fault"),
         (ReadScript::Memory, "no memory"),
     ];
-    assert_eq!(rt; not_shown(&rt, &texts), None);
+    assert_eq!(rt; not_shown(rt.alloc(), &texts), None);
 }
 
 fn told_at(requests: &Requests, stream: u8, number: usize) -> Option<(u8, u32, u8, u8)> {

@@ -1,11 +1,12 @@
 //! The answers of several streams, put where they stand.
-use crate::shared::first_other;
+use crate::reports::{Put, report_of};
 use answer_notes::{note_answers, note_places};
 use blk_base::{Answer, Block, Lba, Request, Writer};
 use disk_model::{Failed, MemSink};
 use std::alloc::{AllocError, Global};
 use std::test::Fail;
 use stream_text::{AnswerRoom, put_answers};
+use test_images::first_other;
 use vdo_model::{DeskLine, Placed, Requests, Rows, RunReport};
 
 /// Streams 0 and 15 have requests, and the streams between them have none.
@@ -71,13 +72,7 @@ fn report(alloc: Global) -> Result<RunReport, AllocError> {
     let requests = requests(alloc)?;
     let desk = desk_lines(alloc)?;
     let places = places(alloc)?;
-    Ok(RunReport {
-        requests,
-        desk,
-        marks: Rows::new(alloc),
-        places,
-        histories: Rows::new(alloc),
-    })
+    Ok(report_of(alloc, requests, desk, places))
 }
 
 const ANSWERS: &[u8] = b"0 0 discard 0 ok z1:70000
@@ -86,9 +81,6 @@ const ANSWERS: &[u8] = b"0 0 discard 0 ok z1:70000
 15 1 read 16 read fault z7:0
 15 2 flush ok
 ";
-
-/// What a put gives, and where the sink holds other bytes then.
-type Put = (Result<(), Failed>, Option<usize>);
 
 fn put(alloc: Global, room: usize, want: &[u8]) -> Result<Put, AllocError> {
     let mut out = MemSink::new(alloc, room)?;

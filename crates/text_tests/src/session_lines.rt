@@ -1,4 +1,5 @@
 //! What the commands print that serve requests: `run`, `workload` and `crash`.
+use crate::reports::{Put, report_of};
 use blk_base::{Answer, Block, Lba, Pbn, Request, Writer};
 use command_text::{
     AddressValue, Audit, Crash, CrashStop, DamagedPlace, Recovery, RunNotes, SectorAnswer,
@@ -9,6 +10,7 @@ use disk_model::{Failed, MemSink};
 use std::alloc::{AllocError, Global};
 use std::test::Fail;
 use stream_text::AnswerRoom;
+use test_images::first_other;
 use vdo_model::{DeskLine, Placed, Requests, Rows, RunReport};
 
 const SPACE: Space = Space { used: 2, total: 64 };
@@ -61,30 +63,7 @@ fn report(alloc: Global) -> Result<RunReport, AllocError> {
     let answers = [Answer::Bytes(filled(97)), Answer::Stopped, Answer::Stopped];
     let desk = desk(alloc, Vec::from_array(alloc, answers)?)?;
     let places = places(alloc)?;
-    Ok(RunReport {
-        requests,
-        desk,
-        marks: Rows::new(alloc),
-        places,
-        histories: Rows::new(alloc),
-    })
-}
-
-/// What a put gives, and where the sink holds other bytes then.
-type Put = (Result<(), Failed>, Option<usize>);
-
-/// The place of the first byte that is another or is missing.
-fn first_other(found: &[u8], wanted: &[u8]) -> Option<usize> {
-    for (i, (one, other)) in found.iter().zip(wanted).enumerate() {
-        if one != other {
-            return Some(i);
-        }
-    }
-    if found.len() == wanted.len() {
-        None
-    } else {
-        Some(found.len().min(wanted.len()))
-    }
+    Ok(report_of(alloc, requests, desk, places))
 }
 
 fn put_report(alloc: Global, notes: &RunNotes, want: &[u8]) -> Result<Put, AllocError> {

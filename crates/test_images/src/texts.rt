@@ -1,4 +1,4 @@
-//! What the tests of several texts share.
+use std::alloc::Global;
 use std::fmt::Display;
 
 /// The place of the first byte that is another or is missing.
@@ -15,17 +15,17 @@ pub fn first_other(found: &[u8], wanted: &[u8]) -> Option<usize> {
     }
 }
 
-fn is_shown_as(rt: &HostRuntime, value: &impl Display, text: &str) -> bool {
-    match format!(in rt.alloc(); "{value}") {
+fn is_shown_as(alloc: Global, value: &impl Display, text: &str) -> bool {
+    match format!(in alloc; "{value}") {
         Ok(shown) => shown.as_str() == text,
         Err(_) => false,
     }
 }
 
 /// The first of these texts as which its value isn't shown.
-pub fn not_shown<T: Display>(rt: &HostRuntime, rows: &[(T, &'static str)]) -> Option<&'static str> {
+pub fn not_shown<T: Display>(alloc: Global, rows: &[(T, &'static str)]) -> Option<&'static str> {
     for (value, text) in rows {
-        if !is_shown_as(rt, value, text) {
+        if !is_shown_as(alloc, value, text) {
             return Some(*text);
         }
     }
