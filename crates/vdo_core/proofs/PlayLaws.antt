@@ -20,7 +20,7 @@ use Rattle.core_laws.proofs.trace.Cuts.{calls_append}
 use Rattle.step_parts.specs.DeviceLog.{GivesSettled, HasCalled, failed_calls, has_calls, lost_calls}
 use Rattle.step_parts.proofs.SilentLaws.{unchanged}
 use Rattle.vdo_core.specs.Moves.{MovesNothing}
-use Rattle.vdo_core.specs.Plays.{core_with, StepsAt, MovesAll, HasNoWork, PlaysOne, Plays, LeadsTo}
+use Rattle.vdo_core.specs.Plays.{ComesTo, core_with, ZoneSteps, StepsAt, MovesAll, HasNoWork, PlaysOne, Plays, LeadsTo}
 use Rattle.vdo_core.specs.declared.events.Event.{Event}
 use Rattle.vdo_core.specs.declared.events.Event.TheVariants as event
 use Rattle.step_parts.specs.declared.fault.Stepped.{Stepped}
@@ -134,17 +134,57 @@ moved_leads tells honest sizes from to a b log all = (
 )
 
 -- after an event, whether there was work or not
+-- what a step or a move comes to, by whether it was done
+pub was_done : (done none same : Type 0) (stepped : Stepped) → stepped ≡ Did → ComesTo done none same stepped → done × (none → ⊥)
+was_done done none same stepped did comes = subst (λ (s : Stepped). ComesTo done none same s) did comes
+
+pub was_idle : (done none same : Type 0) (stepped : Stepped) → stepped ≡ Idle → ComesTo done none same stepped → none × same
+was_idle done none same stepped idle comes = subst (λ (s : Stepped). ComesTo done none same s) idle comes
+
+pub comes_to : (done none same : Type 0) (stepped : Stepped) → (stepped ≡ Did → done × (none → ⊥)) → (stepped ≡ Idle → none × same) → ComesTo done none same stepped
+comes_to done none same Did did idle = did refl
+comes_to done none same Idle did idle = idle refl
+
+-- of which less is said
+pub comes_less : (done done' none same same' : Type 0) (stepped : Stepped) → (done → done') → (same → same') → ComesTo done none same stepped → ComesTo done' none same' stepped
+comes_less done done' none same same' Did less kept (did, some) = (less did, some)
+comes_less done done' none same same' Idle less kept (idle, still) = (idle, kept still)
+
+-- a step of a zone in its place among the others
+pub step_of : (tells honest : Bool) (sizes : Sizes) (n : ℕ) (zones : List Zone) (zone zone' : Zone) (log log' : Seen) (stepped : Stepped) → slice_get zones n ≡ Some zone
+    → ComesTo (ZoneSteps tells honest sizes zone zone' log log') (IsIdle sizes zone) ((zone' ≡ zone) × (log' ≡ log)) stepped
+    → ComesTo ((made : Trace) × StepsAt tells honest sizes n zones (slice_set zones n zone') log log' made) (HasNoWork sizes zones (event.Step n))
+    ((slice_set zones n zone' ≡ zones) × (log' ≡ log)) stepped
+step_of tells honest sizes n zones zone zone' log log' Did had (did, some) =
+    let (made, step, called) = did in (
+      (
+        made,
+        record {
+          zone = zone;
+          zone' = zone';
+          had = had;
+          step = step;
+          called = called;
+          has = refl;
+        },
+      ),
+      (λ none. some (none zone had)),
+    )
+step_of tells honest sizes n zones zone zone' log log' Idle had (idle, still) = (
+  (λ z got. subst (λ (at : Zone). IsIdle sizes at) (same_Some _ _ (sym had ∙ got)) idle),
+  (rw still.0 (put_same zones n zone had), still.1),
+)
+
 pub step_plays : (tells honest : Bool) (sizes : Sizes) (n : ℕ) (a b : List Zone) (log log' : Seen) (stepped : Stepped)
-    → (stepped ≡ Did → (made : Trace) × StepsAt tells honest sizes n a b log log' made) → (stepped ≡ Idle → (z : Zone) → slice_get a n ≡ Some z → IsIdle sizes z)
-    → (stepped ≡ Idle → b ≡ a) → (stepped ≡ Idle → log' ≡ log) → (made : Trace) × PlaysOne tells honest sizes (event.Step n) a b log log' made
-step_plays tells honest sizes n a b log log' Did did idle same silent = let (made, one) = did refl in (made, inl one)
-step_plays tells honest sizes n a b log log' Idle did idle same silent = ([], inr (idle refl, same refl, silent refl, refl))
+    → ComesTo ((made : Trace) × StepsAt tells honest sizes n a b log log' made) (HasNoWork sizes a (event.Step n)) ((b ≡ a) × (log' ≡ log)) stepped
+    → (made : Trace) × PlaysOne tells honest sizes (event.Step n) a b log log' made
+step_plays tells honest sizes n a b log log' Did (done, some) = let (made, one) = done in (made, inl one)
+step_plays tells honest sizes n a b log log' Idle (idle, still) = ([], inr (idle, still.0, still.1, refl))
 
 pub move_plays : (tells honest : Bool) (sizes : Sizes) (from to : ℕ) (a b : List Zone) (log : Seen) (stepped : Stepped)
-    → (stepped ≡ Did → MovesAll from to a b) → (stepped ≡ Idle → MovesNothing a from to) → (stepped ≡ Idle → b ≡ a)
-    → (made : Trace) × PlaysOne tells honest sizes (event.Move from to) a b log log made
-move_plays tells honest sizes from to a b log Did did idle same = ([], inl (did refl, refl, refl))
-move_plays tells honest sizes from to a b log Idle did idle same = ([], inr (idle refl, same refl, refl, refl))
+    → ComesTo (MovesAll from to a b) (MovesNothing a from to) (b ≡ a) stepped → (made : Trace) × PlaysOne tells honest sizes (event.Move from to) a b log log made
+move_plays tells honest sizes from to a b log Did (all, some) = ([], inl (all, refl, refl))
+move_plays tells honest sizes from to a b log Idle (idle, same) = ([], inr (idle, same, refl, refl))
 
 -- what happens by an event leads on
 pub played_leads : (tells honest : Bool) (sizes : Sizes) (e : Event) (a b : List Zone) (log log' : Seen) (made : Trace) → PlaysOne tells honest sizes e a b log log' made
@@ -175,11 +215,6 @@ pub none_left : (tells honest : Bool) (sizes : Sizes) (events : List Event) (n :
     → length events ≤ n → (made : Trace) × Plays tells honest sizes (drop n events) a a log log made
 none_left tells honest sizes events n a log past =
     ([], subst (λ (es : List Event). Plays tells honest sizes es a a log log []) (sym (drop_all n events past)) (refl, refl, refl))
-
--- a zone that steps isn't idle, so there was work for its event
-pub step_busy : (tells honest : Bool) (sizes : Sizes) (n : ℕ) (a b : List Zone) (log log' : Seen) → ((made : Trace) × StepsAt tells honest sizes n a b log log' made)
-    → ((z : Zone) → slice_get a n ≡ Some z → IsIdle sizes z → ⊥) → HasNoWork sizes a (event.Step n) → ⊥
-step_busy tells honest sizes n a b log log' (made, at) busy none = busy at.zone at.had (none at.zone at.had)
 
 -- where no zone changed, there is still none
 pub none_still : (sizes : Sizes) (a b : List Zone) (e : Event) → a ≡ b → HasNoWork sizes a e → HasNoWork sizes b e

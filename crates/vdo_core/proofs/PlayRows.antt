@@ -28,7 +28,8 @@ use Rattle.core_model.proofs.rows.WorkedTraces.{sizes, writer}
 use Rattle.step_parts.specs.DeviceLog.{HasCalled}
 use Rattle.step_parts.proofs.SilentLaws.{none_called}
 use Rattle.vdo_core.specs.Done.{IsDone}
-use Rattle.vdo_core.specs.Plays.{HasNoWork, Plays, PlaysOne, StepsAt}
+use Rattle.vdo_core.specs.Plays.{ComesTo, HasNoWork, Plays, PlaysOne, StepsAt}
+use Rattle.step_parts.specs.declared.fault.Stepped.TheVariants.{Did, Idle}
 use Rattle.vdo_core.specs.declared.events.Event.{Event}
 use Rattle.vdo_core.specs.declared.events.Event.TheVariants as event
 
@@ -210,3 +211,23 @@ module _ (tells honest : Bool) (seen : Seen) where
       let number = played_first tells honest (oldest 0 later) between seen s first one in
       let said : 1 ≡ oldest 0 (later ++ first) = ap (oldest 0) is in
       absurd (omega (arith, number, said, oldest_on 0 later first))
+
+-- What a step comes to: it was done, for which there was work; or it is idle, there was none, and nothing changed. Each part
+-- is refused by itself.
+pub comes_done : ComesTo (Unit {0}) ⊥ ⊥ Did
+comes_done = (tt, λ none. none)
+
+pub comes_idle : ComesTo ⊥ (Unit {0}) (Unit {0}) Idle
+comes_idle = (tt, tt)
+
+pub done_without_a_step : ComesTo ⊥ ⊥ (Unit {0}) Did → ⊥
+done_without_a_step comes = comes.0
+
+pub done_without_work : ComesTo (Unit {0}) (Unit {0}) (Unit {0}) Did → ⊥
+done_without_work comes = comes.1 tt
+
+pub idle_with_work : ComesTo (Unit {0}) ⊥ (Unit {0}) Idle → ⊥
+idle_with_work comes = comes.0
+
+pub idle_with_a_change : ComesTo (Unit {0}) (Unit {0}) ⊥ Idle → ⊥
+idle_with_a_change comes = comes.1

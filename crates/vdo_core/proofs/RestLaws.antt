@@ -1,7 +1,7 @@
 -- A legal core of which no event has work is done: nothing is left to do in it.
 use Rattle.std.proofs.Common.{ℕ, ◌≡◌, ◌≢◌, ◌≤◌, false, Some, List, [], ◌∷◌, slice_get, refl, sym, ◌∙◌, ap, inl, inr, arith}
 use Rattle.std.proofs.lemmas.Option.{slice_get_within}
-use Rattle.core_laws.proofs.Common.{Each, Item, Session, Zone}
+use Rattle.core_laws.proofs.Common.{Each, Item, Session}
 use Rattle.core_laws.proofs.kept.ZoneKinds.{stood}
 use Rattle.core_limits.proofs.Stillness.{all_answered}
 use Rattle.core_model.specs.Legal.{Legal}

@@ -1,5 +1,5 @@
 -- Why an event comes to no end.
-use Rattle.std.specs.Prelude.{ℕ, ⊤, ◌≡◌, ◌<◌, ◌≤◌, ◌+◌, ◌^◌, ◌⊎◌, Bool, List, [], ◌∷◌, Some, length, take, slice_get}
+use Rattle.std.specs.Prelude.{ℕ, ⊤, ◌≡◌, ◌<◌, ◌≤◌, ◌⊎◌, Bool, List, [], ◌∷◌, Some, length, take, slice_get}
 use Rattle.std.specs.List.{AllByRecursion}
 use Rattle.disk_model.specs.Seen.{Seen}
 use Rattle.core_model.specs.declared.items.Item.{Item}

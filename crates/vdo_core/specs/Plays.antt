@@ -7,6 +7,8 @@ use Rattle.core_model.specs.declared.zones.Zone.{Zone}
 use Rattle.core_model.specs.Steps.{Core, IsIdle, ZoneStep, Leads, step_limit, with_inbox, with_outboxes}
 use Rattle.core_model.specs.Trace.{Trace}
 use Rattle.step_parts.specs.DeviceLog.{HasCalled}
+use Rattle.step_parts.specs.declared.fault.Stepped.{Stepped}
+use Rattle.step_parts.specs.declared.fault.Stepped.TheVariants.{Did, Idle}
 use Rattle.vdo_core.specs.Moves.{MovesNothing}
 use Rattle.vdo_core.specs.declared.events.Event.{Event}
 use Rattle.vdo_core.specs.declared.events.Event.TheVariants as event
@@ -37,6 +39,11 @@ pub record MovesAll (from to : ℕ) (old new : List Zone) : Type 0 where
   pub had_target : slice_get old to ≡ Some target
   pub outbox : slice_get source.ports.outboxes to ≡ Some part
   pub has : new ≡ slice_set (slice_set old from (with_outboxes source (slice_set source.ports.outboxes to []))) to (with_inbox target (target.ports.inbox ++ part))
+
+-- What a step or a move comes to: it was done, and there was work for it; or there was none, and nothing changed.
+abbrev pub ComesTo : Type 0 → Type 0 → Type 0 → Stepped → Type 0
+ComesTo done none same Did = done × (none → ⊥)
+ComesTo done none same Idle = none × same
 
 -- there is no work for an event: no zone of its number can step, or there is nothing to move
 abbrev pub HasNoWork : Sizes → List Zone → Event → Type 0

@@ -1,13 +1,12 @@
 ghost use Rattle.std.specs.Prelude.{◌≡◌, ◌⊎◌, Some, IfOk, IfErr, OnOk, slice_get};
 ghost use Rattle.std.specs.List.{AllByRecursion};
 ghost use Rattle.disk_model.specs.Seen.{Stays};
-ghost use Rattle.core_model.specs.declared.zones.Zone.{Zone};
-ghost use Rattle.core_model.specs.Steps.{IsIdle};
 ghost use Rattle.core_model.specs.Trace.{Trace};
 ghost use Rattle.step_parts.specs.declared.fault.Stepped.TheVariants.{Did, Idle};
 ghost use Rattle.steps_device.specs.DeviceCalls.{Fits};
 ghost use Rattle.vdo_core.specs.Causes.{MayFaultAt, MayFaultAfter, MayFaultBy};
-ghost use Rattle.vdo_core.specs.Plays.{StepsAt, HasNoWork, PlaysOne, Plays, LeadsTo};
+ghost use Rattle.vdo_core.specs.declared.events.Event.TheVariants as event;
+ghost use Rattle.vdo_core.specs.Plays.{ComesTo, StepsAt, HasNoWork, PlaysOne, Plays, LeadsTo};
 
 use crate::moving::move_items;
 use crate::stepping::step_with;
@@ -34,11 +33,8 @@ pub fn step<D: Disk>(
 ) -> Result<Stepped, StepFault>
     requires { Fits sizes.now (D.seen disk.old) }
     ensures stays { Stays (D.seen disk.old) (D.seen disk.new) }
-    ensures did { IfOk result (λ stepped. stepped ≡ Did → (made : Trace) × StepsAt D.tells D.honest sizes.now number zones.old zones.new (D.seen disk.old) (D.seen disk.new) made) }
-    ensures idle { IfOk result (λ stepped. stepped ≡ Idle → (zone : Zone) → slice_get zones.old number ≡ Some zone → IsIdle sizes.now zone) }
-    ensures busy { IfOk result (λ stepped. stepped ≡ Did → (zone : Zone) → slice_get zones.old number ≡ Some zone → IsIdle sizes.now zone → ⊥) }
-    ensures same { IfOk result (λ stepped. stepped ≡ Idle → zones.new ≡ zones.old) }
-    ensures silent { IfOk result (λ stepped. stepped ≡ Idle → D.seen disk.new ≡ D.seen disk.old) }
+    ensures steps { IfOk result (ComesTo ((made : Trace) × StepsAt D.tells D.honest sizes.now number zones.old zones.new (D.seen disk.old) (D.seen disk.new) made)
+        (HasNoWork sizes.now zones.old (event.Step number)) ((zones.new ≡ zones.old) × (D.seen disk.new ≡ D.seen disk.old))) }
     ensures err { IfErr result (MayFaultAt sizes.now zones.old number) }
 {
     zones.posts.clear();
@@ -59,9 +55,7 @@ pub(crate) fn play_one<D: Disk>(
     ensures stays { Stays (D.seen disk.old) (D.seen disk.new) }
     ensures plays { OnOk result ((made : Trace) × PlaysOne D.tells D.honest sizes.now event zones.old zones.new (D.seen disk.old) (D.seen disk.new) made) }
     ensures leads { OnOk result (LeadsTo D.tells D.honest sizes.now zones.old zones.new (D.seen disk.old) (D.seen disk.new)) }
-    ensures busy { IfOk result (λ stepped. stepped ≡ Did → HasNoWork sizes.now zones.old event → ⊥) }
-    ensures idle { IfOk result (λ stepped. stepped ≡ Idle → HasNoWork sizes.now zones.old event) }
-    ensures same { IfOk result (λ stepped. stepped ≡ Idle → zones.new ≡ zones.old) }
+    ensures work { IfOk result (ComesTo (Unit {0}) (HasNoWork sizes.now zones.old event) (zones.new ≡ zones.old)) }
     ensures err { IfErr result (MayFaultBy sizes.now zones.old event) }
 {
     match event {
@@ -94,9 +88,7 @@ pub fn play<D: Disk>(
     ensures stays { Stays (D.seen disk.old) (D.seen disk.new) }
     ensures plays { OnOk result ((made : Trace) × Plays D.tells D.honest sizes.now events.now zones.old zones.new (D.seen disk.old) (D.seen disk.new) made) }
     ensures leads { OnOk result (LeadsTo D.tells D.honest sizes.now zones.old zones.new (D.seen disk.old) (D.seen disk.new)) }
-    ensures busy { IfOk result (λ stepped. stepped ≡ Did → AllByRecursion (HasNoWork sizes.now zones.old) events.now → ⊥) }
-    ensures idle { IfOk result (λ stepped. stepped ≡ Idle → AllByRecursion (HasNoWork sizes.now zones.old) events.now) }
-    ensures same { IfOk result (λ stepped. stepped ≡ Idle → zones.new ≡ zones.old) }
+    ensures work { IfOk result (ComesTo (Unit {0}) (AllByRecursion (HasNoWork sizes.now zones.old) events.now) (zones.new ≡ zones.old)) }
     ensures err { IfErr result (MayFaultAfter D.tells D.honest sizes.now events.now zones.old (D.seen disk.old)) }
 {
     let mut any = Stepped::Idle;

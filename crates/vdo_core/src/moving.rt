@@ -2,10 +2,9 @@ ghost use Rattle.std.specs.Prelude.{◌≡◌, ◌≢◌, ◌<◌, [], Some, IfO
 ghost use Rattle.core_model.specs.declared.items.Item.{Item};
 ghost use Rattle.core_model.specs.declared.zones.Zone.{Zone};
 ghost use Rattle.core_model.specs.Limits.{IsShort};
-ghost use Rattle.step_parts.specs.declared.fault.Stepped.TheVariants.{Did, Idle};
 ghost use Rattle.vdo_core.specs.Causes.{MoveMayFault};
 ghost use Rattle.vdo_core.specs.Moves.{MovesNothing, MovesSome, has_items};
-ghost use Rattle.vdo_core.specs.Plays.{MovesAll};
+ghost use Rattle.vdo_core.specs.Plays.{ComesTo, MovesAll};
 
 use crate::counting::is_within;
 use crate::zones::Zones;
@@ -52,10 +51,7 @@ pub(crate) fn can_move(zones: &Zones, from: u32, to: u32) -> bool
 /// What one zone posted to another moves from the outbox to the tail of the inbox, all of it. It asks for no memory. It
 /// fails with `Exhausted` where one of the two is past its room.
 pub fn move_items(zones: &mut Zones, from: u32, to: u32) -> Result<Stepped, StepFault>
-    ensures did { IfOk result (λ stepped. stepped ≡ Did → MovesAll from to zones.old zones.new) }
-    ensures busy { IfOk result (λ stepped. stepped ≡ Did → MovesNothing zones.old from to → ⊥) }
-    ensures idle { IfOk result (λ stepped. stepped ≡ Idle → MovesNothing zones.old from to) }
-    ensures same { IfOk result (λ stepped. stepped ≡ Idle → zones.new ≡ zones.old) }
+    ensures moves { IfOk result (ComesTo (MovesAll from to zones.old zones.new) (MovesNothing zones.old from to) (zones.new ≡ zones.old)) }
     ensures err { IfErr result (MoveMayFault zones.old from to) }
 {
     if !can_move(zones, from, to) {

@@ -3,10 +3,9 @@ ghost use Rattle.disk_model.specs.Seen.{Seen, Stays};
 ghost use Rattle.core_model.specs.Limits.{IsDataWithin};
 ghost use Rattle.core_model.specs.Steps.{CallsDevice, IsIdle, MayBegin};
 ghost use Rattle.step_parts.specs.Acts.{ActsAlone};
-ghost use Rattle.step_parts.specs.declared.fault.Stepped.TheVariants.{Did, Idle};
 ghost use Rattle.steps_device.specs.DeviceCalls.{Fits};
 ghost use Rattle.vdo_core.specs.Causes.{BeginsNone, IsServedBy, IsSized, MayFault};
-ghost use Rattle.vdo_core.specs.Plays.{ZoneSteps};
+ghost use Rattle.vdo_core.specs.Plays.{ComesTo, ZoneSteps};
 ghost use Rattle.vdo_core.specs.StepTools.{AreToolsOf, OnDevice, Uses};
 
 use crate::acting::{act, act_at_device};
@@ -40,10 +39,7 @@ fn begin(sizes: &Sizes, keeps: &mut ZoneData, posts: &mut Posts) -> Result<bool,
 fn step_alone(sizes: &Sizes, zone: &mut Zone, posts: &mut Posts) -> Result<Stepped, StepFault>
     requires other { CallsDevice zone.old.keeps → ⊥ }
     requires none { posts.old ≡ [] }
-    ensures did { IfOk result (λ stepped. stepped ≡ Did → (tells honest : Bool) (seen : Seen) → ZoneSteps tells honest sizes.now zone.old zone.new seen seen) }
-    ensures busy { IfOk result (λ stepped. stepped ≡ Did → IsIdle sizes.now zone.old → ⊥) }
-    ensures idle { IfOk result (λ stepped. stepped ≡ Idle → IsIdle sizes.now zone.old) }
-    ensures same { IfOk result (λ stepped. stepped ≡ Idle → zone.new ≡ zone.old) }
+    ensures steps { IfOk result (ComesTo ((tells honest : Bool) (seen : Seen) → ZoneSteps tells honest sizes.now zone.old zone.new seen seen) (IsIdle sizes.now zone.old) (zone.new ≡ zone.old)) }
     ensures err { IfErr result (MayFault sizes.now zone.old) }
 {
     if !has_steps_left(zone) {
@@ -82,11 +78,8 @@ fn step_device<D: Disk>(
     requires fits { Fits sizes.now (D.seen disk.old) }
     requires none { posts.old ≡ [] }
     ensures stays { Stays (D.seen disk.old) (D.seen disk.new) }
-    ensures did { IfOk result (λ stepped. stepped ≡ Did → ZoneSteps D.tells D.honest sizes.now zone.old zone.new (D.seen disk.old) (D.seen disk.new)) }
-    ensures busy { IfOk result (λ stepped. stepped ≡ Did → IsIdle sizes.now zone.old → ⊥) }
-    ensures idle { IfOk result (λ stepped. stepped ≡ Idle → IsIdle sizes.now zone.old) }
-    ensures same { IfOk result (λ stepped. stepped ≡ Idle → zone.new ≡ zone.old) }
-    ensures silent { IfOk result (λ stepped. stepped ≡ Idle → D.seen disk.new ≡ D.seen disk.old) }
+    ensures steps { IfOk result (ComesTo (ZoneSteps D.tells D.honest sizes.now zone.old zone.new (D.seen disk.old) (D.seen disk.new)) (IsIdle sizes.now zone.old)
+        ((zone.new ≡ zone.old) × (D.seen disk.new ≡ D.seen disk.old))) }
     ensures err { IfErr result (MayFault sizes.now zone.old) }
 {
     if !has_steps_left(zone) {
@@ -123,11 +116,8 @@ pub fn step_zone<D: Disk>(
     requires fits { OnDevice (λ disk. Fits sizes.now (D.seen disk)) tools }
     requires none { posts.old ≡ [] }
     ensures stays { Uses D.seen Stays tools.entry tools.exit }
-    ensures did { IfOk result (λ stepped. stepped ≡ Did → Uses D.seen (ZoneSteps D.tells D.honest sizes.now zone.old zone.new) tools.entry tools.exit) }
-    ensures busy { IfOk result (λ stepped. stepped ≡ Did → IsIdle sizes.now zone.old → ⊥) }
-    ensures idle { IfOk result (λ stepped. stepped ≡ Idle → IsIdle sizes.now zone.old) }
-    ensures same { IfOk result (λ stepped. stepped ≡ Idle → zone.new ≡ zone.old) }
-    ensures silent { IfOk result (λ stepped. stepped ≡ Idle → Uses D.seen (λ before after. after ≡ before) tools.entry tools.exit) }
+    ensures steps { IfOk result (ComesTo (Uses D.seen (ZoneSteps D.tells D.honest sizes.now zone.old zone.new) tools.entry tools.exit) (IsIdle sizes.now zone.old)
+        ((zone.new ≡ zone.old) × Uses D.seen (λ before after. after ≡ before) tools.entry tools.exit)) }
     ensures err { IfErr result (MayFault sizes.now zone.old) }
 {
     match tools {
@@ -156,11 +146,8 @@ pub(crate) fn step_with<'a, D: Disk>(
     requires fits { Fits sizes.now (D.seen disk.old) }
     requires none { posts.old ≡ [] }
     ensures stays { Stays (D.seen disk.old) (D.seen disk.new) }
-    ensures did { IfOk result (λ stepped. stepped ≡ Did → ZoneSteps D.tells D.honest sizes.now zone.old zone.new (D.seen disk.old) (D.seen disk.new)) }
-    ensures busy { IfOk result (λ stepped. stepped ≡ Did → IsIdle sizes.now zone.old → ⊥) }
-    ensures idle { IfOk result (λ stepped. stepped ≡ Idle → IsIdle sizes.now zone.old) }
-    ensures same { IfOk result (λ stepped. stepped ≡ Idle → zone.new ≡ zone.old) }
-    ensures silent { IfOk result (λ stepped. stepped ≡ Idle → D.seen disk.new ≡ D.seen disk.old) }
+    ensures steps { IfOk result (ComesTo (ZoneSteps D.tells D.honest sizes.now zone.old zone.new (D.seen disk.old) (D.seen disk.new)) (IsIdle sizes.now zone.old)
+        ((zone.new ≡ zone.old) × (D.seen disk.new ≡ D.seen disk.old))) }
     ensures err { IfErr result (MayFault sizes.now zone.old) }
 {
     if is_device(zone) {

@@ -6,8 +6,8 @@ use Rattle.core_model.specs.Limits.{IsWithin}
 use Rattle.vdo_core.proofs.MoveLaws.{has_lane, moves_something, short_lane}
 use Rattle.vdo_core.proofs.moving.move_items.Goals as goal
 
-pub returns-clause-busy : goal.returns-clause-busy
-returns-clause-busy c did = moves_something c.args.zones.now c.args.from c.args.to (c.can_move.ensures.yes c.if-not-can_move.false)
+pub returns-clause-moves : goal.returns-clause-moves
+returns-clause-moves c = (rw (← c.zones.view_is) c.carry.ensures, moves_something c.args.zones.now c.args.from c.args.to (c.can_move.ensures.yes c.if-not-can_move.false))
 
 pub returns-then-not-is_within-clause-err : goal.returns-then-not-is_within-clause-err
 returns-then-not-is_within-clause-err c =
@@ -39,8 +39,8 @@ carry-requires-clause-there c = λ target got.
     let within : IsWithin target = subst (λ (z : Zone). IsWithin z) (same_Some _ _ (sym had ∙ got)) (c.is_within-2.ensures.0 c.if-not-is_within-2.false) in
     within.inbox)
 
-pub returns-then-not-can_move-clause-idle : goal.returns-then-not-can_move-clause-idle
-returns-then-not-can_move-clause-idle c idle = c.can_move.ensures.no c.if-not-can_move.true
+pub returns-then-not-can_move-clause-moves : goal.returns-then-not-can_move-clause-moves
+returns-then-not-can_move-clause-moves c = (c.can_move.ensures.no c.if-not-can_move.true, refl)
 
 pub index-requires : goal.index-requires
 index-requires c =

@@ -1,4 +1,5 @@
 use Rattle.vdo_core.proofs.SessionLaws.{none_fails_here, reached_on}
+use Rattle.vdo_core.proofs.PlayLaws.{was_done, was_idle}
 use Rattle.vdo_core.proofs.cores.Core.step.Goals as goal
 
 pub unreachable-requires : goal.unreachable-requires
@@ -13,5 +14,8 @@ invariant_of-self g c = record {
 pub returns-clause-plays : goal.returns-clause-plays
 returns-clause-plays g c = rw (← c.self.view_is) c.in-Ok.ensures.plays
 
+pub returns-clause-did : goal.returns-clause-did
+returns-clause-did g c did = rw (← c.self.view_is) (was_done _ _ _ _ did c.in-Ok.ensures.work).1
+
 pub returns-clause-idle : goal.returns-clause-idle
-returns-clause-idle g c idle = rw (← c.self.view_is) (c.in-Ok.ensures.idle idle)
+returns-clause-idle g c idle = rw (← c.self.view_is) (was_idle _ _ _ _ idle c.in-Ok.ensures.work).0
