@@ -4,13 +4,14 @@ use Rattle.blk_base.specs.Points.{point_of}
 use Rattle.blk_base.specs.Regions.{needed_blocks, references_of}
 use Rattle.blk_base.specs.declared.geometry.Geometry.{Geometry}
 use Rattle.blk_base.specs.declared.journal_entry.CommittedEntry.{CommittedEntry}
+use Rattle.blk_base.specs.declared.layout.DataPlace.{DataPlace}
 use Rattle.blk_base.specs.declared.point.Half.TheVariants.{Increment}
 use Rattle.disk_model.specs.declared.call.Call.{Call}
 use Rattle.disk_model.specs.Images.{IsImage}
 use Rattle.disk_model.specs.Log.{Blocks}
-use Rattle.image_model.specs.Counts.{commit_at}
+use Rattle.image_model.specs.Counts.{block_of_data, commit_at, counter_of}
 use Rattle.image_model.specs.Maps.{Image}
-use Rattle.image_model.specs.Sound.{AreTrue}
+use Rattle.image_model.specs.Sound.{AreTrue, IsDataPlace}
 use Rattle.recovery_laws.proofs.SoundLaws.{room}
 use Rattle.journal_stops.specs.Mapped.{later_image}
 use Rattle.journal_stops.specs.Sealed.{Sealed, entries_of, front_of, head_of, next_of, window_of}
@@ -18,11 +19,12 @@ use Rattle.journal_stops.specs.Shown.{Extends}
 use Rattle.count_laws.specs.Closed.{HasClosedCounts}
 use Rattle.count_laws.specs.Counters.{CountsStand}
 use Rattle.count_laws.specs.Points.{ArePointed, next_point}
+use Rattle.count_laws.specs.Running.{RunningCount}
 use Rattle.count_laws.specs.Turns.{AreInTurn}
-use Rattle.count_laws.proofs.ImageLaws.{closed_counts, commits_timely, true_count, updates_timely}
+use Rattle.count_laws.proofs.ImageLaws.{closed_counts, commits_timely, count_of, true_count, updates_timely}
 use Rattle.count_laws.proofs.KeepLaws.{counts_grow, counts_with_more}
 use Rattle.session_stops.specs.Beginnings.{IsToServe, head_in, opened_in}
-use Rattle.session_stops.specs.Sessions.{AreFew, ShowsSoundly, StandsAtRest, StandsUnderWay, entries_next, window_from}
+use Rattle.session_stops.specs.Sessions.{AreFew, IsBehind, ShowsSoundly, StandsAtRest, StandsUnderWay, entries_next, window_from}
 use Rattle.session_stops.proofs.MapImages.{HasGoodCounts, Sees, rest_seen, turns_front, way_shows}
 use Rattle.session_stops.proofs.WindowLists.{newest_block, window_earlier, window_newest}
 use Rattle.session_stops.proofs.PointedBlocks.{blocks_pointed}
@@ -48,6 +50,12 @@ module _ (base : Blocks) (to : IsToServe base) where
       let next = (to.sound.closed to.clean).next in
       let was = to.sound.timely.commits slab n in_slab below in
       omega (arith, next, was)
+
+  -- The count of each data block goes with the entries.
+  pub running : (opening : Blocks) (log : List Call) (blocks : List Sealed) (head : ℕ) → IsBehind opening log base to blocks head → (place : DataPlace) → IsDataPlace g place
+      → RunningCount opened (entries_of start blocks) (block_of_data g place) (counter_of opened place)
+  running opening log blocks head behind place there =
+      count_of opening log opened (entries_of start blocks) from closed behind.turns (blocks_pointed start blocks behind.few).0 place there
 
   -- The counts of an image that shows the entries.
   good : (opening : Blocks) (log : List Call) (image : Blocks) → IsImage opening log image → length opening ≡ length base → (entries window : List CommittedEntry) (last : ℕ)

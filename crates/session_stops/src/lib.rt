@@ -18,5 +18,5 @@ pub use pages::{
 };
 pub use sessions::{
     calls_that_keep_a_session_standing, each_stop_leaves_a_sound_image,
-    what_keeps_a_session_standing,
+    the_counts_of_a_session_go_well, what_keeps_a_session_standing,
 };

@@ -1,23 +1,30 @@
-ghost use Rattle.std.specs.Prelude.{◌≡◌, ◌∷◌, ◌+◌, ◌<◌, ◌^◌, [], ℕ, Bool, true, List, length, Some};
+ghost use Rattle.std.specs.Prelude.{◌≡◌, ◌∷◌, ◌+◌, ◌*◌, ◌<◌, ◌≤◌, ◌^◌, [], ℕ, Bool, true, List, length, Some};
 ghost use Rattle.std.specs.List.{AllByRecursion};
+ghost use Rattle.blk_base.specs.Points.{point_of};
 ghost use Rattle.blk_base.specs.Regions.{IsDataBlock};
 ghost use Rattle.blk_base.specs.declared.journal_entry.CommittedEntry.{CommittedEntry};
+ghost use Rattle.blk_base.specs.declared.layout.DataPlace.{DataPlace};
 ghost use Rattle.blk_base.specs.declared.place.PageId.{PageId};
 ghost use Rattle.blk_base.specs.declared.place.Pbn.{Pbn};
+ghost use Rattle.blk_base.specs.declared.point.Half.TheVariants.{Increment};
 ghost use Rattle.disk_model.specs.declared.call.Call.{Call};
 ghost use Rattle.disk_model.specs.declared.call.Call.TheVariants.{Write, Flush};
 ghost use Rattle.disk_model.specs.Images.{IsImage, HasOneImage};
 ghost use Rattle.disk_model.specs.Log.{Blocks, Misses};
 ghost use Rattle.image_layout.specs.Superblock.{super_block};
+ghost use Rattle.image_model.specs.Counts.{block_of_data, counter_of};
+ghost use Rattle.image_model.specs.Sound.{IsDataPlace};
 ghost use Rattle.journal_stops.specs.Mapped.{page_after};
 ghost use Rattle.journal_stops.specs.Rings.{IsWhole, IsWritten, place_of};
 ghost use Rattle.journal_stops.specs.Sealed.{Sealed, IsSealed, entries_of, next_of, window_of};
 ghost use Rattle.journal_stops.specs.Shown.{Extends};
 ghost use Rattle.count_laws.specs.Counters.{MayWrite};
+ghost use Rattle.count_laws.specs.Points.{ArePointed, next_point};
+ghost use Rattle.count_laws.specs.Running.{RunningCount};
 ghost use Rattle.count_laws.specs.Turns.{AreInTurn};
 ghost use Rattle.session_stops.specs.Beginnings.{IsToServe, head_in, opened_in};
 ghost use Rattle.session_stops.specs.Pages.{MissesNew, NewPagesStand, SaysTheRest};
-ghost use Rattle.session_stops.specs.Sessions.{HasNoPage, IsBehind, IsOfCounts, MayRise, ShowsSoundly, StandsAtRest, StandsUnderWay, entries_next, window_from};
+ghost use Rattle.session_stops.specs.Sessions.{AreFew, HasNoPage, IsBehind, IsOfCounts, MayRise, ShowsSoundly, StandsAtRest, StandsUnderWay, entries_next, window_from};
 
 /// Each image that a stop leaves of a session that stands is sound, and shows the entries of all committed blocks, or those
 /// and the first ones of the block under way. It does nothing.
@@ -88,4 +95,16 @@ pub fn calls_that_keep_a_session_standing()
         → IsOfCounts to.sound.head.geometry at.0
         → MayWrite opening log (opened_in base to) (entries_of to.sound.head.start blocks) (window_from to.sound.head.start block.head blocks) at.0 bytes
         → StandsUnderWay opening log base to blocks block → StandsUnderWay opening (Write at bytes ok ∷ log) base to blocks block }
+{}
+
+/// The entries of a session's blocks have points that rise, from the session's first point on; and the count of each data
+/// block goes with them, update by update, from its opened counter to the number of its mappings, within 0 and the limit. It
+/// does nothing.
+pub fn the_counts_of_a_session_go_well()
+    ensures points { (start : ℕ) (blocks : List Sealed) → AreFew blocks → ArePointed (point_of start 0 Increment) (entries_of start blocks) }
+    ensures next { (start : ℕ) (blocks : List Sealed) → AreFew blocks
+        → next_point (point_of start 0 Increment) (entries_of start blocks) ≤ point_of (next_of start blocks) 0 Increment }
+    ensures running { (base : Blocks) (to : IsToServe base) (opening : Blocks) (log : List Call) (blocks : List Sealed) (head : ℕ) → IsBehind opening log base to blocks head
+        → (place : DataPlace) → IsDataPlace to.sound.head.geometry place
+        → RunningCount (opened_in base to) (entries_of to.sound.head.start blocks) (block_of_data to.sound.head.geometry place) (counter_of (opened_in base to) place) }
 {}
