@@ -1,5 +1,5 @@
 -- A slab that took two of the four updates that the example's entries give it, and those that it can't have taken.
-use Rattle.std.proofs.Common.{ℕ, zero, suc, ◌≡◌, ◌/◌, ◌%◌, ◌<◌, ◌==◌, false, List, [], ◌∷◌, ◌++◌, Contains, replicate, slice_index, get_or, refl, sym, ◌∙◌, ap, subst, inl, inr, arith}
+use Rattle.std.proofs.Common.{ℕ, zero, suc, ◌≡◌, ◌/◌, ◌%◌, ◌<◌, ◌==◌, true, false, List, [], ◌∷◌, ◌++◌, Contains, replicate, slice_index, get_or, refl, sym, ◌∙◌, ap, subst, inl, inr, arith}
 use Rattle.std.proofs.Math.Nat.{mod-lt}
 use Rattle.std.proofs.lemmas.Bool.Decides.{eqb_tells}
 use Rattle.std.proofs.lemmas.List.{get_or-replicate, length-replicate}
@@ -7,11 +7,12 @@ use Rattle.std.proofs.lemmas.List.Elements.{All-cons, All-nil}
 use Rattle.blk_base.specs.Counters.{sector_of_offset, sectors_per_slab}
 use Rattle.blk_base.specs.Regions.{ReferenceBlock, references_of}
 use Rattle.blk_base.specs.Sectors.{sector}
+use Rattle.blk_base.specs.declared.journal_entry.Update.{Update}
 use Rattle.blk_base.specs.declared.point.Point.{Point}
 use Rattle.byte_fields.specs.Fields.{number_at}
 use Rattle.disk_model.specs.Log.{Blocks}
 use Rattle.image_model.proofs.CountLaws.{is_first_or_behind, none_in_nothing}
-use Rattle.image_model.proofs.Example.{small}
+use Rattle.image_model.proofs.Example.{pbn, small}
 use Rattle.image_model.proofs.ZeroLaws.{no_commit}
 use Rattle.image_model.specs.Counts.{commit_at}
 use Rattle.image_model.specs.Empty.{IsEmpty}
@@ -21,7 +22,7 @@ use Rattle.slab_codec.specs.declared.forms.SlabEntry.{SlabEntry}
 use Rattle.count_laws.specs.Counters.{points_at}
 use Rattle.count_laws.proofs.Example.{counter_none, four, opened}
 use Rattle.count_laws.proofs.WriteExample.{other_points}
-use Rattle.counted_blocks.specs.Taken.{HasTaken, place_in, taken_at}
+use Rattle.counted_blocks.specs.Taken.{HasTaken, entries_taken, entry_of, in_slab, place_in, taken_at}
 
 abbrev update : ℕ → ℕ → SlabEntry
 update point offset = record { point = record { 0 = point }; offset = offset }
@@ -56,6 +57,19 @@ parts : (offset : ℕ) → points_at small four (place_in 0 offset) ≡ taken_at
 parts zero = refl
 parts (suc zero) = refl
 parts (suc (suc k)) = rw (differs 0 (suc (suc k)) (λ (same : ◌≡◌ {A = ℕ} 0 (suc (suc k))). omega (arith, same)), differs 1 (suc (suc k)) (λ (same : ◌≡◌ {A = ℕ} 1 (suc (suc k))). omega (arith, same))) (other_points k)
+
+-- the data blocks of slab 0, what an update is called there, and what was taken of a stream, the newest first
+abbrev at_block : ℕ → ℕ → Update
+at_block n point = record { at = pbn n; point = record { 0 = point } }
+
+inside_slab : (in_slab small 0 (pbn 85) ≡ true) × (in_slab small 0 (pbn 148) ≡ true) × (in_slab small 0 (pbn 84) ≡ false) × (in_slab small 0 (pbn 149) ≡ false)
+inside_slab = (refl, refl, refl, refl)
+
+named_there : entry_of small 0 (at_block 86 514) ≡ update 514 1
+named_there = refl
+
+newest_first : entries_taken small 0 (at_block 85 512 ∷ at_block 86 514 ∷ []) ≡ taken
+newest_first = refl
 
 -- two updates make these counters
 counters_are : counters_after (0 ∷ 0 ∷ 0 ∷ []) taken ≡ 1 ∷ 1 ∷ 0 ∷ []
