@@ -6,7 +6,7 @@ use Rattle.std.proofs.lemmas.Bool.Decides.{eqb_tells}
 use Rattle.blk_base.specs.declared.journal_entry.Entry.TheVariants.{NewPage, Remap}
 use Rattle.blk_base.specs.declared.place.PageId.{PageId}
 use Rattle.blk_base.specs.declared.point.Point.{Point}
-use Rattle.dirty_pages.specs.History.{IsInWrite, IsUnwritten, IsWaiting}
+use Rattle.dirty_pages.specs.History.{IsInWrite, IsUnreported, IsUnwritten, IsWaiting}
 use Rattle.dirty_pages.specs.Marks.{HasPoint, marks_at}
 use Rattle.page_codec.specs.declared.forms.MapPage.{MapPage}
 use Rattle.block_map_tree.specs.History as history
@@ -38,9 +38,11 @@ pub record Split (old : ZoneMap) (calls : List Call) (new : ZoneMap) : Type 0 wh
   pub leaf_writes : (page : PageId) (point : Point) → page.level ≡ 0 → IsInWrite (events_of calls) page point → IsInWrite (runs.events_of of_cache) page point
   pub node_waits : (page : PageId) (point : Point) → page.level ≢ 0 → IsWaiting (events_of calls) page point → IsWaiting (history.events_of of_tree) page point
   pub node_writes : (page : PageId) (point : Point) → page.level ≢ 0 → IsInWrite (events_of calls) page point → IsInWrite (history.events_of of_tree) page point
+  pub leaf_unreported : (page : PageId) → page.level ≡ 0 → IsUnreported (events_of calls) page → IsUnreported (runs.events_of of_cache) page
+  pub node_unreported : (page : PageId) → page.level ≢ 0 → IsUnreported (events_of calls) page → IsUnreported (history.events_of of_tree) page
 
 -- a page in memory is a leaf
-in_level : (m : ZoneMap) (page : PageId) (frame : ℕ) (content : MapPage) → IsZoneMap m → cached.IsIn m.cache page frame content → page.level ≡ 0
+pub in_level : (m : ZoneMap) (page : PageId) (frame : ℕ) (content : MapPage) → IsZoneMap m → cached.IsIn m.cache page frame content → page.level ≡ 0
 in_level m page frame content form stands = (form.leaves page content ((frame, stands.inside, stands.is), stands.named)).level
 
 cache_step : (between new : ZoneMap) (call : runs.Call) → IsZoneMap between → IsPlaced between.tree call → runs.Leads between.cache call new.cache
@@ -58,8 +60,9 @@ module _ (old between new : ZoneMap) (calls : List Call) (split : Split old call
       → ((page : PageId) (point : Point) → page.level ≡ 0 → IsInWrite (events_of (call ∷ calls)) page point → IsInWrite (runs.events_of (c ∷ split.of_cache)) page point)
       → ((page : PageId) (point : Point) → page.level ≢ 0 → IsWaiting (events_of (call ∷ calls)) page point → IsWaiting (events_of calls) page point)
       → ((page : PageId) (point : Point) → page.level ≢ 0 → IsInWrite (events_of (call ∷ calls)) page point → IsInWrite (events_of calls) page point)
-      → Split old (call ∷ calls) new
-  with_cache call c placed leads after waits writes beside beside' =
+      → ((page : PageId) → page.level ≡ 0 → IsUnreported (events_of (call ∷ calls)) page → IsUnreported (runs.events_of (c ∷ split.of_cache)) page)
+      → ((page : PageId) → IsUnreported (events_of (call ∷ calls)) page → IsUnreported (events_of calls) page) → Split old (call ∷ calls) new
+  with_cache call c placed leads after waits writes beside beside' unreported before =
       let stays = ap (λ (m : ZoneMap). m.tree) after in
       record {
         form = cache_step between new c split.form placed leads after;
@@ -72,6 +75,8 @@ module _ (old between new : ZoneMap) (calls : List Call) (split : Split old call
         leaf_writes = writes;
         node_waits = λ page point level is. split.node_waits page point level (beside page point level is);
         node_writes = λ page point level is. split.node_writes page point level (beside' page point level is);
+        leaf_unreported = unreported;
+        node_unreported = λ page level none. split.node_unreported page level (before page none);
       }
 
   -- and one of the tree
@@ -80,8 +85,9 @@ module _ (old between new : ZoneMap) (calls : List Call) (split : Split old call
       → ((page : PageId) (point : Point) → page.level ≢ 0 → IsInWrite (events_of (call ∷ calls)) page point → IsInWrite (history.events_of (t ∷ split.of_tree)) page point)
       → ((page : PageId) (point : Point) → page.level ≡ 0 → IsWaiting (events_of (call ∷ calls)) page point → IsWaiting (events_of calls) page point)
       → ((page : PageId) (point : Point) → page.level ≡ 0 → IsInWrite (events_of (call ∷ calls)) page point → IsInWrite (events_of calls) page point)
-      → Split old (call ∷ calls) new
-  with_tree call t fresh leads after waits writes beside beside' =
+      → ((page : PageId) → page.level ≢ 0 → IsUnreported (events_of (call ∷ calls)) page → IsUnreported (history.events_of (t ∷ split.of_tree)) page)
+      → ((page : PageId) → IsUnreported (events_of (call ∷ calls)) page → IsUnreported (events_of calls) page) → Split old (call ∷ calls) new
+  with_tree call t fresh leads after waits writes beside beside' unreported before =
       let stays = ap (λ (m : ZoneMap). m.cache) after in
       record {
         form = tree_step between new t split.form fresh leads after;
@@ -94,6 +100,8 @@ module _ (old between new : ZoneMap) (calls : List Call) (split : Split old call
         leaf_writes = λ page point level is. split.leaf_writes page point level (beside' page point level is);
         node_waits = waits;
         node_writes = writes;
+        leaf_unreported = λ page level none. split.leaf_unreported page level (before page none);
+        node_unreported = unreported;
       }
 
   split_step : (call : Call) → Leads between call new → Split old (call ∷ calls) new
@@ -102,17 +110,18 @@ module _ (old between new : ZoneMap) (calls : List Call) (split : Split old call
       (λ page p level is. elim is [ inl this ↦ inl this | inr was ↦ inr (split.leaf_waits page p level was) ])
       (λ page p level is. split.leaf_writes page p level is)
       (λ page p level is. elim is [ inl this ↦ absurd (level (ap (λ (q : PageId). q.level) (sym this.0))) | inr was ↦ was ])
-      (λ page p level is. is)
+      (λ page p level is. is) (λ page level none. split.leaf_unreported page level none) (λ page none. none)
   split_step (Apply (NewPage page at) point) (may, adds) =
       with_tree (Apply (NewPage page at) point) (history.Link page at point) may.missing (may.linkable, adds.links) adds.after
       (λ other p level is. elim is [ inl this ↦ inl this | inr was ↦ inr (split.node_waits other p level was) ])
       (λ other p level is. split.node_writes other p level is)
       (λ other p level is. elim is [ inl this ↦ absurd (omega (arith, level, ap (λ (q : PageId). q.level) this.0)) | inr was ↦ was ])
-      (λ other p level is. is)
+      (λ other p level is. is) (λ other level none. split.node_unreported other level none) (λ other none. none)
   split_step (Install page bytes) (may, installs) =
       let content : MapPage = record { head = head_at between page installs.at; mappings = installs.mappings } in
       with_cache (Install page bytes) (runs.Install content) (record { level = may.level; stands = installs.stands }) (may.absent, installs.fills) installs.after
       (λ other p level is. split.leaf_waits other p level is) (λ other p level is. split.leaf_writes other p level is) (λ other p level is. is) (λ other p level is. is)
+      (λ other level none. split.leaf_unreported other level none) (λ other none. none)
   split_step (HandOut page at bytes) (limit, inl takes) =
       let leaf = in_level between page takes.expires.frame takes.copy split.form takes.expires.stood in
       with_cache (HandOut page at bytes) (runs.HandOut page) tt (limit, takes.copy, takes.expires) takes.after
@@ -120,22 +129,26 @@ module _ (old between new : ZoneMap) (calls : List Call) (split : Split old call
       (λ other p level is. elim is [ inl now ↦ inl (now.0, split.leaf_waits other p level now.1) | inr was ↦ inr (split.leaf_writes other p level was) ])
       (λ other p level is. is.1)
       (λ other p level is. elim is [ inl now ↦ absurd (level (ap (λ (q : PageId). q.level) (sym now.0) ∙ leaf)) | inr was ↦ was ])
+      (λ other level none. split.leaf_unreported other level none) (λ other none. none)
   split_step (HandOut page at bytes) (limit, inr takes) =
       with_tree (HandOut page at bytes) (history.HandOut page) tt (limit, takes.copy, takes.expires) takes.after
       (λ other p level is. (is.0, split.node_waits other p level is.1))
       (λ other p level is. elim is [ inl now ↦ inl (now.0, split.node_waits other p level now.1) | inr was ↦ inr (split.node_writes other p level was) ])
       (λ other p level is. is.1)
       (λ other p level is. elim is [ inl now ↦ absurd (omega (arith, level, ap (λ (q : PageId). q.level) now.0, takes.expires.inner.level)) | inr was ↦ was ])
+      (λ other level none. split.node_unreported other level none) (λ other none. none)
   split_step (Write page) (out, inl settles) =
       with_cache (Write page) (runs.Write page) tt (settles.out, settles.writes) settles.after
       (λ other p level is. split.leaf_waits other p level is)
       (λ other p level is. (is.0, split.leaf_writes other p level is.1))
       (λ other p level is. is) (λ other p level is. is.1)
+      (λ other level none. (none.0, split.leaf_unreported other level none.1)) (λ other none. none.1)
   split_step (Write page) (out, inr settles) =
       with_tree (Write page) (history.Write page) tt (settles.out, settles.writes) settles.after
       (λ other p level is. split.node_waits other p level is)
       (λ other p level is. (is.0, split.node_writes other p level is.1))
       (λ other p level is. is) (λ other p level is. is.1)
+      (λ other level none. (none.0, split.node_unreported other level none.1)) (λ other none. none.1)
 
 pub split_of : (old new : ZoneMap) (calls : List Call) → IsZoneMap old → LeadTo old calls new → Split old calls new
 split_of old new [] form same = subst (λ (m : ZoneMap). Split old [] m) (sym same) (record {
@@ -149,6 +162,8 @@ split_of old new [] form same = subst (λ (m : ZoneMap). Split old [] m) (sym sa
   leaf_writes = λ page point level is. is;
   node_waits = λ page point level is. is;
   node_writes = λ page point level is. is;
+  leaf_unreported = λ page level none. none;
+  node_unreported = λ page level none. none;
 })
 split_of old new (call ∷ calls) form lead = split_step old lead.0 new calls (split_of old lead.0 calls form lead.1) call lead.2
 

@@ -3,3 +3,4 @@ pub mod StepLaws
 pub mod CallLaws
 pub mod ShownLaws
 pub mod OneLaws
+pub mod OutLaws

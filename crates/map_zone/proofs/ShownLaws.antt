@@ -28,7 +28,7 @@ use Rattle.map_zone.specs.Writing.{Settles, Takes, TakesLeaf, TakesNode}
 use Rattle.map_zone.specs.ZoneMap.{IsZoneMap, ZoneMap, head_at, leaf_of}
 use Rattle.map_zone.proofs.CallLaws.{Split, split_of}
 
-same_head : (h k : PageHead) → h.geometry ≡ k.geometry → h.page ≡ k.page → h.at ≡ k.at → h ≡ k
+pub same_head : (h k : PageHead) → h.geometry ≡ k.geometry → h.page ≡ k.page → h.at ≡ k.at → h ≡ k
 same_head h k geometry page at =
     ap (λ (g : Geometry). let r : PageHead = record { geometry = g; page = h.page; at = h.at } in r) geometry
     ∙ ap (λ (p : PageId). let r : PageHead = record { geometry = k.geometry; page = p; at = h.at } in r) page

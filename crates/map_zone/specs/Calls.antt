@@ -56,6 +56,12 @@ events_of (Install page bytes ∷ calls) = events_of calls
 events_of (HandOut page at bytes ∷ calls) = HandedOut page ∷ events_of calls
 events_of (Write page ∷ calls) = Written page ∷ events_of calls
 
+-- an entry linked the page at this block
+abbrev pub HasLink : List Call → PageId → Pbn → Type 0
+HasLink [] page at = ⊥
+HasLink (Apply (NewPage linked block) point ∷ calls) page at = ((linked ≡ page) × (block ≡ at)) ⊎ HasLink calls page at
+HasLink (call ∷ calls) page at = HasLink calls page at
+
 -- what an address is mapped to by the newest entry for it, where it was mapped so at first
 abbrev pub mapped : (ℕ → Mapping) → List Call → ℕ → Mapping
 mapped first [] address = first address

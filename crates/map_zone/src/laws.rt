@@ -1,15 +1,18 @@
-ghost use Rattle.std.specs.Prelude.{◌≡◌, ◌≤◌, ◌%◌, ℕ, List};
+ghost use Rattle.std.specs.Prelude.{◌≡◌, ◌≤◌, ◌%◌, ◌⊎◌, ◌↔◌, ℕ, List};
 ghost use Rattle.blk_base.specs.declared.opened.Opened.{Opened};
 ghost use Rattle.blk_base.specs.declared.place.Mapping.{Mapping};
+ghost use Rattle.blk_base.specs.declared.place.Mapping.TheVariants.{At};
 ghost use Rattle.blk_base.specs.declared.place.Pbn.{Pbn};
 ghost use Rattle.blk_base.specs.declared.sizes.TheConstants.{PAGE_SLOTS};
 ghost use Rattle.blk_base.specs.declared.place.PageId.{PageId};
 ghost use Rattle.blk_base.specs.declared.point.Point.{Point};
-ghost use Rattle.dirty_pages.specs.History.{IsUnwritten};
+ghost use Rattle.dirty_pages.specs.History.{IsUnreported, IsUnwritten};
+ghost use Rattle.block_map_tree.specs.Pages.{IsLower, above, slot_of};
+ghost use Rattle.block_map_tree.specs.Tree.{IsAt};
 ghost use Rattle.page_codec.specs.Grammar.{IsSlot};
-ghost use Rattle.map_zone.specs.Calls.{AreReadBack, Call, HasNoLeaf, LeadTo, Leads, SayOf, events_of, mapped};
+ghost use Rattle.map_zone.specs.Calls.{AreReadBack, Call, HasLink, HasNoLeaf, LeadTo, Leads, SayOf, events_of, mapped};
 ghost use Rattle.map_zone.specs.Serving.{IsLooked, Shows};
-ghost use Rattle.map_zone.specs.Writing.{IsClean, IsLow, NoneDue, Takes};
+ghost use Rattle.map_zone.specs.Writing.{IsClean, IsLow, IsOut, NoneDue, Takes};
 ghost use Rattle.map_zone.specs.ZoneMap.{IsOpened, IsZoneMap, ZoneMap, head_at, leaf_of};
 ghost use Rattle.map_zone.specs.declared.forms.Looked.{Looked};
 
@@ -42,4 +45,26 @@ pub fn a_call_has_one_result()
         → Takes old other point out b given → (page ≡ out) × (at ≡ b) × (bytes ≡ given) × (new ≡ other) }
     ensures none { (old new : ZoneMap) (point : Point) (page : PageId) (at : Pbn) (bytes : List ℕ) → Takes old new point page at bytes → NoneDue old point → ⊥ }
     ensures low { (m : ZoneMap) (low other : Point) → IsLow m low → IsLow m other → low ≡ other }
+{}
+
+/// A page that was handed out is being written until it is reported, over every list of calls, and so it isn't handed out again
+/// before.
+pub fn a_page_is_out_until_it_is_written()
+    ensures taken { (old new : ZoneMap) (point : Point) (page : PageId) (at : Pbn) (bytes : List ℕ) → Takes old new point page at bytes → IsOut new page }
+    ensures kept { (old new : ZoneMap) (calls : List Call) (page : PageId) → IsZoneMap old → LeadTo old calls new → IsUnreported (events_of calls) page
+        → IsOut old page → IsOut new page }
+    ensures idle { (old new : ZoneMap) (point : Point) (page : PageId) (at : Pbn) (bytes : List ℕ) → IsZoneMap old → Takes old new point page at bytes
+        → IsOut old page → ⊥ }
+{}
+
+/// Over every list of calls a page stands where it stood at first or was linked, and nowhere else. A page that is handed out and
+/// is no leaf leads to each page below it that is linked, and to no other.
+pub fn links_are_those_that_were_applied()
+    ensures stands { (old new : ZoneMap) (calls : List Call) (page : PageId) (at : Pbn) → IsZoneMap old → LeadTo old calls new
+        → IsAt old.tree page at ⊎ HasLink calls page at → IsAt new.tree page at }
+    ensures only { (old new : ZoneMap) (calls : List Call) (page : PageId) (at : Pbn) → IsZoneMap old → LeadTo old calls new → IsAt new.tree page at
+        → IsAt old.tree page at ⊎ HasLink calls page at }
+    ensures says { (old new : ZoneMap) (point : Point) (page : PageId) (at : Pbn) (bytes : List ℕ) (child : PageId) (b : Pbn) → IsZoneMap old
+        → Takes old new point page at bytes → IsLower old.tree.forest child → above child ≡ page
+        → IsSlot (head_at old page at) bytes (slot_of child) (At b) ↔ IsAt old.tree child b }
 {}

@@ -17,7 +17,8 @@ mod zone;
 
 pub use forms::{Applied, Looked, NotInstalled};
 pub use laws::{
-    a_call_has_one_result, nothing_unwritten_is_below_the_low_point, what_was_applied_is_shown,
+    a_call_has_one_result, a_page_is_out_until_it_is_written, links_are_those_that_were_applied,
+    nothing_unwritten_is_below_the_low_point, what_was_applied_is_shown,
 };
 pub use zone::MapZone;
 
