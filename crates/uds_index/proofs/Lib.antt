@@ -10,3 +10,5 @@ mod KeepLaws
 mod AddLaws
 mod LoadLaws
 mod LoadRows
+pub mod AskLaws
+mod AskRows

@@ -1,7 +1,8 @@
 -- What contracts see of the index, and what its looks answer.
-use Rattle.std.specs.Prelude.{ℕ, ◌≡◌, ◌⊎◌, ◌+◌, ◌*◌, ◌/◌, ◌%◌, ◌-◌, ◌<◌, ◌≤◌, ◌||◌, ◌&&◌, not, Bool, true, false, List, [], ◌∷◌, ◌++◌, length, take, filter, Contains, Option, None, Some, IsSome, nat_eq, if◌then◌else◌}
+use Rattle.std.specs.Prelude.{ℕ, ◌≡◌, ◌⊎◌, ◌+◌, ◌*◌, ◌/◌, ◌%◌, ◌-◌, ◌<◌, ◌≤◌, min, ◌||◌, ◌&&◌, not, Bool, true, false, List, [], ◌∷◌, ◌++◌, length, take, filter, Contains, Option, None, Some, IsSome, nat_eq, if◌then◌else◌}
 use Rattle.block_names.specs.Names.{tag_of}
 use Rattle.uds_chapters.specs.Chapters.{Numbered, location_of}
+use Rattle.uds_chapters.specs.Places.{IsGapFor, IsPlaceOf}
 use Rattle.index_advice.specs.declared.look.Look.{Look}
 use Rattle.index_advice.specs.declared.look.Look.TheVariants.{Known, Nothing, Read}
 use Rattle.index_advice.specs.Books.{Book, has_tag, first_location, newest_record}
@@ -49,6 +50,46 @@ abbrev pub FindsKept : ℕ → ℕ → List Numbered → List ℕ → List ℕ �
 FindsKept first places chapters cached given name (Known at) = first_location name chapters ≡ Some at
 FindsKept first places chapters cached given name Nothing = first_location name chapters ≡ None
 FindsKept first places chapters cached given name (Read at) = MayRead first places chapters cached given at.0
+
+-- Which page is asked for.
+
+-- the block of the page on which a name stands in a chapter, or would stand: a page has 170 records
+pub record IsNamePage (first places : ℕ) (name : List ℕ) (at : ℕ) (chapter : Numbered) : Type 0 where
+  pub place : ℕ
+  pub stands : IsPlaceOf chapter.records name place ⊎ IsGapFor chapter.records name place
+  pub block : at ≡ first + 4 * (chapter.number % places) + min (place / 170) 3
+
+-- the name's page of the chapter needn't be asked for: it is cached or was given, or too many were
+abbrev pub NeedsNone : ℕ → ℕ → List ℕ → List ℕ → List ℕ → Numbered → Type 0
+NeedsNone first places cached given name chapter = (at : ℕ) × IsNamePage first places name at chapter × (IsNew first cached given at → ⊥)
+
+-- of these chapters, up to the first that has the name, none has such a page to ask for
+abbrev pub NoneToAsk : ℕ → ℕ → List ℕ → List ℕ → List ℕ → List Numbered → Type 0
+NoneToAsk first places cached given name [] = Unit {0}
+NoneToAsk first places cached given name (chapter ∷ older) =
+    NeedsNone first places cached given name chapter × (location_of name chapter.records ≡ None → NoneToAsk first places cached given name older)
+
+-- the block is that of the first of these chapters that has one to ask for, and none before that has the name
+abbrev pub IsFirstToAsk : ℕ → ℕ → List ℕ → List ℕ → List ℕ → ℕ → List Numbered → Type 0
+IsFirstToAsk first places cached given name at [] = ⊥
+IsFirstToAsk first places cached given name at (chapter ∷ older) =
+    (IsNamePage first places name at chapter × IsNew first cached given at)
+    ⊎ (NeedsNone first places cached given name chapter × (location_of name chapter.records ≡ None) × IsFirstToAsk first places cached given name at older)
+
+-- so it asks for that page, and for none where there is none to ask for
+abbrev pub AsksInOrder : ℕ → ℕ → List Numbered → List ℕ → List ℕ → List ℕ → Look → Type 0
+AsksInOrder first places chapters cached given name (Read at) = IsFirstToAsk first places cached given name at.0 chapters
+AsksInOrder first places chapters cached given name other = NoneToAsk first places cached given name chapters
+
+-- the same of a book whose open chapter hasn't the name
+abbrev pub AsksOf : Book → List ℕ → List ℕ → List ℕ → Look → Type 0
+AsksOf book cached given name look = location_of name book.unclosed ≡ None → AsksInOrder book.first book.places (chapters_for name book) cached given name look
+
+-- and of the index, unless a page couldn't be read
+abbrev pub Asks : List ℕ → Index → Look → Type 0
+Asks name index look = index.unread ≡ false → AsksOf index.book index.cached index.given name look
+
+-- What a look answers.
 
 -- the same of a book with its open chapter
 abbrev pub Finds : Book → List ℕ → List ℕ → List ℕ → Look → Type 0

@@ -1,9 +1,9 @@
-ghost use Rattle.std.specs.Prelude.{◌≡◌, ◌+◌, ◌*◌, ◌%◌, ◌<◌, ◌^◌, IsTrue, take, filter, nat_eq, All, AllPairs};
+ghost use Rattle.std.specs.Prelude.{◌≡◌, ◌+◌, ◌*◌, ◌%◌, ◌<◌, ◌^◌, ◌↔◌, IsTrue, take, filter, nat_eq, All, AllPairs};
 ghost use Rattle.std.specs.Map.{keys_of};
 ghost use Rattle.block_names.specs.Names.{tag_of};
 ghost use Rattle.index_advice.specs.Books.{has_tag};
 ghost use Rattle.uds_index.specs.Tags.{AreListed};
-ghost use Rattle.uds_index.specs.Looks.{IsPageAt, IsNew, FindsKept, place_of_block};
+ghost use Rattle.uds_index.specs.Looks.{AsksInOrder, IsPageAt, IsNamePage, IsNew, FindsKept, place_of_block};
 ghost use Rattle.index_advice.specs.Orders.{IsChapter, IsNewer};
 ghost use Rattle.uds_index.specs.Rooms.{count_at};
 
@@ -50,7 +50,8 @@ pub(crate) fn find_kept(
     requires chapters { All IsChapter kept.now }
     requires order { AllPairs IsNewer kept.now }
     requires listed { AreListed kept.now tags.now.tags }
-    ensures { FindsKept region.first region.places (take 4 (filter (has_tag (tag_of name.now)) kept.now)) (keys_of cache.now.entries) given.now name.now result }
+    ensures finds { FindsKept region.first region.places (take 4 (filter (has_tag (tag_of name.now)) kept.now)) (keys_of cache.now.entries) given.now name.now result }
+    ensures asks { AsksInOrder region.first region.places (take 4 (filter (has_tag (tag_of name.now)) kept.now)) (keys_of cache.now.entries) given.now name.now result }
 {
     let tagged = tags.with_tag(tag(name));
     let newest = &tagged[..tagged.len().min(SEARCHED)];
@@ -73,7 +74,8 @@ pub(crate) fn find_kept(
 fn page_of(region: Region, chapter: &Chapter, name: &Name) -> u32
     requires some { 0 < region.places }
     requires blocks { region.first + 4 * region.places < 2 ^ 32 }
-    ensures { IsPageAt region.first region.places result chapter.now }
+    ensures page { IsPageAt region.first region.places result chapter.now }
+    ensures named { IsNamePage region.first region.places name.now result chapter.now }
 {
     let records = chapter.records();
     let place = match place_of(records, name) {
@@ -86,7 +88,7 @@ fn page_of(region: Region, chapter: &Chapter, name: &Name) -> u32
 
 // Whether a look may ask for this block.
 fn may_read(first: u32, at: u32, cache: &LruCache<u32, ()>, given: &[u32]) -> bool
-    ensures { IsTrue result → IsNew first (keys_of cache.now.entries) given.now at }
+    ensures { IsTrue result ↔ IsNew first (keys_of cache.now.entries) given.now at }
 {
     if cache.contains(&at) {
         return false;

@@ -72,7 +72,7 @@ impl Advisor for Uds {
     ghost use Rattle.index_advice.specs.declared.advice.Advice.TheVariants.{Due, Finished, Learnt};
     ghost use Rattle.index_advice.specs.Advices.{Leads, HasDuePage};
     ghost use Rattle.index_advice.specs.Answers.{Looks, Reads};
-    ghost use Rattle.uds_index.specs.Looks.{Answers, IsCached, IsGiven, SameLook};
+    ghost use Rattle.uds_index.specs.Looks.{Answers, Asks, IsCached, IsGiven, SameLook};
 
     ghost tells = { true };
 
@@ -82,11 +82,13 @@ impl Advisor for Uds {
 
     /// A look ends with the newest record over the open chapter and the four newest chapters that have the name's tag, or with
     /// `Nothing` exactly where these hold none or a page that it asked for couldn't be read. Until then it asks for a page of
-    /// these chapters that isn't cached and wasn't given in this look, at most three of a chapter and twelve in all.
+    /// these chapters that isn't cached and wasn't given in this look, at most three of a chapter and twelve in all: of the
+    /// first of them, up to the one that has the name, whose page for the name is such a page.
     fn look(&mut self, name: &Name) -> Look
         ensures book { self.new.book ≡ self.old.book }
         ensures answer { Looks name.now self.old.book self.old.unread self.new.unread result }
         ensures exact { Answers name.now self.old result self.new }
+        ensures asks { Asks name.now self.old result }
     {
         let found = if self.unread {
             Look::Nothing

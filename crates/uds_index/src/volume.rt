@@ -3,7 +3,7 @@ ghost use Rattle.index_advice.specs.Books.{number_after, chapters_elsewhere, pag
 ghost use Rattle.std.specs.Map.{keys_of};
 ghost use Rattle.uds_chapters.specs.Names.{AreRising};
 ghost use Rattle.uds_index.specs.Held.{KeepsPage, records_of};
-ghost use Rattle.uds_index.specs.Looks.{Finds};
+ghost use Rattle.uds_index.specs.Looks.{AsksOf, Finds};
 ghost use Rattle.uds_index.specs.Rooms.{count_at, place_of_chapter};
 ghost use Rattle.uds_index.specs.Tags.{AreListed, IsListed};
 ghost use Rattle.index_advice.specs.Advices.{TakesDue, HasDuePage};
@@ -177,7 +177,8 @@ impl Volume {
         given: &[u32],
     ) -> Look
         requires { IsListed self.now tags.now }
-        ensures { Finds self.now (keys_of cache.now.entries) given.now name.now result }
+        ensures finds { Finds self.now (keys_of cache.now.entries) given.now name.now result }
+        ensures asks { AsksOf self.now (keys_of cache.now.entries) given.now name.now result }
     {
         match location(self.unclosed.records(), name) {
             Some(at) => Look::Known(at),
