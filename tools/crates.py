@@ -3,6 +3,7 @@
 
     python3 tools/crates.py write
     python3 tools/crates.py check    whether docs/CRATES.md is what `write` would make (status 1 where it isn't)
+    python3 tools/crates.py count    the numbers that the first page tells: crates, lines and edits
 
 Of each crate it takes the first paragraph of the comment at the head of src/lib.rt or src/main.rt, and the crates and libraries of
 the kit on which crates.txt lets it stand, but for those on which another one of these crates stands.
@@ -13,6 +14,7 @@ from __future__ import annotations
 import argparse
 import sys
 import textwrap
+from collections.abc import Iterable
 from dataclasses import dataclass
 from pathlib import Path
 
@@ -91,11 +93,37 @@ def document() -> str:
     return "".join(parts)
 
 
+def lines_of(paths: Iterable[Path]) -> int:
+    return sum(len(path.read_text(encoding="utf-8").splitlines()) for path in paths)
+
+
+def counts() -> str:
+    """How many crates there are, their lines of code, of tests, of definitions and proofs, and the edits."""
+    code = tests = proofs = edits = 0
+    for crate in listed():
+        folder = TOP / "crates" / crate.name
+        lines = lines_of(folder.glob("src/**/*.rt"))
+        if crate.heading == "Tests":
+            tests += lines
+        else:
+            code += lines
+        proofs += lines_of(folder.glob("specs/**/*.antt")) + lines_of(folder.glob("proofs/**/*.antt"))
+        edits += len(list(folder.glob("must-fail/*.edit")))
+    return (
+        f"{len(listed())} crates, {code} lines of code, {tests} of tests, "
+        f"{proofs} of definitions and proofs, {edits} edits"
+    )
+
+
 def main() -> int:
     parser = argparse.ArgumentParser(description=__doc__, formatter_class=argparse.RawDescriptionHelpFormatter)
-    parser.add_argument("command", choices=("write", "check"))
+    parser.add_argument("command", choices=("write", "check", "count"))
+    command = parser.parse_args().command
+    if command == "count":
+        print(counts())
+        return 0
     text = document()
-    if parser.parse_args().command == "write":
+    if command == "write":
         DOCUMENT.write_text(text, encoding="utf-8")
         return 0
     if not DOCUMENT.exists() or DOCUMENT.read_text(encoding="utf-8") != text:
