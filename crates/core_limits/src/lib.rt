@@ -1,4 +1,9 @@
 //! The limits of the core: room of a fixed size, taken when a core begins, suffices for the whole session.
+//!
+//! Each list of a zone is bounded by what it counts: the desk's log has a Begin and an Answer for each request at most
+//! (`proofs/StreamSums`); places and calls are at most the steps, of which each draws or makes one (`made_by`); locks,
+//! the requests that wait and those in the block being filled are at most the requests under way; sealed blocks are at
+//! most those of the journal; entries, slots and retired addresses at most the requests.
 #![tactic(auto)]
 
 mod laws;

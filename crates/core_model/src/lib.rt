@@ -1,5 +1,13 @@
 //! The core as plain data: zones that pass items to each other, what one step of a zone is, what happens in a session, and
 //! which states are legal.
+//!
+//! As yet a session seals each block of the journal with its first sequence as the head (`sealed_with`), so no block is
+//! let go of. There is one physical zone, each write but one of zeros takes a fresh data block, and no block becomes
+//! free again.
+//!
+//! `specs/Phases` and the files `..Rows` are the rules; `Trace`, `RightTraces` what happens and may happen; `Tokens`,
+//! `Facts`, `Legal` the invariant; `Sessions`, `Start`, `Limits` what a session is; `Views`, `Streams` what threads
+//! know of zones.
 #![tactic(auto)]
 
 mod boxed;

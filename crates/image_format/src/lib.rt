@@ -1,5 +1,11 @@
 //! Makes an empty image on a device, so that a stop at any moment leaves what the old image said, or no image, or an empty
 //! one.
+//!
+//! What the code does is a list of calls (`specs/Calls`), made whole or up to one that failed (`specs/Runs`,
+//! `proofs/RunLaws`). What a stop leaves of such a list is a law over logs alone (`proofs/StopLaws`): `AtEach` goes
+//! through it call by call, each as it succeeds and as it fails. A call of the middle part is only known to write a
+//! place of the image what an empty image has there (`IsRight`), so the order of these writes is free. The fields of
+//! the superblock stand in sector 0, which a stop leaves whole.
 #![tactic(auto)]
 
 mod calls;

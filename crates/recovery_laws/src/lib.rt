@@ -1,4 +1,9 @@
 //! What recovery keeps: the laws over definitions alone by which a sound image says the same at each moment of it.
+//!
+//! `specs/Kept` says what is kept, `Written` which blocks are written, `Calls` in which order. While they are written a
+//! page may be mixed by sectors (`AreUnderway`); once all is on the device (`AreFull`) no window is needed. The proof
+//! has three parts: over images alone (`proofs/SoundLaws`), over the contents of one block (`proofs/PutLaws`), and over
+//! logs (`proofs/StopLaws`, `CallLaws`).
 #![tactic(auto)]
 
 mod laws;

@@ -1,5 +1,10 @@
 //! The block map of a whole image as its last session left it: its pages, with what the window of the recovery journal
 //! puts into their slots (`image_model`, `specs/Maps`).
+//!
+//! A page's reads stand in front of those of the pages below it, and what two parts of a walk show holds together
+//! (`proofs/ReadLaws`). A walk over some pages says of them that each linked one can be read and that what they give
+//! was found (`HasWalked`): links and changes as sets, mapped blocks by how often. That the sums of all leaves, tree by
+//! tree, are those of all addresses is a law on sums alone (`proofs/WholeSumLaws`).
 #![tactic(auto)]
 
 mod changes;

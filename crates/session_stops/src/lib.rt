@@ -4,6 +4,10 @@
 //! moment before anything is written but the superblock, `specs/Sessions` what stands of a session, at rest and while a block
 //! of the recovery journal is under way, and `specs/Closings` its end. Which entries may come behind others, and what stands
 //! of the counts, `count_laws` says.
+//!
+//! `SlotStands`, one slot of a page that says a mapping in each content of its block, is what a trace knows of a page
+//! once a write of it was flushed. `IsBehind` is all that stands behind the journal, for images whose window begins at
+//! a head or before it.
 #![tactic(auto)]
 
 mod beginnings;

@@ -1,5 +1,17 @@
 //! The index of block names on the device: where blocks were stored last, in chapters that stand in the index blocks of an
 //! image.
+//!
+//! Nothing rests on what the index says: a block that it names is read and compared before it is shared. The newest
+//! records stand in the open chapter. A full one is closed under the next number; its place in the index blocks is that
+//! number modulo the number of places, in place of what stood there, and its four pages are to be written. While pages
+//! of earlier chapters wait and the open chapter is full, what is learnt is forgotten.
+//!
+//! A look goes over the open chapter and then the four newest chapters that have the name's tag, its first four bytes.
+//! For each of these it asks for the page on which the name stands, or would stand, unless that is cached or was given
+//! in this look. The records themselves are in memory, so other bytes than the chapter's change no answer. When an
+//! image is opened each index block is read once. A page counts where its numbers name its place; of a name the lowest
+//! page of a chapter counts. Nothing else of the index is kept anywhere, so an index block that is lost costs only
+//! records.
 #![tactic(auto)]
 
 mod keeping;
