@@ -3,6 +3,16 @@
 //!
 //! What is asked for grows with the image: for each data block eight bytes, beside what its map and its counts take, and 16
 //! for each block that differs.
+//!
+//! Only tested: images with a window, a leaf and counters that are right, too great and too small; each read failing in
+//! turn.
+//!
+//! Not there: that what the reads of an honest device gave is what its one image has; that no data blocks are read but
+//! those of linked pages, and each of them once, so that of a device which gives two contents of one block nothing is
+//! said.
+//!
+//! No rows yet: an accepted case of a whole audit (`IsAudited`, `AuditFails`, `BothShow`), and that the map and the
+//! counts are what was read (`AreContents`, `shown`).
 #![tactic(auto)]
 
 mod auditing;

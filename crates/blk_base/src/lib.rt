@@ -1,5 +1,7 @@
 //! What every crate shares: blocks, places on the device, points of the journal, the layout of an image, requests and
 //! their answers.
+//!
+//! Only tested: the table of the default image.
 #![tactic(auto)]
 
 mod block;

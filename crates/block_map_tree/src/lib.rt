@@ -13,6 +13,8 @@
 //! | page of level `l` | number q / 812^l on that level of the tree |
 //! | slots from the root down | the height - 1 digits of q in base 812, the highest first |
 //! | slot in the leaf | `a` mod 812 |
+//!
+//! Only tested: the paths of four addresses; opened pages, and a changed one that is written.
 #![tactic(auto)]
 
 mod forms;

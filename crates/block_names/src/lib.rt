@@ -1,4 +1,6 @@
 //! Names of blocks by their content, and what a name leads to.
+//!
+//! Only tested: that `Murmur` is MurmurHash3 of the block: vectors that a second program computed.
 #![tactic(auto)]
 
 mod name;

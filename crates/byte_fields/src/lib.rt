@@ -2,6 +2,8 @@
 //!
 //! A writer says what stands up to the end of its field (`front`), and that all behind it stays (`rest`). So a row of
 //! writers, each at the end of the one before, spells the bytes that a format's definition joins with `++`.
+//!
+//! Only tested: one row of known bytes.
 #![tactic(auto)]
 
 mod mapping;

@@ -1,4 +1,9 @@
 //! What each command prints: from the results of a command, as plain values, to lines that are put to a sink.
+//!
+//! Only tested: a table of texts.
+//!
+//! Not there: a command that prints `run`, `crash`, `workload` or `sectors` by these texts: the program prints what
+//! `format`, `recover`, `audit` and `status` do, and why there is no image.
 #![tactic(auto)]
 
 mod audits;

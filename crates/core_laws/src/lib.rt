@@ -1,4 +1,7 @@
 //! The laws of the core: what every event keeps, and what follows of a legal core.
+//!
+//! Not there: that a session can begin on an image that a stop leaves. The core serves discards; scripts that have one
+//! are still refused (`later`).
 #![tactic(auto)]
 
 mod laws;

@@ -5,6 +5,10 @@
 //! (`proofs/ReportLaws`). For the histories the newest answer of each request is noted, in one pass through the desk
 //! log for each stream (`answer_notes`). The code doesn't ask whether the core is legal: what its functions give is
 //! said by what of that they need (`HasDesk`, `HasEntered`, `AreFound`).
+//!
+//! Only tested: as part of the core.
+//!
+//! Not there: anything of the report of a core that isn't legal, or isn't done, but that there is one.
 #![tactic(auto)]
 
 mod histories;

@@ -1,4 +1,6 @@
 //! When a flush may be answered: once every write that was answered before it is done.
+//!
+//! Only tested: one row.
 #![tactic(auto)]
 
 mod gate;

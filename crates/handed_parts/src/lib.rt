@@ -5,6 +5,8 @@
 //! watermark is the least point of all this, of the half of an entry that adds: below it each part is handled and durable.
 //!
 //! All room is taken in the constructor: no later call can be refused for memory.
+//!
+//! Only tested: the watermarks of two zones over the parts of one entry.
 #![tactic(auto)]
 
 mod least;

@@ -1,4 +1,6 @@
 //! Locks on names of blocks, by which equal blocks that are written at the same time are written once.
+//!
+//! Only tested: one row.
 #![tactic(auto)]
 
 mod held;

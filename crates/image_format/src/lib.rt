@@ -6,6 +6,13 @@
 //! through it call by call, each as it succeeds and as it fails. A call of the middle part is only known to write a
 //! place of the image what an empty image has there (`IsRight`), so the order of these writes is free. The fields of
 //! the superblock stand in sector 0, which a stop leaves whole.
+//!
+//! Only tested: sizes that fit exactly and by one block not, two slabs, height 3; over an older image, a stop at each
+//! call with one picked image, and at the ends with three; calls that fail in turn.
+//!
+//! Not there: that a block and a page fit the stack.
+//!
+//! No rows yet: any of its definitions (`IsOld`, `MayStand`, `IsMade`, `FormatFails`, and what they stand on).
 #![tactic(auto)]
 
 mod calls;

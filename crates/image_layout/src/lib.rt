@@ -1,5 +1,7 @@
 //! The layout of an image on its device: its superblock, what its blocks are before anything was written, and where the
 //! entries of its recovery journal map an address.
+//!
+//! Only tested: vectors; all pairs of faults; the printed names; the ends of the ranges of a plan.
 #![tactic(auto)]
 
 mod fault;

@@ -1,6 +1,12 @@
 //! What the blocks of an image mean: the window of its recovery journal, its map, how often each data block is mapped
 //! and how often its counters say so, when an image is sound, and what is wrong with one that isn't
 //! (`specs/`). Definitions, and the laws that each names one thing.
+//!
+//! Only tested: the texts of the faults.
+//!
+//! No rows yet: of whole images (`IsSound`) the empty one of the default sizes is accepted, and one is refused for each
+//! clause but `unshared`, of which the part alone is pinned (`proofs/WholeRows`). Of `IsImageFault` as a whole a device
+//! without a superblock is accepted, and sound images are refused by a law.
 #![tactic(auto)]
 
 mod fault;

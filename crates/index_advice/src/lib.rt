@@ -3,6 +3,8 @@
 //! An advisor is trusted for nothing. What it names is read, and compared with what is written, before it is shared. An
 //! advisor may tell its *book*: the chapters that it keeps, the records of its open chapter, and the pages that are to be
 //! written. Then each of its answers is what the book says, and each call leads from the book before to the one after.
+//!
+//! Only tested: both advisors that tell no book, on a few names.
 #![tactic(auto)]
 
 mod advice;

@@ -29,6 +29,8 @@
 //! below 2^55 that isn't 0, no head above it, and if each new page is of one of the 60 trees and its block isn't 0
 //! (`specs/Grammar.antt`). A block's prefix is the longest list of sectors from sector 0 on that are valid, have sector
 //! 0's sequence and head, and have no entries behind a sector with fewer than 24. It is whole if it has all eight.
+//!
+//! Only tested: vectors that another program computed.
 #![tactic(auto)]
 
 mod format;

@@ -1,4 +1,6 @@
 //! Answers about whole runs of bytes. Each is equal to a plain definition, whatever way its body goes over the bytes.
+//!
+//! Only tested: rows at the ends of blocks and slices.
 #![tactic(auto)]
 
 ghost use Rattle.std.specs.Prelude.{◌≡◌, ◌<◌, ◌≤◌, ◌^◌, ◌↔◌, ℕ, length, sum, All, IsTrue, IfSome, IfNone};

@@ -1,4 +1,6 @@
 //! Who holds an address of the logical device, and who waits for it.
+//!
+//! Only tested: one row.
 #![tactic(auto)]
 
 mod laws;

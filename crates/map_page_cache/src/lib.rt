@@ -7,6 +7,8 @@
 //!
 //! All room is taken in `Cache::new`: no later call can be refused for memory. A page is found in as many steps as the
 //! logarithm of the number of pages, and so are the one that is handed out next and the one that is given up next.
+//!
+//! Only tested: a table of calls.
 #![tactic(auto)]
 
 mod cache;

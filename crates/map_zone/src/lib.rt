@@ -7,6 +7,8 @@
 //! zone knows the least point.
 //!
 //! All room is taken in `MapZone::new`: no later call can be refused for memory.
+//!
+//! No rows yet: any of its definitions. No test calls it yet either.
 #![tactic(auto)]
 
 mod forms;

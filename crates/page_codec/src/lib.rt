@@ -28,6 +28,8 @@
 //!
 //! An entry may cross two sectors. After a stop within the write of a page such an entry may be a mixture, and so each
 //! slot can be read by itself.
+//!
+//! Only tested: vectors that another program computed; a page for each fault.
 #![tactic(auto)]
 
 mod fault;

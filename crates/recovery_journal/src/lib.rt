@@ -7,6 +7,10 @@
 //! block of that one, and stays so.
 //!
 //! All room is taken in the constructor: no later call can be refused for memory.
+//!
+//! Only tested: a full ring that waits for its head; one behind an earlier session, whose head stays.
+//!
+//! No rows yet: any of its definitions.
 #![tactic(auto)]
 
 mod entering;

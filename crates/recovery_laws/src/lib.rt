@@ -4,6 +4,11 @@
 //! page may be mixed by sectors (`AreUnderway`); once all is on the device (`AreFull`) no window is needed. The proof
 //! has three parts: over images alone (`proofs/SoundLaws`), over the contents of one block (`proofs/PutLaws`), and over
 //! logs (`proofs/StopLaws`, `CallLaws`).
+//!
+//! Not there: that a page into which the window puts nothing, or a block of counters without an update, isn't written.
+//! Of what is kept, a page has its header and what its slots say, the counters give the stored counts, and block 0 is a
+//! superblock of the same sizes: nothing else is said of their bytes, as of a commit point or of block 0's other
+//! sectors. Nothing pending means here that all blocks have one content, those of the index too.
 #![tactic(auto)]
 
 mod laws;

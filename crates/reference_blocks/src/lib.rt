@@ -5,6 +5,8 @@
 //! dirtied first is handed out first; while it is being written, it isn't handed out again, and what it said is kept.
 //!
 //! All room is taken in the constructor: no later call can be refused for memory.
+//!
+//! Only tested: of two dirty blocks the one that was dirtied first.
 #![tactic(auto)]
 
 mod blocks;

@@ -5,6 +5,12 @@
 //! (`proofs/ReadLaws`). A walk over some pages says of them that each linked one can be read and that what they give
 //! was found (`HasWalked`): links and changes as sets, mapped blocks by how often. That the sums of all leaves, tree by
 //! tree, are those of all addresses is a law on sums alone (`proofs/WholeSumLaws`).
+//!
+//! Only tested: that each linked page is read once; the order of links, changes and mapped blocks; trees of heights 2
+//! and 3, a window that goes round the ring, each fault once, a read of each kind failing.
+//!
+//! Not there: that memory grows with what is used. That each data block has a stored count, which comes before shared
+//! blocks, isn't looked at here.
 #![tactic(auto)]
 
 mod changes;

@@ -3,6 +3,9 @@
 //!
 //! What is asked for grows with what is used: for each linked page some 24 bytes, and its mappings where it is no leaf; and
 //! for each data block one byte, for each sector of counters eight.
+//!
+//! No rows yet: that pages which are made by the links are those of the image, each and once, is a law
+//! (`proofs/StartLaws`, `inner_pages`), and no row.
 #![tactic(auto)]
 
 mod counts;

@@ -8,6 +8,9 @@
 //! `SlotStands`, one slot of a page that says a mapping in each content of its block, is what a trace knows of a page
 //! once a write of it was flushed. `IsBehind` is all that stands behind the journal, for images whose window begins at
 //! a head or before it.
+//!
+//! Not there: that any core's log is of this kind, and the data of addresses. An image's blocks are all taken to have
+//! one content when a session begins (`HasOneImage`), those of the index too.
 #![tactic(auto)]
 
 mod beginnings;

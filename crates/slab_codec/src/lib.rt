@@ -30,6 +30,8 @@
 //! | 8 | offset of the data block in its slab, 2 bytes |
 //! | 10 | half: the point mod 2 |
 //! | 11 | zero |
+//!
+//! Only tested: vectors that another program computed; a sector for each rule.
 #![tactic(auto)]
 
 mod counters;

@@ -15,6 +15,8 @@
 //! A block is free where both are 0. Together they are never above the limit of the image.
 //!
 //! All room is taken in the constructor: no later call can be refused for memory.
+//!
+//! Only tested: three refusals and a block's whole life.
 #![tactic(auto)]
 
 mod claim;

@@ -5,6 +5,8 @@
 //! sector of counters. So an update above that point is in a block that isn't overwritten, or in the one being filled.
 //!
 //! All room is taken in the constructor: no later call can be refused for memory.
+//!
+//! Only tested: a slot that waits for both of its sectors; a block of 320 updates.
 #![tactic(auto)]
 
 mod covering;

@@ -6,6 +6,8 @@
 //! asked. So a write with a right receipt of each zone met a moment at which no block was free.
 //!
 //! All room is taken in the constructor: no later call can be refused for memory.
+//!
+//! Only tested: of two tickets the older one is served.
 #![tactic(auto)]
 
 mod forms;

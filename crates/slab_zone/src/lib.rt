@@ -7,6 +7,11 @@
 //! once one of the two is.
 //!
 //! All room is taken in the constructor: no later call can be refused for memory.
+//!
+//! Only tested: a block that goes to the older of two tickets, an update that is written twice, refusals.
+//!
+//! No rows yet: `IsWhole`, `IsOpeningWhole`, `Does`, `LeadTo`, `IsDurableIn`, `entry_in`, `IsLowPointIn`, `NoneDueIn`
+//! and `NoneUnsettledIn`, of which the laws over every list of calls speak.
 #![tactic(auto)]
 
 mod laws;

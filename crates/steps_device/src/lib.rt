@@ -1,4 +1,6 @@
 //! The device's zone: what it does with the item in front of its inbox. Each call of the device is made here.
+//!
+//! Only tested: as part of the core.
 #![tactic(auto)]
 
 mod acting;

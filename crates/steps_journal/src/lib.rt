@@ -1,4 +1,6 @@
 //! The journal's zone: what it does with the item in front of its inbox. Entries are handed in and committed here.
+//!
+//! Only tested: as part of the core.
 #![tactic(auto)]
 
 mod acting;

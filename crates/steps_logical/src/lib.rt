@@ -1,5 +1,7 @@
 //! A logical zone: what it does with the item in front of its inbox. Requests draw their places here, take the locks of
 //! their addresses, and set slots.
+//!
+//! Only tested: as part of the core.
 #![tactic(auto)]
 
 mod acting;

@@ -15,6 +15,8 @@
 //!
 //! A record has the name, 16 bytes, and the block, 8 bytes, of which the high four are zeros. Names are ordered byte by
 //! byte. A block outside this form is no page, and holds nothing.
+//!
+//! Only tested: a chapter of 680 names, page by page, with bytes and answers that another program computed.
 #![tactic(auto)]
 
 mod added;

@@ -12,6 +12,10 @@
 //! image is opened each index block is read once. A page counts where its numbers name its place; of a name the lowest
 //! page of a chapter counts. Nothing else of the index is kept anywhere, so an index block that is lost costs only
 //! records.
+//!
+//! Only tested: chapters that are full, closed early, loaded again, and at another's place.
+//!
+//! Not there: how long it takes to find a chapter or a record, which is by halving.
 #![tactic(auto)]
 
 mod keeping;

@@ -1,4 +1,12 @@
 //! The program: it makes an image on a file, recovers one, or looks at one, or serves a script on a fresh image in memory.
+//!
+//! Only tested: the stored run; which device and command the words name, and a file that can't be opened or written
+//! (`tools/image_files.sh`); the instructions of a run (docs/PERFORMANCE.md).
+//!
+//! Not there: what the operating system's streams and files do, which device and command `main` takes from the words of
+//! the program, what it prints before it calls `run`, that memory is found, how long a call takes, and that `drive`
+//! returns. A source, a sink or a device may tell nothing of its bytes, as standard input and output do: then the
+//! clauses on bytes say nothing, and those on causes stay.
 #![tactic(auto)]
 
 mod arguments;

@@ -1,5 +1,10 @@
 //! The core: its zones, each event of it, and whole lists of events. A zone steps, or what it posted moves to another.
 //! Each function does what the relation of `core_model` says; what a zone does itself stands in the crates `steps_..`.
+//!
+//! Only tested: answers of one stream, with discards and zeros, for which no data block is written, with a full journal
+//! and with calls that fail; two streams over two zones by events in three orders; for what there is work before the
+//! first event, behind the last one, and along a run; a report of four logical zones; a core taken apart and made again
+//! within a run.
 #![tactic(auto)]
 
 mod acting;

@@ -1,5 +1,7 @@
 //! What a run of requests is, for every crate that speaks of one: requests, the desk log, places, histories, and the
 //! report of a run. The definitions of what is right of them stand in `specs/`.
+//!
+//! Only tested: one row each of its lists.
 #![tactic(auto)]
 
 mod report;

@@ -2,6 +2,11 @@
 //!
 //! The first word is the command. Then come its options and flags, in any order, each at most once. An option is
 //! written `--name value` or `--name=value`; a value is 1 to 20 decimal digits.
+//!
+//! Only tested: a table of command lines.
+//!
+//! Not there: a program that serves more of these commands than `run` with a schedule alone, `format`, `recover`,
+//! `audit` and `status`.
 #![tactic(auto)]
 
 mod commands;

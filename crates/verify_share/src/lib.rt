@@ -1,4 +1,6 @@
 //! Whether a block that the index named is shared: only where it was read, and has exactly the bytes that are written.
+//!
+//! Only tested: two blocks that differ in their last byte, with claims of a slab.
 #![tactic(auto)]
 
 mod deciding;

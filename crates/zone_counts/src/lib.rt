@@ -4,6 +4,8 @@
 //! or a ticket where none is free. A block that becomes free goes to the oldest ticket without one.
 //!
 //! All room is taken in the constructor: no later call can be refused for memory.
+//!
+//! Only tested: as part of `slab_zone`.
 #![tactic(auto)]
 
 mod forms;

@@ -2,6 +2,8 @@
 //! there with all others of that outbox to the receiver's inbox, and is taken there.
 //!
 //! All room is taken in the constructors: no later call can be refused for memory.
+//!
+//! Only tested: two rows.
 #![tactic(auto)]
 
 mod lane;
