@@ -189,7 +189,7 @@ def wrapped(text: str, indent: str = "") -> str:
 def of_law(law: Function) -> str:
     names = ", ".join(f"`{clause.name}`" for clause in law.clauses if clause.kind == "ensures" and clause.name)
     place = f"`{law.file}`: {names}" if names else f"`{law.file}`"
-    return wrapped(f"**`{law.name}`** ({place}) {law.comment}")
+    return wrapped(f"**`{law.name}`** ({place}) {law.comment.removesuffix(' It does nothing.')}")
 
 
 def of_clause(clause: Clause) -> str:

@@ -2,6 +2,7 @@ use blk_base::Pbn;
 use replay_counts::RecoveredCounts;
 use replay_map::RecoveredMap;
 
+// The number of mappings has 64 bits, since slots past the logical size count too.
 /// A data block whose stored count isn't the number of its mappings.
 #[derive(Clone, Copy, Debug, PartialEq, Eq)]
 pub struct Difference {

@@ -17,6 +17,8 @@ use replay_counts::counts_with;
 use replay_map::replay_with;
 use std::alloc::Global;
 
+// A shared page is kept until the counts are found, since a count that leaves its range stands before it, over the
+// whole image. A page that can't be read is named at once.
 /// The map and the counts of the image with this superblock and this window, which was read from its journal. The device has
 /// the blocks that the image's sizes need. It reads each linked page, and of each slab its counters and its journal, each block
 /// once, and writes nothing. The last session needn't be closed.

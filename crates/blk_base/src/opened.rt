@@ -8,6 +8,8 @@ pub struct OpenedPage {
     pub mappings: Mappings,
 }
 
+// Its counters are bytes, since no count is above 254: the stored counts, with what slab journals still had above a
+// commit point.
 /// What a session starts with: all that it keeps in memory of an image.
 #[derive(Drop)]
 pub struct Opened {

@@ -18,6 +18,7 @@ pub struct Formatted {
     pub logical: u32,
 }
 
+// Only slabs are counted in words: `recovered 1 entries` and `index 1 chapters` stand as they are.
 fn slabs_word(slabs: u32) -> &'static [u8]
     ensures { result.now ≡ slabs_text slabs }
 {

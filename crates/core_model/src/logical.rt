@@ -150,6 +150,7 @@ impl LogicalZone {
         self.slots.push(write);
     }
 
+    // It asks for the lock, which is free by the zone's invariant, and lets it go at once.
     /// A request draws its place, and takes no lock: that of its address is never released.
     pub fn draw(&mut self, vio: BoxedVio) -> BoxedVio
         requires within { IsLogicalWithin (2 ^ 64 - 2) self.old }

@@ -1,5 +1,6 @@
 use blk_base::Geometry;
 
+// The logical zones are a u8, though four are enough: so the number of each zone is a small sum that always fits.
 /// What the zones know of the session that they serve.
 #[derive(Clone, Copy)]
 pub struct Sizes {

@@ -24,6 +24,7 @@ fn has_entry(entries: &[Logged], request: Writer) -> bool
 }
 
 // The mark of a write by its answer.
+// A stopped write whose entry was handed in is unsettled, whether or not that reached the device.
 fn mark_by(answer: &Answer, entries: &[Logged], request: Writer) -> Mark
     ensures { (is_set : Bool) → result ≡ mark_of (Some answer.now) is_set (is_there (logged_of (reverse entries.now) request)) }
 {

@@ -39,6 +39,8 @@ fn room_for_notes(alloc: Global, requests: &Requests) -> Result<Vec<StreamNotes>
 }
 
 impl ReportRoom {
+    // For the places and histories of as many requests as there may be, and by the script to note where each answer
+    // stands.
     /// Room for the report of a session with these requests. It fails where memory runs out.
     pub fn with_room_for(alloc: Global, requests: &Requests) -> Result<ReportRoom, AllocError>
         ensures { IfOk result (λ room. IsRoomFor room requests.now) }

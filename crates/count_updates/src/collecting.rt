@@ -71,6 +71,7 @@ fn target_of(mapping: Mapping) -> Option<Pbn>
     }
 }
 
+// All at once, so that one pass over them counts all blocks: 16 bytes each, and a slab's journal has at most 20,480.
 /// Puts updates in the order of their blocks, and those of a block in the order of their points.
 pub fn put_in_order(updates: &mut Vec<Update>) -> Result<(), AllocError>
     ensures permutation { IsPermutation updates.old.items updates.new.items }

@@ -10,6 +10,7 @@ use crate::{CountFault, Found};
 use blk_base::{DataPlace, Half, Layout, Pbn, Point, Update};
 use std::alloc::Global;
 
+// In the order of points, since only so it is said where a count leaves its range; that it is the sum is a law.
 /// The count of each data block, slab after slab: its counter, and then its updates above the commit point of its
 /// counter's sector, each once, in the order of their points. It goes through the updates once.
 pub fn counts_of(alloc: Global, layout: &Layout, found: &Found) -> Result<Vec<u16>, CountFault>

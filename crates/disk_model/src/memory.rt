@@ -98,6 +98,7 @@ impl MemDisk {
         Ok(MemDisk::begun(alloc, opening, zeros))
     }
 
+    // A device with more blocks than a u32 counts can't be made: that is answered as want of memory.
     /// A device with these blocks. More than a `u32` can count are refused as too many for any memory.
     pub fn from_blocks(alloc: Global, blocks: Vec<Block>) -> Result<MemDisk, AllocError>
         ensures { IfOk result (λ d. d ≡ fresh blocks.items) }
@@ -133,6 +134,8 @@ impl MemDisk {
         self.plan = faults;
     }
 
+    // A call that finds no memory for its place in the log counts too. Once the fuse is spent no call has an effect,
+    // also one that a planned fault would let have its effect.
     /// Sets a fuse: the next `passes` calls go on, and every later call fails. No call of this device has failed by a fuse
     /// before.
     pub fn set_fuse(&mut self, passes: u64)
@@ -142,6 +145,8 @@ impl MemDisk {
         self.fuse = Fuse::Passes(passes);
     }
 
+    // Block by block: the log is gone through once for each, and once more for each sector of a block with writes that
+    // aren't flushed. So a stop is tried on small devices.
     /// A device with the image that a number picks of those that a stop may leave now. Of the calls that failed by the fuse
     /// the first alone counts.
     ///

@@ -86,6 +86,7 @@ impl<F: FileExt + OpenFile + Drop> Disk for FileDisk<F> {
         self.counted(ended)
     }
 
+    // The data and the length of the file: one that grew must keep its last blocks.
     fn flush(&mut self) -> Result<(), Failed> {
         let ended = self.file.sync_all();
         self.counted(ended)

@@ -46,6 +46,8 @@ pub fn open_disk<R: Files<File = File> + Alloc>(
 }
 
 // A file that is there is opened for reading alone. To open a pipe so would wait for a writer.
+// It can't write, so a snapshot, a file of mode 444 and a read-only mount can be looked at. A pipe would wait for a
+// writer.
 fn open_to_look<R: Files<File = File> + Alloc>(rt: &R, path: &str) -> io::Result<File> {
     match fs::metadata(rt, path) {
         Ok(found) if found.file_type().is_fifo() => {
@@ -78,6 +80,7 @@ fn make<R: Files<File = File> + Alloc>(rt: &R, path: &str) -> io::Result<File> {
 
 // Syncs the folder in which a file lies, behind all links. A folder that may not be read, and one whose file system knows no
 // sync of folders, is left as it is.
+// So a power cut doesn't take the name away.
 fn sync_folder<R: Files<File = File> + Alloc>(rt: &R, path: &str) -> io::Result<()> {
     let place = fs::canonicalize(rt, path)?;
     let Some(folder) = place.parent() else {
@@ -103,6 +106,8 @@ fn is_left_out(error: &io::Error) -> bool {
 }
 
 // Locks a file, where its file system knows locks.
+// With two writers at once an image would be a mixture of both; none waits. The lock is the system's advisory one, so
+// it holds between programs that ask for it.
 fn lock(file: &File, access: Access) -> io::Result<()> {
     let locked = match access {
         Access::Look => file.try_lock_shared(),
@@ -115,6 +120,7 @@ fn lock(file: &File, access: Access) -> io::Result<()> {
     }
 }
 
+// A file system without locks could never be used otherwise.
 fn knows_no_locks(error: &io::Error) -> bool {
     error.kind() == io::ErrorKind::Unsupported || error.raw_os_error() == Some(NO_LOCKS)
 }

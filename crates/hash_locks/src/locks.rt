@@ -91,6 +91,7 @@ impl<V: HasBlock + Drop> HashLocks<V> {
         Some(vio)
     }
 
+    // Whatever the names: at a stop no agent comes back, and its lock stays.
     /// Whoever has waited longest, for any name, waits no longer; `None` exactly where nobody waits. Once the agents don't
     /// come back, this is how those who wait for them are ended.
     pub fn next_waiter(&mut self) -> Option<V>

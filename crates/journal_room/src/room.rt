@@ -26,6 +26,8 @@ pub fn goes_on(head: &Super, journal: &[Block], last: u64) -> bool
         && are_timely(journal, head.geometry.nonce, last)
 }
 
+// One number is all that a session knows of its journal, so no zone asks for the reason why it may not go on: the
+// ring's rule refuses each entry.
 /// How many blocks of a journal are used when a session begins: those that it has, from `start` to its last sequence, or
 /// all of its slots but the one that stays free where a session may not go on behind them. The arguments are those of `goes_on`. It asks for no memory.
 pub fn used_blocks(head: &Super, journal: &[Block], last: u64) -> u32

@@ -43,6 +43,7 @@ pub fn window_of(
 }
 
 // Whether the session after one that wasn't closed has sequences left.
+// Said before any block is judged, since it is found by the last sequence alone.
 fn has_sequences(head: &Super, last: u64) -> bool
     requires { last < 2 ^ 54 + 2 ^ 32 }
     ensures yes { OnTrue result (HasSequences head.now last) }

@@ -34,6 +34,8 @@ pub fn read_window<D: Disk>(
 }
 
 // Reads the blocks of the recovery journal.
+// All blocks, also those behind the window: which these are is known only then. They are kept until the window is
+// found.
 fn read_journal<D: Disk>(
     alloc: Global,
     device: &mut D,

@@ -13,6 +13,8 @@ use journal_codec::{Prefix, block_prefix};
 use std::alloc::{AllocError, Global};
 
 // The entries of all blocks of the window, the oldest first; or the first block that can't be replayed.
+// A head far below the last sequence costs no more than the journal has slots: of so many sequences in a row and one
+// more, two stand in one slot, so one of them isn't there.
 pub(crate) fn replay(
     alloc: Global,
     journal: &[Block],

@@ -50,6 +50,8 @@ impl Model for Cache {
 }
 
 impl Cache {
+    // It knows the image's sizes, so that it can ask that each page is of that image, and says so of each that it gives
+    // back.
     /// A cache with so many frames for pages of an image with these sizes, all of which are empty.
     pub fn new(alloc: Global, geometry: &Geometry, frames: u32) -> Result<Cache, AllocError>
         ensures cache { IfOk result (λ cache. cache ≡ no_pages geometry.now frames) }

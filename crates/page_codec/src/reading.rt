@@ -10,6 +10,7 @@ use crate::{MapPage, PageFault, PageHead};
 use blk_base::{Block, Layout, Mapping, Mappings, PAGE_SLOTS, Pbn};
 use byte_fields::{read_u8, read_u32};
 
+// Which numbers are data blocks is a question of the sizes, so it asks for some within their limits.
 /// Reads a page. The fault is that the block begins as another page does, or else that of the least slot that has one.
 /// After a fault each slot of `into` is unmapped.
 pub fn decode(block: &Block, want: &PageHead, into: &mut MapPage) -> Result<(), PageFault>

@@ -66,6 +66,7 @@ fn put_links<D: Disk>(device: &mut D, changes: &Changes, links: &[Link]) -> Resu
 }
 
 // Writes this page, if they do.
+// It is read again, and not kept since the map was read: so no page stays in memory.
 fn put_page<D: Disk>(device: &mut D, changes: &Changes, link: Link) -> Result<(), Failed>
     requires { link.at.0 < (D.seen device.old).size }
     ensures { Acts D.tells D.honest (D.seen device.old) (D.seen device.new) (HasPage changes.now link) (IsPageDone changes.now link) result }

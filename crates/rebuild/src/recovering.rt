@@ -7,6 +7,7 @@ use image_model::ImageFault;
 use image_opening::read_head;
 use std::alloc::Global;
 
+// Of a clean image the superblock alone is looked at: what else is wrong is found when it is opened.
 /// Closes the image on a device whose last session wasn't closed. In a sound image on which nothing is pending each address
 /// keeps its mapping and its value, and each data block its stored count; of another image that isn't refused, nothing is
 /// said but its answer. `Clean` comes exactly where the superblock says that the session was closed, and then nothing is

@@ -14,6 +14,7 @@ use slab_codec::{ReferenceBlock, ReferenceSector, encode_reference, reference_se
 /// How many sectors a block has.
 const SECTORS: u32 = 8;
 
+// A sector past the slab's end is written as it was, its commit point too: nothing is counted there.
 /// Puts into a block of a slab's counters, by its number there from 0, the stored counts, and into each of its sectors the
 /// greatest point that was applied to it. Counters behind the slab's end are 0 in a sector that it lies in, and sectors past
 /// it stay.

@@ -35,6 +35,7 @@ fn put_slot(block: &mut [u8], slot: u16, mapping: Mapping)
     put_mapping(block, 36 + 5 * usize::from(slot), mapping);
 }
 
+// Also where the page says the same there already.
 /// Whether the changes put something into a slot of a page.
 pub fn has_changes(page: PageId, changes: &Changes) -> bool
     ensures yes { OnTrue result (HasChange changes.now page) }

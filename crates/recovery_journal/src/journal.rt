@@ -150,6 +150,7 @@ impl Journal {
         self.sequence + 2 <= self.head() + self.size
     }
 
+    // It takes any entry: that each is of the format, so that the block is, is for the crate above to know.
     /// Adds an entry to the block being filled, whose sequence is below 2^55, and gives the entry's place. The entry comes
     /// back exactly where that block holds 192 or has no slot (`has_slot`).
     pub fn append(&mut self, entry: Entry) -> Result<Place, Entry>

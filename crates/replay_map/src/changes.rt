@@ -17,6 +17,7 @@ pub struct SlotId {
     pub slot: u16,
 }
 
+// A page is read with a look-up for each of its slots, and no entry is looked at twice.
 /// What the entries of a window put into the slots of pages: of each slot what the newest one does. A contract sees the
 /// slots with their mappings, in the order of slots.
 #[derive(Drop)]

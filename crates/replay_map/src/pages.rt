@@ -12,6 +12,7 @@ use crate::Changes;
 use blk_base::{Block, Mapping, Mappings, PAGE_SLOTS};
 use page_codec::{PageFault, PageHead, slot};
 
+// The header is looked at even where the window replaces each slot.
 /// Reads the page of this block, with what the changes put into its slots. `into` has then what each slot says in the
 /// image that has this block and this window.
 ///

@@ -1,6 +1,7 @@
 use crate::{Link, SlotChange};
 use blk_base::Pbn;
 
+// It lists the block of each mapping, four bytes each: who counts mappings would have to read all pages again.
 /// The block map of an image as its last session left it.
 #[derive(Drop)]
 pub struct RecoveredMap {

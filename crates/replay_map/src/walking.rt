@@ -63,6 +63,8 @@ fn root_of(layout: &Layout, tree: u8) -> Link
 }
 
 // Reads a page at its block, and then those below it.
+// Each page comes before those below it, so the first page that can't be read is found first. At height 3 the walk
+// holds three pages at a time.
 fn walk<D: Disk>(
     alloc: Global,
     layout: &Layout,

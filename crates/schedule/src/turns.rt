@@ -97,6 +97,8 @@ fn event_count(zones: u32) -> u32
 }
 
 // The numbers of the events for which there is work, in their order.
+// Listed anew each turn, so that no list has to follow what steps and moves change. A core of eight zones has 72
+// events.
 fn list_ready(core: &Core) -> ArrayVec<u32, MOST_EVENTS>
     ensures { AreReady core.now.sizes core.now.zones (event_count (length core.now.zones)) (map (event_of (length core.now.zones)) result.items) }
 {

@@ -3,6 +3,7 @@ ghost use Rattle.std.specs.Prelude.{◌≡◌};
 use blk_base::Pbn;
 use std::marker::Model;
 
+// Only `SlabCounts` makes one. Contracts see its block alone.
 /// A claim on a data block, which contracts see as the block. Only `SlabCounts` makes one, and there is no other copy.
 ///
 /// A claim whose value is let go stays counted: it is dropped by `SlabCounts::drop_claim`.

@@ -49,6 +49,7 @@ impl Model for SlabJournal {
 }
 
 impl SlabJournal {
+    // It knows the commit points of its session: they start at 0, and a lower one changes nothing.
     /// The empty journal of a slab below the number of slabs, whose first block has sequence 1. Takes the room for the
     /// updates of a full ring and of the block being filled.
     pub fn new(alloc: Global, geometry: &Geometry, slab: u32) -> Result<SlabJournal, AllocError>

@@ -101,6 +101,8 @@ impl SlabWrites {
         self.journal.low_point()
     }
 
+    // Where the slot can't be overwritten it asks for a reference block also while a sealed block is being written: the
+    // sooner one is durable, the sooner the slot is free.
     /// Hands out a block that the need is for, if there is one that isn't being written: the journal block, or where its
     /// slot can't be overwritten the reference block that was dirtied first, with the slab's counters as they are now.
     pub fn due(&mut self, need: Need, counters: &[u8], into: &mut Block) -> Option<SlabWork>

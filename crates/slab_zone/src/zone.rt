@@ -214,6 +214,7 @@ impl SlabZone {
         slab.rises(update.point) && self.has_room(update.at)
     }
 
+    // Points rise in the block's slab alone, which is less than that they rise in the zone.
     /// Takes an update of a block of this zone, whose slab has room for it; its point is above those of the slab's updates
     /// before. It is refused, with the counter, exactly where a decrement finds 0, or an increment finds the limit or no
     /// claim. If the block becomes free, it goes to the oldest ticket without one. The update is to be written.

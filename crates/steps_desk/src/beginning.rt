@@ -40,6 +40,7 @@ fn begun_vio(sizes: &Sizes, request: Writer, asks: Asks, at: Lba, bytes: Block) 
 }
 
 // The request as it is under way, where it is served.
+// A write that forces its block out isn't served by the core yet.
 fn vio_of(sizes: &Sizes, request: Writer, asked: &Request) -> Option<Vio>
     requires { 0 < sizes.now.zones }
     ensures { result ≡ rows.vio_of sizes.now request asked.now }
@@ -73,6 +74,7 @@ fn vio_of(sizes: &Sizes, request: Writer, asked: &Request) -> Option<Vio>
 }
 
 // What a request is answered with at once.
+// A write after a stop draws no place, so none is printed; the request that met the failure has its place.
 fn at_once(sizes: &Sizes, notified: bool, asks: Asks, at: Lba) -> Option<Answer>
     ensures { result ≡ rows.at_once sizes.now notified asks at.0 }
 {

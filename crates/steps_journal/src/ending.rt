@@ -18,6 +18,7 @@ use step_parts::{Posts, Stray};
 
 // The oldest entry of a block is committed, and the block goes round with the others. There is none in the log: no rule
 // applies.
+// One entry a step: so what a step posts is bounded, and the entries go to their slots in the order of their points.
 fn commit(
     zone: &mut JournalZone,
     vio: BoxedVio,

@@ -193,6 +193,8 @@ impl ReadingBytes {
     }
 }
 
+// A script is judged by all its bytes. The first refused line is named though the source isn't read on behind it, since
+// no later byte can change that.
 /// Reads the requests of a script, in pieces of any size, until the source's end or the first line with a fault. They come
 /// as 16 streams, of which each may have none, with the line of the first discard, where there is one.
 ///

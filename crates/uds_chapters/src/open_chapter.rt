@@ -9,6 +9,8 @@ use blk_base::Pbn;
 use block_names::Name;
 use std::marker::Model;
 
+// The records lie in the value itself, so that neither making, filling nor closing one asks for memory. Sorted, so that
+// a name is found by halving and closing is a move.
 /// The records that were learnt since the last chapter was closed, which contracts see as a list, sorted by name. There
 /// is room for 680 in the value itself, so that no call asks for memory.
 #[derive(Drop)]

@@ -6,6 +6,7 @@ use crate::{PageFind, Record, read_page};
 use blk_base::Block;
 use block_names::Name;
 
+// The page is read whole before a name is looked for: only then is it known to be a page.
 /// What a block says of a name, taken for this page of this chapter of the image with this nonce. The name is found by
 /// halving.
 pub fn page_find(block: &Block, nonce: u64, number: u32, i: u8, name: &Name) -> PageFind

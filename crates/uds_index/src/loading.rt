@@ -29,6 +29,8 @@ pub(crate) struct LoadedPage {
 }
 
 impl Uds {
+    // There is room for four chapters for each place, since a stop may leave pages of so many there, and twice that for
+    // their tags.
     /// Reads each index block of an image once, in rising order, and keeps the records of those that hold a page of a chapter;
     /// one that can't be read holds none. At most `cache` pages are cached later, and one where that is 0. All memory is taken
     /// before the first read; where there is none nothing was done.

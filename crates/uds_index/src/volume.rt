@@ -193,6 +193,8 @@ impl Volume {
     }
 
     // Closes the open chapter under this number, in place of what stood in its index blocks.
+    // What was kept in its index blocks is replaced, also two chapters that a stop left there. All four pages are to be
+    // written, also those without records: else stale pages would stand beside it.
     fn close(&mut self, tags: &mut TagList, number: u32)
         requires number { number ≡ number_after self.old.kept }
         requires listed { IsListed self.old tags.old }

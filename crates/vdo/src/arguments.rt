@@ -74,6 +74,8 @@ fn access_of(command: &[String]) -> Access {
     }
 }
 
+// A file that was made for words that are refused behind its name stays, empty: the device is opened before the command
+// is looked at.
 fn device_of(
     alloc: Global,
     image: &str,
@@ -90,6 +92,7 @@ fn device_of(
     })
 }
 
+// A word that isn't UTF-8 is a faulty command line.
 /// A command line is nothing, or `run` with its options, or `IMAGE BLOCKS` and a command, which isn't `run` yet.
 fn line_of(alloc: Global, texts: &[String]) -> Result<CommandLine, Obstacle> {
     if texts.is_empty() || names_run(texts) {

@@ -112,6 +112,7 @@ fn run_on<R: Threads + Wait + Sync>(
     }
 }
 
+// The last of standard output is written when the run has returned.
 /// The status of the program where a run ended with this one, and the last of its output was written or not: a sink that
 /// failed comes before `Full`, and behind all else.
 fn status_at_end(status: u8, written: bool) -> u8 {

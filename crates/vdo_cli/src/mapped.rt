@@ -9,6 +9,7 @@ use std::alloc::Global;
 /// How many points a journal block has: a point above this is one of the block with the next sequence.
 const POINTS: u64 = 512;
 
+// A session whose map is a list of entries can't serve a new page, and would give its block away as a free one.
 /// The entries of a window, the oldest first, where each of them maps an address; else the oldest block that has an entry for
 /// a new page is named.
 pub(crate) fn mapped_entries(alloc: Global, window: &[CommittedEntry]) -> Result<Vec<Entry>, Fault>

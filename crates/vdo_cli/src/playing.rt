@@ -31,6 +31,7 @@ pub(crate) struct Played {
 }
 
 // Reads the requests of the script, all of which are served.
+// A discard refuses a script behind the grammar: a line with a fault is named before it, wherever it stands.
 fn read_served<S: Source>(alloc: Global, script: &mut S) -> Result<Requests, Fault>
     ensures script { IsTrue S.tells → IfOk result (λ requests. (whole_script (S.left script.old) ≡ Ok requests) × (first_discard (S.left script.old) ≡ None) × (S.left script.new ≡ [])) }
     ensures shape { IfOk result IsWholeScript }

@@ -34,6 +34,8 @@ impl<V: Drop> Lanes<V> {
         Ok(Lanes { ports, alloc })
     }
 
+    // It asks for room at the receiver too, in the inbox and all lanes to it: so a whole lane is moved with no
+    // condition.
     /// Adds an item to the outbox of a zone to a zone. There is room for it with all that is on the way to the receiver.
     pub fn post(&mut self, from: u32, to: u32, item: V)
         requires sender { from < length self.old.inboxes }
