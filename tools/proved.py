@@ -4,9 +4,9 @@
     python3 tools/proved.py write
     python3 tools/proved.py check    whether docs/PROVED.md is what `write` would make (status 1 where it isn't)
 
-A law is a public function with an empty body: it stands there with its comment, its file and the names of its clauses. Of
-the calls in TOP_CALLS the clauses stand there with their comments, and the definitions of the same crate on which they
-rest, each with the comment above it. The head of a crate is the first paragraph of the comment in src/lib.rt or
+A law is a public function with an empty body: it stands there with its comment, its file and the names of its clauses.
+Of the calls in TOP_CALLS the clauses stand there with their comments, and the definitions of the same crate on which
+they rest, each with the comment above it. The head of a crate is the first paragraph of the comment in src/lib.rt or
 src/main.rt; its paragraphs that begin with one of the words in REMARKS say what is only tested or missing.
 """
 
@@ -98,11 +98,14 @@ def paragraphs(lines: list[str]) -> list[str]:
 
 
 def comment_above(lines: list[str], at: int, mark: str) -> list[str]:
-    """The lines of the comment that ends above this line, without their marks."""
-    start = at
+    """The lines of the comment that ends above this line and its attributes, without their marks."""
+    end = at
+    while end > 0 and lines[end - 1].lstrip().startswith("#["):
+        end -= 1
+    start = end
     while start > 0 and lines[start - 1].lstrip().startswith(mark):
         start -= 1
-    return [line.lstrip().removeprefix(mark).strip() for line in lines[start:at]]
+    return [line.lstrip().removeprefix(mark).strip() for line in lines[start:end]]
 
 
 def head_of(crate: str) -> list[str]:
@@ -121,7 +124,8 @@ def clauses_of(lines: list[str]) -> Iterator[Clause]:
         while end < len(lines) and CLAUSE.match(lines[end]) is None:
             end += 1
         comment = " ".join(comment_above(lines, at, "//"))
-        yield Clause(match[1], match[2] or "", comment, "\n".join(lines[at:end]))
+        text = "\n".join(own for own in lines[at:end] if not own.lstrip().startswith("//"))
+        yield Clause(match[1], match[2] or "", comment, text)
 
 
 def functions_of(crate: str) -> Iterator[Function]:

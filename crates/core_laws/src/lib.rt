@@ -1,5 +1,9 @@
 //! The laws of the core: what every event keeps, and what follows of a legal core.
 //!
+//! A balance may be an inequality (`AtMost`): as yet a data block that a stopped write had taken is lost for the
+//! session, so no more than one owner is claimed. A write is done when its slot is set, and answered when its answer is
+//! said: the trace has a list for each.
+//!
 //! Not there: that a session can begin on an image that a stop leaves. The core serves discards; scripts that have one
 //! are still refused (`later`).
 #![tactic(auto)]

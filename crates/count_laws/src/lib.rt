@@ -4,6 +4,9 @@
 //! `specs/Turns` says which entries may come behind others, and is the one place for it; `specs/Points` at which points they
 //! update the count of a block. `specs/Counters` says what stands of the counters and of the slabs' journals, whatever a stop
 //! leaves, and which of their blocks may be written.
+//!
+//! A sector of counters has a commit point that it reached: the opened one, or that of one of its own updates. Without
+//! this a later one would pass that no update has, and newer entries would break it.
 #![tactic(auto)]
 
 mod counts;

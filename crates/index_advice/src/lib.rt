@@ -4,6 +4,10 @@
 //! advisor may tell its *book*: the chapters that it keeps, the records of its open chapter, and the pages that are to be
 //! written. Then each of its answers is what the book says, and each call leads from the book before to the one after.
 //!
+//! A book has no number of its open chapter: it is one more than that of the newest kept chapter, and 0 where none is
+//! kept. Behind 4,294,967,294 there is no number: nothing is learnt, and nothing is closed; the record that the last
+//! chapter was closed for is not learnt.
+//!
 //! Only tested: both advisors that tell no book, on a few names.
 #![tactic(auto)]
 

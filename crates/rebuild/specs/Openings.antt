@@ -111,11 +111,12 @@ IsOpeningRefusal blocks before now Device = LastFailed true before now
 IsOpeningRefusal blocks before now Memory = IsCleanImage blocks
 IsOpeningRefusal blocks before now other = IsCleanImage blocks × IsImageFault blocks other
 
+-- what an honest device is answered: what its image has, or its first fault
 abbrev pub IsOpeningResult : Blocks → Seen → Seen → Result Opened ImageFault → Type 0
 IsOpeningResult blocks before now (Ok opened) = OpensRight blocks opened
 IsOpeningResult blocks before now (Err why) = IsOpeningRefusal blocks before now why
 
--- The whole.
+-- what opening an image promises of any device, and of an honest one
 pub record IsOpening (tells honest : Bool) (before now : Seen) (result : Result Opened ImageFault) : Type 0 where
   -- of any device
   pub untouched : IsUntouched tells before now

@@ -60,6 +60,7 @@ IsRefusal blocks before now Memory = IsUnclean blocks
 IsRefusal blocks before now (Counts at stored mapped) = ⊥
 IsRefusal blocks before now Unclean = ⊥
 
+-- what an honest device is answered: what its image says, or its first fault
 abbrev pub IsResult : Blocks → Seen → Seen → Result Recovered ImageFault → Type 0
 IsResult blocks before now (Ok recovered) = IsAnswer blocks recovered
 IsResult blocks before now (Err why) = IsRefusal blocks before now why
@@ -80,7 +81,7 @@ pub record IsTold (tells honest : Bool) (seen : Seen) (blocks : Blocks) : Type 0
   pub fair : IsTrue honest
   pub one : HasOneImage seen.opening seen.log blocks
 
--- The whole.
+-- what a recovery promises of any device, and of an honest one
 pub record IsRecovery (tells honest : Bool) (before now : Seen) (result : Result Recovered ImageFault) : Type 0 where
   -- of any device
   pub stays : Stays before now

@@ -8,6 +8,9 @@
 //!
 //! All room is taken in the constructor: no later call can be refused for memory.
 //!
+//! The entries that some zone still needs are kept, in room for J × 192. A watermark is a point of the half that adds,
+//! and below it everything was handed out (`first_unhanded` says up to where); a lower one than before changes nothing.
+//!
 //! Only tested: a full ring that waits for its head; one behind an earlier session, whose head stays.
 //!
 //! No rows yet: any of its definitions.

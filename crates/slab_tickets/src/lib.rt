@@ -7,6 +7,9 @@
 //!
 //! All room is taken in the constructor: no later call can be refused for memory.
 //!
+//! Whoever keeps it says at each step whether the one before ended with a free block: so that receipts are right is a
+//! law of these calls alone.
+//!
 //! Only tested: of two tickets the older one is served.
 #![tactic(auto)]
 

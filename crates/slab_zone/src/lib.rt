@@ -8,6 +8,10 @@
 //!
 //! All room is taken in the constructor: no later call can be refused for memory.
 //!
+//! `due` looks through the slabs from the first one on, `low_point` and `used` through all: none of them keeps more
+//! than the slabs do. That the opening commit points are below the updates is a premise of the laws, and no condition
+//! of a call.
+//!
 //! Only tested: a block that goes to the older of two tickets, an update that is written twice, refusals.
 //!
 //! No rows yet: `IsWhole`, `IsOpeningWhole`, `Does`, `LeadTo`, `IsDurableIn`, `entry_in`, `IsLowPointIn`, `NoneDueIn`

@@ -1,6 +1,10 @@
 //! What a run of requests is, for every crate that speaks of one: requests, the desk log, places, histories, and the
 //! report of a run. The definitions of what is right of them stand in `specs/`.
 //!
+//! The writes and discards of all addresses are one list of histories, with their addresses; the report holds the
+//! requests, so that the call that prints needs no other copy. It lists places zone by zone, since no code has them in
+//! the order in which they were drawn. A request lacks its place only where it reached no zone.
+//!
 //! Only tested: one row each of its lists.
 #![tactic(auto)]
 
