@@ -8,7 +8,12 @@
 //!
 //! All room is taken in `MapZone::new`: no later call can be refused for memory.
 //!
-//! No rows yet: any of its definitions. No test calls it yet either.
+//! The map sees no device: that a leaf is read back as it was handed out last is a premise of its laws, on the list of
+//! calls (`what_was_applied_is_shown`).
+//!
+//! Only tested: a leaf that is linked, installed, mapped, handed out and written.
+//!
+//! No rows yet: any of its definitions.
 #![tactic(auto)]
 
 mod forms;
