@@ -446,5 +446,12 @@ if [ -n "$python" ]; then
     $python "$top/tools/examples.py" "$vdo" || say_wrong 'an example of the documents is wrong'
 fi
 
+# The documents that are made from the code.
+if [ -n "$python" ]; then
+    for tool in crates proved; do
+        printed=$($python "$top/tools/$tool.py" check) || say_wrong "$printed"
+    done
+fi
+
 echo "image files: $well tries went well, $wrong went wrong"
 [ "$wrong" = 0 ]
