@@ -10,10 +10,7 @@ use Rattle.dirty_pages.specs.History.{IsInWrite, IsUnreported, IsUnwritten, IsWa
 use Rattle.dirty_pages.specs.Marks.{HasPoint, marks_at}
 use Rattle.page_codec.specs.declared.forms.MapPage.{MapPage}
 use Rattle.block_map_tree.specs.History as history
-use Rattle.block_map_tree.specs.Pages.{above}
 use Rattle.block_map_tree.specs.Tree.{Tree}
-use Rattle.block_map_tree.specs.Tree as trees
-use Rattle.block_map_tree.specs.declared.forms.Forest.{Forest}
 use Rattle.block_map_tree.proofs.HistoryLaws as tree_laws
 use Rattle.map_page_cache.specs.CachedPages.{CachedPages}
 use Rattle.map_page_cache.specs.CachedPages as cached

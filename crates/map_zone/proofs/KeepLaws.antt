@@ -1,7 +1,6 @@
 -- What each call of the cache and of the tree keeps of the map of a zone.
-use Rattle.std.specs.Prelude.{ℕ, ◌≡◌, ◌<◌, ◌⊎◌, [], ◌∷◌, refl}
-use Rattle.std.proofs.Common.{ap, ◌∙◌, sym, subst, arith, inl, inr}
-use Rattle.blk_base.specs.declared.geometry.Geometry.{Geometry}
+use Rattle.std.specs.Prelude.{◌≡◌, [], ◌∷◌, refl}
+use Rattle.std.proofs.Common.{ap, ◌∙◌, sym, subst, inl, inr}
 use Rattle.blk_base.specs.declared.place.PageId.{PageId}
 use Rattle.blk_base.specs.declared.place.Pbn.{Pbn}
 use Rattle.page_codec.specs.declared.forms.MapPage.{MapPage}
@@ -10,8 +9,7 @@ use Rattle.block_map_tree.specs.History as history
 use Rattle.block_map_tree.specs.Tree.{IsAt, IsThere, IsTree, Tree}
 use Rattle.block_map_tree.proofs.HistoryLaws as trees
 use Rattle.block_map_tree.proofs.TreeLaws.{marks_move_none}
-use Rattle.map_page_cache.specs.CachedPages.{CachedPages, IsCache}
-use Rattle.map_page_cache.specs.CachedPages as cached
+use Rattle.map_page_cache.specs.CachedPages.{CachedPages}
 use Rattle.map_page_cache.specs.Runs as runs
 use Rattle.map_page_cache.proofs.RunLaws as caches
 use Rattle.map_zone.specs.ZoneMap.{IsLeafAt, IsZoneMap, ZoneMap}

@@ -4,3 +4,4 @@ pub mod CallLaws
 pub mod ShownLaws
 pub mod OneLaws
 pub mod OutLaws
+pub mod Rows

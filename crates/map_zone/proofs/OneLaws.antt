@@ -1,5 +1,5 @@
 -- Each call has one result.
-use Rattle.std.specs.Prelude.{ℕ, ◌≡◌, ◌<◌, ◌≤◌, ◌%◌, ◌⊎◌, List, slice_index_or}
+use Rattle.std.specs.Prelude.{ℕ, ◌≡◌, ◌≤◌, ◌%◌, ◌⊎◌, List, slice_index_or}
 use Rattle.std.proofs.Common.{ap, ◌∙◌, sym, subst, arith, inl, inr}
 use Rattle.std.proofs.lemmas.Bool.{cases_eq, cases_lt}
 use Rattle.blk_base.specs.declared.journal_entry.Entry.TheVariants.{NewPage, Remap}
@@ -21,7 +21,7 @@ use Rattle.map_page_cache.specs.Runs as runs
 use Rattle.map_page_cache.proofs.OneLaws as cache_laws
 use Rattle.map_page_cache.proofs.RunLaws.{one_content}
 use Rattle.map_zone.specs.Calls.{Apply, Call, HandOut, Install, Leads, Write}
-use Rattle.map_zone.specs.Serving.{HasPath, IsLooked, MissesPage, NeedsLeaf, Shows}
+use Rattle.map_zone.specs.Serving.{IsLooked, MissesPage, NeedsLeaf, Shows}
 use Rattle.map_zone.specs.Writing.{IsLow, NoneDue, Takes, TakesLeaf, TakesNode}
 use Rattle.map_zone.specs.ZoneMap.{IsZoneMap, ZoneMap, head_at, leaf_of}
 use Rattle.map_zone.specs.declared.forms.Looked.{Looked}

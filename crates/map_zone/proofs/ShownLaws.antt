@@ -1,5 +1,5 @@
 -- What was applied is shown: over calls of which each leaf is read back as it was handed out.
-use Rattle.std.specs.Prelude.{ℕ, ◌≡◌, ◌≢◌, ◌<◌, ◌+◌, ◌*◌, ◌/◌, ◌%◌, ◌⊎◌, ◌==◌, if◌then◌else◌, List, [], ◌∷◌, slice_index_or, slice_set, length, refl}
+use Rattle.std.specs.Prelude.{ℕ, ◌≡◌, ◌<◌, ◌/◌, ◌%◌, ◌==◌, if◌then◌else◌, List, [], ◌∷◌, slice_index_or, slice_set, length, refl}
 use Rattle.std.proofs.Common.{ap, ◌∙◌, sym, subst, arith, inl, inr}
 use Rattle.std.proofs.lemmas.Bool.Decides.{eqb_tells}
 use Rattle.std.proofs.lemmas.List.{get_or-set_same, get_or-set_other}
@@ -13,7 +13,7 @@ use Rattle.blk_base.specs.declared.place.PageId.{PageId}
 use Rattle.blk_base.specs.declared.place.Pbn.{Pbn}
 use Rattle.blk_base.specs.declared.point.Point.{Point}
 use Rattle.dirty_pages.specs.History.{IsWaiting}
-use Rattle.page_codec.specs.Grammar.{AreHeld, HasHead, HoldsMapping, IsPage, IsSlot}
+use Rattle.page_codec.specs.Grammar.{AreHeld, HoldsMapping, IsPage, IsSlot}
 use Rattle.page_codec.specs.Spelling.{page_bytes}
 use Rattle.page_codec.specs.declared.forms.MapPage.{MapPage}
 use Rattle.page_codec.specs.declared.forms.PageHead.{PageHead}

@@ -1,4 +1,4 @@
-use Rattle.std.proofs.Common.{ap, arith, subst, sym}
+use Rattle.std.proofs.Common.{arith, subst}
 use Rattle.map_page_cache.specs.CachedPages.{CachedPages, IsThere}
 use Rattle.map_zone.proofs.ShownLaws.{says, shown}
 use Rattle.map_zone.proofs.laws.what_was_applied_is_shown.Goals as goal

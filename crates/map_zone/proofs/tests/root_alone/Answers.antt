@@ -1,5 +1,5 @@
-use Rattle.std.proofs.Common.{ℕ, zero, suc, ◌≡◌, ◌<◌, ◌+◌, List, [], ◌∷◌, ◌++◌, slice_index_or, replicate, refl, ap, sym, subst, inl, inr, arith, ◌∙◌}
-use Rattle.std.specs.Prelude.{All, Contains}
+use Rattle.std.proofs.Common.{ℕ, zero, suc, ◌≡◌, ◌<◌, ◌+◌, List, [], ◌∷◌, ◌++◌, slice_index_or, replicate, refl, ap, sym, subst, inl, arith, ◌∙◌}
+use Rattle.std.specs.Prelude.{All}
 use Rattle.blk_base.specs.declared.opened.OpenedPage.{OpenedPage}
 use Rattle.blk_base.specs.declared.place.PageId.{PageId}
 use Rattle.blk_base.specs.declared.place.Pbn.{Pbn}
@@ -10,7 +10,7 @@ use Rattle.page_codec.specs.Grammar.{AreHeld}
 use Rattle.page_codec.proofs.HeldLaws.{held_unmapped}
 use Rattle.block_map_tree.specs.declared.forms.Forest.{Forest}
 use Rattle.block_map_tree.specs.Pages.{IsInner, IsRoot, IsTreeOf, above}
-use Rattle.block_map_tree.specs.Opening.{IsLed, IsListed, IsOpened, IsPlaced}
+use Rattle.block_map_tree.specs.Opening.{IsLed, IsOpened, IsPlaced}
 use Rattle.map_zone.specs.declared.tests.TheConstants.{GEOMETRY, ROOT}
 use Rattle.map_zone.proofs.tests.root_alone.Goals as goal
 

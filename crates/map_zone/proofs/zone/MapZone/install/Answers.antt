@@ -1,6 +1,5 @@
 use Rattle.map_zone.specs.contracts.zone.MapZone.{the_view}
 use Rattle.page_codec.specs.declared.forms.PageHead.{PageHead}
-use Rattle.blk_base.specs.declared.geometry.Geometry.{Geometry}
 use Rattle.std.proofs.Common.{ap, ◌∙◌}
 use Rattle.block_map_tree.specs.declared.forms.Forest.{Forest}
 use Rattle.map_zone.proofs.StepLaws.{installed_form}

@@ -1,0 +1,425 @@
+-- Small maps that each clause accepts, and one that it refuses. That a result is a cache or a tree is a premise here.
+use Rattle.std.proofs.Common.{ℕ, zero, suc, ◌≡◌, ◌≢◌, ◌^◌, ◌<◌, inl, inr, true, false, Option, None, Some, List, [], ◌∷◌, length, slice_index_or, refl, ap, sym, arith, ◌∙◌}
+use Rattle.std.proofs.lemmas.Option.{none-some}
+use Rattle.blk_base.specs.declared.geometry.Geometry.{Geometry}
+use Rattle.blk_base.specs.declared.journal_entry.Entry.TheVariants.{NewPage, Remap}
+use Rattle.blk_base.specs.declared.place.Lba.{Lba}
+use Rattle.blk_base.specs.declared.place.Mapping.{Mapping}
+use Rattle.blk_base.specs.declared.place.Mapping.TheVariants.{At, Unmapped, Zero}
+use Rattle.blk_base.specs.declared.place.PageId.{PageId}
+use Rattle.blk_base.specs.declared.place.Pbn.{Pbn}
+use Rattle.blk_base.specs.declared.point.Point.{Point}
+use Rattle.dirty_pages.specs.History.{Changed, HandedOut, Written}
+use Rattle.dirty_pages.specs.Marks.{HasPoint, IsDue, clean, marks_at}
+use Rattle.dirty_pages.specs.declared.marks.Marks.{Marks}
+use Rattle.page_codec.specs.Spelling.{page_bytes}
+use Rattle.page_codec.specs.declared.forms.MapPage.{MapPage}
+use Rattle.block_map_tree.specs.Pages.{IsLower, IsTreeOf}
+use Rattle.block_map_tree.specs.Tree.{IsAt, IsThere, Tree, as_root, by_link}
+use Rattle.block_map_tree.specs.declared.forms.Forest.{Forest}
+use Rattle.map_page_cache.specs.CachedPages.{CachedPages}
+use Rattle.map_page_cache.specs.CachedPages as cached
+use Rattle.map_page_cache.specs.Turns.{no_turns}
+use Rattle.map_zone.specs.Calls.{Apply, AreReadBack, Call, HandOut, HasLink, HasNoLeaf, Install, IsStored, Write, changed_by, events_of, mapped}
+use Rattle.map_zone.specs.Serving.{AddsPage, IsOwn, MayAddPage, MayInstall, MayRemap, MissesPage, NeedsLeaf, Remaps, Shows}
+use Rattle.map_zone.specs.Writing.{IsClean, IsLeafFirst, IsLow, IsNodeFirst, IsSpelled, NoneDue, comes_first, lesser_point}
+use Rattle.map_zone.specs.ZoneMap.{IsLeafAt, IsZoneMap, ZoneMap, leaf_of}
+
+abbrev p : ℕ → Point
+p n = record { 0 = n }
+
+abbrev b : ℕ → Pbn
+b n = record { 0 = n }
+
+-- The default image, and of it the zone of the first of 60 trees: its root, and the leaf of the addresses 0 to 811.
+
+abbrev g : Geometry
+g = record { logical = 1000; slabs = 1; slab_blocks = 64; journal = 8; index = 16; slab_journal = 4; height = 2; nonce = 1 }
+
+abbrev forest : Forest
+forest = record { geometry = g; zone = 0; zones = 60 }
+
+abbrev root : PageId
+root = record { tree = 0; level = 1; index = 0 }
+
+abbrev leaf : PageId
+leaf = record { tree = 0; level = 0; index = 0 }
+
+own : IsTreeOf forest 0
+own = record { inside = omega arith; own = refl }
+
+below : IsLower forest leaf
+below = record { tree = own; level = omega arith; index = omega arith }
+
+-- the leaf is linked, at block 90; or isn't
+abbrev linked : Tree
+linked = record { forest = forest; pages = (At (b 90) ∷ []) ∷ []; marks = clean ∷ [] }
+
+abbrev unlinked : Tree
+unlinked = record { forest = forest; pages = (Unmapped ∷ []) ∷ []; marks = clean ∷ [] }
+
+stands : IsAt linked leaf (b 90)
+stands = by_link below refl
+
+is_missing : IsThere unlinked leaf → ⊥
+is_missing there = never there.at there.stands
+  where
+    never : (at : Pbn) → IsAt unlinked leaf at → ⊥
+    never at (as_root is at_root) = omega (arith, is.level)
+    never at (by_link lower leads) = cc
+
+-- a leaf in which address 1 is mapped
+abbrev content : MapPage
+content = record { head = record { geometry = g; page = leaf; at = b 90 }; mappings = Unmapped ∷ At (b 100) ∷ [] }
+
+abbrev full : CachedPages
+full = record { geometry = g; frames = 1; pages = content ∷ []; marks = clean ∷ []; turns = no_turns 1 }
+
+abbrev empty : CachedPages
+empty = record { geometry = g; frames = 1; pages = []; marks = clean ∷ []; turns = no_turns 1 }
+
+abbrev m : ZoneMap
+m = record { tree = linked; cache = full }
+
+abbrev unread : ZoneMap
+unread = record { tree = linked; cache = empty }
+
+abbrev bare : ZoneMap
+bare = record { tree = unlinked; cache = empty }
+
+there : cached.IsThere full leaf content
+there = ((0, omega arith, refl), refl)
+
+-- leaf_of, head_at
+
+first_leaf : leaf_of 811 ≡ leaf
+first_leaf = refl
+
+next_tree : leaf_of 812 ≡ record leaf { tree = 1 }
+next_tree = refl
+
+next_round : leaf_of 48720 ≡ record leaf { index = 1 }
+next_round = refl
+
+-- IsLeafAt
+
+abbrev number : Mapping → ℕ
+number (At at) = at.0
+number Zero = 0
+number Unmapped = 0
+
+leaf_at : IsLeafAt linked leaf (b 90)
+leaf_at = record { level = refl; stands = stands }
+
+root_is_no_leaf : (at : Pbn) → IsLeafAt linked root at → ⊥
+root_is_no_leaf at is = omega (arith, is.level)
+
+at_another_block : IsLeafAt linked leaf (b 91) → ⊥
+at_another_block is = never is.stands
+  where
+    never : IsAt linked leaf (b 91) → ⊥
+    never (as_root is at_root) = omega (arith, is.level)
+    never (by_link lower leads) = let same : At (b 90) ≡ At (b 91) = leads in omega (arith, ap (λ (o : Mapping). number o) same)
+
+-- IsZoneMap: of the parts the tree's and the cache's own forms are premises; no leaf stands elsewhere, and all is of one image
+in_memory_elsewhere : IsZoneMap (record { tree = linked; cache = record full { pages = record content { head = record content.head { at = b 91 } } ∷ [] } }) → ⊥
+in_memory_elsewhere is = at_another_block (is.leaves leaf (record content { head = record content.head { at = b 91 } }) ((0, omega arith, refl), refl))
+
+not_linked_any_more : IsZoneMap (record { tree = unlinked; cache = full }) → ⊥
+not_linked_any_more is = is_missing (record { at = b 90; stands = (is.leaves leaf content there).stands })
+
+of_another_image : IsZoneMap (record { tree = linked; cache = record empty { geometry = record g { nonce = 2 } } }) → ⊥
+of_another_image is = omega (arith, ap (λ (h : Geometry). h.nonce) is.geometry)
+
+-- IsOwn
+
+is_own : IsOwn m 811
+is_own = record { inside = omega arith; tree = own }
+
+past_the_last : IsOwn m 1000 → ⊥
+past_the_last is = omega (arith, is.inside)
+
+of_the_next_zone : IsOwn m 812 → ⊥
+of_the_next_zone is = omega (arith, is.tree.own)
+
+-- Shows
+
+shows : Shows m 1 (At (b 100))
+shows = record { content = content; there = there; says = refl }
+
+shows_nothing : (mapping : Mapping) → Shows unread 1 mapping → ⊥
+shows_nothing mapping is = omega (arith, is.there.0.1)
+
+shows_another : Shows m 1 Zero → ⊥
+shows_another is = never is.there.0.0 is.there.0.1 is.there.0.2 is.says
+  where
+    never : (k : ℕ) → k < 1 → slice_index_or full.pages k is.content ≡ is.content → Zero ≡ slice_index_or is.content.mappings 1 Unmapped → ⊥
+    never zero inside same says = let no : Zero ≡ At (b 100) = says ∙ ap (λ (c : MapPage). slice_index_or c.mappings 1 Unmapped) (sym same) in cc
+    never (suc k) inside same says = omega (arith, inside)
+
+-- NeedsLeaf
+
+needs : NeedsLeaf unread 1 leaf (b 90)
+needs = record { is_leaf = refl; stands = stands; absent = λ k d inside. absurd (omega (arith, inside)) }
+
+needs_one_in_memory : NeedsLeaf m 1 leaf (b 90) → ⊥
+needs_one_in_memory is = is.absent 0 content (omega arith) refl
+
+needs_another : NeedsLeaf unread 1 root (b 9) → ⊥
+needs_another is = omega (arith, ap (λ (q : PageId). q.level) is.is_leaf)
+
+needs_it_elsewhere : NeedsLeaf unread 1 leaf (b 91) → ⊥
+needs_it_elsewhere is = at_another_block (record { level = refl; stands = is.stands })
+
+-- MissesPage
+
+misses_one_that_is_linked : MissesPage unread 1 0 → ⊥
+misses_one_that_is_linked is = is.missing (record { at = b 90; stands = stands })
+
+misses_one_above_the_root : MissesPage bare 1 2 → ⊥
+misses_one_above_the_root is = omega (arith, is.low)
+
+-- of height 3 nothing is linked, so the leaf isn't the highest page that is missing
+abbrev high : ZoneMap
+high = record bare { tree = record unlinked { forest = record forest { geometry = record g { height = 3 } } } }
+
+misses_not_the_highest : MissesPage high 1 0 → ⊥
+misses_not_the_highest is = never (is.above 1 (omega arith) (omega arith)).at (is.above 1 (omega arith) (omega arith)).stands
+  where
+    never : (at : Pbn) → IsAt high.tree (record leaf { level = 1 }) at → ⊥
+    never at (as_root is' at_root) = omega (arith, is'.level)
+    never at (by_link lower leads) = cc
+
+-- MayRemap
+
+may_remap : MayRemap unread 1 Zero
+may_remap = record { inside = omega arith; linked = record { at = b 90; stands = stands }; held = refl }
+
+may_not_past_the_last : MayRemap unread 1000 Zero → ⊥
+may_not_past_the_last is = omega (arith, is.inside)
+
+may_not_without_a_leaf : MayRemap bare 1 Zero → ⊥
+may_not_without_a_leaf is = is_missing is.linked
+
+may_not_to_a_block_of_no_device : MayRemap unread 1 (At (b (2 ^ 32))) → ⊥
+may_not_to_a_block_of_no_device is = omega (arith, is.held.1)
+
+-- MayAddPage
+
+may_not_add_it_again : (at : Pbn) → MayAddPage unread leaf at → ⊥
+may_not_add_it_again at is = is.missing (record { at = b 90; stands = stands })
+
+may_not_add_a_root : (at : Pbn) → MayAddPage bare root at → ⊥
+may_not_add_a_root at is = is.linkable.lower (record { tree = own; level = refl; index = refl })
+
+may_not_add_below_nothing : (at : Pbn) → MayAddPage high leaf at → ⊥
+may_not_add_below_nothing at is = never is.above.at is.above.stands
+  where
+    never : (at : Pbn) → IsAt high.tree (record leaf { level = 1 }) at → ⊥
+    never at (as_root is' at_root) = omega (arith, is'.level)
+    never at (by_link lower leads) = cc
+
+-- MayInstall
+
+may_install : MayInstall unread leaf
+may_install = record { level = refl; linked = record { at = b 90; stands = stands }; absent = λ k d inside. absurd (omega (arith, inside)) }
+
+may_not_install_it_again : MayInstall m leaf → ⊥
+may_not_install_it_again is = is.absent 0 content (omega arith) refl
+
+may_not_install_one_that_is_not_linked : MayInstall bare leaf → ⊥
+may_not_install_one_that_is_not_linked is = is_missing is.linked
+
+may_not_install_a_root : MayInstall unread root → ⊥
+may_not_install_a_root is = omega (arith, is.level)
+
+-- Remaps, AddsPage: the rest stays
+remaps_and_forgets_a_link : (new : ZoneMap) → new.tree ≡ unlinked → Remaps m new 1 Zero (p 5) → ⊥
+remaps_and_forgets_a_link new is remaps =
+    let no : (Unmapped ∷ []) ∷ [] ≡ (At (b 90) ∷ []) ∷ [] = ap (λ (t : Tree). t.pages) (sym is ∙ ap (λ (z : ZoneMap). z.tree) remaps.after) in cc
+
+adds_and_forgets_a_leaf : (new : ZoneMap) → new.cache ≡ empty → AddsPage m new leaf (b 91) (p 5) → ⊥
+adds_and_forgets_a_leaf new is adds =
+    omega (arith, ap (λ (c : CachedPages). length c.pages) (sym is ∙ ap (λ (z : ZoneMap). z.cache) adds.after))
+
+-- comes_first, lesser_point
+
+no_leaf_first : comes_first None (Some (p 5)) ≡ false
+no_leaf_first = refl
+
+leaf_alone_first : comes_first (Some (p 5)) None ≡ true
+leaf_alone_first = refl
+
+equal_leaf_first : comes_first (Some (p 5)) (Some (p 5)) ≡ true
+equal_leaf_first = refl
+
+later_leaf_second : comes_first (Some (p 6)) (Some (p 5)) ≡ false
+later_leaf_second = refl
+
+lesser_of_two : lesser_point (Some (p 6)) (Some (p 5)) ≡ Some (p 5)
+lesser_of_two = refl
+
+only_leaf : lesser_point (Some (p 6)) None ≡ Some (p 6)
+only_leaf = refl
+
+only_other : lesser_point None (Some (p 5)) ≡ Some (p 5)
+only_other = refl
+
+-- IsSpelled
+
+spelled : IsSpelled content (b 90) (page_bytes content.head content.mappings)
+spelled = record { placed = refl; said = refl }
+
+spelled_elsewhere : IsSpelled content (b 91) (page_bytes content.head content.mappings) → ⊥
+spelled_elsewhere is = omega (arith, ap (λ (k : Pbn). k.0) is.placed)
+
+spelled_otherwise : (bytes : List ℕ) → bytes ≢ page_bytes content.head content.mappings → IsSpelled content (b 90) bytes → ⊥
+spelled_otherwise bytes other is = other is.said
+
+-- IsLeafFirst, IsNodeFirst, NoneDue: the leaf was changed first at 6, the root at 5
+
+abbrev changed : ℕ → List Marks
+changed n = (record { dirty = Some (p n); writing = None }) ∷ []
+
+abbrev both : ZoneMap
+both = record { tree = record linked { marks = changed 5 }; cache = record full { marks = changed 6 } }
+
+abbrev value : Option Point → ℕ
+value None = 0
+value (Some q) = q.0
+
+due_at : (n : ℕ) → IsDue (marks_at (changed n) 0) (p n)
+due_at n = record { idle = refl; dirty = refl }
+
+due_from : (n number : ℕ) (first : Point) → IsDue (marks_at (changed n) number) first → first.0 ≡ n
+due_from n zero first due = sym (ap value due.dirty)
+due_from n (suc k) first due = absurd (none-some first due.dirty)
+
+root_first : IsNodeFirst both
+root_first = record { first = λ number first due. (p 5, record { number = 0; due = due_at 5; least = λ k later due'. omega (arith, due_from 5 k later due') }, omega (arith, due_from 6 number first due)) }
+
+leaf_not_first : IsLeafFirst both → ⊥
+leaf_not_first is = omega (arith, is.first 0 (p 5) (due_at 5), due_from 6 is.due.number is.leaf is.due.due)
+
+leaf_first_now : IsLeafFirst (record both { tree = record linked { marks = changed 6 } })
+leaf_first_now = record {
+  leaf = p 6;
+  due = record { number = 0; due = due_at 6; least = λ k later due'. omega (arith, due_from 6 k later due') };
+  first = λ number node due. omega (arith, due_from 6 number node due);
+}
+
+root_not_before_it : IsNodeFirst (record both { tree = record linked { marks = changed 6 } }) → ⊥
+root_not_before_it is =
+    let node = is.first 0 (p 6) (due_at 6) in
+    omega (arith, due_from 6 node.1.number node.0 node.1.due, node.2)
+
+none_due : NoneDue both (p 4)
+none_due = record { leaves = λ number first due. omega (arith, due_from 6 number first due); nodes = λ number first due. omega (arith, due_from 5 number first due) }
+
+root_is_due : NoneDue both (p 5) → ⊥
+root_is_due none = omega (arith, none.nodes 0 (p 5) (due_at 5))
+
+leaf_is_due : NoneDue (record both { tree = linked }) (p 6) → ⊥
+leaf_is_due none = omega (arith, none.leaves 0 (p 6) (due_at 6))
+
+-- IsLow, IsClean
+
+has_from : (n number : ℕ) (point : Point) → HasPoint (marks_at (changed n) number) point → point.0 ≡ n
+has_from n zero point (inl dirty) = sym (ap value dirty)
+has_from n zero point (inr writing) = absurd (none-some point writing)
+has_from n (suc k) point (inl dirty) = absurd (none-some point dirty)
+has_from n (suc k) point (inr writing) = absurd (none-some point writing)
+
+low : IsLow both (p 5)
+low = record {
+  own = inr (record { number = 0; has = inl refl; least = λ k q has. omega (arith, has_from 5 k q has) });
+  leaves = λ k q has. omega (arith, has_from 6 k q has);
+  nodes = λ k q has. omega (arith, has_from 5 k q has);
+}
+
+low_above_a_link : IsLow both (p 6) → ⊥
+low_above_a_link is = omega (arith, is.nodes 0 (p 5) (inl refl))
+
+low_above_an_entry : IsLow (record both { tree = linked }) (p 7) → ⊥
+low_above_an_entry is = omega (arith, is.leaves 0 (p 6) (inl refl))
+
+-- own: it is that of a change
+low_of_nothing : IsLow both (p 4) → ⊥
+low_of_nothing is = elim is.own [ inl leaf ↦ omega (arith, has_from 6 leaf.number (p 4) leaf.has) | inr node ↦ omega (arith, has_from 5 node.number (p 4) node.has) ]
+
+clean_at : (number : ℕ) → marks_at (clean ∷ []) number ≡ clean
+clean_at zero = refl
+clean_at (suc k) = refl
+
+is_clean : IsClean m
+is_clean = record { leaves = clean_at; nodes = clean_at }
+
+leaf_is_dirty : IsClean (record m { cache = record full { marks = changed 6 } }) → ⊥
+leaf_is_dirty is = none-some (p 6) (sym (ap (λ (marks : Marks). marks.dirty) (is.leaves 0)))
+
+root_is_dirty : IsClean (record m { tree = record linked { marks = changed 5 } }) → ⊥
+root_is_dirty is = none-some (p 5) (sym (ap (λ (marks : Marks). marks.dirty) (is.nodes 0)))
+
+-- Calls: the leaf is linked, installed, address 1 is mapped anew, and the leaf is handed out and written
+
+abbrev lba : ℕ → Lba
+lba n = record { 0 = n }
+
+abbrev calls : List Call
+calls = HandOut leaf (b 90) (1 ∷ []) ∷ Apply (Remap (lba 1) Unmapped Zero) (p 514) ∷ Install leaf (0 ∷ []) ∷ Apply (NewPage leaf (b 90)) (p 512) ∷ []
+
+changes_the_leaf : changed_by (Remap (lba 1) Unmapped Zero) ≡ leaf
+changes_the_leaf = refl
+
+changes_the_page_above : changed_by (NewPage leaf (b 90)) ≡ root
+changes_the_page_above = refl
+
+events : events_of (Write leaf ∷ calls) ≡ Written leaf ∷ HandedOut leaf ∷ Changed leaf (p 514) ∷ Changed root (p 512) ∷ []
+events = refl
+
+mapped_anew : mapped (λ n. Unmapped) calls 1 ≡ Zero
+mapped_anew = refl
+
+mapped_as_before : mapped (λ n. Unmapped) calls 2 ≡ Unmapped
+mapped_as_before = refl
+
+-- the newest entry counts
+mapped_twice : mapped (λ n. Unmapped) (Apply (Remap (lba 1) Zero Unmapped) (p 516) ∷ calls) 1 ≡ Unmapped
+mapped_twice = refl
+
+stored : IsStored (λ page. 0 ∷ []) calls leaf (1 ∷ [])
+stored = inl (refl, refl)
+
+stored_before : IsStored (λ page. 0 ∷ []) calls leaf (0 ∷ []) → ⊥
+stored_before (inl now) = omega (arith, ap (λ (bytes : List ℕ). first_of bytes) now.1)
+  where
+    first_of : List ℕ → ℕ
+    first_of [] = 0
+    first_of (x ∷ xs) = x
+stored_before (inr apart) = apart.0 refl
+
+stored_beside : IsStored (λ page. 0 ∷ []) calls root (0 ∷ [])
+stored_beside = inr ((λ same. omega (arith, ap (λ (q : PageId). q.level) same)), refl)
+
+read_back : AreReadBack (λ page. 0 ∷ []) calls
+read_back = (refl, tt)
+
+read_otherwise : AreReadBack (λ page. 2 ∷ []) calls → ⊥
+read_otherwise read = omega (arith, ap (λ (bytes : List ℕ). first_of bytes) read.0)
+  where
+    first_of : List ℕ → ℕ
+    first_of [] = 0
+    first_of (x ∷ xs) = x
+
+no_leaf : HasNoLeaf unread
+no_leaf page given is = omega (arith, is.0.1)
+
+one_leaf : HasNoLeaf m → ⊥
+one_leaf none = none leaf content there
+
+has_link : HasLink calls leaf (b 90)
+has_link = inl (refl, refl)
+
+links_elsewhere : HasLink calls leaf (b 91) → ⊥
+links_elsewhere (inl this) = omega (arith, ap (λ (k : Pbn). k.0) this.1)
+links_elsewhere (inr never) = never
