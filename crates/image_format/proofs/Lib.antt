@@ -2,3 +2,4 @@ pub mod RunLaws
 pub mod StopLaws
 pub mod AfterLaws
 pub mod FormatLaws
+mod FormatRows
