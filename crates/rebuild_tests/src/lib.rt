@@ -1,7 +1,10 @@
-//! Tests of the recovery of whole images: on known images, stopped at each of its calls, and recovered again. And of the
-//! opening of images that were closed: what they are opened with, and what is answered where one of its calls fails.
+//! Tests of the audit and the recovery of whole images: on known images, stopped at each call of a recovery, and recovered
+//! again. And of the opening of images that were closed: what they are opened with, and what is answered where one of its
+//! calls fails.
 #![tactic(auto)]
 
+#[cfg(test)]
+mod audits;
 #[cfg(test)]
 mod images;
 #[cfg(test)]

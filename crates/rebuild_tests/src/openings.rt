@@ -1,5 +1,5 @@
 use crate::images::{closed_device, mappings_of};
-use crate::rows::{HIGH, Page, Row, SMALL, WIDE};
+use crate::rows::{HIGH, Row, SMALL, WIDE};
 use blk_base::Mapping::{At, Zero};
 use blk_base::{Geometry, Mappings, Opened, OpenedPage, PageId, Pbn, Point, Super, TREES};
 use disk_model::{Call, CallKind, FaultAt, MemDisk};
@@ -7,6 +7,7 @@ use image_model::ImageFault;
 use rebuild::open_clean;
 use std::alloc::{AllocError, Global};
 use std::test::Fail;
+use test_images::Page;
 
 /// An image whose last session was closed, and what it is opened with.
 #[derive(Clone, Copy)]

@@ -1,11 +1,9 @@
 use blk_base::Mapping::{At, Unmapped, Zero};
-use blk_base::{Entry, Geometry, Lba, Mapping, PageId, Pbn};
+use blk_base::{Entry, Geometry, Lba, PageId, Pbn};
+use test_images::Page;
 
 /// The entries of a block of the recovery journal, with its sequence and the head that it names.
 pub type Journal = &'static [(u64, u64, &'static [Entry])];
-
-/// A page, its block, and what its slots say.
-pub type Page = (PageId, u32, &'static [(u16, Mapping)]);
 
 /// An image. The roots that `pages` doesn't name have no mappings.
 #[derive(Clone, Copy)]

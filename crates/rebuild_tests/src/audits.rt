@@ -1,14 +1,13 @@
 use audit::{Difference, audit};
-use blk_base::{Block, Entry, Geometry, Lba, Mapping, Mappings, PageId, Pbn, Point, Super};
+use blk_base::{Block, Entry, Geometry, Lba, Mapping, PageId, Pbn, Point, Super};
 use disk_model::MemDisk;
 use image_layout::write_super;
 use image_model::ImageFault;
 use image_status::{ImageStatus, read_status};
-use journal_codec::{Entries, JournalBlock, encode};
-use page_codec::{MapPage, PageFault, PageHead, encode as encode_page};
-use slab_codec::{ReferenceBlock, ReferenceSector, encode_reference};
+use page_codec::PageFault;
 use std::alloc::{AllocError, Global};
 use std::test::Fail;
+use test_images::{page_block, put_block, put_journal, put_pages, reference_block, zeros};
 
 // The image has one slab: the data blocks 85 to 148, and the reference block 149. Its last session wasn't closed; the window
 // is one block, of sequence 6, in block 7. The leaf of address 0 may stand at block 85.
@@ -103,66 +102,8 @@ const ROWS: [(Written, Audited); 7] = [
     ),
 ];
 
-fn put_page(blocks: &mut [Block], at: u32, page: PageId, slot: Option<(u16, Mapping)>) {
-    let head = PageHead {
-        geometry: Geometry::DEFAULT,
-        page,
-        at: Pbn(at),
-    };
-    let mut mappings = Mappings::new();
-    if let Some((slot, mapping)) = slot
-        && slot < 812
-    {
-        mappings.set(slot, mapping);
-    }
-    if let Some(into) = blocks.get_mut(at as usize) {
-        encode_page(&MapPage { head, mappings }, into);
-    }
-}
-
-fn put_window(blocks: &mut [Block], window: &[Entry]) {
-    let mut entries = Entries::new();
-    for &entry in window {
-        if !entries.is_full() {
-            entries.push(entry);
-        }
-    }
-    let block = JournalBlock {
-        nonce: 1,
-        sequence: 6,
-        head: 6,
-        entries,
-    };
-    if let Some(into) = blocks.get_mut(7) {
-        encode(&block, into);
-    }
-}
-
-fn put_counters(blocks: &mut [Block], counters: &[(u16, u8)]) {
-    let mut sector = ReferenceSector {
-        commit: Point(0),
-        counters: [0; 504],
-    };
-    for &(offset, count) in counters {
-        if let Some(counter) = sector.counters.get_mut(usize::from(offset)) {
-            *counter = count;
-        }
-    }
-    if let Some(into) = blocks.get_mut(149) {
-        encode_reference(
-            &ReferenceBlock {
-                sectors: [sector; 8],
-            },
-            into,
-        );
-    }
-}
-
 fn image(alloc: Global, (window, leaf, counters): Written) -> Result<Vec<Block>, AllocError> {
-    let mut blocks = Vec::new(alloc);
-    for _ in 0..154 {
-        blocks.push(Block::zero())?;
-    }
+    let mut blocks = zeros(alloc, 154)?;
     let head = Super {
         geometry: Geometry::DEFAULT,
         clean: false,
@@ -171,19 +112,13 @@ fn image(alloc: Global, (window, leaf, counters): Written) -> Result<Vec<Block>,
     if let Some(into) = blocks.first_mut() {
         write_super(&head, into);
     }
-    for tree in 0..60_u8 {
-        let root = PageId {
-            tree,
-            level: 1,
-            index: 0,
-        };
-        put_page(&mut blocks, 9 + u32::from(tree), root, None);
+    put_pages(&mut blocks, Geometry::DEFAULT, &[]);
+    if let Some(slot) = leaf {
+        let page = page_block(Geometry::DEFAULT, LEAF, 85, &[slot]);
+        put_block(&mut blocks, 85, &page);
     }
-    if leaf.is_some() {
-        put_page(&mut blocks, 85, LEAF, leaf);
-    }
-    put_window(&mut blocks, window);
-    put_counters(&mut blocks, counters);
+    put_journal(&mut blocks, 6, 6, window);
+    put_block(&mut blocks, 149, &reference_block(counters, &[]));
     Ok(blocks)
 }
 
