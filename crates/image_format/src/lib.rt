@@ -12,7 +12,7 @@
 //!
 //! Not there: that a block and a page fit the stack.
 //!
-//! No rows yet: any of its definitions (`IsOld`, `MayStand`, `IsMade`, `FormatFails`, and what they stand on).
+//! No rows yet: how the blocks of an image are made, one after the other (`IsMade`, and what it stands on).
 #![tactic(auto)]
 
 mod calls;

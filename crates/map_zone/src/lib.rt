@@ -12,8 +12,6 @@
 //! calls (`what_was_applied_is_shown`).
 //!
 //! Only tested: a leaf that is linked, installed, mapped, handed out and written.
-//!
-//! No rows yet: any of its definitions.
 #![tactic(auto)]
 
 mod forms;
