@@ -1,5 +1,5 @@
 -- Small maps that each clause accepts, and one that it refuses. That a result is a cache or a tree is a premise here.
-use Rattle.std.proofs.Common.{ℕ, zero, suc, ◌≡◌, ◌≢◌, ◌^◌, ◌<◌, inl, inr, true, false, Option, None, Some, List, [], ◌∷◌, length, slice_index_or, refl, ap, sym, arith, ◌∙◌}
+use Rattle.std.proofs.Common.{ℕ, subst, ◌⊎◌, zero, suc, ◌≡◌, ◌≢◌, ◌^◌, ◌<◌, inl, inr, true, false, Option, None, Some, List, [], ◌∷◌, length, slice_index_or, refl, ap, sym, arith, ◌∙◌}
 use Rattle.std.proofs.lemmas.Option.{none-some}
 use Rattle.blk_base.specs.declared.geometry.Geometry.{Geometry}
 use Rattle.blk_base.specs.declared.journal_entry.Entry.TheVariants.{NewPage, Remap}
@@ -12,7 +12,9 @@ use Rattle.blk_base.specs.declared.point.Point.{Point}
 use Rattle.dirty_pages.specs.History.{Changed, HandedOut, Written}
 use Rattle.dirty_pages.specs.Marks.{HasPoint, IsDue, clean, marks_at}
 use Rattle.dirty_pages.specs.declared.marks.Marks.{Marks}
+use Rattle.page_codec.specs.Grammar.{IsPage, IsPageFault}
 use Rattle.page_codec.specs.Spelling.{page_bytes}
+use Rattle.page_codec.specs.declared.fault.PageFault.{PageFault}
 use Rattle.page_codec.specs.declared.forms.MapPage.{MapPage}
 use Rattle.block_map_tree.specs.Pages.{IsLower, IsTreeOf}
 use Rattle.block_map_tree.specs.Tree.{IsAt, IsThere, Tree, as_root, by_link}
@@ -20,10 +22,10 @@ use Rattle.block_map_tree.specs.declared.forms.Forest.{Forest}
 use Rattle.map_page_cache.specs.CachedPages.{CachedPages}
 use Rattle.map_page_cache.specs.CachedPages as cached
 use Rattle.map_page_cache.specs.Turns.{no_turns}
-use Rattle.map_zone.specs.Calls.{Apply, AreReadBack, Call, HandOut, HasLink, HasNoLeaf, Install, IsStored, Write, changed_by, events_of, mapped}
-use Rattle.map_zone.specs.Serving.{AddsPage, IsOwn, MayAddPage, MayInstall, MayRemap, MissesPage, NeedsLeaf, Remaps, Shows}
-use Rattle.map_zone.specs.Writing.{IsClean, IsLeafFirst, IsLow, IsNodeFirst, IsSpelled, NoneDue, comes_first, lesser_point}
-use Rattle.map_zone.specs.ZoneMap.{IsLeafAt, IsZoneMap, ZoneMap, leaf_of}
+use Rattle.map_zone.specs.Calls.{Apply, AreReadBack, Call, HandOut, HasLink, HasNoLeaf, Install, IsStored, SayOf, Write, changed_by, events_of, mapped}
+use Rattle.map_zone.specs.Serving.{AddsPage, HasPath, Installs, IsOtherPage, IsOwn, IsTooMany, MayAddPage, MayInstall, MayRemap, MissesPage, NeedsLeaf, Remaps, Shows}
+use Rattle.map_zone.specs.Writing.{SettlesLeaf, SettlesNode, TakesLeaf, TakesNode, IsClean, IsLeafFirst, IsLow, IsNodeFirst, IsSpelled, NoneDue, comes_first, lesser_point}
+use Rattle.map_zone.specs.ZoneMap.{head_at, IsLeafAt, IsZoneMap, ZoneMap, leaf_of}
 
 abbrev p : ℕ → Point
 p n = record { 0 = n }
@@ -423,3 +425,99 @@ has_link = inl (refl, refl)
 links_elsewhere : HasLink calls leaf (b 91) → ⊥
 links_elsewhere (inl this) = omega (arith, ap (λ (k : Pbn). k.0) this.1)
 links_elsewhere (inr never) = never
+
+-- Installs, IsOtherPage, IsTooMany: what is read as the leaf at its block. That these bytes are a page, or aren't, is a premise.
+
+module _ (bytes : List ℕ) (reads : IsPage content.head bytes content.mappings) (fills : cached.Fills empty full content) where
+  installs : Installs unread m leaf bytes
+  installs = record { at = b 90; mappings = content.mappings; stands = stands; read = reads; fills = inl fills; after = refl }
+
+  installs_and_forgets_the_link : Installs unread (record m { tree = unlinked }) leaf bytes → ⊥
+  installs_and_forgets_the_link is = let no : (Unmapped ∷ []) ∷ [] ≡ (At (b 90) ∷ []) ∷ [] = ap (λ (z : ZoneMap). z.tree.pages) is.after in cc
+
+  installs_what_is_not_linked : (new : ZoneMap) → Installs bare new leaf bytes → ⊥
+  installs_what_is_not_linked new is = is_missing (record { at = is.at; stands = is.stands })
+
+  -- read: of other bytes
+  installs_other_bytes : (given : List ℕ) (new : ZoneMap) → ((at : Pbn) (mappings : List Mapping) → IsPage (head_at unread leaf at) given mappings → ⊥) → Installs unread new leaf given → ⊥
+  installs_other_bytes given new other is = other is.at is.mappings is.read
+
+  -- fills: another leaf comes in its place
+  installs_another : Installs unread (record m { cache = record full { pages = record content { head = record content.head { at = b 91 } } ∷ [] } }) leaf bytes → ⊥
+  installs_another is = never is.at is.mappings is.fills is.stands
+    where
+      block : List MapPage → ℕ
+      block [] = 0
+      block (c ∷ cs) = c.head.at.0
+
+      never : (at : Pbn) (mappings : List Mapping) → (let c : MapPage = record { head = head_at unread leaf at; mappings = mappings } in
+          cached.Fills empty (record full { pages = record content { head = record content.head { at = b 91 } } ∷ [] }) c
+          ⊎ cached.GivesUp empty (record full { pages = record content { head = record content.head { at = b 91 } } ∷ [] }) c) → IsAt linked leaf at → ⊥
+      never at mappings (inl fills') stands' =
+          let same : 91 ≡ at.0 = ap (λ (c : CachedPages). block c.pages) fills'.after in
+          at_another_block (record { level = refl; stands = subst (λ (k : Pbn). IsAt linked leaf k) (ap (λ (n : ℕ). b n) (sym same)) stands' })
+      never at mappings (inr gives) stands' = omega (arith, gives.inside)
+
+  is_other_page : (fault : PageFault) → IsPageFault content.head bytes fault → IsOtherPage unread leaf bytes fault
+  is_other_page fault has = record { at = b 90; stands = stands; has_fault = has }
+
+  other_page_without_a_link : (fault : PageFault) → IsOtherPage bare leaf bytes fault → ⊥
+  other_page_without_a_link fault is = is_missing (record { at = is.at; stands = is.stands })
+
+  other_page_without_a_fault : (fault : PageFault) → ((at : Pbn) → IsPageFault (head_at unread leaf at) bytes fault → ⊥) → IsOtherPage unread leaf bytes fault → ⊥
+  other_page_without_a_fault fault none is = none is.at is.has_fault
+
+  -- none: where a frame is empty
+  too_many_beside_an_empty_frame : IsTooMany unread leaf bytes → ⊥
+  too_many_beside_an_empty_frame is = omega (arith, is.none.full)
+
+  too_many : IsTooMany (record unread { cache = record empty { frames = 0 } }) leaf bytes
+  too_many = record { at = b 90; mappings = content.mappings; stands = stands; read = reads; none = record { full = refl; unclean = λ frame inside clean. omega (arith, inside) } }
+
+-- TakesLeaf, TakesNode: what the cache hands out is a premise
+
+module _ (point : Point) (new : CachedPages) (copy : MapPage) (expires : cached.Expires both.cache new point leaf copy) (bytes : List ℕ) where
+  -- first: the root was changed before
+  takes_the_later_one : (after : ZoneMap) → TakesLeaf both after point leaf (b 90) bytes → ⊥
+  takes_the_later_one after takes =
+      omega (arith, takes.first 0 (p 5) (due_at 5), due_from 6 takes.expires.frame takes.expires.marks.first takes.expires.marks.due)
+
+  abbrev alone : ZoneMap
+  alone = record both { tree = linked }
+
+  takes_leaf : IsSpelled copy (b 90) bytes → TakesLeaf alone (record alone { cache = new }) point leaf (b 90) bytes
+  takes_leaf spelled' = record { copy = copy; expires = expires; first = λ number node due. absurd (none_at number node due); spelled = spelled'; after = refl }
+    where
+      none_at : (number : ℕ) (node : Point) → IsDue (marks_at (clean ∷ []) number) node → ⊥
+      none_at zero node due = none-some node due.dirty
+      none_at (suc k) node due = none-some node due.dirty
+
+  -- after: the tree stays
+  takes_leaf_and_a_link : (after : ZoneMap) → after.tree ≡ unlinked → TakesLeaf alone after point leaf (b 90) bytes → ⊥
+  takes_leaf_and_a_link after is takes =
+      let no : (Unmapped ∷ []) ∷ [] ≡ (At (b 90) ∷ []) ∷ [] = ap (λ (t : Tree). t.pages) (sym is ∙ ap (λ (z : ZoneMap). z.tree) takes.after) in cc
+
+-- TakesNode: the leaf was changed before, or at the same point
+takes_a_node_too_soon : (new : ZoneMap) (bytes : List ℕ) → TakesNode (record both { tree = record linked { marks = changed 6 } }) new (p 9) root (b 9) bytes → ⊥
+takes_a_node_too_soon new bytes takes = omega (arith, takes.first 0 (p 6) (due_at 6), due_from 6 0 takes.expires.marks.first takes.expires.marks.due)
+
+-- SettlesLeaf, SettlesNode: a page that isn't being written isn't settled
+settles_one_that_is_not_out : (new : ZoneMap) → SettlesLeaf m new leaf → ⊥
+settles_one_that_is_not_out new is = none-some is.out.marks.first (sym (ap (λ (marks : Marks). marks.writing) (clean_at is.out.frame)) ∙ is.out.marks.is)
+
+settles_a_root_that_is_not_out : (new : ZoneMap) → SettlesNode m new root → ⊥
+settles_a_root_that_is_not_out new is = none-some is.out.marks.first is.out.marks.is
+
+-- HasPath
+has_path : HasPath m 1
+has_path zero low' = record { at = b 90; stands = stands }
+has_path (suc zero) low' = record { at = b 9; stands = as_root (record { tree = own; level = refl; index = refl }) refl }
+has_path (suc (suc level)) low' = absurd (omega (arith, low'))
+
+has_no_path : HasPath bare 1 → ⊥
+has_no_path has = is_missing (has 0 (omega arith))
+
+-- SayOf: the leaf says of address 1 that it is unmapped at first, and nothing else
+module _ (bytes : List ℕ) (reads : IsPage content.head bytes content.mappings) where
+  says_otherwise : SayOf g (λ page. bytes) (λ n. Unmapped) → ⊥
+  says_otherwise say = let no : At (b 100) ≡ Unmapped = say leaf (b 90) content.mappings reads 1 refl in cc
