@@ -1,6 +1,5 @@
 ghost use Rattle.std.specs.Prelude.{◌≡◌, ◌<◌, IfOk, length};
 
-use crate::shared::first_other;
 use blk_base::{Block, Pbn, ZoneId};
 use disk_model::{
     Call, CallKind, Disk, Failed, FaultAt, MemDisk, MemSink, MemSource, OpenGate, Sink, Source,
@@ -8,6 +7,7 @@ use disk_model::{
 };
 use std::alloc::{AllocError, Global};
 use std::test::Fail;
+use test_images::first_other;
 
 fn block_of(byte: u8) -> Block {
     let mut block = Block::zero();

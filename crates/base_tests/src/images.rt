@@ -1,8 +1,8 @@
-use crate::shared::{not_shown, with_byte};
 use blk_base::{Block, Entry, Geometry, Layout, Lba, Mapping, Pbn, Super};
 use image_layout::SuperFault::{BadField, NotAnImage, Version};
 use image_layout::{Field, SuperFault, first_image, mapping_at, read_super, write_super};
 use std::alloc::AllocError;
+use test_images::{not_shown, with_byte};
 
 const HEAD: Super = Super {
     geometry: Geometry::DEFAULT,
@@ -319,7 +319,7 @@ fn other_name(rows: &[(Field, &str)]) -> Option<(Field, &'static str)> {
 #[test]
 fn names_of_fields(rt: HostRuntime) {
     assert_eq!(rt; other_name(&FIELD_NAMES), None);
-    assert_eq!(rt; not_shown(&rt, &FIELD_NAMES), None);
+    assert_eq!(rt; not_shown(rt.alloc(), &FIELD_NAMES), None);
 }
 
 const SUPER_TEXTS: [(SuperFault, &str); 3] = [
@@ -331,5 +331,5 @@ const SUPER_TEXTS: [(SuperFault, &str); 3] = [
 // The texts are those of `super_fault_text`.
 #[test]
 fn texts_of_faults(rt: HostRuntime) {
-    assert_eq!(rt; not_shown(&rt, &SUPER_TEXTS), None);
+    assert_eq!(rt; not_shown(rt.alloc(), &SUPER_TEXTS), None);
 }

@@ -1,6 +1,6 @@
-use crate::shared::{Spelling, difference, with_added};
 use blk_base::{Block, Entry, Lba, Mapping, PageId, Pbn};
 use journal_codec::{Entries, JournalBlock, block_prefix, encode, sector};
+use test_images::{Spelling, difference, with_added};
 
 // The spellings of these tests were computed by tools/journal.py.
 const NONCE: u64 = 0x1122_3344_5566_7788;

@@ -17,6 +17,4 @@ mod pages;
 #[cfg(test)]
 mod reports;
 #[cfg(test)]
-mod shared;
-#[cfg(test)]
 mod slabs;

@@ -1,7 +1,7 @@
-use crate::shared::{Spelling, difference, not_shown, with_added, with_byte};
 use blk_base::{Block, Geometry, Mapping, Mappings, PageId, Pbn};
 use page_codec::PageFault::{Compressed, Header, OutOfRange};
 use page_codec::{MapPage, PageFault, PageHead, decode, encode, slot};
+use test_images::{Spelling, difference, not_shown, with_added, with_byte};
 
 // The image has the data blocks 85 to 148.
 const GEOMETRY: Geometry = Geometry {
@@ -333,5 +333,5 @@ const TEXTS: [(PageFault, &str); 3] = [
 
 #[test]
 fn texts(rt: HostRuntime) {
-    assert_eq!(rt; not_shown(&rt, &TEXTS), None);
+    assert_eq!(rt; not_shown(rt.alloc(), &TEXTS), None);
 }

@@ -1,9 +1,9 @@
-use crate::shared::{Spelling, difference, with_added, with_byte};
 use blk_base::{Block, Geometry, Layout, Point, SECTOR_COUNTERS};
 use slab_codec::{
     ReferenceBlock, ReferenceSector, SlabEntries, SlabEntry, SlabJournalBlock, SlabSector,
     encode_reference, encode_slab, reference_sector, sector_counters, slab_sector,
 };
+use test_images::{Spelling, difference, with_added, with_byte};
 
 // The spellings of these tests, and the places of counters, were computed by tools/slab.py.
 const NONCE: u64 = 0x1122_3344_5566_7788;
