@@ -3,6 +3,7 @@ use Rattle.std.proofs.Common.{ℕ, subst, ◌⊎◌, zero, suc, ◌≡◌, ◌�
 use Rattle.std.proofs.lemmas.Option.{none-some}
 use Rattle.blk_base.specs.declared.geometry.Geometry.{Geometry}
 use Rattle.blk_base.specs.declared.journal_entry.Entry.TheVariants.{NewPage, Remap}
+use Rattle.blk_base.specs.declared.opened.Opened.{Opened}
 use Rattle.blk_base.specs.declared.place.Lba.{Lba}
 use Rattle.blk_base.specs.declared.place.Mapping.{Mapping}
 use Rattle.blk_base.specs.declared.place.Mapping.TheVariants.{At, Unmapped, Zero}
@@ -16,16 +17,17 @@ use Rattle.page_codec.specs.Grammar.{IsPage, IsPageFault}
 use Rattle.page_codec.specs.Spelling.{page_bytes}
 use Rattle.page_codec.specs.declared.fault.PageFault.{PageFault}
 use Rattle.page_codec.specs.declared.forms.MapPage.{MapPage}
+use Rattle.block_map_tree.specs.Opening.{IsOpening, forest_of}
 use Rattle.block_map_tree.specs.Pages.{IsLower, IsTreeOf}
 use Rattle.block_map_tree.specs.Tree.{IsAt, IsThere, Tree, as_root, by_link}
 use Rattle.block_map_tree.specs.declared.forms.Forest.{Forest}
-use Rattle.map_page_cache.specs.CachedPages.{CachedPages}
+use Rattle.map_page_cache.specs.CachedPages.{CachedPages, no_pages}
 use Rattle.map_page_cache.specs.CachedPages as cached
 use Rattle.map_page_cache.specs.Turns.{no_turns}
 use Rattle.map_zone.specs.Calls.{Apply, AreReadBack, Call, HandOut, HasLink, HasNoLeaf, Install, IsStored, SayOf, Write, changed_by, events_of, mapped}
 use Rattle.map_zone.specs.Serving.{AddsPage, HasPath, Installs, IsOtherPage, IsOwn, IsTooMany, MayAddPage, MayInstall, MayRemap, MissesPage, NeedsLeaf, Remaps, Shows}
 use Rattle.map_zone.specs.Writing.{SettlesLeaf, SettlesNode, TakesLeaf, TakesNode, IsClean, IsLeafFirst, IsLow, IsNodeFirst, IsSpelled, NoneDue, comes_first, lesser_point}
-use Rattle.map_zone.specs.ZoneMap.{head_at, IsLeafAt, IsZoneMap, ZoneMap, leaf_of}
+use Rattle.map_zone.specs.ZoneMap.{head_at, IsLeafAt, IsOpened, IsZoneMap, ZoneMap, leaf_of}
 
 abbrev p : ℕ → Point
 p n = record { 0 = n }
@@ -130,8 +132,36 @@ in_memory_elsewhere is = at_another_block (is.leaves leaf (record content { head
 not_linked_any_more : IsZoneMap (record { tree = unlinked; cache = full }) → ⊥
 not_linked_any_more is = is_missing (record { at = b 90; stands = (is.leaves leaf content there).stands })
 
+-- tree, cache: each is whole
+without_marks : IsZoneMap (record m { tree = record linked { marks = [] } }) → ⊥
+without_marks is = omega (arith, is.tree.marks)
+
+more_than_its_frames : IsZoneMap (record m { cache = record full { frames = 0 } }) → ⊥
+more_than_its_frames is = omega (arith, is.cache.fits)
+
 of_another_image : IsZoneMap (record { tree = linked; cache = record empty { geometry = record g { nonce = 2 } } }) → ⊥
 of_another_image is = omega (arith, ap (λ (h : Geometry). h.nonce) is.geometry)
+
+-- IsOpened: an opened image of these sizes
+
+module _ (opened : Opened) (of_sizes : opened.head.geometry ≡ g) where
+  opened_so : IsZoneMap bare → IsOpening (forest_of opened 0 60) opened.pages.items unlinked → bare.cache ≡ no_pages opened.head.geometry 1 → IsOpened opened 0 60 1 bare
+  opened_so form tree cache' = record { form = form; tree = tree; cache = cache' }
+
+  -- form
+  opened_in_pieces : IsOpened opened 0 60 1 (record bare { tree = record unlinked { marks = [] } }) → ⊥
+  opened_in_pieces is = omega (arith, is.form.tree.marks)
+
+  -- tree: it is of that zone
+  opened_by_another_zone : IsOpened opened 1 60 1 bare → ⊥
+  opened_by_another_zone is = omega (arith, ap (λ (f : Forest). f.zone) is.tree.forest)
+
+  -- cache: no leaf is in memory, and there are so many frames
+  opened_with_a_leaf : IsOpened opened 0 60 1 m → ⊥
+  opened_with_a_leaf is = omega (arith, ap (λ (c : CachedPages). length c.pages) is.cache)
+
+  opened_with_other_frames : IsOpened opened 0 60 2 bare → ⊥
+  opened_with_other_frames is = omega (arith, ap (λ (c : CachedPages). c.frames) is.cache)
 
 -- IsOwn
 
