@@ -26,43 +26,43 @@ use Rattle.slab_zone.specs.Writing.{HasRoomAt, MayTake, RisesIn, TakesUpdate, Is
 use Rattle.slab_zone.specs.Calls.{Call, Counted, Taken, Written, TakesNone, HandsOutWith, WritesSlab, AreAbove, HandsOut, Reports, calls_of, counted_of, updates_in}
 
 -- four slabs of 16 data blocks each, which begin at 85, 104, 123 and 142; the second of two zones has 104 and 142
-abbrev sizes : Geometry
+abbrev pub sizes : Geometry
 sizes = record { logical = 1000; slabs = 4; slab_blocks = 16; journal = 8; index = 16; slab_journal = 2; height = 2; nonce = 1 }
 
-abbrev p : ℕ → Point
+abbrev pub p : ℕ → Point
 p n = record { 0 = n }
 
-abbrev at : ℕ → Pbn
+abbrev pub at : ℕ → Pbn
 at n = record { 0 = n }
 
 -- the image has commit point 7 for each slab
-abbrev commits : List Point
+abbrev pub commits : List Point
 commits = p 7 ∷ p 7 ∷ p 7 ∷ p 7 ∷ []
 
-abbrev opened : ℕ → Writes
+abbrev pub opened : ℕ → Writes
 opened n = opening sizes n commits
 
-abbrev both : List Writes
+abbrev pub both : List Writes
 both = opened 1 ∷ opened 3 ∷ []
 
 -- a decrement of the fourth block of slab 1
-abbrev update : Update
+abbrev pub update : Update
 update = record { at = at 107; point = p 513 }
 
-abbrev waits : Writes
+abbrev pub waits : Writes
 waits = taken (opened 1) update
 
-abbrev slab : ℕ → ℕ → Counts
+abbrev pub slab : ℕ → ℕ → Counts
 slab number count =
     record { geometry = sizes; slab = number; counters = 1 ∷ 1 ∷ 1 ∷ count ∷ replicate 12 1; claims = replicate 16 0; pages = replicate 16 false }
 
 abbrev desk : Desk
 desk = record { zone = 1; room = 3; issued = 6; step = Some 9; last_free = None; out = [] }
 
-abbrev zone : Zone
+abbrev pub zone : Zone
 zone = record { geometry = sizes; zone = 1; zones = 2; slabs = slab 1 2 ∷ slab 3 2 ∷ []; desk = desk }
 
-abbrev first : WholeZone
+abbrev pub first : WholeZone
 first = record { counts = zone; writes = both }
 
 abbrev head_of : List ℕ → ℕ
@@ -87,7 +87,7 @@ blocks_of_another_image : ¬ AreOfSlab sizes 1 (record (opened 1) { blocks = rec
 blocks_of_another_image = λ is. let no : 2 ≡ 1 = ap (λ (g : Geometry). g.nonce) is.blocks in omega (arith, no)
 
 -- AreOfZone
-of_zone_one : AreOfZone sizes 1 2 2 both
+pub of_zone_one : AreOfZone sizes 1 2 2 both
 of_zone_one = record {
   many = refl;
   each = λ k below. elim (cases_eq k 0) [
@@ -103,7 +103,7 @@ in_the_other_order : ¬ AreOfZone sizes 1 2 2 (opened 3 ∷ opened 1 ∷ [])
 in_the_other_order = λ is. let no : 3 ≡ 1 = (is.each 0 (omega arith)).slab in omega (arith, no)
 
 -- AreOpenedWrites
-are_opened : AreOpenedWrites sizes 1 2 commits 2 both
+pub are_opened : AreOpenedWrites sizes 1 2 commits 2 both
 are_opened = record {
   many = refl;
   each = λ k below. elim (cases_eq k 0) [ inl is ↦ rw is refl | inr later ↦ let one : k ≡ 1 = omega (arith, below, later) in rw one refl ];
@@ -128,18 +128,18 @@ no_room_in_slab_one = λ is. omega (arith, is, length-replicate {A = SlabEntry} 
 room_in_slab_three : HasRoomAt filled (at 145)
 room_in_slab_three = omega arith
 
-rises : RisesIn first update
+pub rises : RisesIn first update
 rises = omega arith
 
-does_not_rise : ¬ RisesIn (record first { writes = waits ∷ opened 3 ∷ [] }) update
+pub does_not_rise : ¬ RisesIn (record first { writes = waits ∷ opened 3 ∷ [] }) update
 does_not_rise = λ is. omega (arith, is)
 
 -- TakesUpdate
-abbrev after : WholeZone
+abbrev pub after : WholeZone
 after = record { counts = record zone { slabs = slab 1 1 ∷ slab 3 2 ∷ [] }; writes = waits ∷ opened 3 ∷ [] }
 
 -- MayTake: of the zone, with room, and above what was taken
-update_here : IsOfZone zone (at 107)
+pub update_here : IsOfZone zone (at 107)
 update_here = record { data_block = record { slab = 1; offset = 3; inside = (omega arith, omega arith); stands = refl }; own = refl }
 
 may_take_it : MayTake first update
@@ -154,7 +154,7 @@ where_no_room_is = λ is. no_room_in_slab_one is.room
 at_a_point_taken : ¬ MayTake (record first { writes = waits ∷ opened 3 ∷ [] }) update
 at_a_point_taken = λ is. does_not_rise is.rises
 
-takes_it : TakesUpdate first after update (slab 1 1)
+pub takes_it : TakesUpdate first after update (slab 1 1)
 takes_it = record { takes = (omega arith, refl); changes = record { serves = inl (inl refl, refl, refl); same = refl }; writes = refl }
 
 counts_it_twice : ¬ TakesUpdate first after update (slab 1 0)
@@ -203,7 +203,7 @@ sealed = record waits { journal = record waits.journal { sequence = 2; filling =
 abbrev work : SlabWork
 work = record { at = at 122; slab = 1; part = part.Journal; number = 1 }
 
-abbrev out : WholeZone
+abbrev pub out : WholeZone
 out = record after { writes = sealed ∷ opened 3 ∷ [] }
 
 is_out : IsOutIn out work
@@ -218,7 +218,7 @@ of_the_other_zone = λ is. let no : 0 ≡ 1 = is.own in omega (arith, no)
 of_the_slab_behind : ¬ IsOutIn out (record work { slab = 3 })
 of_the_slab_behind = λ is. omega (arith, is.out.0)
 
-abbrev durable : Writes
+abbrev pub durable : Writes
 durable = record sealed { journal = record sealed.journal { durable = 2 } }
 
 settles : SettlesIn out (record out { writes = durable ∷ opened 3 ∷ [] }) work
@@ -235,7 +235,7 @@ loses_the_other_slab = λ is. let no : 1 ≡ 2 = ap (λ (z : WholeZone). length 
 
 -- IsLowPointBefore, NoneUnsettledBefore: of two slabs, of which the first has this point
 module _ (one other : Writes) (low : Point) (is : IsLowPoint one.journal low) (least : (entry : SlabEntry) → IsUnsettled other.journal entry → low.0 < entry.point.0) where
-  low_of_the_first : IsLowPointBefore (one ∷ other ∷ []) 2 low
+  pub low_of_the_first : IsLowPointBefore (one ∷ other ∷ []) 2 low
   low_of_the_first = record {
     place = 0;
     inside = omega arith;
@@ -246,7 +246,7 @@ module _ (one other : Writes) (low : Point) (is : IsLowPoint one.journal low) (l
     ];
   }
 
-  not_a_higher_one : (high : Point) → low.0 < high.0 → ¬ IsLowPointBefore (one ∷ other ∷ []) 2 high
+  pub not_a_higher_one : (high : Point) → low.0 < high.0 → ¬ IsLowPointBefore (one ∷ other ∷ []) 2 high
   not_a_higher_one high above is' = let lower = is'.least 0 is.entry (omega arith) is.there in omega (arith, lower, above, ap (λ (q : Point). q.0) is.is)
 
   not_all_are_durable : ¬ NoneUnsettledBefore (one ∷ other ∷ []) 2
@@ -287,7 +287,7 @@ takes_an_update : ¬ HandsOutWith (1 ∷ []) (writes.Taken (record { point = p 5
 takes_an_update = λ none. none
 
 -- WritesSlab
-writes_slab_one : WritesSlab out (record out { writes = durable ∷ opened 3 ∷ [] }) 1 (writes.JournalDurable 1)
+pub writes_slab_one : WritesSlab out (record out { writes = durable ∷ opened 3 ∷ [] }) 1 (writes.JournalDurable 1)
 writes_slab_one = record { inside = omega arith; own = refl; counters = tt; slab = durable; does = (omega arith, refl, refl); after = refl }
 
 writes_past_the_last : ¬ WritesSlab out out 5 (writes.JournalDurable 1)
@@ -296,7 +296,7 @@ writes_past_the_last = λ is. omega (arith, is.inside)
 writes_in_the_other_zone : ¬ WritesSlab out out 0 (writes.JournalDurable 1)
 writes_in_the_other_zone = λ is. let no : 0 ≡ 1 = is.own in omega (arith, no)
 
-writes_what_is_not_out : (new : WholeZone) → ¬ WritesSlab first new 1 (writes.JournalDurable 1)
+pub writes_what_is_not_out : (new : WholeZone) → ¬ WritesSlab first new 1 (writes.JournalDurable 1)
 writes_what_is_not_out new = λ is. omega (arith, is.does.0)
 
 -- calls_of, counted_of, updates_in: those of slab 1, and of slab 3
