@@ -12,3 +12,4 @@ pub mod FuseLaws
 pub mod PickLaws
 pub mod PickImageLaws
 pub mod PickRows
+mod ImageRows
