@@ -1,9 +1,6 @@
 //! A device by the log of its calls, what a stop may leave of it, and sources and sinks that count their faults.
 //!
 //! Only tested: the countdown of planned faults, fuses and picked images, by tables.
-//!
-//! No rows yet: what a stop may leave (`contents`, `IsMixOf`, `IsImage`, `HasOneImage`) has rows in the crates that use
-//! it alone.
 #![tactic(auto)]
 
 mod call;
