@@ -59,11 +59,7 @@ fn flushes_wait_for_older_writes(rt: HostRuntime) -> Result<(), Fail> {
     let mut gate = Gate::new(rt.alloc(), 2)?;
     let nothing = complete(&mut gate);
     let generations = begin_all(&mut gate);
-    let asked = [
-        gate.is_under_way(1),
-        gate.is_under_way(3),
-        gate.has_room(),
-    ];
+    let asked = [gate.is_under_way(1), gate.is_under_way(3), gate.has_room()];
     let finished = finish_all(&mut gate);
     let wanted = (false, None, true, [Some(FIRST), Some(SECOND), None]);
     assert_eq!(rt;
