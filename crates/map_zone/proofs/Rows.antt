@@ -538,6 +538,17 @@ settles_one_that_is_not_out new is = none-some is.out.marks.first (sym (ap (λ (
 settles_a_root_that_is_not_out : (new : ZoneMap) → SettlesNode m new root → ⊥
 settles_a_root_that_is_not_out new is = none-some is.out.marks.first is.out.marks.is
 
+-- after: all else stays
+takes_a_node_and_forgets_a_leaf : (new : ZoneMap) (bytes : List ℕ) → new.cache ≡ empty → TakesNode both new (p 9) root (b 9) bytes → ⊥
+takes_a_node_and_forgets_a_leaf new bytes is takes = omega (arith, ap (λ (c : CachedPages). length c.pages) (sym is ∙ ap (λ (z : ZoneMap). z.cache) takes.after))
+
+settles_a_leaf_and_forgets_a_link : (new : ZoneMap) → new.tree ≡ unlinked → SettlesLeaf m new leaf → ⊥
+settles_a_leaf_and_forgets_a_link new is settles =
+    let no : (Unmapped ∷ []) ∷ [] ≡ (At (b 90) ∷ []) ∷ [] = ap (λ (t : Tree). t.pages) (sym is ∙ ap (λ (z : ZoneMap). z.tree) settles.after) in cc
+
+settles_a_node_and_forgets_a_leaf : (new : ZoneMap) → new.cache ≡ empty → SettlesNode m new root → ⊥
+settles_a_node_and_forgets_a_leaf new is settles = omega (arith, ap (λ (c : CachedPages). length c.pages) (sym is ∙ ap (λ (z : ZoneMap). z.cache) settles.after))
+
 -- HasPath
 has_path : HasPath m 1
 has_path zero low' = record { at = b 90; stands = stands }
