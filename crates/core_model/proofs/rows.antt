@@ -4,6 +4,7 @@ mod FairRows
 pub mod PhaseRows
 pub mod ZoneRows
 pub mod WorkedTraces
+mod FactRows
 mod StillRows
 pub mod StreamRows
 pub mod ViewRows
