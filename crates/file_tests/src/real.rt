@@ -43,7 +43,12 @@ impl From<Failed> for Wrong {
     }
 }
 
+// Each test has a file of its own.
 const PATH: &str = "image";
+
+const HELD: &str = "held";
+
+const LOOKED_AT: &str = "looked_at";
 
 // A file that wasn't there gets its blocks 2 and 0, and reads as zeros behind its end.
 fn write_some(rt: &HostRuntime) -> Result<(), Wrong> {
@@ -117,22 +122,30 @@ fn open_to_others(rt: &HostRuntime, path: &str, access: Access) -> io::Result<(b
 
 #[test]
 fn a_file_is_changed_by_one_alone(rt: HostRuntime) -> Result<(), Fail> {
-    assert_eq!(rt; open_to_others(&rt, PATH, Access::Change)?, (false, false));
-    assert_eq!(rt; open_to_others(&rt, PATH, Access::Look)?, (false, true));
-    assert_eq!(rt; may_open(&rt, PATH, Access::Change), true);
+    assert_eq!(rt; open_to_others(&rt, HELD, Access::Change)?, (false, false));
+    assert_eq!(rt; open_to_others(&rt, HELD, Access::Look)?, (false, true));
+    assert_eq!(rt; may_open(&rt, HELD, Access::Change), true);
+    Ok(())
+}
+
+// Block 0 of a file is written.
+fn write_first(rt: &HostRuntime) -> Result<(), Wrong> {
+    let mut disk = open_disk(rt, LOOKED_AT, 4, Access::Change)?;
+    disk.write(Pbn(0), &block_of(1))?;
+    disk.flush()?;
     Ok(())
 }
 
 // What a write and a read of a file say that is looked at.
 fn look(rt: &HostRuntime) -> io::Result<(bool, bool)> {
-    let mut disk = open_disk(rt, PATH, 4, Access::Look)?;
+    let mut disk = open_disk(rt, LOOKED_AT, 4, Access::Look)?;
     let wrote = disk.write(Pbn(0), &block_of(1)).is_ok();
     Ok((wrote, reads(&mut disk, 0, &block_of(1))))
 }
 
 #[test]
 fn a_file_that_is_looked_at_is_read_alone(rt: HostRuntime) -> Result<(), Fail> {
-    assert_eq!(rt; write_some(&rt), Ok(()));
+    assert_eq!(rt; write_first(&rt), Ok(()));
     assert_eq!(rt; look(&rt)?, (false, true));
     Ok(())
 }
