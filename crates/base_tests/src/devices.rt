@@ -29,8 +29,8 @@ fn fault((kind, at, nth, effect): PlannedFault) -> FaultAt {
 
 // Which of nine calls succeed.
 fn call_nine(device: &mut MemDisk) -> [bool; 9]
-    requires { length device.old.blocks ≡ 2 }
-    ensures { length device.new.blocks ≡ 2 }
+    requires { length device.old.opening ≡ 2 }
+    ensures { length device.new.opening ≡ 2 }
 {
     let mut into = Block::zero();
     [
@@ -48,8 +48,8 @@ fn call_nine(device: &mut MemDisk) -> [bool; 9]
 
 // The first byte of a block; 0 where it can't be read.
 fn first_byte(device: &mut MemDisk, at: u32) -> u8
-    requires { at < length device.old.blocks }
-    ensures { length device.new.blocks ≡ length device.old.blocks }
+    requires { at < length device.old.opening }
+    ensures { length device.new.opening ≡ length device.old.opening }
 {
     let mut into = Block::zero();
     match device.read(Pbn(at), &mut into) {
@@ -130,7 +130,7 @@ fn two_faults(rt: HostRuntime) -> Result<(), Fail> {
 }
 
 fn device_of_two(alloc: Global) -> Result<MemDisk, AllocError>
-    ensures { IfOk result (λ device. length device.blocks ≡ 2) }
+    ensures { IfOk result (λ device. length device.opening ≡ 2) }
 {
     let mut blocks = Vec::new(alloc);
     blocks.push(block_of(5))?;
@@ -140,7 +140,7 @@ fn device_of_two(alloc: Global) -> Result<MemDisk, AllocError>
 
 // A read, a write and a flush, and the first byte that was read.
 fn call_three(device: &mut MemDisk) -> ([Result<(), Failed>; 3], u8)
-    requires { length device.old.blocks ≡ 2 }
+    requires { length device.old.opening ≡ 2 }
 {
     let mut into = Block::zero();
     let results = [

@@ -1,4 +1,4 @@
-ghost use Rattle.std.specs.Prelude.{◌≡◌};
+ghost use Rattle.std.specs.Prelude.{◌≡◌, length};
 ghost use Rattle.blk_base.specs.Sectors.{zero_block};
 
 use std::marker::Model;
@@ -28,7 +28,8 @@ impl Block {
 
     /// Takes over the bytes of another block.
     pub fn copy_from(&mut self, other: &Block)
-        ensures { self.new ≡ other.now }
+        ensures same { self.new ≡ other.now }
+        ensures whole { length self.new ≡ 4096 }
     {
         self.bytes = other.bytes;
     }

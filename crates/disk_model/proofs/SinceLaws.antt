@@ -217,6 +217,22 @@ module _ (tells honest : Bool) (from : ℕ) (first now next : Seen) (blocks : Li
   none_more rose logged =
       failed_on tells honest from first now next (reverse blocks) was [] (one_failed tells honest (from + length (reverse blocks)) now next at bytes here stays later rose logged)
 
+module _ (tells honest : Bool) (from : ℕ) (first now next : Seen) (blocks : List (List ℕ)) (at : Pbn) (place : at.0 ≡ from + length blocks)
+    (was : WereRead tells honest from first now (reverse blocks)) where
+  behind : at.0 ≡ from + length (reverse blocks)
+  behind = omega (arith, place, length-reverse blocks)
+
+  -- the block behind them
+  pub next_read : (bytes : List ℕ) → WereRead tells honest at.0 now next (bytes ∷ []) → WereRead tells honest from first next (reverse (blocks ++ (bytes ∷ [])))
+  next_read bytes read =
+      subst (WereRead tells honest from first next) (sym (reverse-append blocks (bytes ∷ [])))
+      (read_on tells honest from first now next (reverse blocks) was (bytes ∷ []) (subst (λ (b : ℕ). WereRead tells honest b now next (bytes ∷ [])) behind read))
+
+  -- it couldn't be read
+  pub next_failed : NextFailed tells honest at.0 now next [] → NextFailed tells honest from first next (reverse blocks)
+  next_failed failed =
+      failed_on tells honest from first now next (reverse blocks) was [] (subst (λ (b : ℕ). NextFailed tells honest b now next []) behind failed)
+
 -- Where nothing is pending, blocks that an honest device gave are those of the one image.
 
 block_given : (opening : Blocks) (log : List Call) (image : Blocks) (at : ℕ) (block : List ℕ) → at < length opening → length block ≡ 4096

@@ -5,10 +5,11 @@ use Rattle.blk_base.specs.Sectors.{sector}
 use Rattle.blk_base.specs.declared.place.Pbn.{Pbn}
 use Rattle.disk_model.specs.declared.call.Call.{Call}
 use Rattle.disk_model.specs.declared.call.Call.TheVariants.{Read, Write, Flush}
+use Rattle.disk_model.specs.declared.reads.ReadError.TheVariants.{Device, Memory}
 use Rattle.disk_model.specs.Causes.{Rose}
 use Rattle.disk_model.specs.Log.{Blocks, block_at}
 use Rattle.disk_model.specs.Seen.{Seen, Stays, Later}
-use Rattle.disk_model.specs.Since.{SinceThen, OnlyReads, IsUntouched, reads_of, AreGiven, WereRead, NextFailed}
+use Rattle.disk_model.specs.Since.{SinceThen, OnlyReads, IsUntouched, reads_of, AreGiven, WereRead, NextFailed, StopsBefore, OfDevice}
 use Rattle.disk_model.specs.Telling.{FailedInLog}
 
 -- a block filled with one byte; blocks of different bytes differ in their first sectors
@@ -262,3 +263,20 @@ next_failed-not_unlogged failed = elim (failed.logged refl).1 [
   | inl is ↦ let size = ap length is in omega (arith, size)
   | inr (same, rose) ↦ omega (arith, rose)
 ]
+
+-- StopsBefore: fewer than all were read, and the next one failed
+stops : StopsBefore true true 0 2 first (after (one_failed (at 1)) 4 3)
+stops = (block 1 ∷ [], omega arith, next_failed)
+
+stops-not_behind_all : (now : Seen) → StopsBefore true true 0 0 first now → ⊥
+stops-not_behind_all now (blocks, fewer, failed) = omega (arith, fewer)
+
+stops-not_without_rise : StopsBefore true true 0 2 first (after (one_failed (at 1)) 3 3) → ⊥
+stops-not_without_rise (blocks, fewer, failed) = omega (arith, failed.rose)
+
+-- OfDevice: a fault of the device alone says something
+of_memory : OfDevice ⊥ Memory
+of_memory = tt
+
+of_device-not_nothing : OfDevice ⊥ Device → ⊥
+of_device-not_nothing says = says

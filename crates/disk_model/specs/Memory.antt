@@ -25,7 +25,7 @@ pub record Memory : Type 0 where
 
 -- what a device shows, in memory or not
 abbrev pub seen_of : Memory → Seen
-seen_of memory = record { opening = memory.opening; size = length memory.blocks; log = memory.log; faults = memory.faults; unkept = memory.unkept }
+seen_of memory = record { opening = memory.opening; size = length memory.opening; log = memory.log; faults = memory.faults; unkept = memory.unkept }
 
 -- a device whose log begins at these blocks
 abbrev pub fresh : Blocks → Memory

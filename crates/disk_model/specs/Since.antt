@@ -1,7 +1,9 @@
 -- What was done to a device since a moment.
-use Rattle.std.specs.Prelude.{ℕ, ◌≡◌, ◌+◌, Bool, true, false, IsTrue, List, [], ◌∷◌, ◌++◌, length}
+use Rattle.std.specs.Prelude.{ℕ, ◌≡◌, ◌+◌, ◌<◌, Bool, true, false, IsTrue, List, [], ◌∷◌, ◌++◌, length}
 use Rattle.disk_model.specs.declared.call.Call.{Call}
 use Rattle.disk_model.specs.declared.call.Call.TheVariants.{Read, Write, Flush}
+use Rattle.disk_model.specs.declared.reads.ReadError.{ReadError}
+use Rattle.disk_model.specs.declared.reads.ReadError.TheVariants.{Device, Memory}
 use Rattle.disk_model.specs.Causes.{Rose}
 use Rattle.disk_model.specs.Images.{IsMixOf}
 use Rattle.disk_model.specs.Log.{settled}
@@ -38,8 +40,7 @@ AreGiven tells honest from before (bytes ∷ older) =
     × (IsTrue tells → IsTrue honest → IsMixOf (settled before.opening before.log (from + length older)) bytes)
     × AreGiven tells honest from before older
 
--- These blocks were read since, from this number on, and nothing else was done. The newest stands first. (A device that
--- tells has as many opening blocks as it has blocks.)
+-- These blocks were read since, from this number on, and nothing else was done. The newest stands first.
 pub record WereRead (tells honest : Bool) (from : ℕ) (before now : Seen) (blocks : List (List ℕ)) : Type 0 where
   pub told : IsTrue tells → length before.opening ≡ before.size
   pub stays : Stays before now
@@ -55,3 +56,12 @@ pub record NextFailed (tells honest : Bool) (from : ℕ) (before now : Seen) (bl
   pub rose : Rose before.faults now.faults
   pub logged : IsTrue tells → (bytes : List ℕ)
       × FailedInLog (reads_of from blocks ++ before.log) now.log (Read (record { 0 = from + length blocks }) bytes false) (Rose before.unkept now.unkept)
+
+-- some of so many blocks from this number on were read, and then the read of the next one failed
+abbrev pub StopsBefore : Bool → Bool → ℕ → ℕ → Seen → Seen → Type 0
+StopsBefore tells honest from count before now = (blocks : List (List ℕ)) × (length blocks < count) × NextFailed tells honest from before now blocks
+
+-- of a fault of the device this is said; of want of memory nothing is
+abbrev pub OfDevice : Type 0 → ReadError → Type 0
+OfDevice says Device = says
+OfDevice says Memory = Unit {0}

@@ -24,8 +24,7 @@ pub trait Disk {
 
     /// How many blocks it has.
     fn blocks(&self) -> u32
-        ensures size { result ≡ (seen self.now).size }
-        ensures told { IsTrue tells → length (seen self.now).opening ≡ (seen self.now).size };
+        ensures { result ≡ (seen self.now).size };
 
     /// Reads a block. After `Failed`, which comes only where the count of faults rose, `into` has any content.
     fn read(&mut self, at: Pbn, into: &mut Block) -> Result<(), Failed>
@@ -33,6 +32,7 @@ pub trait Disk {
         ensures stays { Stays (seen self.old) (seen self.new) }
         ensures given { IsTrue tells → IsTrue honest
             → OnOk result (IsMixOf (settled (seen self.old).opening (seen self.old).log at.0) into.new) }
+        ensures whole { OnOk result (length into.new ≡ 4096) }
         ensures ok { IsTrue tells → OnOk result ((seen self.new).log ≡ Read at into.new true ∷ (seen self.old).log) }
         ensures err { IsTrue tells → OnErr result (FailedInLog (seen self.old).log (seen self.new).log (Read at into.new false)
             (Rose (seen self.old).unkept (seen self.new).unkept)) }
@@ -62,4 +62,7 @@ pub trait Disk {
         ensures cause { HasCause (seen self.old).faults (seen self.new).faults result }
         ensures unkept { (seen self.old).unkept ≤ (seen self.new).unkept }
         ensures all_kept { OnOk result ((seen self.new).unkept ≡ (seen self.old).unkept) };
+
+    /// A device that tells has as many opening blocks as it has blocks.
+    ghost told: { (device : Self) → IsTrue tells → length (seen device).opening ≡ (seen device).size };
 }

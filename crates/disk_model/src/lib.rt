@@ -11,6 +11,7 @@ mod images;
 mod memory;
 mod memory_streams;
 mod picks;
+mod reads;
 mod streams;
 
 pub use call::{Call, Failed};
@@ -21,4 +22,5 @@ pub use images::images_of_a_log;
 pub use memory::MemDisk;
 pub use memory_streams::{MemSink, MemSource};
 pub use picks::a_picked_image_may_stand;
+pub use reads::{ReadError, read_block, read_blocks};
 pub use streams::{OpenGate, Sink, Source, ZoneGate};

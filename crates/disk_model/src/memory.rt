@@ -179,7 +179,7 @@ impl MemDisk {
 }
 
 impl Disk for MemDisk {
-    ghost use Rattle.std.specs.Prelude.{true};
+    ghost use Rattle.std.specs.Prelude.{true, refl};
     ghost use Rattle.disk_model.specs.Memory.{seen_of};
 
     ghost tells = { true };
@@ -188,17 +188,19 @@ impl Disk for MemDisk {
 
     ghost seen = { seen_of };
 
+    ghost told = { λ device tells. refl };
+
     fn blocks(&self) -> u32
-        ensures size { result ≡ length self.now.blocks }
-        ensures told { length self.now.opening ≡ length self.now.blocks }
+        ensures { result ≡ length self.now.opening }
     {
-        self.blocks.len() as u32
+        self.opening.len() as u32
     }
 
     fn read(&mut self, at: Pbn, into: &mut Block) -> Result<(), Failed>
-        requires { at.0 < length self.old.blocks }
+        requires { at.0 < length self.old.opening }
         ensures stays { Stays (seen_of self.old) (seen_of self.new) }
         ensures given { OnOk result (IsMixOf (settled self.old.opening self.old.log at.0) into.new) }
+        ensures whole { OnOk result (length into.new ≡ 4096) }
         ensures ok { OnOk result (self.new.log ≡ Read at into.new true ∷ self.old.log) }
         ensures err { OnErr result (FailedInLog self.old.log self.new.log (Read at into.new false)
             (Rose self.old.unkept self.new.unkept)) }
@@ -238,7 +240,7 @@ impl Disk for MemDisk {
     }
 
     fn write(&mut self, at: Pbn, from: &Block) -> Result<(), Failed>
-        requires { at.0 < length self.old.blocks }
+        requires { at.0 < length self.old.opening }
         ensures stays { Stays (seen_of self.old) (seen_of self.new) }
         ensures ok { OnOk result (self.new.log ≡ Write at from.now true ∷ self.old.log) }
         ensures err { OnErr result (FailedInLog self.old.log self.new.log (Write at from.now false)

@@ -72,6 +72,8 @@ impl<F: FileExt + OpenFile + Drop> Disk for FileDisk<F> {
 
     ghost seen = { λ d. record { opening = []; size = d.blocks; log = []; faults = d.faults; unkept = 0 } };
 
+    ghost told = { λ device tells. absurd (cc tells) };
+
     fn blocks(&self) -> u32 {
         self.blocks
     }

@@ -1,4 +1,4 @@
-ghost use Rattle.std.specs.Prelude.{◌+◌, ◌*◌, ◌<◌, ◌≤◌, length};
+ghost use Rattle.std.specs.Prelude.{◌≡◌, ◌+◌, ◌*◌, ◌<◌, ◌≤◌, length};
 ghost use Rattle.blk_base.specs.declared.place.Pbn.{Pbn};
 
 use blk_base::{Block, Pbn};
@@ -45,6 +45,7 @@ pub(crate) fn read_block<F: FileExt>(
     into: &mut Block,
 ) -> io::Result<()>
     requires { at.0 < blocks }
+    ensures whole { length into.new ≡ 4096 }
 {
     let end = u64::from(blocks) * BLOCK_BYTES;
     read_bytes(file, end, u64::from(at.0) * BLOCK_BYTES, &mut into.bytes)

@@ -2,8 +2,8 @@ ghost use Rattle.std.specs.Prelude.{IfOk, IfErr};
 ghost use Rattle.disk_model.specs.Since.{IsUntouched};
 ghost use Rattle.image_opening.specs.Heads.{HeadFails, IsHeadRead};
 
-use blk_base::{Block, Pbn, Super};
-use disk_model::Disk;
+use blk_base::{Pbn, Super};
+use disk_model::{Disk, read_block};
 use image_layout::{SuperFault, read_super};
 use image_model::ImageFault;
 
@@ -21,12 +21,9 @@ pub fn read_head<D: Disk>(device: &mut D) -> Result<Super, ImageFault>
     if is_empty {
         return Err(ImageFault::Super(SuperFault::NotAnImage));
     }
-    let mut block = Block::zero();
-    let Ok(()) = device.read(Pbn(0), &mut block) else {
+    let Ok(block) = read_block(device, Pbn(0)) else {
         return Err(ImageFault::Device);
     };
-    // Looked at for the proof alone: a block has 4096 bytes.
-    let _bytes = &block.bytes;
     match read_super(&block, blocks) {
         Ok(head) => Ok(head),
         Err(fault) => Err(ImageFault::Super(fault)),

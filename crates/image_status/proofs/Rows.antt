@@ -72,7 +72,7 @@ none_read tells honest g before now chapters four has none = let count = has.cou
 not_read : (honest : Bool) (g : Geometry) (seen : Seen) (chapters : ℕ) (bytes : List ℕ) → (has : HasChapters true honest g seen seen chapters) → has.reads ≡ Some bytes ∷ [] → ⊥
 not_read honest g seen chapters bytes has one =
     let each = subst (λ (reads : List (Option (List ℕ))). ReadEach true honest (first_index_of g) seen seen reads) one has.each in
-    let logged = ap length (each.1.gave.1 refl) in
+    let logged = ap length (each.1.logged refl) in
     let same = ap (λ (s : Seen). length s.log) each.2 in
     omega (arith, logged, same)
 

@@ -13,7 +13,7 @@ fn block_of(byte: u8) -> Block {
 
 // Which of six calls succeed.
 fn call_six(device: &mut MemDisk) -> [bool; 6]
-    requires { length device.old.blocks ≡ 2 }
+    requires { length device.old.opening ≡ 2 }
 {
     let mut into = Block::zero();
     [

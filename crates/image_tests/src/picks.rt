@@ -62,8 +62,8 @@ const FAULTS: [FaultAt; 2] = [
 
 // Writes a block of this byte, whether or not that fails.
 fn write(device: &mut MemDisk, at: u32, byte: u8)
-    requires { length device.old.blocks ≡ 4 }
-    ensures { length device.new.blocks ≡ 4 }
+    requires { length device.old.opening ≡ 4 }
+    ensures { length device.new.opening ≡ 4 }
 {
     if at < 4 {
         let _ = device.write(
@@ -77,8 +77,8 @@ fn write(device: &mut MemDisk, at: u32, byte: u8)
 
 // What was written, flushed, and written since, until the device was cut off.
 fn write_all(device: &mut MemDisk)
-    requires { length device.old.blocks ≡ 4 }
-    ensures { length device.new.blocks ≡ 4 }
+    requires { length device.old.opening ≡ 4 }
+    ensures { length device.new.opening ≡ 4 }
 {
     write(device, 0, 1);
     write(device, 2, 9);

@@ -4,7 +4,7 @@ use Rattle.blk_base.specs.declared.geometry.Geometry.{Geometry}
 use Rattle.blk_base.specs.declared.geometry.Super.{Super}
 use Rattle.disk_model.specs.Log.{Blocks}
 use Rattle.disk_model.specs.Seen.{Seen}
-use Rattle.disk_model.specs.Since.{WereRead, NextFailed}
+use Rattle.disk_model.specs.Since.{WereRead, StopsBefore}
 use Rattle.image_model.specs.declared.fault.ImageFault.{ImageFault}
 use Rattle.image_model.specs.declared.fault.ImageFault.TheVariants.{Super as Superblock, Window, Page, Counter, SharedPage, Counts, Device, Unclean, Memory}
 use Rattle.journal_window.specs.States.{WindowState}
@@ -27,7 +27,7 @@ IsRefusalRead tells honest before now head why =
 
 -- some of them were read, in the order of the slots, and the read of the next one failed
 abbrev pub HasReadFailed : Bool → Bool → Seen → Seen → Geometry → Type 0
-HasReadFailed tells honest before now g = (blocks : Blocks) × (length blocks < g.journal) × NextFailed tells honest 1 before now blocks
+HasReadFailed tells honest before now g = StopsBefore tells honest 1 g.journal before now
 
 -- why they aren't all read: that, or want of memory
 abbrev pub JournalFails : Bool → Bool → Seen → Seen → Geometry → ImageFault → Type 0

@@ -6,7 +6,7 @@ ghost use Rattle.journal_window.specs.Reads.{IsJournalRead, IsWindowRead, Journa
 
 use crate::{JournalWindow, window_of};
 use blk_base::{Block, Layout, Super};
-use disk_model::Disk;
+use disk_model::{Disk, ReadError, read_blocks};
 use image_model::ImageFault;
 use std::alloc::Global;
 
@@ -46,19 +46,10 @@ fn read_journal<D: Disk>(
     ensures fault { IfErr result (JournalFails D.tells D.honest (D.seen device.old) (D.seen device.new) layout.now.geometry) }
     ensures untouched { IsUntouched D.tells (D.seen device.old) (D.seen device.new) }
 {
-    // Asked for the proof alone: a device that tells has as many opening blocks.
-    let _blocks = device.blocks();
-    let mut journal = Vec::new(alloc);
-    for slot in 0..u64::from(layout.geometry.journal) {
-        let mut block = Block::zero();
-        let Ok(()) = device.read(layout.journal_slot(slot), &mut block) else {
-            return Err(ImageFault::Device);
-        };
-        // Looked at for the proof alone: a block has 4096 bytes.
-        let _bytes = &block.bytes;
-        let Ok(()) = journal.push(block) else {
-            return Err(ImageFault::Memory);
-        };
+    let first = layout.journal_slot(0);
+    match read_blocks(alloc, device, first, layout.geometry.journal) {
+        Ok(journal) => Ok(journal),
+        Err(ReadError::Device) => Err(ImageFault::Device),
+        Err(ReadError::Memory) => Err(ImageFault::Memory),
     }
-    Ok(journal)
 }

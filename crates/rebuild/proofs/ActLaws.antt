@@ -17,7 +17,6 @@ use Rattle.recovery_laws.specs.Calls.{IsPut, IsWritten}
 use Rattle.recovery_laws.specs.Kept.{image_in}
 use Rattle.rebuild.proofs.FailLaws.{failed_behind, failed_on, on_err, read_is_last}
 use Rattle.rebuild.specs.Acts.{Acts, AreMade, Grows, IsStart, Recovers, Stopped, Went}
-use Rattle.rebuild.specs.Reads.{ReadsOne}
 
 -- What was written stays written.
 pub still_written : (more calls : List Call) (b : ℕ) → IsWritten calls b → IsWritten (more ++ calls) b
@@ -224,12 +223,6 @@ module _ (tells honest : Bool) (before middle now : Seen) (at : Pbn) (given byte
     failed = failed_behind tells before middle now read.later (read_grows read) (last_failed tells middle now (put at.0 bytes ∷ []) made);
     recovers = written_recovers (Err e) read made is;
   }
-
--- what a read that failed is, where it is passed on
-pub read_err : (tells honest : Bool) (at : Pbn) (before now : Seen) (bytes : List ℕ) (result : Result (Unit {0}) Failed) → IsErr result → NextFailed tells honest at.0 before now []
-    → ReadsOne tells honest at before now bytes result
-read_err tells honest at before now bytes (Ok _) is failed = absurd (cc is)
-read_err tells honest at before now bytes (Err _) is failed = failed
 
 recovers_err : (tells honest : Bool) (before now : Seen) (N : Image → Type 0) (D : Image → List Call → Type 0) (result : Result (Unit {0}) Failed) → IsErr result → Stopped tells honest before now N
     → Recovers tells honest before now N D result

@@ -1,4 +1,3 @@
-pub mod Reads
 pub mod Acts
 pub mod Done
 pub mod Outcomes

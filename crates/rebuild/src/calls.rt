@@ -4,24 +4,10 @@ ghost use Rattle.image_format.specs.Calls.{put};
 ghost use Rattle.image_format.specs.Runs.{Makes};
 ghost use Rattle.image_layout.specs.Superblock.{super_block};
 ghost use Rattle.recovery_laws.specs.Kept.{recovered_super};
-ghost use Rattle.rebuild.specs.Reads.{ReadsOne};
 
 use blk_base::{Block, Geometry, Pbn, Super};
 use disk_model::{Disk, Failed};
 use image_layout::write_super;
-
-// Reads a block.
-pub(crate) fn read<D: Disk>(device: &mut D, at: Pbn, into: &mut Block) -> Result<(), Failed>
-    requires { at.0 < (D.seen device.old).size }
-    ensures { ReadsOne D.tells D.honest at (D.seen device.old) (D.seen device.new) into.new result }
-{
-    // Asked for the proof alone: a device that tells has as many opening blocks.
-    let _blocks = device.blocks();
-    device.read(at, into)?;
-    // Looked at for the proof alone: a block has 4096 bytes.
-    let _bytes = &into.bytes;
-    Ok(())
-}
 
 // Writes a block.
 pub(crate) fn put<D: Disk>(device: &mut D, at: Pbn, block: &Block) -> Result<(), Failed>

@@ -4,9 +4,9 @@ ghost use Rattle.count_updates.specs.Numbers.{all_blocks, all_sectors};
 ghost use Rattle.rebuild.specs.Acts.{Acts};
 ghost use Rattle.rebuild.specs.Done.{AreSlabsDone, HasTheseCounts, IsBlockDone, IsSlabDone};
 
-use crate::calls::{put, read};
+use crate::calls::put;
 use blk_base::{Block, Layout};
-use disk_model::{Disk, Failed};
+use disk_model::{Disk, Failed, read_block};
 use recovery_blocks::{has_updates, put_counts};
 use replay_counts::RecoveredCounts;
 
@@ -96,8 +96,7 @@ fn write_block<D: Disk>(
         (IsBlockDone layout.now.geometry counts.now.sectors.items slab i) result }
 {
     let at = layout.reference_block(slab, i);
-    let mut block = Block::zero();
-    read(device, at, &mut block)?;
+    let mut block = read_block(device, at)?;
     put_counts(&mut block, layout, slab, i, counts);
     // Looked at for the proof alone: a block has 4096 bytes.
     let _bytes = &block.bytes;

@@ -31,8 +31,6 @@ use std::alloc::Global;
 pub fn open_clean<D: Disk>(alloc: Global, device: &mut D) -> Result<Opened, ImageFault>
     ensures { IsOpening D.tells D.honest (D.seen device.old) (D.seen device.new) result }
 {
-    // Asked for the proof alone: a device that tells has as many opening blocks.
-    let _blocks = device.blocks();
     let head = read_head(device)?;
     check_closed(&head)?;
     let window = read_window(alloc, &head, device)?;

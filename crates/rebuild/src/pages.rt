@@ -5,9 +5,9 @@ ghost use Rattle.replay_map.specs.Walks.{IsRoot};
 ghost use Rattle.rebuild.specs.Acts.{Acts};
 ghost use Rattle.rebuild.specs.Done.{AreLinksDone, ArePagesDone, AreRootsDone, HasLinks, HasPage, HasPages, HasRoots, IsPageDone};
 
-use crate::calls::{put, read};
+use crate::calls::put;
 use blk_base::{Block, Layout, PageId, TREES};
-use disk_model::{Disk, Failed};
+use disk_model::{Disk, Failed, read_block};
 use recovery_blocks::{has_changes, put_changes};
 use replay_map::{Changes, Link};
 
@@ -82,8 +82,7 @@ fn write_page<D: Disk>(device: &mut D, changes: &Changes, link: Link) -> Result<
     requires { link.at.0 < (D.seen device.old).size }
     ensures { Acts D.tells D.honest (D.seen device.old) (D.seen device.new) (HasPage changes.now link) (IsPageDone changes.now link) result }
 {
-    let mut block = Block::zero();
-    read(device, link.at, &mut block)?;
+    let mut block = read_block(device, link.at)?;
     put_changes(&mut block, link.page, changes);
     put(device, link.at, &block)
 }

@@ -29,8 +29,6 @@ use std::alloc::Global;
 pub fn recover<D: Disk>(alloc: Global, device: &mut D) -> Result<Recovered, ImageFault>
     ensures { IsRecovery D.tells D.honest (D.seen device.old) (D.seen device.new) result }
 {
-    // Asked for the proof alone: a device that tells has as many opening blocks.
-    let _blocks = device.blocks();
     let head = read_head(device)?;
     // Looked at for the proof alone: it fits 64 bits, so that it is read back.
     let _nonce = head.geometry.nonce;

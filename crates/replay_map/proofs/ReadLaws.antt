@@ -1,16 +1,12 @@
 -- Reads that follow each other, and what they show together.
-use Rattle.std.proofs.Common.{ℕ, ◌≡◌, ◌<◌, ◌++◌, Bool, true, false, IsTrue, List, [], ◌∷◌, length, refl, sym, subst}
+use Rattle.std.proofs.Common.{ℕ, ◌≡◌, ◌<◌, ◌++◌, Bool, List, [], ◌∷◌, refl, sym, subst}
 use Rattle.blk_base.specs.declared.geometry.Geometry.{Geometry}
 use Rattle.blk_base.specs.declared.place.Mapping.{Mapping}
 use Rattle.blk_base.specs.declared.place.Pbn.{Pbn}
-use Rattle.disk_model.proofs.SinceLaws.{one_read, one_failed, were_only_read, next_only_read, untouched_on, untouched_yet}
-use Rattle.disk_model.specs.Causes.{Rose}
-use Rattle.disk_model.specs.Images.{IsMixOf}
-use Rattle.disk_model.specs.Log.{Blocks, settled}
-use Rattle.disk_model.specs.Seen.{Seen, Stays, Later}
-use Rattle.disk_model.specs.Since.{IsUntouched}
-use Rattle.disk_model.specs.Telling.{FailedInLog}
-use Rattle.disk_model.specs.declared.call.Call.TheVariants.{Read}
+use Rattle.disk_model.proofs.SinceLaws.{were_only_read, next_only_read, untouched_on, untouched_yet}
+use Rattle.disk_model.specs.Log.{Blocks}
+use Rattle.disk_model.specs.Seen.{Seen}
+use Rattle.disk_model.specs.Since.{IsUntouched, WereRead, NextFailed}
 use Rattle.image_model.specs.Maps.{Image}
 use Rattle.replay_map.specs.Reads.{Reading, BlocksRead, IsPageBlock, ReadFails, Shows, HasReads, IsShown}
 use Rattle.replay_map.specs.declared.changes.SlotId.{SlotId}
@@ -70,18 +66,13 @@ module _ (tells honest : Bool) (g : Geometry) (changes : List (SlotId × Mapping
       shown_on before middle now (λ image. Old image × (image.geometry ≡ g)) New Both (sized before middle Old old) new (λ image known says. together image known.1 known.0 says)
 
   -- one block
-  pub shown_by_one : (before now : Seen) (at : Pbn) (bytes : List ℕ) (Says : Image → Type 0) → at.0 < before.size → IsPageBlock g at → (IsTrue tells → length before.opening ≡ before.size)
-      → Stays before now → Later before now → length bytes ≡ 4096 → (IsTrue tells → IsTrue honest → IsMixOf (settled before.opening before.log at.0) bytes)
-      → (IsTrue tells → now.log ≡ Read at bytes true ∷ before.log)
+  pub shown_by_one : (before now : Seen) (at : Pbn) (bytes : List ℕ) (Says : Image → Type 0) → at.0 < before.size → IsPageBlock g at → WereRead tells honest at.0 before now (bytes ∷ [])
       → ((image : Image) → HasReads g changes (record { at = at; bytes = bytes } ∷ []) image → Says image) → IsShown tells honest g changes before now Says
-  shown_by_one before now at bytes Says inside stands told stays later whole given logged says =
-      (record { at = at; bytes = bytes } ∷ [], (before, refl, one_read tells honest at.0 before now at bytes refl told stays later whole given logged, inside, stands), says)
+  shown_by_one before now at bytes Says inside stands read says = (record { at = at; bytes = bytes } ∷ [], (before, refl, read, inside, stands), says)
 
 -- a read that failed, at once or behind others
-pub failed_at_once : (tells honest : Bool) (g : Geometry) (before now : Seen) (at : Pbn) (bytes : List ℕ) → IsPageBlock g at → Stays before now → Later before now → Rose before.faults now.faults
-    → (IsTrue tells → FailedInLog before.log now.log (Read at bytes false) (Rose before.unkept now.unkept)) → ReadFails tells honest g before now
-failed_at_once tells honest g before now at bytes stands stays later rose logged =
-    ([], before, at, refl, one_failed tells honest at.0 before now at bytes refl stays later rose logged, stands)
+pub failed_at_once : (tells honest : Bool) (g : Geometry) (before now : Seen) (at : Pbn) → IsPageBlock g at → NextFailed tells honest at.0 before now [] → ReadFails tells honest g before now
+failed_at_once tells honest g before now at stands failed = ([], before, at, refl, failed, stands)
 
 pub failed_behind : (tells honest : Bool) (g : Geometry) (changes : List (SlotId × Mapping)) (before middle now : Seen) (Says : Image → Type 0)
     → IsShown tells honest g changes before middle Says → ReadFails tells honest g middle now → ReadFails tells honest g before now

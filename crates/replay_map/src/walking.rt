@@ -14,7 +14,7 @@ use crate::found::Found;
 use crate::taking::take_page;
 use crate::{Changes, Link, read_page};
 use blk_base::{Block, Layout, Mapping, Mappings, PAGE_SLOTS, PageId, Pbn, TREES};
-use disk_model::Disk;
+use disk_model::{Disk, read_block};
 use image_model::ImageFault;
 use page_codec::PageHead;
 use std::alloc::Global;
@@ -184,14 +184,9 @@ fn read_linked<D: Disk>(
         (λ image. IsLinked image (link_to page.now)) (IsUpTo page.now.page 0)) }
     ensures untouched { IsUntouched D.tells (D.seen device.old) (D.seen device.new) }
 {
-    // Asked for the proof alone: a device that tells has as many opening blocks.
-    let _blocks = device.blocks();
-    let mut block = Block::zero();
-    let Ok(()) = device.read(page.at, &mut block) else {
+    let Ok(block) = read_block(device, page.at) else {
         return Err(ImageFault::Device);
     };
-    // Looked at for the proof alone: a block has 4096 bytes.
-    let _bytes = &block.bytes;
     match read_page(&block, page, changes, into) {
         Ok(()) => Ok(()),
         Err(fault) => Err(ImageFault::Page { at: page.at, fault }),

@@ -3,7 +3,7 @@ use Rattle.std.specs.Prelude.{ℕ, ◌≡◌, ◌<◌, ◌==◌, if◌then◌els
 use Rattle.blk_base.specs.declared.geometry.Geometry.{Geometry}
 use Rattle.disk_model.specs.Log.{Blocks}
 use Rattle.disk_model.specs.Seen.{Seen}
-use Rattle.disk_model.specs.Since.{WereRead, NextFailed}
+use Rattle.disk_model.specs.Since.{WereRead, StopsBefore}
 use Rattle.image_model.specs.declared.fault.ImageFault.{ImageFault}
 use Rattle.image_model.specs.declared.fault.ImageFault.TheVariants.{Super, Window, Page, Counter, SharedPage, Counts, Device, Unclean, Memory}
 use Rattle.slab_reading.specs.Slabs.{first_of_slab, blocks_per_slab}
@@ -16,7 +16,7 @@ pub record IsSlabRead (tells honest : Bool) (g : Geometry) (slab : ℕ) (before 
 -- some of them were read, and the read of the next one failed
 abbrev pub SlabFailed : Bool → Bool → Geometry → ℕ → Seen → Seen → Type 0
 SlabFailed tells honest g slab before now =
-    (blocks : Blocks) × (length blocks < blocks_per_slab g) × NextFailed tells honest (first_of_slab g slab) before now blocks
+    StopsBefore tells honest (first_of_slab g slab) (blocks_per_slab g) before now
 
 -- why a slab isn't read: that, or want of memory
 abbrev pub SlabFails : Bool → Bool → Geometry → ℕ → Seen → Seen → ImageFault → Type 0

@@ -4,8 +4,8 @@ ghost use Rattle.disk_model.specs.Since.{IsUntouched};
 ghost use Rattle.slab_reading.specs.Reads.{IsSlabRead, SlabFails};
 ghost use Rattle.slab_reading.specs.Slabs.{blocks_per_slab};
 
-use blk_base::{Block, Layout, Pbn};
-use disk_model::Disk;
+use blk_base::{Block, Layout};
+use disk_model::{Disk, ReadError, read_blocks};
 use image_model::ImageFault;
 use std::alloc::Global;
 
@@ -33,20 +33,10 @@ pub(crate) fn read_slab<D: Disk>(
     ensures fault { IfErr result (SlabFails D.tells D.honest layout.now.geometry slab (D.seen device.old) (D.seen device.new)) }
     ensures untouched { IsUntouched D.tells (D.seen device.old) (D.seen device.new) }
 {
-    // Asked for the proof alone: a device that tells has as many opening blocks.
-    let _blocks = device.blocks();
     let first = layout.reference_block(slab, 0);
-    let mut read = Vec::new(alloc);
-    for i in 0..blocks_per_slab(layout) {
-        let mut block = Block::zero();
-        let Ok(()) = device.read(Pbn(first.0 + i), &mut block) else {
-            return Err(ImageFault::Device);
-        };
-        // Looked at for the proof alone: a block has 4096 bytes.
-        let _bytes = &block.bytes;
-        let Ok(()) = read.push(block) else {
-            return Err(ImageFault::Memory);
-        };
+    match read_blocks(alloc, device, first, blocks_per_slab(layout)) {
+        Ok(read) => Ok(read),
+        Err(ReadError::Device) => Err(ImageFault::Device),
+        Err(ReadError::Memory) => Err(ImageFault::Memory),
     }
-    Ok(read)
 }

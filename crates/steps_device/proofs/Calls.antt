@@ -26,7 +26,7 @@ no_read_done (Ok x) = tt
 no_read_done (Err e) = tt
 
 pub read_done : {T E : Type 0} (opening : Blocks) (log : List Call) (at : Pbn) (bytes : List ℕ) (result : Result T E)
-    → length bytes ≡ 4096 → OnOk result (IsMixOf (settled opening log at.0) bytes) → OnOk result (GivesSettled opening log (Calls (call.Read at bytes true) ∷ []))
+    → OnOk result (length bytes ≡ 4096) → OnOk result (IsMixOf (settled opening log at.0) bytes) → OnOk result (GivesSettled opening log (Calls (call.Read at bytes true) ∷ []))
 read_done opening log at bytes (Ok x) whole given = (whole, given, tt)
 read_done opening log at bytes (Err e) whole given = tt
 

@@ -18,10 +18,7 @@ pub(crate) fn read_block<D: Disk>(disk: &mut D, at: Pbn, into: &mut Block) -> Re
     ensures ok { OnOk result (HasCalled D.tells D.honest (D.seen disk.old) (D.seen disk.new) (Calls (call.Read at into.new true) ∷ [])) }
     ensures err { OnErr result (HasFailed D.tells D.honest (D.seen disk.old) (D.seen disk.new) (call.Read at into.new false)) }
 {
-    let read = disk.read(at, into);
-    // Looked at for the proof alone: a block has 4096 bytes.
-    let _bytes = &into.bytes;
-    read
+    disk.read(at, into)
 }
 
 /// Writes a block.

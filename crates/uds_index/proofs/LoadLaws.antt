@@ -10,13 +10,8 @@ use Rattle.std.proofs.lemmas.List.Folds.{list_any-append, list_any_none}
 use Rattle.blk_base.specs.declared.place.Pbn.{Pbn}
 use Rattle.blk_base.specs.declared.geometry.Geometry.{Geometry}
 use Rattle.blk_base.specs.Regions.{first_index_of}
-use Rattle.disk_model.specs.Seen.{Later, Seen, Stays}
-use Rattle.disk_model.specs.declared.call.Call.TheVariants.{Read}
-use Rattle.disk_model.specs.Causes.{Rose}
-use Rattle.disk_model.specs.Images.{IsMixOf}
-use Rattle.disk_model.specs.Log.{settled}
+use Rattle.disk_model.specs.Seen.{Seen}
 use Rattle.disk_model.specs.Since.{IsUntouched}
-use Rattle.disk_model.specs.Telling.{FailedInLog}
 use Rattle.disk_model.proofs.SinceLaws.{untouched_yet, untouched_on}
 use Rattle.byte_fields.specs.Fields.{number_at}
 use Rattle.uds_chapters.specs.declared.entry.Record.{Record}
@@ -302,17 +297,6 @@ pub page_read : (g : Geometry) (number : ℕ) (bytes : List ℕ) (r : Option Loa
     → IfNone r ((page : Loaded) → Holds g.nonce (g.index / 4) number bytes page → ⊥) → IsPageRead g number (Some bytes) (option_map loaded_page r)
 page_read g number bytes None some none = none
 page_read g number bytes (Some page) some none = some
-
-pub read_ok : (tells honest : Bool) (place : ℕ) (before now : Seen) (at : Pbn) (bytes : List ℕ) → at.0 ≡ place → Stays before now → Later before now
-    → (IsTrue tells → IsTrue honest → IsMixOf (settled before.opening before.log at.0) bytes)
-    → (IsTrue tells → now.log ≡ Read at bytes true ∷ before.log) → ReadOne tells honest place before now (Some bytes)
-read_ok tells honest place before now at bytes same stays later given logged =
-    subst (λ (n : ℕ). ReadOne tells honest n before now (Some bytes)) same (record { stays = stays; later = later; gave = (given, logged) })
-
-pub read_failed : (tells honest : Bool) (place : ℕ) (before now : Seen) (at : Pbn) (bytes : List ℕ) → at.0 ≡ place → Stays before now → Later before now → Rose before.faults now.faults
-    → (IsTrue tells → FailedInLog before.log now.log (Read at bytes false) (Rose before.unkept now.unkept)) → ReadOne tells honest place before now None
-read_failed tells honest place before now at bytes same stays later rose logged =
-    subst (λ (n : ℕ). ReadOne tells honest n before now None) same (record { stays = stays; later = later; gave = (rose, λ told. (bytes, logged told)) })
 
 -- One block after the other.
 

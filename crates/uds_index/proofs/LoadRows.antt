@@ -115,17 +115,18 @@ a_chapter_left_out = λ has. false≢true has
 a_read_of_another_block : (honest : Bool) (before now : Seen) (bytes : List ℕ) → now.log ≡ Read (record { 0 = 70 }) bytes true ∷ before.log
     → ¬ ReadOne true honest 69 before now (Some bytes)
 a_read_of_another_block honest before now bytes other = λ one.
-    let logged = one.gave.1 refl in
+    let logged = one.logged refl in
     let same : ◌≡◌ {A = Pbn} (record { 0 = 70 }) (record { 0 = 69 }) = cc in
     let numbers : ◌≡◌ {A = ℕ} 70 69 = ap (λ (at : Pbn). at.0) same in
     omega (arith, numbers)
 
 a_failure_without_a_cause : (before now : Seen) → before.faults ≡ 3 → now.faults ≡ 3 → ¬ ReadOne false false 69 before now None
-a_failure_without_a_cause before now was is = λ one. let rose = one.gave.0 in omega (arith, rose, was, is)
+a_failure_without_a_cause before now was is = λ one. let rose = one.rose in omega (arith, rose, was, is)
 
 -- it is the same device, and no count fell: a block that isn't read can't be made up for by what was done before
 a_read_of_another_device : (before now : Seen) (read : Option (List ℕ)) → before.size ≡ 154 → now.size ≡ 3 → ¬ ReadOne false false 69 before now read
-a_read_of_another_device before now read was is = λ one. let size = one.stays.size in omega (arith, size, was, is)
+a_read_of_another_device before now None was is = λ one. let size = one.stays.size in omega (arith, size, was, is)
+a_read_of_another_device before now (Some bytes) was is = λ one. let size = one.stays.size in omega (arith, size, was, is)
 
 a_count_that_fell : (before now : Seen) (bytes : List ℕ) → before.unkept ≡ 1 → now.unkept ≡ 0 → ¬ ReadOne false false 69 before now (Some bytes)
 a_count_that_fell before now bytes was is = λ one. let less = one.later.unkept in omega (arith, less, was, is)

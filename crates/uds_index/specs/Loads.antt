@@ -5,12 +5,8 @@ use Rattle.std.specs.Option.{option_or}
 use Rattle.blk_base.specs.declared.place.Pbn.{Pbn}
 use Rattle.blk_base.specs.declared.geometry.Geometry.{Geometry}
 use Rattle.blk_base.specs.Regions.{first_index_of}
-use Rattle.disk_model.specs.declared.call.Call.TheVariants.{Read}
-use Rattle.disk_model.specs.Causes.{Rose}
-use Rattle.disk_model.specs.Images.{IsMixOf}
-use Rattle.disk_model.specs.Log.{settled}
-use Rattle.disk_model.specs.Seen.{Later, Seen, Stays}
-use Rattle.disk_model.specs.Telling.{FailedInLog}
+use Rattle.disk_model.specs.Seen.{Seen}
+use Rattle.disk_model.specs.Since.{WereRead, NextFailed}
 use Rattle.uds_chapters.specs.declared.entry.Record.{Record}
 use Rattle.uds_chapters.specs.Chapters.{Numbered, location_of}
 use Rattle.uds_chapters.specs.Pages.{IsPage}
@@ -77,21 +73,10 @@ pub record IsLoadedBook (g : Geometry) (reads : List (Option (List ℕ))) (book 
   pub unclosed : book.unclosed ≡ []
   pub due : book.due ≡ []
 
--- What one read of a block gave: of an honest device a mix of what was settled, and the read is in the log; or it failed,
--- which is in the log where there was memory for it.
-abbrev pub Gave : Bool → Bool → ℕ → Seen → Seen → Option (List ℕ) → Type 0
-Gave tells honest at before now None =
-    Rose before.faults now.faults × (IsTrue tells → (bytes : List ℕ)
-    × FailedInLog before.log now.log (Read (record { 0 = at }) bytes false) (Rose before.unkept now.unkept))
-Gave tells honest at before now (Some bytes) =
-    (IsTrue tells → IsTrue honest → IsMixOf (settled before.opening before.log at) bytes)
-    × (IsTrue tells → now.log ≡ Read (record { 0 = at }) bytes true ∷ before.log)
-
--- one read of a block, and what it gave
-pub record ReadOne (tells honest : Bool) (at : ℕ) (before now : Seen) (read : Option (List ℕ)) : Type 0 where
-  pub stays : Stays before now
-  pub later : Later before now
-  pub gave : Gave tells honest at before now read
+-- one read of a block: it gave these bytes, or it failed
+abbrev pub ReadOne : Bool → Bool → ℕ → Seen → Seen → Option (List ℕ) → Type 0
+ReadOne tells honest at before now None = NextFailed tells honest at before now []
+ReadOne tells honest at before now (Some bytes) = WereRead tells honest at before now (bytes ∷ [])
 
 -- one read of each block from this number on, in rising order, and nothing else
 abbrev pub ReadEach : Bool → Bool → ℕ → Seen → Seen → List (Option (List ℕ)) → Type 0

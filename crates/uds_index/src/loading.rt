@@ -10,7 +10,7 @@ use crate::tags::TagList;
 use crate::volume::Volume;
 use blk_base::{Block, Geometry, Layout};
 use byte_fields::read_u32;
-use disk_model::Disk;
+use disk_model::{Disk, read_block};
 use lru::LruCache;
 use std::alloc::{AllocError, Global};
 use std::num::NonZeroUsize;
@@ -92,9 +92,8 @@ fn load_page<D: Disk>(device: &mut D, layout: &Layout, number: u32) -> Option<Lo
         × IsPageRead layout.now.geometry number read (option_map loaded_page result) }
     ensures untouched { IsUntouched D.tells (D.seen device.old) (D.seen device.new) }
 {
-    let mut block = Block::zero();
-    match device.read(layout.index_block(number), &mut block) {
-        Ok(()) => held_page(
+    match read_block(device, layout.index_block(number)) {
+        Ok(block) => held_page(
             &block,
             layout.geometry.nonce,
             layout.geometry.index / 4,

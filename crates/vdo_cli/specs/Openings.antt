@@ -10,7 +10,7 @@ use Rattle.blk_base.specs.declared.place.Pbn.{Pbn}
 use Rattle.blk_base.specs.declared.point.Point.{Point}
 use Rattle.core_model.specs.Sessions.{said_by}
 use Rattle.disk_model.specs.Seen.{Seen}
-use Rattle.disk_model.specs.Since.{WereRead, NextFailed}
+use Rattle.disk_model.specs.Since.{WereRead, NextFailed, StopsBefore}
 use Rattle.image_layout.specs.declared.fault.SuperFault.{SuperFault}
 use Rattle.image_layout.specs.declared.fault.SuperFault.TheVariants.{NotAnImage}
 use Rattle.image_model.specs.declared.fault.ImageFault.{ImageFault}
@@ -113,7 +113,7 @@ pub record ReadFailed (tells honest : Bool) (before now : Seen) : Type 0 where
 -- why the journal can't be read: a read of one of its blocks failed, or memory ran out
 abbrev pub JournalFails : Bool → Bool → ℕ → Seen → Seen → Fault → Type 0
 JournalFails tells honest slots before now fault.Device =
-    (blocks : List (List ℕ)) × (length blocks < slots) × NextFailed tells honest 1 before now blocks
+    StopsBefore tells honest 1 slots before now
 JournalFails tells honest slots before now fault.Memory = Unit {0}
 JournalFails tells honest slots before now other = ⊥
 

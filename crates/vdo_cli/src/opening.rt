@@ -9,7 +9,7 @@ use crate::Fault;
 use crate::inspecting::fault_of;
 use crate::mapped::mapped_entries;
 use blk_base::{Block, Entry, Layout, Pbn, Super};
-use disk_model::Disk;
+use disk_model::{Disk, ReadError, read_block, read_blocks};
 use image_layout::{SuperFault, read_super};
 use image_model::ImageFault;
 use journal_room::used_blocks;
@@ -37,12 +37,9 @@ fn read_head<D: Disk>(device: &mut D) -> Result<Super, Fault>
     if is_empty {
         return Err(Fault::Image(ImageFault::Super(SuperFault::NotAnImage)));
     }
-    let mut block = Block::zero();
-    let Ok(()) = device.read(Pbn(0), &mut block) else {
+    let Ok(block) = read_block(device, Pbn(0)) else {
         return Err(Fault::Device);
     };
-    // Looked at for the proof alone: a block has 4096 bytes.
-    let _bytes = &block.bytes;
     match read_super(&block, blocks) {
         Ok(head) => Ok(head),
         Err(fault) => Err(Fault::Image(ImageFault::Super(fault))),
@@ -61,21 +58,12 @@ fn read_journal<D: Disk>(
     ensures fault { IfErr result (JournalFails D.tells D.honest layout.now.geometry.journal (D.seen device.old) (D.seen device.new)) }
     ensures untouched { IsUntouched D.tells (D.seen device.old) (D.seen device.new) }
 {
-    // Asked for the proof alone: a device that tells has as many opening blocks.
-    let _blocks = device.blocks();
-    let mut journal = Vec::new(alloc);
-    for slot in 0..u64::from(layout.geometry.journal) {
-        let mut block = Block::zero();
-        let Ok(()) = device.read(layout.journal_slot(slot), &mut block) else {
-            return Err(Fault::Device);
-        };
-        // For the proof alone, as above.
-        let _bytes = &block.bytes;
-        let Ok(()) = journal.push(block) else {
-            return Err(Fault::Memory);
-        };
+    let first = layout.journal_slot(0);
+    match read_blocks(alloc, device, first, layout.geometry.journal) {
+        Ok(journal) => Ok(journal),
+        Err(ReadError::Device) => Err(Fault::Device),
+        Err(ReadError::Memory) => Err(Fault::Memory),
     }
-    Ok(journal)
 }
 
 // What a session starts with, by the blocks of the journal.

@@ -5,7 +5,7 @@ use Rattle.image_format.proofs.RunLaws.{failed_as, is_failed, turn_failed}
 use Rattle.image_format.proofs.calls.put_zeros.Goals as goal
 
 pub overflow_add-first : goal.overflow_add-first
-overflow_add-first g c = omega (arith, c.requires, c.loop-i-test.true, c.blocks-blocks.ensures.size, c.blocks-blocks.type_inv)
+overflow_add-first g c = omega (arith, c.requires, c.loop-i-test.true, c.blocks-blocks.ensures, c.blocks-blocks.type_inv)
 
 pub returns-in_err-put : goal.returns-in_err-put
 returns-in_err-put g c =

@@ -3,12 +3,12 @@ use Rattle.rebuild.proofs.ActLaws.{read_stops}
 use Rattle.rebuild.proofs.TurnLaws.{block_written}
 use Rattle.rebuild.proofs.counters.write_block.Goals as goal
 
-pub returns-in_err-read : goal.returns-in_err-read
-returns-in_err-read g c = read_stops _ _ _ _ c.reference_block-at.result _ _ c.from_residual.result c.from_residual.ensures.0 c.in_err-read.ensures
+pub returns-in_err-block : goal.returns-in_err-block
+returns-in_err-block g c = read_stops _ _ _ _ c.reference_block-at.result _ _ c.from_residual.result c.from_residual.ensures.0 c.in_err-block.ensures.failed
 
 pub returns : goal.returns
 returns g c =
-    block_written _ _ _ (g.D.Disk.seen c.read.new.device) _ _ _ _ c.reference_block-at.result _ _ c.read.new.into c.put_counts.new.block c.put.result
+    block_written _ _ _ (g.D.Disk.seen c.read_block.new.device) _ _ _ _ c.reference_block-at.result _ _ c.in_ok-block.block c.put_counts.new.block c.put.result
     c.requires.inside c.reference_block-at.ensures.block
     (let inside = c.reference_block-at.ensures.inside in let room = c.requires.room in omega (arith, inside, room))
-    c.in_ok-read.ensures.told c.in_ok-read.ensures (omega (arith, ap length c.block.view_is)) c.put_counts.ensures c.put.ensures
+    c.in_ok-block.ensures.read.told c.in_ok-block.ensures.read (omega (arith, ap length c.block.view_is)) c.put_counts.ensures c.put.ensures

@@ -7,7 +7,7 @@ use Rattle.rebuild.proofs.opening.open_clean.Goals as goal
 pub returns-in_err-head : goal.returns-in_err-head
 returns-in_err-head g c =
     refused_as _ _ _ _ _ c.from_residual.result c.from_residual.ensures.1
-    (not_read _ _ _ _ c.in_err-head.field-0.0 (λ told. c.blocks-blocks.ensures.told told) c.in_err-head.ensures.fault c.read_head.ensures.untouched)
+    (not_read _ _ _ _ c.in_err-head.field-0.0 (g.met.D.Disk.told c.args.device.now) c.in_err-head.ensures.fault c.read_head.ensures.untouched)
 
 pub returns-in_err-check_closed : goal.returns-in_err-check_closed
 returns-in_err-check_closed g c =

@@ -5,7 +5,7 @@ use Rattle.rebuild.proofs.recovering.recover.Goals as goal
 pub returns-in_err-head : goal.returns-in_err-head
 returns-in_err-head g c =
     refused_as _ _ _ _ _ c.from_residual.result c.from_residual.ensures.1
-    (head_failed _ _ _ _ c.in_err-head.field-0.0 (λ told. c.blocks-blocks.ensures.told told) c.in_err-head.ensures.fault c.read_head.ensures.untouched)
+    (head_failed _ _ _ _ c.in_err-head.field-0.0 (g.met.D.Disk.told c.args.device.now) c.in_err-head.ensures.fault c.read_head.ensures.untouched)
 
 pub returns-then-head : goal.returns-then-head
 returns-then-head g c =

@@ -8,9 +8,9 @@ use Rattle.disk_model.proofs.memory.MemDiskDisk.read.Goals as goal
 
 pub returns-clause-given : goal.returns-clause-given
 returns-clause-given c =
-    let here : c.args.at.0 < length c.self.inside.blocks.items = omega (arith, ap (λ (m : Memory). length m.blocks) c.self.view_is) in
+    let here : c.args.at.0 < length c.self.inside.blocks.items = omega (arith, ap (λ (m : Memory). length m.opening) c.self.view_is, c.self.invariant.size) in
     rw (← c.self.view_is) (given _ _ _ c.args.at.0 _ c.self.invariant here
-    (c.copy_from-2.ensures ∙ get_or_read c.self.inside.blocks.items c.args.at.0 c.index-2.result.now here c.index-2.ensures zero_block))
+    (c.copy_from-2.ensures.same ∙ get_or_read c.self.inside.blocks.items c.args.at.0 c.index-2.result.now here c.index-2.ensures zero_block))
 
 pub invariant_of-self-then-course : goal.invariant_of-self-then-course
 invariant_of-self-then-course c = grind (arith, common_steps)
