@@ -1,6 +1,4 @@
-ghost use Rattle.std.specs.Prelude.{◌≡◌, ◌++◌, IsTrue, OnOk, OnErr};
-ghost use Rattle.disk_model.specs.Causes.{HasCause};
-ghost use Rattle.stream_text.specs.Puts.{PutsPart};
+ghost use Rattle.disk_model.specs.Streams.{Puts};
 ghost use Rattle.command_text.specs.Audits.{difference_text, verdict_text, audit_text};
 
 use crate::parts::Space;
@@ -35,9 +33,9 @@ pub struct Audit<'a> {
 }
 
 fn put_verdict<K: Sink>(differences: &[Difference], space: Space, out: &mut K) -> Result<(), Failed>
-    ensures ok { IsTrue K.tells → OnOk result (K.holds out.new ≡ K.holds out.old ++ verdict_text differences.now space) }
-    ensures err { IsTrue K.tells → OnErr result (PutsPart (K.holds out.old) (K.holds out.new) (verdict_text differences.now space)) }
-    ensures cause { HasCause (K.faults out.old) (K.faults out.new) result }
+    ensures { Puts K.tells
+        (verdict_text differences.now space)
+        (K.seen out.old) (K.seen out.new) result }
 {
     if differences.is_empty() {
         put_lines(
@@ -66,9 +64,7 @@ fn put_verdict<K: Sink>(differences: &[Difference], space: Space, out: &mut K) -
 /// Puts a line `block 86 stored 2 mapped 1` for each block that differs, and then `audit differs 1`; or, where none does,
 /// `audit clean, used 2 of 64`. It fails where the sink fails; then a first part of the text was put.
 pub fn put_audit<K: Sink>(audit: &Audit<'_>, out: &mut K) -> Result<(), Failed>
-    ensures ok { IsTrue K.tells → OnOk result (K.holds out.new ≡ K.holds out.old ++ audit_text audit.now) }
-    ensures err { IsTrue K.tells → OnErr result (PutsPart (K.holds out.old) (K.holds out.new) (audit_text audit.now)) }
-    ensures cause { HasCause (K.faults out.old) (K.faults out.new) result }
+    ensures { Puts K.tells (audit_text audit.now) (K.seen out.old) (K.seen out.new) result }
 {
     put_lines(audit.differences, out)?;
     put_verdict(audit.differences, audit.space, out)

@@ -1,6 +1,4 @@
-ghost use Rattle.std.specs.Prelude.{◌≡◌, ◌++◌, IsTrue, OnOk, OnErr};
-ghost use Rattle.disk_model.specs.Causes.{HasCause};
-ghost use Rattle.stream_text.specs.Puts.{PutsPart};
+ghost use Rattle.disk_model.specs.Streams.{Puts};
 ghost use Rattle.command_text.specs.Crashes.{stop_text, head_text, value_text, values_text, crash_text};
 
 use crate::audits::{Audit, put_audit};
@@ -54,9 +52,7 @@ pub struct Crash<'a> {
 /// Puts `stopped` or `ended`, the first line of a crash; it is followed by the line of the fault where the picked image has one.
 /// It fails where the sink fails; then a first part of the line was put.
 pub fn put_crash_stop<K: Sink>(stop: CrashStop, out: &mut K) -> Result<(), Failed>
-    ensures ok { IsTrue K.tells → OnOk result (K.holds out.new ≡ K.holds out.old ++ stop_text stop) }
-    ensures err { IsTrue K.tells → OnErr result (PutsPart (K.holds out.old) (K.holds out.new) (stop_text stop)) }
-    ensures cause { HasCause (K.faults out.old) (K.faults out.new) result }
+    ensures { Puts K.tells (stop_text stop) (K.seen out.old) (K.seen out.new) result }
 {
     match stop {
         CrashStop::Stopped => out.put(b"stopped\n"),
@@ -65,9 +61,7 @@ pub fn put_crash_stop<K: Sink>(stop: CrashStop, out: &mut K) -> Result<(), Faile
 }
 
 fn put_head<K: Sink>(stop: CrashStop, recovery: Recovery, out: &mut K) -> Result<(), Failed>
-    ensures ok { IsTrue K.tells → OnOk result (K.holds out.new ≡ K.holds out.old ++ head_text stop recovery) }
-    ensures err { IsTrue K.tells → OnErr result (PutsPart (K.holds out.old) (K.holds out.new) (head_text stop recovery)) }
-    ensures cause { HasCause (K.faults out.old) (K.faults out.new) result }
+    ensures { Puts K.tells (head_text stop recovery) (K.seen out.old) (K.seen out.new) result }
 {
     put_crash_stop(stop, out)?;
     put_recovery(recovery, out)
@@ -78,9 +72,9 @@ fn put_values<K: Sink>(
     audit: &Audit<'_>,
     out: &mut K,
 ) -> Result<(), Failed>
-    ensures ok { IsTrue K.tells → OnOk result (K.holds out.new ≡ K.holds out.old ++ values_text values.now audit.now) }
-    ensures err { IsTrue K.tells → OnErr result (PutsPart (K.holds out.old) (K.holds out.new) (values_text values.now audit.now)) }
-    ensures cause { HasCause (K.faults out.old) (K.faults out.new) result }
+    ensures { Puts K.tells
+        (values_text values.now audit.now)
+        (K.seen out.old) (K.seen out.new) result }
 {
     put_lines(values, out)?;
     put_audit(audit, out)
@@ -89,9 +83,7 @@ fn put_values<K: Sink>(
 /// Puts `stopped` or `ended`, the line of the recovery, a line `5 4096*61` for each value, and the lines of the audit. It takes no
 /// memory. It fails where the sink fails; then a first part of the text was put.
 pub fn put_crash<K: Sink>(crash: &Crash<'_>, out: &mut K) -> Result<(), Failed>
-    ensures ok { IsTrue K.tells → OnOk result (K.holds out.new ≡ K.holds out.old ++ crash_text crash.now) }
-    ensures err { IsTrue K.tells → OnErr result (PutsPart (K.holds out.old) (K.holds out.new) (crash_text crash.now)) }
-    ensures cause { HasCause (K.faults out.old) (K.faults out.new) result }
+    ensures { Puts K.tells (crash_text crash.now) (K.seen out.old) (K.seen out.new) result }
 {
     put_head(crash.stop, crash.recovery, out)?;
     put_values(crash.values, &crash.audit, out)

@@ -1,7 +1,5 @@
-ghost use Rattle.std.specs.Prelude.{◌≡◌, ◌++◌, IsTrue, OnOk, OnErr};
-ghost use Rattle.disk_model.specs.Causes.{HasCause};
 ghost use Rattle.image_model.specs.declared.fault.ImageFault.TheVariants.{Super as SuperFaulty, Page as PageFaulty, Counts as CountsFaulty};
-ghost use Rattle.stream_text.specs.Puts.{PutsPart};
+ghost use Rattle.disk_model.specs.Streams.{Puts};
 ghost use Rattle.command_text.specs.Faults.{image_fault_line};
 
 use crate::pieces::{Piece, put_lines};
@@ -13,9 +11,9 @@ use page_codec::PageFault;
 
 // Puts the line of a superblock that is refused.
 fn put_super_fault<K: Sink>(fault: SuperFault, out: &mut K) -> Result<(), Failed>
-    ensures ok { IsTrue K.tells → OnOk result (K.holds out.new ≡ K.holds out.old ++ image_fault_line (SuperFaulty fault)) }
-    ensures err { IsTrue K.tells → OnErr result (PutsPart (K.holds out.old) (K.holds out.new) (image_fault_line (SuperFaulty fault))) }
-    ensures cause { HasCause (K.faults out.old) (K.faults out.new) result }
+    ensures { Puts K.tells
+        (image_fault_line (SuperFaulty fault))
+        (K.seen out.old) (K.seen out.new) result }
 {
     match fault {
         SuperFault::NotAnImage => out.put(b"bad image: not an image\n"),
@@ -40,9 +38,9 @@ fn put_super_fault<K: Sink>(fault: SuperFault, out: &mut K) -> Result<(), Failed
 
 // Puts the line of a page of the block map that can't be read.
 fn put_page_fault<K: Sink>(at: Pbn, fault: PageFault, out: &mut K) -> Result<(), Failed>
-    ensures ok { IsTrue K.tells → OnOk result (K.holds out.new ≡ K.holds out.old ++ image_fault_line (PageFaulty at fault)) }
-    ensures err { IsTrue K.tells → OnErr result (PutsPart (K.holds out.old) (K.holds out.new) (image_fault_line (PageFaulty at fault))) }
-    ensures cause { HasCause (K.faults out.old) (K.faults out.new) result }
+    ensures { Puts K.tells
+        (image_fault_line (PageFaulty at fault))
+        (K.seen out.old) (K.seen out.new) result }
 {
     match fault {
         PageFault::Header => put_lines(
@@ -78,9 +76,9 @@ fn put_page_fault<K: Sink>(at: Pbn, fault: PageFault, out: &mut K) -> Result<(),
 
 // Puts the line of a data block's counts.
 fn put_counts_fault<K: Sink>(at: Pbn, stored: u32, mapped: u64, out: &mut K) -> Result<(), Failed>
-    ensures ok { IsTrue K.tells → OnOk result (K.holds out.new ≡ K.holds out.old ++ image_fault_line (CountsFaulty at stored mapped)) }
-    ensures err { IsTrue K.tells → OnErr result (PutsPart (K.holds out.old) (K.holds out.new) (image_fault_line (CountsFaulty at stored mapped))) }
-    ensures cause { HasCause (K.faults out.old) (K.faults out.new) result }
+    ensures { Puts K.tells
+        (image_fault_line (CountsFaulty at stored mapped))
+        (K.seen out.old) (K.seen out.new) result }
 {
     put_lines(
         &[
@@ -101,9 +99,7 @@ fn put_counts_fault<K: Sink>(at: Pbn, stored: u32, mapped: u64, out: &mut K) -> 
 /// `block 86 stored 2 mapped 1` or `unclean`; or else `device fault`, or `no memory`. It fails where the sink fails; then a
 /// first part of the line was put.
 pub fn put_image_fault<K: Sink>(fault: ImageFault, out: &mut K) -> Result<(), Failed>
-    ensures ok { IsTrue K.tells → OnOk result (K.holds out.new ≡ K.holds out.old ++ image_fault_line fault) }
-    ensures err { IsTrue K.tells → OnErr result (PutsPart (K.holds out.old) (K.holds out.new) (image_fault_line fault)) }
-    ensures cause { HasCause (K.faults out.old) (K.faults out.new) result }
+    ensures { Puts K.tells (image_fault_line fault) (K.seen out.old) (K.seen out.new) result }
 {
     match fault {
         ImageFault::Super(why) => put_super_fault(why, out),

@@ -1,6 +1,5 @@
-ghost use Rattle.std.specs.Prelude.{◌≡◌, ◌++◌, IsTrue, OnOk, OnErr};
-ghost use Rattle.disk_model.specs.Causes.{HasCause};
-ghost use Rattle.stream_text.specs.Puts.{PutsPart};
+ghost use Rattle.std.specs.Prelude.{◌≡◌};
+ghost use Rattle.disk_model.specs.Streams.{Puts};
 ghost use Rattle.command_text.specs.Formats.{slabs_text, formatted_text};
 
 use crate::pieces::{Piece, put_lines};
@@ -32,9 +31,7 @@ fn slabs_word(slabs: u32) -> &'static [u8]
 /// Puts `formatted 154 blocks, 1 slab of 64, logical 1000`; with any other number of slabs it is `2 slabs of 64`. It fails
 /// where the sink fails; then a first part of the line was put.
 pub fn put_formatted<K: Sink>(image: &Formatted, out: &mut K) -> Result<(), Failed>
-    ensures ok { IsTrue K.tells → OnOk result (K.holds out.new ≡ K.holds out.old ++ formatted_text image.now) }
-    ensures err { IsTrue K.tells → OnErr result (PutsPart (K.holds out.old) (K.holds out.new) (formatted_text image.now)) }
-    ensures cause { HasCause (K.faults out.old) (K.faults out.new) result }
+    ensures { Puts K.tells (formatted_text image.now) (K.seen out.old) (K.seen out.new) result }
 {
     let slabs_of = slabs_word(image.slabs);
     put_lines(

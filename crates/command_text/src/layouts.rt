@@ -1,6 +1,4 @@
-ghost use Rattle.std.specs.Prelude.{◌≡◌, ◌++◌, IsTrue, OnOk, OnErr};
-ghost use Rattle.disk_model.specs.Causes.{HasCause};
-ghost use Rattle.stream_text.specs.Puts.{PutsPart};
+ghost use Rattle.disk_model.specs.Streams.{Puts};
 ghost use Rattle.command_text.specs.Formats.{layout_line};
 
 use crate::pieces::{Piece, put_lines};
@@ -11,9 +9,7 @@ use image_layout::LayoutFault;
 /// `layout: size height` or `layout: too large to crash`. It fails where the sink fails; then a first part of the line was
 /// put.
 pub fn put_layout_fault<K: Sink>(fault: LayoutFault, out: &mut K) -> Result<(), Failed>
-    ensures ok { IsTrue K.tells → OnOk result (K.holds out.new ≡ K.holds out.old ++ layout_line fault) }
-    ensures err { IsTrue K.tells → OnErr result (PutsPart (K.holds out.old) (K.holds out.new) (layout_line fault)) }
-    ensures cause { HasCause (K.faults out.old) (K.faults out.new) result }
+    ensures { Puts K.tells (layout_line fault) (K.seen out.old) (K.seen out.new) result }
 {
     match fault {
         LayoutFault::TooSmall { needed, has } => put_lines(

@@ -1,6 +1,4 @@
-ghost use Rattle.std.specs.Prelude.{◌≡◌, ◌++◌, IsTrue, OnOk, OnErr};
-ghost use Rattle.disk_model.specs.Causes.{HasCause};
-ghost use Rattle.stream_text.specs.Puts.{PutsPart};
+ghost use Rattle.disk_model.specs.Streams.{Puts};
 ghost use Rattle.command_text.specs.Parts.{recovery_text, recovered_text, space_text, damaged_text, damage_text};
 
 use crate::pieces::{Piece, put_lines};
@@ -34,9 +32,7 @@ pub enum DamagedPlace {
 
 /// Puts `clean`, or `recovered 30 entries`. It fails where the sink fails; then a first part of the line was put.
 pub fn put_recovery<K: Sink>(recovery: Recovery, out: &mut K) -> Result<(), Failed>
-    ensures ok { IsTrue K.tells → OnOk result (K.holds out.new ≡ K.holds out.old ++ recovery_text recovery) }
-    ensures err { IsTrue K.tells → OnErr result (PutsPart (K.holds out.old) (K.holds out.new) (recovery_text recovery)) }
-    ensures cause { HasCause (K.faults out.old) (K.faults out.new) result }
+    ensures { Puts K.tells (recovery_text recovery) (K.seen out.old) (K.seen out.new) result }
 {
     match recovery {
         Recovery::Clean => out.put(b"clean\n"),
@@ -46,9 +42,7 @@ pub fn put_recovery<K: Sink>(recovery: Recovery, out: &mut K) -> Result<(), Fail
 
 /// Puts `recovered 30 entries`, and nothing where nothing was recovered.
 pub(crate) fn put_recovered<K: Sink>(entries: Option<u32>, out: &mut K) -> Result<(), Failed>
-    ensures ok { IsTrue K.tells → OnOk result (K.holds out.new ≡ K.holds out.old ++ recovered_text entries) }
-    ensures err { IsTrue K.tells → OnErr result (PutsPart (K.holds out.old) (K.holds out.new) (recovered_text entries)) }
-    ensures cause { HasCause (K.faults out.old) (K.faults out.new) result }
+    ensures { Puts K.tells (recovered_text entries) (K.seen out.old) (K.seen out.new) result }
 {
     match entries {
         Some(count) => put_lines(
@@ -65,9 +59,7 @@ pub(crate) fn put_recovered<K: Sink>(entries: Option<u32>, out: &mut K) -> Resul
 
 /// Puts `used 2 of 64`.
 pub(crate) fn put_space<K: Sink>(space: Space, out: &mut K) -> Result<(), Failed>
-    ensures ok { IsTrue K.tells → OnOk result (K.holds out.new ≡ K.holds out.old ++ space_text space) }
-    ensures err { IsTrue K.tells → OnErr result (PutsPart (K.holds out.old) (K.holds out.new) (space_text space)) }
-    ensures cause { HasCause (K.faults out.old) (K.faults out.new) result }
+    ensures { Puts K.tells (space_text space) (K.seen out.old) (K.seen out.new) result }
 {
     put_lines(
         &[
@@ -82,9 +74,7 @@ pub(crate) fn put_space<K: Sink>(space: Space, out: &mut K) -> Result<(), Failed
 }
 
 fn put_damaged<K: Sink>(place: &[u8], at: Pbn, out: &mut K) -> Result<(), Failed>
-    ensures ok { IsTrue K.tells → OnOk result (K.holds out.new ≡ K.holds out.old ++ damaged_text place.now at) }
-    ensures err { IsTrue K.tells → OnErr result (PutsPart (K.holds out.old) (K.holds out.new) (damaged_text place.now at)) }
-    ensures cause { HasCause (K.faults out.old) (K.faults out.new) result }
+    ensures { Puts K.tells (damaged_text place.now at) (K.seen out.old) (K.seen out.new) result }
 {
     put_lines(
         &[
@@ -99,13 +89,13 @@ fn put_damaged<K: Sink>(place: &[u8], at: Pbn, out: &mut K) -> Result<(), Failed
 
 /// Puts `damage: page 85` or `damage: count 86`, and nothing where there is no damage.
 pub(crate) fn put_damage<K: Sink>(damage: Option<DamagedPlace>, out: &mut K) -> Result<(), Failed>
-    ensures ok { IsTrue K.tells → OnOk result (K.holds out.new ≡ K.holds out.old ++ damage_text damage) }
-    ensures err { IsTrue K.tells → OnErr result (PutsPart (K.holds out.old) (K.holds out.new) (damage_text damage)) }
-    ensures cause { HasCause (K.faults out.old) (K.faults out.new) result }
+    ensures { Puts K.tells (damage_text damage) (K.seen out.old) (K.seen out.new) result }
 {
-    match damage {
-        Some(DamagedPlace::Page(at)) => put_damaged(b"page ", at, out),
-        Some(DamagedPlace::Count(at)) => put_damaged(b"count ", at, out),
-        None => Ok(()),
+    let Some(place) = damage else {
+        return Ok(());
+    };
+    match place {
+        DamagedPlace::Page(at) => put_damaged(b"page ", at, out),
+        DamagedPlace::Count(at) => put_damaged(b"count ", at, out),
     }
 }

@@ -1,7 +1,6 @@
-ghost use Rattle.std.specs.Prelude.{◌≡◌, ◌++◌, ℕ, List, map, IsTrue, OnOk, OnErr};
+ghost use Rattle.std.specs.Prelude.{ℕ, List, map};
 ghost use Rattle.std.specs.List.{concat};
-ghost use Rattle.disk_model.specs.Causes.{HasCause};
-ghost use Rattle.stream_text.specs.Puts.{PutsPart};
+ghost use Rattle.disk_model.specs.Streams.{Puts};
 ghost use Rattle.command_text.specs.Pieces.{piece_text};
 
 use disk_model::{Failed, Sink};
@@ -15,16 +14,14 @@ pub(crate) trait Line {
 
     /// Puts the text. It fails where the sink fails; then a first part of the text was put.
     fn put_to<K: Sink>(&self, out: &mut K) -> Result<(), Failed>
-        ensures ok { IsTrue K.tells → OnOk result (K.holds out.new ≡ K.holds out.old ++ text self.now) }
-        ensures err { IsTrue K.tells → OnErr result (PutsPart (K.holds out.old) (K.holds out.new) (text self.now)) }
-        ensures cause { HasCause (K.faults out.old) (K.faults out.new) result };
+        ensures { Puts K.tells (text self.now) (K.seen out.old) (K.seen out.new) result };
 }
 
 /// Puts the texts of some things, one behind the other.
 pub(crate) fn put_lines<L: Line, K: Sink>(lines: &[L], out: &mut K) -> Result<(), Failed>
-    ensures ok { IsTrue K.tells → OnOk result (K.holds out.new ≡ K.holds out.old ++ concat (map L.text lines.now)) }
-    ensures err { IsTrue K.tells → OnErr result (PutsPart (K.holds out.old) (K.holds out.new) (concat (map L.text lines.now))) }
-    ensures cause { HasCause (K.faults out.old) (K.faults out.new) result }
+    ensures { Puts K.tells
+        (concat (map L.text lines.now))
+        (K.seen out.old) (K.seen out.new) result }
 {
     for line in lines {
         line.put_to(out)?;
@@ -33,9 +30,7 @@ pub(crate) fn put_lines<L: Line, K: Sink>(lines: &[L], out: &mut K) -> Result<()
 }
 
 fn put_number<I: Integer, K: Sink>(number: I, out: &mut K) -> Result<(), Failed>
-    ensures ok { IsTrue K.tells → OnOk result (K.holds out.new ≡ K.holds out.old ++ I.text number) }
-    ensures err { IsTrue K.tells → OnErr result (PutsPart (K.holds out.old) (K.holds out.new) (I.text number)) }
-    ensures cause { HasCause (K.faults out.old) (K.faults out.new) result }
+    ensures { Puts K.tells (I.text number) (K.seen out.old) (K.seen out.new) result }
 {
     let mut digits = itoa::Buffer::new();
     out.put(digits.format(number).as_bytes())

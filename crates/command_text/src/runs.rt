@@ -1,7 +1,6 @@
-ghost use Rattle.std.specs.Prelude.{◌≡◌, ◌++◌, IsTrue, OnOk, OnErr};
-ghost use Rattle.disk_model.specs.Causes.{HasCause};
+ghost use Rattle.std.specs.Prelude.{◌++◌};
 ghost use Rattle.stream_text.specs.AnswerRooms.{HasRoomFor};
-ghost use Rattle.stream_text.specs.Puts.{PutsPart};
+ghost use Rattle.disk_model.specs.Streams.{Puts};
 ghost use Rattle.stream_text.specs.Texts.{answers_text};
 ghost use Rattle.command_text.specs.Runs.{ending_text, run_text};
 
@@ -20,9 +19,7 @@ pub struct RunNotes {
 }
 
 fn put_ending<K: Sink>(notes: &RunNotes, out: &mut K) -> Result<(), Failed>
-    ensures ok { IsTrue K.tells → OnOk result (K.holds out.new ≡ K.holds out.old ++ ending_text notes.now) }
-    ensures err { IsTrue K.tells → OnErr result (PutsPart (K.holds out.old) (K.holds out.new) (ending_text notes.now)) }
-    ensures cause { HasCause (K.faults out.old) (K.faults out.new) result }
+    ensures { Puts K.tells (ending_text notes.now) (K.seen out.old) (K.seen out.new) result }
 {
     put_damage(notes.damage, out)?;
     put_space(notes.space, out)
@@ -36,11 +33,9 @@ fn put_answers_and_ending<K: Sink>(
     out: &mut K,
 ) -> Result<(), Failed>
     requires { HasRoomFor room.old requests.now }
-    ensures ok { IsTrue K.tells → OnOk result (K.holds out.new
-        ≡ K.holds out.old ++ (answers_text requests.now report.now.desk report.now.places ++ ending_text notes.now)) }
-    ensures err { IsTrue K.tells → OnErr result (PutsPart (K.holds out.old) (K.holds out.new)
-        (answers_text requests.now report.now.desk report.now.places ++ ending_text notes.now)) }
-    ensures cause { HasCause (K.faults out.old) (K.faults out.new) result }
+    ensures { Puts K.tells
+        (answers_text requests.now report.now.desk report.now.places ++ ending_text notes.now)
+        (K.seen out.old) (K.seen out.new) result }
 {
     put_answers(requests, report, room, out)?;
     put_ending(notes, out)
@@ -57,11 +52,9 @@ pub fn put_run<K: Sink>(
     out: &mut K,
 ) -> Result<(), Failed>
     requires { HasRoomFor room.old requests.now }
-    ensures ok { IsTrue K.tells → OnOk result (K.holds out.new
-        ≡ K.holds out.old ++ run_text requests.now report.now.desk report.now.places notes.now) }
-    ensures err { IsTrue K.tells → OnErr result (PutsPart (K.holds out.old) (K.holds out.new)
-        (run_text requests.now report.now.desk report.now.places notes.now)) }
-    ensures cause { HasCause (K.faults out.old) (K.faults out.new) result }
+    ensures { Puts K.tells
+        (run_text requests.now report.now.desk report.now.places notes.now)
+        (K.seen out.old) (K.seen out.new) result }
 {
     put_recovered(notes.recovered, out)?;
     put_answers_and_ending(requests, report, notes, room, out)

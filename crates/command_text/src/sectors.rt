@@ -1,6 +1,5 @@
-ghost use Rattle.std.specs.Prelude.{◌≡◌, ◌++◌, codes, IsTrue, OnOk, OnErr};
-ghost use Rattle.disk_model.specs.Causes.{HasCause};
-ghost use Rattle.stream_text.specs.Puts.{PutsPart};
+ghost use Rattle.std.specs.Prelude.{◌++◌, codes};
+ghost use Rattle.disk_model.specs.Streams.{Puts};
 ghost use Rattle.command_text.specs.Sectors.{placed_text, asked_text, answer_text, line_text, lines_text, sectors_text};
 
 use crate::parts::{Space, put_space};
@@ -47,9 +46,9 @@ fn put_placed<K: Sink>(
     sector: u8,
     out: &mut K,
 ) -> Result<(), Failed>
-    ensures ok { IsTrue K.tells → OnOk result (K.holds out.new ≡ K.holds out.old ++ placed_text request command.now at sector) }
-    ensures err { IsTrue K.tells → OnErr result (PutsPart (K.holds out.old) (K.holds out.new) (placed_text request command.now at sector)) }
-    ensures cause { HasCause (K.faults out.old) (K.faults out.new) result }
+    ensures { Puts K.tells
+        (placed_text request command.now at sector)
+        (K.seen out.old) (K.seen out.new) result }
 {
     put_lines(
         &[
@@ -68,9 +67,7 @@ fn put_placed<K: Sink>(
 
 // Puts the name of a request and what it asks for, and a space.
 fn put_asked<K: Sink>(request: Writer, asked: SectorAsked, out: &mut K) -> Result<(), Failed>
-    ensures ok { IsTrue K.tells → OnOk result (K.holds out.new ≡ K.holds out.old ++ asked_text request asked) }
-    ensures err { IsTrue K.tells → OnErr result (PutsPart (K.holds out.old) (K.holds out.new) (asked_text request asked)) }
-    ensures cause { HasCause (K.faults out.old) (K.faults out.new) result }
+    ensures { Puts K.tells (asked_text request asked) (K.seen out.old) (K.seen out.new) result }
 {
     match asked {
         SectorAsked::Read { at, sector } => put_placed(request, b" read ", at, sector, out),
@@ -88,9 +85,7 @@ fn put_asked<K: Sink>(request: Writer, asked: SectorAsked, out: &mut K) -> Resul
 }
 
 fn put_answer<K: Sink>(answer: SectorAnswer<'_>, out: &mut K) -> Result<(), Failed>
-    ensures ok { IsTrue K.tells → OnOk result (K.holds out.new ≡ K.holds out.old ++ answer_text answer.entry) }
-    ensures err { IsTrue K.tells → OnErr result (PutsPart (K.holds out.old) (K.holds out.new) (answer_text answer.entry)) }
-    ensures cause { HasCause (K.faults out.old) (K.faults out.new) result }
+    ensures { Puts K.tells (answer_text answer.entry) (K.seen out.old) (K.seen out.new) result }
 {
     let word: &[u8] = match answer {
         SectorAnswer::Bytes(bytes) => return put_runs(bytes, out),
@@ -106,9 +101,9 @@ fn put_answer<K: Sink>(answer: SectorAnswer<'_>, out: &mut K) -> Result<(), Fail
 
 // Puts an answer, and the end of the line.
 fn put_answered<K: Sink>(answer: SectorAnswer<'_>, out: &mut K) -> Result<(), Failed>
-    ensures ok { IsTrue K.tells → OnOk result (K.holds out.new ≡ K.holds out.old ++ (answer_text answer.entry ++ codes "\n")) }
-    ensures err { IsTrue K.tells → OnErr result (PutsPart (K.holds out.old) (K.holds out.new) (answer_text answer.entry ++ codes "\n")) }
-    ensures cause { HasCause (K.faults out.old) (K.faults out.new) result }
+    ensures { Puts K.tells
+        (answer_text answer.entry ++ codes "\n")
+        (K.seen out.old) (K.seen out.new) result }
 {
     put_answer(answer, out)?;
     out.put(b"\n")
@@ -126,9 +121,7 @@ impl Line for SectorLine<'_> {
 /// Puts the line of each answered request, `0 1 read 5 2 512*61` or `0 2 flush ok`, in the order in which they are given. It
 /// takes no memory. It fails where the sink fails; then a first part of the text was put.
 pub fn put_sector_lines<K: Sink>(lines: &[SectorLine<'_>], out: &mut K) -> Result<(), Failed>
-    ensures ok { IsTrue K.tells → OnOk result (K.holds out.new ≡ K.holds out.old ++ lines_text lines.now) }
-    ensures err { IsTrue K.tells → OnErr result (PutsPart (K.holds out.old) (K.holds out.new) (lines_text lines.now)) }
-    ensures cause { HasCause (K.faults out.old) (K.faults out.new) result }
+    ensures { Puts K.tells (lines_text lines.now) (K.seen out.old) (K.seen out.new) result }
 {
     put_lines(lines, out)
 }
@@ -140,9 +133,7 @@ pub fn put_sectors<K: Sink>(
     space: Space,
     out: &mut K,
 ) -> Result<(), Failed>
-    ensures ok { IsTrue K.tells → OnOk result (K.holds out.new ≡ K.holds out.old ++ sectors_text lines.now space) }
-    ensures err { IsTrue K.tells → OnErr result (PutsPart (K.holds out.old) (K.holds out.new) (sectors_text lines.now space)) }
-    ensures cause { HasCause (K.faults out.old) (K.faults out.new) result }
+    ensures { Puts K.tells (sectors_text lines.now space) (K.seen out.old) (K.seen out.new) result }
 {
     put_sector_lines(lines, out)?;
     put_space(space, out)

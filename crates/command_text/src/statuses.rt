@@ -1,6 +1,4 @@
-ghost use Rattle.std.specs.Prelude.{◌≡◌, ◌++◌, IsTrue, OnOk, OnErr};
-ghost use Rattle.disk_model.specs.Causes.{HasCause};
-ghost use Rattle.stream_text.specs.Puts.{PutsPart};
+ghost use Rattle.disk_model.specs.Streams.{Puts};
 ghost use Rattle.command_text.specs.Statuses.{mode_text, sizes_text, status_text};
 
 use crate::parts::Space;
@@ -27,9 +25,7 @@ pub struct Status {
 }
 
 fn put_mode<K: Sink>(mode: Mode, out: &mut K) -> Result<(), Failed>
-    ensures ok { IsTrue K.tells → OnOk result (K.holds out.new ≡ K.holds out.old ++ mode_text mode) }
-    ensures err { IsTrue K.tells → OnErr result (PutsPart (K.holds out.old) (K.holds out.new) (mode_text mode)) }
-    ensures cause { HasCause (K.faults out.old) (K.faults out.new) result }
+    ensures { Puts K.tells (mode_text mode) (K.seen out.old) (K.seen out.new) result }
 {
     match mode {
         Mode::Clean => out.put(b"mode clean\nrecovery none\n"),
@@ -45,9 +41,9 @@ fn put_mode<K: Sink>(mode: Mode, out: &mut K) -> Result<(), Failed>
 }
 
 fn put_sizes<K: Sink>(chapters: u32, space: Space, logical: u32, out: &mut K) -> Result<(), Failed>
-    ensures ok { IsTrue K.tells → OnOk result (K.holds out.new ≡ K.holds out.old ++ sizes_text chapters space logical) }
-    ensures err { IsTrue K.tells → OnErr result (PutsPart (K.holds out.old) (K.holds out.new) (sizes_text chapters space logical)) }
-    ensures cause { HasCause (K.faults out.old) (K.faults out.new) result }
+    ensures { Puts K.tells
+        (sizes_text chapters space logical)
+        (K.seen out.old) (K.seen out.new) result }
 {
     put_lines(
         &[
@@ -70,9 +66,7 @@ fn put_sizes<K: Sink>(chapters: u32, space: Space, logical: u32, out: &mut K) ->
 /// Puts `mode clean` or `mode unclean`, `recovery none` or `recovery 30 entries`, `index 0 chapters`, `compression refused`,
 /// `used 0 of 64` and `logical 1000`, a line each. It fails where the sink fails; then a first part of the text was put.
 pub fn put_status<K: Sink>(status: &Status, out: &mut K) -> Result<(), Failed>
-    ensures ok { IsTrue K.tells → OnOk result (K.holds out.new ≡ K.holds out.old ++ status_text status.now) }
-    ensures err { IsTrue K.tells → OnErr result (PutsPart (K.holds out.old) (K.holds out.new) (status_text status.now)) }
-    ensures cause { HasCause (K.faults out.old) (K.faults out.new) result }
+    ensures { Puts K.tells (status_text status.now) (K.seen out.old) (K.seen out.new) result }
 {
     put_mode(status.mode, out)?;
     put_sizes(status.chapters, status.space, status.logical, out)

@@ -1,6 +1,4 @@
-ghost use Rattle.std.specs.Prelude.{◌≡◌, ◌++◌, IsTrue, OnOk, OnErr};
-ghost use Rattle.disk_model.specs.Causes.{HasCause};
-ghost use Rattle.stream_text.specs.Puts.{PutsPart};
+ghost use Rattle.disk_model.specs.Streams.{Puts};
 ghost use Rattle.command_text.specs.Workloads.{tally_text, summary_text};
 
 use crate::parts::{Space, put_recovered};
@@ -20,9 +18,9 @@ pub struct Summary {
 }
 
 fn put_tally<K: Sink>(requests: u32, tally: Tally, space: Space, out: &mut K) -> Result<(), Failed>
-    ensures ok { IsTrue K.tells → OnOk result (K.holds out.new ≡ K.holds out.old ++ tally_text requests tally space) }
-    ensures err { IsTrue K.tells → OnErr result (PutsPart (K.holds out.old) (K.holds out.new) (tally_text requests tally space)) }
-    ensures cause { HasCause (K.faults out.old) (K.faults out.new) result }
+    ensures { Puts K.tells
+        (tally_text requests tally space)
+        (K.seen out.old) (K.seen out.new) result }
 {
     put_lines(
         &[
@@ -48,9 +46,7 @@ fn put_tally<K: Sink>(requests: u32, tally: Tally, space: Space, out: &mut K) ->
 /// Puts `recovered 30 entries` where the image wasn't clean, and `requests 1000`, `ok 990`, `no space 10`, `read sum 7` and
 /// `used 2 of 64`, a line each. It fails where the sink fails; then a first part of the text was put.
 pub fn put_summary<K: Sink>(summary: &Summary, out: &mut K) -> Result<(), Failed>
-    ensures ok { IsTrue K.tells → OnOk result (K.holds out.new ≡ K.holds out.old ++ summary_text summary.now) }
-    ensures err { IsTrue K.tells → OnErr result (PutsPart (K.holds out.old) (K.holds out.new) (summary_text summary.now)) }
-    ensures cause { HasCause (K.faults out.old) (K.faults out.new) result }
+    ensures { Puts K.tells (summary_text summary.now) (K.seen out.old) (K.seen out.new) result }
 {
     put_recovered(summary.recovered, out)?;
     put_tally(summary.requests, summary.tally, summary.space, out)

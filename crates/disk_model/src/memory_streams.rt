@@ -1,8 +1,8 @@
-ghost use Rattle.std.specs.Prelude.{◌≡◌, ◌≢◌, ◌<◌, ◌≤◌, ◌+◌, ◌-◌, ◌++◌, [], ℕ, Some, None, min, take, drop, length, IfOk, OnOk, OnErr};
+ghost use Rattle.std.specs.Prelude.{◌≡◌, ◌≢◌, ◌<◌, ◌≤◌, ◌+◌, ◌-◌, ◌++◌, [], true, Some, None, min, take, drop, length, IfOk, OnOk, OnErr};
 ghost use Rattle.std.specs.Bool.{OnTrue, OnFalse};
 ghost use Rattle.disk_model.specs.Causes.{HasCause};
 ghost use Rattle.disk_model.specs.Memory.{one_more};
-ghost use Rattle.disk_model.specs.Streams.{one_fewer};
+ghost use Rattle.disk_model.specs.Streams.{Puts, one_fewer, sink_seen};
 
 use crate::{Failed, Sink, Source};
 use std::alloc::{AllocError, Global};
@@ -63,12 +63,11 @@ impl MemSource {
 
 impl Source for MemSource {
     ghost use Rattle.std.specs.Prelude.{true};
+    ghost use Rattle.disk_model.specs.Streams.{source_seen};
 
     ghost tells = { true };
 
-    ghost left = { λ s. s.bytes };
-
-    ghost faults = { λ s. s.faults };
+    ghost seen = { source_seen };
 
     fn take(&mut self, into: &mut [u8]) -> Result<usize, Failed>
         requires { 0 < length into.old }
@@ -82,8 +81,13 @@ impl Source for MemSource {
         ensures fails_at { OnErr result (self.old.fails_in ≡ Some 0) }
         ensures passes { OnOk result (self.old.fails_in ≢ Some 0) }
         ensures exact_ok { IfOk result (λ n. (n ≡ min (length into.old) (length self.old.bytes))
-            × (self.new ≡ record { bytes = drop n self.old.bytes; fails_in = one_fewer self.old.fails_in; faults = self.old.faults })) }
-        ensures exact_err { OnErr result (self.new ≡ record { bytes = self.old.bytes; fails_in = None; faults = one_more self.old.faults }) }
+            × (self.new ≡ record {
+              bytes = drop n self.old.bytes;
+              fails_in = one_fewer self.old.fails_in;
+              faults = self.old.faults;
+            })) }
+        ensures exact_err { OnErr result (self.new
+            ≡ record { bytes = self.old.bytes; fails_in = None; faults = one_more self.old.faults }) }
         ensures rest { IfOk result (λ n. drop n into.new ≡ drop n into.old) }
         ensures untouched { OnErr result (into.new ≡ into.old) }
     {
@@ -139,23 +143,28 @@ impl MemSink {
 
 impl Sink for MemSink {
     ghost use Rattle.std.specs.Prelude.{true};
+    ghost use Rattle.disk_model.specs.Streams.{sink_seen};
 
     ghost tells = { true };
 
-    ghost holds = { λ s. s.bytes };
-
-    ghost faults = { λ s. s.faults };
+    ghost seen = { sink_seen };
 
     fn put(&mut self, bytes: &[u8]) -> Result<(), Failed>
-        ensures ok { OnOk result (self.new.bytes ≡ self.old.bytes ++ bytes.now) }
-        ensures err { OnErr result ((n : ℕ) × (self.new.bytes ≡ self.old.bytes ++ take n bytes.now)) }
-        ensures cause { HasCause self.old.faults self.new.faults result }
+        ensures puts { Puts true bytes.now (sink_seen self.old) (sink_seen self.new) result }
 
         // The exact effect.
         ensures fits { OnOk result (length self.old.bytes + length bytes.now ≤ self.old.room) }
         ensures past { OnErr result (self.old.room < length self.old.bytes + length bytes.now) }
-        ensures exact_ok { OnOk result (self.new ≡ record { bytes = self.old.bytes ++ bytes.now; room = self.old.room; faults = self.old.faults }) }
-        ensures exact_err { OnErr result (self.new ≡ record { bytes = self.old.bytes ++ take (self.old.room - length self.old.bytes) bytes.now; room = self.old.room; faults = one_more self.old.faults }) }
+        ensures exact_ok { OnOk result (self.new ≡ record {
+          bytes = self.old.bytes ++ bytes.now;
+          room = self.old.room;
+          faults = self.old.faults;
+        }) }
+        ensures exact_err { OnErr result (self.new ≡ record {
+          bytes = self.old.bytes ++ take (self.old.room - length self.old.bytes) bytes.now;
+          room = self.old.room;
+          faults = one_more self.old.faults;
+        }) }
     {
         let count = bytes.len().min(self.room - self.bytes.len());
         for byte in &bytes[..count] {

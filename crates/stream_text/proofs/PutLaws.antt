@@ -1,12 +1,11 @@
 -- A text that is put piece by piece.
-use Rattle.std.specs.Prelude.{ℕ, ◌≡◌, ◌<◌, ◌+◌, ◌≤◌, suc, min, List, [], ◌++◌, length, get_or, map, take, drop, Result, Ok, Err, OnOk, OnErr, refl}
+use Rattle.std.specs.Prelude.{ℕ, ◌≡◌, ◌<◌, ◌+◌, ◌≤◌, suc, min, Bool, IsTrue, List, [], ◌++◌, length, get_or, map, take, drop, Result, Ok, Err, refl}
 use Rattle.std.specs.List.{concat}
 use Rattle.std.proofs.Common.{sym, ◌∙◌, ap, arith, inl, inr}
 use Rattle.std.proofs.lemmas.Bool.{cases_lt}
 use Rattle.std.proofs.lemmas.List.{append_assoc, append-nil, take-append-le, take_all}
 use Rattle.std.proofs.Math.Seq.{drop-cons, take-append-add, take-append_seam}
-use Rattle.disk_model.specs.Causes.{Rose, HasCause}
-use Rattle.stream_text.specs.Puts.{PutsPart}
+use Rattle.disk_model.specs.Streams.{Puts, PutsPart, SinkSeen}
 
 take_first : (first second : List ℕ) (n : ℕ) → take (min n (length first)) (first ++ second) ≡ take n first
 take_first first second n =
@@ -20,12 +19,12 @@ take_first first second n =
     ]
 
 -- the first of two pieces was put in part
-pub part_of_first : (old new first second : List ℕ) → PutsPart old new first → PutsPart old new (first ++ second)
+part_of_first : (old new first second : List ℕ) → PutsPart old new first → PutsPart old new (first ++ second)
 part_of_first old new first second part =
     (min part.0 (length first), part.1 ∙ ap (λ t. old ++ t) (sym (take_first first second part.0)))
 
 -- the first of two pieces was put, and the second in part
-pub part_of_second : (old mid new first second : List ℕ) → mid ≡ old ++ first → PutsPart mid new second → PutsPart old new (first ++ second)
+part_of_second : (old mid new first second : List ℕ) → mid ≡ old ++ first → PutsPart mid new second → PutsPart old new (first ++ second)
 part_of_second old mid new first second whole part = (
   length first + part.0,
   part.1 ∙ ap (λ t. t ++ take part.0 second) whole ∙ append_assoc old first (take part.0 second)
@@ -33,62 +32,108 @@ part_of_second old mid new first second whole part = (
 )
 
 -- two pieces were put
-pub both_pieces : (old mid new first second : List ℕ) → mid ≡ old ++ first → new ≡ mid ++ second → new ≡ old ++ (first ++ second)
+both_pieces : (old mid new first second : List ℕ) → mid ≡ old ++ first → new ≡ mid ++ second → new ≡ old ++ (first ++ second)
 both_pieces old mid new first second one two = two ∙ ap (λ t. t ++ second) one ∙ append_assoc old first second
 
--- all of a text but this rest was put
-pub record PutsBut (old now text rest : List ℕ) : Type 0 where
-  pub done : List ℕ
-  pub held : now ≡ old ++ done
-  pub same : text ≡ done ++ rest
+-- a text was put to its end, by some calls
+pub record HasPut (tells : Bool) (text : List ℕ) (before now : SinkSeen) : Type 0 where
+  pub held : IsTrue tells → now.held ≡ before.held ++ text
+  pub later : before.faults ≤ now.faults
 
-pub but-all : (old text : List ℕ) → PutsBut old old text text
-but-all old text = record { done = []; held = sym (append-nil old); same = refl }
+pub put-none : {tells : Bool} {sink : SinkSeen} → HasPut tells [] sink sink
+put-none = record { held = λ told. sym (append-nil _); later = omega arith }
 
-pub but-next : (old mid new text first rest : List ℕ) → PutsBut old mid text (first ++ rest) → new ≡ mid ++ first → PutsBut old new text rest
-but-next old mid new text first rest but more = record {
-  done = but.done ++ first;
-  held = more ∙ ap (λ t. t ++ first) but.held ∙ append_assoc old but.done first;
-  same = but.same ∙ sym (append_assoc but.done first rest);
+pub put-next : {T E : Type 0} {tells : Bool} {done first : List ℕ} {before mid after : SinkSeen} {x : T}
+    → HasPut tells done before mid → Puts {T = T} {E = E} tells first mid after (Ok x) → HasPut tells (done ++ first) before after
+put-next has puts = record {
+  held = λ told. both_pieces _ _ _ _ _ (has.held told) (puts.ok told);
+  later = omega (arith, has.later, puts.cause.later);
 }
 
-pub but-part : (old mid new text first rest : List ℕ) → PutsBut old mid text (first ++ rest) → PutsPart mid new first → PutsPart old new text
-but-part old mid new text first rest but part =
-    let all = part_of_second old mid new but.done (first ++ rest) but.held (part_of_first mid new first rest part) in
-    (all.0, all.1 ∙ ap (λ t. old ++ take all.0 t) (sym but.same))
+-- a call that put all of a text
+pub put-first : {T E : Type 0} {tells : Bool} {first : List ℕ} {before after : SinkSeen} {x : T}
+    → Puts {T = T} {E = E} tells first before after (Ok x) → HasPut tells first before after
+put-first puts = record { held = puts.ok; later = puts.cause.later }
 
-pub but-none : (old new text : List ℕ) → PutsBut old new text [] → new ≡ old ++ text
-but-none old new text but = but.held ∙ ap (λ t. old ++ t) (sym (but.same ∙ append-nil but.done))
+-- the whole text is there
+pub put-all : {E : Type 0} {tells : Bool} {text : List ℕ} {before now : SinkSeen}
+    → HasPut tells text before now → Puts {T = Unit {0}} {E = E} tells text before now (Ok tt)
+put-all has = record { ok = has.held; err = λ told. tt; cause = record { later = has.later; failed = tt } }
 
-pub on_err : {T E : Type 0} (result : Result T E) (P : Type 0) → P → OnErr result P
-on_err (Ok x) P p = tt
-on_err (Err e) P p = p
+-- the rest of a text was put, or the sink failed
+pub put-last : {T E : Type 0} {tells : Bool} {done last : List ℕ} {before mid after : SinkSeen} {result : Result T E}
+    → HasPut tells done before mid → Puts tells last mid after result → Puts tells (done ++ last) before after result
+put-last {result = Ok x} has puts = record {
+  ok = λ told. both_pieces _ _ _ _ _ (has.held told) (puts.ok told);
+  err = λ told. tt;
+  cause = record { later = omega (arith, has.later, puts.cause.later); failed = tt };
+}
+put-last {result = Err e} has puts = record {
+  ok = λ told. tt;
+  err = λ told. part_of_second _ _ _ _ _ (has.held told) (puts.err told);
+  cause = record { later = omega (arith, has.later, puts.cause.later); failed = omega (arith, has.later, puts.cause.failed) };
+}
 
--- a text that is put in two pieces, where the second failed
-pub second_failed : {T E : Type 0} (result : Result T E) (old mid new first second : List ℕ) → mid ≡ old ++ first
-    → OnErr result (PutsPart mid new second) → OnErr result (PutsPart old new (first ++ second))
-second_failed (Ok x) old mid new first second whole part = tt
-second_failed (Err e) old mid new first second whole part = part_of_second old mid new first second whole part
+-- nothing was there to be put
+pub put-nothing : {E : Type 0} {tells : Bool} {text : List ℕ} {sink : SinkSeen} → text ≡ []
+    → Puts {T = Unit {0}} {E = E} tells text sink sink (Ok tt)
+put-nothing none = rw none (put-all put-none)
 
-pub second_put : {T E : Type 0} (result : Result T E) (old mid new first second : List ℕ) → mid ≡ old ++ first
-    → OnOk result (new ≡ mid ++ second) → OnOk result (new ≡ old ++ (first ++ second))
-second_put (Ok x) old mid new first second whole more = both_pieces old mid new first second whole more
-second_put (Err e) old mid new first second whole more = tt
+-- a call failed that put the first of a text
+pub put-part : {T E : Type 0} {tells : Bool} {first : List ℕ} {before after : SinkSeen} {e : E} (more : List ℕ)
+    → Puts {T = T} tells first before after (Err e) → Puts {T = T} tells (first ++ more) before after (Err e)
+put-part more puts = record {
+  ok = λ told. tt;
+  err = λ told. part_of_first _ _ _ more (puts.err told);
+  cause = puts.cause;
+}
 
--- a part of a text is a part of each text that goes on from it
-pub longer_text : (old new text half more whole : List ℕ) → half ≡ text → whole ≡ half ++ more → PutsPart old new text → PutsPart old new whole
-longer_text old new text half more whole same longer part =
-    let all = part_of_first old new text more part in
-    (all.0, all.1 ∙ ap (λ t. old ++ take all.0 t) (sym (longer ∙ ap (λ t. t ++ more) same)))
+-- its error was passed on
+pub put-err : {T T' E E' : Type 0} {tells : Bool} {text : List ℕ} {before after : SinkSeen} {e : E'} {y : E} {result : Result T E}
+    → result ≡ Err y → Puts {T = T'} tells text before after (Err e) → Puts tells text before after result
+put-err is puts = rw is (record {
+  ok = λ told. tt;
+  err = puts.err;
+  cause = record { later = puts.cause.later; failed = puts.cause.failed };
+})
 
--- a call failed, after some that may have failed too
-pub lost : {T E : Type 0} (result : Result T E) (first mid last : ℕ) → first ≤ mid → mid ≤ last → Rose mid last → HasCause first last result
-lost result first mid last before later rose = record { later = omega arith; failed = on_err result _ (omega arith) }
+-- both
+pub put-failed : {T T' E E' : Type 0} {tells : Bool} {first : List ℕ} {before after : SinkSeen} {e : E'} {y : E} {result : Result T E}
+    (more : List ℕ) → result ≡ Err y → Puts {T = T'} tells first before after (Err e) → Puts tells (first ++ more) before after result
+put-failed more is puts = put-err is (put-part more puts)
 
--- the last call was made after some that may have failed too
-pub at_last : {T E : Type 0} (result : Result T E) (first mid last : ℕ) → first ≤ mid → HasCause mid last result → HasCause first last result
-at_last (Ok x) first mid last before cause = record { later = omega (arith, cause.later); failed = tt }
-at_last (Err e) first mid last before cause = record { later = omega (arith, cause.later); failed = omega (arith, cause.failed) }
+-- a text under another name
+pub puts-same : {T E : Type 0} {tells : Bool} {text said : List ℕ} {before after : SinkSeen} {result : Result T E}
+    → text ≡ said → Puts tells text before after result → Puts tells said before after result
+puts-same same puts = rw (← same) puts
+
+-- all of a text but this rest was put
+pub record PutsBut (tells : Bool) (text rest : List ℕ) (before now : SinkSeen) : Type 0 where
+  pub done : List ℕ
+  pub put : HasPut tells done before now
+  pub same : text ≡ done ++ rest
+
+pub but-all : {tells : Bool} {text : List ℕ} {sink : SinkSeen} → PutsBut tells text text sink sink
+but-all = record { done = []; put = put-none; same = refl }
+
+pub but-next : {T E : Type 0} {tells : Bool} {text first more rest : List ℕ} {before mid after : SinkSeen} {x : T}
+    → rest ≡ first ++ more → PutsBut tells text rest before mid → Puts {T = T} {E = E} tells first mid after (Ok x)
+    → PutsBut tells text more before after
+but-next next but puts = record {
+  done = but.done ++ _;
+  put = put-next but.put puts;
+  same = but.same ∙ ap (λ t. but.done ++ t) next ∙ sym (append_assoc but.done _ _);
+}
+
+pub but-failed : {T T' E E' : Type 0} {tells : Bool} {text first rest : List ℕ} {before mid after : SinkSeen} {e : E'} {y : E}
+    {result : Result T E} (more : List ℕ) → rest ≡ first ++ more → result ≡ Err y → PutsBut tells text rest before mid
+    → Puts {T = T'} tells first mid after (Err e) → Puts tells text before after result
+but-failed more next is but puts =
+    rw (but.same, next, ← append_assoc but.done _ _) (put-failed more is (put-last but.put puts))
+
+pub but-none : {E : Type 0} {tells : Bool} {text rest : List ℕ} {before now : SinkSeen} → rest ≡ [] → PutsBut tells text rest before now
+    → Puts {T = Unit {0}} {E = E} tells text before now (Ok tt)
+but-none none but = rw (but.same, none, append-nil but.done) (put-all but.put)
 
 -- the next of some pieces
 pub pieces-next : {T : Type 0} (text : T → List ℕ) (pieces : List T) (n : ℕ) (piece : T) → n < length pieces
@@ -97,20 +142,6 @@ pieces-next text pieces n piece within =
     let next : suc n ≡ n + 1 = omega arith in
     ap (λ t. concat (map text t)) (drop-cons pieces n piece within)
     ∙ ap (λ (k : ℕ). text (get_or pieces n piece) ++ concat (map text (drop k pieces))) next
-
--- a text under another name
-pub part_same : (old new text said : List ℕ) → text ≡ said → PutsPart old new text → PutsPart old new said
-part_same old new text said same part = (part.0, part.1 ∙ ap (λ t. old ++ take part.0 t) same)
-
-pub put_so : {T E : Type 0} (result : Result T E) (old new text said : List ℕ) → text ≡ said
-    → OnOk result (new ≡ old ++ text) → OnOk result (new ≡ old ++ said)
-put_so (Ok x) old new text said same put = put ∙ ap (λ t. old ++ t) same
-put_so (Err e) old new text said same put = tt
-
-pub part_so : {T E : Type 0} (result : Result T E) (old new text said : List ℕ) → text ≡ said
-    → OnErr result (PutsPart old new text) → OnErr result (PutsPart old new said)
-part_so (Ok x) old new text said same part = tt
-part_so (Err e) old new text said same part = part_same old new text said same part
 
 -- the texts that are put as some pieces, of which those of numbers are known by what they write
 pub command_pieces : (command address space : List ℕ) (digits : List ℕ) → address ≡ digits

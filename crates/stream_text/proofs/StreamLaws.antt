@@ -1,5 +1,5 @@
 -- A request more of a stream.
-use Rattle.std.specs.Prelude.{ℕ, ◌≡◌, ◌<◌, ◌≤◌, ◌+◌, ◌-◌, nat_le, true, false, Ok, Err, zero, suc, List, [], ◌∷◌, ◌++◌, length, map, get_or, set, refl}
+use Rattle.std.specs.Prelude.{ℕ, ◌≡◌, ◌<◌, ◌≤◌, ◌+◌, ◌-◌, nat_le, true, false, Result, Ok, Err, OnErr, zero, suc, List, [], ◌∷◌, ◌++◌, length, map, get_or, set, refl}
 use Rattle.std.proofs.Common.{sym, ◌∙◌, ap, arith}
 use Rattle.std.proofs.lemmas.List.{map-set, get_or_default, append_assoc, append-nil, length-append, length-set, get_or-set_same, set-get_or, set-set}
 use Rattle.std.proofs.Math.ListN.{get_or-map}
@@ -14,6 +14,11 @@ use Rattle.stream_text.specs.declared.asked.Asked.TheVariants.{Discards}
 use Rattle.stream_text.specs.declared.refusal.LineFault.TheVariants.{TooMany}
 use Rattle.std.proofs.lemmas.Bool.Decides.{nat_tests}
 use Rattle.blk_base.specs.declared.request.Request.TheVariants.{Discard}
+
+-- what holds anyway holds where a call failed
+pub on_err : {T E : Type 0} (result : Result T E) (P : Type 0) → P → OnErr result P
+on_err (Ok x) P p = tt
+on_err (Err e) P p = p
 
 -- a row that is put back with one request more
 pub pushed : {Row : Type 0} (items : Row → List Request) (rows : List Row) (script : Script) (stream : ℕ) (old new : Row) (request : Request)

@@ -1,7 +1,6 @@
 -- One request more of a workload.
-use Rattle.std.specs.Prelude.{ℕ, ◌≡◌, ◌+◌, ◌%◌, suc, List, [], ◌∷◌, refl}
+use Rattle.std.specs.Prelude.{ℕ, ◌≡◌, ◌+◌, ◌%◌, suc, [], ◌∷◌}
 use Rattle.std.proofs.Common.{sym, ◌∙◌, ap, arith}
-use Rattle.blk_base.specs.declared.request.Request.{Request}
 use Rattle.vdo_model.specs.Scripts.{Script}
 use Rattle.stream_text.specs.StreamRows.{with_requests}
 use Rattle.stream_text.specs.Workloads.{drawn_request, state_before, workload_of}

@@ -1,5 +1,5 @@
 -- The requests of a seed: for each rule a number or a request that it gives.
-use Rattle.std.specs.Prelude.{ℕ, ◌≡◌, false, [], ◌∷◌, replicate, refl}
+use Rattle.std.specs.Prelude.{◌≡◌, false, [], ◌∷◌, replicate, refl}
 use Rattle.blk_base.specs.declared.request.Request.TheVariants.{Read, Write, Discard, Flush}
 use Rattle.stream_text.specs.Workloads.{next_state, number_of_state, filled_block, drawn_write, drawn_kind, drawn_block, drawn_request, state_before, workload_of}
 

@@ -1,6 +1,5 @@
 pub mod Runs
 pub mod Texts
-pub mod Puts
 pub mod AnswerRooms
 pub mod LineFaults
 pub mod LineWords

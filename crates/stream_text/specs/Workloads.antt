@@ -1,6 +1,5 @@
 -- The requests of a seed, and the numbers that they are made of.
-use Rattle.std.specs.Prelude.{ℕ, zero, suc, ◌+◌, ◌*◌, ◌/◌, ◌%◌, ◌==◌, ◌&&◌, ◌<◌, nat_lt, false, List, [], ◌∷◌, ◌++◌, replicate, if◌then◌else◌}
-use Rattle.blk_base.specs.declared.request.Request.{Request}
+use Rattle.std.specs.Prelude.{ℕ, zero, suc, ◌+◌, ◌*◌, ◌/◌, ◌%◌, ◌==◌, ◌&&◌, nat_lt, false, List, [], ◌∷◌, replicate, if◌then◌else◌}
 use Rattle.blk_base.specs.declared.request.Request.TheVariants.{Read, Write, Discard, Flush}
 use Rattle.vdo_model.specs.Scripts.{Script}
 use Rattle.stream_text.specs.declared.drawing.Drawn.{Drawn}

@@ -1,10 +1,8 @@
-ghost use Rattle.std.specs.Prelude.{◌≡◌, ◌<◌, ◌≤◌, ◌++◌, None, length, get_or, reverse, IfOk, IsTrue, OnOk, OnErr};
-ghost use Rattle.disk_model.specs.Causes.{HasCause};
+ghost use Rattle.std.specs.Prelude.{◌≡◌, ◌≤◌, None, length, reverse, IfOk};
 ghost use Rattle.vdo_model.specs.DeskLog.{answer_of};
-ghost use Rattle.vdo_model.specs.Places.{place_of};
 ghost use Rattle.answer_notes.specs.Notes.{NotesAnswer, NotesAnswers, NotesPlaces};
 ghost use Rattle.stream_text.specs.AnswerRooms.{HasRoomFor};
-ghost use Rattle.stream_text.specs.Puts.{PutsPart};
+ghost use Rattle.disk_model.specs.Streams.{Puts};
 ghost use Rattle.stream_text.specs.Texts.{line_text, stream_text, answers_text, writer};
 
 use crate::lines::put_line;
@@ -64,11 +62,9 @@ fn put_noted<K: Sink>(
     out: &mut K,
 ) -> Result<(), Failed>
     requires { NotesAnswer desk.now (reverse desk.now) (writer stream number) noted }
-    ensures ok { IsTrue K.tells → OnOk result (K.holds out.new
-        ≡ K.holds out.old ++ line_text (writer stream number) request.now (answer_of (reverse desk.now) (writer stream number)) place) }
-    ensures err { IsTrue K.tells → OnErr result (PutsPart (K.holds out.old) (K.holds out.new)
-        (line_text (writer stream number) request.now (answer_of (reverse desk.now) (writer stream number)) place)) }
-    ensures cause { HasCause (K.faults out.old) (K.faults out.new) result }
+    ensures { Puts K.tells
+        (line_text (writer stream number) request.now (answer_of (reverse desk.now) (writer stream number)) place)
+        (K.seen out.old) (K.seen out.new) result }
 {
     let Some(at) = noted else {
         return Ok(());
@@ -93,11 +89,9 @@ fn put_noted_stream<K: Sink>(
     requires room_placed { length requests.now ≤ length placed.now }
     requires answers { NotesAnswers desk.now (reverse desk.now) stream answers.now }
     requires places { NotesPlaces (reverse places.now) stream placed.now }
-    ensures ok { IsTrue K.tells → OnOk result (K.holds out.new
-        ≡ K.holds out.old ++ stream_text (reverse desk.now) (reverse places.now) stream 0 requests.now) }
-    ensures err { IsTrue K.tells → OnErr result (PutsPart (K.holds out.old) (K.holds out.new)
-        (stream_text (reverse desk.now) (reverse places.now) stream 0 requests.now)) }
-    ensures cause { HasCause (K.faults out.old) (K.faults out.new) result }
+    ensures { Puts K.tells
+        (stream_text (reverse desk.now) (reverse places.now) stream 0 requests.now)
+        (K.seen out.old) (K.seen out.new) result }
 {
     for (number, request) in requests.iter().enumerate() {
         let noted = answers[number];
@@ -117,11 +111,9 @@ fn put_stream<K: Sink>(
     out: &mut K,
 ) -> Result<(), Failed>
     requires { length requests.now ≤ room.old }
-    ensures ok { IsTrue K.tells → OnOk result (K.holds out.new
-        ≡ K.holds out.old ++ stream_text (reverse desk.now) (reverse places.now) stream 0 requests.now) }
-    ensures err { IsTrue K.tells → OnErr result (PutsPart (K.holds out.old) (K.holds out.new)
-        (stream_text (reverse desk.now) (reverse places.now) stream 0 requests.now)) }
-    ensures cause { HasCause (K.faults out.old) (K.faults out.new) result }
+    ensures puts { Puts K.tells
+        (stream_text (reverse desk.now) (reverse places.now) stream 0 requests.now)
+        (K.seen out.old) (K.seen out.new) result }
     ensures room { room.new ≡ room.old }
 {
     if requests.is_empty() {
@@ -150,11 +142,9 @@ pub fn put_answers<K: Sink>(
     out: &mut K,
 ) -> Result<(), Failed>
     requires { HasRoomFor room.old requests.now }
-    ensures ok { IsTrue K.tells → OnOk result (K.holds out.new
-        ≡ K.holds out.old ++ answers_text requests.now report.now.desk report.now.places) }
-    ensures err { IsTrue K.tells → OnErr result (PutsPart (K.holds out.old) (K.holds out.new)
-        (answers_text requests.now report.now.desk report.now.places)) }
-    ensures cause { HasCause (K.faults out.old) (K.faults out.new) result }
+    ensures { Puts K.tells
+        (answers_text requests.now report.now.desk report.now.places)
+        (K.seen out.old) (K.seen out.new) result }
 {
     let desk = report.desk.as_slice();
     let places = report.places.as_slice();

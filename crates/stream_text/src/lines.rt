@@ -1,6 +1,5 @@
-ghost use Rattle.std.specs.Prelude.{◌≡◌, ◌++◌, Some, codes, decimal, IsTrue, OnOk, OnErr};
-ghost use Rattle.disk_model.specs.Causes.{HasCause};
-ghost use Rattle.stream_text.specs.Puts.{PutsPart};
+ghost use Rattle.std.specs.Prelude.{◌++◌, Some, codes, decimal};
+ghost use Rattle.disk_model.specs.Streams.{Puts};
 ghost use Rattle.stream_text.specs.Texts.{request_text, answer_text, place_text, line_text, writer};
 
 use crate::puts::put_all;
@@ -10,9 +9,9 @@ use disk_model::{Failed, Sink};
 use vdo_model::Placed;
 
 fn put_command<K: Sink>(command: &[u8], at: Lba, out: &mut K) -> Result<(), Failed>
-    ensures ok { IsTrue K.tells → OnOk result (K.holds out.new ≡ K.holds out.old ++ (command.now ++ decimal at.0 ++ codes " ")) }
-    ensures err { IsTrue K.tells → OnErr result (PutsPart (K.holds out.old) (K.holds out.new) (command.now ++ decimal at.0 ++ codes " ")) }
-    ensures cause { HasCause (K.faults out.old) (K.faults out.new) result }
+    ensures { Puts K.tells
+        (command.now ++ decimal at.0 ++ codes " ")
+        (K.seen out.old) (K.seen out.new) result }
 {
     let mut address = itoa::Buffer::new();
     let pieces = [command, address.format(at.0).as_bytes(), b" "];
@@ -21,9 +20,9 @@ fn put_command<K: Sink>(command: &[u8], at: Lba, out: &mut K) -> Result<(), Fail
 
 // Puts what was asked for, and a space.
 fn put_request<K: Sink>(request: &Request, out: &mut K) -> Result<(), Failed>
-    ensures ok { IsTrue K.tells → OnOk result (K.holds out.new ≡ K.holds out.old ++ (request_text request.now ++ codes " ")) }
-    ensures err { IsTrue K.tells → OnErr result (PutsPart (K.holds out.old) (K.holds out.new) (request_text request.now ++ codes " ")) }
-    ensures cause { HasCause (K.faults out.old) (K.faults out.new) result }
+    ensures { Puts K.tells
+        (request_text request.now ++ codes " ")
+        (K.seen out.old) (K.seen out.new) result }
 {
     match request {
         Request::Read(at) => put_command(b"read ", *at, out),
@@ -34,9 +33,7 @@ fn put_request<K: Sink>(request: &Request, out: &mut K) -> Result<(), Failed>
 }
 
 fn put_answer<K: Sink>(answer: &Answer, out: &mut K) -> Result<(), Failed>
-    ensures ok { IsTrue K.tells → OnOk result (K.holds out.new ≡ K.holds out.old ++ answer_text answer.now) }
-    ensures err { IsTrue K.tells → OnErr result (PutsPart (K.holds out.old) (K.holds out.new) (answer_text answer.now)) }
-    ensures cause { HasCause (K.faults out.old) (K.faults out.new) result }
+    ensures { Puts K.tells (answer_text answer.now) (K.seen out.old) (K.seen out.new) result }
 {
     let word: &[u8] = match answer {
         Answer::Bytes(block) => return put_runs(&block.bytes, out),
@@ -52,9 +49,9 @@ fn put_answer<K: Sink>(answer: &Answer, out: &mut K) -> Result<(), Failed>
 }
 
 fn put_placed<K: Sink>(placed: Placed, out: &mut K) -> Result<(), Failed>
-    ensures ok { IsTrue K.tells → OnOk result (K.holds out.new ≡ K.holds out.old ++ (place_text (Some placed) ++ codes "\n")) }
-    ensures err { IsTrue K.tells → OnErr result (PutsPart (K.holds out.old) (K.holds out.new) (place_text (Some placed) ++ codes "\n")) }
-    ensures cause { HasCause (K.faults out.old) (K.faults out.new) result }
+    ensures { Puts K.tells
+        (place_text (Some placed) ++ codes "\n")
+        (K.seen out.old) (K.seen out.new) result }
 {
     let mut zone = itoa::Buffer::new();
     let mut place = itoa::Buffer::new();
@@ -70,9 +67,9 @@ fn put_placed<K: Sink>(placed: Placed, out: &mut K) -> Result<(), Failed>
 
 // Puts the place, and the end of the line.
 fn put_ending<K: Sink>(place: Option<Placed>, out: &mut K) -> Result<(), Failed>
-    ensures ok { IsTrue K.tells → OnOk result (K.holds out.new ≡ K.holds out.old ++ (place_text place ++ codes "\n")) }
-    ensures err { IsTrue K.tells → OnErr result (PutsPart (K.holds out.old) (K.holds out.new) (place_text place ++ codes "\n")) }
-    ensures cause { HasCause (K.faults out.old) (K.faults out.new) result }
+    ensures { Puts K.tells
+        (place_text place ++ codes "\n")
+        (K.seen out.old) (K.seen out.new) result }
 {
     match place {
         Some(placed) => put_placed(placed, out),
@@ -81,9 +78,9 @@ fn put_ending<K: Sink>(place: Option<Placed>, out: &mut K) -> Result<(), Failed>
 }
 
 fn put_name<K: Sink>(stream: u8, number: usize, out: &mut K) -> Result<(), Failed>
-    ensures ok { IsTrue K.tells → OnOk result (K.holds out.new ≡ K.holds out.old ++ (decimal stream ++ codes " " ++ decimal number ++ codes " ")) }
-    ensures err { IsTrue K.tells → OnErr result (PutsPart (K.holds out.old) (K.holds out.new) (decimal stream ++ codes " " ++ decimal number ++ codes " ")) }
-    ensures cause { HasCause (K.faults out.old) (K.faults out.new) result }
+    ensures { Puts K.tells
+        (decimal stream ++ codes " " ++ decimal number ++ codes " ")
+        (K.seen out.old) (K.seen out.new) result }
 {
     let mut row = itoa::Buffer::new();
     let mut column = itoa::Buffer::new();
@@ -105,11 +102,9 @@ pub(crate) fn put_line<K: Sink>(
     place: Option<Placed>,
     out: &mut K,
 ) -> Result<(), Failed>
-    ensures ok { IsTrue K.tells → OnOk result (K.holds out.new
-        ≡ K.holds out.old ++ line_text (writer stream number) request.now (Some answer.now) place) }
-    ensures err { IsTrue K.tells → OnErr result (PutsPart (K.holds out.old) (K.holds out.new)
-        (line_text (writer stream number) request.now (Some answer.now) place)) }
-    ensures cause { HasCause (K.faults out.old) (K.faults out.new) result }
+    ensures { Puts K.tells
+        (line_text (writer stream number) request.now (Some answer.now) place)
+        (K.seen out.old) (K.seen out.new) result }
 {
     put_name(stream, number, out)?;
     put_request(request, out)?;

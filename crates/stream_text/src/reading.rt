@@ -1,6 +1,5 @@
 ghost use Rattle.std.specs.Prelude.{◌≡◌, ◌≢◌, ◌≤◌, ◌<◌, ◌+◌, ◌++◌, ◌∷◌, [], ℕ, List, length, None, Ok, IsTrue, IfOk, IfErr, OnOk, IsErrOf};
 ghost use Rattle.disk_model.specs.Causes.{Rose};
-ghost use Rattle.stream_text.specs.StreamRows.{no_requests};
 ghost use Rattle.stream_text.specs.WholeScript.{first_discard, whole_script};
 ghost use Rattle.stream_text.specs.ReadingBytes.{discard_by, goes_on_from, refusal_said, said_from, EachRequest, IsPlainRequest, IsReadingBytes, IsWholeScript, RefusesScript};
 
@@ -144,13 +143,13 @@ impl ReadingBytes {
         requires { IsReadingBytes self.old.count self.old.number self.old.before self.old.first_discard self.old.streams self.old.line.items }
         ensures sound { OnOk result (IsReadingBytes self.new.count self.new.number self.new.before self.new.first_discard self.new.streams self.new.line.items) }
         ensures ok { IsTrue S.tells → OnOk result (
-            said_from self.old.number self.old.before self.old.first_discard self.old.streams self.old.line.items (S.left source.old)
+            said_from self.old.number self.old.before self.old.first_discard self.old.streams self.old.line.items (S.seen source.old).left
             ≡ said_from self.new.number self.new.before self.new.first_discard self.new.streams self.new.line.items []) }
-        ensures whole { IsTrue S.tells → OnOk result (S.left source.new ≡ []) }
+        ensures whole { IsTrue S.tells → OnOk result ((S.seen source.new).left ≡ []) }
         ensures refused { IsTrue S.tells → IfErr result (λ fault.
-            RefusesScript fault (goes_on_from self.old.number self.old.before self.old.streams self.old.line.items (S.left source.old))) }
-        ensures read { IsErrOf result ReadScript.Read → Rose (S.faults source.old) (S.faults source.new) }
-        ensures later { S.faults source.old ≤ S.faults source.new }
+            RefusesScript fault (goes_on_from self.old.number self.old.before self.old.streams self.old.line.items (S.seen source.old).left)) }
+        ensures read { IsErrOf result ReadScript.Read → Rose (S.seen source.old).faults (S.seen source.new).faults }
+        ensures later { (S.seen source.old).faults ≤ (S.seen source.new).faults }
     {
         let mut buffer = [0; 4096];
         'pieces: loop {
@@ -202,16 +201,16 @@ impl ReadingBytes {
 /// runs out. The memory that it takes is the requests' alone.
 pub fn read_script<S: Source>(alloc: Global, source: &mut S) -> Result<ScriptRequests, ReadScript>
     // The script is what all the bytes say, and the source was read to its end.
-    ensures script { IsTrue S.tells → IfOk result (λ script. (whole_script (S.left source.old) ≡ Ok script.requests)
-        × (script.first_discard ≡ first_discard (S.left source.old)) × (S.left source.new ≡ [])) }
+    ensures script { IsTrue S.tells → IfOk result (λ script. (whole_script (S.seen source.old).left ≡ Ok script.requests)
+        × (script.first_discard ≡ first_discard (S.seen source.old).left) × ((S.seen source.new).left ≡ [])) }
     // Whatever the source tells, no other requests come.
     ensures shape { IfOk result (λ script. IsWholeScript script.requests) }
     // Whatever the source tells, where no line is named no request is a discard, and each write has a whole block.
     ensures served { IfOk result (λ script. script.first_discard ≡ None → EachRequest IsPlainRequest script.requests) }
     // The line that is named is the first with a fault, and its fault the first that it has.
-    ensures refused { IsTrue S.tells → IfErr result (λ fault. RefusesScript fault (whole_script (S.left source.old))) }
-    ensures read { IsErrOf result ReadScript.Read → Rose (S.faults source.old) (S.faults source.new) }
-    ensures later { S.faults source.old ≤ S.faults source.new }
+    ensures refused { IsTrue S.tells → IfErr result (λ fault. RefusesScript fault (whole_script (S.seen source.old).left)) }
+    ensures read { IsErrOf result ReadScript.Read → Rose (S.seen source.old).faults (S.seen source.new).faults }
+    ensures later { (S.seen source.old).faults ≤ (S.seen source.new).faults }
 {
     let Ok(streams) = Streams::new(alloc) else {
         return Err(ReadScript::Memory);

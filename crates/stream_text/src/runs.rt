@@ -1,6 +1,5 @@
-ghost use Rattle.std.specs.Prelude.{◌≡◌, ◌<◌, ◌≤◌, ◌∷◌, ◌++◌, length, drop, slice_index, codes, IsTrue, OnOk, OnErr};
-ghost use Rattle.disk_model.specs.Causes.{HasCause};
-ghost use Rattle.stream_text.specs.Puts.{PutsPart};
+ghost use Rattle.std.specs.Prelude.{◌≡◌, ◌<◌, ◌≤◌, ◌∷◌, ◌++◌, length, drop, slice_index};
+ghost use Rattle.disk_model.specs.Streams.{Puts};
 ghost use Rattle.stream_text.specs.Runs.{run_text, runs_of, runs_text, later_text};
 
 use crate::puts::put_all;
@@ -24,9 +23,9 @@ fn first_run(bytes: &[u8]) -> usize
 
 // Puts a run, and what stands before it.
 fn put_run<K: Sink>(before: &[u8], count: usize, byte: u8, out: &mut K) -> Result<(), Failed>
-    ensures ok { IsTrue K.tells → OnOk result (K.holds out.new ≡ K.holds out.old ++ (before.now ++ run_text (record { count = count; byte = byte }))) }
-    ensures err { IsTrue K.tells → OnErr result (PutsPart (K.holds out.old) (K.holds out.new) (before.now ++ run_text (record { count = count; byte = byte }))) }
-    ensures cause { HasCause (K.faults out.old) (K.faults out.new) result }
+    ensures { Puts K.tells
+        (before.now ++ run_text (record { count = count; byte = byte }))
+        (K.seen out.old) (K.seen out.new) result }
 {
     let mut digits = [0; 2];
     let Ok(()) = hex::encode_to_slice([byte], &mut digits) else {
@@ -38,9 +37,9 @@ fn put_run<K: Sink>(before: &[u8], count: usize, byte: u8, out: &mut K) -> Resul
 }
 
 fn put_later_runs<K: Sink>(bytes: &[u8], out: &mut K) -> Result<(), Failed>
-    ensures ok { IsTrue K.tells → OnOk result (K.holds out.new ≡ K.holds out.old ++ later_text (runs_of bytes.now)) }
-    ensures err { IsTrue K.tells → OnErr result (PutsPart (K.holds out.old) (K.holds out.new) (later_text (runs_of bytes.now))) }
-    ensures cause { HasCause (K.faults out.old) (K.faults out.new) result }
+    ensures { Puts K.tells
+        (later_text (runs_of bytes.now))
+        (K.seen out.old) (K.seen out.new) result }
 {
     let mut at = 0;
     while at < bytes.len() {
@@ -53,9 +52,9 @@ fn put_later_runs<K: Sink>(bytes: &[u8], out: &mut K) -> Result<(), Failed>
 
 /// Puts bytes as their longest runs.
 pub fn put_runs<K: Sink>(bytes: &[u8], out: &mut K) -> Result<(), Failed>
-    ensures ok { IsTrue K.tells → OnOk result (K.holds out.new ≡ K.holds out.old ++ runs_text (runs_of bytes.now)) }
-    ensures err { IsTrue K.tells → OnErr result (PutsPart (K.holds out.old) (K.holds out.new) (runs_text (runs_of bytes.now))) }
-    ensures cause { HasCause (K.faults out.old) (K.faults out.new) result }
+    ensures { Puts K.tells
+        (runs_text (runs_of bytes.now))
+        (K.seen out.old) (K.seen out.new) result }
 {
     if bytes.is_empty() {
         return Ok(());

@@ -20,9 +20,7 @@ impl Sink for CountingSink {
 
     ghost tells = { false };
 
-    ghost holds = { λ _. [] };
-
-    ghost faults = { λ _. 0 };
+    ghost seen = { λ _. record { held = []; faults = 0 } };
 
     fn put(&mut self, bytes: &[u8]) -> Result<(), Failed> {
         self.puts = self.puts.saturating_add(1);

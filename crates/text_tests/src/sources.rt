@@ -15,9 +15,7 @@ impl Source for Trickle {
 
     ghost tells = { false };
 
-    ghost left = { λ _. [] };
-
-    ghost faults = { λ s. s.source.faults };
+    ghost seen = { λ s. record { left = []; faults = s.source.faults } };
 
     fn take(&mut self, into: &mut [u8]) -> Result<usize, Failed> {
         self.source.take(&mut into[..1])

@@ -8,6 +8,7 @@ use Rattle.blk_base.specs.declared.point.Point.{Point}
 use Rattle.disk_model.specs.declared.call.Call.{Call}
 use Rattle.disk_model.specs.declared.call.Call.TheVariants.{Read, Write, Flush}
 use Rattle.disk_model.specs.Seen.{Seen}
+use Rattle.disk_model.specs.Streams.{SourceSeen}
 use Rattle.disk_model.specs.Since.{IsUntouched, OnlyReads}
 use Rattle.image_layout.specs.declared.fault.SuperFault.TheVariants.{NotAnImage}
 use Rattle.image_model.specs.declared.fault.ImageFault.{ImageFault}
@@ -20,7 +21,7 @@ use Rattle.vdo_cli.specs.Inspections.{OnlyLooks, TellsReport, report_text, space
 use Rattle.vdo_cli.specs.Outsides.{Outside, no_report, outside}
 use Rattle.vdo_cli.specs.Texts.{fault_status, fault_text}
 use Rattle.vdo_cli.proofs.CommandPins.{audit_words}
-use Rattle.vdo_cli.proofs.PlayPins.{device, at}
+use Rattle.vdo_cli.proofs.PlayPins.{device, at, source, sink}
 use Rattle.vdo_cli.proofs.RunPins.{Ends, some_report, telling}
 
 -- told_as: a device that failed and want of memory have faults of their own, what is wrong with an image is told as it is
@@ -38,7 +39,7 @@ counter_is_told block point = refl
 
 -- a device without blocks, a source with one byte left, and a sink that holds these bytes
 abbrev pub bare : List Call → List ℕ → List ℕ → ℕ → Outside
-bare log left held faults = outside (device [] log 0 0) left 0 held faults
+bare log left held faults = outside (device [] log 0 0) (source left 0) (sink held faults)
 
 abbrev pub begins : Outside
 begins = bare [] (7 ∷ []) [] 0
@@ -53,8 +54,7 @@ looks = record {
     later = record { faults = omega arith; unkept = omega arith };
     reads = λ told. ([], refl, tt);
   };
-  left = refl;
-  source_faults = refl;
+  source = refl;
 }
 
 -- Image. There is none, nothing was done, and the line says so:
@@ -66,7 +66,7 @@ image-refused = record {
     cause = inl (inl (record { none = refl; fault_is = refl; same = refl }));
     refuses = record { status_is = refl; report_is = refl; puts = inl (λ told. refl) };
   });
-  looks = record { untouched = looks.untouched; left = refl; source_faults = refl };
+  looks = record { untouched = looks.untouched; source = refl };
 }
 
 -- or a part of it, where the sink failed
@@ -78,7 +78,7 @@ image-part = record {
     cause = inl (inl (record { none = refl; fault_is = refl; same = refl }));
     refuses = record { status_is = refl; report_is = refl; puts = inr (omega arith, λ told. (3, refl)) };
   });
-  looks = record { untouched = looks.untouched; left = refl; source_faults = refl };
+  looks = record { untouched = looks.untouched; source = refl };
 }
 
 -- a fault has its own status
@@ -151,59 +151,59 @@ looks-not_written status report ended ends = let since = ends.looks.untouched.re
     written (Flush ok ∷ calls) is reads = reads
 
 looks-not_taken : (held : List ℕ) (status : ℕ) (report : RunReport) (ended : Option Fault) → Ends audit_words begins (bare [] [] held 0) status report ended → ⊥
-looks-not_taken held status report ended ends = let same = ap length ends.looks.left in omega (arith, same)
+looks-not_taken held status report ended ends = let same = ap (λ (s : SourceSeen). length s.left) ends.looks.source in omega (arith, same)
 
 looks-not_source_failed : (held : List ℕ) (status : ℕ) (report : RunReport) (ended : Option Fault)
-    → Ends audit_words begins (outside (device [] [] 0 0) (7 ∷ []) 1 held 0) status report ended → ⊥
-looks-not_source_failed held status report ended ends = let same = ends.looks.source_faults in omega (arith, same)
+    → Ends audit_words begins (outside (device [] [] 0 0) (source (7 ∷ []) 1) (sink held 0)) status report ended → ⊥
+looks-not_source_failed held status report ended ends = let same = ap (λ (s : SourceSeen). s.faults) ends.looks.source in omega (arith, same)
 
 -- TellsReport. No block differs: the text was put, with status 0;
-clean-told : (found : Report) → found.differs.items ≡ [] → TellsReport true found 0 None [] 0 (report_text found) 0
+clean-told : (found : Report) → found.differs.items ≡ [] → TellsReport true found 0 None (sink [] 0) (sink (report_text found) 0)
 clean-told found none = (none, (refl, λ told. refl))
 
 -- or a part of it, with 7
-clean-part : (found : Report) (n : ℕ) → found.differs.items ≡ [] → TellsReport true found 7 (Some fault.Sink) [] 0 (take n (report_text found)) 1
+clean-part : (found : Report) (n : ℕ) → found.differs.items ≡ [] → TellsReport true found 7 (Some fault.Sink) (sink [] 0) (sink (take n (report_text found)) 1)
 clean-part found n none = (none, (refl, omega arith, λ told. (n, refl)))
 
-clean-not_another_status : (found : Report) → TellsReport true found 6 None [] 0 (report_text found) 0 → ⊥
+clean-not_another_status : (found : Report) → TellsReport true found 6 None (sink [] 0) (sink (report_text found) 0) → ⊥
 clean-not_another_status found tells = let status = tells.1.0 in omega (arith, status)
 
 -- with no status 0 where one does
-clean-not_where_some_differ : (found : Report) → 1 ≤ length found.differs.items → (held : List ℕ) (status : ℕ) → TellsReport true found status None [] 0 held 0 → ⊥
+clean-not_where_some_differ : (found : Report) → 1 ≤ length found.differs.items → (held : List ℕ) (status : ℕ) → TellsReport true found status None (sink [] 0) (sink held 0) → ⊥
 clean-not_where_some_differ found some held status tells = let none = ap length tells.0 in omega (arith, some, none)
 
-sink-not_where_some_differ : (found : Report) → 1 ≤ length found.differs.items → (held : List ℕ) (status : ℕ) → TellsReport true found status (Some fault.Sink) [] 0 held 1 → ⊥
+sink-not_where_some_differ : (found : Report) → 1 ≤ length found.differs.items → (held : List ℕ) (status : ℕ) → TellsReport true found status (Some fault.Sink) (sink [] 0) (sink held 1) → ⊥
 sink-not_where_some_differ found some held status tells = let none = ap length tells.0 in omega (arith, some, none)
 
-sink-not_without_rise : (found : Report) (held : List ℕ) → TellsReport true found 7 (Some fault.Sink) [] 0 held 0 → ⊥
+sink-not_without_rise : (found : Report) (held : List ℕ) → TellsReport true found 7 (Some fault.Sink) (sink [] 0) (sink held 0) → ⊥
 sink-not_without_rise found held tells = let rose = tells.1.1 in omega (arith, rose)
 
 -- Some differ: the text was put, with status 6 and their number;
-differs-told : (found : Report) (count : ℕ) → 1 ≤ count → count ≡ length found.differs.items → TellsReport true found 6 (Some (fault.Differs count)) [] 0 (report_text found) 0
+differs-told : (found : Report) (count : ℕ) → 1 ≤ count → count ≡ length found.differs.items → TellsReport true found 6 (Some (fault.Differs count)) (sink [] 0) (sink (report_text found) 0)
 differs-told found count some is = (some, is, refl, inl (λ told. refl))
 
 -- also where the sink failed and has a part of it
 differs-part : (found : Report) (count n : ℕ) → 1 ≤ count → count ≡ length found.differs.items
-    → TellsReport true found 6 (Some (fault.Differs count)) [] 0 (take n (report_text found)) 1
+    → TellsReport true found 6 (Some (fault.Differs count)) (sink [] 0) (sink (take n (report_text found)) 1)
 differs-part found count n some is = (some, is, refl, inr (omega arith, λ told. (n, refl)))
 
-differs-not_another_status : (found : Report) (count : ℕ) (held : List ℕ) → TellsReport true found 0 (Some (fault.Differs count)) [] 0 held 0 → ⊥
+differs-not_another_status : (found : Report) (count : ℕ) (held : List ℕ) → TellsReport true found 0 (Some (fault.Differs count)) (sink [] 0) (sink held 0) → ⊥
 differs-not_another_status found count held tells = omega (arith, tells.2)
 
-differs-not_another_number : (found : Report) (held : List ℕ) → length found.differs.items ≡ 2 → TellsReport true found 6 (Some (fault.Differs 1)) [] 0 held 0 → ⊥
+differs-not_another_number : (found : Report) (held : List ℕ) → length found.differs.items ≡ 2 → TellsReport true found 6 (Some (fault.Differs 1)) (sink [] 0) (sink held 0) → ⊥
 differs-not_another_number found held two tells = omega (arith, two, tells.1)
 
-differs-not_none : (found : Report) (held : List ℕ) → TellsReport true found 6 (Some (fault.Differs 0)) [] 0 held 0 → ⊥
+differs-not_none : (found : Report) (held : List ℕ) → TellsReport true found 6 (Some (fault.Differs 0)) (sink [] 0) (sink held 0) → ⊥
 differs-not_none found held tells = omega (arith, tells.0)
 
-differs-not_silent : (found : Report) (count : ℕ) → 1 ≤ length (report_text found) → TellsReport true found 6 (Some (fault.Differs count)) [] 0 [] 0 → ⊥
+differs-not_silent : (found : Report) (count : ℕ) → 1 ≤ length (report_text found) → TellsReport true found 6 (Some (fault.Differs count)) (sink [] 0) (sink [] 0) → ⊥
 differs-not_silent found count some tells = elim tells.3 [
   | inl put ↦ let size = ap length (put refl) in omega (arith, some, size)
   | inr (rose, part) ↦ omega (arith, rose)
 ]
 
 -- and a report ends with no other fault
-report-not_an_image_s_fault : (found : Report) (status : ℕ) (why : ImageFault) (held : List ℕ) → TellsReport true found status (Some (fault.Image why)) [] 0 held 0 → ⊥
+report-not_an_image_s_fault : (found : Report) (status : ℕ) (why : ImageFault) (held : List ℕ) → TellsReport true found status (Some (fault.Image why)) (sink [] 0) (sink held 0) → ⊥
 report-not_an_image_s_fault found status why held tells = tells.1
 
 -- what is told of a report: each block that differs, or how many are used
@@ -215,17 +215,17 @@ all_is_told found = refl
 
 -- Told. The image was audited, and its report was put
 module _ (before after : Seen) (found : Report) (audited : IsAudited true false before after found) (untouched : IsUntouched true before after) where
-  told-clean : found.differs.items ≡ [] → Ends audit_words (outside before [] 0 [] 0) (outside after [] 0 (report_text found) 0) 0 no_report None
+  told-clean : found.differs.items ≡ [] → Ends audit_words (outside before (source [] 0) (sink [] 0)) (outside after (source [] 0) (sink (report_text found) 0)) 0 no_report None
   told-clean none = record {
     ends = inl (record { found = found; audited = audited; report_is = refl; told = clean-told found none });
-    looks = record { untouched = untouched; left = refl; source_faults = refl };
+    looks = record { untouched = untouched; source = refl };
   }
 
   told-differs : (count : ℕ) → 1 ≤ count → count ≡ length found.differs.items
-      → Ends audit_words (outside before [] 0 [] 0) (outside after [] 0 (report_text found) 0) 6 no_report (Some (fault.Differs count))
+      → Ends audit_words (outside before (source [] 0) (sink [] 0)) (outside after (source [] 0) (sink (report_text found) 0)) 6 no_report (Some (fault.Differs count))
   told-differs count some is = record {
     ends = inl (record { found = found; audited = audited; report_is = refl; told = differs-told found count some is });
-    looks = record { untouched = untouched; left = refl; source_faults = refl };
+    looks = record { untouched = untouched; source = refl };
   }
 
 -- with no report of a session

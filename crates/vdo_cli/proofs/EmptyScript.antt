@@ -14,6 +14,7 @@ use Rattle.core_model.specs.Sessions.{IsServed, Session}
 use Rattle.core_model.specs.Start.{IsFirst, IsFirstData, IsFirstZone, first_log}
 use Rattle.core_model.specs.Steps.{rests}
 use Rattle.disk_model.specs.Seen.{Seen}
+use Rattle.disk_model.specs.Streams.{SourceSeen}
 use Rattle.disk_model.proofs.SinceLaws.{were_only_read}
 use Rattle.plain_laws.specs.Sums.{Each}
 use Rattle.step_parts.specs.DeviceLog.{HasCalled}
@@ -136,10 +137,10 @@ module _ (tells honest : Bool) (schedule : ℕ) (head : Super) (window : List En
       (first_begins head window used no_requests) rests (first_done head window used) (not_called tells honest opened) before is_opened
       (were_only_read tells honest 0 before opened _ is_opened.read.read)
 
-  pub empty_plays : (source_tells : Bool) (left rest : List ℕ) → (IsTrue source_tells → (whole_script left ≡ Ok no_requests) × (first_discard left ≡ None)) → (IsTrue source_tells → rest ≡ [])
-      → Plays tells honest source_tells schedule empty_report before opened left rest
-  empty_plays source_tells left rest script_is whole =
+  pub empty_plays : (source_tells : Bool) (source rest : SourceSeen) → (IsTrue source_tells → (whole_script source.left ≡ Ok no_requests) × (first_discard source.left ≡ None)) → (IsTrue source_tells → rest.left ≡ [])
+      → Plays tells honest source_tells schedule empty_report before opened source rest
+  empty_plays source_tells source rest script_is whole =
       plays tells honest head window used no_requests (first_zones head window used no_requests) (first_zones head window used no_requests) [] opened opened can
       (first_begins head window used no_requests) rests (first_done head window used) (not_called tells honest opened) before is_opened
-      (were_only_read tells honest 0 before opened _ is_opened.read.read) source_tells schedule schedule [] left rest
+      (were_only_read tells honest 0 before opened _ is_opened.read.read) source_tells schedule schedule [] source rest
       (record { opening = refl; size = refl }) (refl, refl, refl, refl) script_is whole

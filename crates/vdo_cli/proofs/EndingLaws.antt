@@ -3,6 +3,7 @@ use Rattle.std.proofs.Common.{ℕ, ◌≡◌, Bool, List, Option, Some, None, Re
 use Rattle.std.specs.Result.{IsErrAnd}
 use Rattle.blk_base.specs.declared.geometry.Geometry.{Geometry}
 use Rattle.disk_model.specs.Seen.{Seen}
+use Rattle.disk_model.specs.Streams.{SinkSeen, SourceSeen}
 use Rattle.vdo_model.specs.declared.report.RunReport.{RunReport}
 use Rattle.vdo_cli.specs.declared.fault.Fault.{Fault}
 use Rattle.vdo_cli.specs.declared.fault.Fault.TheVariants as fault
@@ -27,28 +28,28 @@ not_begun_ends s schedule before after status report other begun = begun
 
 -- where an image was made
 pub made_ends : (tells sink_tells : Bool) (g : Geometry) (before after : Seen) (status : ℕ) (report : RunReport) (ended : Option Fault)
-    (held : List ℕ) (faults : ℕ) (held' : List ℕ) (faults' : ℕ)
-    → IsMade tells sink_tells g before after status report ended held faults held' faults'
-    → IsMadeOrNot tells sink_tells g before after status report ended held faults held' faults'
-made_ends tells sink_tells g before after status report None held faults held' faults' made = made
-made_ends tells sink_tells g before after status report (Some fault.Sink) held faults held' faults' made = made
-made_ends tells sink_tells g before after status report (Some other) held faults held' faults' made = absurd made.line
+    (sink sink' : SinkSeen)
+    → IsMade tells sink_tells g before after status report ended sink sink'
+    → IsMadeOrNot tells sink_tells g before after status report ended sink sink'
+made_ends tells sink_tells g before after status report None sink sink' made = made
+made_ends tells sink_tells g before after status report (Some fault.Sink) sink sink' made = made
+made_ends tells sink_tells g before after status report (Some other) sink sink' made = absurd made.line
 
 -- where none was made
 pub not_made_ends : (tells sink_tells : Bool) (g : Geometry) (before after : Seen) (status : ℕ) (report : RunReport) (why : Fault)
-    (held : List ℕ) (faults : ℕ) (held' : List ℕ) (faults' : ℕ)
-    → IsNotMade tells sink_tells g before after status report why held faults held' faults'
-    → IsMadeOrNot tells sink_tells g before after status report (Some why) held faults held' faults'
-not_made_ends tells sink_tells g before after status report fault.Sink held faults held' faults' not_made = absurd not_made.cause
-not_made_ends tells sink_tells g before after status report other held faults held' faults' not_made = not_made
+    (sink sink' : SinkSeen)
+    → IsNotMade tells sink_tells g before after status report why sink sink'
+    → IsMadeOrNot tells sink_tells g before after status report (Some why) sink sink'
+not_made_ends tells sink_tells g before after status report fault.Sink sink sink' not_made = absurd not_made.cause
+not_made_ends tells sink_tells g before after status report other sink sink' not_made = not_made
 
 -- where the device couldn't be opened
-pub not_opened : (tells honest source_tells : Bool) (before after : Seen) (left : List ℕ) (faults faults' : ℕ) (why : Fault)
-    → OpeningFails tells honest before after why → PlayFails tells honest source_tells before after left faults faults' why
-not_opened tells honest source_tells before after left faults faults' fault.Device fails = fails
-not_opened tells honest source_tells before after left faults faults' (fault.Image why) fails = fails
-not_opened tells honest source_tells before after left faults faults' fault.Memory fails = tt
-not_opened tells honest source_tells before after left faults faults' other fails = absurd fails
+pub not_opened : (tells honest source_tells : Bool) (before after : Seen) (source rest : SourceSeen) (why : Fault)
+    → OpeningFails tells honest before after why → PlayFails tells honest source_tells before after source rest why
+not_opened tells honest source_tells before after source rest fault.Device fails = fails
+not_opened tells honest source_tells before after source rest (fault.Image why) fails = fails
+not_opened tells honest source_tells before after source rest fault.Memory fails = tt
+not_opened tells honest source_tells before after source rest other fails = absurd fails
 
 -- what holds of an error holds of it where it is passed on
 pub passed_on : {T E : Type 0} (result : Result T E) (P : E → Type 0) (why : E) → IsErrAnd result (λ e. e ≡ why) → P why → IfErr result P
@@ -56,11 +57,11 @@ passed_on (Ok x) P why is holds = tt
 passed_on (Err e) P why is holds = rw is holds
 
 -- where an image was opened, and the script can't be served
-pub not_served : (tells honest source_tells : Bool) (before after : Seen) (left : List ℕ) (faults faults' : ℕ) (why : Fault)
-    → ((Cause : Type 0) → Cause → FailsOpened tells honest before after Cause) → ScriptFails source_tells left faults faults' why
-    → PlayFails tells honest source_tells before after left faults faults' why
-not_served tells honest source_tells before after left faults faults' fault.Memory opened fails = tt
-not_served tells honest source_tells before after left faults faults' (fault.Script refusal) opened fails = opened _ fails
-not_served tells honest source_tells before after left faults faults' (fault.Later line) opened fails = opened _ fails
-not_served tells honest source_tells before after left faults faults' fault.Read opened fails = opened _ fails
-not_served tells honest source_tells before after left faults faults' other opened fails = absurd fails
+pub not_served : (tells honest source_tells : Bool) (before after : Seen) (source rest : SourceSeen) (why : Fault)
+    → ((Cause : Type 0) → Cause → FailsOpened tells honest before after Cause) → ScriptFails source_tells source rest why
+    → PlayFails tells honest source_tells before after source rest why
+not_served tells honest source_tells before after source rest fault.Memory opened fails = tt
+not_served tells honest source_tells before after source rest (fault.Script refusal) opened fails = opened _ fails
+not_served tells honest source_tells before after source rest (fault.Later line) opened fails = opened _ fails
+not_served tells honest source_tells before after source rest fault.Read opened fails = opened _ fails
+not_served tells honest source_tells before after source rest other opened fails = absurd fails

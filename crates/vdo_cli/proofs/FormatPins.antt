@@ -5,6 +5,7 @@ use Rattle.disk_model.specs.declared.call.Call.TheVariants.{Flush}
 use Rattle.disk_model.specs.Images.{HasOneImage}
 use Rattle.disk_model.specs.Log.{Blocks}
 use Rattle.disk_model.specs.Seen.{Seen, Stays}
+use Rattle.disk_model.specs.Streams.{SourceSeen}
 use Rattle.image_format.specs.Formats.{LeavesEmpty, StopsAreRight}
 use Rattle.image_layout.specs.Planning.{plan_of}
 use Rattle.image_layout.specs.Superblock as superblock
@@ -18,7 +19,7 @@ use Rattle.vdo_cli.specs.NewImages.{MakingFails, formatted_as}
 use Rattle.vdo_cli.specs.Outsides.{Outside, no_report, outside}
 use Rattle.vdo_cli.specs.Texts.{fault_text}
 use Rattle.vdo_cli.proofs.CommandPins.{default_sizes, format_words}
-use Rattle.vdo_cli.proofs.PlayPins.{device}
+use Rattle.vdo_cli.proofs.PlayPins.{device, source, sink}
 use Rattle.vdo_cli.proofs.RunPins.{Ends, begins, some_report, with}
 
 -- what is told of an image, by its sizes: a device of two slabs needs 223 blocks
@@ -68,8 +69,7 @@ layout-refused = record {
   ends = record { cause = (too_small_is, refl); refuses = record { status_is = refl; report_is = refl; puts = inl (λ told. refl) } };
   stays = record { opening = refl; size = refl };
   stops = nothing_done;
-  left = refl;
-  source_faults = refl;
+  source = refl;
 }
 
 -- or a part of it, where the sink failed
@@ -78,8 +78,7 @@ layout-part = record {
   ends = record { cause = (too_small_is, refl); refuses = record { status_is = refl; report_is = refl; puts = inr (omega arith, λ told. (2, refl)) } };
   stays = record { opening = refl; size = refl };
   stops = nothing_done;
-  left = refl;
-  source_faults = refl;
+  source = refl;
 }
 
 layout-not_another_fault : (after : Outside) → Ends format_words begins after 8 no_report (Some (fault.Layout LogicalTooLarge)) → ⊥
@@ -99,10 +98,10 @@ layout-not_reported makes = let same = ap (λ (report : RunReport). length repor
 
 -- the script isn't looked at: no byte of it is taken, and its source doesn't fail
 layout-not_taken : Ends format_words begins (with [] [] (fault_text too_small) 0) 8 no_report (Some too_small) → ⊥
-layout-not_taken makes = let same = ap length makes.left in omega (arith, same)
+layout-not_taken makes = let same = ap (λ (s : SourceSeen). length s.left) makes.source in omega (arith, same)
 
-layout-not_source_failed : Ends format_words begins (outside (device ([] ∷ []) [] 0 0) (7 ∷ []) 1 (fault_text too_small) 0) 8 no_report (Some too_small) → ⊥
-layout-not_source_failed makes = omega (arith, makes.source_faults)
+layout-not_source_failed : Ends format_words begins (outside (device ([] ∷ []) [] 0 0) (source (7 ∷ []) 1) (sink (fault_text too_small) 0)) 8 no_report (Some too_small) → ⊥
+layout-not_source_failed makes = omega (arith, ap (λ (s : SourceSeen). s.faults) makes.source)
 
 -- the device is the same one, and what was done to it before stays done
 format-not_of_another_size : (after : Outside) → after.device.size ≡ 2 → Ends format_words begins after 8 no_report (Some too_small) → ⊥
@@ -145,23 +144,21 @@ line = formatted_text (formatted_as default_sizes)
 
 module _ (before after : Seen) (planned : plan_of default_sizes before.size ≡ Ok tt) (empty : IsTrue true → LeavesEmpty default_sizes before after)
     (stays : Stays before after) (stops : IsTrue true → StopsAreRight default_sizes before after) where
-  made-told : Ends format_words (outside before [] 0 [] 0) (outside after [] 0 line 0) 0 no_report None
+  made-told : Ends format_words (outside before (source [] 0) (sink [] 0)) (outside after (source [] 0) (sink line 0)) 0 no_report None
   made-told = record {
     ends = record { planned = planned; image = empty; report_is = refl; line = (refl, λ told. refl) };
     stays = stays;
     stops = stops;
-    left = refl;
-    source_faults = refl;
+    source = refl;
   }
 
   -- or the sink failed, with status 7 and a part of the line
-  made-part : (n : ℕ) → Ends format_words (outside before [] 0 [] 0) (outside after [] 0 (take n line) 1) 7 no_report (Some fault.Sink)
+  made-part : (n : ℕ) → Ends format_words (outside before (source [] 0) (sink [] 0)) (outside after (source [] 0) (sink (take n line) 1)) 7 no_report (Some fault.Sink)
   made-part n = record {
     ends = record { planned = planned; image = empty; report_is = refl; line = (refl, omega arith, λ told. (n, refl)) };
     stays = stays;
     stops = stops;
-    left = refl;
-    source_faults = refl;
+    source = refl;
   }
 
 made-not_on_a_small_device : (after : Outside) → Ends format_words begins after 0 no_report None → ⊥
@@ -170,11 +167,11 @@ made-not_on_a_small_device after makes = not_planned (one_answer (Ok tt) makes.e
 made-not_another_status : (before after : Outside) → Ends format_words before after 1 no_report None → ⊥
 made-not_another_status before after makes = omega (arith, makes.ends.line.0)
 
-made-not_silent : (before after : Seen) → Ends format_words (outside before [] 0 [] 0) (outside after [] 0 [] 0) 0 no_report None → ⊥
+made-not_silent : (before after : Seen) → Ends format_words (outside before (source [] 0) (sink [] 0)) (outside after (source [] 0) (sink [] 0)) 0 no_report None → ⊥
 made-not_silent before after makes = absurd (let put = makes.ends.line.1 refl in cc)
 
 made-not_reported : (before after : Outside) → Ends format_words before after 0 some_report None → ⊥
 made-not_reported before after makes = let same = ap (λ (report : RunReport). length report.requests) makes.ends.report_is in omega (arith, same)
 
-sink-not_without_rise : (before after : Seen) → Ends format_words (outside before [] 0 [] 0) (outside after [] 0 [] 0) 7 no_report (Some fault.Sink) → ⊥
+sink-not_without_rise : (before after : Seen) → Ends format_words (outside before (source [] 0) (sink [] 0)) (outside after (source [] 0) (sink [] 0)) 7 no_report (Some fault.Sink) → ⊥
 sink-not_without_rise before after makes = omega (arith, makes.ends.line.1)

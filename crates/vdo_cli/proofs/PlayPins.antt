@@ -11,6 +11,7 @@ use Rattle.disk_model.specs.Causes.{Rose}
 use Rattle.disk_model.specs.Log.{Blocks}
 use Rattle.disk_model.specs.Seen.{Seen}
 use Rattle.disk_model.specs.Since.{reads_of, NextFailed}
+use Rattle.disk_model.specs.Streams.{SinkSeen, SourceSeen}
 use Rattle.disk_model.proofs.SinceLaws.{reads_are_one}
 use Rattle.image_layout.specs.Opened.{IsHead}
 use Rattle.image_layout.specs.Superblock.{super_of}
@@ -33,9 +34,16 @@ device opening log faults unkept = record { opening = opening; size = length ope
 abbrev pub at : ℕ → Pbn
 at b = record { 0 = b }
 
+-- a source with these bytes left, and a sink with these bytes, that failed so often
+abbrev pub source : List ℕ → ℕ → SourceSeen
+source left faults = record { left = left; faults = faults }
+
+abbrev pub sink : List ℕ → ℕ → SinkSeen
+sink held faults = record { held = held; faults = faults }
+
 -- it tells, and so does the source, which gave nothing and didn't fail
 abbrev Fails : Seen → Seen → Fault → Type 0
-Fails before after why = PlayFails true false true before after [] 0 0 why
+Fails before after why = PlayFails true false true before after (source [] 0) (source [] 0) why
 
 abbrev first_at : List Call → ℕ
 first_at [] = 0
@@ -153,7 +161,7 @@ module _ (block bytes : List ℕ) where
 
 -- Device, behind a superblock: a read of a block of the journal failed, and none of a block behind the journal.
 module _ (honest : Bool) (before after : Seen) (head : Super) (first bytes : List ℕ) (is_head : IsHead before.size first head) (journal : List (List ℕ)) where
-  device-journal_read : length journal < head.geometry.journal → NextFailed true honest 0 before after (reverse (first ∷ journal)) → PlayFails true honest true before after [] 0 0 fault.Device
+  device-journal_read : length journal < head.geometry.journal → NextFailed true honest 0 before after (reverse (first ∷ journal)) → PlayFails true honest true before after (source [] 0) (source [] 0) fault.Device
   device-journal_read few failed = record { blocks = reverse (first ∷ journal); begun = inr (head, first, journal, refl, is_head, few); failed = failed }
 
   -- the log has the failed read of the block behind these, and the device kept all its calls
@@ -169,7 +177,7 @@ module _ (honest : Bool) (before after : Seen) (head : Super) (first bytes : Lis
         older_calls : {newest newest' : Call} {older older' : List Call} → newest ∷ older ≡ newest' ∷ older' → older ≡ older'
         older_calls same = cc
 
-    device-not_behind_the_journal : PlayFails true honest true before after [] 0 0 fault.Device → ⊥
+    device-not_behind_the_journal : PlayFails true honest true before after (source [] 0) (source [] 0) fault.Device → ⊥
     device-not_behind_the_journal fails = elim fails.begun [
       | inl (none, some) ↦ let size = ap length (sym none ∙ same_blocks fails.blocks fails.failed) in omega (arith, size, length-reverse (first ∷ journal))
       | inr (head', first', journal', is, is_head', few) ↦
@@ -189,7 +197,7 @@ module _ (honest : Bool) (before after : Seen) (head : Super) (first bytes : Lis
 -- Behind a superblock and a journal that were read of a device that tells.
 module _ (honest : Bool) (before after : Seen) (head : Super) (journal : List (List ℕ)) (read : IsRead true honest before after head journal) (left : List ℕ) where
   abbrev Ends : ℕ → ℕ → Fault → Type 0
-  Ends faults faults' why = PlayFails true honest true before after left faults faults' why
+  Ends faults faults' why = PlayFails true honest true before after (source left faults) (source left faults') why
 
   abbrev Right : List Entry → ℕ → Type 0
   Right window used = CanServe head journal window used

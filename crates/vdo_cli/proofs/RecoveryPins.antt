@@ -5,6 +5,7 @@ use Rattle.disk_model.specs.declared.call.Call.{Call}
 use Rattle.disk_model.specs.declared.call.Call.TheVariants.{Read, Write, Flush}
 use Rattle.disk_model.specs.Causes.{Rose}
 use Rattle.disk_model.specs.Seen.{Seen}
+use Rattle.disk_model.specs.Streams.{SourceSeen}
 use Rattle.disk_model.specs.Since.{IsUntouched, OnlyReads}
 use Rattle.disk_model.specs.Telling.{FailedInLog}
 use Rattle.image_format.specs.Formats.{IsFailed}
@@ -26,7 +27,7 @@ use Rattle.vdo_cli.specs.Recoveries.{told_recovery}
 use Rattle.vdo_cli.specs.Texts.{fault_text}
 use Rattle.vdo_cli.proofs.AuditPins.{bare, begins, looks, no_image, status_in}
 use Rattle.vdo_cli.proofs.CommandPins.{recover_words}
-use Rattle.vdo_cli.proofs.PlayPins.{at, device}
+use Rattle.vdo_cli.proofs.PlayPins.{at, device, source, sink}
 use Rattle.vdo_cli.proofs.RunPins.{Ends, some_report}
 
 -- told_recovery: a closed image as such, and else how many entries its window had
@@ -59,8 +60,7 @@ image-refused = record {
     cause = refused;
     refuses = record { status_is = refl; report_is = refl; puts = inl (λ told. refl) };
   });
-  left = refl;
-  source_faults = refl;
+  source = refl;
 }
 
 image-not_another_status : (after : Outside) → Ends recover_words begins after 0 no_report (Some no_image) → ⊥
@@ -119,7 +119,7 @@ failed_so = record {
 }
 
 -- and the line says so;
-device-failed : Ends recover_words begins (outside failed (7 ∷ []) 0 (codes "device fault\n") 0) 3 no_report (Some fault.Device)
+device-failed : Ends recover_words begins (outside failed (source (7 ∷ []) 0) (sink (codes "device fault\n") 0)) 3 no_report (Some fault.Device)
 device-failed = record {
   ends = inr (record {
     why = image.Device;
@@ -127,15 +127,14 @@ device-failed = record {
     cause = failed_so;
     refuses = record { status_is = refl; report_is = refl; puts = inl (λ told. refl) };
   });
-  left = refl;
-  source_faults = refl;
+  source = refl;
 }
 
 -- and none was made after it
 abbrev went_on : Seen
 went_on = device [] (Flush true ∷ Flush false ∷ []) 1 0
 
-device-not_last : (held : List ℕ) → Ends recover_words begins (outside went_on (7 ∷ []) 0 held 0) 3 no_report (Some fault.Device) → ⊥
+device-not_last : (held : List ℕ) → Ends recover_words begins (outside went_on (source (7 ∷ []) 0) (sink held 0)) 3 no_report (Some fault.Device) → ⊥
 device-not_last held ends = elim ends.ends [ inl told ↦ told.line | inr nothing ↦ of_why nothing.why nothing.fault_is nothing.cause ]
   where
     of_last : (call : Call) (done : List Call) → IsFailed call → FailedInLog (done ++ []) (Flush true ∷ Flush false ∷ []) call (Rose 0 0) → ⊥
@@ -173,27 +172,25 @@ clean-not_written ends = elim ends.ends [
 
 -- The script isn't looked at
 script-not_taken : (held : List ℕ) (status : ℕ) (report : RunReport) (ended : Option Fault) → Ends recover_words begins (bare [] [] held 0) status report ended → ⊥
-script-not_taken held status report ended ends = let same = ap length ends.left in omega (arith, same)
+script-not_taken held status report ended ends = let same = ap (λ (s : SourceSeen). length s.left) ends.source in omega (arith, same)
 
 script-not_failed : (held : List ℕ) (status : ℕ) (report : RunReport) (ended : Option Fault)
-    → Ends recover_words begins (outside (device [] [] 0 0) (7 ∷ []) 1 held 0) status report ended → ⊥
-script-not_failed held status report ended ends = let same = ends.source_faults in omega (arith, same)
+    → Ends recover_words begins (outside (device [] [] 0 0) (source (7 ∷ []) 1) (sink held 0)) status report ended → ⊥
+script-not_failed held status report ended ends = let same = ap (λ (s : SourceSeen). s.faults) ends.source in omega (arith, same)
 
 -- Told. The image was recovered, or had nothing to recover, and the line was put, with status 0;
 module _ (before after : Seen) (found : Recovered) (recovery : IsRecovery true false before after (Ok found)) where
-  told-put : Ends recover_words (outside before [] 0 [] 0) (outside after [] 0 (recovery_text (told_recovery found)) 0) 0 no_report None
+  told-put : Ends recover_words (outside before (source [] 0) (sink [] 0)) (outside after (source [] 0) (sink (recovery_text (told_recovery found)) 0)) 0 no_report None
   told-put = record {
     ends = inl (record { found = found; recovery = recovery; report_is = refl; line = (refl, λ told. refl) });
-    left = refl;
-    source_faults = refl;
+    source = refl;
   }
 
   -- or a part of it, with 7
-  told-part : (n : ℕ) → Ends recover_words (outside before [] 0 [] 0) (outside after [] 0 (take n (recovery_text (told_recovery found))) 1) 7 no_report (Some fault.Sink)
+  told-part : (n : ℕ) → Ends recover_words (outside before (source [] 0) (sink [] 0)) (outside after (source [] 0) (sink (take n (recovery_text (told_recovery found))) 1)) 7 no_report (Some fault.Sink)
   told-part n = record {
     ends = inl (record { found = found; recovery = recovery; report_is = refl; line = (refl, omega arith, λ told. (n, refl)) });
-    left = refl;
-    source_faults = refl;
+    source = refl;
   }
 
 told-not_another_status : (before after : Outside) (report : RunReport) → Ends recover_words before after 4 report None → ⊥
@@ -208,7 +205,7 @@ told-not_reported before after ends = elim ends.ends [
   | inr nothing ↦ let same = nothing.fault_is in absurd cc
 ]
 
-told-not_silent : (before after : Seen) → Ends recover_words (outside before [] 0 [] 0) (outside after [] 0 [] 0) 0 no_report None → ⊥
+told-not_silent : (before after : Seen) → Ends recover_words (outside before (source [] 0) (sink [] 0)) (outside after (source [] 0) (sink [] 0)) 0 no_report None → ⊥
 told-not_silent before after ends = elim ends.ends [
   | inl told ↦ some told.found (told.line.1 refl)
   | inr nothing ↦ let same = nothing.fault_is in absurd cc

@@ -3,6 +3,7 @@ use Rattle.std.proofs.Common.{ℕ, zero, suc, ◌≡◌, ◌++◌, Bool, true, f
 use Rattle.disk_model.specs.declared.call.Call.{Call}
 use Rattle.disk_model.specs.declared.call.Call.TheVariants.{Read, Write, Flush}
 use Rattle.disk_model.specs.Seen.{Seen}
+use Rattle.disk_model.specs.Streams.{SourceSeen}
 use Rattle.disk_model.specs.Since.{OnlyReads}
 use Rattle.stream_text.specs.Texts.{answers_text}
 use Rattle.vdo_model.specs.declared.report.RunReport.{RunReport}
@@ -17,7 +18,7 @@ use Rattle.vdo_cli.specs.Runs.{EndsSo}
 use Rattle.vdo_cli.specs.Texts.{some_lost, desk_status}
 use Rattle.std.specs.Prelude.{MatchBool}
 use Rattle.vdo_cli.proofs.CommandPins.{run_words}
-use Rattle.vdo_cli.proofs.PlayPins.{device, at}
+use Rattle.vdo_cli.proofs.PlayPins.{device, at, source, sink}
 
 -- all of the outside tells
 abbrev pub telling : Setting
@@ -28,7 +29,7 @@ Ends words before after status report why = EndsSo telling words before after st
 
 -- a device of one block, a source with one byte left, and a sink that holds these bytes
 abbrev pub with : List Call → List ℕ → List ℕ → ℕ → Outside
-with log left held faults = outside (device ([] ∷ []) log 0 0) left 0 held faults
+with log left held faults = outside (device ([] ∷ []) log 0 0) (source left 0) (sink held faults)
 
 abbrev pub begins : Outside
 begins = with [] (7 ∷ []) [] 0
@@ -42,8 +43,7 @@ usage-no_words : Ends [] begins (with [] (7 ∷ []) (codes "usage\n") 0) 2 no_re
 usage-no_words = record {
   fault_is = refl;
   device = refl;
-  left = refl;
-  source_faults = refl;
+  source = refl;
   refuses = record { status_is = refl; report_is = refl; puts = inl (λ told. refl) };
 }
 
@@ -52,8 +52,7 @@ usage-part : Ends [] begins (with [] (7 ∷ []) (codes "us") 1) 2 no_report (Som
 usage-part = record {
   fault_is = refl;
   device = refl;
-  left = refl;
-  source_faults = refl;
+  source = refl;
   refuses = record { status_is = refl; report_is = refl; puts = inr (omega arith, λ told. (2, refl)) };
 }
 
@@ -64,10 +63,10 @@ usage-not_read : Ends [] begins (with (Read (at 0) [] true ∷ []) (7 ∷ []) (c
 usage-not_read ends = let same = ap (λ (seen : Seen). length seen.log) ends.device in omega (arith, same)
 
 usage-not_taken : Ends [] begins (with [] [] (codes "usage\n") 0) 2 no_report (Some fault.Usage) → ⊥
-usage-not_taken ends = let same = ap length ends.left in omega (arith, same)
+usage-not_taken ends = let same = ap (λ (s : SourceSeen). length s.left) ends.source in omega (arith, same)
 
-usage-not_source_failed : Ends [] begins (outside (device ([] ∷ []) [] 0 0) (7 ∷ []) 1 (codes "usage\n") 0) 2 no_report (Some fault.Usage) → ⊥
-usage-not_source_failed ends = omega (arith, ends.source_faults)
+usage-not_source_failed : Ends [] begins (outside (device ([] ∷ []) [] 0 0) (source (7 ∷ []) 1) (sink (codes "usage\n") 0)) 2 no_report (Some fault.Usage) → ⊥
+usage-not_source_failed ends = omega (arith, ap (λ (s : SourceSeen). s.faults) ends.source)
 
 usage-not_another_status : Ends [] begins (with [] (7 ∷ []) (codes "usage\n") 0) 3 no_report (Some fault.Usage) → ⊥
 usage-not_another_status ends = omega (arith, ends.refuses.status_is)
@@ -117,7 +116,7 @@ memory-not_written ends = let since = ends.untouched.reads refl in written since
     written (Write place bytes ok ∷ calls) is reads = reads
     written (Flush ok ∷ calls) is reads = reads
 
-memory-not_of_another_size : Ends run_words begins (outside (device [] [] 0 0) [] 0 (codes "no memory\n") 0) 5 no_report (Some fault.Memory) → ⊥
+memory-not_of_another_size : Ends run_words begins (outside (device [] [] 0 0) (source [] 0) (sink (codes "no memory\n") 0)) 5 no_report (Some fault.Memory) → ⊥
 memory-not_of_another_size ends = omega (arith, ends.untouched.stays.size)
 
 memory-not_another_status : Ends run_words begins (with [] [] (codes "no memory\n") 0) 3 no_report (Some fault.Memory) → ⊥
@@ -149,8 +148,8 @@ faults-not_other_words : (after : Outside) (status : ℕ) (report : RunReport) (
 faults-not_other_words after status report why ends = let is = ends.fault_is in cc
 
 -- A session was served: its answers were put, with its status
-served-whole : (report : RunReport) (before after : Seen) (left rest : List ℕ) → Plays true false true 0 report before after left rest
-    → Ends run_words (outside before left 0 [] 0) (outside after rest 0 (answers_text report.requests report.desk report.places) 0) (desk_status report.desk) report None
+served-whole : (report : RunReport) (before after : Seen) (left rest : List ℕ) → Plays true false true 0 report before after (source left 0) (source rest 0)
+    → Ends run_words (outside before (source left 0) (sink [] 0)) (outside after (source rest 0) (sink (answers_text report.requests report.desk report.places) 0)) (desk_status report.desk) report None
 served-whole report before after left rest played = record {
   session = played;
   closes = (refl, both (some_lost report.desk));

@@ -16,6 +16,7 @@ use Rattle.disk_model.specs.declared.call.Call.TheVariants.{Flush, Read, Write}
 use Rattle.disk_model.specs.Images.{HasOneImage}
 use Rattle.disk_model.specs.Log.{Blocks}
 use Rattle.disk_model.specs.Seen.{Seen, Stays}
+use Rattle.disk_model.specs.Streams.{SourceSeen}
 use Rattle.disk_model.specs.Since.{IsUntouched, OnlyReads}
 use Rattle.disk_model.proofs.OneImageLaws.{one_image-unique}
 use Rattle.disk_model.proofs.SeenLaws.{stays_on}
@@ -263,11 +264,11 @@ module _ (tells honest : Bool) (head : Super) (window : List Entry) (used : ℕ)
               (says_head tells honest start before image told fair one head opened.journal opened.read));
         }
 
-    pub plays : (source_tells : Bool) (schedule state : ℕ) (events : List Event) (left rest : List ℕ) → Stays before after
+    pub plays : (source_tells : Bool) (schedule state : ℕ) (events : List Event) (source rest : SourceSeen) → Stays before after
         → Drives tells honest (run_sizes head used) schedule state events first last before after trace
-        → (IsTrue source_tells → (whole_script left ≡ Ok script) × (first_discard left ≡ None)) → (IsTrue source_tells → rest ≡ [])
-        → Plays tells honest source_tells schedule report start after left rest
-    plays source_tells schedule state events left rest stays drives script_is whole = record {
+        → (IsTrue source_tells → (whole_script source.left ≡ Ok script) × (first_discard source.left ≡ None)) → (IsTrue source_tells → rest.left ≡ [])
+        → Plays tells honest source_tells schedule report start after source rest
+    plays source_tells schedule state events source rest stays drives script_is whole = record {
       head = head;
       window = window;
       used = used;
@@ -294,15 +295,15 @@ module _ (tells honest : Bool) (head : Super) (window : List Entry) (used : ℕ)
     }
 
 -- what a core did that began with what was read, was driven to its end, and told its report
-pub played : (tells honest source_tells : Bool) (number state : ℕ) (head : Super) (entries : List Entry) (used : ℕ) (script : Script) (sizes : Sizes) (first last : List Zone) (start before after : Seen) (left rest : List ℕ)
+pub played : (tells honest source_tells : Bool) (number state : ℕ) (head : Super) (entries : List Entry) (used : ℕ) (script : Script) (sizes : Sizes) (first last : List Zone) (start before after : Seen) (source rest : SourceSeen)
     (report : RunReport) → IsOpened tells honest start before head (reverse entries) used → IsUntouched tells start before → IsWholeScript script → AllByRecursion (AllByRecursion IsServed) script
     → sizes ≡ sizes_of run_setup head used
     → ((s : Session) → IsOf s sizes script (reverse entries) (free_of head.geometry (reverse entries)) → IsFirst s (core_with first []))
     → ((events : List Event) × (made : Trace) × Drives tells honest sizes number state events first last before after made) → IsDone last → Stays before after
-    → (IsTrue source_tells → (whole_script left ≡ Ok script) × (first_discard left ≡ None)) → (IsTrue source_tells → rest ≡ [])
+    → (IsTrue source_tells → (whole_script source.left ≡ Ok script) × (first_discard source.left ≡ None)) → (IsTrue source_tells → rest.left ≡ [])
     → ((s : Session) (t : Trace) → IsSession s → Legal s (core_with last t) → IsDone last → report ≡ report_of s t)
-    → Plays tells honest source_tells number report start after left rest × (report.requests ≡ script)
-played tells honest source_tells number state head entries used script sizes first last start before after left rest report opened untouched shape served sizes_are begins driven done stays script_is whole says =
+    → Plays tells honest source_tells number report start after source rest × (report.requests ≡ script)
+played tells honest source_tells number state head entries used script sizes first last start before after source rest report opened untouched shape served sizes_are begins driven done stays script_is whole says =
     let window = reverse entries in
     let sized : sizes ≡ run_sizes head used = sizes_are in
     let can = can_begin tells honest start before head window used script opened shape served in
@@ -315,7 +316,7 @@ played tells honest source_tells number state head entries used script sizes fir
     let report_is = says (over tells honest head window used script first last made before after can begins_so leads done called) made
     (session tells honest head window used script first last made before after can begins_so leads done called)
     (legal tells honest head window used script first last made before after can begins_so leads done called) done in (
-      subst (λ (r : RunReport). Plays tells honest source_tells number r start after left rest) (sym report_is)
-          (plays tells honest head window used script first last made before after can begins_so leads done called start opened untouched source_tells number state events left rest stays drives script_is whole),
+      subst (λ (r : RunReport). Plays tells honest source_tells number r start after source rest) (sym report_is)
+          (plays tells honest head window used script first last made before after can begins_so leads done called start opened untouched source_tells number state events source rest stays drives script_is whole),
       ap (λ (r : RunReport). r.requests) report_is,
     )

@@ -19,7 +19,7 @@ use Rattle.vdo_cli.specs.Outsides.{outside}
 use Rattle.vdo_cli.specs.Texts.{some_lost}
 use Rattle.vdo_cli.proofs.CommandPins.{run_words}
 use Rattle.vdo_cli.proofs.EmptyScript.{empty_report}
-use Rattle.vdo_cli.proofs.PlayPins.{device}
+use Rattle.vdo_cli.proofs.PlayPins.{device, source, sink}
 use Rattle.vdo_cli.proofs.RunPins.{Ends, begins, with}
 
 -- the text of the answers
@@ -31,8 +31,8 @@ abbrev lost_report : RunReport
 lost_report = record empty_report { desk = Answer (of_a 0) reply.Stopped ∷ [] }
 
 -- Over a session that was served: the sink failed, and holds a first part of the text
-sink-failed : (n : ℕ) (report : RunReport) (before after : Seen) (left rest : List ℕ) → Plays true false true 0 report before after left rest → some_lost report.desk ≡ false
-    → Ends run_words (outside before left 0 [] 0) (outside after rest 0 (take n (text report)) 1) 7 report (Some fault.Sink)
+sink-failed : (n : ℕ) (report : RunReport) (before after : Seen) (left rest : List ℕ) → Plays true false true 0 report before after (source left 0) (source rest 0) → some_lost report.desk ≡ false
+    → Ends run_words (outside before (source left 0) (sink [] 0)) (outside after (source rest 0) (sink (take n (text report)) 1)) 7 report (Some fault.Sink)
 sink-failed n report before after left rest played none = record { session = played; closes = (refl, none, omega arith, λ told. (n, refl)) }
 
 -- Sink: not where an answer says that the device failed, which goes before; nor where the sink holds less than before
@@ -77,7 +77,7 @@ served-not_with_a_discard : Ends run_words (with [] (codes "0 discard 5 1\n") []
 served-not_with_a_discard ends = no_discard_there _ discard_first (ends.session.script_is refl).1
 
 -- the device has its opening blocks and its size
-served-not_of_another_size : Ends run_words (with [] [] [] 0) (outside (device [] [] 0 0) [] 0 [] 0) 0 empty_report None → ⊥
+served-not_of_another_size : Ends run_words (with [] [] [] 0) (outside (device [] [] 0 0) (source [] 0) (sink [] 0)) 0 empty_report None → ⊥
 served-not_of_another_size ends = omega (arith, ends.session.stays.size)
 
 -- the superblock and the window were read: a log that has no call since is that of no session
@@ -85,7 +85,7 @@ length_reads : (from : ℕ) (blocks : List (List ℕ)) → length (reads_of from
 length_reads from [] = refl
 length_reads from (bytes ∷ older) = let rest = length_reads from older in omega (arith, rest)
 
-reads_first : (schedule : ℕ) (report : RunReport) (before after : Seen) (left rest : List ℕ) → Plays true false true schedule report before after left rest → length before.log < length after.log
+reads_first : (schedule : ℕ) (report : RunReport) (before after : Seen) (left rest : List ℕ) → Plays true false true schedule report before after (source left 0) (source rest 0) → length before.log < length after.log
 reads_first schedule report before after left rest played =
     let happens = played.happens refl in
     let read = played.is_opened.read in

@@ -4,6 +4,7 @@ use Rattle.std.proofs.Common.{ℕ, ◌≡◌, ◌++◌, true, false, List, [], �
 use Rattle.disk_model.specs.declared.call.Call.{Call}
 use Rattle.disk_model.specs.declared.call.Call.TheVariants.{Read, Write, Flush}
 use Rattle.disk_model.specs.Seen.{Seen}
+use Rattle.disk_model.specs.Streams.{SourceSeen}
 use Rattle.disk_model.specs.Since.{IsUntouched, OnlyReads}
 use Rattle.image_layout.specs.declared.fault.SuperFault.TheVariants.{NotAnImage}
 use Rattle.image_model.specs.declared.fault.ImageFault.TheVariants as image
@@ -19,6 +20,7 @@ use Rattle.vdo_cli.specs.Outsides.{Outside, no_report, outside}
 use Rattle.vdo_cli.specs.Texts.{fault_text}
 use Rattle.vdo_cli.proofs.AuditPins.{bare, begins, looks, no_image, status_in}
 use Rattle.vdo_cli.proofs.CommandPins.{status_words}
+use Rattle.vdo_cli.proofs.PlayPins.{source, sink}
 use Rattle.vdo_cli.proofs.RunPins.{Ends, some_report}
 
 -- told_status: each number is its own; the entries are told where the last session wasn't closed
@@ -39,7 +41,7 @@ image-refused = record {
     cause = inl (inl (record { none = refl; fault_is = refl; same = refl }));
     refuses = record { status_is = refl; report_is = refl; puts = inl (λ told. refl) };
   });
-  looks = record { untouched = looks.untouched; left = refl; source_faults = refl };
+  looks = record { untouched = looks.untouched; source = refl };
 }
 
 image-not_another_status : (after : Outside) → Ends status_words begins after 0 no_report (Some no_image) → ⊥
@@ -59,21 +61,21 @@ looks-not_written status report ended ends = let since = ends.looks.untouched.re
     written (Flush ok ∷ calls) is reads = reads
 
 looks-not_taken : (held : List ℕ) (status : ℕ) (report : RunReport) (ended : Option Fault) → Ends status_words begins (bare [] [] held 0) status report ended → ⊥
-looks-not_taken held status report ended ends = let same = ap length ends.looks.left in omega (arith, same)
+looks-not_taken held status report ended ends = let same = ap (λ (s : SourceSeen). length s.left) ends.looks.source in omega (arith, same)
 
 -- Told. The image was looked at, and its lines were put, with status 0;
 module _ (before after : Seen) (found : ImageStatus) (read : IsStatusRead true false before after found) (untouched : IsUntouched true before after) where
-  told-put : Ends status_words (outside before [] 0 [] 0) (outside after [] 0 (status_text (told_status found)) 0) 0 no_report None
+  told-put : Ends status_words (outside before (source [] 0) (sink [] 0)) (outside after (source [] 0) (sink (status_text (told_status found)) 0)) 0 no_report None
   told-put = record {
     ends = inl (record { found = found; read = read; report_is = refl; told = (refl, λ told. refl) });
-    looks = record { untouched = untouched; left = refl; source_faults = refl };
+    looks = record { untouched = untouched; source = refl };
   }
 
   -- or a part of them, with 7
-  told-part : (n : ℕ) → Ends status_words (outside before [] 0 [] 0) (outside after [] 0 (take n (status_text (told_status found))) 1) 7 no_report (Some fault.Sink)
+  told-part : (n : ℕ) → Ends status_words (outside before (source [] 0) (sink [] 0)) (outside after (source [] 0) (sink (take n (status_text (told_status found))) 1)) 7 no_report (Some fault.Sink)
   told-part n = record {
     ends = inl (record { found = found; read = read; report_is = refl; told = (refl, omega arith, λ told. (n, refl)) });
-    looks = record { untouched = untouched; left = refl; source_faults = refl };
+    looks = record { untouched = untouched; source = refl };
   }
 
 told-not_another_status : (before after : Outside) (report : RunReport) → Ends status_words before after 6 report None → ⊥

@@ -28,6 +28,7 @@ use Rattle.vdo_cli.specs.Openings.{CanServe, IsOpened}
 use Rattle.vdo_cli.specs.Outsides.{Outside, outside, setting}
 use Rattle.vdo_cli.specs.Runs.{EndsSo}
 use Rattle.vdo_cli.proofs.CommandPins.{run_words}
+use Rattle.vdo_cli.proofs.PlayPins.{source, sink}
 use Rattle.vdo_cli.proofs.EmptyScript.{empty_plays, empty_report}
 use Rattle.vdo_cli.proofs.OpeningLaws.{opened_serves, says_head}
 use Rattle.vdo_cli.proofs.ServeLaws.{one_service}
@@ -35,7 +36,7 @@ use Rattle.vdo_cli.proofs.ServeLaws.{one_service}
 -- A run of a session that was served, over a source with these bytes left, where all of the outside tells and the device
 -- is honest.
 abbrev Served : Seen → List ℕ → Outside → RunReport → Type 0
-Served before left after report = EndsSo (setting true true true true) run_words (outside before left 0 [] 0) after 0 report None
+Served before left after report = EndsSo (setting true true true true) run_words (outside before (source left 0) (sink [] 0)) after 0 report None
 
 -- a report of one read of address 1, which gave a block of this byte
 abbrev reads_one : Script
@@ -78,7 +79,7 @@ module _ (before opened : Seen) (head : Super) (window : List Entry) (used : ℕ
       (heads, (one_service head (journal_of head.geometry image) window window' used used' is (subst (λ (h : Super). CanServe h (journal_of h.geometry image) window' used') (sym heads) is')).0)
 
   -- a session that was served says nothing else of it, here that of no request
-  served-empty : Served before [] (outside opened [] 0 (answers_text empty_report.requests [] []) 0) empty_report
+  served-empty : Served before [] (outside opened (source [] 0) (sink (answers_text empty_report.requests [] []) 0)) empty_report
   served-empty = record {
     session = empty_plays true true 0 head window used before opened is_opened true [] [] (λ told. (refl, refl)) (λ told. refl);
     closes = (refl, λ told. refl);

@@ -8,6 +8,7 @@ use Rattle.command_text.specs.declared.parts.Space.{Space}
 use Rattle.command_text.specs.declared.statuses.Mode.TheVariants.{Clean, Unclean}
 use Rattle.command_text.specs.declared.statuses.Status.{Status}
 use Rattle.disk_model.specs.Since.{IsUntouched}
+use Rattle.disk_model.specs.Streams.{SinkSeen}
 use Rattle.image_model.specs.declared.fault.ImageFault.{ImageFault}
 use Rattle.image_model.specs.declared.fault.ImageFault.TheVariants as image
 use Rattle.image_status.specs.Statuses.{IsStatusRead}
@@ -30,13 +31,12 @@ pub record FindsNothing (s : Setting) (Causes : ImageFault → Type 0) (before a
   pub why : ImageFault
   pub fault_is : ended ≡ Some (told_as why)
   pub cause : Causes why
-  pub refuses : Refuses s.sink_tells (told_as why) status report before.held before.sink_faults after.held after.sink_faults
+  pub refuses : Refuses s.sink_tells (told_as why) status report before.sink after.sink
 
 -- the device was read and no more, and the script wasn't looked at
 pub record OnlyLooks (s : Setting) (before after : Outside) : Type 0 where
   pub untouched : IsUntouched s.device_tells before.device after.device
-  pub left : after.left ≡ before.left
-  pub source_faults : after.source_faults ≡ before.source_faults
+  pub source : after.source ≡ before.source
 
 -- The audit.
 
@@ -50,18 +50,18 @@ report_text report = findings_text report.differs.items (space_of report)
 
 -- its text is put: where blocks differ, with status 6 and their number, also where the sink failed; else with status 0, or
 -- with 7 where the sink failed
-abbrev pub TellsReport : Bool → Report → ℕ → Option Fault → List ℕ → ℕ → List ℕ → ℕ → Type 0
-TellsReport tells report status (Some (fault.Differs count)) held faults held' faults' =
-    (1 ≤ count) × (count ≡ length report.differs.items) × (status ≡ 6) × PutsOrFails tells (report_text report) held faults held' faults'
-TellsReport tells report status ended held faults held' faults' =
-    (report.differs.items ≡ []) × Tells tells (report_text report) status ended held faults held' faults'
+abbrev pub TellsReport : Bool → Report → ℕ → Option Fault → SinkSeen → SinkSeen → Type 0
+TellsReport tells report status (Some (fault.Differs count)) before after =
+    (1 ≤ count) × (count ≡ length report.differs.items) × (status ≡ 6) × PutsOrFails tells (report_text report) before after
+TellsReport tells report status ended before after =
+    (report.differs.items ≡ []) × Tells tells (report_text report) status ended before after
 
 -- the image was audited, and the report was put
 pub record IsAuditTold (s : Setting) (before after : Outside) (status : ℕ) (report : RunReport) (ended : Option Fault) : Type 0 where
   pub found : Report
   pub audited : IsAudited s.device_tells s.device_honest before.device after.device found
   pub report_is : report ≡ no_report
-  pub told : TellsReport s.sink_tells found status ended before.held before.sink_faults after.held after.sink_faults
+  pub told : TellsReport s.sink_tells found status ended before.sink after.sink
 
 -- how an audit ends
 pub record EndsAudit (s : Setting) (before after : Outside) (status : ℕ) (report : RunReport) (ended : Option Fault) : Type 0 where
@@ -85,7 +85,7 @@ pub record IsStatusTold (s : Setting) (before after : Outside) (status : ℕ) (r
   pub found : ImageStatus
   pub read : IsStatusRead s.device_tells s.device_honest before.device after.device found
   pub report_is : report ≡ no_report
-  pub told : Tells s.sink_tells (status_text (told_status found)) status ended before.held before.sink_faults after.held after.sink_faults
+  pub told : Tells s.sink_tells (status_text (told_status found)) status ended before.sink after.sink
 
 -- how a status ends
 pub record EndsStatus (s : Setting) (before after : Outside) (status : ℕ) (report : RunReport) (ended : Option Fault) : Type 0 where

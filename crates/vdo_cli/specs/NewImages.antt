@@ -3,6 +3,7 @@ use Rattle.std.specs.Prelude.{ℕ, ◌≡◌, Bool, IsTrue, List, Option, Some, 
 use Rattle.blk_base.specs.Regions.{needed_blocks}
 use Rattle.blk_base.specs.declared.geometry.Geometry.{Geometry}
 use Rattle.disk_model.specs.Seen.{Seen, Stays}
+use Rattle.disk_model.specs.Streams.{SinkSeen}
 use Rattle.image_format.specs.Formats.{FormatFails, LeavesEmpty, StopsAreRight}
 use Rattle.image_format.specs.declared.fault.FormatFault.TheVariants as format
 use Rattle.image_layout.specs.Planning.{plan_of}
@@ -19,11 +20,11 @@ formatted_as g = record { blocks = needed_blocks g; slabs = g.slabs; slab_blocks
 
 -- an image of these sizes was made, and its line was put
 pub record IsMade (tells sink_tells : Bool) (g : Geometry) (before after : Seen) (status : ℕ) (report : RunReport) (ended : Option Fault)
-    (held : List ℕ) (faults : ℕ) (held' : List ℕ) (faults' : ℕ) : Type 0 where
+    (sink sink' : SinkSeen) : Type 0 where
   pub planned : plan_of g before.size ≡ Ok tt
   pub image : IsTrue tells → LeavesEmpty g before after
   pub report_is : report ≡ no_report
-  pub line : Tells sink_tells (formatted_text (formatted_as g)) status ended held faults held' faults'
+  pub line : Tells sink_tells (formatted_text (formatted_as g)) status ended sink sink'
 
 -- why none was made: the sizes can't be had, and then no call was made; or a call failed
 abbrev pub MakingFails : Bool → Geometry → Seen → Seen → Fault → Type 0
@@ -33,24 +34,23 @@ MakingFails tells g before after other = ⊥
 
 -- no image was made, or not to its end, and the fault's line was put
 pub record IsNotMade (tells sink_tells : Bool) (g : Geometry) (before after : Seen) (status : ℕ) (report : RunReport) (why : Fault)
-    (held : List ℕ) (faults : ℕ) (held' : List ℕ) (faults' : ℕ) : Type 0 where
+    (sink sink' : SinkSeen) : Type 0 where
   pub cause : MakingFails tells g before after why
-  pub refuses : Refuses sink_tells why status report held faults held' faults'
+  pub refuses : Refuses sink_tells why status report sink sink'
 
 -- one of the two
-abbrev pub IsMadeOrNot : Bool → Bool → Geometry → Seen → Seen → ℕ → RunReport → Option Fault → List ℕ → ℕ → List ℕ → ℕ → Type 0
-IsMadeOrNot tells sink_tells g before after status report None held faults held' faults' =
-    IsMade tells sink_tells g before after status report None held faults held' faults'
-IsMadeOrNot tells sink_tells g before after status report (Some fault.Sink) held faults held' faults' =
-    IsMade tells sink_tells g before after status report (Some fault.Sink) held faults held' faults'
-IsMadeOrNot tells sink_tells g before after status report (Some why) held faults held' faults' =
-    IsNotMade tells sink_tells g before after status report why held faults held' faults'
+abbrev pub IsMadeOrNot : Bool → Bool → Geometry → Seen → Seen → ℕ → RunReport → Option Fault → SinkSeen → SinkSeen → Type 0
+IsMadeOrNot tells sink_tells g before after status report None sink sink' =
+    IsMade tells sink_tells g before after status report None sink sink'
+IsMadeOrNot tells sink_tells g before after status report (Some fault.Sink) sink sink' =
+    IsMade tells sink_tells g before after status report (Some fault.Sink) sink sink'
+IsMadeOrNot tells sink_tells g before after status report (Some why) sink sink' =
+    IsNotMade tells sink_tells g before after status report why sink sink'
 
 -- Either way, a stop at any moment leaves what the old image said, or no image, or an empty one; and the script isn't looked
 -- at.
 pub record MakesImage (s : Setting) (g : Geometry) (before after : Outside) (status : ℕ) (report : RunReport) (ended : Option Fault) : Type 0 where
-  pub ends : IsMadeOrNot s.device_tells s.sink_tells g before.device after.device status report ended before.held before.sink_faults after.held after.sink_faults
+  pub ends : IsMadeOrNot s.device_tells s.sink_tells g before.device after.device status report ended before.sink after.sink
   pub stays : Stays before.device after.device
   pub stops : IsTrue s.device_tells → StopsAreRight g before.device after.device
-  pub left : after.left ≡ before.left
-  pub source_faults : after.source_faults ≡ before.source_faults
+  pub source : after.source ≡ before.source

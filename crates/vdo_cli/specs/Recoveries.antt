@@ -21,12 +21,11 @@ pub record IsRecoveryTold (s : Setting) (before after : Outside) (status : ℕ) 
   pub found : Recovered
   pub recovery : IsRecovery s.device_tells s.device_honest before.device after.device (Ok found)
   pub report_is : report ≡ no_report
-  pub line : Tells s.sink_tells (recovery_text (told_recovery found)) status ended before.held before.sink_faults after.held after.sink_faults
+  pub line : Tells s.sink_tells (recovery_text (told_recovery found)) status ended before.sink after.sink
 
 -- how a recovery ends: so, or the image was refused, or the last call failed, and the fault's line was put; and the script
 -- wasn't looked at
 pub record EndsRecovery (s : Setting) (before after : Outside) (status : ℕ) (report : RunReport) (ended : Option Fault) : Type 0 where
   pub ends : IsRecoveryTold s before after status report ended
       ⊎ FindsNothing s (λ why. IsRecovery s.device_tells s.device_honest before.device after.device (Err why)) before after status report ended
-  pub left : after.left ≡ before.left
-  pub source_faults : after.source_faults ≡ before.source_faults
+  pub source : after.source ≡ before.source

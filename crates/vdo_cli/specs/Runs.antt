@@ -2,7 +2,7 @@
 use Rattle.std.specs.Prelude.{ℕ, ◌≡◌, ◌++◌, Bool, false, IsTrue, List, Option, Some, None, MatchBool}
 use Rattle.disk_model.specs.Causes.{Rose}
 use Rattle.disk_model.specs.Since.{IsUntouched}
-use Rattle.stream_text.specs.Puts.{PutsPart}
+use Rattle.disk_model.specs.Streams.{PutsPart, SinkSeen}
 use Rattle.stream_text.specs.Texts.{answers_text}
 use Rattle.vdo_model.specs.declared.report.RunReport.{RunReport}
 use Rattle.vdo_cli.specs.declared.fault.Fault.{Fault}
@@ -18,27 +18,27 @@ use Rattle.vdo_cli.specs.Outsides.{Setting, Outside, PutsOrFails, Refuses}
 use Rattle.vdo_cli.specs.Texts.{some_lost, desk_status}
 
 -- a session's answers are put, with its status: that of the first of a device's fault, the sink's, and Full
-abbrev pub Closes : Bool → RunReport → ℕ → Option Fault → List ℕ → ℕ → List ℕ → ℕ → Type 0
-Closes tells report status None held faults held' faults' =
+abbrev pub Closes : Bool → RunReport → ℕ → Option Fault → SinkSeen → SinkSeen → Type 0
+Closes tells report status None before after =
     (status ≡ desk_status report.desk)
     × MatchBool (some_lost report.desk)
-    (PutsOrFails tells (answers_text report.requests report.desk report.places) held faults held' faults')
-    (IsTrue tells → held' ≡ held ++ answers_text report.requests report.desk report.places)
-Closes tells report status (Some fault.Sink) held faults held' faults' =
-    (status ≡ 7) × (some_lost report.desk ≡ false) × Rose faults faults'
-    × (IsTrue tells → PutsPart held held' (answers_text report.requests report.desk report.places))
-Closes tells report status (Some other) held faults held' faults' = ⊥
+    (PutsOrFails tells (answers_text report.requests report.desk report.places) before after)
+    (IsTrue tells → after.held ≡ before.held ++ answers_text report.requests report.desk report.places)
+Closes tells report status (Some fault.Sink) before after =
+    (status ≡ 7) × (some_lost report.desk ≡ false) × Rose before.faults after.faults
+    × (IsTrue tells → PutsPart before.held after.held (answers_text report.requests report.desk report.places))
+Closes tells report status (Some other) before after = ⊥
 
 -- no session was begun: the cause is the fault's, and nothing was written since
 pub record NotBegun (s : Setting) (before after : Outside) (status : ℕ) (report : RunReport) (why : Fault) : Type 0 where
-  pub cause : PlayFails s.device_tells s.device_honest s.source_tells before.device after.device before.left before.source_faults after.source_faults why
+  pub cause : PlayFails s.device_tells s.device_honest s.source_tells before.device after.device before.source after.source why
   pub untouched : IsUntouched s.device_tells before.device after.device
-  pub refuses : Refuses s.sink_tells why status report before.held before.sink_faults after.held after.sink_faults
+  pub refuses : Refuses s.sink_tells why status report before.sink after.sink
 
 -- a session was served to its end by the schedule of this number, and its answers were put
 pub record PlayedOut (s : Setting) (schedule : ℕ) (before after : Outside) (status : ℕ) (report : RunReport) (ended : Option Fault) : Type 0 where
-  pub session : Plays s.device_tells s.device_honest s.source_tells schedule report before.device after.device before.left after.left
-  pub closes : Closes s.sink_tells report status ended before.held before.sink_faults after.held after.sink_faults
+  pub session : Plays s.device_tells s.device_honest s.source_tells schedule report before.device after.device before.source after.source
+  pub closes : Closes s.sink_tells report status ended before.sink after.sink
 
 -- how the run of a script ends
 abbrev pub RunsScript : Setting → ℕ → Outside → Outside → ℕ → RunReport → Option Fault → Type 0
@@ -50,9 +50,8 @@ RunsScript s schedule before after status report (Some why) = NotBegun s before 
 pub record IsUsage (s : Setting) (before after : Outside) (status : ℕ) (report : RunReport) (ended : Option Fault) : Type 0 where
   pub fault_is : ended ≡ Some fault.Usage
   pub device : after.device ≡ before.device
-  pub left : after.left ≡ before.left
-  pub source_faults : after.source_faults ≡ before.source_faults
-  pub refuses : Refuses s.sink_tells fault.Usage status report before.held before.sink_faults after.held after.sink_faults
+  pub source : after.source ≡ before.source
+  pub refuses : Refuses s.sink_tells fault.Usage status report before.sink after.sink
 
 -- how a run of what is served ends
 abbrev pub EndsAs : Setting → Option Served → Outside → Outside → ℕ → RunReport → Option Fault → Type 0

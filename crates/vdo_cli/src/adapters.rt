@@ -23,9 +23,7 @@ impl Source for StdSource {
 
     ghost tells = { false };
 
-    ghost left = { λ _. [] };
-
-    ghost faults = { λ s. s.faults };
+    ghost seen = { λ s. record { left = []; faults = s.faults } };
 
     fn take(&mut self, into: &mut [u8]) -> Result<usize, Failed> {
         match self.rt.reader().read(into) {
@@ -67,9 +65,7 @@ impl<'r> Sink for StdSink<'r> {
 
     ghost tells = { false };
 
-    ghost holds = { λ _. [] };
-
-    ghost faults = { λ s. s.faults };
+    ghost seen = { λ s. record { held = []; faults = s.faults } };
 
     fn put(&mut self, bytes: &[u8]) -> Result<(), Failed> {
         match self.out.write_all(bytes) {

@@ -1,6 +1,5 @@
-ghost use Rattle.std.specs.Prelude.{◌≡◌, ◌++◌, IsTrue, OnOk, OnErr, codes, decimal, reverse};
-ghost use Rattle.disk_model.specs.Causes.{HasCause};
-ghost use Rattle.stream_text.specs.Puts.{PutsPart};
+ghost use Rattle.std.specs.Prelude.{◌≡◌, ◌++◌, codes, decimal, reverse};
+ghost use Rattle.disk_model.specs.Streams.{Puts};
 ghost use Rattle.vdo_cli.specs.Texts.{fault_text, fault_status, differs_line, line_fault_text, lost_line, full_line, some_lost, some_full};
 
 use crate::Fault;
@@ -12,9 +11,9 @@ use vdo_model::DeskLine;
 
 // Puts three pieces of a text.
 fn put_three<K: Sink>(out: &mut K, first: &[u8], second: &[u8], third: &[u8]) -> Result<(), Failed>
-    ensures ok { IsTrue K.tells → OnOk result (K.holds out.new ≡ K.holds out.old ++ (first.now ++ (second.now ++ third.now))) }
-    ensures err { IsTrue K.tells → OnErr result (PutsPart (K.holds out.old) (K.holds out.new) (first.now ++ (second.now ++ third.now))) }
-    ensures cause { HasCause (K.faults out.old) (K.faults out.new) result }
+    ensures { Puts K.tells
+        (first.now ++ (second.now ++ third.now))
+        (K.seen out.old) (K.seen out.new) result }
 {
     out.put(first)?;
     out.put(second)?;
@@ -38,9 +37,9 @@ fn script_fault_end(fault: LineFault) -> &'static [u8]
 
 // Puts the line of a script that is refused at this line.
 fn put_script_line<K: Sink>(line: u64, end: &[u8], out: &mut K) -> Result<(), Failed>
-    ensures ok { IsTrue K.tells → OnOk result (K.holds out.new ≡ K.holds out.old ++ (codes "script line " ++ decimal line ++ end.now)) }
-    ensures err { IsTrue K.tells → OnErr result (PutsPart (K.holds out.old) (K.holds out.new) (codes "script line " ++ decimal line ++ end.now)) }
-    ensures cause { HasCause (K.faults out.old) (K.faults out.new) result }
+    ensures { Puts K.tells
+        (codes "script line " ++ decimal line ++ end.now)
+        (K.seen out.old) (K.seen out.new) result }
 {
     let mut buffer = itoa::Buffer::new();
     put_three(out, b"script line ", buffer.format(line).as_bytes(), end)
@@ -48,9 +47,7 @@ fn put_script_line<K: Sink>(line: u64, end: &[u8], out: &mut K) -> Result<(), Fa
 
 // Puts how many blocks differ.
 fn put_differs<K: Sink>(count: u32, out: &mut K) -> Result<(), Failed>
-    ensures ok { IsTrue K.tells → OnOk result (K.holds out.new ≡ K.holds out.old ++ differs_line count) }
-    ensures err { IsTrue K.tells → OnErr result (PutsPart (K.holds out.old) (K.holds out.new) (differs_line count)) }
-    ensures cause { HasCause (K.faults out.old) (K.faults out.new) result }
+    ensures { Puts K.tells (differs_line count) (K.seen out.old) (K.seen out.new) result }
 {
     let mut buffer = itoa::Buffer::new();
     put_three(
@@ -63,9 +60,7 @@ fn put_differs<K: Sink>(count: u32, out: &mut K) -> Result<(), Failed>
 
 /// Puts the line of a fault. Where the sink is the fault, nothing is put.
 pub fn put_fault<K: Sink>(fault: &Fault, out: &mut K) -> Result<(), Failed>
-    ensures ok { IsTrue K.tells → OnOk result (K.holds out.new ≡ K.holds out.old ++ fault_text fault.now) }
-    ensures err { IsTrue K.tells → OnErr result (PutsPart (K.holds out.old) (K.holds out.new) (fault_text fault.now)) }
-    ensures cause { HasCause (K.faults out.old) (K.faults out.new) result }
+    ensures { Puts K.tells (fault_text fault.now) (K.seen out.old) (K.seen out.new) result }
 {
     let line: &[u8] = match fault {
         Fault::Script(why) => return put_script_line(why.line, script_fault_end(why.fault), out),

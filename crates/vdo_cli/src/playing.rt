@@ -33,11 +33,13 @@ pub(crate) struct Played {
 // Reads the requests of the script, all of which are served.
 // A discard refuses a script behind the grammar: a line with a fault is named before it, wherever it stands.
 fn read_served<S: Source>(alloc: Global, script: &mut S) -> Result<Requests, Fault>
-    ensures script { IsTrue S.tells → IfOk result (λ requests. (whole_script (S.left script.old) ≡ Ok requests) × (first_discard (S.left script.old) ≡ None) × (S.left script.new ≡ [])) }
+    ensures script { IsTrue S.tells → IfOk result (λ requests.
+        (whole_script (S.seen script.old).left ≡ Ok requests)
+        × (first_discard (S.seen script.old).left ≡ None) × ((S.seen script.new).left ≡ [])) }
     ensures shape { IfOk result IsWholeScript }
     ensures served { IfOk result (λ requests. AllByRecursion (AllByRecursion IsServed) requests) }
-    ensures fault { IfErr result (ScriptFails S.tells (S.left script.old) (S.faults script.old) (S.faults script.new)) }
-    ensures later { S.faults script.old ≤ S.faults script.new }
+    ensures fault { IfErr result (ScriptFails S.tells (S.seen script.old) (S.seen script.new)) }
+    ensures later { (S.seen script.old).faults ≤ (S.seen script.new).faults }
 {
     match read_script(alloc, script) {
         Ok(read) => match read.first_discard {
@@ -59,12 +61,12 @@ pub(crate) fn play<R: Wait, D: Disk, S: Source>(
     script: &mut S,
 ) -> Result<Played, Fault>
     ensures session { IfOk result (λ played. Plays D.tells D.honest S.tells number played.report
-        (D.seen device.old) (D.seen device.new) (S.left script.old) (S.left script.new)) }
+        (D.seen device.old) (D.seen device.new) (S.seen script.old) (S.seen script.new)) }
     ensures room { IfOk result (λ played. HasRoomFor played.room played.report.requests) }
     ensures fault { IfErr result (PlayFails D.tells D.honest S.tells
-        (D.seen device.old) (D.seen device.new) (S.left script.old) (S.faults script.old) (S.faults script.new)) }
+        (D.seen device.old) (D.seen device.new) (S.seen script.old) (S.seen script.new)) }
     ensures untouched { IfErr result (λ fault. IsUntouched D.tells (D.seen device.old) (D.seen device.new)) }
-    ensures later { S.faults script.old ≤ S.faults script.new }
+    ensures later { (S.seen script.old).faults ≤ (S.seen script.new).faults }
 {
     let Opened { head, used, window } = open(alloc, device)?;
     let requests = read_served(alloc, script)?;

@@ -57,7 +57,7 @@ fn empty_report(alloc: Global) -> RunReport
 fn refuse<D: Disk, K: Sink>(alloc: Global, fault: Fault, device: D, out: &mut K) -> Ended<D>
     ensures device { result.device ≡ device }
     ensures fault { result.fault ≡ Some fault }
-    ensures refuses { Refuses K.tells fault result.status result.report (K.holds out.old) (K.faults out.old) (K.holds out.new) (K.faults out.new) }
+    ensures refuses { Refuses K.tells fault result.status result.report (K.seen out.old) (K.seen out.new) }
 {
     let status = status_of(&fault);
     // The status is the fault's, whatever becomes of its line.
@@ -75,7 +75,7 @@ fn close<D: Disk, K: Sink>(report: RunReport, room: AnswerRoom, device: D, out: 
     requires { HasRoomFor room report.requests }
     ensures device { result.device ≡ device }
     ensures report { result.report ≡ report }
-    ensures closes { Closes K.tells report result.status result.fault (K.holds out.old) (K.faults out.old) (K.holds out.new) (K.faults out.new) }
+    ensures closes { Closes K.tells report result.status result.fault (K.seen out.old) (K.seen out.new) }
 {
     let lost = has_lost(report.desk.as_slice());
     let full = has_full(report.desk.as_slice());
@@ -98,7 +98,7 @@ fn close<D: Disk, K: Sink>(report: RunReport, room: AnswerRoom, device: D, out: 
 fn tell<D: Disk, K: Sink>(alloc: Global, image: &Formatted, device: D, out: &mut K) -> Ended<D>
     ensures device { result.device ≡ device }
     ensures report { result.report ≡ no_report }
-    ensures tells { Tells K.tells (formatted_text image.now) result.status result.fault (K.holds out.old) (K.faults out.old) (K.holds out.new) (K.faults out.new) }
+    ensures tells { Tells K.tells (formatted_text image.now) result.status result.fault (K.seen out.old) (K.seen out.new) }
 {
     let (status, fault) = match put_formatted(image, out) {
         Ok(()) => (0, None),
@@ -136,7 +136,7 @@ fn tell_recovery<D: Disk, K: Sink>(
 ) -> Ended<D>
     ensures device { result.device ≡ device }
     ensures report { result.report ≡ no_report }
-    ensures tells { Tells K.tells (recovery_text recovery) result.status result.fault (K.holds out.old) (K.faults out.old) (K.holds out.new) (K.faults out.new) }
+    ensures tells { Tells K.tells (recovery_text recovery) result.status result.fault (K.seen out.old) (K.seen out.new) }
 {
     let (status, fault) = match put_recovery(recovery, out) {
         Ok(()) => (0, None),
@@ -155,7 +155,7 @@ fn tell_report<D: Disk, K: Sink>(alloc: Global, report: &Report, device: D, out:
     requires { length report.now.differs.items < 2 ^ 32 }
     ensures device { result.device ≡ device }
     ensures report { result.report ≡ no_report }
-    ensures tells { TellsReport K.tells report.now result.status result.fault (K.holds out.old) (K.faults out.old) (K.holds out.new) (K.faults out.new) }
+    ensures tells { TellsReport K.tells report.now result.status result.fault (K.seen out.old) (K.seen out.new) }
 {
     let differ = report.differs.len() as u32;
     let audit = Audit {
@@ -179,7 +179,7 @@ fn tell_report<D: Disk, K: Sink>(alloc: Global, report: &Report, device: D, out:
 fn tell_status<D: Disk, K: Sink>(alloc: Global, image: &Status, device: D, out: &mut K) -> Ended<D>
     ensures device { result.device ≡ device }
     ensures report { result.report ≡ no_report }
-    ensures tells { Tells K.tells (status_text image.now) result.status result.fault (K.holds out.old) (K.faults out.old) (K.holds out.new) (K.faults out.new) }
+    ensures tells { Tells K.tells (status_text image.now) result.status result.fault (K.seen out.old) (K.seen out.new) }
 {
     let (status, fault) = match put_status(image, out) {
         Ok(()) => (0, None),
@@ -203,8 +203,8 @@ fn run_script<R: Wait, D: Disk, S: Source, K: Sink>(
     out: &mut K,
 ) -> Ended<D>
     ensures { RunsScript (setting D.tells D.honest S.tells K.tells) schedule
-        (outside (D.seen device) (S.left script.old) (S.faults script.old) (K.holds out.old) (K.faults out.old))
-        (outside (D.seen result.device) (S.left script.new) (S.faults script.new) (K.holds out.new) (K.faults out.new))
+        (outside (D.seen device) (S.seen script.old) (K.seen out.old))
+        (outside (D.seen result.device) (S.seen script.new) (K.seen out.new))
         result.status result.report result.fault }
 {
     let mut device = device;
@@ -217,7 +217,7 @@ fn run_script<R: Wait, D: Disk, S: Source, K: Sink>(
 // Makes an empty image of these sizes.
 fn format<D: Disk, K: Sink>(alloc: Global, sizes: &Geometry, device: D, out: &mut K) -> Ended<D>
     ensures ends { IsMadeOrNot D.tells K.tells sizes.now (D.seen device) (D.seen result.device) result.status result.report result.fault
-        (K.holds out.old) (K.faults out.old) (K.holds out.new) (K.faults out.new) }
+        (K.seen out.old) (K.seen out.new) }
     ensures stays { Stays (D.seen device) (D.seen result.device) }
     ensures stops { IsTrue D.tells → StopsAreRight sizes.now (D.seen device) (D.seen result.device) }
 {
@@ -236,8 +236,8 @@ fn recover_device<D: Disk, S: Source, K: Sink>(
     out: &mut K,
 ) -> Ended<D>
     ensures { EndsRecovery (setting D.tells D.honest S.tells K.tells)
-        (outside (D.seen device) (S.left script.now) (S.faults script.now) (K.holds out.old) (K.faults out.old))
-        (outside (D.seen result.device) (S.left script.now) (S.faults script.now) (K.holds out.new) (K.faults out.new))
+        (outside (D.seen device) (S.seen script.now) (K.seen out.old))
+        (outside (D.seen result.device) (S.seen script.now) (K.seen out.new))
         result.status result.report result.fault }
 {
     let mut device = device;
@@ -255,8 +255,8 @@ fn audit_device<D: Disk, S: Source, K: Sink>(
     out: &mut K,
 ) -> Ended<D>
     ensures { EndsAudit (setting D.tells D.honest S.tells K.tells)
-        (outside (D.seen device) (S.left script.now) (S.faults script.now) (K.holds out.old) (K.faults out.old))
-        (outside (D.seen result.device) (S.left script.now) (S.faults script.now) (K.holds out.new) (K.faults out.new))
+        (outside (D.seen device) (S.seen script.now) (K.seen out.old))
+        (outside (D.seen result.device) (S.seen script.now) (K.seen out.new))
         result.status result.report result.fault }
 {
     let mut device = device;
@@ -274,8 +274,8 @@ fn status_of_device<D: Disk, S: Source, K: Sink>(
     out: &mut K,
 ) -> Ended<D>
     ensures { EndsStatus (setting D.tells D.honest S.tells K.tells)
-        (outside (D.seen device) (S.left script.now) (S.faults script.now) (K.holds out.old) (K.faults out.old))
-        (outside (D.seen result.device) (S.left script.now) (S.faults script.now) (K.holds out.new) (K.faults out.new))
+        (outside (D.seen device) (S.seen script.now) (K.seen out.old))
+        (outside (D.seen result.device) (S.seen script.now) (K.seen out.new))
         result.status result.report result.fault }
 {
     let mut device = device;
@@ -324,8 +324,8 @@ pub fn run<R: Threads + Wait + Sync, D: Disk + Send + Drop, S: Source, K: Sink, 
     gate: &G,
 ) -> Ended<D>
     ensures { EndsSo (setting D.tells D.honest S.tells K.tells) words.now
-        (outside (D.seen device) (S.left script.old) (S.faults script.old) (K.holds out.old) (K.faults out.old))
-        (outside (D.seen result.device) (S.left script.new) (S.faults script.new) (K.holds out.new) (K.faults out.new))
+        (outside (D.seen device) (S.seen script.old) (K.seen out.old))
+        (outside (D.seen result.device) (S.seen script.new) (K.seen out.new))
         result.status result.report result.fault }
 {
     let alloc = words.allocator();

@@ -1,13 +1,10 @@
-use Rattle.std.proofs.Common.{◌≤◌, reverse, drop}
-use Rattle.std.specs.Prelude.{IsTrue}
+use Rattle.std.proofs.Common.{reverse, drop}
 use Rattle.stream_text.specs.Texts.{stream_text}
 use Rattle.stream_text.proofs.PutLaws.{PutsBut}
 use Rattle.stream_text.proofs.answers.put_noted_stream.Given as goal
 
 abbrev pub invariant-loop-number : goal.invariant-loop-number
-invariant-loop-number g l = record {
-  but : IsTrue g.K.Sink.tells → PutsBut (g.K.Sink.holds l.initial.out) (g.K.Sink.holds l.out)
-      (stream_text (reverse l.desk) (reverse l.places) l.stream 0 l.requests)
-      (stream_text (reverse l.desk) (reverse l.places) l.stream l.number (drop l.number l.requests));
-  later : g.K.Sink.faults l.initial.out ≤ g.K.Sink.faults l.out;
-}
+invariant-loop-number g l =
+    PutsBut g.K.Sink.tells (stream_text (reverse l.desk) (reverse l.places) l.stream 0 l.requests)
+    (stream_text (reverse l.desk) (reverse l.places) l.stream l.number (drop l.number l.requests))
+    (g.K.Sink.seen l.initial.out) (g.K.Sink.seen l.out)

@@ -1,4 +1,4 @@
-use Rattle.std.proofs.Common.{ℕ, ◌≡◌, ◌%◌, List, [], ◌∷◌, ◌∙◌, ap, arith, length}
+use Rattle.std.proofs.Common.{ℕ, ◌%◌, [], ◌∷◌, ◌∙◌, ap, length}
 use Rattle.stream_text.proofs.StreamLaws.{rows-kept}
 use Rattle.stream_text.proofs.WorkloadLaws.{next_state_before, next_workload}
 use Rattle.stream_text.proofs.drawing.workload.Goals as goal

@@ -16,20 +16,8 @@ word_of g c =
       | in-Damaged w ↦ rw (w.word-is, w.in-Damaged.is) refl
     ]
 
-pub returns-clause-ok : goal.returns-clause-ok
-returns-clause-ok g c = λ tells. rw (word_of g c) at (c.put.ensures.ok tells)
+pub returns : goal.returns
+returns g c = rw (word_of g c) at c.put.ensures
 
-pub returns-clause-err : goal.returns-clause-err
-returns-clause-err g c = λ tells. rw (word_of g c) at (c.put.ensures.err tells)
-
-pub returns-clause-cause : goal.returns-clause-cause
-returns-clause-cause g c = c.put.ensures.cause
-
-pub returns-in-Bytes-clause-ok : goal.returns-in-Bytes-clause-ok
-returns-in-Bytes-clause-ok g c = λ tells. rw (c.in-Bytes.is, ← c.block.view_is) (c.put_runs.ensures.ok tells)
-
-pub returns-in-Bytes-clause-err : goal.returns-in-Bytes-clause-err
-returns-in-Bytes-clause-err g c = λ tells. rw (c.in-Bytes.is, ← c.block.view_is) (c.put_runs.ensures.err tells)
-
-pub returns-in-Bytes-clause-cause : goal.returns-in-Bytes-clause-cause
-returns-in-Bytes-clause-cause g c = c.put_runs.ensures.cause
+pub returns-in-Bytes : goal.returns-in-Bytes
+returns-in-Bytes g c = rw (c.in-Bytes.is, ← c.block.view_is) c.put_runs.ensures

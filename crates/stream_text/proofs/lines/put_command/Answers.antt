@@ -1,17 +1,8 @@
 use Rattle.std.proofs.Common.{◌∙◌}
 use Rattle.std.specs.Prelude.{codes}
-use Rattle.stream_text.proofs.PutLaws.{put_so, part_so, command_pieces}
+use Rattle.stream_text.proofs.PutLaws.{command_pieces, puts-same}
 use Rattle.stream_text.proofs.lines.put_command.Goals as goal
 
-pub returns-clause-ok : goal.returns-clause-ok
-returns-clause-ok g c = λ tells.
-    let same = command_pieces c.args.command.now _ (codes " ") _ (c.as_bytes.ensures.value ∙ c.format.ensures.text) in
-    put_so c.put_all.result _ _ _ _ same (c.put_all.ensures.ok tells)
-
-pub returns-clause-err : goal.returns-clause-err
-returns-clause-err g c = λ tells.
-    let same = command_pieces c.args.command.now _ (codes " ") _ (c.as_bytes.ensures.value ∙ c.format.ensures.text) in
-    part_so c.put_all.result _ _ _ _ same (c.put_all.ensures.err tells)
-
-pub returns-clause-cause : goal.returns-clause-cause
-returns-clause-cause g c = c.put_all.ensures.cause
+pub returns : goal.returns
+returns g c =
+    puts-same (command_pieces c.args.command.now _ (codes " ") _ (c.as_bytes.ensures.value ∙ c.format.ensures.text)) c.put_all.ensures

@@ -1,17 +1,8 @@
 use Rattle.std.proofs.Common.{◌∙◌}
 use Rattle.std.specs.Prelude.{codes}
-use Rattle.stream_text.proofs.PutLaws.{put_so, part_so, run_pieces}
+use Rattle.stream_text.proofs.PutLaws.{puts-same, run_pieces}
 use Rattle.stream_text.proofs.runs.put_run.Goals as goal
 
-pub returns-clause-ok : goal.returns-clause-ok
-returns-clause-ok g c = λ tells.
-    let same = run_pieces c.args.before.now _ (codes "*") _ _ _ (c.as_bytes.ensures.value ∙ c.format.ensures.text) c.in-Ok.ensures.written in
-    put_so c.put_all.result _ _ _ _ same (c.put_all.ensures.ok tells)
-
-pub returns-clause-err : goal.returns-clause-err
-returns-clause-err g c = λ tells.
-    let same = run_pieces c.args.before.now _ (codes "*") _ _ _ (c.as_bytes.ensures.value ∙ c.format.ensures.text) c.in-Ok.ensures.written in
-    part_so c.put_all.result _ _ _ _ same (c.put_all.ensures.err tells)
-
-pub returns-clause-cause : goal.returns-clause-cause
-returns-clause-cause g c = c.put_all.ensures.cause
+pub returns : goal.returns
+returns g c =
+    puts-same (run_pieces c.args.before.now _ (codes "*") _ _ _ (c.as_bytes.ensures.value ∙ c.format.ensures.text) c.in-Ok.ensures.written) c.put_all.ensures

@@ -16,8 +16,8 @@ begin-requires g c =
 
 -- what was played, and of which requests
 both : (g : _) (c : goal.After-drop-window-2 g)
-    → Plays g.D.Disk.tells g.D.Disk.honest g.S.Source.tells c.args.number c.report.result (g.D.Disk.seen c.args.device.now) (g.D.Disk.seen c.drive.new.device) (g.S.Source.left c.args.script.now)
-    (g.S.Source.left c.read_served.new.script) × (c.report.result.requests ≡ c.in_ok-requests.requests)
+    → Plays g.D.Disk.tells g.D.Disk.honest g.S.Source.tells c.args.number c.report.result (g.D.Disk.seen c.args.device.now) (g.D.Disk.seen c.drive.new.device) (g.S.Source.seen c.args.script.now)
+    (g.S.Source.seen c.read_served.new.script) × (c.report.result.requests ≡ c.in_ok-requests.requests)
 both g c =
     let disk = g.D.Disk in
     let script = c.in_ok-requests.ensures.script in

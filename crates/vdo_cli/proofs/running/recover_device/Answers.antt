@@ -9,8 +9,7 @@ returns-in-Ok g c = rw c.tell_recovery.ensures.device (record {
     report_is = c.tell_recovery.ensures.report;
     line = rw c.in-Ok.ensures.recovery.1 at c.tell_recovery.ensures.tells;
   });
-  left = refl;
-  source_faults = refl;
+  source = refl;
 })
 
 pub returns-in-Err : goal.returns-in-Err
@@ -21,6 +20,5 @@ returns-in-Err g c = rw (c.refuse.ensures.device, c.refuse.ensures.fault) (recor
     cause = c.in-Err.ensures.fault.2;
     refuses = rw c.in-Err.ensures.fault.1 at c.refuse.ensures.refuses;
   });
-  left = refl;
-  source_faults = refl;
+  source = refl;
 })

@@ -9,7 +9,7 @@ returns-in-Ok g c = rw c.tell_status.ensures.device (record {
     report_is = c.tell_status.ensures.report;
     told = rw c.in-Ok.ensures.status.1 at c.tell_status.ensures.tells;
   });
-  looks = record { untouched = c.in-Ok.ensures.untouched; left = refl; source_faults = refl };
+  looks = record { untouched = c.in-Ok.ensures.untouched; source = refl };
 })
 
 pub returns-in-Err : goal.returns-in-Err
@@ -20,5 +20,5 @@ returns-in-Err g c = rw (c.refuse.ensures.device, c.refuse.ensures.fault) (recor
     cause = c.in-Err.ensures.fault.2;
     refuses = rw c.in-Err.ensures.fault.1 at c.refuse.ensures.refuses;
   });
-  looks = record { untouched = c.in-Err.ensures.untouched; left = refl; source_faults = refl };
+  looks = record { untouched = c.in-Err.ensures.untouched; source = refl };
 })

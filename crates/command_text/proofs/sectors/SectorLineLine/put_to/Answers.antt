@@ -1,18 +1,9 @@
-use Rattle.std.proofs.Common.{arith}
-use Rattle.stream_text.proofs.PutLaws.{on_err, part_of_first, second_failed, second_put, lost, at_last}
+use Rattle.std.proofs.lemmas.Result.{err_from_is_err_and}
+use Rattle.stream_text.proofs.PutLaws.{put-failed, put-first, put-last}
 use Rattle.command_text.proofs.sectors.SectorLineLine.put_to.Goals as goal
 
-pub returns-in_err-put_asked-clause-err : goal.returns-in_err-put_asked-clause-err
-returns-in_err-put_asked-clause-err g c = λ tells. on_err c.from_residual.result _ (part_of_first _ _ _ _ (c.in_err-put_asked.ensures.err tells))
+pub returns-in_err-put_asked : goal.returns-in_err-put_asked
+returns-in_err-put_asked g c = put-failed _ (err_from_is_err_and c.from_residual.result c.from_residual.ensures.1).1 c.in_err-put_asked.ensures
 
-pub returns-clause-err : goal.returns-clause-err
-returns-clause-err g c = λ tells. second_failed c.put_answered.result _ _ _ _ _ (c.in_ok-put_asked.ensures.ok tells) (c.put_answered.ensures.err tells)
-
-pub returns-clause-ok : goal.returns-clause-ok
-returns-clause-ok g c = λ tells. second_put c.put_answered.result _ _ _ _ _ (c.in_ok-put_asked.ensures.ok tells) (c.put_answered.ensures.ok tells)
-
-pub returns-in_err-put_asked-clause-cause : goal.returns-in_err-put_asked-clause-cause
-returns-in_err-put_asked-clause-cause g c = lost c.from_residual.result _ _ _ (omega arith) c.put_asked.ensures.cause.later c.in_err-put_asked.ensures.cause.failed
-
-pub returns-clause-cause : goal.returns-clause-cause
-returns-clause-cause g c = at_last c.put_answered.result _ _ _ c.put_asked.ensures.cause.later c.put_answered.ensures.cause
+pub returns : goal.returns
+returns g c = put-last (put-first c.in_ok-put_asked.ensures) c.put_answered.ensures

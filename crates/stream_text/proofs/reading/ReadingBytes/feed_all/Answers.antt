@@ -15,7 +15,7 @@ pieces-preserved g c =
       sound = c.in_ok-feed.ensures.sound;
       same = λ tells. was.same tells
           ∙ ap (λ (t : List ℕ). said_from self.number self.before self.first_discard self.streams self.line.items t) (c.in-Ok.ensures.given tells)
-          ∙ c.in_ok-feed.ensures.ok (g.S.Source.left c.take.new.self);
+          ∙ c.in_ok-feed.ensures.ok (g.S.Source.seen c.take.new.self).left;
       later = omega (arith, was.later, c.in-Ok.ensures.cause.later);
     }
 
@@ -31,4 +31,4 @@ returns-in_err-feed-clause-refused g c = λ tells.
     let p = err_from_is_err_and c.from_residual.result c.from_residual.ensures.1 in
     rw (p.1, p.2) (rw (ap (λ said. said.0) (was.same tells)
     ∙ ap (λ (t : List ℕ). goes_on_from self.number self.before self.streams self.line.items t) (c.in-Ok.ensures.given tells))
-    (c.in_err-feed.ensures.refused (g.S.Source.left c.take.new.self)))
+    (c.in_err-feed.ensures.refused (g.S.Source.seen c.take.new.self).left))

@@ -7,9 +7,9 @@ abbrev pub invariant-pieces : goal.invariant-pieces
 invariant-pieces g l = record {
   sound : IsReadingBytes l.self.count l.self.number l.self.before l.self.first_discard l.self.streams l.self.line.items;
   same : IsTrue g.S.Source.tells
-      → said_from l.initial.self.number l.initial.self.before l.initial.self.first_discard l.initial.self.streams l.initial.self.line.items (g.S.Source.left l.initial.source)
-      ≡ said_from l.self.number l.self.before l.self.first_discard l.self.streams l.self.line.items (g.S.Source.left l.source);
-  later : g.S.Source.faults l.initial.source ≤ g.S.Source.faults l.source;
+      → said_from l.initial.self.number l.initial.self.before l.initial.self.first_discard l.initial.self.streams l.initial.self.line.items (g.S.Source.seen l.initial.source).left
+      ≡ said_from l.self.number l.self.before l.self.first_discard l.self.streams l.self.line.items (g.S.Source.seen l.source).left;
+  later : (g.S.Source.seen l.initial.source).faults ≤ (g.S.Source.seen l.source).faults;
 }
 
 abbrev pub decreases-pieces : goal.decreases-pieces

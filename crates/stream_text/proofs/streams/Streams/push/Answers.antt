@@ -1,7 +1,6 @@
 use Rattle.std.proofs.Common.{ℕ, ◌∷◌, [], ◌∙◌, ap, arith}
 use Rattle.stream_text.specs.StreamRows.{with_requests}
-use Rattle.stream_text.proofs.StreamLaws.{pushed, unchanged}
-use Rattle.stream_text.proofs.PutLaws.{on_err}
+use Rattle.stream_text.proofs.StreamLaws.{on_err, pushed, unchanged}
 use Rattle.stream_text.proofs.streams.Streams.push.Goals as goal
 
 pub returns-clause-ok : goal.returns-clause-ok
