@@ -35,22 +35,22 @@ use Rattle.vdo_model.specs.declared.report.DeskLine.{DeskLine}
 use Rattle.vdo_model.specs.declared.report.DeskLine.TheVariants.{Begin, Answer}
 use Rattle.vdo_model.specs.declared.report.RunReport.{RunReport}
 use Rattle.vdo_model.proofs.Example.{address, of_a}
-use Rattle.vdo_cli.specs.Openings.{IsOpened}
-use Rattle.vdo_cli.specs.Sessions.{IsDriven, IsOver, IsReported, run_sizes}
+use Rattle.vdo_cli.specs.Openings.{IsOpened, opening_of, trust}
+use Rattle.vdo_cli.specs.Sessions.{IsDriven, IsOver, IsReported, run_sizes, task}
 use Rattle.vdo_cli.specs.Stops.{Happens}
 use Rattle.vdo_cli.proofs.EmptyScript.{empty_driven, empty_happens, empty_report, empty_reported}
 use Rattle.vdo_cli.proofs.PlayPins.{at, device}
 use Rattle.vdo_cli.proofs.SessionLaws.{answered, turns_call, turns_lead}
 
 -- Accepted: of an image that was opened, all three parts of the session of no request.
-module _ (schedule : ℕ) (head : Super) (window : List Entry) (used : ℕ) (before opened : Seen) (is_opened : IsOpened true true before opened head window used) where
-  driven-empty : IsDriven true true schedule head window used no_requests [] opened opened
+module _ (schedule : ℕ) (head : Super) (window : List Entry) (used : ℕ) (before opened : Seen) (is_opened : IsOpened (trust true true) before opened (opening_of head window used)) where
+  driven-empty : IsDriven (trust true true) schedule (task (opening_of head window used) no_requests) [] opened opened
   driven-empty = empty_driven true true schedule head window used before opened is_opened
 
-  reported-empty : IsReported head window used empty_report [] opened opened
+  reported-empty : IsReported (opening_of head window used) empty_report [] opened opened
   reported-empty = empty_reported true true schedule head window used before opened is_opened
 
-  happens-empty : Happens true head window [] empty_report before opened opened
+  happens-empty : Happens [] empty_report before opened opened
   happens-empty = empty_happens true true schedule head window used before opened is_opened refl
 
 -- IsDriven. By schedule 7 over some image.
@@ -66,7 +66,7 @@ session_over head window used script = record {
   free = free_of head.geometry window;
 }
 
-is_over : (head : Super) (window : List Entry) (used : ℕ) (script : Script) → IsOver head window used script (session_over head window used script)
+is_over : (head : Super) (window : List Entry) (used : ℕ) (script : Script) → IsOver (task (opening_of head window used) script) (session_over head window used script)
 is_over head window used script = record { sizes_is = refl; script_is = refl; window_is = refl; free_is = refl }
 
 -- a core that begins with no request is done, so it takes no turn, and nothing happens
@@ -92,13 +92,13 @@ makes_nothing : (tells honest : Bool) (sizes : Sizes) (state state' : ℕ) (even
 makes_nothing tells honest sizes state state' [] first last before after made done (at_state, same, silent, nothing) = nothing
 makes_nothing tells honest sizes state state' (e ∷ events) first last before after made done (between, seen, early, late, undone, turn, one, rest, is) = absurd (undone done)
 
-driven-empty_no_more : (head : Super) (window : List Entry) (used : ℕ) (before after : Seen) → IsDriven true false 7 head window used no_requests (Seals ∷ []) before after → ⊥
+driven-empty_no_more : (head : Super) (window : List Entry) (used : ℕ) (before after : Seen) → IsDriven (trust true false) 7 (task (opening_of head window used) no_requests) (Seals ∷ []) before after → ⊥
 driven-empty_no_more head window used before after driven =
     let done = begins_done (session_over head window used no_requests) driven.first refl (driven.begins (session_over head window used no_requests) (is_over head window used no_requests)) in
     let nothing = makes_nothing true false (run_sizes head used) 7 driven.state driven.events driven.first driven.last before after (Seals ∷ []) done driven.drives in
     absurd cc
 
-module _ (head : Super) (window : List Entry) (used : ℕ) (script : Script) (trace : Trace) (before after : Seen) (driven : IsDriven true false 7 head window used script trace before after) where
+module _ (head : Super) (window : List Entry) (used : ℕ) (script : Script) (trace : Trace) (before after : Seen) (driven : IsDriven (trust true false) 7 (task (opening_of head window used) script) trace before after) where
   -- the first core is one of the session: it has zones
   driven-not_from_no_zone : driven.first ≡ [] → ⊥
   driven-not_from_no_zone none = let first = driven.begins (session_over head window used script) (is_over head window used script) in omega (arith, first.count, ap length none)
@@ -133,14 +133,14 @@ module _ (head : Super) (window : List Entry) (used : ℕ) (script : Script) (tr
       absurd (let unanswered = rw none at has in cc)
 
 -- the device has the calls that happened, and no other
-driven-not_called_besides : (head : Super) (window : List Entry) (used : ℕ) (script : Script) (opening : Blocks) → IsDriven true false 7 head window used script [] (device opening [] 0 0) (device opening (Flush true ∷ []) 0 0) → ⊥
+driven-not_called_besides : (head : Super) (window : List Entry) (used : ℕ) (script : Script) (opening : Blocks) → IsDriven (trust true false) 7 (task (opening_of head window used) script) [] (device opening [] 0 0) (device opening (Flush true ∷ []) 0 0) → ⊥
 driven-not_called_besides head window used script opening driven =
     let called = turns_call true false (run_sizes head used) 7 driven.state driven.events driven.first driven.last (device opening [] 0 0) (device opening (Flush true ∷ []) 0 0) [] driven.drives in
     let size = ap length (called.log refl) in
     omega (arith, size)
 
 -- IsReported. The session is that of this image, with one logical zone
-reported-not_of_two_zones : (head : Super) (window : List Entry) (used : ℕ) (report : RunReport) (trace : Trace) (before after : Seen) (reported : IsReported head window used report trace before after)
+reported-not_of_two_zones : (head : Super) (window : List Entry) (used : ℕ) (report : RunReport) (trace : Trace) (before after : Seen) (reported : IsReported (opening_of head window used) report trace before after)
     → reported.session.sizes.zones ≡ 2 → ⊥
 reported-not_of_two_zones head window used report trace before after reported two = omega (arith, two, ap (λ (sizes : Sizes). sizes.zones) reported.is_over.sizes_is)
 
@@ -148,7 +148,7 @@ reported-not_of_two_zones head window used report trace before after reported tw
 abbrev placed_report : RunReport
 placed_report = record empty_report { places = record { request = of_a 0; zone = 0; place = 0 } ∷ [] }
 
-reported-not_with_other_places : (head : Super) (window : List Entry) (used : ℕ) (before after : Seen) → IsReported head window used placed_report [] before after → ⊥
+reported-not_with_other_places : (head : Super) (window : List Entry) (used : ℕ) (before after : Seen) → IsReported (opening_of head window used) placed_report [] before after → ⊥
 reported-not_with_other_places head window used before after reported =
     let places = ap (λ (report : RunReport). length report.places) reported.report_is in
     let zones = ap (λ (sizes : Sizes). sizes.zones) reported.is_over.sizes_is in
@@ -159,7 +159,7 @@ reported-not_with_other_places head window used before after reported =
 abbrev begun_report : RunReport
 begun_report = record empty_report { desk = Begin (of_a 0) ∷ [] }
 
-reported-not_another_desk : (head : Super) (window : List Entry) (used : ℕ) (trace : Trace) (before after : Seen) → IsReported head window used begun_report trace before after → ⊥
+reported-not_another_desk : (head : Super) (window : List Entry) (used : ℕ) (trace : Trace) (before after : Seen) → IsReported (opening_of head window used) begun_report trace before after → ⊥
 reported-not_another_desk head window used trace before after reported = absurd (let asked = reported.run_right.desk_log.0.1 in cc)
 
 -- an answer has its cause: a read of address 1 isn't beyond a logical size of 2
@@ -167,7 +167,7 @@ abbrev read_report : RunReport
 read_report = record empty_report { requests = (request.Read (address 1) ∷ []) ∷ replicate 15 []; desk = Answer (of_a 0) reply.Range ∷ Begin (of_a 0) ∷ [] }
 
 reported-not_beyond : (head : Super) (window : List Entry) (used : ℕ) (before after : Seen) → 1 < head.geometry.logical
-    → IsReported head window used read_report (Says (Answer (of_a 0) reply.Range) ∷ Says (Begin (of_a 0)) ∷ []) before after → ⊥
+    → IsReported (opening_of head window used) read_report (Says (Answer (of_a 0) reply.Range) ∷ Says (Begin (of_a 0)) ∷ []) before after → ⊥
 reported-not_beyond head window used before after below reported =
     let beyond = reported.causes [] (Says (Begin (of_a 0)) ∷ []) (of_a 0) (request.Read (address 1)) reply.Range refl refl in
     let logical = ap (λ (sizes : Sizes). sizes.geometry.logical) reported.is_over.sizes_is in
@@ -177,17 +177,17 @@ reported-not_beyond head window used before after below reported =
 abbrev fault_report : RunReport
 fault_report = record read_report { desk = Answer (of_a 0) reply.ReadFault ∷ Begin (of_a 0) ∷ [] }
 
-reported-not_without_rise : (head : Super) (window : List Entry) (used : ℕ) (trace : Trace) (opening : Blocks) (log log' : List Call) → IsReported head window used fault_report trace (device opening log 0 0) (device opening log' 0 0) → ⊥
+reported-not_without_rise : (head : Super) (window : List Entry) (used : ℕ) (trace : Trace) (opening : Blocks) (log log' : List Call) → IsReported (opening_of head window used) fault_report trace (device opening log 0 0) (device opening log' 0 0) → ⊥
 reported-not_without_rise head window used trace opening log log' reported = let rose = reported.faults (of_a 0) (request.Read (address 1)) reply.ReadFault refl refl tt in omega (arith, rose)
 
 -- no write follows a flush that failed
 reported-not_written_after : (head : Super) (window : List Entry) (used : ℕ) (report : RunReport) (before after : Seen) (w : Writer) (x : Pbn) (bytes : List ℕ) (kept : Bool)
-    → IsReported head window used report (Calls (Write x bytes true) ∷ Fails w (Flush false) kept ∷ []) before after → ⊥
+    → IsReported (opening_of head window used) report (Calls (Write x bytes true) ∷ Fails w (Flush false) kept ∷ []) before after → ⊥
 reported-not_written_after head window used report before after w x bytes kept reported = absurd (let goes_on = reported.stops.0 refl in cc)
 
 -- Happens. Before the session the device was only read,
 happens-not_written_before : (head : Super) (window : List Entry) (moments : List Moment) (report : RunReport) (after : Seen) (opening : Blocks) (bytes : List ℕ)
-    → Happens true head window moments report (device opening [] 0 0) (device opening (Write (at 0) bytes true ∷ []) 0 0) after → ⊥
+    → Happens moments report (device opening [] 0 0) (device opening (Write (at 0) bytes true ∷ []) 0 0) after → ⊥
 happens-not_written_before head window moments report after opening bytes happens = written happens.earlier happens.earlier_is happens.only_reads
   where
     written : (calls : List Call) → Write (at 0) bytes true ∷ [] ≡ calls ++ [] → OnlyReads calls → ⊥
@@ -196,7 +196,7 @@ happens-not_written_before head window moments report after opening bytes happen
     written (Write place given ok ∷ calls) is reads = reads
     written (Flush ok ∷ calls) is reads = reads
 
-module _ (head : Super) (window : List Entry) (moments : List Moment) (report : RunReport) (before opened after : Seen) (happens : Happens true head window moments report before opened after) where
+module _ (head : Super) (window : List Entry) (moments : List Moment) (report : RunReport) (before opened after : Seen) (happens : Happens moments report before opened after) where
   -- and a stop then leaves the image that was there,
   happens-not_another_image : (image other : Blocks) → HasOneImage before.opening before.log image → IsImage before.opening opened.log other → other ≢ image → ⊥
   happens-not_another_image image other one is differ =
@@ -207,7 +207,7 @@ module _ (head : Super) (window : List Entry) (moments : List Moment) (report : 
   happens-not_another_line none begun = let size = ap (λ (ms : List Moment). length (lines_of ms)) (sym none) ∙ ap length (happens.lines ∙ begun) in omega (arith, size)
 
 happens-not_called_besides : (head : Super) (window : List Entry) (before : Seen) (opening : Blocks)
-    → Happens true head window [] empty_report before (device opening [] 0 0) (device opening (Flush true ∷ []) 0 0) → ⊥
+    → Happens [] empty_report before (device opening [] 0 0) (device opening (Flush true ∷ []) 0 0) → ⊥
 happens-not_called_besides head window before opening happens = let size = ap length happens.calls in omega (arith, size)
 
 -- a flush that was answered Ok has its mark
@@ -217,5 +217,5 @@ flushing = Desk (Answer (of_a 0) reply.Ok) ∷ Device (Flush true) ∷ Desk (Beg
 abbrev unmarked_report : RunReport
 unmarked_report = record empty_report { requests = (request.Flush ∷ []) ∷ replicate 15 []; desk = lines_of flushing }
 
-happens-not_without_its_mark : (head : Super) (window : List Entry) (before opened after : Seen) → Happens true head window flushing unmarked_report before opened after → ⊥
+happens-not_without_its_mark : (head : Super) (window : List Entry) (before opened after : Seen) → Happens flushing unmarked_report before opened after → ⊥
 happens-not_without_its_mark head window before opened after happens = absurd (let has = happens.flushes.all (of_a 0) refl refl in cc)

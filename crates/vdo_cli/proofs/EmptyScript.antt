@@ -28,9 +28,10 @@ use Rattle.vdo_core.specs.Plays.{core_with}
 use Rattle.vdo_model.specs.Scripts.{Script}
 use Rattle.vdo_model.specs.declared.report.RunReport.{RunReport}
 use Rattle.vdo_cli.specs.Endings.{Plays}
-use Rattle.vdo_cli.specs.Openings.{IsOpened}
-use Rattle.vdo_cli.specs.Sessions.{IsDriven, IsOver, IsReported, run_sizes}
+use Rattle.vdo_cli.specs.Openings.{IsOpened, opening_of, trust}
+use Rattle.vdo_cli.specs.Sessions.{IsDriven, IsOver, IsReported, run_sizes, task}
 use Rattle.vdo_cli.specs.Stops.{Happens}
+use Rattle.vdo_cli.specs.Outsides.{input_setting, inputs}
 use Rattle.vdo_cli.proofs.ScriptLaws.{can_begin}
 use Rattle.vdo_cli.proofs.SessionLaws.{happens, plays, reported}
 
@@ -52,7 +53,7 @@ module _ (head : Super) (window : List Entry) (used : ℕ) (script : Script) whe
       ∷ first_zone 4 (at.Device (record { stopped = false; calls = 0 }))
       ∷ []
 
-  module _ (s : Session) (over : IsOver head window used script s) where
+  module _ (s : Session) (over : IsOver (task (opening_of head window used) script) s) where
     zones_are : s.sizes.zones ≡ 1
     zones_are = ap (λ (sizes : Sizes). sizes.zones) over.sizes_is
 
@@ -110,12 +111,12 @@ no_request : (P : Request → Type 0) → AllByRecursion (AllByRecursion P) no_r
 no_request P = (tt, (tt, (tt, (tt, (tt, (tt, (tt, (tt, (tt, (tt, (tt, (tt, (tt, (tt, (tt, (tt, tt))))))))))))))))
 
 -- Over an image that was opened.
-module _ (tells honest : Bool) (schedule : ℕ) (head : Super) (window : List Entry) (used : ℕ) (before opened : Seen) (is_opened : IsOpened tells honest before opened head window used) where
+module _ (tells honest : Bool) (schedule : ℕ) (head : Super) (window : List Entry) (used : ℕ) (before opened : Seen) (is_opened : IsOpened (trust tells honest) before opened (opening_of head window used)) where
   can : CanBegin (run_sizes head used) no_requests window
   can = can_begin tells honest before opened head window used no_requests is_opened (record { rows = refl; few = omega arith; writes = no_request HasWholeBlock }) (no_request IsServed)
 
   -- a core begins and is done, tells an empty report, and calls no device
-  pub empty_driven : IsDriven tells honest schedule head window used no_requests [] opened opened
+  pub empty_driven : IsDriven (trust tells honest) schedule (task (opening_of head window used) no_requests) [] opened opened
   empty_driven = record {
     first = first_zones head window used no_requests;
     last = first_zones head window used no_requests;
@@ -126,19 +127,19 @@ module _ (tells honest : Bool) (schedule : ℕ) (head : Super) (window : List En
     done = first_done head window used;
   }
 
-  pub empty_reported : IsReported head window used empty_report [] opened opened
+  pub empty_reported : IsReported (opening_of head window used) empty_report [] opened opened
   empty_reported =
       reported tells honest head window used no_requests (first_zones head window used no_requests) (first_zones head window used no_requests) [] opened opened can
       (first_begins head window used no_requests) rests (first_done head window used) (not_called tells honest opened)
 
-  pub empty_happens : IsTrue tells → Happens honest head window [] empty_report before opened opened
+  pub empty_happens : IsTrue tells → Happens [] empty_report before opened opened
   empty_happens =
       happens tells honest head window used no_requests (first_zones head window used no_requests) (first_zones head window used no_requests) [] opened opened can
       (first_begins head window used no_requests) rests (first_done head window used) (not_called tells honest opened) before is_opened
       (were_only_read tells honest 0 before opened _ is_opened.read.read)
 
   pub empty_plays : (source_tells : Bool) (source rest : SourceSeen) → (IsTrue source_tells → (whole_script source.left ≡ Ok no_requests) × (first_discard source.left ≡ None)) → (IsTrue source_tells → rest.left ≡ [])
-      → Plays tells honest source_tells schedule empty_report before opened source rest
+      → Plays (input_setting tells honest source_tells) schedule empty_report (inputs before source) (inputs opened rest)
   empty_plays source_tells source rest script_is whole =
       plays tells honest head window used no_requests (first_zones head window used no_requests) (first_zones head window used no_requests) [] opened opened can
       (first_begins head window used no_requests) rests (first_done head window used) (not_called tells honest opened) before is_opened

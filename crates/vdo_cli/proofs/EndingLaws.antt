@@ -3,49 +3,45 @@ use Rattle.std.proofs.Common.{ℕ, ◌≡◌, Bool, List, Option, Some, None, Re
 use Rattle.std.specs.Result.{IsErrAnd}
 use Rattle.blk_base.specs.declared.geometry.Geometry.{Geometry}
 use Rattle.disk_model.specs.Seen.{Seen}
-use Rattle.disk_model.specs.Streams.{SinkSeen, SourceSeen}
+use Rattle.disk_model.specs.Streams.{SourceSeen}
 use Rattle.vdo_model.specs.declared.report.RunReport.{RunReport}
 use Rattle.vdo_cli.specs.declared.fault.Fault.{Fault}
 use Rattle.vdo_cli.specs.declared.fault.Fault.TheVariants as fault
 use Rattle.vdo_cli.specs.Endings.{FailsOpened, PlayFails, ScriptFails}
-use Rattle.vdo_cli.specs.Openings.{OpeningFails}
+use Rattle.vdo_cli.specs.Openings.{OpeningFails, trust}
 use Rattle.vdo_cli.specs.NewImages.{IsMade, IsMadeOrNot, IsNotMade}
-use Rattle.vdo_cli.specs.Outsides.{Setting, Outside}
+use Rattle.vdo_cli.specs.Outsides.{Outcome, Outside, Setting, input_setting, inputs, outcome}
 use Rattle.vdo_cli.specs.Runs.{NotBegun, PlayedOut, RunsScript}
 
 -- after a session
 pub served_ends : (s : Setting) (schedule : ℕ) (before after : Outside) (status : ℕ) (report : RunReport) (ended : Option Fault)
-    → PlayedOut s schedule before after status report ended → RunsScript s schedule before after status report ended
+    → PlayedOut s schedule before after (outcome status report ended) → RunsScript s schedule before after (outcome status report ended)
 served_ends s schedule before after status report None served = served
 served_ends s schedule before after status report (Some fault.Sink) served = served
 served_ends s schedule before after status report (Some other) served = absurd served.closes
 
 -- where no session was begun
 pub not_begun_ends : (s : Setting) (schedule : ℕ) (before after : Outside) (status : ℕ) (report : RunReport) (why : Fault)
-    → NotBegun s before after status report why → RunsScript s schedule before after status report (Some why)
+    → NotBegun s before after (outcome status report (Some why)) why → RunsScript s schedule before after (outcome status report (Some why))
 not_begun_ends s schedule before after status report fault.Sink begun = absurd begun.cause
 not_begun_ends s schedule before after status report other begun = begun
 
 -- where an image was made
-pub made_ends : (tells sink_tells : Bool) (g : Geometry) (before after : Seen) (status : ℕ) (report : RunReport) (ended : Option Fault)
-    (sink sink' : SinkSeen)
-    → IsMade tells sink_tells g before after status report ended sink sink'
-    → IsMadeOrNot tells sink_tells g before after status report ended sink sink'
-made_ends tells sink_tells g before after status report None sink sink' made = made
-made_ends tells sink_tells g before after status report (Some fault.Sink) sink sink' made = made
-made_ends tells sink_tells g before after status report (Some other) sink sink' made = absurd made.line
+pub made_ends : (s : Setting) (g : Geometry) (before after : Outside) (status : ℕ) (report : RunReport) (ended : Option Fault)
+    → IsMade s g before after (outcome status report ended) → IsMadeOrNot ended s g before after (outcome status report ended)
+made_ends s g before after status report None made = made
+made_ends s g before after status report (Some fault.Sink) made = made
+made_ends s g before after status report (Some other) made = absurd made.line
 
 -- where none was made
-pub not_made_ends : (tells sink_tells : Bool) (g : Geometry) (before after : Seen) (status : ℕ) (report : RunReport) (why : Fault)
-    (sink sink' : SinkSeen)
-    → IsNotMade tells sink_tells g before after status report why sink sink'
-    → IsMadeOrNot tells sink_tells g before after status report (Some why) sink sink'
-not_made_ends tells sink_tells g before after status report fault.Sink sink sink' not_made = absurd not_made.cause
-not_made_ends tells sink_tells g before after status report other sink sink' not_made = not_made
+pub not_made_ends : (s : Setting) (g : Geometry) (before after : Outside) (outcome : Outcome) (why : Fault)
+    → IsNotMade s g before after outcome why → IsMadeOrNot (Some why) s g before after outcome
+not_made_ends s g before after outcome fault.Sink not_made = absurd not_made.cause
+not_made_ends s g before after outcome other not_made = not_made
 
 -- where the device couldn't be opened
 pub not_opened : (tells honest source_tells : Bool) (before after : Seen) (source rest : SourceSeen) (why : Fault)
-    → OpeningFails tells honest before after why → PlayFails tells honest source_tells before after source rest why
+    → OpeningFails (trust tells honest) before after why → PlayFails (input_setting tells honest source_tells) (inputs before source) (inputs after rest) why
 not_opened tells honest source_tells before after source rest fault.Device fails = fails
 not_opened tells honest source_tells before after source rest (fault.Image why) fails = fails
 not_opened tells honest source_tells before after source rest fault.Memory fails = tt
@@ -58,8 +54,8 @@ passed_on (Err e) P why is holds = rw is holds
 
 -- where an image was opened, and the script can't be served
 pub not_served : (tells honest source_tells : Bool) (before after : Seen) (source rest : SourceSeen) (why : Fault)
-    → ((Cause : Type 0) → Cause → FailsOpened tells honest before after Cause) → ScriptFails source_tells source rest why
-    → PlayFails tells honest source_tells before after source rest why
+    → ((Cause : Type 0) → Cause → FailsOpened (trust tells honest) before after Cause) → ScriptFails source_tells source rest why
+    → PlayFails (input_setting tells honest source_tells) (inputs before source) (inputs after rest) why
 not_served tells honest source_tells before after source rest fault.Memory opened fails = tt
 not_served tells honest source_tells before after source rest (fault.Script refusal) opened fails = opened _ fails
 not_served tells honest source_tells before after source rest (fault.Later line) opened fails = opened _ fails

@@ -9,14 +9,14 @@ use Rattle.image_layout.specs.Superblock.{super_of}
 use Rattle.image_model.specs.declared.fault.ImageFault.{ImageFault}
 use Rattle.image_model.specs.declared.fault.ImageFault.TheVariants.{Memory}
 use Rattle.image_layout.specs.declared.fault.SuperFault.{SuperFault}
-use Rattle.vdo_cli.specs.Openings.{CanServe, CantServe, IsRead, IsOpened, HasNoImage, HasFaulty}
+use Rattle.vdo_cli.specs.Openings.{CanServe, CantServe, IsRead, IsOpened, HasNoImage, HasFaulty, opening_of, trust}
 use Rattle.vdo_cli.proofs.ServeLaws.{one_reason, one_service, served_or_not}
 
 module _ (tells honest : Bool) (before now : Seen) (told : IsTrue tells) where
   same_first : (first first' : List ℕ) (journal journal' : List (List ℕ)) → reverse (first ∷ journal) ≡ reverse (first' ∷ journal') → first ∷ journal ≡ first' ∷ journal'
   same_first first first' journal journal' same = sym (reverse-reverse (first ∷ journal)) ∙ ap reverse same ∙ reverse-reverse (first' ∷ journal')
 
-  module _ (head head' : Super) (journal journal' : List (List ℕ)) (read : IsRead tells honest before now head journal) (read' : IsRead tells honest before now head' journal') where
+  module _ (head head' : Super) (journal journal' : List (List ℕ)) (read : IsRead (trust tells honest) before now head journal) (read' : IsRead (trust tells honest) before now head' journal') where
     front_is : read.first ∷ journal ≡ read'.first ∷ journal'
     front_is = same_first _ _ journal journal' (read_are_one tells honest 0 before now _ _ told read.read read'.read)
 
@@ -31,7 +31,7 @@ module _ (tells honest : Bool) (before now : Seen) (told : IsTrue tells) where
     journal_is = let all = front_is in cc
 
   -- what a session is served with is one
-  pub opened_is_one : (head head' : Super) (window window' : List Entry) (used used' : ℕ) → IsOpened tells honest before now head window used → IsOpened tells honest before now head' window' used'
+  pub opened_is_one : (head head' : Super) (window window' : List Entry) (used used' : ℕ) → IsOpened (trust tells honest) before now (opening_of head window used) → IsOpened (trust tells honest) before now (opening_of head' window' used')
       → (head ≡ head') × (window ≡ window') × (used ≡ used')
   opened_is_one head head' window window' used used' opened opened' =
       let heads = head_is head head' opened.journal opened'.journal opened.read opened'.read in
@@ -46,13 +46,13 @@ module _ (tells honest : Bool) (before now : Seen) (told : IsTrue tells) where
   moved_cause head head' journal journal' why heads journals cause =
       subst (λ (blocks : List (List ℕ)). CantServe head blocks why) (sym journals) (subst (λ (h : Super). CantServe h journal' why) (sym heads) cause)
 
-  pub faulty_is_one : (why why' : ImageFault) → HasFaulty tells honest before now why → HasFaulty tells honest before now why' → (why ≡ why') ⊎ (why ≡ Memory) ⊎ (why' ≡ Memory)
+  pub faulty_is_one : (why why' : ImageFault) → HasFaulty (trust tells honest) before now why → HasFaulty (trust tells honest) before now why' → (why ≡ why') ⊎ (why ≡ Memory) ⊎ (why' ≡ Memory)
   faulty_is_one why why' one other =
       one_reason one.head one.journal why why' one.cause
       (moved_cause one.head other.head one.journal other.journal why' (head_is _ _ _ _ one.read other.read) (journal_is _ _ _ _ one.read other.read) other.cause)
 
   -- a journal can be served or not
-  pub not_opened_and_faulty : (head : Super) (window : List Entry) (used : ℕ) (why : ImageFault) → IsOpened tells honest before now head window used → HasFaulty tells honest before now why → why ≡ Memory
+  pub not_opened_and_faulty : (head : Super) (window : List Entry) (used : ℕ) (why : ImageFault) → IsOpened (trust tells honest) before now (opening_of head window used) → HasFaulty (trust tells honest) before now why → why ≡ Memory
   not_opened_and_faulty head window used why opened faulty =
       served_or_not head opened.journal window used why opened.serves
       (moved_cause head faulty.head opened.journal faulty.journal why (head_is _ _ _ _ opened.read faulty.read) (journal_is _ _ _ _ opened.read faulty.read) faulty.cause)
@@ -64,13 +64,13 @@ module _ (tells honest : Bool) (before now : Seen) (told : IsTrue tells) where
   none_of_some : (first : List ℕ) (journal : List (List ℕ)) → [] ≡ reverse (first ∷ journal) → ⊥
   none_of_some first journal same = let size = ap length same ∙ length-reverse (first ∷ journal) in omega (arith, size)
 
-  pub not_read_and_refused : (head : Super) (journal : List (List ℕ)) (why : SuperFault) → IsRead tells honest before now head journal → HasNoImage tells honest before now why → ⊥
+  pub not_read_and_refused : (head : Super) (journal : List (List ℕ)) (why : SuperFault) → IsRead (trust tells honest) before now head journal → HasNoImage (trust tells honest) before now why → ⊥
   not_read_and_refused head journal why read (inl (empty, none, is)) = none_of_some read.first journal (read_are_one tells honest 0 before now [] _ told none read.read)
   not_read_and_refused head journal why read (inr (first, some, single_read, says)) =
       let same = single first read.first journal (read_are_one tells honest 0 before now _ _ told single_read read.read) in
       absurd (cc (says, read.is_head.says, ap (λ (block : List ℕ). super_of block before.size) same))
 
-  pub refusal_is_one : (why why' : SuperFault) → HasNoImage tells honest before now why → HasNoImage tells honest before now why' → why ≡ why'
+  pub refusal_is_one : (why why' : SuperFault) → HasNoImage (trust tells honest) before now why → HasNoImage (trust tells honest) before now why' → why ≡ why'
   refusal_is_one why why' (inl (empty, none, is)) (inl (empty', none', is')) = is ∙ sym is'
   refusal_is_one why why' (inl (empty, none, is)) (inr (first, some, read, says)) = absurd (omega (arith, empty, some))
   refusal_is_one why why' (inr (first, some, read, says)) (inl (empty, none, is)) = absurd (omega (arith, empty, some))

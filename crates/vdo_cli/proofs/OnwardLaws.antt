@@ -5,7 +5,6 @@ use Rattle.disk_model.specs.declared.call.Call.{Call}
 use Rattle.disk_model.specs.Seen.{Seen}
 use Rattle.disk_model.specs.Since.{IsUntouched}
 use Rattle.disk_model.proofs.SeenLaws.{stays_on}
-use Rattle.vdo_model.specs.declared.report.RunReport.{RunReport}
 use Rattle.core_model.specs.Trace.{calls}
 use Rattle.vdo_cli.specs.declared.fault.Fault.{Fault}
 use Rattle.vdo_cli.specs.declared.fault.Fault.TheVariants as fault
@@ -15,44 +14,44 @@ use Rattle.vdo_cli.specs.declared.words.Served.TheVariants as served
 use Rattle.vdo_cli.specs.Commands.{served_of}
 use Rattle.vdo_cli.specs.NewImages.{MakesImage}
 use Rattle.vdo_cli.specs.Recoveries.{EndsRecovery}
-use Rattle.vdo_cli.specs.Outsides.{Setting, Outside}
-use Rattle.vdo_cli.specs.Runs.{EndsAs, EndsSo, NotBegun, PlayedOut, RunsScript}
+use Rattle.vdo_cli.specs.Outsides.{Outcome, Outside, Setting}
+use Rattle.vdo_cli.specs.Runs.{EndsAs, EndsSo, NotBegun, PlayedOut, RunsScriptBy}
 
 untouched : (tells : Bool) (before after : Seen) → IsUntouched tells before after → GoesOn tells before after
 untouched tells before after is = record { stays = is.stays; calls = λ told. let since = is.reads told in (since.0, since.1) }
 
-not_begun : (s : Setting) (before after : Outside) (status : ℕ) (report : RunReport) (why : Fault)
-    → NotBegun s before after status report why → GoesOn s.device_tells before.device after.device
-not_begun s before after status report why ends = untouched s.device_tells before.device after.device ends.untouched
+not_begun : (s : Setting) (before after : Outside) (ends : Outcome) (why : Fault)
+    → NotBegun s before after ends why → GoesOn s.device.tells before.device after.device
+not_begun s before after ends why fails = untouched s.device.tells before.device after.device fails.untouched
 
-played : (s : Setting) (schedule : ℕ) (before after : Outside) (status : ℕ) (report : RunReport) (ended : Option Fault)
-    → PlayedOut s schedule before after status report ended → GoesOn s.device_tells before.device after.device
-played s schedule before after status report ended ends = record {
-  stays = ends.session.stays;
+played : (s : Setting) (schedule : ℕ) (before after : Outside) (ends : Outcome)
+    → PlayedOut s schedule before after ends → GoesOn s.device.tells before.device after.device
+played s schedule before after ends out = record {
+  stays = out.session.stays;
   calls = λ told.
-      let happens = ends.session.happens told in
-      let since = calls ends.session.trace in (
+      let happens = out.session.happens told in
+      let since = calls out.session.trace in (
         since ++ happens.earlier,
         happens.calls ∙ ap (λ (log : List Call). since ++ log) happens.earlier_is ∙ sym (append_assoc since happens.earlier before.device.log),
       );
 }
 
-script_goes_on : (s : Setting) (schedule : ℕ) (before after : Outside) (status : ℕ) (report : RunReport) (ended : Option Fault)
-    → RunsScript s schedule before after status report ended → GoesOn s.device_tells before.device after.device
-script_goes_on s schedule before after status report None ends = played s schedule before after status report None ends
-script_goes_on s schedule before after status report (Some fault.Sink) ends = played s schedule before after status report (Some fault.Sink) ends
-script_goes_on s schedule before after status report (Some other) ends = not_begun s before after status report other ends
+script_goes_on : (ended : Option Fault) (s : Setting) (schedule : ℕ) (before after : Outside) (ends : Outcome)
+    → RunsScriptBy ended s schedule before after ends → GoesOn s.device.tells before.device after.device
+script_goes_on None s schedule before after ends out = played s schedule before after ends out
+script_goes_on (Some fault.Sink) s schedule before after ends out = played s schedule before after ends out
+script_goes_on (Some other) s schedule before after ends fails = not_begun s before after ends other fails
 
-format_goes_on : (s : Setting) (g : Geometry) (before after : Outside) (status : ℕ) (report : RunReport) (ended : Option Fault)
-    → MakesImage s g before after status report ended → GoesOn s.device_tells before.device after.device
-format_goes_on s g before after status report ended makes = record {
+format_goes_on : (s : Setting) (g : Geometry) (before after : Outside) (ends : Outcome)
+    → MakesImage s g before after ends → GoesOn s.device.tells before.device after.device
+format_goes_on s g before after ends makes = record {
   stays = makes.stays;
   calls = λ told. let since = makes.stops told in (since.0, since.1);
 }
 
-recovery_goes_on : (s : Setting) (before after : Outside) (status : ℕ) (report : RunReport) (ended : Option Fault)
-    → EndsRecovery s before after status report ended → GoesOn s.device_tells before.device after.device
-recovery_goes_on s before after status report ended is = elim is.ends [
+recovery_goes_on : (s : Setting) (before after : Outside) (ends : Outcome)
+    → EndsRecovery s before after ends → GoesOn s.device.tells before.device after.device
+recovery_goes_on s before after ends is = elim is.ends [
   | inl done ↦ record { stays = done.recovery.stays; calls = done.recovery.grows }
   | inr refused ↦ record { stays = refused.cause.stays; calls = refused.cause.grows }
 ]
@@ -61,19 +60,19 @@ same_device : (tells : Bool) (before after : Seen) → after ≡ before → Goes
 same_device tells before after same = rw same (record { stays = record { opening = refl; size = refl }; calls = λ told. ([], refl) })
 
 -- over what is served
-served_goes_on : (s : Setting) (asked : Option Served) (before after : Outside) (status : ℕ) (report : RunReport) (ended : Option Fault)
-    → EndsAs s asked before after status report ended → GoesOn s.device_tells before.device after.device
-served_goes_on s None before after status report ended ends = same_device s.device_tells before.device after.device ends.device
-served_goes_on s (Some (served.Script schedule)) before after status report ended ends = script_goes_on s schedule before after status report ended ends
-served_goes_on s (Some (served.Format sizes)) before after status report ended ends = format_goes_on s sizes before after status report ended ends
-served_goes_on s (Some served.Recover) before after status report ended ends = recovery_goes_on s before after status report ended ends
-served_goes_on s (Some served.Audit) before after status report ended ends = untouched s.device_tells before.device after.device ends.looks.untouched
-served_goes_on s (Some served.Status) before after status report ended ends = untouched s.device_tells before.device after.device ends.looks.untouched
+served_goes_on : (s : Setting) (asked : Option Served) (before after : Outside) (outcome : Outcome)
+    → EndsAs s asked before after outcome → GoesOn s.device.tells before.device after.device
+served_goes_on s None before after outcome ends = same_device s.device.tells before.device after.device ends.device
+served_goes_on s (Some (served.Script schedule)) before after outcome ends = script_goes_on outcome.fault s schedule before after outcome ends
+served_goes_on s (Some (served.Format sizes)) before after outcome ends = format_goes_on s sizes before after outcome ends
+served_goes_on s (Some served.Recover) before after outcome ends = recovery_goes_on s before after outcome ends
+served_goes_on s (Some served.Audit) before after outcome ends = untouched s.device.tells before.device after.device ends.looks.untouched
+served_goes_on s (Some served.Status) before after outcome ends = untouched s.device.tells before.device after.device ends.looks.untouched
 
 -- over a run
-pub run_goes_on : (s : Setting) (words : List (List ℕ)) (before after : Outside) (status : ℕ) (report : RunReport) (ended : Option Fault)
-    → EndsSo s words before after status report ended → GoesOn s.device_tells before.device after.device
-run_goes_on s words before after status report ended ends = served_goes_on s (served_of words) before after status report ended ends
+pub run_goes_on : (s : Setting) (words : List (List ℕ)) (before after : Outside) (outcome : Outcome)
+    → EndsSo s words before after outcome → GoesOn s.device.tells before.device after.device
+run_goes_on s words before after outcome ends = served_goes_on s (served_of words) before after outcome ends
 
 -- over one run and the next
 pub goes_on : (tells : Bool) (first middle last : Seen) → GoesOn tells first middle → GoesOn tells middle last → GoesOn tells first last

@@ -17,11 +17,11 @@ use Rattle.image_model.specs.declared.fault.ImageFault.{ImageFault}
 use Rattle.image_model.specs.declared.fault.ImageFault.TheVariants as image
 use Rattle.vdo_cli.specs.declared.fault.Fault.{Fault}
 use Rattle.vdo_cli.specs.declared.fault.Fault.TheVariants as fault
-use Rattle.vdo_cli.specs.Openings.{CanServe, CantServe, IsRead, IsOpened, HasNoImage, HasFaulty, JournalFails, OpeningFails, ServingFails}
+use Rattle.vdo_cli.specs.Openings.{CanServe, CantServe, IsRead, IsOpened, HasNoImage, HasFaulty, JournalFails, OpeningFails, ServingFails, opening_of, trust}
 
 module _ (tells honest : Bool) (before middle now : Seen) (head : Super) (first : List ℕ) (is_head : IsHead before.size first head) (was : WereRead tells honest 0 before middle (first ∷ [])) where
   -- the superblock and all of the journal
-  pub all_read : (journal : List (List ℕ)) → length journal ≡ head.geometry.journal → WereRead tells honest 1 middle now (reverse journal) → IsRead tells honest before now head journal
+  pub all_read : (journal : List (List ℕ)) → length journal ≡ head.geometry.journal → WereRead tells honest 1 middle now (reverse journal) → IsRead (trust tells honest) before now head journal
   all_read journal count read = record {
     first = first;
     is_head = is_head;
@@ -30,7 +30,7 @@ module _ (tells honest : Bool) (before middle now : Seen) (head : Super) (first 
   }
 
   -- why it couldn't be read further
-  pub journal_fails : (why : Fault) → JournalFails tells honest head.geometry.journal middle now why → OpeningFails tells honest before now why
+  pub journal_fails : (why : Fault) → JournalFails (trust tells honest) head.geometry.journal middle now why → OpeningFails (trust tells honest) before now why
   journal_fails fault.Device (blocks, few, failed) = record {
     blocks = blocks ++ (first ∷ []);
     begun = inr (
@@ -47,14 +47,14 @@ module _ (tells honest : Bool) (before middle now : Seen) (head : Super) (first 
   journal_fails other fails = absurd fails
 
 -- How a journal that was read can be served, or why it can't.
-pub served_so : (tells honest : Bool) (before now : Seen) (head shown : Super) (journal same : List (List ℕ)) (window : List Entry) (used : ℕ) → IsRead tells honest before now head journal → same ≡ journal
-    → (shown ≡ head) × CanServe head same window used → IsOpened tells honest before now shown window used
+pub served_so : (tells honest : Bool) (before now : Seen) (head shown : Super) (journal same : List (List ℕ)) (window : List Entry) (used : ℕ) → IsRead (trust tells honest) before now head journal → same ≡ journal
+    → (shown ≡ head) × CanServe head same window used → IsOpened (trust tells honest) before now (opening_of shown window used)
 served_so tells honest before now head shown journal same window used read is serves =
-    subst (λ (h : Super). IsOpened tells honest before now h window used) (sym serves.0)
+    subst (λ (h : Super). IsOpened (trust tells honest) before now (opening_of h window used)) (sym serves.0)
     (record { journal = journal; read = read; serves = subst (λ (blocks : List (List ℕ)). CanServe head blocks window used) is serves.1 })
 
-pub serving_fails : (tells honest : Bool) (before now : Seen) (head : Super) (journal : List (List ℕ)) (why : Fault) → IsRead tells honest before now head journal → ServingFails head journal why
-    → OpeningFails tells honest before now why
+pub serving_fails : (tells honest : Bool) (before now : Seen) (head : Super) (journal : List (List ℕ)) (why : Fault) → IsRead (trust tells honest) before now head journal → ServingFails head journal why
+    → OpeningFails (trust tells honest) before now why
 serving_fails tells honest before now head journal (fault.Image (image.Super why)) read cause = inr (record { head = head; journal = journal; read = read; cause = cause })
 serving_fails tells honest before now head journal (fault.Image (image.Window sequence)) read cause = record { head = head; journal = journal; read = read; cause = cause }
 serving_fails tells honest before now head journal fault.Memory read cause = tt
@@ -83,7 +83,7 @@ module _ (tells honest : Bool) (before now : Seen) (image : Blocks) (told : IsTr
   size_is : (blocks : List (List ℕ)) → WereRead tells honest 0 before now blocks → length image ≡ before.size
   size_is blocks read = one.size ∙ read.told told
 
-  module _ (head : Super) (journal : List (List ℕ)) (read : IsRead tells honest before now head journal) where
+  module _ (head : Super) (journal : List (List ℕ)) (read : IsRead (trust tells honest) before now head journal) where
     front_is : read.first ∷ journal ≡ take (suc head.geometry.journal) image
     front_is = front_read (read.first ∷ journal) (suc head.geometry.journal) read.read (ap suc read.count) (omega (arith, read.is_head.room))
 
@@ -96,7 +96,7 @@ module _ (tells honest : Bool) (before now : Seen) (image : Blocks) (told : IsTr
     journal_is = journal_behind image read.first journal head.geometry.journal front_is
 
   -- and how it can be served
-  module _ (head : Super) (window : List Entry) (used : ℕ) (opened : IsOpened tells honest before now head window used) where
+  module _ (head : Super) (window : List Entry) (used : ℕ) (opened : IsOpened (trust tells honest) before now (opening_of head window used)) where
     pub opened_serves : CanServe head (journal_of head.geometry image) window used
     opened_serves = subst (λ (journal : List (List ℕ)). CanServe head journal window used) (sym (journal_is head opened.journal opened.read)) opened.serves
 
@@ -104,7 +104,7 @@ module _ (tells honest : Bool) (before now : Seen) (image : Blocks) (told : IsTr
     opened_count = ap length (journal_is head opened.journal opened.read) ∙ opened.read.count
 
   -- a fault of the superblock, and one of the window
-  pub says_none : (why : SuperFault) → HasNoImage tells honest before now why → super_of_image image ≡ Err why
+  pub says_none : (why : SuperFault) → HasNoImage (trust tells honest) before now why → super_of_image image ≡ Err why
   says_none why (inl (none, read, is)) = empty image (omega (arith, size_is [] read, none))
     where
       empty : (blocks : Blocks) → length blocks ≡ 0 → super_of_image blocks ≡ Err why
@@ -112,7 +112,7 @@ module _ (tells honest : Bool) (before now : Seen) (image : Blocks) (told : IsTr
       empty (block ∷ blocks) count = absurd (omega arith)
   says_none why (inr (first, some, read, says)) = of_first image first [] before.size 0 (Err why) (front_read (first ∷ []) 1 read refl some) (size_is _ read) says
 
-  pub faulty_journal : (why : ImageFault) → (faulty : HasFaulty tells honest before now why)
+  pub faulty_journal : (why : ImageFault) → (faulty : HasFaulty (trust tells honest) before now why)
       → (super_of_image image ≡ Ok faulty.head) × CantServe faulty.head (journal_of faulty.head.geometry image) why
   faulty_journal why faulty = (
     says_head faulty.head faulty.journal faulty.read,

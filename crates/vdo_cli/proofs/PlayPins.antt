@@ -24,7 +24,8 @@ use Rattle.vdo_model.specs.Scripts.{Script}
 use Rattle.vdo_cli.specs.declared.fault.Fault.{Fault}
 use Rattle.vdo_cli.specs.declared.fault.Fault.TheVariants as fault
 use Rattle.vdo_cli.specs.Endings.{PlayFails}
-use Rattle.vdo_cli.specs.Openings.{CanServe, CantServe, HasFaulty, IsRead, IsOpened, HasNoImage}
+use Rattle.vdo_cli.specs.Openings.{CanServe, CantServe, HasFaulty, IsRead, IsOpened, HasNoImage, opening_of, trust}
+use Rattle.vdo_cli.specs.Outsides.{input_setting, inputs}
 use Rattle.vdo_cli.proofs.OneLaws.{not_opened_and_faulty, not_read_and_refused, faulty_is_one}
 
 -- a device with these opening blocks, after these calls, with these counts
@@ -43,7 +44,7 @@ sink held faults = record { held = held; faults = faults }
 
 -- it tells, and so does the source, which gave nothing and didn't fail
 abbrev Fails : Seen → Seen → Fault → Type 0
-Fails before after why = PlayFails true false true before after (source [] 0) (source [] 0) why
+Fails before after why = PlayFails (input_setting true false true) (inputs before (source [] 0)) (inputs after (source [] 0)) why
 
 abbrev first_at : List Call → ℕ
 first_at [] = 0
@@ -161,7 +162,7 @@ module _ (block bytes : List ℕ) where
 
 -- Device, behind a superblock: a read of a block of the journal failed, and none of a block behind the journal.
 module _ (honest : Bool) (before after : Seen) (head : Super) (first bytes : List ℕ) (is_head : IsHead before.size first head) (journal : List (List ℕ)) where
-  device-journal_read : length journal < head.geometry.journal → NextFailed true honest 0 before after (reverse (first ∷ journal)) → PlayFails true honest true before after (source [] 0) (source [] 0) fault.Device
+  device-journal_read : length journal < head.geometry.journal → NextFailed true honest 0 before after (reverse (first ∷ journal)) → PlayFails (input_setting true honest true) (inputs before (source [] 0)) (inputs after (source [] 0)) fault.Device
   device-journal_read few failed = record { blocks = reverse (first ∷ journal); begun = inr (head, first, journal, refl, is_head, few); failed = failed }
 
   -- the log has the failed read of the block behind these, and the device kept all its calls
@@ -177,7 +178,7 @@ module _ (honest : Bool) (before after : Seen) (head : Super) (first bytes : Lis
         older_calls : {newest newest' : Call} {older older' : List Call} → newest ∷ older ≡ newest' ∷ older' → older ≡ older'
         older_calls same = cc
 
-    device-not_behind_the_journal : PlayFails true honest true before after (source [] 0) (source [] 0) fault.Device → ⊥
+    device-not_behind_the_journal : PlayFails (input_setting true honest true) (inputs before (source [] 0)) (inputs after (source [] 0)) fault.Device → ⊥
     device-not_behind_the_journal fails = elim fails.begun [
       | inl (none, some) ↦ let size = ap length (sym none ∙ same_blocks fails.blocks fails.failed) in omega (arith, size, length-reverse (first ∷ journal))
       | inr (head', first', journal', is, is_head', few) ↦
@@ -195,9 +196,9 @@ module _ (honest : Bool) (before after : Seen) (head : Super) (first bytes : Lis
         journal_size (Err why) = 0
 
 -- Behind a superblock and a journal that were read of a device that tells.
-module _ (honest : Bool) (before after : Seen) (head : Super) (journal : List (List ℕ)) (read : IsRead true honest before after head journal) (left : List ℕ) where
+module _ (honest : Bool) (before after : Seen) (head : Super) (journal : List (List ℕ)) (read : IsRead (trust true honest) before after head journal) (left : List ℕ) where
   abbrev Ends : ℕ → ℕ → Fault → Type 0
-  Ends faults faults' why = PlayFails true honest true before after (source left faults) (source left faults') why
+  Ends faults faults' why = PlayFails (input_setting true honest true) (inputs before (source left faults)) (inputs after (source left faults')) why
 
   abbrev Right : List Entry → ℕ → Type 0
   Right window used = CanServe head journal window used
@@ -205,11 +206,11 @@ module _ (honest : Bool) (before after : Seen) (head : Super) (journal : List (L
   abbrev Wrong : ℕ → Type 0
   Wrong sequence = CantServe head journal (image.Window sequence)
 
-  opened : (window : List Entry) (used : ℕ) → Right window used → IsOpened true honest before after head window used
+  opened : (window : List Entry) (used : ℕ) → Right window used → IsOpened (trust true honest) before after (opening_of head window used)
   opened window used right = record { journal = journal; read = read; serves = right }
 
   -- a journal that can be served isn't wrong
-  right_or_wrong : (other : Super) (window : List Entry) (used sequence : ℕ) → IsOpened true honest before after other window used → HasFaulty true honest before after (image.Window sequence) → ⊥
+  right_or_wrong : (other : Super) (window : List Entry) (used sequence : ℕ) → IsOpened (trust true honest) before after (opening_of other window used) → HasFaulty (trust true honest) before after (image.Window sequence) → ⊥
   right_or_wrong other window used sequence is_opened faulty = absurd (let same = not_opened_and_faulty true honest before after refl other window used (image.Window sequence) is_opened faulty in cc)
 
   -- Image, of the journal's sequences: they are used up, and not of a journal that can be served
@@ -237,11 +238,11 @@ module _ (honest : Bool) (before after : Seen) (head : Super) (journal : List (L
   -- Script: the window was right and this line is the first with a fault; and not where the window is faulty, where no line
   -- has a fault, or another line or fault is the first
   script-refused : (window : List Entry) (used : ℕ) (refusal : ScriptRefusal) → Right window used → whole_script left ≡ Err refusal → Ends 0 0 (fault.Script refusal)
-  script-refused window used refusal right says = record { head = head; window = window; used = used; is_opened = opened window used right; cause = λ told. says }
+  script-refused window used refusal right says = record { found = opening_of head window used; is_opened = opened window used right; cause = λ told. says }
 
   script-not_before_the_window : (sequence : ℕ) (refusal : ScriptRefusal) → Wrong sequence → Ends 0 0 (fault.Script refusal) → ⊥
   script-not_before_the_window sequence refusal wrong fails =
-      right_or_wrong fails.head fails.window fails.used sequence fails.is_opened (window-faulty sequence wrong)
+      right_or_wrong fails.found.head fails.found.window fails.found.used sequence fails.is_opened (window-faulty sequence wrong)
 
   script-not_another : (refusal other : ScriptRefusal) → whole_script left ≡ Err refusal → refusal ≢ other → Ends 0 0 (fault.Script other) → ⊥
   script-not_another refusal other says differ fails =
@@ -252,17 +253,17 @@ module _ (honest : Bool) (before after : Seen) (head : Super) (journal : List (L
   script-not_accepted : (script : Script) (refusal : ScriptRefusal) → whole_script left ≡ Ok script → Ends 0 0 (fault.Script refusal) → ⊥
   script-not_accepted script refusal says fails = let said = fails.cause refl in absurd cc
 
-  script-not_unopened : (why : SuperFault) (refusal : ScriptRefusal) → HasNoImage true honest before after why → Ends 0 0 (fault.Script refusal) → ⊥
-  script-not_unopened why refusal none fails = not_read_and_refused true honest before after refl fails.head fails.is_opened.journal why fails.is_opened.read none
+  script-not_unopened : (why : SuperFault) (refusal : ScriptRefusal) → HasNoImage (trust true honest) before after why → Ends 0 0 (fault.Script refusal) → ⊥
+  script-not_unopened why refusal none fails = not_read_and_refused true honest before after refl fails.found.head fails.is_opened.journal why fails.is_opened.read none
 
   -- Later: no line has a fault, and this one is the first that asks for a discard; and not where the window is faulty, where
   -- a line has a fault, another line is the first, or none asks for a discard
   later-first : (window : List Entry) (used : ℕ) (script : Script) (line : ℕ) → Right window used → whole_script left ≡ Ok script → first_discard left ≡ Some line → Ends 0 0 (fault.Later line)
-  later-first window used script line right says asks = record { head = head; window = window; used = used; is_opened = opened window used right; cause = λ told. ((script, says), asks) }
+  later-first window used script line right says asks = record { found = opening_of head window used; is_opened = opened window used right; cause = λ told. ((script, says), asks) }
 
   later-not_before_the_window : (sequence line : ℕ) → Wrong sequence → Ends 0 0 (fault.Later line) → ⊥
   later-not_before_the_window sequence line wrong fails =
-      right_or_wrong fails.head fails.window fails.used sequence fails.is_opened (window-faulty sequence wrong)
+      right_or_wrong fails.found.head fails.found.window fails.found.used sequence fails.is_opened (window-faulty sequence wrong)
 
   later-not_where_refused : (refusal : ScriptRefusal) (line : ℕ) → whole_script left ≡ Err refusal → Ends 0 0 (fault.Later line) → ⊥
   later-not_where_refused refusal line says fails = let said = (fails.cause refl).0.1 in absurd cc
@@ -278,14 +279,14 @@ module _ (honest : Bool) (before after : Seen) (head : Super) (journal : List (L
 
   -- Read: the window was right and the source's count rose; and not where the window is faulty, or no count rose
   read-failed : (window : List Entry) (used : ℕ) → Right window used → Ends 0 1 fault.Read
-  read-failed window used right = record { head = head; window = window; used = used; is_opened = opened window used right; cause = omega arith }
+  read-failed window used right = record { found = opening_of head window used; is_opened = opened window used right; cause = omega arith }
 
   read-not_without_rise : Ends 3 3 fault.Read → ⊥
   read-not_without_rise fails = omega (arith, fails.cause)
 
   read-not_before_the_window : (sequence : ℕ) → Wrong sequence → Ends 0 1 fault.Read → ⊥
   read-not_before_the_window sequence wrong fails =
-      right_or_wrong fails.head fails.window fails.used sequence fails.is_opened (window-faulty sequence wrong)
+      right_or_wrong fails.found.head fails.found.window fails.found.used sequence fails.is_opened (window-faulty sequence wrong)
 
   -- Memory: free. Usage, Sink: never
   memory-free : Ends 0 0 fault.Memory

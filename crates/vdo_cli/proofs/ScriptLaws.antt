@@ -14,7 +14,7 @@ use Rattle.stream_text.specs.StreamRows.{count_of}
 use Rattle.vdo_core.specs.Cores.{CanBegin}
 use Rattle.vdo_core.proofs.JournalLaws.{entries_of_image, leaves_one}
 use Rattle.vdo_model.specs.Scripts.{Script}
-use Rattle.vdo_cli.specs.Openings.{IsOpened}
+use Rattle.vdo_cli.specs.Openings.{IsOpened, opening_of, trust}
 use Rattle.vdo_cli.specs.Sessions.{run_sizes}
 
 -- a request that is plain is served
@@ -32,7 +32,7 @@ same_count : (script : Script) → count_of script ≡ requests_in script
 same_count [] = refl
 same_count (requests ∷ script) = let rest = same_count script in omega (arith, rest)
 
-pub can_begin : (tells honest : Bool) (before now : Seen) (head : Super) (window : List Entry) (used : ℕ) (script : Script) → IsOpened tells honest before now head window used → IsWholeScript script
+pub can_begin : (tells honest : Bool) (before now : Seen) (head : Super) (window : List Entry) (used : ℕ) (script : Script) → IsOpened (trust tells honest) before now (opening_of head window used) → IsWholeScript script
     → AllByRecursion (AllByRecursion IsServed) script → CanBegin (run_sizes head used) script window
 can_begin tells honest before now head window used script opened whole served = record {
   geometry = opened.read.is_head.sizes;

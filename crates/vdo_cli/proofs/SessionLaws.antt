@@ -52,7 +52,7 @@ use Rattle.vdo_model.specs.Scripts.{Script, request_at}
 use Rattle.vdo_model.specs.declared.report.DeskLine.TheVariants as line
 use Rattle.vdo_model.specs.declared.report.RunReport.{RunReport}
 use Rattle.vdo_model.specs.Stops.{RightAfterStops}
-use Rattle.vdo_cli.specs.Sessions.{HasFault, IsOver, IsReported, run_sizes}
+use Rattle.vdo_cli.specs.Sessions.{HasFault, IsOver, IsReported, run_sizes, task}
 use Rattle.schedule.specs.Turns.{Drives}
 use Rattle.schedule.proofs.TurnLaws.{driven_leads}
 use Rattle.vdo_core.specs.Starts.{IsOf}
@@ -62,8 +62,9 @@ use Rattle.vdo_cli.proofs.ScriptLaws.{can_begin}
 use Rattle.vdo_core.specs.declared.events.Event.{Event}
 use Rattle.stream_text.specs.WholeScript.{first_discard, whole_script}
 use Rattle.vdo_cli.specs.Endings.{Plays}
-use Rattle.vdo_cli.specs.Openings.{CanServe, IsOpened}
+use Rattle.vdo_cli.specs.Openings.{CanServe, IsOpened, opening_of, trust}
 use Rattle.vdo_cli.specs.Stops.{Happens, OpensWith}
+use Rattle.vdo_cli.specs.Outsides.{input_setting, inputs}
 use Rattle.vdo_cli.proofs.OpeningLaws.{opened_count, opened_serves, says_head}
 use Rattle.vdo_cli.proofs.StopLaws.{same_super, some_blocks}
 
@@ -155,10 +156,10 @@ module _ (tells honest : Bool) (sizes : Sizes) (state state' : ℕ) (events : Li
 
 -- A core that began over what was read, and came to its end.
 module _ (tells honest : Bool) (head : Super) (window : List Entry) (used : ℕ) (script : Script) (first last : List Zone) (trace : Trace) (before after : Seen)
-    (can : CanBegin (run_sizes head used) script window) (begins : (s : Session) → IsOver head window used script s → IsFirst s (core_with first []))
+    (can : CanBegin (run_sizes head used) script window) (begins : (s : Session) → IsOver (task (opening_of head window used) script) s → IsFirst s (core_with first []))
     (leads : Leads (run_sizes head used) (core_with first []) (core_with last trace)) (done : IsDone last) (called : HasCalled tells honest before after trace) where
   -- it is legal, of each session over that
-  legal_over : (s : Session) → IsSession s → IsOver head window used script s → Legal s (core_with last trace)
+  legal_over : (s : Session) → IsSession s → IsOver (task (opening_of head window used) script) s → Legal s (core_with last trace)
   legal_over s session over =
       legal_leads s (core_with first []) (core_with last trace) session (subst (λ (sizes : Sizes). Leads sizes (core_with first []) (core_with last trace)) (sym over.sizes_is) leads)
       (legal_first s (core_with first []) (begins s over) session)
@@ -179,7 +180,7 @@ module _ (tells honest : Bool) (head : Super) (window : List Entry) (used : ℕ)
   abbrev pub report : RunReport
   report = report_of over trace
 
-  pub reported : IsReported head window used report trace before after
+  pub reported : IsReported (opening_of head window used) report trace before after
   reported = record {
     session = over;
     is_over = is_of (run_sizes head used) script window can;
@@ -206,7 +207,7 @@ module _ (tells honest : Bool) (head : Super) (window : List Entry) (used : ℕ)
       free = free_of head.geometry window;
     }
 
-    real_over : IsOver head window used script real
+    real_over : IsOver (task (opening_of head window used) script) real
     real_over = record { sizes_is = refl; script_is = refl; window_is = refl; free_is = refl }
 
     real_session : IsSession real
@@ -239,16 +240,14 @@ module _ (tells honest : Bool) (head : Super) (window : List Entry) (used : ℕ)
         )
 
   -- what was read before it, and what a stop within these reads leaves
-  module _ (start : Seen) (opened : IsOpened tells honest start before head window used) (untouched : IsUntouched tells start before) where
+  module _ (start : Seen) (opened : IsOpened (trust tells honest) start before (opening_of head window used)) (untouched : IsUntouched tells start before) where
     -- the device has the blocks of the image
     has_blocks : IsTrue tells → needed_blocks head.geometry ≤ length before.opening
     has_blocks told = rw untouched.stays.opening (let count = opened.read.read.told told in omega (arith, opened.read.is_head.room, count))
 
-    pub happens : IsTrue tells → Happens honest head window (moments trace) report start before after
+    pub happens : IsTrue tells → Happens (moments trace) report start before after
     happens told =
         let (earlier, earlier_is, reads) = untouched.reads told in
-        let of_start : (image : Blocks) → HasOneImage start.opening start.log image → HasOneImage before.opening before.log image =
-        (λ (image : Blocks) (one : HasOneImage start.opening start.log image). rw untouched.stays.opening (image_since start.opening start.log before.log image (untouched.reads told) one)) in
         record {
           earlier = earlier;
           earlier_is = earlier_is;
@@ -259,19 +258,27 @@ module _ (tells honest : Bool) (head : Super) (window : List Entry) (used : ℕ)
           lines = refl;
           calls = called.log told;
           flushes = marks_right over trace session legal.right;
-          stops = λ fair image one. rw (← untouched.stays.opening) (stops_of_image image told fair (has_blocks told) (of_start image one) (opened_count tells honest start before image told fair one head window used opened)
-              (opened_serves tells honest start before image told fair one head window used opened)
-              (says_head tells honest start before image told fair one head opened.journal opened.read));
         }
+
+    -- the image that there was is the one of the session
+    of_start : IsTrue tells → (image : Blocks) → HasOneImage start.opening start.log image → HasOneImage before.opening before.log image
+    of_start told image one =
+        rw untouched.stays.opening (image_since start.opening start.log before.log image (untouched.reads told) one)
+
+    pub stops_right : IsTrue tells → IsTrue honest → (image : Blocks) → HasOneImage start.opening start.log image
+        → RightAfterStops (OpensWith head) start.opening before.log head.geometry.logical (value_of image window) report (calls trace)
+    stops_right told fair image one =
+        rw (← untouched.stays.opening) (stops_of_image image told fair (has_blocks told) (of_start told image one)
+        (opened_count tells honest start before image told fair one head window used opened)
+        (opened_serves tells honest start before image told fair one head window used opened)
+        (says_head tells honest start before image told fair one head opened.journal opened.read))
 
     pub plays : (source_tells : Bool) (schedule state : ℕ) (events : List Event) (source rest : SourceSeen) → Stays before after
         → Drives tells honest (run_sizes head used) schedule state events first last before after trace
         → (IsTrue source_tells → (whole_script source.left ≡ Ok script) × (first_discard source.left ≡ None)) → (IsTrue source_tells → rest.left ≡ [])
-        → Plays tells honest source_tells schedule report start after source rest
+        → Plays (input_setting tells honest source_tells) schedule report (inputs start source) (inputs after rest)
     plays source_tells schedule state events source rest stays drives script_is whole = record {
-      head = head;
-      window = window;
-      used = used;
+      found = opening_of head window used;
       opened = before;
       is_opened = opened;
       script_is = script_is;
@@ -289,25 +296,26 @@ module _ (tells honest : Bool) (head : Super) (window : List Entry) (used : ℕ)
       reported = reported;
       stays = stays_on start before after untouched.stays stays;
       reads_right = λ told fair image one.
-          reads_of_image image told fair (has_blocks told) (rw untouched.stays.opening (image_since start.opening start.log before.log image (untouched.reads told) one))
+          reads_of_image image told fair (has_blocks told) (of_start told image one)
           (opened_count tells honest start before image told fair one head window used opened) (opened_serves tells honest start before image told fair one head window used opened);
       happens = happens;
+      stops = stops_right;
     }
 
 -- what a core did that began with what was read, was driven to its end, and told its report
 pub played : (tells honest source_tells : Bool) (number state : ℕ) (head : Super) (entries : List Entry) (used : ℕ) (script : Script) (sizes : Sizes) (first last : List Zone) (start before after : Seen) (source rest : SourceSeen)
-    (report : RunReport) → IsOpened tells honest start before head (reverse entries) used → IsUntouched tells start before → IsWholeScript script → AllByRecursion (AllByRecursion IsServed) script
+    (report : RunReport) → IsOpened (trust tells honest) start before (opening_of head (reverse entries) used) → IsUntouched tells start before → IsWholeScript script → AllByRecursion (AllByRecursion IsServed) script
     → sizes ≡ sizes_of run_setup head used
     → ((s : Session) → IsOf s sizes script (reverse entries) (free_of head.geometry (reverse entries)) → IsFirst s (core_with first []))
     → ((events : List Event) × (made : Trace) × Drives tells honest sizes number state events first last before after made) → IsDone last → Stays before after
     → (IsTrue source_tells → (whole_script source.left ≡ Ok script) × (first_discard source.left ≡ None)) → (IsTrue source_tells → rest.left ≡ [])
     → ((s : Session) (t : Trace) → IsSession s → Legal s (core_with last t) → IsDone last → report ≡ report_of s t)
-    → Plays tells honest source_tells number report start after source rest × (report.requests ≡ script)
+    → Plays (input_setting tells honest source_tells) number report (inputs start source) (inputs after rest) × (report.requests ≡ script)
 played tells honest source_tells number state head entries used script sizes first last start before after source rest report opened untouched shape served sizes_are begins driven done stays script_is whole says =
     let window = reverse entries in
     let sized : sizes ≡ run_sizes head used = sizes_are in
     let can = can_begin tells honest start before head window used script opened shape served in
-    let begins_so = (λ (s : Session) (over : IsOver head window used script s). begins s (rw sized over)) in
+    let begins_so = (λ (s : Session) (over : IsOver (task (opening_of head window used) script) s). begins s (rw sized over)) in
     let (events, made, drives_so) = driven in
     let drives : Drives tells honest (run_sizes head used) number state events first last before after made =
     subst (λ (z : Sizes). Drives tells honest z number state events first last before after made) sized drives_so in
@@ -316,7 +324,7 @@ played tells honest source_tells number state head entries used script sizes fir
     let report_is = says (over tells honest head window used script first last made before after can begins_so leads done called) made
     (session tells honest head window used script first last made before after can begins_so leads done called)
     (legal tells honest head window used script first last made before after can begins_so leads done called) done in (
-      subst (λ (r : RunReport). Plays tells honest source_tells number r start after source rest) (sym report_is)
+      subst (λ (r : RunReport). Plays (input_setting tells honest source_tells) number r (inputs start source) (inputs after rest)) (sym report_is)
           (plays tells honest head window used script first last made before after can begins_so leads done called start opened untouched source_tells number state events source rest stays drives script_is whole),
       ap (λ (r : RunReport). r.requests) report_is,
     )

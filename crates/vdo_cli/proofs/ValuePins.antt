@@ -24,8 +24,8 @@ use Rattle.vdo_model.specs.declared.report.HistoryEntry.{HistoryEntry}
 use Rattle.vdo_model.specs.declared.report.Mark.TheVariants.{Settled}
 use Rattle.vdo_model.specs.declared.report.RunReport.{RunReport}
 use Rattle.vdo_model.proofs.Example.{address, of_a, placed, entry, block, blocks_tell}
-use Rattle.vdo_cli.specs.Openings.{CanServe, IsOpened}
-use Rattle.vdo_cli.specs.Outsides.{Outside, outside, setting}
+use Rattle.vdo_cli.specs.Openings.{CanServe, IsOpened, opening_of, trust}
+use Rattle.vdo_cli.specs.Outsides.{Outside, outcome, outside, setting}
 use Rattle.vdo_cli.specs.Runs.{EndsSo}
 use Rattle.vdo_cli.proofs.CommandPins.{run_words}
 use Rattle.vdo_cli.proofs.PlayPins.{source, sink}
@@ -36,7 +36,7 @@ use Rattle.vdo_cli.proofs.ServeLaws.{one_service}
 -- A run of a session that was served, over a source with these bytes left, where all of the outside tells and the device
 -- is honest.
 abbrev Served : Seen → List ℕ → Outside → RunReport → Type 0
-Served before left after report = EndsSo (setting true true true true) run_words (outside before (source left 0) (sink [] 0)) after 0 report None
+Served before left after report = EndsSo (setting true true true true) run_words (outside before (source left 0) (sink [] 0)) after (outcome 0 report None)
 
 -- a report of one read of address 1, which gave a block of this byte
 abbrev reads_one : Script
@@ -65,11 +65,11 @@ write_report calls = record {
 }
 
 -- A device has this image and nothing is pending on it, and it was opened: address 1 has block 11 there.
-module _ (before opened : Seen) (head : Super) (window : List Entry) (used : ℕ) (is_opened : IsOpened true true before opened head window used)
+module _ (before opened : Seen) (head : Super) (window : List Entry) (used : ℕ) (is_opened : IsOpened (trust true true) before opened (opening_of head window used))
     (image : Blocks) (one : HasOneImage before.opening before.log image) (has_value : value_of image window 1 ≡ block 11)
     (below : 1 < head.geometry.logical) where
   -- what was read of it is what the image has
-  same_window : (opened' : Seen) (head' : Super) (window' : List Entry) (used' : ℕ) → IsOpened true true before opened' head' window' used' → (head ≡ head') × (window ≡ window')
+  same_window : (opened' : Seen) (head' : Super) (window' : List Entry) (used' : ℕ) → IsOpened (trust true true) before opened' (opening_of head' window' used') → (head ≡ head') × (window ≡ window')
   same_window opened' head' window' used' is_opened' =
       let says = says_head true true before opened image refl refl one head is_opened.journal is_opened.read in
       let says' = says_head true true before opened' image refl refl one head' is_opened'.journal is_opened'.read in
@@ -89,9 +89,9 @@ module _ (before opened : Seen) (head : Super) (window : List Entry) (used : ℕ
   reads_right-not_another_block : (left : List ℕ) (after : Outside) → Served before left after (read_report 10) → ⊥
   reads_right-not_another_block left after ends =
       let it = ends.session in
-      let windows = (same_window it.opened it.head it.window it.used it.is_opened).1 in
-      let value : value_of image it.window 1 ≡ block 11 = ap (λ (entries : List Entry). value_of image entries 1) (sym windows) ∙ has_value in
-      let right : block 10 ≡ value_of image it.window 1 = it.reads_right refl refl image one (of_a 0) (address 1) (block 10) (placed (of_a 0) 0 0) refl refl refl in
+      let windows = (same_window it.opened it.found.head it.found.window it.found.used it.is_opened).1 in
+      let value : value_of image it.found.window 1 ≡ block 11 = ap (λ (entries : List Entry). value_of image entries 1) (sym windows) ∙ has_value in
+      let right : block 10 ≡ value_of image it.found.window 1 = it.reads_right refl refl image one (of_a 0) (address 1) (block 10) (placed (of_a 0) 0 0) refl refl refl in
       let bytes = blocks_tell 10 11 (right ∙ value) in
       omega (arith, bytes)
 
@@ -100,10 +100,10 @@ module _ (before opened : Seen) (head : Super) (window : List Entry) (used : ℕ
       → IsWindow head.geometry head.start (journal_of head.geometry other) last entries → value_of other (said_by entries) 1 ≡ block 11 → Served before left after (write_report count) → ⊥
   stops-not_an_older_block count left after other last entries is_image is_window older ends =
       let it = ends.session in
-      let heads = (same_window it.opened it.head it.window it.used it.is_opened).0 in
+      let heads = (same_window it.opened it.found.head it.found.window it.found.used it.is_opened).0 in
       let happened = it.happens refl in
       let since = calls it.trace in
-      let stop = happened.stops refl image one [] since refl other (subst (λ (log : List Call). IsImage before.opening log other) happened.calls is_image) in
+      let stop = it.stops refl refl image one [] since refl other (subst (λ (log : List Call). IsImage before.opening log other) happened.calls is_image) in
       let has = stop.1.has_values in
       let windows : has.window ≡ entries = (one_window head.geometry head.start (journal_of head.geometry other) has.last last has.window entries
       (subst (λ (h : Super). IsWindow h.geometry h.start (journal_of h.geometry other) has.last has.window) (sym heads) has.is_window) is_window).1 in

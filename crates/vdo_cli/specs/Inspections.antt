@@ -16,7 +16,7 @@ use Rattle.image_status.specs.declared.forms.ImageStatus.{ImageStatus}
 use Rattle.vdo_model.specs.declared.report.RunReport.{RunReport}
 use Rattle.vdo_cli.specs.declared.fault.Fault.{Fault}
 use Rattle.vdo_cli.specs.declared.fault.Fault.TheVariants as fault
-use Rattle.vdo_cli.specs.Outsides.{Setting, Outside, PutsOrFails, Refuses, Tells, no_report}
+use Rattle.vdo_cli.specs.Outsides.{Outcome, Outside, PutsOrFails, Refuses, Setting, Tells, no_report}
 
 -- Both commands.
 
@@ -27,15 +27,15 @@ told_as image.Memory = fault.Memory
 told_as other = fault.Image other
 
 -- nothing was found, for this cause, and the fault's line was put
-pub record FindsNothing (s : Setting) (Causes : ImageFault → Type 0) (before after : Outside) (status : ℕ) (report : RunReport) (ended : Option Fault) : Type 0 where
+pub record FindsNothing (s : Setting) (Causes : ImageFault → Type 0) (before after : Outside) (outcome : Outcome) : Type 0 where
   pub why : ImageFault
-  pub fault_is : ended ≡ Some (told_as why)
+  pub fault_is : outcome.fault ≡ Some (told_as why)
   pub cause : Causes why
-  pub refuses : Refuses s.sink_tells (told_as why) status report before.sink after.sink
+  pub refuses : Refuses s.sink_tells (told_as why) outcome.status outcome.report before.sink after.sink
 
 -- the device was read and no more, and the script wasn't looked at
 pub record OnlyLooks (s : Setting) (before after : Outside) : Type 0 where
-  pub untouched : IsUntouched s.device_tells before.device after.device
+  pub untouched : IsUntouched s.device.tells before.device after.device
   pub source : after.source ≡ before.source
 
 -- The audit.
@@ -57,16 +57,16 @@ TellsReport tells report status ended before after =
     (report.differs.items ≡ []) × Tells tells (report_text report) status ended before after
 
 -- the image was audited, and the report was put
-pub record IsAuditTold (s : Setting) (before after : Outside) (status : ℕ) (report : RunReport) (ended : Option Fault) : Type 0 where
+pub record IsAuditTold (s : Setting) (before after : Outside) (outcome : Outcome) : Type 0 where
   pub found : Report
-  pub audited : IsAudited s.device_tells s.device_honest before.device after.device found
-  pub report_is : report ≡ no_report
-  pub told : TellsReport s.sink_tells found status ended before.sink after.sink
+  pub audited : IsAudited s.device.tells s.device.honest before.device after.device found
+  pub report_is : outcome.report ≡ no_report
+  pub told : TellsReport s.sink_tells found outcome.status outcome.fault before.sink after.sink
 
 -- how an audit ends
-pub record EndsAudit (s : Setting) (before after : Outside) (status : ℕ) (report : RunReport) (ended : Option Fault) : Type 0 where
-  pub ends : IsAuditTold s before after status report ended
-      ⊎ FindsNothing s (AuditFails s.device_tells s.device_honest before.device after.device) before after status report ended
+pub record EndsAudit (s : Setting) (before after : Outside) (outcome : Outcome) : Type 0 where
+  pub ends : IsAuditTold s before after outcome
+      ⊎ FindsNothing s (AuditFails s.device.tells s.device.honest before.device after.device) before after outcome
   pub looks : OnlyLooks s before after
 
 -- The status.
@@ -81,14 +81,14 @@ told_status found = record {
 }
 
 -- the image was looked at, and its status was put, or a part of it and the sink failed
-pub record IsStatusTold (s : Setting) (before after : Outside) (status : ℕ) (report : RunReport) (ended : Option Fault) : Type 0 where
+pub record IsStatusTold (s : Setting) (before after : Outside) (outcome : Outcome) : Type 0 where
   pub found : ImageStatus
-  pub read : IsStatusRead s.device_tells s.device_honest before.device after.device found
-  pub report_is : report ≡ no_report
-  pub told : Tells s.sink_tells (status_text (told_status found)) status ended before.sink after.sink
+  pub read : IsStatusRead s.device.tells s.device.honest before.device after.device found
+  pub report_is : outcome.report ≡ no_report
+  pub told : Tells s.sink_tells (status_text (told_status found)) outcome.status outcome.fault before.sink after.sink
 
 -- how a status ends
-pub record EndsStatus (s : Setting) (before after : Outside) (status : ℕ) (report : RunReport) (ended : Option Fault) : Type 0 where
-  pub ends : IsStatusTold s before after status report ended
-      ⊎ FindsNothing s (AuditFails s.device_tells s.device_honest before.device after.device) before after status report ended
+pub record EndsStatus (s : Setting) (before after : Outside) (outcome : Outcome) : Type 0 where
+  pub ends : IsStatusTold s before after outcome
+      ⊎ FindsNothing s (AuditFails s.device.tells s.device.honest before.device after.device) before after outcome
   pub looks : OnlyLooks s before after

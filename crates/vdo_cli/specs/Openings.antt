@@ -23,12 +23,30 @@ use Rattle.journal_window.specs.Windows.{IsRefused, IsWindowOf}
 use Rattle.vdo_cli.specs.declared.fault.Fault.{Fault}
 use Rattle.vdo_cli.specs.declared.fault.Fault.TheVariants as fault
 
+-- What the type of a device says of it: whether it tells its log, and whether one that tells is honest.
+pub record Trust : Type 0 where
+  pub tells : Bool
+  pub honest : Bool
+
+abbrev pub trust : Bool → Bool → Trust
+trust tells honest = record { tells = tells; honest = honest }
+
+-- What a session starts with: the superblock, the entries of the window, the newest first, and how many blocks of the
+-- journal are used.
+pub record Opening : Type 0 where
+  pub head : Super
+  pub window : List Entry
+  pub used : ℕ
+
+abbrev pub opening_of : Super → List Entry → ℕ → Opening
+opening_of head window used = record { head = head; window = window; used = used }
+
 -- The superblock and the blocks of the journal were read, in the order of the slots, and nothing else was done.
-pub record IsRead (tells honest : Bool) (before now : Seen) (head : Super) (journal : List (List ℕ)) : Type 0 where
+pub record IsRead (trust : Trust) (before now : Seen) (head : Super) (journal : List (List ℕ)) : Type 0 where
   pub first : List ℕ
   pub is_head : IsHead before.size first head
   pub count : length journal ≡ head.geometry.journal
-  pub read : WereRead tells honest 0 before now (reverse (first ∷ journal))
+  pub read : WereRead trust.tells trust.honest 0 before now (reverse (first ∷ journal))
 
 -- What a journal says.
 
@@ -77,24 +95,24 @@ CantServe head journal other = IsRefused head journal other
 
 -- What was read.
 
--- An image was opened, and nothing else was done: it has this superblock, its window these entries, the newest first, and so
--- many blocks of its journal are used.
-pub record IsOpened (tells honest : Bool) (before now : Seen) (head : Super) (window : List Entry) (used : ℕ) : Type 0 where
+-- An image was opened, and nothing else was done: this is what a session starts with there.
+pub record IsOpened (trust : Trust) (before now : Seen) (found : Opening) : Type 0 where
   pub journal : List (List ℕ)
-  pub read : IsRead tells honest before now head journal
-  pub serves : CanServe head journal window used
+  pub read : IsRead trust before now found.head journal
+  pub serves : CanServe found.head journal found.window found.used
 
 -- the superblock says why there is no image; a device without blocks has none
-abbrev pub HasNoImage : Bool → Bool → Seen → Seen → SuperFault → Type 0
-HasNoImage tells honest before now why =
-    ((before.size ≡ 0) × WereRead tells honest 0 before now [] × (why ≡ NotAnImage))
-    ⊎ ((first : List ℕ) × (0 < before.size) × WereRead tells honest 0 before now (first ∷ []) × (super_of first before.size ≡ Err why))
+abbrev pub HasNoImage : Trust → Seen → Seen → SuperFault → Type 0
+HasNoImage trust before now why =
+    ((before.size ≡ 0) × WereRead trust.tells trust.honest 0 before now [] × (why ≡ NotAnImage))
+    ⊎ ((first : List ℕ) × (0 < before.size)
+    × WereRead trust.tells trust.honest 0 before now (first ∷ []) × (super_of first before.size ≡ Err why))
 
 -- the superblock and the journal were read, and the journal can't be served for this reason
-pub record HasFaulty (tells honest : Bool) (before now : Seen) (why : ImageFault) : Type 0 where
+pub record HasFaulty (trust : Trust) (before now : Seen) (why : ImageFault) : Type 0 where
   pub head : Super
   pub journal : List (List ℕ)
-  pub read : IsRead tells honest before now head journal
+  pub read : IsRead trust before now head journal
   pub cause : CantServe head journal why
 
 -- blocks that are read before an image is opened: none yet of a device that has some, or a superblock and some of its journal
@@ -105,17 +123,17 @@ IsBegun size blocks =
     × (blocks ≡ reverse (first ∷ journal)) × IsHead size first head × (length journal < head.geometry.journal))
 
 -- a read of the device failed, of block 0 or of a block of the journal
-pub record ReadFailed (tells honest : Bool) (before now : Seen) : Type 0 where
+pub record ReadFailed (trust : Trust) (before now : Seen) : Type 0 where
   pub blocks : List (List ℕ)
   pub begun : IsBegun before.size blocks
-  pub failed : NextFailed tells honest 0 before now blocks
+  pub failed : NextFailed trust.tells trust.honest 0 before now blocks
 
 -- why the journal can't be read: a read of one of its blocks failed, or memory ran out
-abbrev pub JournalFails : Bool → Bool → ℕ → Seen → Seen → Fault → Type 0
-JournalFails tells honest slots before now fault.Device =
-    StopsBefore tells honest 1 slots before now
-JournalFails tells honest slots before now fault.Memory = Unit {0}
-JournalFails tells honest slots before now other = ⊥
+abbrev pub JournalFails : Trust → ℕ → Seen → Seen → Fault → Type 0
+JournalFails trust slots before now fault.Device =
+    StopsBefore trust.tells trust.honest 1 slots before now
+JournalFails trust slots before now fault.Memory = Unit {0}
+JournalFails trust slots before now other = ⊥
 
 -- why the entries of a window can't be served
 abbrev pub PagesFail : List CommittedEntry → Fault → Type 0
@@ -131,9 +149,10 @@ ServingFails head journal fault.Memory = Unit {0}
 ServingFails head journal other = ⊥
 
 -- why a device can't be opened
-abbrev pub OpeningFails : Bool → Bool → Seen → Seen → Fault → Type 0
-OpeningFails tells honest before now fault.Device = ReadFailed tells honest before now
-OpeningFails tells honest before now (fault.Image (image.Super why)) = HasNoImage tells honest before now why ⊎ HasFaulty tells honest before now (image.Super why)
-OpeningFails tells honest before now (fault.Image (image.Window sequence)) = HasFaulty tells honest before now (image.Window sequence)
-OpeningFails tells honest before now fault.Memory = Unit {0}
-OpeningFails tells honest before now other = ⊥
+abbrev pub OpeningFails : Trust → Seen → Seen → Fault → Type 0
+OpeningFails trust before now fault.Device = ReadFailed trust before now
+OpeningFails trust before now (fault.Image (image.Super why)) =
+    HasNoImage trust before now why ⊎ HasFaulty trust before now (image.Super why)
+OpeningFails trust before now (fault.Image (image.Window sequence)) = HasFaulty trust before now (image.Window sequence)
+OpeningFails trust before now fault.Memory = Unit {0}
+OpeningFails trust before now other = ⊥

@@ -6,18 +6,18 @@ use Rattle.disk_model.specs.Streams.{PutsPart, SinkSeen, SourceSeen}
 use Rattle.vdo_model.specs.declared.report.RunReport.{RunReport}
 use Rattle.vdo_cli.specs.declared.fault.Fault.{Fault}
 use Rattle.vdo_cli.specs.declared.fault.Fault.TheVariants as fault
+use Rattle.vdo_cli.specs.Openings.{Trust, trust}
 use Rattle.vdo_cli.specs.Texts.{fault_text, fault_status}
 
 -- Which of the outside tell, and whether the device is honest.
 pub record Setting : Type 0 where
-  pub device_tells : Bool
-  pub device_honest : Bool
+  pub device : Trust
   pub source_tells : Bool
   pub sink_tells : Bool
 
 abbrev pub setting : Bool → Bool → Bool → Bool → Setting
-setting device_tells device_honest source_tells sink_tells =
-    record { device_tells = device_tells; device_honest = device_honest; source_tells = source_tells; sink_tells = sink_tells }
+setting tells honest source_tells sink_tells =
+    record { device = trust tells honest; source_tells = source_tells; sink_tells = sink_tells }
 
 -- What contracts see of the outside at a moment.
 pub record Outside : Type 0 where
@@ -27,6 +27,36 @@ pub record Outside : Type 0 where
 
 abbrev pub outside : Seen → SourceSeen → SinkSeen → Outside
 outside device source sink = record { device = device; source = source; sink = sink }
+
+-- What a session reads of: its device and its source, at a moment and by their types.
+pub record Inputs : Type 0 where
+  pub device : Seen
+  pub source : SourceSeen
+
+abbrev pub inputs : Seen → SourceSeen → Inputs
+inputs device source = record { device = device; source = source }
+
+abbrev pub inputs_of : Outside → Inputs
+inputs_of all = inputs all.device all.source
+
+pub record InputSetting : Type 0 where
+  pub device : Trust
+  pub source_tells : Bool
+
+abbrev pub input_setting : Bool → Bool → Bool → InputSetting
+input_setting tells honest source_tells = record { device = trust tells honest; source_tells = source_tells }
+
+abbrev pub input_setting_of : Setting → InputSetting
+input_setting_of s = record { device = s.device; source_tells = s.source_tells }
+
+-- How a run ended: its status, what became of its requests, and why no other status.
+pub record Outcome : Type 0 where
+  pub status : ℕ
+  pub report : RunReport
+  pub fault : Option Fault
+
+abbrev pub outcome : ℕ → RunReport → Option Fault → Outcome
+outcome status report why = record { status = status; report = report; fault = why }
 
 -- a text was put, or a first part of it and the sink failed
 abbrev pub PutsOrFails : Bool → List ℕ → SinkSeen → SinkSeen → Type 0

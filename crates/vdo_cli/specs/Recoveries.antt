@@ -9,7 +9,7 @@ use Rattle.rebuild.specs.declared.forms.Recovered.TheVariants.{Clean, Entries}
 use Rattle.vdo_model.specs.declared.report.RunReport.{RunReport}
 use Rattle.vdo_cli.specs.declared.fault.Fault.{Fault}
 use Rattle.vdo_cli.specs.Inspections.{FindsNothing}
-use Rattle.vdo_cli.specs.Outsides.{Setting, Outside, Tells, no_report}
+use Rattle.vdo_cli.specs.Outsides.{Outcome, Outside, Setting, Tells, no_report}
 
 -- what is told of a recovery
 abbrev pub told_recovery : Recovered → Recovery
@@ -17,15 +17,15 @@ told_recovery Clean = said.Clean
 told_recovery (Entries count) = said.Entries count
 
 -- the image was recovered, or had nothing to recover, and the line was put, or a part of it and the sink failed
-pub record IsRecoveryTold (s : Setting) (before after : Outside) (status : ℕ) (report : RunReport) (ended : Option Fault) : Type 0 where
+pub record IsRecoveryTold (s : Setting) (before after : Outside) (outcome : Outcome) : Type 0 where
   pub found : Recovered
-  pub recovery : IsRecovery s.device_tells s.device_honest before.device after.device (Ok found)
-  pub report_is : report ≡ no_report
-  pub line : Tells s.sink_tells (recovery_text (told_recovery found)) status ended before.sink after.sink
+  pub recovery : IsRecovery s.device.tells s.device.honest before.device after.device (Ok found)
+  pub report_is : outcome.report ≡ no_report
+  pub line : Tells s.sink_tells (recovery_text (told_recovery found)) outcome.status outcome.fault before.sink after.sink
 
 -- how a recovery ends: so, or the image was refused, or the last call failed, and the fault's line was put; and the script
 -- wasn't looked at
-pub record EndsRecovery (s : Setting) (before after : Outside) (status : ℕ) (report : RunReport) (ended : Option Fault) : Type 0 where
-  pub ends : IsRecoveryTold s before after status report ended
-      ⊎ FindsNothing s (λ why. IsRecovery s.device_tells s.device_honest before.device after.device (Err why)) before after status report ended
+pub record EndsRecovery (s : Setting) (before after : Outside) (outcome : Outcome) : Type 0 where
+  pub ends : IsRecoveryTold s before after outcome
+      ⊎ FindsNothing s (λ why. IsRecovery s.device.tells s.device.honest before.device after.device (Err why)) before after outcome
   pub source : after.source ≡ before.source

@@ -14,7 +14,7 @@ use Rattle.vdo_cli.specs.Endings.{Plays, PlayFails}
 use Rattle.vdo_cli.specs.Inspections.{EndsAudit, EndsStatus}
 use Rattle.vdo_cli.specs.NewImages.{MakesImage}
 use Rattle.vdo_cli.specs.Recoveries.{EndsRecovery}
-use Rattle.vdo_cli.specs.Outsides.{Setting, Outside, PutsOrFails, Refuses}
+use Rattle.vdo_cli.specs.Outsides.{Outcome, Outside, PutsOrFails, Refuses, Setting, input_setting_of, inputs_of}
 use Rattle.vdo_cli.specs.Texts.{some_lost, desk_status}
 
 -- a session's answers are put, with its status: that of the first of a device's fault, the sink's, and Full
@@ -30,38 +30,42 @@ Closes tells report status (Some fault.Sink) before after =
 Closes tells report status (Some other) before after = ⊥
 
 -- no session was begun: the cause is the fault's, and nothing was written since
-pub record NotBegun (s : Setting) (before after : Outside) (status : ℕ) (report : RunReport) (why : Fault) : Type 0 where
-  pub cause : PlayFails s.device_tells s.device_honest s.source_tells before.device after.device before.source after.source why
-  pub untouched : IsUntouched s.device_tells before.device after.device
-  pub refuses : Refuses s.sink_tells why status report before.sink after.sink
+pub record NotBegun (s : Setting) (before after : Outside) (outcome : Outcome) (why : Fault) : Type 0 where
+  pub cause : PlayFails (input_setting_of s) (inputs_of before) (inputs_of after) why
+  pub untouched : IsUntouched s.device.tells before.device after.device
+  pub refuses : Refuses s.sink_tells why outcome.status outcome.report before.sink after.sink
 
 -- a session was served to its end by the schedule of this number, and its answers were put
-pub record PlayedOut (s : Setting) (schedule : ℕ) (before after : Outside) (status : ℕ) (report : RunReport) (ended : Option Fault) : Type 0 where
-  pub session : Plays s.device_tells s.device_honest s.source_tells schedule report before.device after.device before.source after.source
-  pub closes : Closes s.sink_tells report status ended before.sink after.sink
+pub record PlayedOut (s : Setting) (schedule : ℕ) (before after : Outside) (outcome : Outcome) : Type 0 where
+  pub session : Plays (input_setting_of s) schedule outcome.report (inputs_of before) (inputs_of after)
+  pub closes : Closes s.sink_tells outcome.report outcome.status outcome.fault before.sink after.sink
+
+-- how the run of a script ends that has this fault, or none
+abbrev pub RunsScriptBy : Option Fault → Setting → ℕ → Outside → Outside → Outcome → Type 0
+RunsScriptBy None s schedule before after outcome = PlayedOut s schedule before after outcome
+RunsScriptBy (Some fault.Sink) s schedule before after outcome = PlayedOut s schedule before after outcome
+RunsScriptBy (Some why) s schedule before after outcome = NotBegun s before after outcome why
 
 -- how the run of a script ends
-abbrev pub RunsScript : Setting → ℕ → Outside → Outside → ℕ → RunReport → Option Fault → Type 0
-RunsScript s schedule before after status report None = PlayedOut s schedule before after status report None
-RunsScript s schedule before after status report (Some fault.Sink) = PlayedOut s schedule before after status report (Some fault.Sink)
-RunsScript s schedule before after status report (Some why) = NotBegun s before after status report why
+abbrev pub RunsScript : Setting → ℕ → Outside → Outside → Outcome → Type 0
+RunsScript s schedule before after outcome = RunsScriptBy outcome.fault s schedule before after outcome
 
 -- the words are no command that is served: nothing else was looked at
-pub record IsUsage (s : Setting) (before after : Outside) (status : ℕ) (report : RunReport) (ended : Option Fault) : Type 0 where
-  pub fault_is : ended ≡ Some fault.Usage
+pub record IsUsage (s : Setting) (before after : Outside) (outcome : Outcome) : Type 0 where
+  pub fault_is : outcome.fault ≡ Some fault.Usage
   pub device : after.device ≡ before.device
   pub source : after.source ≡ before.source
-  pub refuses : Refuses s.sink_tells fault.Usage status report before.sink after.sink
+  pub refuses : Refuses s.sink_tells fault.Usage outcome.status outcome.report before.sink after.sink
 
 -- how a run of what is served ends
-abbrev pub EndsAs : Setting → Option Served → Outside → Outside → ℕ → RunReport → Option Fault → Type 0
-EndsAs s None before after status report ended = IsUsage s before after status report ended
-EndsAs s (Some (served.Script schedule)) before after status report ended = RunsScript s schedule before after status report ended
-EndsAs s (Some (served.Format sizes)) before after status report ended = MakesImage s sizes before after status report ended
-EndsAs s (Some served.Recover) before after status report ended = EndsRecovery s before after status report ended
-EndsAs s (Some served.Audit) before after status report ended = EndsAudit s before after status report ended
-EndsAs s (Some served.Status) before after status report ended = EndsStatus s before after status report ended
+abbrev pub EndsAs : Setting → Option Served → Outside → Outside → Outcome → Type 0
+EndsAs s None before after outcome = IsUsage s before after outcome
+EndsAs s (Some (served.Script schedule)) before after outcome = RunsScript s schedule before after outcome
+EndsAs s (Some (served.Format sizes)) before after outcome = MakesImage s sizes before after outcome
+EndsAs s (Some served.Recover) before after outcome = EndsRecovery s before after outcome
+EndsAs s (Some served.Audit) before after outcome = EndsAudit s before after outcome
+EndsAs s (Some served.Status) before after outcome = EndsStatus s before after outcome
 
 -- how a run of these words ends
-abbrev pub EndsSo : Setting → List (List ℕ) → Outside → Outside → ℕ → RunReport → Option Fault → Type 0
-EndsSo s words before after status report ended = EndsAs s (served_of words) before after status report ended
+abbrev pub EndsSo : Setting → List (List ℕ) → Outside → Outside → Outcome → Type 0
+EndsSo s words before after outcome = EndsAs s (served_of words) before after outcome

@@ -1,7 +1,6 @@
 -- What a session did: a core began over the image that was opened, and a schedule led it to its end.
 use Rattle.std.specs.Prelude.{ℕ, ◌≡◌, ◌++◌, ◌∷◌, [], Bool, List, Some}
 use Rattle.blk_base.specs.declared.geometry.Super.{Super}
-use Rattle.blk_base.specs.declared.journal_entry.Entry.{Entry}
 use Rattle.blk_base.specs.declared.request.Answer.{Answer as Reply}
 use Rattle.blk_base.specs.declared.request.Answer.TheVariants as reply
 use Rattle.blk_base.specs.declared.request.Request.{Request}
@@ -28,24 +27,36 @@ use Rattle.vdo_model.specs.Scripts.{Script, request_at}
 use Rattle.vdo_model.specs.declared.report.DeskLine.TheVariants as line
 use Rattle.vdo_model.specs.declared.report.RunReport.{RunReport}
 use Rattle.vdo_cli.specs.Commands.{run_setup}
+use Rattle.vdo_cli.specs.Openings.{Opening, Trust}
 
 -- the sizes of a session over an image with this superblock, of whose journal so many blocks are used
 abbrev pub run_sizes : Super → ℕ → Sizes
 run_sizes head used = sizes_of run_setup head used
 
--- a session over such an image, with this script: all its data blocks that the window doesn't name are free
-abbrev pub IsOver : Super → List Entry → ℕ → Script → Session → Type 0
-IsOver head window used script s = IsOf s (run_sizes head used) script window (free_of head.geometry window)
+-- what is asked of a session: the requests, over an image that was opened
+pub record Task : Type 0 where
+  pub found : Opening
+  pub script : Script
 
--- A core began with the script over an image with this superblock and window, the turns of a schedule led it to its end, and
--- this is what happened by them, with what was seen of the device before and after.
-pub record IsDriven (tells honest : Bool) (schedule : ℕ) (head : Super) (window : List Entry) (used : ℕ) (script : Script) (trace : Trace) (before after : Seen) : Type 0 where
+abbrev pub task : Opening → Script → Task
+task found script = record { found = found; script = script }
+
+-- a session over that image, with this script: all its data blocks that the window doesn't name are free
+abbrev pub IsOver : Task → Session → Type 0
+IsOver task s =
+    IsOf s (run_sizes task.found.head task.found.used) task.script task.found.window
+    (free_of task.found.head.geometry task.found.window)
+
+-- A core began with the script over the image, the turns of a schedule led it to its end, and this is what happened by
+-- them, with what was seen of the device before and after.
+pub record IsDriven (trust : Trust) (schedule : ℕ) (task : Task) (trace : Trace) (before after : Seen) : Type 0 where
   pub first : List Zone
   pub last : List Zone
-  pub begins : (s : Session) → IsOver head window used script s → IsFirst s (core_with first [])
+  pub begins : (s : Session) → IsOver task s → IsFirst s (core_with first [])
   pub events : List Event
   pub state : ℕ
-  pub drives : Drives tells honest (run_sizes head used) schedule state events first last before after trace
+  pub drives : Drives trust.tells trust.honest (run_sizes task.found.head task.found.used) schedule state events first last
+      before after trace
   pub done : IsDone last
 
 -- an answer that only a failed call of the device explains
@@ -56,14 +67,15 @@ HasFault other = ⊥
 
 -- Of what happened the report tells, and it is right: every request is answered, by the desk log, the places and the
 -- histories that belong to it, and each answer has its cause in what happened before.
-pub record IsReported (head : Super) (window : List Entry) (used : ℕ) (report : RunReport) (trace : Trace) (before after : Seen) : Type 0 where
+pub record IsReported (found : Opening) (report : RunReport) (trace : Trace) (before after : Seen) : Type 0 where
   pub session : Session
-  pub is_over : IsOver head window used report.requests session
+  pub is_over : IsOver (task found report.requests) session
   pub report_is : report ≡ report_of session trace
-  pub run_right : RunRight 1 1 head.geometry.logical (progress_of trace) report.requests report.desk report.places report.histories
+  pub run_right : RunRight 1 1 found.head.geometry.logical (progress_of trace) report.requests report.desk report.places report.histories
   pub causes : (newer older : Trace) (w : Writer) (r : Request) (a : Reply) → trace ≡ newer ++ Says (line.Answer w a) ∷ older
       → request_at report.requests w ≡ Some r → MayAnswer session older w r a
   -- where one answer says that the device failed, its count of faults rose
-  pub faults : (w : Writer) (r : Request) (a : Reply) → request_at report.requests w ≡ Some r → answer_of report.desk w ≡ Some a → HasFault a → Rose before.faults after.faults
+  pub faults : (w : Writer) (r : Request) (a : Reply) → request_at report.requests w ≡ Some r
+      → answer_of report.desk w ≡ Some a → HasFault a → Rose before.faults after.faults
   -- after a write or flush that failed there is no other
   pub stops : StopsAtFailure trace

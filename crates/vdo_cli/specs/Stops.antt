@@ -1,7 +1,6 @@
--- What a run's calls were, in their order with the lines of its desk log, and what a stop at any moment leaves.
-use Rattle.std.specs.Prelude.{ℕ, ◌≡◌, ◌++◌, Bool, IsTrue, List, Ok}
+-- What a run's calls were, in their order with the lines of its desk log, and what a stop leaves.
+use Rattle.std.specs.Prelude.{ℕ, ◌≡◌, ◌++◌, List, Ok}
 use Rattle.blk_base.specs.declared.geometry.Super.{Super}
-use Rattle.blk_base.specs.declared.journal_entry.Entry.{Entry}
 use Rattle.disk_model.specs.declared.call.Call.{Call}
 use Rattle.disk_model.specs.Images.{HasOneImage, IsImage}
 use Rattle.disk_model.specs.Log.{Blocks}
@@ -9,10 +8,8 @@ use Rattle.disk_model.specs.Seen.{Seen}
 use Rattle.disk_model.specs.Since.{OnlyReads}
 use Rattle.core_model.specs.Reports.{GivesValues}
 use Rattle.image_layout.specs.Opened.{super_of_image}
-use Rattle.image_layout.specs.Values.{value_of}
 use Rattle.vdo_model.specs.declared.report.RunReport.{RunReport}
 use Rattle.vdo_model.specs.FlushMarks.{Moment, lines_of, calls_of, AreFlushMarks}
-use Rattle.vdo_model.specs.Stops.{RightAfterStops}
 
 -- an image has this superblock, and a window by which its addresses have these values; whether a run opens it isn't said
 pub record OpensWith (head : Super) (image : Blocks) (values : ℕ → List ℕ) : Type 0 where
@@ -21,7 +18,7 @@ pub record OpensWith (head : Super) (image : Blocks) (values : ℕ → List ℕ)
 
 -- What happened in a run: the superblock and the window were read, and then the session went on, of which these are the
 -- moments.
-pub record Happens (honest : Bool) (head : Super) (window : List Entry) (moments : List Moment) (report : RunReport) (before opened after : Seen) : Type 0 where
+pub record Happens (moments : List Moment) (report : RunReport) (before opened after : Seen) : Type 0 where
   pub earlier : List Call
   pub earlier_is : opened.log ≡ earlier ++ before.log
   pub only_reads : OnlyReads earlier
@@ -33,6 +30,3 @@ pub record Happens (honest : Bool) (head : Super) (window : List Entry) (moments
   pub calls : after.log ≡ calls_of moments ++ opened.log
   -- each flush that was answered Ok has one mark: a flush of the device after it was begun and before it was answered
   pub flushes : AreFlushMarks report.requests moments report.marks
-  -- a stop before or within any of these calls leaves each address a value no older than its last flushed one
-  pub stops : IsTrue honest → (image : Blocks) → HasOneImage before.opening before.log image
-      → RightAfterStops (OpensWith head) before.opening opened.log head.geometry.logical (value_of image window) report (calls_of moments)

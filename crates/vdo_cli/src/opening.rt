@@ -3,7 +3,9 @@ ghost use Rattle.blk_base.specs.Limits.{IsGeometry};
 ghost use Rattle.blk_base.specs.Regions.{needed_blocks};
 ghost use Rattle.disk_model.specs.Since.{IsUntouched, WereRead};
 ghost use Rattle.image_layout.specs.Opened.{IsHead};
-ghost use Rattle.vdo_cli.specs.Openings.{CanServe, IsOpened, OpeningFails, JournalFails, ServingFails};
+ghost use Rattle.vdo_cli.specs.Openings.{
+    CanServe, IsOpened, OpeningFails, JournalFails, ServingFails, opening_of, trust,
+};
 
 use crate::Fault;
 use crate::inspecting::fault_of;
@@ -29,7 +31,8 @@ pub(crate) struct Opened {
 fn read_head<D: Disk>(device: &mut D) -> Result<Super, Fault>
     ensures read { IfOk result (λ head. (first : List ℕ) × IsHead (D.seen device.old).size first head
         × WereRead D.tells D.honest 0 (D.seen device.old) (D.seen device.new) (first ∷ [])) }
-    ensures fault { IfErr result (OpeningFails D.tells D.honest (D.seen device.old) (D.seen device.new)) }
+    ensures fault { IfErr result (OpeningFails (trust D.tells D.honest)
+        (D.seen device.old) (D.seen device.new)) }
     ensures untouched { IsUntouched D.tells (D.seen device.old) (D.seen device.new) }
 {
     let blocks = device.blocks();
@@ -54,8 +57,10 @@ fn read_journal<D: Disk>(
 ) -> Result<Vec<Block>, Fault>
     requires room { needed_blocks layout.now.geometry ≤ (D.seen device.old).size }
     ensures count { IfOk result (λ journal. vec_len journal ≡ layout.now.geometry.journal) }
-    ensures read { IfOk result (λ journal. WereRead D.tells D.honest 1 (D.seen device.old) (D.seen device.new) (reverse journal.items)) }
-    ensures fault { IfErr result (JournalFails D.tells D.honest layout.now.geometry.journal (D.seen device.old) (D.seen device.new)) }
+    ensures read { IfOk result (λ journal. WereRead D.tells D.honest 1
+        (D.seen device.old) (D.seen device.new) (reverse journal.items)) }
+    ensures fault { IfErr result (JournalFails (trust D.tells D.honest) layout.now.geometry.journal
+        (D.seen device.old) (D.seen device.new)) }
     ensures untouched { IsUntouched D.tells (D.seen device.old) (D.seen device.new) }
 {
     let first = layout.journal_slot(0);
@@ -72,7 +77,8 @@ fn serve(alloc: Global, head: Super, journal: &[Block]) -> Result<Opened, Fault>
     requires slots { length journal.now ≡ head.geometry.journal }
     requires some { 1 ≤ head.start }
     requires below { head.start < 2 ^ 54 }
-    ensures serves { IfOk result (λ opened. (opened.head ≡ head) × CanServe head journal.now (reverse opened.window.items) opened.used) }
+    ensures serves { IfOk result (λ opened. (opened.head ≡ head)
+        × CanServe head journal.now (reverse opened.window.items) opened.used) }
     ensures fault { IfErr result (ServingFails head journal.now) }
 {
     let found = match window_of(alloc, &head, journal) {
@@ -86,8 +92,11 @@ fn serve(alloc: Global, head: Super, journal: &[Block]) -> Result<Opened, Fault>
 
 /// Reads the superblock and the window.
 pub(crate) fn open<D: Disk>(alloc: Global, device: &mut D) -> Result<Opened, Fault>
-    ensures opened { IfOk result (λ opened. IsOpened D.tells D.honest (D.seen device.old) (D.seen device.new) opened.head (reverse opened.window.items) opened.used) }
-    ensures fault { IfErr result (OpeningFails D.tells D.honest (D.seen device.old) (D.seen device.new)) }
+    ensures opened { IfOk result (λ opened. IsOpened (trust D.tells D.honest)
+        (D.seen device.old) (D.seen device.new)
+        (opening_of opened.head (reverse opened.window.items) opened.used)) }
+    ensures fault { IfErr result (OpeningFails (trust D.tells D.honest)
+        (D.seen device.old) (D.seen device.new)) }
     ensures untouched { IsUntouched D.tells (D.seen device.old) (D.seen device.new) }
 {
     let head = read_head(device)?;

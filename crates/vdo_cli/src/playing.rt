@@ -6,6 +6,7 @@ ghost use Rattle.stream_text.specs.AnswerRooms.{HasRoomFor};
 ghost use Rattle.stream_text.specs.ReadingBytes.{IsWholeScript};
 ghost use Rattle.stream_text.specs.WholeScript.{first_discard, whole_script};
 ghost use Rattle.vdo_cli.specs.Endings.{Plays, PlayFails, ScriptFails};
+ghost use Rattle.vdo_cli.specs.Outsides.{input_setting, inputs};
 
 use crate::Fault;
 use crate::opening::{Opened, open};
@@ -60,11 +61,12 @@ pub(crate) fn play<R: Wait, D: Disk, S: Source>(
     device: &mut D,
     script: &mut S,
 ) -> Result<Played, Fault>
-    ensures session { IfOk result (λ played. Plays D.tells D.honest S.tells number played.report
-        (D.seen device.old) (D.seen device.new) (S.seen script.old) (S.seen script.new)) }
+    ensures session { IfOk result (λ played. Plays (input_setting D.tells D.honest S.tells)
+        number played.report
+        (inputs (D.seen device.old) (S.seen script.old)) (inputs (D.seen device.new) (S.seen script.new))) }
     ensures room { IfOk result (λ played. HasRoomFor played.room played.report.requests) }
-    ensures fault { IfErr result (PlayFails D.tells D.honest S.tells
-        (D.seen device.old) (D.seen device.new) (S.seen script.old) (S.seen script.new)) }
+    ensures fault { IfErr result (PlayFails (input_setting D.tells D.honest S.tells)
+        (inputs (D.seen device.old) (S.seen script.old)) (inputs (D.seen device.new) (S.seen script.new))) }
     ensures untouched { IfErr result (λ fault. IsUntouched D.tells (D.seen device.old) (D.seen device.new)) }
     ensures later { (S.seen script.old).faults ≤ (S.seen script.new).faults }
 {

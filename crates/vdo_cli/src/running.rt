@@ -3,11 +3,9 @@ ghost use Rattle.stream_text.specs.AnswerRooms.{HasRoomFor};
 ghost use Rattle.command_text.specs.Formats.{formatted_text};
 ghost use Rattle.command_text.specs.Parts.{recovery_text};
 ghost use Rattle.command_text.specs.Statuses.{status_text};
-ghost use Rattle.disk_model.specs.Seen.{Stays};
-ghost use Rattle.image_format.specs.Formats.{StopsAreRight};
 ghost use Rattle.vdo_cli.specs.Inspections.{EndsAudit, EndsStatus, TellsReport};
-ghost use Rattle.vdo_cli.specs.NewImages.{IsMadeOrNot};
-ghost use Rattle.vdo_cli.specs.Outsides.{Refuses, Tells, no_report, outside, setting};
+ghost use Rattle.vdo_cli.specs.NewImages.{MakesImage};
+ghost use Rattle.vdo_cli.specs.Outsides.{Refuses, Tells, no_report, outcome, outside, setting};
 ghost use Rattle.vdo_cli.specs.Recoveries.{EndsRecovery};
 ghost use Rattle.vdo_cli.specs.Runs.{EndsSo, Closes, RunsScript};
 
@@ -57,7 +55,8 @@ fn empty_report(alloc: Global) -> RunReport
 fn refuse<D: Disk, K: Sink>(alloc: Global, fault: Fault, device: D, out: &mut K) -> Ended<D>
     ensures device { result.device ≡ device }
     ensures fault { result.fault ≡ Some fault }
-    ensures refuses { Refuses K.tells fault result.status result.report (K.seen out.old) (K.seen out.new) }
+    ensures refuses { Refuses K.tells fault result.status result.report
+        (K.seen out.old) (K.seen out.new) }
 {
     let status = status_of(&fault);
     // The status is the fault's, whatever becomes of its line.
@@ -75,7 +74,8 @@ fn close<D: Disk, K: Sink>(report: RunReport, room: AnswerRoom, device: D, out: 
     requires { HasRoomFor room report.requests }
     ensures device { result.device ≡ device }
     ensures report { result.report ≡ report }
-    ensures closes { Closes K.tells report result.status result.fault (K.seen out.old) (K.seen out.new) }
+    ensures closes { Closes K.tells report result.status result.fault
+        (K.seen out.old) (K.seen out.new) }
 {
     let lost = has_lost(report.desk.as_slice());
     let full = has_full(report.desk.as_slice());
@@ -98,7 +98,8 @@ fn close<D: Disk, K: Sink>(report: RunReport, room: AnswerRoom, device: D, out: 
 fn tell<D: Disk, K: Sink>(alloc: Global, image: &Formatted, device: D, out: &mut K) -> Ended<D>
     ensures device { result.device ≡ device }
     ensures report { result.report ≡ no_report }
-    ensures tells { Tells K.tells (formatted_text image.now) result.status result.fault (K.seen out.old) (K.seen out.new) }
+    ensures tells { Tells K.tells (formatted_text image.now) result.status result.fault
+        (K.seen out.old) (K.seen out.new) }
 {
     let (status, fault) = match put_formatted(image, out) {
         Ok(()) => (0, None),
@@ -136,7 +137,8 @@ fn tell_recovery<D: Disk, K: Sink>(
 ) -> Ended<D>
     ensures device { result.device ≡ device }
     ensures report { result.report ≡ no_report }
-    ensures tells { Tells K.tells (recovery_text recovery) result.status result.fault (K.seen out.old) (K.seen out.new) }
+    ensures tells { Tells K.tells (recovery_text recovery) result.status result.fault
+        (K.seen out.old) (K.seen out.new) }
 {
     let (status, fault) = match put_recovery(recovery, out) {
         Ok(()) => (0, None),
@@ -155,7 +157,8 @@ fn tell_report<D: Disk, K: Sink>(alloc: Global, report: &Report, device: D, out:
     requires { length report.now.differs.items < 2 ^ 32 }
     ensures device { result.device ≡ device }
     ensures report { result.report ≡ no_report }
-    ensures tells { TellsReport K.tells report.now result.status result.fault (K.seen out.old) (K.seen out.new) }
+    ensures tells { TellsReport K.tells report.now result.status result.fault
+        (K.seen out.old) (K.seen out.new) }
 {
     let differ = report.differs.len() as u32;
     let audit = Audit {
@@ -179,7 +182,8 @@ fn tell_report<D: Disk, K: Sink>(alloc: Global, report: &Report, device: D, out:
 fn tell_status<D: Disk, K: Sink>(alloc: Global, image: &Status, device: D, out: &mut K) -> Ended<D>
     ensures device { result.device ≡ device }
     ensures report { result.report ≡ no_report }
-    ensures tells { Tells K.tells (status_text image.now) result.status result.fault (K.seen out.old) (K.seen out.new) }
+    ensures tells { Tells K.tells (status_text image.now) result.status result.fault
+        (K.seen out.old) (K.seen out.new) }
 {
     let (status, fault) = match put_status(image, out) {
         Ok(()) => (0, None),
@@ -205,7 +209,7 @@ fn run_script<R: Wait, D: Disk, S: Source, K: Sink>(
     ensures { RunsScript (setting D.tells D.honest S.tells K.tells) schedule
         (outside (D.seen device) (S.seen script.old) (K.seen out.old))
         (outside (D.seen result.device) (S.seen script.new) (K.seen out.new))
-        result.status result.report result.fault }
+        (outcome result.status result.report result.fault) }
 {
     let mut device = device;
     match play(rt, alloc, schedule, &mut device, script) {
@@ -215,11 +219,17 @@ fn run_script<R: Wait, D: Disk, S: Source, K: Sink>(
 }
 
 // Makes an empty image of these sizes.
-fn format<D: Disk, K: Sink>(alloc: Global, sizes: &Geometry, device: D, out: &mut K) -> Ended<D>
-    ensures ends { IsMadeOrNot D.tells K.tells sizes.now (D.seen device) (D.seen result.device) result.status result.report result.fault
-        (K.seen out.old) (K.seen out.new) }
-    ensures stays { Stays (D.seen device) (D.seen result.device) }
-    ensures stops { IsTrue D.tells → StopsAreRight sizes.now (D.seen device) (D.seen result.device) }
+fn format<D: Disk, S: Source, K: Sink>(
+    alloc: Global,
+    sizes: &Geometry,
+    device: D,
+    script: &S,
+    out: &mut K,
+) -> Ended<D>
+    ensures { MakesImage (setting D.tells D.honest S.tells K.tells) sizes.now
+        (outside (D.seen device) (S.seen script.now) (K.seen out.old))
+        (outside (D.seen result.device) (S.seen script.now) (K.seen out.new))
+        (outcome result.status result.report result.fault) }
 {
     let mut device = device;
     match make_image(sizes, &mut device) {
@@ -238,7 +248,7 @@ fn recover_device<D: Disk, S: Source, K: Sink>(
     ensures { EndsRecovery (setting D.tells D.honest S.tells K.tells)
         (outside (D.seen device) (S.seen script.now) (K.seen out.old))
         (outside (D.seen result.device) (S.seen script.now) (K.seen out.new))
-        result.status result.report result.fault }
+        (outcome result.status result.report result.fault) }
 {
     let mut device = device;
     match recover_image(alloc, &mut device) {
@@ -257,7 +267,7 @@ fn audit_device<D: Disk, S: Source, K: Sink>(
     ensures { EndsAudit (setting D.tells D.honest S.tells K.tells)
         (outside (D.seen device) (S.seen script.now) (K.seen out.old))
         (outside (D.seen result.device) (S.seen script.now) (K.seen out.new))
-        result.status result.report result.fault }
+        (outcome result.status result.report result.fault) }
 {
     let mut device = device;
     match audit_image(alloc, &mut device) {
@@ -276,7 +286,7 @@ fn status_of_device<D: Disk, S: Source, K: Sink>(
     ensures { EndsStatus (setting D.tells D.honest S.tells K.tells)
         (outside (D.seen device) (S.seen script.now) (K.seen out.old))
         (outside (D.seen result.device) (S.seen script.now) (K.seen out.new))
-        result.status result.report result.fault }
+        (outcome result.status result.report result.fault) }
 {
     let mut device = device;
     match look_at(alloc, &mut device) {
@@ -326,12 +336,12 @@ pub fn run<R: Threads + Wait + Sync, D: Disk + Send + Drop, S: Source, K: Sink, 
     ensures { EndsSo (setting D.tells D.honest S.tells K.tells) words.now
         (outside (D.seen device) (S.seen script.old) (K.seen out.old))
         (outside (D.seen result.device) (S.seen script.new) (K.seen out.new))
-        result.status result.report result.fault }
+        (outcome result.status result.report result.fault) }
 {
     let alloc = words.allocator();
     match words.served() {
         Some(Served::Script(schedule)) => run_script(rt, alloc, schedule, device, script, out),
-        Some(Served::Format(sizes)) => format(alloc, &sizes, device, out),
+        Some(Served::Format(sizes)) => format(alloc, &sizes, device, script, out),
         Some(Served::Recover) => recover_device(alloc, device, script, out),
         Some(Served::Audit) => audit_device(alloc, device, script, out),
         Some(Served::Status) => status_of_device(alloc, device, script, out),

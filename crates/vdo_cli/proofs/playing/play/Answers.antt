@@ -2,6 +2,7 @@ use Rattle.std.proofs.Common.{◌≡◌, reverse, subst, sym}
 use Rattle.stream_text.specs.AnswerRooms.{HasRoomFor}
 use Rattle.vdo_model.specs.Scripts.{Script}
 use Rattle.vdo_cli.specs.Endings.{Plays}
+use Rattle.vdo_cli.specs.Outsides.{input_setting, inputs}
 use Rattle.vdo_cli.proofs.ScriptLaws.{can_begin}
 use Rattle.vdo_cli.proofs.SessionLaws.{played}
 use Rattle.vdo_cli.proofs.playing.play.Goals as goal
@@ -16,8 +17,7 @@ begin-requires g c =
 
 -- what was played, and of which requests
 both : (g : _) (c : goal.After-drop-window-2 g)
-    → Plays g.D.Disk.tells g.D.Disk.honest g.S.Source.tells c.args.number c.report.result (g.D.Disk.seen c.args.device.now) (g.D.Disk.seen c.drive.new.device) (g.S.Source.seen c.args.script.now)
-    (g.S.Source.seen c.read_served.new.script) × (c.report.result.requests ≡ c.in_ok-requests.requests)
+    → Plays (input_setting g.D.Disk.tells g.D.Disk.honest g.S.Source.tells) c.args.number c.report.result (inputs (g.D.Disk.seen c.args.device.now) (g.S.Source.seen c.args.script.now)) (inputs (g.D.Disk.seen c.drive.new.device) (g.S.Source.seen c.read_served.new.script)) × (c.report.result.requests ≡ c.in_ok-requests.requests)
 both g c =
     let disk = g.D.Disk in
     let script = c.in_ok-requests.ensures.script in
