@@ -1,17 +1,18 @@
 -- What is printed of images: for each definition two cases, computed.
-use Rattle.std.specs.Prelude.{◌≡◌, List, [], ◌∷◌, codes, Some, None, refl}
+use Rattle.std.specs.Prelude.{ℕ, ◌≡◌, true, false, List, [], ◌∷◌, codes, Some, None, refl}
 use Rattle.command_text.proofs.Numerals.{numerals}
-use Rattle.command_text.specs.declared.audits.Audit.{Audit}
 use Rattle.audit.specs.declared.forms.Difference.{Difference}
+use Rattle.audit.specs.declared.forms.Report.{Report}
+use Rattle.blk_base.specs.declared.geometry.Geometry.{Geometry}
+use Rattle.image_status.specs.declared.forms.ImageStatus.{ImageStatus}
+use Rattle.rebuild.specs.declared.forms.Recovered.TheVariants.{Clean, Entries}
 use Rattle.command_text.specs.declared.parts.Space.{Space}
-use Rattle.command_text.specs.declared.parts.Recovery.TheVariants.{Clean, Entries}
 use Rattle.command_text.specs.declared.parts.DamagedPlace.TheVariants.{Page, Count}
-use Rattle.command_text.specs.declared.statuses.Mode.TheVariants as mode
 use Rattle.command_text.specs.Parts.{recovered_text, recovery_text, space_pieces, space_text, damaged_text, damage_text}
 use Rattle.command_text.specs.Formats.{slabs_text, formatted_text, layout_line}
 use Rattle.image_layout.specs.declared.fault.Field.TheVariants.{SlabBlocks}
 use Rattle.image_layout.specs.declared.fault.LayoutFault.TheVariants.{TooSmall, LogicalTooLarge, Size, TooLargeToCrash}
-use Rattle.command_text.specs.Audits.{difference_text, verdict_text, audit_text}
+use Rattle.command_text.specs.Audits.{difference_text, verdict_text, findings_text, report_text}
 use Rattle.command_text.specs.Statuses.{mode_text, sizes_text, status_text}
 
 abbrev pub fresh : Space
@@ -60,12 +61,15 @@ one_slab = refl
 pub two_slabs : slabs_text 2 ≡ codes " slabs of "
 two_slabs = refl
 
-pub formatted_one : formatted_text (record { blocks = 154; slabs = 1; slab_blocks = 64; logical = 1000 })
-    ≡ codes "formatted 154 blocks, 1 slab of 64, logical 1000\n"
+-- so many slabs of 64 blocks
+abbrev pub sizes : ℕ → ℕ → Geometry
+sizes slabs logical =
+    record { logical = logical; slabs = slabs; slab_blocks = 64; journal = 8; index = 16; slab_journal = 4; height = 4; nonce = 7 }
+
+pub formatted_one : formatted_text (sizes 1 1000) ≡ codes "formatted 154 blocks, 1 slab of 64, logical 1000\n"
 formatted_one = simp numerals refl
 
-pub formatted_two : formatted_text (record { blocks = 223; slabs = 2; slab_blocks = 64; logical = 2000 })
-    ≡ codes "formatted 223 blocks, 2 slabs of 64, logical 2000\n"
+pub formatted_two : formatted_text (sizes 2 2000) ≡ codes "formatted 223 blocks, 2 slabs of 64, logical 2000\n"
 formatted_two = simp numerals refl
 
 pub layout_too_small : layout_line (TooSmall 154 85) ≡ codes "layout: needs 154 blocks, has 85\n"
@@ -95,31 +99,42 @@ verdict_clean = simp numerals refl
 pub verdict_differs : verdict_text (stray ∷ stray ∷ []) some_used ≡ codes "audit differs 2\n"
 verdict_differs = simp numerals refl
 
-abbrev pub audit_with : List Difference → Audit
-audit_with differences = record { differences = record { ref_ptr = (0, 0); now = differences }; space = some_used }
+pub findings_clean : findings_text [] some_used ≡ codes "audit clean, used 2 of 64\n"
+findings_clean = simp numerals refl
 
-pub audit_clean : audit_text (audit_with []) ≡ codes "audit clean, used 2 of 64\n"
-audit_clean = simp numerals refl
+pub findings_differ : findings_text (stray ∷ []) some_used ≡ codes "block 86 stored 2 mapped 1\naudit differs 1\n"
+findings_differ = simp numerals refl
 
-pub audit_differs : audit_text (audit_with (stray ∷ [])) ≡ codes "block 86 stored 2 mapped 1\naudit differs 1\n"
-audit_differs = simp numerals refl
+pub report_clean : (report : Report) → report.differs.items ≡ [] → report.used ≡ 2 → report.total ≡ 64
+    → report_text report ≡ codes "audit clean, used 2 of 64\n"
+report_clean report none used total = rw (none, used, total) findings_clean
 
-pub mode_clean : mode_text mode.Clean ≡ codes "mode clean\nrecovery none\n"
+pub report_differs : (report : Report) → report.differs.items ≡ stray ∷ []
+    → report_text report ≡ codes "block 86 stored 2 mapped 1\naudit differs 1\n"
+report_differs report one = rw one findings_differ
+
+pub mode_clean : mode_text true 30 ≡ codes "mode clean\nrecovery none\n"
 mode_clean = refl
 
-pub mode_unclean : mode_text (mode.Unclean 0) ≡ codes "mode unclean\nrecovery 0 entries\n"
+pub mode_unclean : mode_text false 0 ≡ codes "mode unclean\nrecovery 0 entries\n"
 mode_unclean = simp numerals refl
 
-pub sizes_fresh : sizes_text 0 fresh 1000 ≡ codes "index 0 chapters\ncompression refused\nused 0 of 64\nlogical 1000\n"
+abbrev pub new_image : ImageStatus
+new_image = record { clean = true; entries = 0; chapters = 0; used = 0; total = 64; logical = 1000 }
+
+abbrev pub used_image : ImageStatus
+used_image = record { clean = false; entries = 30; chapters = 1; used = 2; total = 64; logical = 1000 }
+
+pub sizes_fresh : sizes_text new_image ≡ codes "index 0 chapters\ncompression refused\nused 0 of 64\nlogical 1000\n"
 sizes_fresh = simp numerals refl
 
-pub sizes_used : sizes_text 1 some_used 2000 ≡ codes "index 1 chapters\ncompression refused\nused 2 of 64\nlogical 2000\n"
+pub sizes_used : sizes_text used_image ≡ codes "index 1 chapters\ncompression refused\nused 2 of 64\nlogical 1000\n"
 sizes_used = simp numerals refl
 
-pub status_clean : status_text (record { mode = mode.Clean; chapters = 0; space = fresh; logical = 1000 })
+pub status_clean : status_text new_image
     ≡ codes "mode clean\nrecovery none\nindex 0 chapters\ncompression refused\nused 0 of 64\nlogical 1000\n"
 status_clean = simp numerals refl
 
-pub status_unclean : status_text (record { mode = mode.Unclean 30; chapters = 1; space = some_used; logical = 1000 })
+pub status_unclean : status_text used_image
     ≡ codes "mode unclean\nrecovery 30 entries\nindex 1 chapters\ncompression refused\nused 2 of 64\nlogical 1000\n"
 status_unclean = simp numerals refl

@@ -1,15 +1,17 @@
 -- What is printed of sessions: for each definition two cases, computed.
 use Rattle.std.specs.Prelude.{ℕ, ◌≡◌, List, [], ◌∷◌, ◌++◌, codes, Some, None, refl}
+use Rattle.std.proofs.Common.{ap}
 use Rattle.std.proofs.lemmas.List.{append_assoc, append-nil}
 use Rattle.hex.specs.Hex.{encode_lower}
+use Rattle.audit.specs.declared.forms.Report.{Report}
 use Rattle.blk_base.specs.declared.request.Answer.TheVariants as reply
 use Rattle.blk_base.specs.declared.request.Request.TheVariants.{Flush}
+use Rattle.rebuild.specs.declared.forms.Recovered.TheVariants.{Clean, Entries}
 use Rattle.vdo_model.specs.declared.report.DeskLine.TheVariants.{Begin, Answer}
 use Rattle.stream_text.specs.Texts.{answers_text, writer}
 use Rattle.command_text.proofs.Numerals.{numerals}
 use Rattle.command_text.specs.declared.crashes.AddressValue.{AddressValue}
 use Rattle.command_text.specs.declared.crashes.CrashStop.TheVariants.{Stopped, Ended}
-use Rattle.command_text.specs.declared.parts.Recovery.TheVariants.{Clean, Entries}
 use Rattle.command_text.specs.declared.parts.DamagedPlace.TheVariants.{Count}
 use Rattle.command_text.specs.declared.pieces.Piece.TheVariants as piece
 use Rattle.command_text.specs.declared.runs.RunNotes.{RunNotes}
@@ -17,14 +19,14 @@ use Rattle.command_text.specs.declared.sectors.SectorAnswer.TheVariants as told
 use Rattle.command_text.specs.declared.sectors.SectorAsked.TheVariants as asked
 use Rattle.command_text.specs.declared.sectors.SectorLine.{SectorLine}
 use Rattle.command_text.specs.declared.tallies.Tally.{Tally}
-use Rattle.command_text.specs.Audits.{audit_text}
+use Rattle.command_text.specs.Audits.{report_text}
 use Rattle.command_text.specs.Pieces.{piece_text}
 use Rattle.command_text.specs.Runs.{ending_text, run_text}
 use Rattle.command_text.specs.Tallies.{with_answer, with_line, tally_of}
 use Rattle.command_text.specs.Workloads.{tally_text, summary_text}
 use Rattle.command_text.specs.Crashes.{stop_text, head_text, value_text, values_text, crash_text}
 use Rattle.command_text.specs.Sectors.{placed_text, asked_text, answer_text, line_text, lines_text, sectors_text}
-use Rattle.command_text.proofs.ImageRows.{fresh, some_used, stray, audit_with}
+use Rattle.command_text.proofs.ImageRows.{fresh, some_used, report_clean}
 
 -- the digits of the bytes 97 and 0: `61` and `00`
 abbrev letter : List ℕ
@@ -123,20 +125,30 @@ value_filled = simp (numerals, append_assoc, append-nil) refl
 pub value_of_zeros : value_text (value_at 1000 (0 ∷ 0 ∷ [])) ≡ codes "1000 2*" ++ zeros ++ codes "\n"
 value_of_zeros = simp (numerals, append_assoc, append-nil) refl
 
-pub values_none : values_text [] (audit_with []) ≡ codes "audit clean, used 2 of 64\n"
-values_none = simp numerals refl
+pub values_two : (report : Report) → values_text (value_at 5 (97 ∷ []) ∷ value_at 6 (0 ∷ []) ∷ []) report
+    ≡ (value_text (value_at 5 (97 ∷ [])) ++ (value_text (value_at 6 (0 ∷ [])) ++ [])) ++ report_text report
+values_two report = refl
 
-pub values_two : values_text (value_at 5 (97 ∷ []) ∷ value_at 6 (0 ∷ []) ∷ []) (audit_with (stray ∷ []))
-    ≡ (value_text (value_at 5 (97 ∷ [])) ++ (value_text (value_at 6 (0 ∷ [])) ++ [])) ++ audit_text (audit_with (stray ∷ []))
-values_two = refl
+-- of an audit that found nothing
+module _ (report : Report) (none : report.differs.items ≡ []) (used : report.used ≡ 2) (total : report.total ≡ 64) where
+  pub values_none : values_text [] report ≡ codes "audit clean, used 2 of 64\n"
+  values_none = report_clean report none used total
 
-pub crash_stopped : crash_text (record { stop = Stopped; recovery = Clean; values = record { ref_ptr = (0, 0); now = [] }; audit = audit_with [] })
-    ≡ codes "stopped\nclean\naudit clean, used 2 of 64\n"
-crash_stopped = simp numerals refl
+  pub crash_stopped : crash_text (record {
+    stop = Stopped;
+    recovery = Clean;
+    values = record { ref_ptr = (0, 0); now = [] };
+    audit = record { ref_ptr = (0, 0); now = report };
+  }) ≡ codes "stopped\nclean\naudit clean, used 2 of 64\n"
+  crash_stopped = ap (λ (t : List ℕ). codes "stopped\nclean\n" ++ t) (report_clean report none used total)
 
-pub crash_ended : crash_text (record { stop = Ended; recovery = Entries 1; values = record { ref_ptr = (0, 0); now = value_at 5 (97 ∷ []) ∷ [] }; audit = audit_with [] })
-    ≡ codes "ended\nrecovered 1 entries\n5 1*" ++ letter ++ codes "\naudit clean, used 2 of 64\n"
-crash_ended = simp (numerals, append_assoc, append-nil) refl
+  pub crash_ended : crash_text (record {
+    stop = Ended;
+    recovery = Entries 1;
+    values = record { ref_ptr = (0, 0); now = value_at 5 (97 ∷ []) ∷ [] };
+    audit = record { ref_ptr = (0, 0); now = report };
+  }) ≡ codes "ended\nrecovered 1 entries\n5 1*" ++ letter ++ codes "\naudit clean, used 2 of 64\n"
+  crash_ended = rw (none, used, total) (simp (numerals, append_assoc, append-nil) refl)
 
 pub placed_read : placed_text (writer 0 1) (codes " read ") (record { 0 = 5 }) 2 ≡ codes "0 1 read 5 2 "
 placed_read = simp numerals refl

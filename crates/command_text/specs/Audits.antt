@@ -2,8 +2,8 @@
 use Rattle.std.specs.Prelude.{ℕ, List, [], ◌∷◌, ◌++◌, length, map, codes, decimal}
 use Rattle.std.specs.List.{concat}
 use Rattle.audit.specs.declared.forms.Difference.{Difference}
+use Rattle.audit.specs.declared.forms.Report.{Report}
 use Rattle.command_text.specs.declared.parts.Space.{Space}
-use Rattle.command_text.specs.declared.audits.Audit.{Audit}
 use Rattle.command_text.specs.Parts.{space_text}
 
 -- `block 86 stored 2 mapped 1`
@@ -20,6 +20,10 @@ verdict_text (d ∷ more) space = concat (codes "audit differs " ∷ decimal (le
 abbrev pub findings_text : List Difference → Space → List ℕ
 findings_text differences space = concat (map difference_text differences) ++ verdict_text differences space
 
--- those of an audit
-abbrev pub audit_text : Audit → List ℕ
-audit_text audit = findings_text audit.differences.now audit.space
+-- how much of the space is used, by a report
+abbrev pub space_of : Report → Space
+space_of report = record { used = report.used; total = report.total }
+
+-- those of a report
+abbrev pub report_text : Report → List ℕ
+report_text report = findings_text report.differs.items (space_of report)

@@ -2,9 +2,9 @@
 use Rattle.std.specs.Prelude.{ℕ, List, [], ◌∷◌, codes, decimal, Option, Some, None}
 use Rattle.std.specs.List.{concat}
 use Rattle.blk_base.specs.declared.place.Pbn.{Pbn}
+use Rattle.rebuild.specs.declared.forms.Recovered.{Recovered}
+use Rattle.rebuild.specs.declared.forms.Recovered.TheVariants.{Clean, Entries}
 use Rattle.command_text.specs.declared.parts.Space.{Space}
-use Rattle.command_text.specs.declared.parts.Recovery.{Recovery}
-use Rattle.command_text.specs.declared.parts.Recovery.TheVariants.{Clean, Entries}
 use Rattle.command_text.specs.declared.parts.DamagedPlace.{DamagedPlace}
 use Rattle.command_text.specs.declared.parts.DamagedPlace.TheVariants.{Page, Count}
 
@@ -14,7 +14,7 @@ recovered_text (Some entries) = concat (codes "recovered " ∷ decimal entries �
 recovered_text None = []
 
 -- `clean` or `recovered 30 entries`
-abbrev pub recovery_text : Recovery → List ℕ
+abbrev pub recovery_text : Recovered → List ℕ
 recovery_text Clean = codes "clean\n"
 recovery_text (Entries entries) = recovered_text (Some entries)
 

@@ -1,9 +1,9 @@
 ghost use Rattle.disk_model.specs.Streams.{Puts};
-ghost use Rattle.command_text.specs.Audits.{difference_text, verdict_text, audit_text};
+ghost use Rattle.command_text.specs.Audits.{difference_text, report_text, verdict_text};
 
 use crate::parts::Space;
 use crate::pieces::{Line, Piece, put_lines};
-use audit::Difference;
+use audit::{Difference, Report};
 use disk_model::{Failed, Sink};
 
 impl Line for Difference {
@@ -23,13 +23,6 @@ impl Line for Difference {
             out,
         )
     }
-}
-
-/// What an audit found: each data block that differs, and how much of the space is used.
-#[derive(Clone, Copy, Debug)]
-pub struct Audit<'a> {
-    pub differences: &'a [Difference],
-    pub space: Space,
 }
 
 fn put_verdict<K: Sink>(differences: &[Difference], space: Space, out: &mut K) -> Result<(), Failed>
@@ -63,9 +56,22 @@ fn put_verdict<K: Sink>(differences: &[Difference], space: Space, out: &mut K) -
 
 /// Puts a line `block 86 stored 2 mapped 1` for each block that differs, and then `audit differs 1`; or, where none does,
 /// `audit clean, used 2 of 64`. It fails where the sink fails; then a first part of the text was put.
-pub fn put_audit<K: Sink>(audit: &Audit<'_>, out: &mut K) -> Result<(), Failed>
-    ensures { Puts K.tells (audit_text audit.now) (K.seen out.old) (K.seen out.new) result }
+pub fn put_audit<K: Sink>(report: &Report, out: &mut K) -> Result<(), Failed>
+    ensures { Puts K.tells (report_text report.now) (K.seen out.old) (K.seen out.new) result }
 {
-    put_lines(audit.differences, out)?;
-    put_verdict(audit.differences, audit.space, out)
+    let differences = report.differs.as_slice();
+    let space = Space {
+        used: report.used,
+        total: report.total,
+    };
+    put_lines(differences, out)?;
+    put_verdict(differences, space, out)
+}
+
+impl Line for Report {
+    ghost text = { report_text };
+
+    fn put_to<K: Sink>(&self, out: &mut K) -> Result<(), Failed> {
+        put_audit(self, out)
+    }
 }

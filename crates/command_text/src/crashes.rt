@@ -1,11 +1,13 @@
 ghost use Rattle.disk_model.specs.Streams.{Puts};
 ghost use Rattle.command_text.specs.Crashes.{stop_text, head_text, value_text, values_text, crash_text};
 
-use crate::audits::{Audit, put_audit};
-use crate::parts::{Recovery, put_recovery};
+use crate::audits::put_audit;
+use crate::parts::put_recovery;
 use crate::pieces::{Line, Piece, put_lines};
+use audit::Report;
 use blk_base::{Block, Lba};
 use disk_model::{Failed, Sink};
+use rebuild::Recovered;
 
 /// How a run on a device with a fuse ended.
 #[derive(Clone, Copy, Debug, PartialEq, Eq)]
@@ -43,10 +45,10 @@ impl Line for AddressValue {
 #[derive(Clone, Copy)]
 pub struct Crash<'a> {
     pub stop: CrashStop,
-    pub recovery: Recovery,
+    pub recovery: Recovered,
     /// The values of the addresses of the script below the logical size, rising.
     pub values: &'a [AddressValue],
-    pub audit: Audit<'a>,
+    pub audit: &'a Report,
 }
 
 /// Puts `stopped` or `ended`, the first line of a crash; it is followed by the line of the fault where the picked image has one.
@@ -60,7 +62,7 @@ pub fn put_crash_stop<K: Sink>(stop: CrashStop, out: &mut K) -> Result<(), Faile
     }
 }
 
-fn put_head<K: Sink>(stop: CrashStop, recovery: Recovery, out: &mut K) -> Result<(), Failed>
+fn put_head<K: Sink>(stop: CrashStop, recovery: Recovered, out: &mut K) -> Result<(), Failed>
     ensures { Puts K.tells (head_text stop recovery) (K.seen out.old) (K.seen out.new) result }
 {
     put_crash_stop(stop, out)?;
@@ -69,7 +71,7 @@ fn put_head<K: Sink>(stop: CrashStop, recovery: Recovery, out: &mut K) -> Result
 
 fn put_values<K: Sink>(
     values: &[AddressValue],
-    audit: &Audit<'_>,
+    audit: &Report,
     out: &mut K,
 ) -> Result<(), Failed>
     ensures { Puts K.tells
@@ -86,5 +88,5 @@ pub fn put_crash<K: Sink>(crash: &Crash<'_>, out: &mut K) -> Result<(), Failed>
     ensures { Puts K.tells (crash_text crash.now) (K.seen out.old) (K.seen out.new) result }
 {
     put_head(crash.stop, crash.recovery, out)?;
-    put_values(crash.values, &crash.audit, out)
+    put_values(crash.values, crash.audit, out)
 }

@@ -1,24 +1,16 @@
 ghost use Rattle.disk_model.specs.Streams.{Puts};
 ghost use Rattle.command_text.specs.Parts.{recovery_text, recovered_text, space_text, damaged_text, damage_text};
 
-use crate::pieces::{Piece, put_lines};
+use crate::pieces::{Line, Piece, put_lines};
 use blk_base::Pbn;
 use disk_model::{Failed, Sink};
+use rebuild::Recovered;
 
 /// How many data blocks have a reference, and how many there are.
 #[derive(Clone, Copy, Debug, PartialEq, Eq)]
 pub struct Space {
     pub used: u32,
     pub total: u32,
-}
-
-/// What a recovery found.
-#[derive(Clone, Copy, Debug, PartialEq, Eq)]
-pub enum Recovery {
-    /// The image was clean, and nothing was written.
-    Clean,
-    /// So many entries of the journal were recovered.
-    Entries(u32),
 }
 
 /// What a session found that isn't as a run leaves it.
@@ -31,12 +23,20 @@ pub enum DamagedPlace {
 }
 
 /// Puts `clean`, or `recovered 30 entries`. It fails where the sink fails; then a first part of the line was put.
-pub fn put_recovery<K: Sink>(recovery: Recovery, out: &mut K) -> Result<(), Failed>
+pub fn put_recovery<K: Sink>(recovery: Recovered, out: &mut K) -> Result<(), Failed>
     ensures { Puts K.tells (recovery_text recovery) (K.seen out.old) (K.seen out.new) result }
 {
     match recovery {
-        Recovery::Clean => out.put(b"clean\n"),
-        Recovery::Entries(entries) => put_recovered(Some(entries), out),
+        Recovered::Clean => out.put(b"clean\n"),
+        Recovered::Entries(entries) => put_recovered(Some(entries), out),
+    }
+}
+
+impl Line for Recovered {
+    ghost text = { recovery_text };
+
+    fn put_to<K: Sink>(&self, out: &mut K) -> Result<(), Failed> {
+        put_recovery(*self, out)
     }
 }
 

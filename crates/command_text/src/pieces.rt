@@ -8,7 +8,7 @@ use itoa::Integer;
 use stream_text::put_runs;
 
 /// What has a text of its own.
-pub(crate) trait Line {
+pub trait Line {
     /// Its text.
     ghost text: { Self → List ℕ };
 
@@ -18,7 +18,7 @@ pub(crate) trait Line {
 }
 
 /// Puts the texts of some things, one behind the other.
-pub(crate) fn put_lines<L: Line, K: Sink>(lines: &[L], out: &mut K) -> Result<(), Failed>
+pub fn put_lines<L: Line, K: Sink>(lines: &[L], out: &mut K) -> Result<(), Failed>
     ensures { Puts K.tells
         (concat (map L.text lines.now))
         (K.seen out.old) (K.seen out.new) result }
@@ -38,7 +38,7 @@ fn put_number<I: Integer, K: Sink>(number: I, out: &mut K) -> Result<(), Failed>
 
 /// A part of a line.
 #[derive(Clone, Copy)]
-pub(crate) enum Piece<'a> {
+pub enum Piece<'a> {
     Word(&'a [u8]),
     U8(u8),
     U32(u32),

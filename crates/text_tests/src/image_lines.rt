@@ -1,28 +1,22 @@
 //! What the commands print that look at an image: `format`, `recover`, `audit` and `status`.
-use blk_base::{Pbn, Point};
+use audit::{Difference, Report};
+use blk_base::{Geometry, Layout, Pbn, Point};
 use command_text::{
-    Audit, Difference, Formatted, Mode, Recovery, Space, Status, put_audit, put_formatted,
-    put_image_fault, put_layout_fault, put_recovery, put_status,
+    put_audit, put_formatted, put_image_fault, put_layout_fault, put_recovery, put_status,
 };
 use disk_model::{Failed, MemSink};
 use image_layout::{Field, LayoutFault, SuperFault};
 use image_model::ImageFault;
+use image_status::ImageStatus;
 use page_codec::PageFault;
+use rebuild::Recovered;
+use std::alloc::{AllocError, Global};
 use std::test::Fail;
-
-const IMAGE: Formatted = Formatted {
-    blocks: 154,
-    slabs: 1,
-    slab_blocks: 64,
-    logical: 1000,
-};
-
-const SPACE: Space = Space { used: 2, total: 64 };
 
 #[test]
 fn one_slab_is_formatted(rt: HostRuntime) -> Result<(), Fail> {
     let mut out = MemSink::new(rt.alloc(), 1000)?;
-    let put = put_formatted(&IMAGE, &mut out);
+    let put = put_formatted(&Layout::of(&Geometry::DEFAULT), &mut out);
     assert_eq!(rt;
         (put, out.bytes()),
         (
@@ -36,12 +30,11 @@ fn one_slab_is_formatted(rt: HostRuntime) -> Result<(), Fail> {
 #[test]
 fn two_slabs_are_formatted(rt: HostRuntime) -> Result<(), Fail> {
     let mut out = MemSink::new(rt.alloc(), 30)?;
-    let image = Formatted {
-        blocks: 223,
+    let layout = Layout::of(&Geometry {
         slabs: 2,
-        ..IMAGE
-    };
-    let put = put_formatted(&image, &mut out);
+        ..Geometry::DEFAULT
+    });
+    let put = put_formatted(&layout, &mut out);
     assert_eq!(rt;
         (put, out.bytes()),
         (Err(Failed), b"formatted 223 blocks, 2 slabs ".as_slice())
@@ -138,20 +131,25 @@ no memory
 #[test]
 fn recoveries_are_told(rt: HostRuntime) -> Result<(), Fail> {
     let mut out = MemSink::new(rt.alloc(), 1000)?;
-    put_recovery(Recovery::Clean, &mut out)?;
-    put_recovery(Recovery::Entries(30), &mut out)?;
+    put_recovery(Recovered::Clean, &mut out)?;
+    put_recovery(Recovered::Entries(30), &mut out)?;
     assert_eq!(rt; out.bytes(), b"clean\nrecovered 30 entries\n".as_slice());
     Ok(())
+}
+
+/// A report with these differences, of which two of 64 blocks are used.
+fn report(alloc: Global, differences: &[Difference]) -> Result<Report, AllocError> {
+    Ok(Report {
+        differs: Vec::from_slice(alloc, differences)?,
+        used: 2,
+        total: 64,
+    })
 }
 
 #[test]
 fn an_audit_is_clean(rt: HostRuntime) -> Result<(), Fail> {
     let mut out = MemSink::new(rt.alloc(), 1000)?;
-    let audit = Audit {
-        differences: &[],
-        space: SPACE,
-    };
-    let put = put_audit(&audit, &mut out);
+    let put = put_audit(&report(rt.alloc(), &[])?, &mut out);
     assert_eq!(rt;
         (put, out.bytes()),
         (Ok(()), b"audit clean, used 2 of 64\n".as_slice())
@@ -175,11 +173,7 @@ const DIFFERENCES: [Difference; 2] = [
 #[test]
 fn an_audit_differs(rt: HostRuntime) -> Result<(), Fail> {
     let mut out = MemSink::new(rt.alloc(), 1000)?;
-    let audit = Audit {
-        differences: &DIFFERENCES,
-        space: SPACE,
-    };
-    let put = put_audit(&audit, &mut out);
+    let put = put_audit(&report(rt.alloc(), &DIFFERENCES)?, &mut out);
     assert_eq!(rt;
         (put, out.bytes()),
         (
@@ -197,10 +191,12 @@ audit differs 2
 #[test]
 fn a_clean_image_is_shown(rt: HostRuntime) -> Result<(), Fail> {
     let mut out = MemSink::new(rt.alloc(), 1000)?;
-    let status = Status {
-        mode: Mode::Clean,
+    let status = ImageStatus {
+        clean: true,
+        entries: 0,
         chapters: 0,
-        space: Space { used: 0, total: 64 },
+        used: 0,
+        total: 64,
         logical: 1000,
     };
     let put = put_status(&status, &mut out);
@@ -224,10 +220,12 @@ logical 1000
 #[test]
 fn an_unclean_image_is_shown(rt: HostRuntime) -> Result<(), Fail> {
     let mut out = MemSink::new(rt.alloc(), 50)?;
-    let status = Status {
-        mode: Mode::Unclean { entries: 30 },
+    let status = ImageStatus {
+        clean: false,
+        entries: 30,
         chapters: 1,
-        space: SPACE,
+        used: 2,
+        total: 64,
         logical: 1000,
     };
     let put = put_status(&status, &mut out);

@@ -1,12 +1,13 @@
 //! What the commands print that serve requests: `run`, `workload` and `crash`.
 use crate::reports::{Put, report_of};
+use audit::Report;
 use blk_base::{Answer, Block, Lba, Pbn, Request, Writer};
 use command_text::{
-    AddressValue, Audit, Crash, CrashStop, DamagedPlace, Recovery, RunNotes, SectorAnswer,
-    SectorAsked, SectorLine, Space, Summary, Tally, put_crash, put_crash_stop, put_run,
-    put_sectors, put_summary,
+    AddressValue, Crash, CrashStop, DamagedPlace, RunNotes, SectorAnswer, SectorAsked, SectorLine,
+    Space, Summary, Tally, put_crash, put_crash_stop, put_run, put_sectors, put_summary,
 };
 use disk_model::{Failed, MemSink};
+use rebuild::Recovered;
 use std::alloc::{AllocError, Global};
 use std::test::Fail;
 use stream_text::AnswerRoom;
@@ -187,15 +188,12 @@ used 2 of 64
     Ok(())
 }
 
-fn crash(values: &[AddressValue]) -> Crash<'_> {
+fn crash<'a>(values: &'a [AddressValue], audit: &'a Report) -> Crash<'a> {
     Crash {
         stop: CrashStop::Stopped,
-        recovery: Recovery::Entries(1),
+        recovery: Recovered::Entries(1),
         values,
-        audit: Audit {
-            differences: &[],
-            space: SPACE,
-        },
+        audit,
     }
 }
 
@@ -212,7 +210,12 @@ fn a_crash_is_put(rt: HostRuntime) -> Result<(), Fail> {
             block: filled(0),
         },
     ];
-    let put = put_crash(&crash(&values), &mut out);
+    let audit = Report {
+        differs: Vec::new(rt.alloc()),
+        used: 2,
+        total: 64,
+    };
+    let put = put_crash(&crash(&values, &audit), &mut out);
     assert_eq!(rt;
         (put, out.bytes()),
         (

@@ -15,9 +15,10 @@ use Rattle.image_model.specs.declared.fault.ImageFault.{ImageFault}
 use Rattle.image_model.specs.declared.fault.ImageFault.TheVariants as image
 use Rattle.page_codec.specs.declared.fault.PageFault.{PageFault}
 use Rattle.vdo_model.specs.declared.report.RunReport.{RunReport}
+use Rattle.command_text.specs.Audits.{report_text}
 use Rattle.vdo_cli.specs.declared.fault.Fault.{Fault}
 use Rattle.vdo_cli.specs.declared.fault.Fault.TheVariants as fault
-use Rattle.vdo_cli.specs.Inspections.{OnlyLooks, TellsReport, report_text, space_of, told_as}
+use Rattle.vdo_cli.specs.Inspections.{OnlyLooks, TellsReport, told_as}
 use Rattle.vdo_cli.specs.Outsides.{Outside, no_report, outside}
 use Rattle.vdo_cli.specs.Texts.{fault_status, fault_text}
 use Rattle.vdo_cli.proofs.CommandPins.{audit_words}
@@ -205,13 +206,6 @@ differs-not_silent found count some tells = elim tells.3 [
 -- and a report ends with no other fault
 report-not_an_image_s_fault : (found : Report) (status : ℕ) (why : ImageFault) (held : List ℕ) → TellsReport true found status (Some (fault.Image why)) (sink [] 0) (sink held 0) → ⊥
 report-not_an_image_s_fault found status why held tells = tells.1
-
--- what is told of a report: each block that differs, or how many are used
-space_is_told : (found : Report) → (space_of found).used ≡ found.used
-space_is_told found = refl
-
-all_is_told : (found : Report) → (space_of found).total ≡ found.total
-all_is_told found = refl
 
 -- Told. The image was audited, and its report was put
 module _ (before after : Seen) (found : Report) (audited : IsAudited true false before after found) (untouched : IsUntouched true before after) where

@@ -15,19 +15,12 @@ use Rattle.command_text.specs.Formats.{formatted_text}
 use Rattle.vdo_model.specs.declared.report.RunReport.{RunReport}
 use Rattle.vdo_cli.specs.declared.fault.Fault.{Fault}
 use Rattle.vdo_cli.specs.declared.fault.Fault.TheVariants as fault
-use Rattle.vdo_cli.specs.NewImages.{MakingFails, formatted_as}
+use Rattle.vdo_cli.specs.NewImages.{MakingFails}
 use Rattle.vdo_cli.specs.Outsides.{Outside, no_report, outside}
 use Rattle.vdo_cli.specs.Texts.{fault_text}
 use Rattle.vdo_cli.proofs.CommandPins.{default_sizes, format_words}
 use Rattle.vdo_cli.proofs.PlayPins.{device, source, sink}
 use Rattle.vdo_cli.proofs.RunPins.{Ends, begins, some_report, with}
-
--- what is told of an image, by its sizes: a device of two slabs needs 223 blocks
-two_slabs_are_told : formatted_as (record default_sizes { slabs = 2 }) ≡ record { blocks = 223; slabs = 2; slab_blocks = 64; logical = 1000 }
-two_slabs_are_told = refl
-
-default_is_told : formatted_as default_sizes ≡ record { blocks = 154; slabs = 1; slab_blocks = 64; logical = 1000 }
-default_is_told = refl
 
 -- the device of one block is too small
 abbrev too_small : Fault
@@ -140,7 +133,7 @@ read-never after makes = makes.ends.cause
 
 -- An image was made: its line was put, with status 0;
 abbrev line : List ℕ
-line = formatted_text (formatted_as default_sizes)
+line = formatted_text default_sizes
 
 module _ (before after : Seen) (planned : plan_of default_sizes before.size ≡ Ok tt) (empty : IsTrue true → LeavesEmpty default_sizes before after)
     (stays : Stays before after) (stops : IsTrue true → StopsAreRight default_sizes before after) where

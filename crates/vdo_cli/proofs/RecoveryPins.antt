@@ -13,7 +13,6 @@ use Rattle.image_layout.specs.declared.fault.SuperFault.TheVariants.{NotAnImage}
 use Rattle.image_model.specs.declared.fault.ImageFault.{ImageFault}
 use Rattle.image_model.specs.declared.fault.ImageFault.TheVariants as image
 use Rattle.command_text.specs.Parts.{recovery_text}
-use Rattle.command_text.specs.declared.parts.Recovery.TheVariants as said
 use Rattle.rebuild.proofs.ShownLaws.{recover_last}
 use Rattle.rebuild.specs.Recoveries.{IsRecovery}
 use Rattle.rebuild.specs.declared.forms.Recovered.{Recovered}
@@ -23,19 +22,11 @@ use Rattle.vdo_cli.specs.declared.fault.Fault.{Fault}
 use Rattle.vdo_cli.specs.declared.fault.Fault.TheVariants as fault
 use Rattle.vdo_cli.specs.Inspections.{told_as}
 use Rattle.vdo_cli.specs.Outsides.{Outside, no_report, outside}
-use Rattle.vdo_cli.specs.Recoveries.{told_recovery}
 use Rattle.vdo_cli.specs.Texts.{fault_text}
 use Rattle.vdo_cli.proofs.AuditPins.{bare, begins, looks, no_image, status_in}
 use Rattle.vdo_cli.proofs.CommandPins.{recover_words}
 use Rattle.vdo_cli.proofs.PlayPins.{at, device, source, sink}
 use Rattle.vdo_cli.proofs.RunPins.{Ends, some_report}
-
--- told_recovery: a closed image as such, and else how many entries its window had
-clean_is_told : told_recovery Clean ≡ said.Clean
-clean_is_told = refl
-
-entries_are_told : told_recovery (Entries 30) ≡ said.Entries 30
-entries_are_told = refl
 
 -- Image. There is none, nothing was done,
 refused : IsRecovery true false begins.device begins.device (Err (image.Super NotAnImage))
@@ -166,7 +157,7 @@ clean-not_written ends = elim ends.ends [
   | inr nothing ↦ let same = nothing.fault_is in absurd cc
 ]
   where
-    by_what_was_found : (found : Recovered) → IsRecovery true false begins.device flushed (Ok found) → codes "clean\n" ≡ recovery_text (told_recovery found) → ⊥
+    by_what_was_found : (found : Recovered) → IsRecovery true false begins.device flushed (Ok found) → codes "clean\n" ≡ recovery_text found → ⊥
     by_what_was_found Clean recovery put = not_flushed recovery.answers.3
     by_what_was_found (Entries count) recovery put = let first : ◌≡◌ {A = ℕ} 99 114 = ap first_of put in omega (arith, first)
 
@@ -180,14 +171,14 @@ script-not_failed held status report ended ends = let same = ap (λ (s : SourceS
 
 -- Told. The image was recovered, or had nothing to recover, and the line was put, with status 0;
 module _ (before after : Seen) (found : Recovered) (recovery : IsRecovery true false before after (Ok found)) where
-  told-put : Ends recover_words (outside before (source [] 0) (sink [] 0)) (outside after (source [] 0) (sink (recovery_text (told_recovery found)) 0)) 0 no_report None
+  told-put : Ends recover_words (outside before (source [] 0) (sink [] 0)) (outside after (source [] 0) (sink (recovery_text found) 0)) 0 no_report None
   told-put = record {
     ends = inl (record { found = found; recovery = recovery; report_is = refl; line = (refl, λ told. refl) });
     source = refl;
   }
 
   -- or a part of it, with 7
-  told-part : (n : ℕ) → Ends recover_words (outside before (source [] 0) (sink [] 0)) (outside after (source [] 0) (sink (take n (recovery_text (told_recovery found))) 1)) 7 no_report (Some fault.Sink)
+  told-part : (n : ℕ) → Ends recover_words (outside before (source [] 0) (sink [] 0)) (outside after (source [] 0) (sink (take n (recovery_text found)) 1)) 7 no_report (Some fault.Sink)
   told-part n = record {
     ends = inl (record { found = found; recovery = recovery; report_is = refl; line = (refl, omega arith, λ told. (n, refl)) });
     source = refl;
@@ -211,6 +202,6 @@ told-not_silent before after ends = elim ends.ends [
   | inr nothing ↦ let same = nothing.fault_is in absurd cc
 ]
   where
-    some : (found : Recovered) → [] ≡ recovery_text (told_recovery found) → ⊥
+    some : (found : Recovered) → [] ≡ recovery_text found → ⊥
     some Clean put = let first : ◌≡◌ {A = ℕ} 0 99 = ap first_of put in omega (arith, first)
     some (Entries count) put = let first : ◌≡◌ {A = ℕ} 0 114 = ap first_of put in omega (arith, first)

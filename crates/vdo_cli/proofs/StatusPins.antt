@@ -11,26 +11,15 @@ use Rattle.image_model.specs.declared.fault.ImageFault.TheVariants as image
 use Rattle.image_status.specs.Statuses.{IsStatusRead}
 use Rattle.image_status.specs.declared.forms.ImageStatus.{ImageStatus}
 use Rattle.command_text.specs.Statuses.{status_text}
-use Rattle.command_text.specs.declared.statuses.Mode.TheVariants.{Clean, Unclean}
 use Rattle.vdo_model.specs.declared.report.RunReport.{RunReport}
 use Rattle.vdo_cli.specs.declared.fault.Fault.{Fault}
 use Rattle.vdo_cli.specs.declared.fault.Fault.TheVariants as fault
-use Rattle.vdo_cli.specs.Inspections.{told_status}
 use Rattle.vdo_cli.specs.Outsides.{Outside, no_report, outside}
 use Rattle.vdo_cli.specs.Texts.{fault_text}
 use Rattle.vdo_cli.proofs.AuditPins.{bare, begins, looks, no_image, status_in}
 use Rattle.vdo_cli.proofs.CommandPins.{status_words}
 use Rattle.vdo_cli.proofs.PlayPins.{source, sink}
 use Rattle.vdo_cli.proofs.RunPins.{Ends, some_report}
-
--- told_status: each number is its own; the entries are told where the last session wasn't closed
-each_number_is_told : told_status (record { clean = false; entries = 1; chapters = 2; used = 3; total = 4; logical = 5 })
-    ≡ record { mode = Unclean 1; chapters = 2; space = record { used = 3; total = 4 }; logical = 5 }
-each_number_is_told = refl
-
-clean_is_told : told_status (record { clean = true; entries = 1; chapters = 2; used = 3; total = 4; logical = 5 })
-    ≡ record { mode = Clean; chapters = 2; space = record { used = 3; total = 4 }; logical = 5 }
-clean_is_told = refl
 
 -- Image. There is none, nothing was done, and the line says so
 image-refused : Ends status_words begins (bare [] (7 ∷ []) (fault_text no_image) 0) 4 no_report (Some no_image)
@@ -65,14 +54,14 @@ looks-not_taken held status report ended ends = let same = ap (λ (s : SourceSee
 
 -- Told. The image was looked at, and its lines were put, with status 0;
 module _ (before after : Seen) (found : ImageStatus) (read : IsStatusRead true false before after found) (untouched : IsUntouched true before after) where
-  told-put : Ends status_words (outside before (source [] 0) (sink [] 0)) (outside after (source [] 0) (sink (status_text (told_status found)) 0)) 0 no_report None
+  told-put : Ends status_words (outside before (source [] 0) (sink [] 0)) (outside after (source [] 0) (sink (status_text found) 0)) 0 no_report None
   told-put = record {
     ends = inl (record { found = found; read = read; report_is = refl; told = (refl, λ told. refl) });
     looks = record { untouched = untouched; source = refl };
   }
 
   -- or a part of them, with 7
-  told-part : (n : ℕ) → Ends status_words (outside before (source [] 0) (sink [] 0)) (outside after (source [] 0) (sink (take n (status_text (told_status found))) 1)) 7 no_report (Some fault.Sink)
+  told-part : (n : ℕ) → Ends status_words (outside before (source [] 0) (sink [] 0)) (outside after (source [] 0) (sink (take n (status_text found)) 1)) 7 no_report (Some fault.Sink)
   told-part n = record {
     ends = inl (record { found = found; read = read; report_is = refl; told = (refl, omega arith, λ told. (n, refl)) });
     looks = record { untouched = untouched; source = refl };

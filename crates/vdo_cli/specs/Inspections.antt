@@ -1,12 +1,9 @@
 -- How the commands end that look at an image: of what was read, and with nothing written.
-use Rattle.std.specs.Prelude.{ℕ, ◌≡◌, ◌⊎◌, ◌≤◌, Bool, List, [], length, Option, Some, if◌then◌else◌}
+use Rattle.std.specs.Prelude.{ℕ, ◌≡◌, ◌⊎◌, ◌≤◌, Bool, List, [], length, Option, Some}
 use Rattle.audit.specs.Audits.{AuditFails, IsAudited}
 use Rattle.audit.specs.declared.forms.Report.{Report}
-use Rattle.command_text.specs.Audits.{findings_text}
+use Rattle.command_text.specs.Audits.{report_text}
 use Rattle.command_text.specs.Statuses.{status_text}
-use Rattle.command_text.specs.declared.parts.Space.{Space}
-use Rattle.command_text.specs.declared.statuses.Mode.TheVariants.{Clean, Unclean}
-use Rattle.command_text.specs.declared.statuses.Status.{Status}
 use Rattle.disk_model.specs.Since.{IsUntouched}
 use Rattle.disk_model.specs.Streams.{SinkSeen}
 use Rattle.image_model.specs.declared.fault.ImageFault.{ImageFault}
@@ -40,14 +37,6 @@ pub record OnlyLooks (s : Setting) (before after : Outside) : Type 0 where
 
 -- The audit.
 
--- how much of the space is used, by a report
-abbrev pub space_of : Report → Space
-space_of report = record { used = report.used; total = report.total }
-
--- what is told of a report
-abbrev pub report_text : Report → List ℕ
-report_text report = findings_text report.differs.items (space_of report)
-
 -- its text is put: where blocks differ, with status 6 and their number, also where the sink failed; else with status 0, or
 -- with 7 where the sink failed
 abbrev pub TellsReport : Bool → Report → ℕ → Option Fault → SinkSeen → SinkSeen → Type 0
@@ -71,21 +60,12 @@ pub record EndsAudit (s : Setting) (before after : Outside) (outcome : Outcome) 
 
 -- The status.
 
--- what is told of an image: of one whose last session was closed, no entries
-abbrev pub told_status : ImageStatus → Status
-told_status found = record {
-  mode = if found.clean then Clean else Unclean found.entries;
-  chapters = found.chapters;
-  space = record { used = found.used; total = found.total };
-  logical = found.logical;
-}
-
 -- the image was looked at, and its status was put, or a part of it and the sink failed
 pub record IsStatusTold (s : Setting) (before after : Outside) (outcome : Outcome) : Type 0 where
   pub found : ImageStatus
   pub read : IsStatusRead s.device.tells s.device.honest before.device after.device found
   pub report_is : outcome.report ≡ no_report
-  pub told : Tells s.sink_tells (status_text (told_status found)) outcome.status outcome.fault before.sink after.sink
+  pub told : Tells s.sink_tells (status_text found) outcome.status outcome.fault before.sink after.sink
 
 -- how a status ends
 pub record EndsStatus (s : Setting) (before after : Outside) (outcome : Outcome) : Type 0 where

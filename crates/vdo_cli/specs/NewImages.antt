@@ -1,28 +1,22 @@
 -- How the making of an image ends.
 use Rattle.std.specs.Prelude.{ℕ, ◌≡◌, Bool, IsTrue, List, Option, Some, None, Ok}
-use Rattle.blk_base.specs.Regions.{needed_blocks}
 use Rattle.blk_base.specs.declared.geometry.Geometry.{Geometry}
 use Rattle.disk_model.specs.Seen.{Seen, Stays}
 use Rattle.image_format.specs.Formats.{FormatFails, LeavesEmpty, StopsAreRight}
 use Rattle.image_format.specs.declared.fault.FormatFault.TheVariants as format
 use Rattle.image_layout.specs.Planning.{plan_of}
 use Rattle.command_text.specs.Formats.{formatted_text}
-use Rattle.command_text.specs.declared.formats.Formatted.{Formatted}
 use Rattle.vdo_model.specs.declared.report.RunReport.{RunReport}
 use Rattle.vdo_cli.specs.declared.fault.Fault.{Fault}
 use Rattle.vdo_cli.specs.declared.fault.Fault.TheVariants as fault
 use Rattle.vdo_cli.specs.Outsides.{Outcome, Outside, Refuses, Setting, Tells, no_report}
-
--- what is told of an image of these sizes
-abbrev pub formatted_as : Geometry → Formatted
-formatted_as g = record { blocks = needed_blocks g; slabs = g.slabs; slab_blocks = g.slab_blocks; logical = g.logical }
 
 -- an image of these sizes was made, and its line was put
 pub record IsMade (s : Setting) (g : Geometry) (before after : Outside) (outcome : Outcome) : Type 0 where
   pub planned : plan_of g before.device.size ≡ Ok tt
   pub image : IsTrue s.device.tells → LeavesEmpty g before.device after.device
   pub report_is : outcome.report ≡ no_report
-  pub line : Tells s.sink_tells (formatted_text (formatted_as g)) outcome.status outcome.fault before.sink after.sink
+  pub line : Tells s.sink_tells (formatted_text g) outcome.status outcome.fault before.sink after.sink
 
 -- why none was made: the sizes can't be had, and then no call was made; or a call failed
 abbrev pub MakingFails : Bool → Geometry → Seen → Seen → Fault → Type 0

@@ -1,24 +1,15 @@
 ghost use Rattle.std.specs.Prelude.{◌≡◌, ◌++◌, codes, decimal, reverse};
 ghost use Rattle.disk_model.specs.Streams.{Puts};
+ghost use Rattle.vdo_cli.specs.Inspections.{told_as};
 ghost use Rattle.vdo_cli.specs.Texts.{fault_text, fault_status, differs_line, line_fault_text, lost_line, full_line, some_lost, some_full};
 
 use crate::Fault;
 use blk_base::Answer;
-use command_text::{put_image_fault, put_layout_fault};
+use command_text::{Piece, put_image_fault, put_layout_fault, put_lines};
 use disk_model::{Failed, Sink};
+use image_model::ImageFault;
 use stream_text::LineFault;
 use vdo_model::DeskLine;
-
-// Puts three pieces of a text.
-fn put_three<K: Sink>(out: &mut K, first: &[u8], second: &[u8], third: &[u8]) -> Result<(), Failed>
-    ensures { Puts K.tells
-        (first.now ++ (second.now ++ third.now))
-        (K.seen out.old) (K.seen out.new) result }
-{
-    out.put(first)?;
-    out.put(second)?;
-    out.put(third)
-}
 
 // What the line of a script's fault ends with.
 fn script_fault_end(fault: LineFault) -> &'static [u8]
@@ -41,20 +32,27 @@ fn put_script_line<K: Sink>(line: u64, end: &[u8], out: &mut K) -> Result<(), Fa
         (codes "script line " ++ decimal line ++ end.now)
         (K.seen out.old) (K.seen out.new) result }
 {
-    let mut buffer = itoa::Buffer::new();
-    put_three(out, b"script line ", buffer.format(line).as_bytes(), end)
+    put_lines(
+        &[
+            Piece::Word(b"script line "),
+            Piece::U64(line),
+            Piece::Word(end),
+        ],
+        out,
+    )
 }
 
 // Puts how many blocks differ.
 fn put_differs<K: Sink>(count: u32, out: &mut K) -> Result<(), Failed>
     ensures { Puts K.tells (differs_line count) (K.seen out.old) (K.seen out.new) result }
 {
-    let mut buffer = itoa::Buffer::new();
-    put_three(
+    put_lines(
+        &[
+            Piece::Word(b"audit differs "),
+            Piece::U32(count),
+            Piece::Word(b"\n"),
+        ],
         out,
-        b"audit differs ",
-        buffer.format(count).as_bytes(),
-        b"\n",
     )
 }
 
@@ -75,6 +73,17 @@ pub fn put_fault<K: Sink>(fault: &Fault, out: &mut K) -> Result<(), Failed>
         Fault::Sink => b"",
     };
     out.put(line)
+}
+
+/// The fault of a run for that of an image.
+pub(crate) fn fault_of(why: ImageFault) -> Fault
+    ensures { result ≡ told_as why }
+{
+    match why {
+        ImageFault::Device => Fault::Device,
+        ImageFault::Memory => Fault::Memory,
+        other => Fault::Image(other),
+    }
 }
 
 /// The status of a fault.

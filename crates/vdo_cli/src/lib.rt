@@ -21,13 +21,11 @@
 mod adapters;
 mod ending;
 mod fault;
-mod inspecting;
 mod laws;
 mod making;
 mod mapped;
 mod opening;
 mod playing;
-mod recovering;
 mod running;
 mod words;
 

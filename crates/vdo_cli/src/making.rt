@@ -2,30 +2,27 @@ ghost use Rattle.std.specs.Prelude.{◌≡◌, IfOk, IfErr, IsTrue, Ok};
 ghost use Rattle.disk_model.specs.Seen.{Stays};
 ghost use Rattle.image_format.specs.Formats.{LeavesEmpty, StopsAreRight};
 ghost use Rattle.image_layout.specs.Planning.{plan_of};
-ghost use Rattle.vdo_cli.specs.NewImages.{MakingFails, formatted_as};
+ghost use Rattle.vdo_cli.specs.NewImages.{MakingFails};
 
 use crate::Fault;
-use blk_base::Geometry;
-use command_text::Formatted;
+use blk_base::{Geometry, Layout};
 use disk_model::Disk;
 use image_format::{FormatFault, format};
 
-/// Makes an empty image of these sizes on the device, and gives what is told of it.
-pub(crate) fn make_image<D: Disk>(sizes: &Geometry, device: &mut D) -> Result<Formatted, Fault>
-    ensures made { IfOk result (λ image. image ≡ formatted_as sizes.now) }
+/// Makes an empty image of these sizes on the device, and gives its layout.
+pub(crate) fn make_image<D: Disk>(sizes: &Geometry, device: &mut D) -> Result<Layout, Fault>
+    ensures made { IfOk result (λ image. image.geometry ≡ sizes.now) }
     ensures planned { IfOk result (λ image. plan_of sizes.now (D.seen device.old).size ≡ Ok tt) }
-    ensures empty { IfOk result (λ image. IsTrue D.tells → LeavesEmpty sizes.now (D.seen device.old) (D.seen device.new)) }
-    ensures fault { IfErr result (MakingFails D.tells sizes.now (D.seen device.old) (D.seen device.new)) }
+    ensures empty { IfOk result (λ image.
+        IsTrue D.tells → LeavesEmpty sizes.now (D.seen device.old) (D.seen device.new)) }
+    ensures fault { IfErr result
+        (MakingFails D.tells sizes.now (D.seen device.old) (D.seen device.new)) }
     ensures stays { Stays (D.seen device.old) (D.seen device.new) }
-    ensures stops { IsTrue D.tells → StopsAreRight sizes.now (D.seen device.old) (D.seen device.new) }
+    ensures stops { IsTrue D.tells
+        → StopsAreRight sizes.now (D.seen device.old) (D.seen device.new) }
 {
     match format(sizes, device) {
-        Ok(layout) => Ok(Formatted {
-            blocks: layout.needed(),
-            slabs: sizes.slabs,
-            slab_blocks: sizes.slab_blocks,
-            logical: sizes.logical,
-        }),
+        Ok(layout) => Ok(layout),
         Err(FormatFault::Layout(why)) => Err(Fault::Layout(why)),
         Err(FormatFault::Device) => Err(Fault::Device),
     }

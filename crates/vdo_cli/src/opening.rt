@@ -8,7 +8,7 @@ ghost use Rattle.vdo_cli.specs.Openings.{
 };
 
 use crate::Fault;
-use crate::inspecting::fault_of;
+use crate::ending::fault_of;
 use crate::mapped::mapped_entries;
 use blk_base::{Block, Entry, Layout, Pbn, Super};
 use disk_model::{Disk, ReadError, read_block, read_blocks};

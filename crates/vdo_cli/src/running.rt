@@ -1,27 +1,22 @@
 ghost use Rattle.std.specs.Prelude.{◌≡◌, ◌<◌, ◌^◌, Some, None, IsTrue, length};
 ghost use Rattle.stream_text.specs.AnswerRooms.{HasRoomFor};
-ghost use Rattle.command_text.specs.Formats.{formatted_text};
-ghost use Rattle.command_text.specs.Parts.{recovery_text};
-ghost use Rattle.command_text.specs.Statuses.{status_text};
 ghost use Rattle.vdo_cli.specs.Inspections.{EndsAudit, EndsStatus, TellsReport};
 ghost use Rattle.vdo_cli.specs.NewImages.{MakesImage};
 ghost use Rattle.vdo_cli.specs.Outsides.{Refuses, Tells, no_report, outcome, outside, setting};
 ghost use Rattle.vdo_cli.specs.Recoveries.{EndsRecovery};
 ghost use Rattle.vdo_cli.specs.Runs.{EndsSo, Closes, RunsScript};
 
-use crate::ending::{has_full, has_lost, put_fault, status_of};
-use crate::inspecting::{audit_image, look_at};
+use crate::ending::{fault_of, has_full, has_lost, put_fault, status_of};
 use crate::making::make_image;
 use crate::playing::{Played, play};
-use crate::recovering::recover_image;
 use crate::words::Served;
 use crate::{Fault, Words};
-use audit::Report;
+use audit::{Report, audit};
 use blk_base::Geometry;
-use command_text::{
-    Audit, Formatted, Recovery, Space, Status, put_audit, put_formatted, put_recovery, put_status,
-};
+use command_text::{Line, put_audit};
 use disk_model::{Disk, Sink, Source, ZoneGate};
+use image_status::read_status;
+use rebuild::recover;
 use std::alloc::Global;
 use std::sync::Wait;
 use std::thread::Threads;
@@ -51,6 +46,21 @@ fn empty_report(alloc: Global) -> RunReport
     }
 }
 
+// A command that ended so, without a session.
+fn end_with<D: Disk>(alloc: Global, status: u8, fault: Option<Fault>, device: D) -> Ended<D>
+    ensures status { result.status ≡ status }
+    ensures fault { result.fault ≡ fault }
+    ensures report { result.report ≡ no_report }
+    ensures device { result.device ≡ device }
+{
+    Ended {
+        status,
+        fault,
+        report: empty_report(alloc),
+        device,
+    }
+}
+
 // Puts a fault's line.
 fn refuse<D: Disk, K: Sink>(alloc: Global, fault: Fault, device: D, out: &mut K) -> Ended<D>
     ensures device { result.device ≡ device }
@@ -58,15 +68,9 @@ fn refuse<D: Disk, K: Sink>(alloc: Global, fault: Fault, device: D, out: &mut K)
     ensures refuses { Refuses K.tells fault result.status result.report
         (K.seen out.old) (K.seen out.new) }
 {
-    let status = status_of(&fault);
     // The status is the fault's, whatever becomes of its line.
     let _put = put_fault(&fault, out);
-    Ended {
-        status,
-        fault: Some(fault),
-        report: empty_report(alloc),
-        device,
-    }
+    end_with(alloc, status_of(&fault), Some(fault), device)
 }
 
 // Puts the answers of a session.
@@ -94,61 +98,21 @@ fn close<D: Disk, K: Sink>(report: RunReport, room: AnswerRoom, device: D, out: 
     }
 }
 
-// Puts the line of an image that was made.
-fn tell<D: Disk, K: Sink>(alloc: Global, image: &Formatted, device: D, out: &mut K) -> Ended<D>
-    ensures device { result.device ≡ device }
-    ensures report { result.report ≡ no_report }
-    ensures tells { Tells K.tells (formatted_text image.now) result.status result.fault
-        (K.seen out.old) (K.seen out.new) }
-{
-    let (status, fault) = match put_formatted(image, out) {
-        Ok(()) => (0, None),
-        Err(_) => (7, Some(Fault::Sink)),
-    };
-    Ended {
-        status,
-        fault,
-        report: empty_report(alloc),
-        device,
-    }
-}
-
-// A command that ended so, without a session.
-fn end_with<D: Disk>(alloc: Global, status: u8, fault: Option<Fault>, device: D) -> Ended<D>
-    ensures status { result.status ≡ status }
-    ensures fault { result.fault ≡ fault }
-    ensures report { result.report ≡ no_report }
-    ensures device { result.device ≡ device }
-{
-    Ended {
-        status,
-        fault,
-        report: empty_report(alloc),
-        device,
-    }
-}
-
-// Puts the line of a recovery.
-fn tell_recovery<D: Disk, K: Sink>(
+// Puts what was found.
+fn tell<L: Line, D: Disk, K: Sink>(
     alloc: Global,
-    recovery: Recovery,
+    found: &L,
     device: D,
     out: &mut K,
 ) -> Ended<D>
     ensures device { result.device ≡ device }
     ensures report { result.report ≡ no_report }
-    ensures tells { Tells K.tells (recovery_text recovery) result.status result.fault
+    ensures tells { Tells K.tells (L.text found.now) result.status result.fault
         (K.seen out.old) (K.seen out.new) }
 {
-    let (status, fault) = match put_recovery(recovery, out) {
-        Ok(()) => (0, None),
-        Err(_) => (7, Some(Fault::Sink)),
-    };
-    Ended {
-        status,
-        fault,
-        report: empty_report(alloc),
-        device,
+    match found.put_to(out) {
+        Ok(()) => end_with(alloc, 0, None, device),
+        Err(_) => end_with(alloc, 7, Some(Fault::Sink), device),
     }
 }
 
@@ -161,40 +125,11 @@ fn tell_report<D: Disk, K: Sink>(alloc: Global, report: &Report, device: D, out:
         (K.seen out.old) (K.seen out.new) }
 {
     let differ = report.differs.len() as u32;
-    let audit = Audit {
-        differences: &report.differs,
-        space: Space {
-            used: report.used,
-            total: report.total,
-        },
-    };
-    let put = put_audit(&audit, out);
-    if differ > 0 {
-        return end_with(alloc, 6, Some(Fault::Differs(differ)), device);
+    if differ == 0 {
+        return tell(alloc, report, device, out);
     }
-    match put {
-        Ok(()) => end_with(alloc, 0, None, device),
-        Err(_) => end_with(alloc, 7, Some(Fault::Sink), device),
-    }
-}
-
-// Puts an image's status.
-fn tell_status<D: Disk, K: Sink>(alloc: Global, image: &Status, device: D, out: &mut K) -> Ended<D>
-    ensures device { result.device ≡ device }
-    ensures report { result.report ≡ no_report }
-    ensures tells { Tells K.tells (status_text image.now) result.status result.fault
-        (K.seen out.old) (K.seen out.new) }
-{
-    let (status, fault) = match put_status(image, out) {
-        Ok(()) => (0, None),
-        Err(_) => (7, Some(Fault::Sink)),
-    };
-    Ended {
-        status,
-        fault,
-        report: empty_report(alloc),
-        device,
-    }
+    let _put = put_audit(report, out);
+    end_with(alloc, 6, Some(Fault::Differs(differ)), device)
 }
 
 // Serves a script by the schedule of this number.
@@ -233,7 +168,7 @@ fn format<D: Disk, S: Source, K: Sink>(
 {
     let mut device = device;
     match make_image(sizes, &mut device) {
-        Ok(image) => tell(alloc, &image, device, out),
+        Ok(layout) => tell(alloc, &layout, device, out),
         Err(fault) => refuse(alloc, fault, device, out),
     }
 }
@@ -251,9 +186,9 @@ fn recover_device<D: Disk, S: Source, K: Sink>(
         (outcome result.status result.report result.fault) }
 {
     let mut device = device;
-    match recover_image(alloc, &mut device) {
-        Ok(recovery) => tell_recovery(alloc, recovery, device, out),
-        Err(fault) => refuse(alloc, fault, device, out),
+    match recover(alloc, &mut device) {
+        Ok(recovered) => tell(alloc, &recovered, device, out),
+        Err(why) => refuse(alloc, fault_of(why), device, out),
     }
 }
 
@@ -270,9 +205,9 @@ fn audit_device<D: Disk, S: Source, K: Sink>(
         (outcome result.status result.report result.fault) }
 {
     let mut device = device;
-    match audit_image(alloc, &mut device) {
+    match audit(alloc, &mut device) {
         Ok(report) => tell_report(alloc, &report, device, out),
-        Err(fault) => refuse(alloc, fault, device, out),
+        Err(why) => refuse(alloc, fault_of(why), device, out),
     }
 }
 
@@ -289,9 +224,9 @@ fn status_of_device<D: Disk, S: Source, K: Sink>(
         (outcome result.status result.report result.fault) }
 {
     let mut device = device;
-    match look_at(alloc, &mut device) {
-        Ok(status) => tell_status(alloc, &status, device, out),
-        Err(fault) => refuse(alloc, fault, device, out),
+    match read_status(alloc, &mut device) {
+        Ok(status) => tell(alloc, &status, device, out),
+        Err(why) => refuse(alloc, fault_of(why), device, out),
     }
 }
 

@@ -15,10 +15,10 @@ returns-in-Ok g c = rw c.tell_report.ensures.device (record {
 pub returns-in-Err : goal.returns-in-Err
 returns-in-Err g c = rw (c.refuse.ensures.device, c.refuse.ensures.fault) (record {
   ends = inr (record {
-    why = c.in-Err.ensures.fault.0;
-    fault_is = ap Some c.in-Err.ensures.fault.1;
-    cause = c.in-Err.ensures.fault.2;
-    refuses = rw c.in-Err.ensures.fault.1 at c.refuse.ensures.refuses;
+    why = c.in-Err.why;
+    fault_is = ap Some c.fault_of.ensures;
+    cause = c.in-Err.ensures.fault;
+    refuses = rw c.fault_of.ensures at c.refuse.ensures.refuses;
   });
   looks = record { untouched = c.in-Err.ensures.untouched; source = refl };
 })
