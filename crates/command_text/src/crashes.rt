@@ -69,11 +69,7 @@ fn put_head<K: Sink>(stop: CrashStop, recovery: Recovered, out: &mut K) -> Resul
     put_recovery(recovery, out)
 }
 
-fn put_values<K: Sink>(
-    values: &[AddressValue],
-    audit: &Report,
-    out: &mut K,
-) -> Result<(), Failed>
+fn put_values<K: Sink>(values: &[AddressValue], audit: &Report, out: &mut K) -> Result<(), Failed>
     ensures { Puts K.tells
         (values_text values.now audit.now)
         (K.seen out.old) (K.seen out.new) result }

@@ -21,7 +21,9 @@ fn slabs_word(slabs: u32) -> &'static [u8]
 /// `formatted 154 blocks, 1 slab of 64, logical 1000`; with any other number of slabs it is `2 slabs of 64`. It fails
 /// where the sink fails; then a first part of the line was put.
 pub fn put_formatted<K: Sink>(image: &Layout, out: &mut K) -> Result<(), Failed>
-    ensures { Puts K.tells (formatted_text image.now.geometry) (K.seen out.old) (K.seen out.new) result }
+    ensures { Puts K.tells
+        (formatted_text image.now.geometry)
+        (K.seen out.old) (K.seen out.new) result }
 {
     let blocks = image.needed();
     let sizes = image.geometry;

@@ -8,4 +8,5 @@ pub mod LineGrammar
 pub mod StreamRows
 pub mod WholeScript
 pub mod ReadingBytes
+pub mod ReadingState
 pub mod Workloads

@@ -56,7 +56,8 @@ fn add_asked(streams: &mut Streams, count: u64, asked: Asked) -> Result<LineAdde
     requires few { count ≤ 65536 }
     requires stream { stream_asked asked < 16 }
     ensures rows { length streams.new ≡ 16 }
-    ensures ok { IfOk result (λ added. IsAdded (with_asked streams.old (Ok asked)) streams.new added.count) }
+    ensures ok { IfOk result (λ added.
+        IsAdded (with_asked streams.old (Ok asked)) streams.new added.count) }
     ensures discards { IfOk result (λ added. added.discards ≡ is_discards asked) }
     ensures stopped { IfErr result (λ stop. StopsLine stop (with_asked streams.old (Ok asked))) }
 {
@@ -81,7 +82,8 @@ pub(crate) fn add_line(
     requires counted { count ≡ count_of streams.old }
     requires few { count ≤ 65536 }
     ensures rows { length streams.new ≡ 16 }
-    ensures ok { IfOk result (λ added. IsAdded (after_text streams.old text.now) streams.new added.count) }
+    ensures ok { IfOk result (λ added.
+        IsAdded (after_text streams.old text.now) streams.new added.count) }
     ensures discards { IfOk result (λ added. added.discards ≡ asks_discard text.now) }
     ensures stopped { IfErr result (λ stop. StopsLine stop (after_text streams.old text.now)) }
 {

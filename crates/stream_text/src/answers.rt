@@ -63,7 +63,8 @@ fn put_noted<K: Sink>(
 ) -> Result<(), Failed>
     requires { NotesAnswer desk.now (reverse desk.now) (writer stream number) noted }
     ensures { Puts K.tells
-        (line_text (writer stream number) request.now (answer_of (reverse desk.now) (writer stream number)) place)
+        (line_text (writer stream number) request.now
+        (answer_of (reverse desk.now) (writer stream number)) place)
         (K.seen out.old) (K.seen out.new) result }
 {
     let Some(at) = noted else {

@@ -70,7 +70,9 @@ fn of_three(stream: &[u8], command: &[u8], address: &[u8]) -> Result<Asked, Line
 }
 
 fn write_of(stream: &[u8], address: &[u8], runs: &[u8]) -> Result<Asked, LineFault>
-    ensures asked { result ≡ write_asked (both_of (stream_number stream.now) (both_of (address_number address.now) (block_of_word runs.now))) }
+    ensures asked { result ≡ write_asked (both_of
+        (stream_number stream.now)
+        (both_of (address_number address.now) (block_of_word runs.now))) }
     ensures stream { IfOk result (λ asked. stream_asked asked < 16) }
 {
     let named = both(address_of(address), block_of(runs));
@@ -85,7 +87,9 @@ fn write_of(stream: &[u8], address: &[u8], runs: &[u8]) -> Result<Asked, LineFau
 }
 
 fn discard_of(stream: &[u8], address: &[u8], count: &[u8]) -> Result<Asked, LineFault>
-    ensures asked { result ≡ discard_asked (both_of (stream_number stream.now) (extent_of (both_of (address_number address.now) (count_number count.now)))) }
+    ensures asked { result ≡ discard_asked (both_of
+        (stream_number stream.now)
+        (extent_of (both_of (address_number address.now) (count_number count.now)))) }
     ensures stream { IfOk result (λ asked. stream_asked asked < 16) }
 {
     let (stream, (at, last)) = both(stream_of(stream), extent(address, count))?;
@@ -93,7 +97,8 @@ fn discard_of(stream: &[u8], address: &[u8], count: &[u8]) -> Result<Asked, Line
 }
 
 fn of_four(stream: &[u8], command: &[u8], address: &[u8], last: &[u8]) -> Result<Asked, LineFault>
-    ensures asked { result ≡ asked_of_words (stream.now ∷ command.now ∷ address.now ∷ last.now ∷ []) }
+    ensures asked { result
+        ≡ asked_of_words (stream.now ∷ command.now ∷ address.now ∷ last.now ∷ []) }
     ensures stream { IfOk result (λ asked. stream_asked asked < 16) }
 {
     if command == b"write".as_slice() {

@@ -60,7 +60,9 @@ fn add_run(block: &mut [u8], filled: usize, run: PlainRun) -> usize
     requires filled { filled ≤ 4097 }
     ensures length { length block.new ≡ 4096 }
     ensures filled { result ≡ min (filled + run.count) 4097 }
-    ensures bytes { filled + run.count ≤ 4096 → take (filled + run.count) block.new ≡ take filled block.old ++ replicate run.count run.byte }
+    ensures bytes { filled + run.count ≤ 4096
+        → take (filled + run.count) block.new
+        ≡ take filled block.old ++ replicate run.count run.byte }
 {
     let end = (filled + run.count as usize).min(4097);
     if end <= 4096 {
@@ -90,7 +92,9 @@ fn with_run(
 fn fill(word: &[u8], block: &mut [u8]) -> Result<usize, LineFault>
     requires { length block.old ≡ 4096 }
     ensures length { length block.new ≡ 4096 }
-    ensures bytes { HoldsBytes (bytes_of_parts (slice_split (λ byte. byte == 43) word.now)) result block.new }
+    ensures bytes { HoldsBytes
+        (bytes_of_parts (slice_split (λ byte. byte == 43) word.now))
+        result block.new }
 {
     let mut so_far: Result<usize, LineFault> = Ok(0);
     let mut rest = word;

@@ -5,7 +5,8 @@ ghost use Rattle.std.specs.List.{slice_split};
 pub(crate) fn cut(separator: u8, bytes: &[u8]) -> (&[u8], Option<&[u8]>)
     ensures parts { MatchOption result.1
         (slice_split (λ byte. byte == separator) bytes.now ≡ result.0.now ∷ [])
-        (λ rest. slice_split (λ byte. byte == separator) bytes.now ≡ result.0.now ∷ slice_split (λ byte. byte == separator) rest.now) }
+        (λ rest. slice_split (λ byte. byte == separator) bytes.now
+        ≡ result.0.now ∷ slice_split (λ byte. byte == separator) rest.now) }
     ensures shorter { IfSome result.1 (λ rest. length rest.now < length bytes.now) }
 {
     for (at, byte) in bytes.iter().enumerate() {

@@ -1,7 +1,8 @@
 ghost use Rattle.std.specs.Prelude.{◌≡◌, ◌≢◌, ◌≤◌, ◌<◌, ◌+◌, ◌++◌, ◌∷◌, [], ℕ, List, length, None, Ok, IsTrue, IfOk, IfErr, OnOk, IsErrOf};
 ghost use Rattle.disk_model.specs.Causes.{Rose};
 ghost use Rattle.stream_text.specs.WholeScript.{first_discard, whole_script};
-ghost use Rattle.stream_text.specs.ReadingBytes.{discard_by, goes_on_from, refusal_said, said_from, EachRequest, IsPlainRequest, IsReadingBytes, IsWholeScript, RefusesScript};
+ghost use Rattle.stream_text.specs.ReadingBytes.{discard_by, refusal_said, EachRequest, IsPlainRequest, IsWholeScript, RefusesScript};
+ghost use Rattle.stream_text.specs.ReadingState.{bytes_read, comes_to, says, IsReading};
 
 use crate::adding::{LineStop, add_line};
 use crate::refusal::{LineFault, ReadScript, ScriptRefusal};
@@ -67,15 +68,14 @@ fn earlier_discard(found: Option<u64>, number: u64, asks: bool) -> Option<u64>
 impl ReadingBytes {
     // The line that was read is whole, and its newline was taken.
     fn end_line(&mut self) -> Result<(), ReadScript>
-        requires sound { IsReadingBytes self.old.count self.old.number self.old.before self.old.first_discard self.old.streams self.old.line.items }
-        requires room { self.old.before + length self.old.line.items < 134217728 }
-        ensures sound { OnOk result (IsReadingBytes self.new.count self.new.number self.new.before self.new.first_discard self.new.streams self.new.line.items) }
-        ensures ok { OnOk result ((rest : List ℕ) →
-            said_from self.old.number self.old.before self.old.first_discard self.old.streams self.old.line.items (10 ∷ rest)
-            ≡ said_from self.new.number self.new.before self.new.first_discard self.new.streams self.new.line.items rest) }
-        ensures taken { OnOk result (self.new.before + length self.new.line.items ≡ self.old.before + length self.old.line.items + 1) }
+        requires sound { IsReading self.old }
+        requires room { bytes_read self.old < 134217728 }
+        ensures sound { OnOk result (IsReading self.new) }
+        ensures ok { OnOk result (
+            (rest : List ℕ) → says self.old (10 ∷ rest) ≡ says self.new rest) }
+        ensures taken { OnOk result (bytes_read self.new ≡ bytes_read self.old + 1) }
         ensures refused { IfErr result (λ fault. (rest : List ℕ) →
-            RefusesScript fault (goes_on_from self.old.number self.old.before self.old.streams self.old.line.items (10 ∷ rest))) }
+            RefusesScript fault (comes_to self.old (10 ∷ rest))) }
         ensures no_fault { IfErr result (λ fault. fault ≢ ReadScript.Read) }
     {
         match add_line(&mut self.streams, self.count, &self.line) {
@@ -97,14 +97,13 @@ impl ReadingBytes {
 
     // The next byte of the script.
     fn add(&mut self, byte: u8) -> Result<(), ReadScript>
-        requires { IsReadingBytes self.old.count self.old.number self.old.before self.old.first_discard self.old.streams self.old.line.items }
-        ensures sound { OnOk result (IsReadingBytes self.new.count self.new.number self.new.before self.new.first_discard self.new.streams self.new.line.items) }
-        ensures ok { OnOk result ((rest : List ℕ) →
-            said_from self.old.number self.old.before self.old.first_discard self.old.streams self.old.line.items (byte ∷ rest)
-            ≡ said_from self.new.number self.new.before self.new.first_discard self.new.streams self.new.line.items rest) }
-        ensures taken { OnOk result (self.new.before + length self.new.line.items ≡ self.old.before + length self.old.line.items + 1) }
+        requires { IsReading self.old }
+        ensures sound { OnOk result (IsReading self.new) }
+        ensures ok { OnOk result (
+            (rest : List ℕ) → says self.old (byte ∷ rest) ≡ says self.new rest) }
+        ensures taken { OnOk result (bytes_read self.new ≡ bytes_read self.old + 1) }
         ensures refused { IfErr result (λ fault. (rest : List ℕ) →
-            RefusesScript fault (goes_on_from self.old.number self.old.before self.old.streams self.old.line.items (byte ∷ rest))) }
+            RefusesScript fault (comes_to self.old (byte ∷ rest))) }
         ensures no_fault { IfErr result (λ fault. fault ≢ ReadScript.Read) }
     {
         if self.before + self.line.len() as u64 >= LONGEST_SCRIPT {
@@ -122,14 +121,13 @@ impl ReadingBytes {
 
     // The next bytes of the script.
     fn feed(&mut self, bytes: &[u8]) -> Result<(), ReadScript>
-        requires { IsReadingBytes self.old.count self.old.number self.old.before self.old.first_discard self.old.streams self.old.line.items }
-        ensures sound { OnOk result (IsReadingBytes self.new.count self.new.number self.new.before self.new.first_discard self.new.streams self.new.line.items) }
-        ensures ok { OnOk result ((rest : List ℕ) →
-            said_from self.old.number self.old.before self.old.first_discard self.old.streams self.old.line.items (bytes.now ++ rest)
-            ≡ said_from self.new.number self.new.before self.new.first_discard self.new.streams self.new.line.items rest) }
-        ensures taken { OnOk result (self.new.before + length self.new.line.items ≡ self.old.before + length self.old.line.items + length bytes.now) }
+        requires { IsReading self.old }
+        ensures sound { OnOk result (IsReading self.new) }
+        ensures ok { OnOk result (
+            (rest : List ℕ) → says self.old (bytes.now ++ rest) ≡ says self.new rest) }
+        ensures taken { OnOk result (bytes_read self.new ≡ bytes_read self.old + length bytes.now) }
         ensures refused { IfErr result (λ fault. (rest : List ℕ) →
-            RefusesScript fault (goes_on_from self.old.number self.old.before self.old.streams self.old.line.items (bytes.now ++ rest))) }
+            RefusesScript fault (comes_to self.old (bytes.now ++ rest))) }
         ensures no_fault { IfErr result (λ fault. fault ≢ ReadScript.Read) }
     {
         for byte in bytes {
@@ -140,15 +138,15 @@ impl ReadingBytes {
 
     // The bytes of the source until its end.
     fn feed_all<S: Source>(&mut self, source: &mut S) -> Result<(), ReadScript>
-        requires { IsReadingBytes self.old.count self.old.number self.old.before self.old.first_discard self.old.streams self.old.line.items }
-        ensures sound { OnOk result (IsReadingBytes self.new.count self.new.number self.new.before self.new.first_discard self.new.streams self.new.line.items) }
-        ensures ok { IsTrue S.tells → OnOk result (
-            said_from self.old.number self.old.before self.old.first_discard self.old.streams self.old.line.items (S.seen source.old).left
-            ≡ said_from self.new.number self.new.before self.new.first_discard self.new.streams self.new.line.items []) }
+        requires { IsReading self.old }
+        ensures sound { OnOk result (IsReading self.new) }
+        ensures ok { IsTrue S.tells
+            → OnOk result (says self.old (S.seen source.old).left ≡ says self.new []) }
         ensures whole { IsTrue S.tells → OnOk result ((S.seen source.new).left ≡ []) }
         ensures refused { IsTrue S.tells → IfErr result (λ fault.
-            RefusesScript fault (goes_on_from self.old.number self.old.before self.old.streams self.old.line.items (S.seen source.old).left)) }
-        ensures read { IsErrOf result ReadScript.Read → Rose (S.seen source.old).faults (S.seen source.new).faults }
+            RefusesScript fault (comes_to self.old (S.seen source.old).left)) }
+        ensures read { IsErrOf result ReadScript.Read
+            → Rose (S.seen source.old).faults (S.seen source.new).faults }
         ensures later { (S.seen source.old).faults ≤ (S.seen source.new).faults }
     {
         let mut buffer = [0; 4096];
@@ -165,12 +163,13 @@ impl ReadingBytes {
 
     // The script has no more bytes.
     fn end(mut self) -> Result<ScriptRequests, ReadScript>
-        requires { IsReadingBytes self.count self.number self.before self.first_discard self.streams self.line.items }
+        requires { IsReading self }
         ensures ok { IfOk result (λ script.
-            said_from self.number self.before self.first_discard self.streams self.line.items [] ≡ (Ok script.requests, script.first_discard)) }
+            says self [] ≡ (Ok script.requests, script.first_discard)) }
         ensures shape { IfOk result (λ script. IsWholeScript script.requests) }
-        ensures served { IfOk result (λ script. script.first_discard ≡ None → EachRequest IsPlainRequest script.requests) }
-        ensures refused { IfErr result (λ fault. RefusesScript fault (goes_on_from self.number self.before self.streams self.line.items [])) }
+        ensures served { IfOk result (λ script.
+            script.first_discard ≡ None → EachRequest IsPlainRequest script.requests) }
+        ensures refused { IfErr result (λ fault. RefusesScript fault (comes_to self [])) }
         ensures no_fault { IfErr result (λ fault. fault ≢ ReadScript.Read) }
     {
         if self.line.is_empty() {
@@ -201,15 +200,20 @@ impl ReadingBytes {
 /// runs out. The memory that it takes is the requests' alone.
 pub fn read_script<S: Source>(alloc: Global, source: &mut S) -> Result<ScriptRequests, ReadScript>
     // The script is what all the bytes say, and the source was read to its end.
-    ensures script { IsTrue S.tells → IfOk result (λ script. (whole_script (S.seen source.old).left ≡ Ok script.requests)
-        × (script.first_discard ≡ first_discard (S.seen source.old).left) × ((S.seen source.new).left ≡ [])) }
+    ensures script { IsTrue S.tells → IfOk result (λ script.
+        (whole_script (S.seen source.old).left ≡ Ok script.requests)
+        × (script.first_discard ≡ first_discard (S.seen source.old).left)
+        × ((S.seen source.new).left ≡ [])) }
     // Whatever the source tells, no other requests come.
     ensures shape { IfOk result (λ script. IsWholeScript script.requests) }
     // Whatever the source tells, where no line is named no request is a discard, and each write has a whole block.
-    ensures served { IfOk result (λ script. script.first_discard ≡ None → EachRequest IsPlainRequest script.requests) }
+    ensures served { IfOk result (λ script.
+        script.first_discard ≡ None → EachRequest IsPlainRequest script.requests) }
     // The line that is named is the first with a fault, and its fault the first that it has.
-    ensures refused { IsTrue S.tells → IfErr result (λ fault. RefusesScript fault (whole_script (S.seen source.old).left)) }
-    ensures read { IsErrOf result ReadScript.Read → Rose (S.seen source.old).faults (S.seen source.new).faults }
+    ensures refused { IsTrue S.tells
+        → IfErr result (λ fault. RefusesScript fault (whole_script (S.seen source.old).left)) }
+    ensures read { IsErrOf result ReadScript.Read
+        → Rose (S.seen source.old).faults (S.seen source.new).faults }
     ensures later { (S.seen source.old).faults ≤ (S.seen source.new).faults }
 {
     let Ok(streams) = Streams::new(alloc) else {

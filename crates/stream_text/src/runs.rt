@@ -10,7 +10,9 @@ fn first_run(bytes: &[u8]) -> usize
     requires { 0 < length bytes.now }
     ensures some { 0 < result }
     ensures within { result ≤ length bytes.now }
-    ensures run { runs_of bytes.now ≡ record { count = result; byte = slice_index bytes.now 0 } ∷ runs_of (drop result bytes.now) }
+    ensures run { runs_of bytes.now
+        ≡ record { count = result; byte = slice_index bytes.now 0 }
+        ∷ runs_of (drop result bytes.now) }
 {
     let first = bytes[0];
     for (at, byte) in bytes.iter().enumerate() {

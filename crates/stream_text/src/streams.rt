@@ -49,7 +49,8 @@ impl Streams {
     fn push_discards(&mut self, stream: u8, at: u32, last: u32) -> Result<(), AllocError>
         requires { stream < length self.old }
         ensures rows { length self.new ≡ length self.old }
-        ensures ok { OnOk result (self.new ≡ with_requests self.old stream (discards at (last - at + 1))) }
+        ensures ok { OnOk result (self.new
+            ≡ with_requests self.old stream (discards at (last - at + 1))) }
     {
         let count = u64::from(last.saturating_sub(at)) + 1;
         for number in 0..count {
@@ -62,7 +63,8 @@ impl Streams {
     pub(crate) fn push_asked(&mut self, asked: Asked) -> Result<(), AllocError>
         requires { stream_asked asked < length self.old }
         ensures rows { length self.new ≡ length self.old }
-        ensures ok { OnOk result (self.new ≡ with_requests self.old (stream_asked asked) (requests_of asked)) }
+        ensures ok { OnOk result (self.new
+            ≡ with_requests self.old (stream_asked asked) (requests_of asked)) }
     {
         match asked {
             Asked::One { stream, request } => self.push(stream, request),

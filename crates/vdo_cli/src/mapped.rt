@@ -13,7 +13,8 @@ const POINTS: u64 = 512;
 /// The entries of a window, the oldest first, where each of them maps an address; else the oldest block that has an entry for
 /// a new page is named.
 pub(crate) fn mapped_entries(alloc: Global, window: &[CommittedEntry]) -> Result<Vec<Entry>, Fault>
-    ensures mapped { IfOk result (λ entries. AreMapped (reverse window.now) (reverse entries.items)) }
+    ensures mapped { IfOk result (λ entries.
+        AreMapped (reverse window.now) (reverse entries.items)) }
     ensures fault { IfErr result (PagesFail (reverse window.now)) }
 {
     let mut entries = Vec::new(alloc);

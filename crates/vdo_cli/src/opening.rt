@@ -4,7 +4,13 @@ ghost use Rattle.blk_base.specs.Regions.{needed_blocks};
 ghost use Rattle.disk_model.specs.Since.{IsUntouched, WereRead};
 ghost use Rattle.image_layout.specs.Opened.{IsHead};
 ghost use Rattle.vdo_cli.specs.Openings.{
-    CanServe, IsOpened, OpeningFails, JournalFails, ServingFails, opening_of, trust,
+  CanServe,
+  IsOpened,
+  OpeningFails,
+  JournalFails,
+  ServingFails,
+  opening_of,
+  trust,
 };
 
 use crate::Fault;
@@ -29,7 +35,8 @@ pub(crate) struct Opened {
 
 // Reads the superblock.
 fn read_head<D: Disk>(device: &mut D) -> Result<Super, Fault>
-    ensures read { IfOk result (λ head. (first : List ℕ) × IsHead (D.seen device.old).size first head
+    ensures read { IfOk result (λ head. (first : List ℕ)
+        × IsHead (D.seen device.old).size first head
         × WereRead D.tells D.honest 0 (D.seen device.old) (D.seen device.new) (first ∷ [])) }
     ensures fault { IfErr result (OpeningFails (trust D.tells D.honest)
         (D.seen device.old) (D.seen device.new)) }

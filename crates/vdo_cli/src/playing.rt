@@ -63,11 +63,14 @@ pub(crate) fn play<R: Wait, D: Disk, S: Source>(
 ) -> Result<Played, Fault>
     ensures session { IfOk result (λ played. Plays (input_setting D.tells D.honest S.tells)
         number played.report
-        (inputs (D.seen device.old) (S.seen script.old)) (inputs (D.seen device.new) (S.seen script.new))) }
+        (inputs (D.seen device.old) (S.seen script.old))
+        (inputs (D.seen device.new) (S.seen script.new))) }
     ensures room { IfOk result (λ played. HasRoomFor played.room played.report.requests) }
     ensures fault { IfErr result (PlayFails (input_setting D.tells D.honest S.tells)
-        (inputs (D.seen device.old) (S.seen script.old)) (inputs (D.seen device.new) (S.seen script.new))) }
-    ensures untouched { IfErr result (λ fault. IsUntouched D.tells (D.seen device.old) (D.seen device.new)) }
+        (inputs (D.seen device.old) (S.seen script.old))
+        (inputs (D.seen device.new) (S.seen script.new))) }
+    ensures untouched { IfErr result (λ fault.
+        IsUntouched D.tells (D.seen device.old) (D.seen device.new)) }
     ensures later { (S.seen script.old).faults ≤ (S.seen script.new).faults }
 {
     let Opened { head, used, window } = open(alloc, device)?;

@@ -99,12 +99,7 @@ fn close<D: Disk, K: Sink>(report: RunReport, room: AnswerRoom, device: D, out: 
 }
 
 // Puts what was found.
-fn tell<L: Line, D: Disk, K: Sink>(
-    alloc: Global,
-    found: &L,
-    device: D,
-    out: &mut K,
-) -> Ended<D>
+fn tell<L: Line, D: Disk, K: Sink>(alloc: Global, found: &L, device: D, out: &mut K) -> Ended<D>
     ensures device { result.device ≡ device }
     ensures report { result.report ≡ no_report }
     ensures tells { Tells K.tells (L.text found.now) result.status result.fault
