@@ -4,8 +4,7 @@
 //! session, so no more than one owner is claimed. A write is done when its slot is set, and answered when its answer is
 //! said: the trace has a list for each.
 //!
-//! Not there: that a session can begin on an image that a stop leaves. The core serves discards; scripts that have one
-//! are still refused (`later`).
+//! Not there: that a session can begin on an image that a stop leaves.
 #![tactic(auto)]
 
 mod laws;

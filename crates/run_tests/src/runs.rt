@@ -404,14 +404,7 @@ fn another_call_of_the_device_fails(rt: HostRuntime) -> Result<(), Fail> {
     each_is_right(&rt, rt.alloc(), &OTHER_FAILED_CALLS)
 }
 
-const LINE_1: End = (b"script line 1: later\n", 2, Calls::Any);
-
-const LINE_2: End = (b"script line 2: later\n", 2, Calls::Any);
-
-const REFUSED_LINES: [Case; 4] = [
-    (Device::Fresh, b"0 discard 5 1\n", LINE_1),
-    (Device::Fresh, b"# once\n3 discard 1000 2\n", LINE_2),
-    // A fault of a later line comes before a discard.
+const REFUSED_LINES: [Case; 2] = [
     (
         Device::Fresh,
         b"0 discard 5 1\n0 read 5\n16 read 5\n",
@@ -429,8 +422,27 @@ fn lines_that_are_refused(rt: HostRuntime) -> Result<(), Fail> {
     each_is_right(&rt, rt.alloc(), &REFUSED_LINES)
 }
 
-// Lines that are served: an address that isn't below the logical size, a number with many digits, and several runs.
-const SERVED_LINES: [Case; 3] = [
+// Lines that are served: zeros and discards, an address that isn't below the logical size, a number with many digits, and
+// several runs.
+const SERVED_LINES: [Case; 5] = [
+    (
+        Device::Fresh,
+        b"0 write 3 4096*07\n0 write 3 4096*00\n0 read 3\n0 discard 3 2\n0 discard 900 1\n0 read 3\n",
+        (
+            b"0 0 write 3 ok z0:0\n0 1 write 3 ok z0:1\n0 2 read 3 4096*00 z0:2\n0 3 discard 3 ok z0:3\n0 4 discard 4 ok z0:4\n0 5 discard 900 ok z0:5\n0 6 read 3 4096*00 z0:6\n",
+            0,
+            Calls::Any,
+        ),
+    ),
+    (
+        Device::Fresh,
+        b"0 write 999 4096*07\n0 discard 999 2\n0 read 999\n",
+        (
+            b"0 0 write 999 ok z0:0\n0 1 discard 999 ok z0:1\n0 2 discard 1000 range\n0 3 read 999 4096*00 z0:2\n",
+            0,
+            Calls::Any,
+        ),
+    ),
     (
         Device::Fresh,
         b"0 read 5\n0 read 1000\n0 write 4294967295 4096*61\n",
@@ -662,7 +674,7 @@ fn is_put(alloc: Global, fault: &Fault, line: &str) -> Result<bool, AllocError> 
     Ok(put && sink.bytes() == line.as_bytes())
 }
 
-const FAULT_LINES: [(Fault, &str); 13] = [
+const FAULT_LINES: [(Fault, &str); 12] = [
     (Fault::Usage, "usage\n"),
     (
         Fault::Script(ScriptRefusal {
@@ -671,7 +683,6 @@ const FAULT_LINES: [(Fault, &str); 13] = [
         }),
         "script line 65537: too many\n",
     ),
-    (Fault::Later { line: 3 }, "script line 3: later\n"),
     (Fault::Device, "device fault\n"),
     (
         Fault::Image(ImageFault::Super(SuperFault::NotAnImage)),

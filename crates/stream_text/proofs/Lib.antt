@@ -8,10 +8,10 @@ pub mod RunWordLaws
 pub mod AskedLaws
 pub mod StreamLaws
 pub mod ScriptLaws
-pub mod DiscardLaws
+pub mod WholeBlockLaws
 pub mod ScriptRows
 pub mod WholeRows
 pub mod AnswerRoomRows
-pub mod DiscardRows
+pub mod WholeBlockRows
 pub mod WorkloadLaws
 pub mod WorkloadRows

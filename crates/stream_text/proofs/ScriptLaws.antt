@@ -160,10 +160,10 @@ long-script number before script line byte rest one long =
     (after-long_script before script ((line ++ byte ∷ []) ++ first.more) (omega (arith, size)))
 
 -- what is kept as a line gets longer
-pub sound-byte : (count number before : ℕ) (found : Option ℕ) (script : Script) (line : List ℕ) (byte : ℕ)
-    → IsReadingBytes count number before found script line → before + length line < 134217728 → length line < 32768 → byte ≢ 10
-    → IsReadingBytes count number before found script (line ++ byte ∷ [])
-sound-byte count number before found script line byte is room short ne = record {
+pub sound-byte : (count number before : ℕ) (script : Script) (line : List ℕ) (byte : ℕ)
+    → IsReadingBytes count number before script line → before + length line < 134217728 → length line < 32768 → byte ≢ 10
+    → IsReadingBytes count number before script (line ++ byte ∷ [])
+sound-byte count number before script line byte is room short ne = record {
   rows = is.rows;
   counted = is.counted;
   few = is.few;
@@ -172,7 +172,6 @@ sound-byte count number before found script line byte is room short ne = record 
   within = omega (arith, length-append line (byte ∷ []), room);
   numbered = is.numbered;
   writes = is.writes;
-  plain = is.plain;
 }
   where
     longer : (line : List ℕ) → OneLine line → OneLine (line ++ byte ∷ [])

@@ -1,12 +1,11 @@
 -- A script that is read in part: the streams so far, and the beginning of a line.
-use Rattle.std.specs.Prelude.{ℕ, ◌≡◌, ◌≢◌, ◌≤◌, ◌+◌, Bool, false, List, ◌++◌, length, Option, Some, None, Result, Ok, Err, if◌then◌else◌}
+use Rattle.std.specs.Prelude.{ℕ, ◌≡◌, ◌≢◌, ◌≤◌, ◌+◌, Bool, false, List, ◌++◌, length, Result, Ok, Err}
 use Rattle.std.specs.List.{AllByRecursion}
-use Rattle.std.specs.Option.{option_or}
 use Rattle.blk_base.specs.declared.request.Request.{Request}
 use Rattle.blk_base.specs.declared.request.Request.TheVariants as request
 use Rattle.vdo_model.specs.Scripts.{Script}
 use Rattle.stream_text.specs.StreamRows.{count_of}
-use Rattle.stream_text.specs.WholeScript.{lines_with_ends, script_from, first_discard_from}
+use Rattle.stream_text.specs.WholeScript.{lines_with_ends, script_from}
 use Rattle.stream_text.specs.declared.refusal.LineFault.{LineFault}
 use Rattle.stream_text.specs.declared.refusal.ScriptRefusal.{ScriptRefusal}
 use Rattle.stream_text.specs.declared.refusal.ReadScript.{ReadScript}
@@ -18,18 +17,6 @@ use Rattle.stream_text.specs.declared.adding.LineStop.TheVariants as stop
 abbrev pub goes_on_from : ℕ → ℕ → Script → List ℕ → List ℕ → Result Script ScriptRefusal
 goes_on_from number before script line rest = script_from number before script (lines_with_ends (line ++ rest))
 
--- the line of the first discard, if one was found and else this line if it asks for one
-abbrev pub discard_by : Option ℕ → ℕ → Bool → Option ℕ
-discard_by found number asks = option_or found (if asks then Some number else None)
-
--- the line of the whole script's first discard, if one was found or these bytes are the rest
-abbrev pub discard_from : Option ℕ → ℕ → List ℕ → List ℕ → Option ℕ
-discard_from found number line rest = option_or found (first_discard_from number (lines_with_ends (line ++ rest)))
-
--- what is said of the whole script, if these bytes are the rest
-abbrev pub said_from : ℕ → ℕ → Option ℕ → Script → List ℕ → List ℕ → Result Script ScriptRefusal × Option ℕ
-said_from number before found script line rest = (goes_on_from number before script line rest, discard_from found number line rest)
-
 -- a write has a whole block, and isn't forced
 abbrev pub HasWholeBlock : Request → Type 0
 HasWholeBlock (request.Read at) = Unit {0}
@@ -37,19 +24,12 @@ HasWholeBlock (request.Write at bytes fua) = (length bytes ≡ 4096) × (fua ≡
 HasWholeBlock (request.Discard at) = Unit {0}
 HasWholeBlock request.Flush = Unit {0}
 
--- a request that is served without discards: a read, a flush, or a write of a whole block that isn't forced
-abbrev pub IsPlainRequest : Request → Type 0
-IsPlainRequest (request.Read at) = Unit {0}
-IsPlainRequest (request.Write at bytes fua) = (length bytes ≡ 4096) × (fua ≡ false)
-IsPlainRequest (request.Discard at) = ⊥
-IsPlainRequest request.Flush = Unit {0}
-
 -- every request of every stream
 abbrev pub EachRequest : (Request → Type 0) → Script → Type 0
 EachRequest P script = AllByRecursion (AllByRecursion P) script
 
 -- what is kept while a script is read
-pub record IsReadingBytes (count number before : ℕ) (found : Option ℕ) (script : Script) (line : List ℕ) : Type 0 where
+pub record IsReadingBytes (count number before : ℕ) (script : Script) (line : List ℕ) : Type 0 where
   pub rows : length script ≡ 16
   pub counted : count ≡ count_of script
   pub few : count ≤ 65536
@@ -58,7 +38,6 @@ pub record IsReadingBytes (count number before : ℕ) (found : Option ℕ) (scri
   pub within : before + length line ≤ 134217728
   pub numbered : number ≤ before + 1
   pub writes : EachRequest HasWholeBlock script
-  pub plain : found ≡ None → EachRequest IsPlainRequest script
 
 -- what a refusal says of the script
 abbrev pub RefusesScript : ReadScript → Result Script ScriptRefusal → Type 0
@@ -71,7 +50,7 @@ abbrev pub StopsLine : LineStop → Result Script LineFault → Type 0
 StopsLine (stop.Fault fault) script = script ≡ Err fault
 StopsLine stop.Memory script = Unit {0}
 
--- the streams have what a line asks for
+-- the streams have what a line asks for, and so many requests
 pub record IsAdded (after : Result Script LineFault) (new : Script) (count : ℕ) : Type 0 where
   pub same : after ≡ Ok new
   pub counted : count ≡ count_of new

@@ -1,21 +1,17 @@
 -- A script that is read in part, as the code keeps it.
-use Rattle.std.specs.Prelude.{ℕ, ◌+◌, List, length, Option, Result}
+use Rattle.std.specs.Prelude.{ℕ, ◌+◌, List, length, Result}
 use Rattle.vdo_model.specs.Scripts.{Script}
-use Rattle.stream_text.specs.ReadingBytes.{IsReadingBytes, goes_on_from, said_from}
+use Rattle.stream_text.specs.ReadingBytes.{IsReadingBytes, goes_on_from}
 use Rattle.stream_text.specs.declared.reading.ReadingBytes.{ReadingBytes as Reading}
 use Rattle.stream_text.specs.declared.refusal.ScriptRefusal.{ScriptRefusal}
 
 -- what is kept while a script is read
 abbrev pub IsReading : Reading → Type 0
-IsReading r = IsReadingBytes r.count r.number r.before r.first_discard r.streams r.line.items
+IsReading r = IsReadingBytes r.count r.number r.before r.streams r.line.items
 
 -- what the whole script is, if these bytes are the rest
 abbrev pub comes_to : Reading → List ℕ → Result Script ScriptRefusal
 comes_to r rest = goes_on_from r.number r.before r.streams r.line.items rest
-
--- what is said of the whole script, if these bytes are the rest
-abbrev pub says : Reading → List ℕ → Result Script ScriptRefusal × Option ℕ
-says r rest = said_from r.number r.before r.first_discard r.streams r.line.items rest
 
 -- how many bytes were read
 abbrev pub bytes_read : Reading → ℕ

@@ -1,11 +1,9 @@
 -- Which requests a script has, said over all of its bytes.
-use Rattle.std.specs.Prelude.{ℕ, ◌+◌, ◌==◌, ◌||◌, nat_lt, Bool, true, false, List, [], ◌∷◌, length, Option, Some, None, Result, Ok, Err, if◌then◌else◌}
+use Rattle.std.specs.Prelude.{ℕ, ◌+◌, ◌==◌, ◌||◌, nat_lt, Bool, true, false, List, [], ◌∷◌, length, Result, Ok, Err, if◌then◌else◌}
 use Rattle.std.specs.List.{onto_first}
 use Rattle.vdo_model.specs.Scripts.{Script}
 use Rattle.stream_text.specs.LineGrammar.{asked_of_line}
 use Rattle.stream_text.specs.StreamRows.{no_requests, with_asked}
-use Rattle.stream_text.specs.declared.asked.Asked.{Asked}
-use Rattle.stream_text.specs.declared.asked.Asked.TheVariants.{One, Discards}
 use Rattle.stream_text.specs.declared.refusal.LineFault.{LineFault}
 use Rattle.stream_text.specs.declared.refusal.LineFault.TheVariants.{TooLong}
 use Rattle.stream_text.specs.declared.refusal.ScriptRefusal.{ScriptRefusal}
@@ -51,26 +49,3 @@ script_from number before script (line ∷ lines) =
 -- the requests of the streams 0 to 15, or the first line with a fault
 abbrev pub whole_script : List ℕ → Result Script ScriptRefusal
 whole_script bytes = script_from 1 0 no_requests (lines_with_ends bytes)
-
--- it is discards that are asked for
-abbrev pub is_discards : Asked → Bool
-is_discards (One stream request) = false
-is_discards (Discards stream at last) = true
-
--- it is discards, if there is no fault
-abbrev pub are_discards : Result Asked LineFault → Bool
-are_discards (Ok asked) = is_discards asked
-are_discards (Err fault) = false
-
--- the text of a line asks for discards; a line that is passed over asks for nothing
-abbrev pub asks_discard : List ℕ → Bool
-asks_discard text = if is_passed_over text then false else are_discards (asked_of_line text)
-
--- the number of the first of these lines that asks for discards, if one does; the first line has this number
-abbrev pub first_discard_from : ℕ → List (List ℕ) → Option ℕ
-first_discard_from number [] = None
-first_discard_from number (line ∷ lines) = if asks_discard (text_of line) then Some number else first_discard_from (number + 1) lines
-
--- the number, from 1, of the first line that asks for discards, if one does
-abbrev pub first_discard : List ℕ → Option ℕ
-first_discard bytes = first_discard_from 1 (lines_with_ends bytes)

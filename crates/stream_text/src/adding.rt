@@ -1,7 +1,7 @@
 ghost use Rattle.std.specs.Prelude.{◌≡◌, ◌<◌, ◌≤◌, Ok, IfOk, IfErr, length};
 ghost use Rattle.stream_text.specs.LineGrammar.{stream_asked};
 ghost use Rattle.stream_text.specs.StreamRows.{count_of, requests_of, with_asked};
-ghost use Rattle.stream_text.specs.WholeScript.{after_text, asks_discard, is_discards};
+ghost use Rattle.stream_text.specs.WholeScript.{after_text};
 ghost use Rattle.stream_text.specs.ReadingBytes.{StopsLine, IsAdded};
 
 use crate::asked::{Asked, asked_of};
@@ -10,15 +10,6 @@ use crate::streams::Streams;
 
 /// How many requests a script may have.
 const MOST_REQUESTS: u64 = 65536;
-
-/// What a line added.
-#[derive(Clone, Copy)]
-pub struct LineAdded {
-    /// How many requests there are then.
-    pub count: u64,
-    /// Whether the line asks for discards.
-    pub discards: bool,
-}
 
 /// Why a line adds nothing.
 #[derive(Clone, Copy, Debug, PartialEq, Eq)]
@@ -40,58 +31,37 @@ fn requests_asked(asked: &Asked) -> u64
     }
 }
 
-fn asks_discards(asked: &Asked) -> bool
-    ensures { result ≡ is_discards asked.now }
-{
-    match asked {
-        Asked::One { .. } => false,
-        Asked::Discards { .. } => true,
-    }
-}
-
-/// Adds what a line asks for to its stream. The count is that of all requests so far.
-fn add_asked(streams: &mut Streams, count: u64, asked: Asked) -> Result<LineAdded, LineStop>
+/// Adds what a line asks for to its stream. The count, before and in the result, is that of all requests so far.
+fn add_asked(streams: &mut Streams, count: u64, asked: Asked) -> Result<u64, LineStop>
     requires rows { length streams.old ≡ 16 }
     requires counted { count ≡ count_of streams.old }
     requires few { count ≤ 65536 }
     requires stream { stream_asked asked < 16 }
     ensures rows { length streams.new ≡ 16 }
-    ensures ok { IfOk result (λ added.
-        IsAdded (with_asked streams.old (Ok asked)) streams.new added.count) }
-    ensures discards { IfOk result (λ added. added.discards ≡ is_discards asked) }
+    ensures ok { IfOk result (IsAdded (with_asked streams.old (Ok asked)) streams.new) }
     ensures stopped { IfErr result (λ stop. StopsLine stop (with_asked streams.old (Ok asked))) }
 {
     let count = count + requests_asked(&asked);
-    let discards = asks_discards(&asked);
     if count > MOST_REQUESTS {
         return Err(LineStop::Fault(LineFault::TooMany));
     }
     match streams.push_asked(asked) {
-        Ok(()) => Ok(LineAdded { count, discards }),
+        Ok(()) => Ok(count),
         Err(_) => Err(LineStop::Memory),
     }
 }
 
-/// Adds what the text of a line asks for.
-pub(crate) fn add_line(
-    streams: &mut Streams,
-    count: u64,
-    text: &[u8],
-) -> Result<LineAdded, LineStop>
+/// Adds what the text of a line asks for. The count, before and in the result, is that of all requests so far.
+pub(crate) fn add_line(streams: &mut Streams, count: u64, text: &[u8]) -> Result<u64, LineStop>
     requires rows { length streams.old ≡ 16 }
     requires counted { count ≡ count_of streams.old }
     requires few { count ≤ 65536 }
     ensures rows { length streams.new ≡ 16 }
-    ensures ok { IfOk result (λ added.
-        IsAdded (after_text streams.old text.now) streams.new added.count) }
-    ensures discards { IfOk result (λ added. added.discards ≡ asks_discard text.now) }
+    ensures ok { IfOk result (IsAdded (after_text streams.old text.now) streams.new) }
     ensures stopped { IfErr result (λ stop. StopsLine stop (after_text streams.old text.now)) }
 {
     if text.is_empty() || text[0] == b'#' {
-        return Ok(LineAdded {
-            count,
-            discards: false,
-        });
+        return Ok(count);
     }
     match asked_of(text) {
         Ok(asked) => add_asked(streams, count, asked),

@@ -21,6 +21,6 @@ mod streams;
 
 pub use answers::{AnswerRoom, put_answers};
 pub use drawing::workload;
-pub use reading::{ScriptRequests, read_script};
+pub use reading::read_script;
 pub use refusal::{LineFault, ReadScript, ScriptRefusal};
 pub use runs::put_runs;

@@ -1,8 +1,8 @@
-ghost use Rattle.std.specs.Prelude.{◌≡◌, ◌≢◌, ◌≤◌, ◌<◌, ◌+◌, ◌++◌, ◌∷◌, [], ℕ, List, length, None, Ok, IsTrue, IfOk, IfErr, OnOk, IsErrOf};
+ghost use Rattle.std.specs.Prelude.{◌≡◌, ◌≢◌, ◌≤◌, ◌<◌, ◌+◌, ◌++◌, ◌∷◌, [], ℕ, List, length, Ok, IsTrue, IfOk, IfErr, OnOk, IsErrOf};
 ghost use Rattle.disk_model.specs.Causes.{Rose};
-ghost use Rattle.stream_text.specs.WholeScript.{first_discard, whole_script};
-ghost use Rattle.stream_text.specs.ReadingBytes.{discard_by, refusal_said, EachRequest, IsPlainRequest, IsWholeScript, RefusesScript};
-ghost use Rattle.stream_text.specs.ReadingState.{bytes_read, comes_to, says, IsReading};
+ghost use Rattle.stream_text.specs.WholeScript.{whole_script};
+ghost use Rattle.stream_text.specs.ReadingBytes.{refusal_said, IsWholeScript, RefusesScript};
+ghost use Rattle.stream_text.specs.ReadingState.{bytes_read, comes_to, IsReading};
 
 use crate::adding::{LineStop, add_line};
 use crate::refusal::{LineFault, ReadScript, ScriptRefusal};
@@ -18,22 +18,12 @@ const LONGEST_LINE: usize = 32768;
 /// How many bytes a script may have.
 const LONGEST_SCRIPT: u64 = 134_217_728;
 
-/// The requests of a script, and where its first discard stands.
-#[derive(Drop)]
-pub struct ScriptRequests {
-    /// The requests of 16 streams.
-    pub requests: Requests,
-    /// The number, from 1, of the first line that asks for discards, if one does.
-    pub first_discard: Option<u64>,
-}
-
-/// A script that is read in part: the streams so far with the number of their requests, the line of the first discard so
-/// far, the number of the line that is being read, the bytes before it, and its bytes so far.
+/// A script that is read in part: the streams so far with the number of their requests, the number of the line that is being
+/// read, the bytes before it, and its bytes so far.
 #[derive(Drop)]
 struct ReadingBytes {
     streams: Streams,
     count: u64,
-    first_discard: Option<u64>,
     number: u64,
     before: u64,
     line: ArrayVec<u8, LONGEST_LINE>,
@@ -54,17 +44,6 @@ fn stopped(number: u64, stop: LineStop) -> ReadScript
     }
 }
 
-// The line of the first discard, where it may be this line.
-fn earlier_discard(found: Option<u64>, number: u64, asks: bool) -> Option<u64>
-    ensures { result ≡ discard_by found number asks }
-{
-    match found {
-        Some(line) => Some(line),
-        None if asks => Some(number),
-        None => None,
-    }
-}
-
 impl ReadingBytes {
     // The line that was read is whole, and its newline was taken.
     fn end_line(&mut self) -> Result<(), ReadScript>
@@ -72,7 +51,7 @@ impl ReadingBytes {
         requires room { bytes_read self.old < 134217728 }
         ensures sound { OnOk result (IsReading self.new) }
         ensures ok { OnOk result (
-            (rest : List ℕ) → says self.old (10 ∷ rest) ≡ says self.new rest) }
+            (rest : List ℕ) → comes_to self.old (10 ∷ rest) ≡ comes_to self.new rest) }
         ensures taken { OnOk result (bytes_read self.new ≡ bytes_read self.old + 1) }
         ensures refused { IfErr result (λ fault. (rest : List ℕ) →
             RefusesScript fault (comes_to self.old (10 ∷ rest))) }
@@ -80,13 +59,8 @@ impl ReadingBytes {
     {
         match add_line(&mut self.streams, self.count, &self.line) {
             Err(stop) => Err(stopped(self.number, stop)),
-            Ok(added) => {
-                self.count = added.count;
-                self.first_discard = earlier_discard(
-                    self.first_discard,
-                    self.number,
-                    added.discards,
-                );
+            Ok(count) => {
+                self.count = count;
                 self.before += self.line.len() as u64 + 1;
                 self.number += 1;
                 self.line.clear();
@@ -100,7 +74,7 @@ impl ReadingBytes {
         requires { IsReading self.old }
         ensures sound { OnOk result (IsReading self.new) }
         ensures ok { OnOk result (
-            (rest : List ℕ) → says self.old (byte ∷ rest) ≡ says self.new rest) }
+            (rest : List ℕ) → comes_to self.old (byte ∷ rest) ≡ comes_to self.new rest) }
         ensures taken { OnOk result (bytes_read self.new ≡ bytes_read self.old + 1) }
         ensures refused { IfErr result (λ fault. (rest : List ℕ) →
             RefusesScript fault (comes_to self.old (byte ∷ rest))) }
@@ -124,7 +98,7 @@ impl ReadingBytes {
         requires { IsReading self.old }
         ensures sound { OnOk result (IsReading self.new) }
         ensures ok { OnOk result (
-            (rest : List ℕ) → says self.old (bytes.now ++ rest) ≡ says self.new rest) }
+            (rest : List ℕ) → comes_to self.old (bytes.now ++ rest) ≡ comes_to self.new rest) }
         ensures taken { OnOk result (bytes_read self.new ≡ bytes_read self.old + length bytes.now) }
         ensures refused { IfErr result (λ fault. (rest : List ℕ) →
             RefusesScript fault (comes_to self.old (bytes.now ++ rest))) }
@@ -141,7 +115,7 @@ impl ReadingBytes {
         requires { IsReading self.old }
         ensures sound { OnOk result (IsReading self.new) }
         ensures ok { IsTrue S.tells
-            → OnOk result (says self.old (S.seen source.old).left ≡ says self.new []) }
+            → OnOk result (comes_to self.old (S.seen source.old).left ≡ comes_to self.new []) }
         ensures whole { IsTrue S.tells → OnOk result ((S.seen source.new).left ≡ []) }
         ensures refused { IsTrue S.tells → IfErr result (λ fault.
             RefusesScript fault (comes_to self.old (S.seen source.old).left)) }
@@ -162,31 +136,19 @@ impl ReadingBytes {
     }
 
     // The script has no more bytes.
-    fn end(mut self) -> Result<ScriptRequests, ReadScript>
+    fn end(mut self) -> Result<Requests, ReadScript>
         requires { IsReading self }
-        ensures ok { IfOk result (λ script.
-            says self [] ≡ (Ok script.requests, script.first_discard)) }
-        ensures shape { IfOk result (λ script. IsWholeScript script.requests) }
-        ensures served { IfOk result (λ script.
-            script.first_discard ≡ None → EachRequest IsPlainRequest script.requests) }
+        ensures ok { IfOk result (λ script. comes_to self [] ≡ Ok script) }
+        ensures shape { IfOk result IsWholeScript }
         ensures refused { IfErr result (λ fault. RefusesScript fault (comes_to self [])) }
         ensures no_fault { IfErr result (λ fault. fault ≢ ReadScript.Read) }
     {
         if self.line.is_empty() {
-            return Ok(ScriptRequests {
-                requests: self.streams.into_requests(),
-                first_discard: self.first_discard,
-            });
+            return Ok(self.streams.into_requests());
         }
         match add_line(&mut self.streams, self.count, &self.line) {
             Err(stop) => Err(stopped(self.number, stop)),
-            Ok(added) => {
-                let discard = earlier_discard(self.first_discard, self.number, added.discards);
-                Ok(ScriptRequests {
-                    requests: self.streams.into_requests(),
-                    first_discard: discard,
-                })
-            }
+            Ok(_) => Ok(self.streams.into_requests()),
         }
     }
 }
@@ -194,21 +156,16 @@ impl ReadingBytes {
 // A script is judged by all its bytes. The first refused line is named though the source isn't read on behind it, since
 // no later byte can change that.
 /// Reads the requests of a script, in pieces of any size, until the source's end or the first line with a fault. They come
-/// as 16 streams, of which each may have none, with the line of the first discard, where there is one.
+/// as 16 streams, of which each may have none.
 ///
 /// It fails with `Script` where a line has a fault, with `Read` where the source failed, and with `Memory` where memory
 /// runs out. The memory that it takes is the requests' alone.
-pub fn read_script<S: Source>(alloc: Global, source: &mut S) -> Result<ScriptRequests, ReadScript>
+pub fn read_script<S: Source>(alloc: Global, source: &mut S) -> Result<Requests, ReadScript>
     // The script is what all the bytes say, and the source was read to its end.
     ensures script { IsTrue S.tells → IfOk result (λ script.
-        (whole_script (S.seen source.old).left ≡ Ok script.requests)
-        × (script.first_discard ≡ first_discard (S.seen source.old).left)
-        × ((S.seen source.new).left ≡ [])) }
-    // Whatever the source tells, no other requests come.
-    ensures shape { IfOk result (λ script. IsWholeScript script.requests) }
-    // Whatever the source tells, where no line is named no request is a discard, and each write has a whole block.
-    ensures served { IfOk result (λ script.
-        script.first_discard ≡ None → EachRequest IsPlainRequest script.requests) }
+        (whole_script (S.seen source.old).left ≡ Ok script) × ((S.seen source.new).left ≡ [])) }
+    // Whatever the source tells, no other requests come, and each write has a whole block.
+    ensures shape { IfOk result IsWholeScript }
     // The line that is named is the first with a fault, and its fault the first that it has.
     ensures refused { IsTrue S.tells
         → IfErr result (λ fault. RefusesScript fault (whole_script (S.seen source.old).left)) }
@@ -222,7 +179,6 @@ pub fn read_script<S: Source>(alloc: Global, source: &mut S) -> Result<ScriptReq
     let mut reading = ReadingBytes {
         streams,
         count: 0,
-        first_discard: None,
         number: 1,
         before: 0,
         line: ArrayVec::new(),

@@ -132,7 +132,7 @@ fn written(alloc: Global, text: &[u8]) -> Result<Block, AllocError> {
     let mut block = Block { bytes: [0; 4096] };
     let mut source = MemSource::new(Vec::from_slice(alloc, text)?, None);
     if let Ok(script) = read_script(alloc, &mut source) {
-        if let Some(Request::Write { block: found, .. }) = script.requests.stream(0).first() {
+        if let Some(Request::Write { block: found, .. }) = script.stream(0).first() {
             let bytes = found.bytes;
             block.bytes = bytes;
         }

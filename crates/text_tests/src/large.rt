@@ -105,7 +105,7 @@ fn put(alloc: Global, lines: u32) -> Result<Option<(u64, u64, u64)>, AllocError>
     let Ok(script) = read_script(alloc, &mut source) else {
         return Ok(None);
     };
-    let report = report(alloc, lines, script.requests)?;
+    let report = report(alloc, lines, script)?;
     let mut room = AnswerRoom::with_room_for(alloc, &report.requests)?;
     let mut out = CountingSink {
         puts: 0,

@@ -27,7 +27,7 @@ pub fn read(alloc: Global, text: &[u8]) -> Result<Option<Told>, AllocError> {
         Ok(script) => {
             let mut told = (0, b'-', 0, 0, 0, 0_usize);
             for stream in 0..16_u8 {
-                for request in script.requests.stream(stream) {
+                for request in script.stream(stream) {
                     let (kind, at, first, last) = told_request(request);
                     told = (stream, kind, at, first, last, told.5.saturating_add(1));
                 }
@@ -76,39 +76,6 @@ fn scripts_are_served(rt: HostRuntime) -> Result<(), Fail> {
     let mut other = None;
     for (text, want) in SERVED {
         if read(rt.alloc(), text.as_bytes())? != Some(Ok(want)) {
-            other = Some(text);
-        }
-    }
-    assert_eq!(rt; other, None);
-    Ok(())
-}
-
-/// Where the first discard of a script stands; none of either where the script isn't read.
-fn discard_of(alloc: Global, text: &[u8]) -> Result<Option<Option<u64>>, AllocError> {
-    let mut source = MemSource::new(Vec::from_slice(alloc, text)?, None);
-    match read_script(alloc, &mut source) {
-        Ok(script) => Ok(Some(script.first_discard)),
-        Err(_) => Ok(None),
-    }
-}
-
-const DISCARDS: [(&str, Option<u64>); 9] = [
-    ("0 flush\n\n7 discard 5 2\n#\n0 discard 1 1\n", Some(3)),
-    ("0 flush\n#\n0 discard 5 2\n#\n7 discard 1 1", Some(3)),
-    ("15 discard 4294967295 1", Some(1)),
-    ("0 read 5\n0 discard 5 1", Some(2)),
-    ("0 discard 5 1\n0 discard 5 1\n0 discard 5 1\n", Some(1)),
-    ("", None),
-    ("0 flush\n0 read 5\n1 write 5 4096*61\n", None),
-    ("#0 discard 5 1\n0 flush\n", None),
-    ("#0 discard 5 1\n# discard\n0 flush\n0 discard 5 1", Some(4)),
-];
-
-#[test]
-fn the_first_discard_is_named(rt: HostRuntime) -> Result<(), Fail> {
-    let mut other = None;
-    for (text, want) in DISCARDS {
-        if discard_of(rt.alloc(), text.as_bytes())? != Some(want) {
             other = Some(text);
         }
     }

@@ -27,10 +27,7 @@ type Told = Result<(usize, usize), ReadScript>;
 
 fn told<S: Source>(alloc: Global, source: &mut S) -> Told {
     let script = read_script(alloc, source)?;
-    Ok((
-        script.requests.stream(3).len(),
-        script.requests.stream(9).len(),
-    ))
+    Ok((script.stream(3).len(), script.stream(9).len()))
 }
 
 fn source(alloc: Global, text: &[u8], fails_at: Option<u64>) -> Result<MemSource, AllocError> {

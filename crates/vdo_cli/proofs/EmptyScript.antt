@@ -20,7 +20,7 @@ use Rattle.plain_laws.specs.Sums.{Each}
 use Rattle.step_parts.specs.DeviceLog.{HasCalled}
 use Rattle.stream_text.specs.ReadingBytes.{HasWholeBlock}
 use Rattle.stream_text.specs.StreamRows.{no_requests}
-use Rattle.stream_text.specs.WholeScript.{first_discard, whole_script}
+use Rattle.stream_text.specs.WholeScript.{whole_script}
 use Rattle.vdo_core.specs.Cores.{CanBegin}
 use Rattle.vdo_core.specs.Done.{IsDone}
 use Rattle.vdo_core.specs.FreeBlocks.{free_of}
@@ -138,7 +138,7 @@ module _ (tells honest : Bool) (schedule : ℕ) (head : Super) (window : List En
       (first_begins head window used no_requests) rests (first_done head window used) (not_called tells honest opened) before is_opened
       (were_only_read tells honest 0 before opened _ is_opened.read.read)
 
-  pub empty_plays : (source_tells : Bool) (source rest : SourceSeen) → (IsTrue source_tells → (whole_script source.left ≡ Ok no_requests) × (first_discard source.left ≡ None)) → (IsTrue source_tells → rest.left ≡ [])
+  pub empty_plays : (source_tells : Bool) (source rest : SourceSeen) → (IsTrue source_tells → whole_script source.left ≡ Ok no_requests) → (IsTrue source_tells → rest.left ≡ [])
       → Plays (input_setting tells honest source_tells) schedule empty_report (inputs before source) (inputs opened rest)
   empty_plays source_tells source rest script_is whole =
       plays tells honest head window used no_requests (first_zones head window used no_requests) (first_zones head window used no_requests) [] opened opened can

@@ -58,6 +58,5 @@ pub not_served : (tells honest source_tells : Bool) (before after : Seen) (sourc
     → PlayFails (input_setting tells honest source_tells) (inputs before source) (inputs after rest) why
 not_served tells honest source_tells before after source rest fault.Memory opened fails = tt
 not_served tells honest source_tells before after source rest (fault.Script refusal) opened fails = opened _ fails
-not_served tells honest source_tells before after source rest (fault.Later line) opened fails = opened _ fails
 not_served tells honest source_tells before after source rest fault.Read opened fails = opened _ fails
 not_served tells honest source_tells before after source rest other opened fails = absurd fails

@@ -18,7 +18,7 @@ use Rattle.image_layout.specs.Superblock.{super_of}
 use Rattle.image_model.specs.declared.fault.ImageFault.TheVariants as image
 use Rattle.image_layout.specs.declared.fault.SuperFault.{SuperFault}
 use Rattle.image_layout.specs.declared.fault.SuperFault.TheVariants.{NotAnImage, Version}
-use Rattle.stream_text.specs.WholeScript.{first_discard, whole_script}
+use Rattle.stream_text.specs.WholeScript.{whole_script}
 use Rattle.stream_text.specs.declared.refusal.ScriptRefusal.{ScriptRefusal}
 use Rattle.vdo_model.specs.Scripts.{Script}
 use Rattle.vdo_cli.specs.declared.fault.Fault.{Fault}
@@ -255,27 +255,6 @@ module _ (honest : Bool) (before after : Seen) (head : Super) (journal : List (L
 
   script-not_unopened : (why : SuperFault) (refusal : ScriptRefusal) → HasNoImage (trust true honest) before after why → Ends 0 0 (fault.Script refusal) → ⊥
   script-not_unopened why refusal none fails = not_read_and_refused true honest before after refl fails.found.head fails.is_opened.journal why fails.is_opened.read none
-
-  -- Later: no line has a fault, and this one is the first that asks for a discard; and not where the window is faulty, where
-  -- a line has a fault, another line is the first, or none asks for a discard
-  later-first : (window : List Entry) (used : ℕ) (script : Script) (line : ℕ) → Right window used → whole_script left ≡ Ok script → first_discard left ≡ Some line → Ends 0 0 (fault.Later line)
-  later-first window used script line right says asks = record { found = opening_of head window used; is_opened = opened window used right; cause = λ told. ((script, says), asks) }
-
-  later-not_before_the_window : (sequence line : ℕ) → Wrong sequence → Ends 0 0 (fault.Later line) → ⊥
-  later-not_before_the_window sequence line wrong fails =
-      right_or_wrong fails.found.head fails.found.window fails.found.used sequence fails.is_opened (window-faulty sequence wrong)
-
-  later-not_where_refused : (refusal : ScriptRefusal) (line : ℕ) → whole_script left ≡ Err refusal → Ends 0 0 (fault.Later line) → ⊥
-  later-not_where_refused refusal line says fails = let said = (fails.cause refl).0.1 in absurd cc
-
-  later-not_another : (line other : ℕ) → first_discard left ≡ Some line → line ≢ other → Ends 0 0 (fault.Later other) → ⊥
-  later-not_another line other asks differ fails =
-      let said = (fails.cause refl).1 in
-      let same : line ≡ other = cc in
-      differ same
-
-  later-not_without_a_discard : (line : ℕ) → first_discard left ≡ None → Ends 0 0 (fault.Later line) → ⊥
-  later-not_without_a_discard line asks fails = let said = (fails.cause refl).1 in absurd cc
 
   -- Read: the window was right and the source's count rose; and not where the window is faulty, or no count rose
   read-failed : (window : List Entry) (used : ℕ) → Right window used → Ends 0 1 fault.Read

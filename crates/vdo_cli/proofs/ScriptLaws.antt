@@ -9,7 +9,7 @@ use Rattle.disk_model.specs.Seen.{Seen}
 use Rattle.core_model.specs.SessionLimits.{requests_in}
 use Rattle.core_model.specs.Sessions.{IsServed}
 use Rattle.plain_laws.proofs.ListLaws.{every-map}
-use Rattle.stream_text.specs.ReadingBytes.{EachRequest, IsPlainRequest, IsWholeScript}
+use Rattle.stream_text.specs.ReadingBytes.{EachRequest, HasWholeBlock, IsWholeScript}
 use Rattle.stream_text.specs.StreamRows.{count_of}
 use Rattle.vdo_core.specs.Cores.{CanBegin}
 use Rattle.vdo_core.proofs.JournalLaws.{entries_of_image, leaves_one}
@@ -17,15 +17,15 @@ use Rattle.vdo_model.specs.Scripts.{Script}
 use Rattle.vdo_cli.specs.Openings.{IsOpened, opening_of, trust}
 use Rattle.vdo_cli.specs.Sessions.{run_sizes}
 
--- a request that is plain is served
-plain_served : (r : Request) → IsPlainRequest r → IsServed r
-plain_served (Read at) plain = tt
-plain_served (Write at bytes fua) plain = plain
-plain_served (Discard at) plain = absurd plain
-plain_served Flush plain = tt
+-- a request that has a whole block where it writes is served
+is_served : (r : Request) → HasWholeBlock r → IsServed r
+is_served (Read at) whole = tt
+is_served (Write at bytes fua) whole = whole
+is_served (Discard at) whole = tt
+is_served Flush whole = tt
 
-pub all_served : (script : Script) → EachRequest IsPlainRequest script → AllByRecursion (AllByRecursion IsServed) script
-all_served script plain = every-map (every-map plain_served) script plain
+all_served : (script : Script) → EachRequest HasWholeBlock script → AllByRecursion (AllByRecursion IsServed) script
+all_served script whole = every-map (every-map is_served) script whole
 
 -- both count all requests
 same_count : (script : Script) → count_of script ≡ requests_in script
@@ -33,8 +33,8 @@ same_count [] = refl
 same_count (requests ∷ script) = let rest = same_count script in omega (arith, rest)
 
 pub can_begin : (tells honest : Bool) (before now : Seen) (head : Super) (window : List Entry) (used : ℕ) (script : Script) → IsOpened (trust tells honest) before now (opening_of head window used) → IsWholeScript script
-    → AllByRecursion (AllByRecursion IsServed) script → CanBegin (run_sizes head used) script window
-can_begin tells honest before now head window used script opened whole served = record {
+    → CanBegin (run_sizes head used) script window
+can_begin tells honest before now head window used script opened whole = record {
   geometry = opened.read.is_head.sizes;
   start = opened.read.is_head.start;
   used = let left = leaves_one head.geometry head.start opened.journal opened.serves.found.last used opened.serves.used_is in omega (arith, left);
@@ -46,6 +46,6 @@ can_begin tells honest before now head window used script opened whole served = 
     requests = omega (arith, whole.few, same_count script);
     zones = omega arith;
   };
-  served = served;
+  served = all_served script whole.writes;
   of_image = entries_of_image head.geometry head.start opened.serves.found.last opened.journal opened.serves.found.entries window opened.serves.mapped.0 opened.serves.is_window.is_window;
 }

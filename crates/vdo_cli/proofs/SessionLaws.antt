@@ -60,7 +60,7 @@ use Rattle.stream_text.specs.ReadingBytes.{IsWholeScript}
 use Rattle.vdo_cli.specs.Commands.{run_setup}
 use Rattle.vdo_cli.proofs.ScriptLaws.{can_begin}
 use Rattle.vdo_core.specs.declared.events.Event.{Event}
-use Rattle.stream_text.specs.WholeScript.{first_discard, whole_script}
+use Rattle.stream_text.specs.WholeScript.{whole_script}
 use Rattle.vdo_cli.specs.Endings.{Plays}
 use Rattle.vdo_cli.specs.Openings.{CanServe, IsOpened, opening_of, trust}
 use Rattle.vdo_cli.specs.Stops.{Happens, OpensWith}
@@ -275,7 +275,7 @@ module _ (tells honest : Bool) (head : Super) (window : List Entry) (used : ℕ)
 
     pub plays : (source_tells : Bool) (schedule state : ℕ) (events : List Event) (source rest : SourceSeen) → Stays before after
         → Drives tells honest (run_sizes head used) schedule state events first last before after trace
-        → (IsTrue source_tells → (whole_script source.left ≡ Ok script) × (first_discard source.left ≡ None)) → (IsTrue source_tells → rest.left ≡ [])
+        → (IsTrue source_tells → whole_script source.left ≡ Ok script) → (IsTrue source_tells → rest.left ≡ [])
         → Plays (input_setting tells honest source_tells) schedule report (inputs start source) (inputs after rest)
     plays source_tells schedule state events source rest stays drives script_is whole = record {
       found = opening_of head window used;
@@ -304,17 +304,17 @@ module _ (tells honest : Bool) (head : Super) (window : List Entry) (used : ℕ)
 
 -- what a core did that began with what was read, was driven to its end, and told its report
 pub played : (tells honest source_tells : Bool) (number state : ℕ) (head : Super) (entries : List Entry) (used : ℕ) (script : Script) (sizes : Sizes) (first last : List Zone) (start before after : Seen) (source rest : SourceSeen)
-    (report : RunReport) → IsOpened (trust tells honest) start before (opening_of head (reverse entries) used) → IsUntouched tells start before → IsWholeScript script → AllByRecursion (AllByRecursion IsServed) script
+    (report : RunReport) → IsOpened (trust tells honest) start before (opening_of head (reverse entries) used) → IsUntouched tells start before → IsWholeScript script
     → sizes ≡ sizes_of run_setup head used
     → ((s : Session) → IsOf s sizes script (reverse entries) (free_of head.geometry (reverse entries)) → IsFirst s (core_with first []))
     → ((events : List Event) × (made : Trace) × Drives tells honest sizes number state events first last before after made) → IsDone last → Stays before after
-    → (IsTrue source_tells → (whole_script source.left ≡ Ok script) × (first_discard source.left ≡ None)) → (IsTrue source_tells → rest.left ≡ [])
+    → (IsTrue source_tells → whole_script source.left ≡ Ok script) → (IsTrue source_tells → rest.left ≡ [])
     → ((s : Session) (t : Trace) → IsSession s → Legal s (core_with last t) → IsDone last → report ≡ report_of s t)
     → Plays (input_setting tells honest source_tells) number report (inputs start source) (inputs after rest) × (report.requests ≡ script)
-played tells honest source_tells number state head entries used script sizes first last start before after source rest report opened untouched shape served sizes_are begins driven done stays script_is whole says =
+played tells honest source_tells number state head entries used script sizes first last start before after source rest report opened untouched shape sizes_are begins driven done stays script_is whole says =
     let window = reverse entries in
     let sized : sizes ≡ run_sizes head used = sizes_are in
-    let can = can_begin tells honest start before head window used script opened shape served in
+    let can = can_begin tells honest start before head window used script opened shape in
     let begins_so = (λ (s : Session) (over : IsOver (task (opening_of head window used) script) s). begins s (rw sized over)) in
     let (events, made, drives_so) = driven in
     let drives : Drives tells honest (run_sizes head used) number state events first last before after made =

@@ -9,7 +9,7 @@ use Rattle.disk_model.specs.Since.{reads_of}
 use Rattle.core_model.specs.Trace.{calls}
 use Rattle.stream_text.specs.StreamRows.{no_requests}
 use Rattle.stream_text.specs.Texts.{answers_text}
-use Rattle.stream_text.specs.WholeScript.{first_discard, whole_script}
+use Rattle.stream_text.specs.WholeScript.{whole_script}
 use Rattle.vdo_model.specs.declared.report.DeskLine.TheVariants.{Answer}
 use Rattle.vdo_model.specs.declared.report.RunReport.{RunReport}
 use Rattle.vdo_model.proofs.Example.{address, of_a}
@@ -61,20 +61,7 @@ flush_asked : whole_script (codes "0 flush\n") ≡ Ok no_requests → ⊥
 flush_asked said = absurd cc
 
 served-not_another_script : Ends run_words (with [] (codes "0 flush\n") [] 0) (with [] [] [] 0) 0 empty_report None → ⊥
-served-not_another_script ends = flush_asked (ends.session.script_is refl).0
-
--- and none is a discard
-discard_first : first_discard (codes "0 discard 5 1\n") ≡ Some 1
-discard_first = refl
-
-no_discard_there : (found : Option ℕ) → found ≡ Some 1 → found ≡ None → ⊥
-no_discard_there found there none = absurd cc
-
-abbrev discard_report : RunReport
-discard_report = record empty_report { requests = (request.Discard (address 5) ∷ []) ∷ replicate 15 [] }
-
-served-not_with_a_discard : Ends run_words (with [] (codes "0 discard 5 1\n") [] 0) (with [] [] [] 0) 0 discard_report None → ⊥
-served-not_with_a_discard ends = no_discard_there _ discard_first (ends.session.script_is refl).1
+served-not_another_script ends = flush_asked (ends.session.script_is refl)
 
 -- the device has its opening blocks and its size
 served-not_of_another_size : Ends run_words (with [] [] [] 0) (outside (device [] [] 0 0) (source [] 0) (sink [] 0)) 0 empty_report None → ⊥

@@ -50,9 +50,6 @@ block_length_line = refl
 too_many_line : fault_text (fault.Script (record { line = 3; fault = line_fault.TooMany })) ≡ codes "script line " ++ decimal 3 ++ codes ": too many\n"
 too_many_line = refl
 
-later_line : fault_text (fault.Later 12) ≡ codes "script line " ++ decimal 12 ++ codes ": later\n"
-later_line = refl
-
 layout_line : fault_text (fault.Layout LogicalTooLarge) ≡ codes "layout: logical too large\n"
 layout_line = refl
 
@@ -90,9 +87,6 @@ usage_status = refl
 
 script_status : fault_status (fault.Script (record { line = 3; fault = line_fault.Range })) ≡ 2
 script_status = refl
-
-later_status : fault_status (fault.Later 3) ≡ 2
-later_status = refl
 
 layout_status : (why : LayoutFault) → fault_status (fault.Layout why) ≡ 8
 layout_status why = refl

@@ -7,7 +7,7 @@ use Rattle.disk_model.specs.Seen.{Seen, Stays}
 use Rattle.disk_model.specs.Streams.{SourceSeen}
 use Rattle.image_layout.specs.Values.{value_of}
 use Rattle.core_model.specs.Trace.{Trace, moments}
-use Rattle.stream_text.specs.WholeScript.{first_discard, whole_script}
+use Rattle.stream_text.specs.WholeScript.{whole_script}
 use Rattle.vdo_model.specs.declared.report.RunReport.{RunReport}
 use Rattle.vdo_model.specs.FlushMarks.{calls_of}
 use Rattle.vdo_model.specs.RightReads.{ReadsRight}
@@ -27,8 +27,7 @@ pub record Plays (s : InputSetting) (schedule : ℕ) (report : RunReport) (befor
   pub opened : Seen
   pub is_opened : IsOpened s.device before.device opened found
   -- the requests are those of the script, which was read to its end
-  pub script_is : IsTrue s.source_tells
-      → (whole_script before.source.left ≡ Ok report.requests) × (first_discard before.source.left ≡ None)
+  pub script_is : IsTrue s.source_tells → whole_script before.source.left ≡ Ok report.requests
   pub to_its_end : IsTrue s.source_tells → after.source.left ≡ []
   -- a core served them by the schedule from then on
   pub trace : Trace
@@ -57,9 +56,6 @@ pub record FailsOpened (trust : Trust) (before after : Seen) (Cause : Type 0) : 
 abbrev pub ScriptFails : Bool → SourceSeen → SourceSeen → Fault → Type 0
 -- this line is the first with a fault
 ScriptFails tells before after (fault.Script refusal) = IsTrue tells → whole_script before.left ≡ Err refusal
--- no line has a fault, and this one is the first that asks for what isn't served yet
-ScriptFails tells before after (fault.Later line) =
-    IsTrue tells → ((script : Script) × (whole_script before.left ≡ Ok script)) × (first_discard before.left ≡ Some line)
 -- the source failed
 ScriptFails tells before after fault.Read = Rose before.faults after.faults
 -- memory ran out
@@ -78,7 +74,6 @@ PlayFails s before after fault.Device = OpeningFails s.device before.device afte
 PlayFails s before after (fault.Image why) = OpeningFails s.device before.device after.device (fault.Image why)
 -- an image was opened, and the script can't be served
 PlayFails s before after (fault.Script refusal) = FailsOnScript s before after (fault.Script refusal)
-PlayFails s before after (fault.Later line) = FailsOnScript s before after (fault.Later line)
 PlayFails s before after fault.Read = FailsOnScript s before after fault.Read
 -- memory ran out
 PlayFails s before after fault.Memory = Unit {0}

@@ -34,7 +34,6 @@ script_fault_line line why = codes "script line " ++ decimal line ++ (codes ": "
 abbrev pub fault_text : Fault → List ℕ
 fault_text fault.Usage = codes "usage\n"
 fault_text (fault.Script why) = script_fault_line why.line (line_fault_text why.fault)
-fault_text (fault.Later line) = script_fault_line line (codes "later")
 fault_text (fault.Layout why) = layout_line why
 fault_text fault.Device = codes "device fault\n"
 fault_text (fault.Image why) = image_fault_line why
@@ -47,7 +46,6 @@ fault_text fault.Sink = []
 abbrev pub fault_status : Fault → ℕ
 fault_status fault.Usage = 2
 fault_status (fault.Script why) = 2
-fault_status (fault.Later line) = 2
 fault_status (fault.Layout why) = 8
 fault_status fault.Device = 3
 fault_status (fault.Image why) = 4

@@ -62,7 +62,6 @@ pub fn put_fault<K: Sink>(fault: &Fault, out: &mut K) -> Result<(), Failed>
 {
     let line: &[u8] = match fault {
         Fault::Script(why) => return put_script_line(why.line, script_fault_end(why.fault), out),
-        Fault::Later { line } => return put_script_line(*line, b": later\n", out),
         Fault::Image(why) => return put_image_fault(*why, out),
         Fault::Differs(count) => return put_differs(*count, out),
         Fault::Layout(why) => return put_layout_fault(*why, out),
@@ -91,7 +90,7 @@ pub(crate) fn status_of(fault: &Fault) -> u8
     ensures { result ≡ fault_status fault.now }
 {
     match fault {
-        Fault::Usage | Fault::Script(_) | Fault::Later { .. } => 2,
+        Fault::Usage | Fault::Script(_) => 2,
         Fault::Device => 3,
         Fault::Image(_) => 4,
         Fault::Memory => 5,

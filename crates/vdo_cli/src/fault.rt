@@ -12,9 +12,6 @@ pub enum Fault {
     /// A line of the script has a fault. Status 2.
     #[error("{0}")]
     Script(ScriptRefusal),
-    /// A line of the script asks for what isn't served yet: a discard. Status 2.
-    #[error("script line {line}: later")]
-    Later { line: u64 },
     /// The device failed: a read before the script was read, or while an image was looked at, or a call while one was made
     /// or recovered. Status 3.
     #[error("device fault")]

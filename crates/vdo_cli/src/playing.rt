@@ -1,10 +1,8 @@
-ghost use Rattle.std.specs.List.{AllByRecursion};
-ghost use Rattle.std.specs.Prelude.{◌≡◌, ◌≤◌, [], None, Ok, IfOk, IfErr, IsTrue};
-ghost use Rattle.core_model.specs.Sessions.{IsServed};
+ghost use Rattle.std.specs.Prelude.{◌≡◌, ◌≤◌, [], Ok, IfOk, IfErr, IsTrue};
 ghost use Rattle.disk_model.specs.Since.{IsUntouched};
 ghost use Rattle.stream_text.specs.AnswerRooms.{HasRoomFor};
 ghost use Rattle.stream_text.specs.ReadingBytes.{IsWholeScript};
-ghost use Rattle.stream_text.specs.WholeScript.{first_discard, whole_script};
+ghost use Rattle.stream_text.specs.WholeScript.{whole_script};
 ghost use Rattle.vdo_cli.specs.Endings.{Plays, PlayFails, ScriptFails};
 ghost use Rattle.vdo_cli.specs.Outsides.{input_setting, inputs};
 
@@ -31,22 +29,16 @@ pub(crate) struct Played {
     pub(crate) room: AnswerRoom,
 }
 
-// Reads the requests of the script, all of which are served.
-// A discard refuses a script behind the grammar: a line with a fault is named before it, wherever it stands.
-fn read_served<S: Source>(alloc: Global, script: &mut S) -> Result<Requests, Fault>
+// Reads the requests of the script, and says its refusal as a fault of the run.
+fn read_requests<S: Source>(alloc: Global, script: &mut S) -> Result<Requests, Fault>
     ensures script { IsTrue S.tells → IfOk result (λ requests.
-        (whole_script (S.seen script.old).left ≡ Ok requests)
-        × (first_discard (S.seen script.old).left ≡ None) × ((S.seen script.new).left ≡ [])) }
+        (whole_script (S.seen script.old).left ≡ Ok requests) × ((S.seen script.new).left ≡ [])) }
     ensures shape { IfOk result IsWholeScript }
-    ensures served { IfOk result (λ requests. AllByRecursion (AllByRecursion IsServed) requests) }
     ensures fault { IfErr result (ScriptFails S.tells (S.seen script.old) (S.seen script.new)) }
     ensures later { (S.seen script.old).faults ≤ (S.seen script.new).faults }
 {
     match read_script(alloc, script) {
-        Ok(read) => match read.first_discard {
-            Some(line) => Err(Fault::Later { line }),
-            None => Ok(read.requests),
-        },
+        Ok(requests) => Ok(requests),
         Err(ReadScript::Script(refusal)) => Err(Fault::Script(refusal)),
         Err(ReadScript::Read) => Err(Fault::Read),
         Err(ReadScript::Memory) => Err(Fault::Memory),
@@ -74,7 +66,7 @@ pub(crate) fn play<R: Wait, D: Disk, S: Source>(
     ensures later { (S.seen script.old).faults ≤ (S.seen script.new).faults }
 {
     let Opened { head, used, window } = open(alloc, device)?;
-    let requests = read_served(alloc, script)?;
+    let requests = read_requests(alloc, script)?;
     let Ok(room) = AnswerRoom::with_room_for(alloc, &requests) else {
         return Err(Fault::Memory);
     };

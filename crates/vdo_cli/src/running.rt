@@ -246,7 +246,7 @@ fn status_of_device<D: Disk, S: Source, K: Sink>(
 /// |---|---|
 /// | 0 | each request was answered Ok, or with bytes; or the image was made; or recovered, or was closed; or no block differs, or the status was told |
 /// | 1 | a request was answered Full: no journal block was left for its entry, or no data block |
-/// | 2 | the words are no command that is served (`Usage`), a line of the script has a fault (`Script`), or asks for a discard (`Later`) |
+/// | 2 | the words are no command that is served (`Usage`) or a line of the script has a fault (`Script`) |
 /// | 3 | the device failed: before the script was read, or while an image was made, recovered or looked at (`Device`), or a request was answered Stopped or with a read fault |
 /// | 4 | the device has no image, or a block of its window can't be replayed or has a new page, or a recovery, an audit or a status met a page or a count that can't be (`Image`) |
 /// | 5 | memory ran out before the first request was served, or while an image was looked at, or before the first write of a recovery (`Memory`) |

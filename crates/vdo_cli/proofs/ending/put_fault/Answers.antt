@@ -18,9 +18,6 @@ returns g c =
 pub returns-in-Script : goal.returns-in-Script
 returns-in-Script g c = rw c.in-Script.is (rw c.script_fault_end.ensures at c.put_script_line.ensures)
 
-pub returns-in-Later : goal.returns-in-Later
-returns-in-Later g c = rw c.in-Later.is c.put_script_line-in-Later.ensures
-
 pub returns-in-Image : goal.returns-in-Image
 returns-in-Image g c = rw c.in-Image.is c.put_image_fault.ensures
 

@@ -4,7 +4,7 @@ use Rattle.stream_text.specs.WholeScript.{after_text}
 use Rattle.stream_text.specs.ReadingBytes.{StopsLine}
 use Rattle.stream_text.proofs.LineLaws.{not_empty}
 use Rattle.stream_text.proofs.ScriptLaws.{stops-last}
-use Rattle.stream_text.proofs.DiscardLaws.{said-last, whole-last, plain-last}
+use Rattle.stream_text.proofs.WholeBlockLaws.{goes-last, whole-last}
 use Rattle.stream_text.proofs.reading.ReadingBytes.end.Goals as goal
 
 pub returns-in-Err-clause-refused : goal.returns-in-Err-clause-refused
@@ -18,18 +18,10 @@ pub returns-in-Ok-clause-ok : goal.returns-in-Ok-clause-ok
 returns-in-Ok-clause-ok c =
     let self = c.args.self in
     let some : self.line.items ≢ [] = λ e. not_empty self.line.items c.is_empty.result c.is_empty.ensures c.if-is_empty.false e in
-    said-last self.number self.before self.first_discard c.earlier_discard-discard.result self.streams c.add_line.new.streams c.into_requests-in-Ok.result
-    self.line.items c.deref.result.now c.in-Ok.added.discards c.requires.one_line some c.requires.short c.requires.within c.deref.ensures.0 c.in-Ok.ensures.ok.same
-    c.in-Ok.ensures.discards c.earlier_discard-discard.ensures c.into_requests-in-Ok.ensures
+    goes-last self.number self.before self.streams c.add_line.new.streams c.into_requests-in-Ok.result self.line.items c.deref.result.now c.requires.one_line some
+    c.requires.short c.requires.within c.deref.ensures.0 c.in-Ok.ensures.ok.same c.into_requests-in-Ok.ensures
 
 pub returns-in-Ok-clause-shape : goal.returns-in-Ok-clause-shape
 returns-in-Ok-clause-shape c =
-    whole-last c.in-Ok.added.count c.args.self.streams c.add_line.new.streams c.into_requests-in-Ok.result c.deref.result.now c.requires.writes
+    whole-last c.in-Ok.field-0 c.args.self.streams c.add_line.new.streams c.into_requests-in-Ok.result c.deref.result.now c.requires.writes
     c.add_line.ensures.rows c.in-Ok.ensures.ok c.into_requests-in-Ok.ensures
-
-pub returns-in-Ok-clause-served : goal.returns-in-Ok-clause-served
-returns-in-Ok-clause-served c =
-    let self = c.args.self in
-    plain-last self.number self.first_discard c.earlier_discard-discard.result self.streams c.add_line.new.streams c.into_requests-in-Ok.result
-    c.deref.result.now c.in-Ok.added.discards c.requires.plain c.in-Ok.ensures.ok.same c.in-Ok.ensures.discards c.earlier_discard-discard.ensures
-    c.into_requests-in-Ok.ensures

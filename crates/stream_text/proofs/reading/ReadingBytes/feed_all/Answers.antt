@@ -1,7 +1,7 @@
 use Rattle.std.proofs.Common.{List, ℕ, ◌≡◌, length, take, ◌∙◌, ap, refl, arith}
 use Rattle.std.proofs.lemmas.List.{length-take-le}
 use Rattle.std.proofs.lemmas.Result.{err_from_is_err_and}
-use Rattle.stream_text.specs.ReadingBytes.{goes_on_from, said_from}
+use Rattle.stream_text.specs.ReadingBytes.{goes_on_from}
 use Rattle.stream_text.proofs.reading.ReadingBytes.feed_all.Goals as goal
 
 pub pieces-init : goal.pieces-init
@@ -14,7 +14,7 @@ pieces-preserved g c =
     record {
       sound = c.in_ok-feed.ensures.sound;
       same = λ tells. was.same tells
-          ∙ ap (λ (t : List ℕ). said_from self.number self.before self.first_discard self.streams self.line.items t) (c.in-Ok.ensures.given tells)
+          ∙ ap (λ (t : List ℕ). goes_on_from self.number self.before self.streams self.line.items t) (c.in-Ok.ensures.given tells)
           ∙ c.in_ok-feed.ensures.ok (g.S.Source.seen c.take.new.self).left;
       later = omega (arith, was.later, c.in-Ok.ensures.cause.later);
     }
@@ -29,6 +29,6 @@ returns-in_err-feed-clause-refused g c = λ tells.
     let was = c.pieces.invariant in
     let self = c.pieces.self in
     let p = err_from_is_err_and c.from_residual.result c.from_residual.ensures.1 in
-    rw (p.1, p.2) (rw (ap (λ said. said.0) (was.same tells)
+    rw (p.1, p.2) (rw (was.same tells
     ∙ ap (λ (t : List ℕ). goes_on_from self.number self.before self.streams self.line.items t) (c.in-Ok.ensures.given tells))
     (c.in_err-feed.ensures.refused (g.S.Source.seen c.take.new.self).left))
