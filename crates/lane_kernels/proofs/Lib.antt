@@ -1,1 +1,3 @@
 mod ZeroLaws
+mod LoadLaws
+mod SumLaws

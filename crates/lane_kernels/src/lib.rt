@@ -1,4 +1,5 @@
-//! Answers about whole runs of bytes. Each is equal to a plain definition, whatever way its body goes over the bytes.
+//! Answers about whole runs of bytes. Each is equal to a plain definition, whatever way its body goes over the bytes: it
+//! takes many at once, and the rest one by one.
 //!
 //! Only tested: rows at the ends of blocks and slices.
 #![tactic(auto)]
@@ -7,27 +8,49 @@ ghost use Rattle.std.specs.Prelude.{◌≡◌, ◌<◌, ◌≤◌, ◌^◌, ◌�
 ghost use Rattle.blk_base.specs.Sectors.{zero_block};
 ghost use Rattle.lane_kernels.specs.Kernels.{IsFreeAt, IsLeastFree};
 
+mod loads;
+
+use crate::loads::{FOUR_LOADS, LANES, SUM_LANES, are_same, are_zeros, least_free, total_of};
 use blk_base::Block;
+
+/// How many loads a block has.
+const BLOCK_LOADS: usize = 4096 / LANES;
 
 /// Whether each byte of the block is 0.
 pub fn is_zero(block: &Block) -> bool
     ensures bytes { IsTrue result ↔ All (λ byte. byte ≡ 0) block.now }
     ensures block { IsTrue result ↔ (block.now ≡ zero_block) }
 {
-    are_zeros(&block.bytes)
+    are_all_zeros(&block.bytes)
 }
 
-fn are_zeros(bytes: &[u8]) -> bool
+fn are_all_zeros(bytes: &[u8; 4096]) -> bool
     ensures { IsTrue result ↔ All (λ byte. byte ≡ 0) bytes.now }
 {
-    bytes.iter().all(|byte| *byte == 0)
+    for four in 0..4096 / FOUR_LOADS {
+        if !are_zeros(bytes, four * FOUR_LOADS) {
+            return false;
+        }
+    }
+    true
 }
 
 /// Whether the blocks have the same bytes.
 pub fn equal(left: &Block, right: &Block) -> bool
     ensures { IsTrue result ↔ (left.now ≡ right.now) }
 {
-    left.bytes == right.bytes
+    are_all_same(&left.bytes, &right.bytes)
+}
+
+fn are_all_same(left: &[u8; 4096], right: &[u8; 4096]) -> bool
+    ensures { IsTrue result ↔ (left.now ≡ right.now) }
+{
+    for load in 0..BLOCK_LOADS {
+        if !are_same(left, right, load * LANES) {
+            return false;
+        }
+    }
+    true
 }
 
 /// The least place where the counter and the claim are both 0; `None` where there is no such place.
@@ -36,8 +59,14 @@ pub fn first_free(counters: &[u8], claims: &[u8]) -> Option<usize>
     ensures some { IfSome result (IsLeastFree counters.now claims.now) }
     ensures none { IfNone result ((k : ℕ) → k < length counters.now → ¬ IsFreeAt counters.now claims.now k) }
 {
-    for (at, counter) in counters.iter().enumerate() {
-        if *counter == 0 && claims[at] == 0 {
+    let loads = counters.len() / LANES;
+    for load in 0..loads {
+        if let Some(at) = least_free(counters, claims, load * LANES) {
+            return Some(at);
+        }
+    }
+    for at in loads * LANES..counters.len() {
+        if counters[at] == 0 && claims[at] == 0 {
             return Some(at);
         }
     }
@@ -49,8 +78,12 @@ pub fn total(bytes: &[u8]) -> u64
     requires { length bytes.now ≤ 2 ^ 32 }
     ensures { result ≡ sum bytes.now }
 {
+    let loads = bytes.len() / SUM_LANES;
     let mut sum = 0;
-    for byte in bytes {
+    for load in 0..loads {
+        sum += u64::from(total_of(bytes, load * SUM_LANES));
+    }
+    for byte in &bytes[loads * SUM_LANES..] {
         sum += u64::from(*byte);
     }
     sum

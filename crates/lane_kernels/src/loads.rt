@@ -1,0 +1,99 @@
+//! What one load of bytes answers.
+ghost use Rattle.std.specs.Prelude.{◌≡◌, ◌+◌, ◌*◌, ◌<◌, ◌≤◌, ◌↔◌, ℕ, bit_or, length, slice_index, IsTrue, IfSome, IfNone};
+ghost use Rattle.std.specs.Simd.Lanes.{chunk, mask_l, sum_l, zip2};
+ghost use Rattle.lane_kernels.specs.Kernels.{IsFreeAt, IsLeastFreeWithin, free_lanes};
+
+use std::simd::prelude::*;
+
+/// How many bytes a load takes.
+pub(crate) const LANES: usize = 64;
+
+/// How many bytes four loads take.
+pub(crate) const FOUR_LOADS: usize = 4 * LANES;
+
+/// How many bytes a load takes whose sum is wanted.
+pub(crate) const SUM_LANES: usize = 16;
+
+/// Whether the bytes of this load are the same in both slices.
+#[inline(always)]
+pub(crate) fn are_same(left: &[u8], right: &[u8], at: usize) -> bool
+    requires { (at + LANES ≤ length left.now) × (at + LANES ≤ length right.now) }
+    ensures { IsTrue result ↔ ((k : ℕ) → at ≤ k → k < at + LANES → slice_index left.now k ≡ slice_index right.now k) }
+{
+    let left = u8x64::from_slice(&left[at..]);
+    let right = u8x64::from_slice(&right[at..]);
+    left.simd_ne(right).to_bitmask() == 0
+}
+
+// Lane by lane: 0 exactly where both are.
+#[inline(always)]
+fn either(left: u8x64, right: u8x64) -> u8x64
+    ensures { result ≡ zip2 bit_or left right }
+{
+    left | right
+}
+
+/// Whether the bytes of four loads from this place on are all 0.
+#[inline(always)]
+pub(crate) fn are_zeros(bytes: &[u8], at: usize) -> bool
+    requires { at + FOUR_LOADS ≤ length bytes.now }
+    ensures { IsTrue result ↔ ((k : ℕ) → at ≤ k → k < at + FOUR_LOADS → slice_index bytes.now k ≡ 0) }
+{
+    let front = either(
+        u8x64::from_slice(&bytes[at..]),
+        u8x64::from_slice(&bytes[at + LANES..]),
+    );
+    let back = either(
+        u8x64::from_slice(&bytes[at + 2 * LANES..]),
+        u8x64::from_slice(&bytes[at + 3 * LANES..]),
+    );
+    are_zero_lanes(either(front, back))
+}
+
+// Whether each lane is 0.
+#[inline(always)]
+fn are_zero_lanes(lanes: u8x64) -> bool
+    requires { length lanes ≡ LANES }
+    ensures { IsTrue result ↔ ((k : ℕ) → k < LANES → slice_index lanes k ≡ 0) }
+{
+    lanes.simd_ne(u8x64::splat(0)).to_bitmask() == 0
+}
+
+// A bit for each lane of this load: whether the counter and the claim are both 0.
+#[inline(always)]
+fn free_bits(counters: &[u8], claims: &[u8], at: usize) -> u64
+    requires { (at + LANES ≤ length counters.now) × (at + LANES ≤ length claims.now) }
+    ensures { result ≡ mask_l (free_lanes at LANES counters.now claims.now) }
+{
+    let counters = u8x64::from_slice(&counters[at..]);
+    let claims = u8x64::from_slice(&claims[at..]);
+    either(counters, claims)
+        .simd_eq(u8x64::splat(0))
+        .to_bitmask()
+}
+
+/// The least place of this load where the counter and the claim are both 0; `None` where there is no such place.
+#[inline(always)]
+pub(crate) fn least_free(counters: &[u8], claims: &[u8], at: usize) -> Option<usize>
+    requires { (at + LANES ≤ length counters.now) × (at + LANES ≤ length claims.now) }
+    ensures some { IfSome result (IsLeastFreeWithin at (at + LANES) counters.now claims.now) }
+    ensures none { IfNone result ((k : ℕ) → at ≤ k → k < at + LANES → ¬ IsFreeAt counters.now claims.now k) }
+{
+    let free = free_bits(counters, claims, at);
+    if free == 0 {
+        return None;
+    }
+    Some(at + free.trailing_zeros() as usize)
+}
+
+/// The sum of the bytes of this load.
+#[inline(always)]
+pub(crate) fn total_of(bytes: &[u8], at: usize) -> u32
+    requires { at + SUM_LANES ≤ length bytes.now }
+    ensures total { result ≡ sum_l (chunk at SUM_LANES bytes.now) }
+    ensures few { result ≤ 255 * SUM_LANES }
+{
+    u8x16::from_slice(&bytes[at..])
+        .dot4(u8x16::splat(1))
+        .strict_reduce_sum()
+}
