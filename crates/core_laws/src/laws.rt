@@ -124,11 +124,11 @@ pub fn a_legal_core_is_right_after_a_stop()
         → RightAfterStops (ShowsValues s) s.blocks s.before s.sizes.geometry.logical (opening_values s) (report_of s core.trace) (calls core.trace) }
 {}
 
-/// What a zone does with an item is fixed, and in the device's zone by how the device answered: two acts on the same item
-/// keep, make and post the same. So all freedom lies in the order of the events, and in the device.
+/// What a zone does with an item, and the desk with none, is fixed, and in the device's zone by how the device answered: two
+/// acts on the same keep, make and post the same. So all freedom lies in the order of the events, and in the device.
 pub fn an_act_has_one_result()
-    ensures { (sizes : Sizes) (keeps : ZoneData) (front : Item) (new new' : ZoneData) (made made' : Trace) (posts posts' : List Post)
-        → Act sizes keeps (front ∷ []) new made posts → Act sizes keeps (front ∷ []) new' made' posts' → (CallsDevice keeps → made ≡ made')
+    ensures { (sizes : Sizes) (keeps : ZoneData) (front : List Item) (new new' : ZoneData) (made made' : Trace) (posts posts' : List Post)
+        → Act sizes keeps front new made posts → Act sizes keeps front new' made' posts' → (CallsDevice keeps → made ≡ made')
         → (new ≡ new') × (made ≡ made') × (posts ≡ posts') }
 {}
 

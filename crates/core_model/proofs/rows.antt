@@ -1,6 +1,7 @@
 pub mod CauseRows
 pub mod FollowRows
 mod FairRows
+pub mod BeginRows
 pub mod PhaseRows
 pub mod ZoneRows
 pub mod WorkedTraces

@@ -1,5 +1,5 @@
 -- What the desk does: it begins requests, and answers them.
-use Rattle.std.specs.Prelude.{ℕ, ◌+◌, ◌≡◌, Bool, true, false, Option, None, Some, List, [], ◌∷◌, ◌++◌, nat_lt, if◌then◌else◌}
+use Rattle.std.specs.Prelude.{ℕ, ◌+◌, ◌≡◌, ◌≤◌, Bool, true, false, Option, None, Some, List, [], ◌∷◌, ◌++◌, nat_lt, if◌then◌else◌}
 use Rattle.blk_base.specs.Sectors.{zero_block}
 use Rattle.blk_base.specs.declared.place.ZoneId.{ZoneId}
 use Rattle.blk_base.specs.declared.place.ZoneId.TheVariants as id
@@ -52,13 +52,18 @@ first_zone v = to v.asks
     to Discard = v.home
     to Flush = id.Device
 
--- The next request of a stream is begun, and answered at once or sent on.
+-- a request is begun next: that of the lowest stream that may begin one
+pub record BeginsNext (depth : ℕ) (desk : Desk) (w : Writer) : Type 0 where
+  pub may : IsNextLine depth desk.requests (line.Begin w) desk.log
+  pub lowest : (other : Writer) → IsNextLine depth desk.requests (line.Begin other) desk.log → w.stream ≤ other.stream
+
+-- The next request is begun, and answered at once or sent on.
 pub data DeskBegins (sizes : Sizes) (old new : Desk) (made : Trace) (posts : List Post) : Type 0 where
-  answers : (w : Writer) (r : Request) (v : Vio) (a : Answer) → IsNextLine sizes.depth old.requests (line.Begin w) old.log → request_at old.requests w ≡ Some r → vio_of sizes w r ≡ Some v
+  answers : (w : Writer) (r : Request) (v : Vio) (a : Answer) → BeginsNext sizes.depth old w → request_at old.requests w ≡ Some r → vio_of sizes w r ≡ Some v
       → at_once sizes (is_notified sizes old) v.asks v.at.0 ≡ Some a
       → new ≡ record old { log = line.Answer w a ∷ line.Begin w ∷ old.log } → made ≡ Says (line.Answer w a) ∷ Says (line.Begin w) ∷ [] → posts ≡ []
       → DeskBegins sizes old new made posts
-  sends : (w : Writer) (r : Request) (v : Vio) → IsNextLine sizes.depth old.requests (line.Begin w) old.log → request_at old.requests w ≡ Some r → vio_of sizes w r ≡ Some v
+  sends : (w : Writer) (r : Request) (v : Vio) → BeginsNext sizes.depth old w → request_at old.requests w ≡ Some r → vio_of sizes w r ≡ Some v
       → at_once sizes (is_notified sizes old) v.asks v.at.0 ≡ None
       → new ≡ record old { log = line.Begin w ∷ old.log } → made ≡ Says (line.Begin w) ∷ [] → posts ≡ (first_zone v, item.Request v) ∷ []
       → DeskBegins sizes old new made posts

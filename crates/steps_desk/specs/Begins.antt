@@ -2,12 +2,10 @@
 use Rattle.std.specs.Prelude.{◌≡◌, ◌<◌, None, Some}
 use Rattle.blk_base.specs.declared.request.Request.{Request}
 use Rattle.blk_base.specs.declared.request.Writer.{Writer}
-use Rattle.vdo_model.specs.DeskLog.{IsNextLine}
 use Rattle.vdo_model.specs.Scripts.{request_at}
-use Rattle.vdo_model.specs.declared.report.DeskLine.TheVariants as line
 use Rattle.core_model.specs.declared.sizes.Sizes.{Sizes}
 use Rattle.core_model.specs.DeskData.{Desk}
-use Rattle.core_model.specs.DeskRows.{vio_of}
+use Rattle.core_model.specs.DeskRows.{BeginsNext, vio_of}
 use Rattle.core_model.specs.Limits.{HasRoomToBegin, IsDeskWithin}
 use Rattle.core_model.specs.SessionLimits.{IsLimited}
 use Rattle.step_parts.specs.declared.fault.StepFault.{StepFault}
@@ -19,10 +17,10 @@ pub record CanBegin (sizes : Sizes) (desk : Desk) : Type 0 where
   pub limited : IsLimited sizes desk.requests
   pub within : IsDeskWithin desk
 
--- a stream may begin a request that isn't served
+-- the request that is begun next isn't served
 abbrev pub BeginsUnserved : Sizes → Desk → Type 0
 BeginsUnserved sizes desk =
-    (w : Writer) × (r : Request) × IsNextLine sizes.depth desk.requests (line.Begin w) desk.log × (request_at desk.requests w ≡ Some r) × (vio_of sizes w r ≡ None)
+    (w : Writer) × (r : Request) × BeginsNext sizes.depth desk w × (request_at desk.requests w ≡ Some r) × (vio_of sizes w r ≡ None)
 
 -- why none is begun that may be: there is no room for it, or it isn't served
 abbrev pub BeginsNone : Sizes → Desk → StepFault → Type 0

@@ -139,7 +139,7 @@ fn next_of(sizes: &Sizes, desk: &Desk, stream: u8) -> Option<u32>
 // The next request of the lowest stream that may begin one.
 fn lowest(sizes: &Sizes, desk: &Desk) -> Option<Writer>
     requires { CanBegin sizes.now desk.now }
-    ensures may { IfSome result (λ request. IsNextLine sizes.now.depth desk.now.requests (line.Begin request) desk.now.log) }
+    ensures next { IfSome result (rows.BeginsNext sizes.now.depth desk.now) }
     ensures none { IfNone result (MayBegin sizes.now (at.Desk desk.now) → ⊥) }
 {
     for number in 0..desk.requests().count() {
@@ -188,7 +188,7 @@ fn begin_one(
     posts: &mut Posts,
 ) -> Result<(), StepFault>
     requires can { CanBegin sizes.now desk.old }
-    requires next { IsNextLine sizes.now.depth desk.old.requests (line.Begin request) desk.old.log }
+    requires next { rows.BeginsNext sizes.now.depth desk.old request }
     requires none { posts.old ≡ [] }
     ensures ok { OnOk result ((made : Trace) × rows.DeskBegins sizes.now desk.old desk.new made posts.new) }
     ensures err { IfErr result (BeginsNone sizes.now desk.old) }

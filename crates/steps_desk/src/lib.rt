@@ -1,9 +1,6 @@
 //! The desk: what it does with the item in front of its inbox, and with none. Requests are begun and answered here.
 //!
 //! Only tested: as part of the core.
-//!
-//! Not there: that the request which is begun is that of the lowest stream that may begin one: it is in the code, and
-//! in no clause.
 #![tactic(auto)]
 
 mod acting;

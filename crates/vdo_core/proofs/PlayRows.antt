@@ -70,7 +70,7 @@ steps_desk n steps log counts next asked = record {
   counts = counts;
   taken = refl;
   in_turn = λ none. refl;
-  act = begins (DeskBegins.sends (writer 0 n) request.Flush (flush_of n) next asked refl refl refl refl refl);
+  act = begins (DeskBegins.sends (writer 0 n) request.Flush (flush_of n) (record { may = next; lowest = λ other may. omega arith }) asked refl refl refl refl refl);
   lanes = refl;
 }
 
@@ -125,8 +125,8 @@ no_front [] rest is = refl
 no_front (item ∷ front) rest is = absurd cc
 
 begins_first : (n : ℕ) (keeps : ZoneData) (made : Trace) (posts : List Post) → Act sizes (at.Desk (desk_with [])) [] keeps made posts → oldest n made ≡ 0
-begins_first n keeps made posts (begins (DeskBegins.answers w r v a next asked vio once is made_is posts_is)) = ap (oldest n) made_is ∙ next.0
-begins_first n keeps made posts (begins (DeskBegins.sends w r v next asked vio once is made_is posts_is)) = ap (oldest n) made_is ∙ next.0
+begins_first n keeps made posts (begins (DeskBegins.answers w r v a next asked vio once is made_is posts_is)) = ap (oldest n) made_is ∙ next.may.0
+begins_first n keeps made posts (begins (DeskBegins.sends w r v next asked vio once is made_is posts_is)) = ap (oldest n) made_is ∙ next.may.0
 
 pub stepped_first : (tells honest : Bool) (n : ℕ) (new : List Zone) (before after : Seen) (made : Trace) → StepsAt tells honest sizes 0 core_0 new before after made → oldest n made ≡ 0
 stepped_first tells honest n new before after made is =

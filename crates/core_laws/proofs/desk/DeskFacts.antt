@@ -153,7 +153,7 @@ once_stopped sizes notified Flush a is = notified_first notified is
 pub desk_begins : {s : Session} {t : Trace} {n : ℕ} {old : Desk} → Known s t n (at.Desk old) [] → (new : Desk) (made : Trace) (posts : List Post) → DeskBegins s.sizes old new made posts → ActKept s t n (at.Desk old) [] (at.Desk new) made posts
 desk_begins {s} {t} {n} {old} known new made posts (DeskBegins.answers w r v a next_line asks served once i m q) =
     let own = known.own in
-    let next : IsNextLine s.sizes.depth s.script (line.Begin w) (lines t) = rw (own.sound.requests, own.lists.log_is) at next_line in
+    let next : IsNextLine s.sizes.depth s.script (line.Begin w) (lines t) = rw (own.sound.requests, own.lists.log_is) at next_line.may in
     let asked : request_at s.script w ≡ Some r = rw own.sound.requests at asks in
     let begun_right = begins_right s t w known.session known.right next in
     let open_now = begins_open s t w known.session known.right next in
@@ -186,7 +186,7 @@ desk_begins {s} {t} {n} {old} known new made posts (DeskBegins.answers w r v a n
     })
 desk_begins {s} {t} {n} {old} known new made posts (DeskBegins.sends w r v next_line asks served none i m q) =
     let own = known.own in
-    let next : IsNextLine s.sizes.depth s.script (line.Begin w) (lines t) = rw (own.sound.requests, own.lists.log_is) at next_line in
+    let next : IsNextLine s.sizes.depth s.script (line.Begin w) (lines t) = rw (own.sound.requests, own.lists.log_is) at next_line.may in
     let asked : request_at s.script w ≡ Some r = rw own.sound.requests at asks in
     let began = Says (line.Begin w) in
     let clears = plain_clears known began t tt own.number_is tt tt in

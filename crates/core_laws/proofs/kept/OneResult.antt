@@ -1,7 +1,7 @@
--- What a zone does with an item is fixed, and at the device by how it answered: two acts on the same item keep, make and post
--- the same.
+-- What a zone does with an item, and the desk with none, is fixed, and at the device by how it answered: two acts on the
+-- same keep, make and post the same.
 use Rattle.std.proofs.Common.{ℕ, ◌+◌, ◌≡◌, Bool, true, false, not, ◌&&◌, Option, None, Some, List, [], ◌∷◌, ◌++◌, refl, sym, ap, ◌∙◌}
-use Rattle.core_laws.proofs.Common.{Aborts, Answer, Calls, Commits, Desk, DeviceZone, Draws, Enters, Flushes, Gives, Item, JournalZone, LogicalZone, Pbn, Phase, PhysicalZone, Post, Says, SealedBlock, Seals, Sets, Sizes, Stage, Takes, Trace, Vio, ZoneData, ended, gift, logged, notified, staged, turned}
+use Rattle.core_laws.proofs.Common.{Aborts, Answer, Calls, Commits, Desk, DeviceZone, Draws, Enters, Flushes, Gives, Item, JournalZone, LogicalZone, Pbn, Phase, PhysicalZone, Post, Says, Request, SealedBlock, Seals, Sets, Sizes, Stage, Takes, Trace, Vio, Writer, ZoneData, ended, gift, logged, notified, request_at, staged, turned}
 use Rattle.blk_base.specs.declared.place.ZoneId.TheVariants as id
 use Rattle.blk_base.specs.declared.request.Answer.TheVariants as reply
 use Rattle.disk_model.specs.declared.call.Call.TheVariants.{Read}
@@ -10,11 +10,12 @@ use Rattle.core_model.specs.declared.items.Item.TheVariants as item
 use Rattle.core_model.specs.declared.items.Phase.TheVariants as phase
 use Rattle.core_model.specs.declared.items.Stage.TheVariants as stage
 use Rattle.core_model.specs.declared.zones.ZoneData.TheVariants as at
-use Rattle.core_model.specs.DeskRows.{DeskServes, parks, answers, marks, is_notified, is_stopped, is_marked, mark_of_vio}
+use Rattle.core_model.specs.DeskRows.{BeginsNext, DeskBegins, DeskServes, parks, answers, marks, at_once, first_zone, vio_of, is_notified, is_stopped, is_marked, mark_of_vio}
 use Rattle.core_model.specs.DeviceRows.{DeviceServes, DeviceWorks, counted, halted, stop_notices, next_stage, next_zone}
 use Rattle.core_model.specs.JournalRows.{PhysicalServes, JournalServes, JournalEnds, is_closed, has_block, has_room, next_block, refused, all_refused, all_again, all_dropped, entered_by, committed_by, sealed_by, hands_out}
 use Rattle.core_model.specs.LogicalRows.{LogicalServes, is_among, is_held, lock_of, all_for, placed, place_of_vio, drawn_by, goes_on, granted, released, retire, all_stopped, with_slot}
 use Rattle.core_model.specs.Steps.{Act, CallsDevice}
+use Rattle.core_laws.proofs.desk.BeginLaws.{begins_one}
 use Rattle.core_model.specs.Steps as steps
 use Rattle.blk_base.specs.declared.place.Mapping.TheVariants.{At}
 
@@ -43,6 +44,27 @@ desk_is : (sizes : Sizes) (desk : Desk) (v : Vio) (new : Desk) (made : Trace) (p
 desk_is sizes desk v new made posts (parks a is answer stops waits n m q) = rw (n, m, q, answer, stops, waits) refl
 desk_is sizes desk v new made posts (answers a is answer told unmarked n m q) = rw (n, m, q, answer, waits_not (is_stopped a) (is_notified sizes desk) told, unmarked) refl
 desk_is sizes desk v new made posts (marks is asks answer n m q) = rw (n, m, q, answer, asks) refl
+
+-- it begins a request
+abbrev vio_asked : Sizes → Writer → Option Request → Option Vio
+vio_asked sizes w None = None
+vio_asked sizes w (Some r) = vio_of sizes w r
+
+abbrev begin_at : Desk → Writer → Vio → Option Answer → Result Desk
+begin_at desk w v (Some a) = (record desk { log = line.Answer w a ∷ line.Begin w ∷ desk.log }, Says (line.Answer w a) ∷ Says (line.Begin w) ∷ [], [])
+begin_at desk w v None = (record desk { log = line.Begin w ∷ desk.log }, Says (line.Begin w) ∷ [], (first_zone v, item.Request v) ∷ [])
+
+abbrev begin_by : Sizes → Desk → Writer → Option Vio → Result Desk
+begin_by sizes desk w None = (desk, [], [])
+begin_by sizes desk w (Some v) = begin_at desk w v (at_once sizes (is_notified sizes desk) v.asks v.at.0)
+
+abbrev begun_at : Sizes → Desk → Writer → Result Desk
+begun_at sizes desk w = begin_by sizes desk w (vio_asked sizes w (request_at desk.requests w))
+
+begin_is : (sizes : Sizes) (desk new : Desk) (made : Trace) (posts : List Post) → DeskBegins sizes desk new made posts
+    → (w : Writer) × BeginsNext sizes.depth desk w × ((new, made, posts) ≡ begun_at sizes desk w)
+begin_is sizes desk new made posts (DeskBegins.answers w r v a next asked served once n m q) = (w, next, rw (n, m, q, asked, served, once) refl)
+begin_is sizes desk new made posts (DeskBegins.sends w r v next asked served once n m q) = (w, next, rw (n, m, q, asked, served, once) refl)
 
 -- the physical zone
 abbrev claim_at : Sizes → PhysicalZone → Vio → List Pbn → Result PhysicalZone
@@ -186,6 +208,13 @@ same_behind : (new new' : DeviceZone) (made made' : Trace) (posts posts' : List 
 same_behind new new' made made' posts posts' behind is one two =
     let e = one ∙ ap behind is ∙ sym two in (ap (λ r. at.Device r.0) e, is, ap (λ r. r.1) e)
 
+begin_one : (sizes : Sizes) (desk new new' : Desk) (made made' : Trace) (posts posts' : List Post)
+    → DeskBegins sizes desk new made posts → DeskBegins sizes desk new' made' posts' → Same (at.Desk new) (at.Desk new') made made' posts posts'
+begin_one sizes desk new new' made made' posts posts' a b =
+    let one = begin_is sizes desk new made posts a in
+    let two = begin_is sizes desk new' made' posts' b in
+    same at.Desk new new' made made' posts posts' (begun_at sizes desk one.0) one.2 (two.2 ∙ ap (begun_at sizes desk) (begins_one sizes.depth desk two.0 one.0 two.1 one.1))
+
 device_one : (sizes : Sizes) (d new new' : DeviceZone) (v : Vio) (made made' : Trace) (posts posts' : List Post)
     → DeviceServes sizes d v new made posts → DeviceServes sizes d v new' made' posts' → made ≡ made' → Same (at.Device new) (at.Device new') made made' posts posts'
 device_one sizes d new new' v made made' posts posts' a b is =
@@ -196,17 +225,19 @@ work_one : (sizes : Sizes) (d new new' : DeviceZone) (b : SealedBlock) (made mad
 work_one sizes d new new' b made made' posts posts' x y is =
     same_behind new new' made made' posts posts' (work_at sizes d b d.stopped) is (work_is sizes d b new made posts x) (work_is sizes d b new' made' posts' y)
 
--- Two acts of a zone on one item keep, make and post the same; at the device those that had the same answer of it.
-pub one_result : (sizes : Sizes) (keeps : ZoneData) (i : Item) (new new' : ZoneData) (made made' : Trace) (posts posts' : List Post)
-    → Act sizes keeps (i ∷ []) new made posts → Act sizes keeps (i ∷ []) new' made' posts' → (CallsDevice keeps → made ≡ made') → Same new new' made made' posts posts'
-one_result sizes keeps i new new' made made' posts posts' (steps.answers a) (steps.answers b) is = same at.Desk _ _ _ _ _ _ _ (desk_is _ _ _ _ _ _ a) (desk_is _ _ _ _ _ _ b)
-one_result sizes keeps i new new' made made' posts posts' steps.hears steps.hears is = (refl, refl, refl)
-one_result sizes keeps i new new' made made' posts posts' (steps.serves a) (steps.serves b) is = same at.Logical _ _ _ _ _ _ _ (logical_is _ _ _ _ _ _ a) (logical_is _ _ _ _ _ _ b)
-one_result sizes keeps i new new' made made' posts posts' steps.serves_notice steps.serves_notice is = (refl, refl, refl)
-one_result sizes keeps i new new' made made' posts posts' (steps.takes a) (steps.takes b) is = same at.Physical _ _ _ _ _ _ _ (physical_is _ _ _ _ _ _ a) (physical_is _ _ _ _ _ _ b)
-one_result sizes keeps i new new' made made' posts posts' steps.takes_notice steps.takes_notice is = (refl, refl, refl)
-one_result sizes keeps i new new' made made' posts posts' (steps.enters a) (steps.enters b) is = same at.Journal _ _ _ _ _ _ _ (journal_is _ _ _ _ _ _ a) (journal_is _ _ _ _ _ _ b)
-one_result sizes keeps i new new' made made' posts posts' (steps.ends a) (steps.ends b) is = same at.Journal _ _ _ _ _ _ _ (end_is _ _ _ _ _ _ a) (end_is _ _ _ _ _ _ b)
-one_result sizes keeps i new new' made made' posts posts' steps.enters_notice steps.enters_notice is = (refl, refl, refl)
-one_result sizes keeps i new new' made made' posts posts' (steps.calls a) (steps.calls b) is = device_one _ _ _ _ _ _ _ _ _ a b (is tt)
-one_result sizes keeps i new new' made made' posts posts' (steps.works a) (steps.works b) is = work_one _ _ _ _ _ _ _ _ _ a b (is tt)
+-- Two acts of a zone on one item, or of the desk on none, keep, make and post the same; at the device those that had the
+-- same answer of it.
+pub one_result : (sizes : Sizes) (keeps : ZoneData) (front : List Item) (new new' : ZoneData) (made made' : Trace) (posts posts' : List Post)
+    → Act sizes keeps front new made posts → Act sizes keeps front new' made' posts' → (CallsDevice keeps → made ≡ made') → Same new new' made made' posts posts'
+one_result sizes keeps front new new' made made' posts posts' (steps.begins a) (steps.begins b) is = begin_one _ _ _ _ _ _ _ _ a b
+one_result sizes keeps front new new' made made' posts posts' (steps.answers a) (steps.answers b) is = same at.Desk _ _ _ _ _ _ _ (desk_is _ _ _ _ _ _ a) (desk_is _ _ _ _ _ _ b)
+one_result sizes keeps front new new' made made' posts posts' steps.hears steps.hears is = (refl, refl, refl)
+one_result sizes keeps front new new' made made' posts posts' (steps.serves a) (steps.serves b) is = same at.Logical _ _ _ _ _ _ _ (logical_is _ _ _ _ _ _ a) (logical_is _ _ _ _ _ _ b)
+one_result sizes keeps front new new' made made' posts posts' steps.serves_notice steps.serves_notice is = (refl, refl, refl)
+one_result sizes keeps front new new' made made' posts posts' (steps.takes a) (steps.takes b) is = same at.Physical _ _ _ _ _ _ _ (physical_is _ _ _ _ _ _ a) (physical_is _ _ _ _ _ _ b)
+one_result sizes keeps front new new' made made' posts posts' steps.takes_notice steps.takes_notice is = (refl, refl, refl)
+one_result sizes keeps front new new' made made' posts posts' (steps.enters a) (steps.enters b) is = same at.Journal _ _ _ _ _ _ _ (journal_is _ _ _ _ _ _ a) (journal_is _ _ _ _ _ _ b)
+one_result sizes keeps front new new' made made' posts posts' (steps.ends a) (steps.ends b) is = same at.Journal _ _ _ _ _ _ _ (end_is _ _ _ _ _ _ a) (end_is _ _ _ _ _ _ b)
+one_result sizes keeps front new new' made made' posts posts' steps.enters_notice steps.enters_notice is = (refl, refl, refl)
+one_result sizes keeps front new new' made made' posts posts' (steps.calls a) (steps.calls b) is = device_one _ _ _ _ _ _ _ _ _ a b (is tt)
+one_result sizes keeps front new new' made made' posts posts' (steps.works a) (steps.works b) is = work_one _ _ _ _ _ _ _ _ _ a b (is tt)

@@ -20,6 +20,7 @@ use Rattle.core_model.specs.Legal.{Legal}
 use Rattle.core_model.specs.LogicalRows.{LogicalServes, is_among, is_held, first_for, placed, next_for, goes_on, passes_on, with_slot}
 use Rattle.core_model.specs.Steps as steps
 use Rattle.core_model.specs.Steps.{Act, HasAct, MayBegin, Core}
+use Rattle.core_laws.proofs.desk.BeginLaws.{begins_some}
 use Rattle.core_laws.proofs.device.DeviceCalls.{request_served}
 use Rattle.core_laws.proofs.kept.LegalKept.{goes}
 use Rattle.core_laws.proofs.kept.ZoneKinds.{Keeps, desk_keeps, logical_keeps, physical_keeps, journal_keeps, device_keeps}
@@ -50,7 +51,7 @@ module _ (s : Session) (session : IsSession s) (t : Trace) where
     ]
   ]
 
-  -- with none, it begins the next request of a stream, where one may begin
+  -- with none, it begins the next request of the lowest stream that may begin one
   pub served_some : (w : Writer) (r : Request) → IsServed r → (v : Vio) × (vio_of s.sizes w r ≡ Some v)
   served_some w (request.Read at) served = (_, refl)
   served_some w (request.Write at bytes true) served = absurd (let fua = served.1 in cc)
@@ -59,8 +60,11 @@ module _ (s : Session) (session : IsSession s) (t : Trace) where
   served_some w request.Flush served = (_, refl)
 
   desk_starts : (n : ℕ) (desk : Desk) → DataOk s t n (at.Desk desk) → MayBegin s.sizes (at.Desk desk) → HasAct s.sizes (at.Desk desk) []
-  desk_starts n desk own (w, next) =
-      let asked = some_of (request_at desk.requests w) next.1 in
+  desk_starts n desk own (some, may) =
+      let begun = begins_some s.sizes.depth desk some may in
+      let w = begun.0 in
+      let next = begun.1 in
+      let asked = some_of (request_at desk.requests w) next.may.1 in
       let served = served_some w asked.0 (request_served s w asked.0 session (ap (λ (script : Script). request_at script w) (sym own.sound.requests) ∙ asked.1)) in
       elim (option_cases (at_once s.sizes (is_notified s.sizes desk) served.0.asks served.0.at.0)) [
         | inl none ↦ (_, _, _, steps.begins (DeskBegins.sends w asked.0 served.0 next asked.1 served.1 none refl refl refl))

@@ -31,7 +31,7 @@ use Rattle.core_model.specs.LogicalData.{Lock}
 use Rattle.core_model.specs.declared.zones.Logged.{Logged}
 use Rattle.core_model.specs.declared.zones.ZoneData.{ZoneData}
 use Rattle.core_model.specs.declared.zones.ZoneData.TheVariants as at
-use Rattle.core_model.specs.DeskRows.{DeskBegins, DeskServes}
+use Rattle.core_model.specs.DeskRows.{BeginsNext, DeskBegins, DeskServes}
 use Rattle.core_model.specs.DeviceRows.{DeviceServes, DeviceWorks, journal_bytes}
 use Rattle.core_model.specs.JournalRows.{PhysicalServes, JournalServes, JournalEnds}
 use Rattle.core_model.specs.LogicalRows.{LogicalServes}
@@ -39,6 +39,7 @@ use Rattle.core_model.specs.Steps.{Act, begins, answers, hears, serves, serves_n
 use Rattle.core_model.specs.Trace.{Says, Flushes, Draws, Enters, Seals, Commits, Sets, Gives, Takes, Aborts, Calls, Fails, Trace, entry_of}
 use Rattle.core_model.specs.Vios.{Post, logged}
 use Rattle.recovery_journal.specs.Log.{Log, placed, point_at}
+use Rattle.core_model.proofs.rows.BeginRows.{one_busy, two_busy, past_one, past_two}
 use Rattle.core_model.proofs.rows.WorkedTraces.{address, block, x, y, script, first, reader, second, other, flush, sizes, place, of_first, of_second, given}
 
 abbrev Acts : ZoneData → List Item → ZoneData → Trace → List Post → Type 0
@@ -138,26 +139,26 @@ notify = (id.Journal, StopNotice) ∷ (id.Physical 0, StopNotice) ∷ (id.Logica
 -- (begins): a write and a read go to their home, a flush to the device; one outside of the logical size, and a write after a
 -- stop, is answered at once
 begins_a_write : Acts (desk [] [] 0 []) [] (desk (line.Begin first ∷ []) [] 0 []) (Says (line.Begin first) ∷ []) ((id.Logical 0, Request (vio first asks.Write phase.Arrive 0)) ∷ [])
-begins_a_write = begins (DeskBegins.sends first (request.Write (address 0) x false) _ (refl, refl, omega arith) refl refl refl refl refl refl)
+begins_a_write = begins (DeskBegins.sends first (request.Write (address 0) x false) _ (record { may = (refl, refl, omega arith); lowest = λ w may. omega arith }) refl refl refl refl refl refl)
 
-begins_a_flush : Acts (desk [] [] 0 []) [] (desk (line.Begin flush ∷ []) [] 0 []) (Says (line.Begin flush) ∷ [])
+begins_a_flush : Acts (desk two_busy [] 0 []) [] (desk (line.Begin flush ∷ two_busy) [] 0 []) (Says (line.Begin flush) ∷ [])
     ((id.Device, Request (record (vio flush asks.Flush phase.Flush 0) { bytes = zero_block })) ∷ [])
-begins_a_flush = begins (DeskBegins.sends flush request.Flush _ (refl, refl, omega arith) refl refl refl refl refl refl)
+begins_a_flush = begins (DeskBegins.sends flush request.Flush _ (record { may = (refl, refl, omega arith); lowest = past_two }) refl refl refl refl refl refl)
 
 begins_a_read : Acts (desk (line.Begin first ∷ []) [] 0 []) [] (desk (line.Begin reader ∷ line.Begin first ∷ []) [] 0 []) (Says (line.Begin reader) ∷ [])
     ((id.Logical 0, Request (record (vio reader asks.Read phase.Arrive 0) { bytes = zero_block })) ∷ [])
-begins_a_read = begins (DeskBegins.sends reader (request.Read (address 0)) _ (refl, refl, omega arith) refl refl refl refl refl refl)
+begins_a_read = begins (DeskBegins.sends reader (request.Read (address 0)) _ (record { may = (refl, refl, omega arith); lowest = λ w may. omega arith }) refl refl refl refl refl refl)
 
 begins_a_discard : Act sizes (desk_of discards [] []) [] (desk_of discards (line.Begin first ∷ []) []) (Says (line.Begin first) ∷ [])
     ((id.Logical 0, Request (record (vio first asks.Discard phase.Arrive 0) { bytes = zero_block })) ∷ [])
-begins_a_discard = begins (DeskBegins.sends first (request.Discard (address 0)) _ (refl, refl, omega arith) refl refl refl refl refl refl)
+begins_a_discard = begins (DeskBegins.sends first (request.Discard (address 0)) _ (record { may = (refl, refl, omega arith); lowest = λ w may. omega arith }) refl refl refl refl refl refl)
 
-begins_out_of_range : Act (record sizes { geometry = record sizes.geometry { logical = 812 } }) (desk (line.Begin second ∷ []) [] 0 []) []
-    (desk (line.Answer other reply.Range ∷ line.Begin other ∷ line.Begin second ∷ []) [] 0 []) (Says (line.Answer other reply.Range) ∷ Says (line.Begin other) ∷ []) []
-begins_out_of_range = begins (DeskBegins.answers other (request.Write (address 812) y false) _ reply.Range (refl, refl, omega arith) refl refl refl refl refl refl)
+begins_out_of_range : Act (record sizes { geometry = record sizes.geometry { logical = 812 } }) (desk one_busy [] 0 []) []
+    (desk (line.Answer other reply.Range ∷ line.Begin other ∷ one_busy) [] 0 []) (Says (line.Answer other reply.Range) ∷ Says (line.Begin other) ∷ []) []
+begins_out_of_range = begins (DeskBegins.answers other (request.Write (address 812) y false) _ reply.Range (record { may = (refl, refl, omega arith); lowest = past_one }) refl refl refl refl refl refl)
 
 begins_after_a_stop : Acts (desk [] [] 4 []) [] (desk (line.Answer first reply.Stopped ∷ line.Begin first ∷ []) [] 4 []) (Says (line.Answer first reply.Stopped) ∷ Says (line.Begin first) ∷ []) []
-begins_after_a_stop = begins (DeskBegins.answers first (request.Write (address 0) x false) _ reply.Stopped (refl, refl, omega arith) refl refl refl refl refl refl)
+begins_after_a_stop = begins (DeskBegins.answers first (request.Write (address 0) x false) _ reply.Stopped (record { may = (refl, refl, omega arith); lowest = λ w may. omega arith }) refl refl refl refl refl refl)
 
 -- Reply: an answer is said, a flush gets its mark, one that is stopped waits for all stop notices
 replies : Acts (desk [] [] 0 []) (Request (answered reply.Ok (writes phase.Reply)) ∷ []) (desk (line.Answer first reply.Ok ∷ []) [] 0 []) (Says (line.Answer first reply.Ok) ∷ []) []
