@@ -9,10 +9,11 @@ use Rattle.blk_base.specs.declared.place.Mapping.TheVariants.{At}
 use Rattle.blk_base.specs.declared.place.Pbn.{Pbn}
 use Rattle.blk_base.specs.declared.request.Request.TheVariants as request
 use Rattle.blk_base.specs.declared.request.Request.{Request}
-use Rattle.disk_model.specs.Images.{HasOneImage, IsMixOf}
+use Rattle.disk_model.specs.Images.{IsMixOf}
 use Rattle.disk_model.specs.Log as device
 use Rattle.disk_model.specs.declared.call.Call.{Call}
 use Rattle.disk_model.specs.declared.call.Call.TheVariants.{Read}
+use Rattle.disk_model.specs.OneImages.{HasOneImageIn}
 use Rattle.image_layout.specs.Values.{journal_of, mapping_of, value_of}
 use Rattle.stop_laws.specs.Journals.{Surely, block_of_slot}
 use Rattle.vdo_model.specs.Scripts.{Script, request_at, value_written}
@@ -25,11 +26,12 @@ use Rattle.core_model.specs.Trace.{Calls, Trace, all_of, calls, committed, done,
 use Rattle.journal_stops.specs.Rings.{IsAtRest, IsUnderWay, IsWritten}
 use Rattle.journal_stops.specs.Sealed.{Sealed, head_of}
 use Rattle.image_model.specs.Windows.{IsOfImage, IsWindow}
+use Rattle.image_model.specs.Looked.{is_looked_at}
 use Rattle.blk_base.specs.declared.journal_entry.CommittedEntry.{CommittedEntry}
 use Rattle.journal_stops.specs.Sealed as blocks
 
 -- What is fixed: the sizes, the script, the blocks that the device had when its log began, its log before the session,
--- the one image that a stop left then, the blocks that its journal has, the entries of its window, and the data blocks that are
+-- the one image, the index aside, that a stop left then, the blocks that its journal has, the entries of its window, and the data blocks that are
 -- free in it. The newest block and the newest entry stand first. Of the device, its image and the blocks of the journal all is
 -- said where the session is fair, and nothing else.
 pub record Session : Type 0 where
@@ -92,10 +94,11 @@ pub record IsSession (s : Session) : Type 0 where
   pub free : AllByRecursion (IsFresh s) s.free
   pub distinct : AreDistinct s.free
 
--- The image is as it was opened: the device has room for it and had no other, and its journal says what the session knows.
+-- The image is as it was opened: the device has room for it and had no other, the index aside, and its journal says what the
+-- session knows.
 pub record IsAsOpened (s : Session) : Type 0 where
   pub room : needed_blocks s.sizes.geometry ≤ length s.blocks
-  pub one_image : HasOneImage s.blocks s.before s.image
+  pub one_image : HasOneImageIn (is_looked_at s.sizes.geometry) s.blocks s.before s.image
   -- the journal of the image has whole blocks, and may go on; or none is left
   pub journal : HasWholeBlocks s ⊎ HasNoneLeft s
 

@@ -17,6 +17,7 @@ use Rattle.byte_fields.specs.Fields.{number_at}
 use Rattle.disk_model.specs.Images.{IsImage}
 use Rattle.disk_model.specs.Log.{Blocks, block_at}
 use Rattle.disk_model.proofs.OneImageLaws.{one_image-is_image, one_image-opening}
+use Rattle.disk_model.proofs.LookedLaws.{one_in-all}
 use Rattle.image_model.proofs.EmptyLaws.{has_nothing, no_updates, sizes_of_image}
 use Rattle.image_model.proofs.ZeroLaws.{no_commit, no_slab_sector}
 use Rattle.image_model.proofs.Example.{pbn, small}
@@ -25,6 +26,7 @@ use Rattle.image_model.specs.Empty.{HasNothing, IsEmpty, empty_super}
 use Rattle.image_model.specs.Maps.{Image}
 use Rattle.image_model.specs.Pages.{address_count}
 use Rattle.image_model.specs.Sound.{IsDataPlace, image_of}
+use Rattle.image_model.specs.Looked.{is_looked_at}
 use Rattle.journal_stops.specs.Mapped.{AreRooted, later_image, mapping_after, page_after}
 use Rattle.slab_codec.specs.Grammar.{IsSlabSector}
 use Rattle.slab_codec.specs.declared.forms.SlabEntry.{SlabEntry}
@@ -201,7 +203,7 @@ module _ (blocks : Blocks) (empty : IsEmpty small blocks) where
 
   module _ (room : needed_blocks small ≤ length blocks) (whole : (b : ℕ) → b < length blocks → length (block_at blocks b) ≡ 4096) where
     pub counts_stand : CountsStand blocks [] opened four four
-    counts_stand = counts_grow blocks [] opened four [] [] 512 are_pointed commits_before (counts_begin blocks [] opened room (one_image-opening blocks whole) closed.updates)
+    counts_stand = counts_grow blocks [] opened four [] [] 512 are_pointed commits_before (counts_begin blocks [] opened room (one_in-all (is_looked_at opened.geometry) blocks [] blocks (one_image-opening blocks whole)) closed.updates)
 
     is_image : IsImage blocks [] blocks
     is_image = one_image-is_image blocks [] blocks (one_image-opening blocks whole)

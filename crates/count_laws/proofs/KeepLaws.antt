@@ -16,13 +16,15 @@ use Rattle.blk_base.proofs.RegionLaws.{inside}
 use Rattle.byte_fields.specs.Fields.{number_at}
 use Rattle.disk_model.specs.declared.call.Call.{Call}
 use Rattle.disk_model.specs.declared.call.Call.TheVariants.{Write}
-use Rattle.disk_model.specs.Images.{HasOneImage}
 use Rattle.disk_model.specs.Log.{Blocks, Misses, block_at, contents}
 use Rattle.disk_model.proofs.ImageLaws.{all_weaker, kept}
+use Rattle.disk_model.specs.OneImages.{HasOneImageIn}
 use Rattle.image_model.specs.Counts.{IsUpdate, block_of_data, commit_at, commit_of, count_after, counter_of, reference_sector_at}
 use Rattle.image_model.proofs.CountLaws.{none_in_nothing}
 use Rattle.image_model.specs.Maps.{Image}
 use Rattle.image_model.specs.Sound.{IsDataPlace}
+use Rattle.image_model.specs.Looked.{is_looked_at}
+use Rattle.image_model.proofs.LookedLaws.{looked_place}
 use Rattle.slab_codec.specs.Grammar.{HoldsEntry}
 use Rattle.slab_codec.specs.declared.forms.SlabEntry.{SlabEntry}
 use Rattle.recovery_laws.proofs.CountsKept.{sector_inside}
@@ -195,9 +197,9 @@ counts_kept opening log opened entries window call counters journals stand = rec
       (block_of opened.geometry (SlabJournalSlot slab slot)) (journals slab slot in_slab in_journal) (stand.only slab slot number entry in_slab in_journal small);
 }
 
--- On a device that has the blocks of an opened image, and nothing pending, its counts stand with no entries, if the counters have
+-- On a device that has the blocks of an opened image, and nothing pending but in the index, its counts stand with no entries, if the counters have
 -- all updates of the slabs' journals.
-pub counts_begin : (opening : Blocks) (log : List Call) (opened : Image) → needed_blocks opened.geometry ≤ length opening → HasOneImage opening log opened.blocks
+pub counts_begin : (opening : Blocks) (log : List Call) (opened : Image) → needed_blocks opened.geometry ≤ length opening → HasOneImageIn (is_looked_at opened.geometry) opening log opened.blocks
     → ((place : DataPlace) (point : ℕ) → IsDataPlace opened.geometry place → IsUpdate opened place point → point ≤ commit_of opened place)
     → CountsStand opening log opened [] []
 counts_begin opening log opened room one closed = record {
@@ -221,13 +223,15 @@ counts_begin opening log opened room one closed = record {
       (λ content is it. inl (old slab slot number entry in_slab in_journal small
       (subst (λ (bytes : List ℕ). HasUpdate opened.geometry slab number entry (sector number bytes)) is it)))
       (one.only (block_of opened.geometry (SlabJournalSlot slab slot))
-      (let low = inside opened.geometry (SlabJournalSlot slab slot) (in_slab, in_journal) in omega (arith, low, room)));
+      (let low = inside opened.geometry (SlabJournalSlot slab slot) (in_slab, in_journal) in omega (arith, low, room))
+      (looked_place opened.geometry (SlabJournalSlot slab slot) (in_slab, in_journal) tt));
 }
   where
     only_counters : (slab i : ℕ) → slab < opened.geometry.slabs → i < references_of opened.geometry
         → AllByRecursion (λ content. content ≡ block_at opened.blocks (block_of opened.geometry (ReferenceBlock slab i))) (contents opening log (block_of opened.geometry (ReferenceBlock slab i)))
     only_counters slab i in_slab within =
         one.only (block_of opened.geometry (ReferenceBlock slab i)) (let low = inside opened.geometry (ReferenceBlock slab i) (in_slab, within) in omega (arith, low, room))
+        (looked_place opened.geometry (ReferenceBlock slab i) (in_slab, within) tt)
 
     begin_counter : (slab n : ℕ) (place : DataPlace) → IsOfSector opened.geometry slab n place
         → ◌≡◌ {A = Result ℕ ℕ} (Ok (counter_of opened place)) (Ok (counter_in opened.geometry (reference_sector_at opened.geometry opened.blocks slab n) place))

@@ -8,11 +8,13 @@ ghost use Rattle.blk_base.specs.declared.place.Pbn.{Pbn};
 ghost use Rattle.byte_fields.specs.Fields.{number_at};
 ghost use Rattle.disk_model.specs.declared.call.Call.{Call};
 ghost use Rattle.disk_model.specs.declared.call.Call.TheVariants.{Write};
-ghost use Rattle.disk_model.specs.Images.{HasOneImage, IsImage};
+ghost use Rattle.disk_model.specs.Images.{IsImage};
 ghost use Rattle.disk_model.specs.Log.{Blocks, Misses};
+ghost use Rattle.disk_model.specs.OneImages.{HasOneImageIn};
 ghost use Rattle.image_model.specs.Counts.{IsKept, Stores, commit_at, count_after, counter_of};
 ghost use Rattle.image_model.specs.Maps.{Image};
 ghost use Rattle.image_model.specs.Sound.{AreStored, AreTrue, AreUnshared, IsDataPlace, IsSound, image_of};
+ghost use Rattle.image_model.specs.Looked.{is_looked_at};
 ghost use Rattle.journal_stops.specs.Mapped.{ShowsEntries, later_image};
 ghost use Rattle.slab_codec.specs.declared.forms.SlabEntry.{SlabEntry};
 ghost use Rattle.count_laws.specs.Closed.{HasClosedCounts};
@@ -60,7 +62,7 @@ pub fn counts_that_stand_are_true()
 /// and over a write that they allow. It does nothing.
 pub fn counts_go_on_standing()
     ensures begin { (opening : Blocks) (log : List Call) (opened : Image) → needed_blocks opened.geometry ≤ length opening
-        → HasOneImage opening log opened.blocks → HasClosedCounts opened → CountsStand opening log opened [] [] }
+        → HasOneImageIn (is_looked_at opened.geometry) opening log opened.blocks → HasClosedCounts opened → CountsStand opening log opened [] [] }
     ensures newer { (opening : Blocks) (log : List Call) (opened : Image) (newer entries window : List CommittedEntry) (from : ℕ)
         → ArePointed from (newer ++ entries)
         → ((slab n : ℕ) → slab < opened.geometry.slabs → n < sectors_per_slab opened.geometry → commit_at opened.geometry opened.blocks slab n < from)

@@ -8,9 +8,11 @@ pub mod PlanLaws
 pub mod RetainLaws
 pub mod SeenLaws
 pub mod SinceLaws
+pub mod LookedLaws
 pub mod Taken
 pub mod FuseLaws
 pub mod PickLaws
 pub mod PickImageLaws
 pub mod PickRows
 mod ImageRows
+mod LookedRows

@@ -88,13 +88,19 @@ one_of_weaker P Q [] f one = absurd one
 one_of_weaker P Q (content ∷ others) f (inl here) = inl (f content here)
 one_of_weaker P Q (content ∷ others) f (inr later) = inr (one_of_weaker P Q others f later)
 
+-- where all contents of a block are the same, that block is a mix of them
+pub mix_of_one : (opening : Blocks) (log : List Call) (block : List ℕ) (b : ℕ) → AllByRecursion (λ content. content ≡ block) (contents opening log b)
+    → IsMixOf (contents opening log b) block
+mix_of_one opening log block b only i small =
+    one_of_weaker (λ content. content ≡ block) (λ content. sector i block ≡ sector i content) (contents opening log b)
+    (λ content same. sym (ap (sector i) same)) (contents_some (λ content. content ≡ block) opening log b only)
+
 -- Where nothing is pending, the one image is an image.
 pub one_image-is_image : (opening : Blocks) (log : List Call) (image : Blocks) → HasOneImage opening log image → IsImage opening log image
 one_image-is_image opening log image one = record {
   size = one.size;
   whole = one.whole;
-  sectors = λ b below i small. one_of_weaker (λ content. content ≡ block_at image b) (λ content. sector i (block_at image b) ≡ sector i content) (contents opening log b)
-      (λ content same. sym (ap (sector i) same)) (contents_some (λ content. content ≡ block_at image b) opening log b (one.only b below));
+  sectors = λ b below i small. mix_of_one opening log (block_at image b) b (one.only b below) i small;
 }
 
 -- Where nothing is pending, the log may be taken to begin there: first what the later calls settle ..
@@ -111,7 +117,7 @@ one_of_same Q value (content ∷ others) all (inr later) = one_of_same Q value o
 
 module _ (Q : List ℕ → Type 0) (opening : Blocks) (log : List Call) (image : Blocks) (b : ℕ)
     (only : AllByRecursion (λ content. content ≡ block_at image b) (contents opening log b)) where
-  settled_from : (later : List Call) → OneOf Q (settled opening (later ++ log) b) → OneOf Q (settled image later b)
+  pub settled_from : (later : List Call) → OneOf Q (settled opening (later ++ log) b) → OneOf Q (settled image later b)
   settled_from [] one = one_of_same Q (block_at image b) (settled opening log b) (settled_are_contents (λ content. content ≡ block_at image b) opening log b only) one
   settled_from (Read at bytes ok ∷ later) one = settled_from later one
   settled_from (Flush ok ∷ later) one = settled_from later one
@@ -119,18 +125,12 @@ module _ (Q : List ℕ → Type 0) (opening : Blocks) (log : List Call) (image :
   settled_from (Write at bytes false ∷ later) one = one_of_if Q (at.0 == b) bytes _ _ _ _ (settled_from later) (settled_from later) one
 
   -- .. and then what a stop after them may leave.
-  contents_from : (later : List Call) → OneOf Q (contents opening (later ++ log) b) → OneOf Q (contents image later b)
+  pub contents_from : (later : List Call) → OneOf Q (contents opening (later ++ log) b) → OneOf Q (contents image later b)
   contents_from [] one = one_of_same Q (block_at image b) (contents opening log b) only one
   contents_from (Read at bytes ok ∷ later) one = contents_from later one
   contents_from (Flush true ∷ later) one = settled_from later one
   contents_from (Flush false ∷ later) one = contents_from later one
   contents_from (Write at bytes ok ∷ later) one = one_of_if Q (at.0 == b) bytes _ _ _ _ (contents_from later) (contents_from later) one
-
--- What a read after the later calls may give is what it may give of a device that opened with the one image.
-pub one_image-settled : (opening : Blocks) (log later : List Call) (image : Blocks) (b : ℕ) (block : List ℕ) → HasOneImage opening log image → b < length opening
-    → IsMixOf (settled opening (later ++ log) b) block → IsMixOf (settled image later b) block
-one_image-settled opening log later image b block one below mix i small =
-    settled_from (λ content. sector i block ≡ sector i content) opening log image b (one.only b below) later (mix i small)
 
 -- Each image after the later calls is one of a device that opened with the one image.
 pub one_image-later : (opening : Blocks) (log later : List Call) (image other : Blocks) → HasOneImage opening log image

@@ -1,4 +1,4 @@
--- What reads leave as it was, and what they show of a device where nothing is pending.
+-- What reads leave as it was, and what they gave.
 use Rattle.std.proofs.Common.{ℕ, ◌≡◌, ◌≤◌, ◌<◌, ◌+◌, ◌++◌, Bool, true, false, IsTrue, List, [], ◌∷◌, length, take, reverse, refl, sym, ◌∙◌, ap, subst, inl, inr, arith, append_assoc, length-append}
 use Rattle.std.proofs.Math.Seq.{take-suc}
 use Rattle.std.proofs.lemmas.Grind.{reverse_onto}
@@ -8,7 +8,7 @@ use Rattle.blk_base.specs.declared.place.Pbn.{Pbn}
 use Rattle.disk_model.specs.declared.call.Call.{Call}
 use Rattle.disk_model.specs.declared.call.Call.TheVariants.{Read, Write, Flush}
 use Rattle.disk_model.specs.Causes.{Rose}
-use Rattle.disk_model.specs.Images.{IsMixOf, HasOneImage}
+use Rattle.disk_model.specs.Images.{IsImage, IsMixOf}
 use Rattle.disk_model.specs.Log.{Blocks, block_at, settled, contents}
 use Rattle.disk_model.specs.Seen.{Seen, Stays, Later}
 use Rattle.disk_model.specs.Since.{SinceThen, OnlyReads, IsUntouched, reads_of, AreGiven, WereRead, NextFailed}
@@ -28,17 +28,18 @@ pub reads_on : (first middle now : List Call) → SinceThen OnlyReads first midd
 reads_on first middle now (older, middle_is, old) (calls, now_is, new) =
     (calls ++ older, now_is ∙ ap (λ (log : List Call). calls ++ log) middle_is ∙ sym (append_assoc calls older first), reads_append calls older new old)
 
-same_contents : (opening : Blocks) (calls log : List Call) (b : ℕ) → OnlyReads calls → contents opening (calls ++ log) b ≡ contents opening log b
+pub same_contents : (opening : Blocks) (calls log : List Call) (b : ℕ) → OnlyReads calls → contents opening (calls ++ log) b ≡ contents opening log b
 same_contents opening [] log b reads = refl
 same_contents opening (Read at bytes ok ∷ calls) log b reads = same_contents opening calls log b reads
 same_contents opening (Write at bytes ok ∷ calls) log b reads = absurd reads
 same_contents opening (Flush ok ∷ calls) log b reads = absurd reads
 
-pub image_since : (opening : Blocks) (first now : List Call) (image : Blocks) → SinceThen OnlyReads first now → HasOneImage opening first image → HasOneImage opening now image
-image_since opening first now image (calls, is, reads) one = record {
-  size = one.size;
-  whole = one.whole;
-  only = λ b below. rw (is, same_contents opening calls first b reads) (one.only b below);
+-- a stop before reads or within them leaves what it would have left before
+pub image_before : (opening : Blocks) (log reads : List Call) (image : Blocks) → OnlyReads reads → IsImage opening (reads ++ log) image → IsImage opening log image
+image_before opening log reads image only is = record {
+  size = is.size;
+  whole = is.whole;
+  sectors = λ b below. subst (λ (options : List (List ℕ)). IsMixOf options (block_at image b)) (same_contents opening reads log b only) (is.sectors b below);
 }
 
 pub read_since : (old now : List Call) (at : Pbn) (bytes : List ℕ) (ok : Bool) → now ≡ Read at bytes ok ∷ old → SinceThen OnlyReads old now
@@ -232,24 +233,3 @@ module _ (tells honest : Bool) (from : ℕ) (first now next : Seen) (blocks : Li
   pub next_failed : NextFailed tells honest at.0 now next [] → NextFailed tells honest from first next (reverse blocks)
   next_failed failed =
       failed_on tells honest from first now next (reverse blocks) was [] (subst (λ (b : ℕ). NextFailed tells honest b now next []) behind failed)
-
--- Where nothing is pending, blocks that an honest device gave are those of the one image.
-
-block_given : (opening : Blocks) (log : List Call) (image : Blocks) (at : ℕ) (block : List ℕ) → at < length opening → length block ≡ 4096
-    → IsMixOf (settled opening log at) block → HasOneImage opening log image → block ≡ block_at image at
-block_given opening log image at block below whole mix one =
-    block_of_mix (settled opening log at) (block_at image at) block (one.whole at below) whole mix (settled_are_contents _ opening log at (one.only at below))
-
--- the blocks from block 0 on
-pub front_of_image : (tells honest : Bool) (before : Seen) (blocks : List (List ℕ)) (image : Blocks) → IsTrue tells → IsTrue honest → AreGiven tells honest 0 before blocks
-    → length blocks ≤ length before.opening → HasOneImage before.opening before.log image → reverse blocks ≡ take (length blocks) image
-front_of_image tells honest before [] image told fair given room one = refl
-front_of_image tells honest before (bytes ∷ older) image told fair (whole, mix, given) room one =
-    let n = length older in
-    let below : n < length before.opening = omega arith in
-    let zero_on : 0 + n ≡ n = omega arith in
-    let mix_here = subst (λ (b : ℕ). IsMixOf (settled before.opening before.log b) bytes) zero_on (mix told fair) in
-    let here : bytes ≡ block_at image n = block_given before.opening before.log image n bytes below whole mix_here one in
-    let before_it : reverse older ≡ take n image = front_of_image tells honest before older image told fair given (omega arith) one in
-    reverse_onto older bytes [] ∙ ap (λ (front : Blocks). front ++ (bytes ∷ [])) before_it ∙ ap (λ (block : List ℕ). take n image ++ (block ∷ [])) here
-    ∙ sym (take-suc image n zero_block (omega (arith, one.size)))

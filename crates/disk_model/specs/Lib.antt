@@ -1,6 +1,7 @@
 pub mod Causes
 pub mod Log
 pub mod Images
+pub mod OneImages
 pub mod Seen
 pub mod Telling
 pub mod Since

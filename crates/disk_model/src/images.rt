@@ -1,10 +1,11 @@
-ghost use Rattle.std.specs.Prelude.{◌≡◌, ◌≢◌, ◌<◌, [], ◌∷◌, ◌++◌, ℕ, Bool, true, false, List, length};
+ghost use Rattle.std.specs.Prelude.{◌≡◌, ◌≢◌, ◌<◌, [], ◌∷◌, ◌++◌, ℕ, Bool, IsTrue, true, false, List, length};
 ghost use Rattle.std.specs.List.{AllByRecursion};
 ghost use Rattle.blk_base.specs.declared.place.Pbn.{Pbn};
 ghost use Rattle.disk_model.specs.declared.call.Call.{Call};
 ghost use Rattle.disk_model.specs.declared.call.Call.TheVariants.{Read, Write, Flush};
 ghost use Rattle.disk_model.specs.Images.{IsImage, HasOneImage};
-ghost use Rattle.disk_model.specs.Log.{Blocks, block_at, settled, contents};
+ghost use Rattle.disk_model.specs.OneImages.{AreAlikeIn, HasOneImageIn, IsImageIn};
+ghost use Rattle.disk_model.specs.Log.{Blocks, Misses, block_at, settled, contents};
 
 /// What each call does to the contents that a stop may leave, and what an image shows of them. It does nothing.
 pub fn images_of_a_log()
@@ -43,4 +44,24 @@ pub fn images_of_a_log()
         → HasOneImage opening log image → IsImage opening log image }
     ensures later { (opening : Blocks) (log later : List Call) (image other : Blocks)
         → HasOneImage opening log image → IsImage opening (later ++ log) other → IsImage image later other }
+{}
+
+/// The same of the blocks that are looked at, where others are pending: the device has one image there, whatever was written
+/// to the others. It does nothing.
+pub fn images_of_what_is_looked_at()
+    ensures all { (looked : ℕ → Bool) (opening : Blocks) (log : List Call) (image : Blocks)
+        → HasOneImage opening log image → HasOneImageIn looked opening log image }
+    ensures every { (opening : Blocks) (log : List Call) (image : Blocks) → HasOneImageIn (λ b. true) opening log image → HasOneImage opening log image }
+
+    ensures part { (looked : ℕ → Bool) (opening : Blocks) (log : List Call) (image : Blocks) → IsImage opening log image → IsImageIn looked opening log image }
+
+    // A call that writes none of the blocks that are looked at leaves them as they are.
+    ensures aside { (looked : ℕ → Bool) (opening : Blocks) (log : List Call) (image : Blocks) (call : Call) → ((b : ℕ) → IsTrue (looked b) → Misses call b)
+        → HasOneImageIn looked opening log image → HasOneImageIn looked opening (call ∷ log) image }
+
+    // A stop leaves them, and later images are there those of a device that opened with them.
+    ensures alike { (looked : ℕ → Bool) (opening : Blocks) (log : List Call) (image other : Blocks)
+        → HasOneImageIn looked opening log image → IsImage opening log other → AreAlikeIn looked image other }
+    ensures later { (looked : ℕ → Bool) (opening : Blocks) (log later : List Call) (image other : Blocks)
+        → HasOneImageIn looked opening log image → IsImageIn looked opening (later ++ log) other → IsImageIn looked image later other }
 {}

@@ -18,7 +18,7 @@ pub use call::{Call, Failed};
 pub use disk::Disk;
 pub use faults::{CallKind, FaultAt, faults_of_a_plan};
 pub use fuse::{Fuse, calls_that_a_fuse_cuts};
-pub use images::images_of_a_log;
+pub use images::{images_of_a_log, images_of_what_is_looked_at};
 pub use memory::MemDisk;
 pub use memory_streams::{MemSink, MemSource};
 pub use picks::a_picked_image_may_stand;

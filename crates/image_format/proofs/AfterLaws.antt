@@ -1,5 +1,5 @@
 -- What the device has once an image is made.
-use Rattle.std.proofs.Common.{ℕ, ◌≡◌, ◌<◌, ◌≤◌, ◌^◌, true, false, List, [], ◌∷◌, ◌++◌, length, set, refl, sym, ◌∙◌, ap, subst, inl, inr, arith}
+use Rattle.std.proofs.Common.{ℕ, ◌≡◌, ◌<◌, ◌≤◌, ◌^◌, Bool, true, false, List, [], ◌∷◌, ◌++◌, length, set, refl, sym, ◌∙◌, ap, subst, inl, inr, arith}
 use Rattle.std.specs.List.{AllByRecursion}
 use Rattle.std.proofs.lemmas.Bool.Decides.{eqb_tells}
 use Rattle.std.proofs.lemmas.List.{length-set, get_or-set_same, get_or-set_other}
@@ -11,8 +11,10 @@ use Rattle.blk_base.proofs.RegionLaws.{inside}
 use Rattle.disk_model.specs.declared.call.Call.{Call}
 use Rattle.disk_model.specs.declared.call.Call.TheVariants.{Read, Write, Flush}
 use Rattle.disk_model.specs.Images.{IsImage, HasOneImage}
-use Rattle.disk_model.specs.Log.{Blocks, block_at, settled}
+use Rattle.disk_model.specs.Log.{Blocks, block_at, contents, settled}
+use Rattle.disk_model.specs.OneImages.{HasOneImageIn}
 use Rattle.disk_model.proofs.ImageLaws.{settled_are_contents}
+use Rattle.disk_model.proofs.LookedLaws.{one_in-flush}
 use Rattle.disk_model.proofs.OneImageLaws.{one_image-later, one_image-is_image, one_image-flush}
 use Rattle.image_layout.specs.Superblock.{super_block}
 use Rattle.image_model.specs.Empty.{IsEmpty, empty_super}
@@ -69,25 +71,34 @@ module _ (old : Blocks) (whole : (b : ℕ) → b < length old → length (block_
   after_whole (Read _ _ _ ∷ older) done b below = after_whole older done.1 b below
   after_whole (Flush _ ∷ older) done b below = after_whole older done.1 b below
 
-  module _ (opening : Blocks) (first : List Call) (one : HasOneImage opening first old) where
-    after_settles : (calls : List Call) → AllByRecursion (IsDone (length old)) calls → (b : ℕ) → b < length opening
+  module _ (opening : Blocks) (first : List Call) where
+    after_settles : (calls : List Call) → AllByRecursion (IsDone (length old)) calls → (b : ℕ) → AllByRecursion (λ content. content ≡ block_at old b) (contents opening first b)
         → AllByRecursion (λ content. content ≡ block_at (after old calls) b) (settled opening (calls ++ first) b)
     unfolding after
-    after_settles [] done b below = settled_are_contents (λ content. content ≡ block_at old b) opening first b (one.only b below)
-    after_settles (Write at bytes true ∷ older) done b below = elim (eqb_tells at.0 b) [
+    after_settles [] done b only = settled_are_contents (λ content. content ≡ block_at old b) opening first b only
+    after_settles (Write at bytes true ∷ older) done b only = elim (eqb_tells at.0 b) [
       | inl same ↦ let size = after_size old older in let here = done.0.0 in
           rw (same.0, ← same.1, get_or-set_same (after old older) at.0 bytes zero_block (omega (arith, size, here))) (refl, tt)
-      | inr other ↦ rw (other.0, get_or-set_other (after old older) at.0 b bytes zero_block (λ e. other.1 (sym e))) (after_settles older done.1 b below)
+      | inr other ↦ rw (other.0, get_or-set_other (after old older) at.0 b bytes zero_block (λ e. other.1 (sym e))) (after_settles older done.1 b only)
     ]
-    after_settles (Write at bytes false ∷ older) done b below = absurd done.0
-    after_settles (Read _ _ _ ∷ older) done b below = after_settles older done.1 b below
-    after_settles (Flush _ ∷ older) done b below = after_settles older done.1 b below
+    after_settles (Write at bytes false ∷ older) done b only = absurd done.0
+    after_settles (Read _ _ _ ∷ older) done b only = after_settles older done.1 b only
+    after_settles (Flush _ ∷ older) done b only = after_settles older done.1 b only
 
+    -- nothing is pending after a flush in the blocks that are looked at, where nothing was
+    pub after_flush_in : (looked : ℕ → Bool) (calls : List Call) → AllByRecursion (IsDone (length old)) calls → HasOneImageIn looked opening first old
+        → HasOneImageIn looked opening (Flush true ∷ (calls ++ first)) (after old calls)
+    after_flush_in looked calls done one =
+        one_in-flush looked opening (calls ++ first) (after old calls) (after_size old calls ∙ one.size)
+        (λ b below. after_whole calls done b (let size = one.size in omega (arith, size, below))) (λ b below here. after_settles calls done b (one.only b below here))
+
+  module _ (opening : Blocks) (first : List Call) (one : HasOneImage opening first old) where
     -- nothing is pending after a flush
     pub after_flush : (calls : List Call) → AllByRecursion (IsDone (length old)) calls → HasOneImage opening (Flush true ∷ (calls ++ first)) (after old calls)
     after_flush calls done =
         one_image-flush opening (calls ++ first) (after old calls) (after_size old calls ∙ one.size)
-        (λ b below. after_whole calls done b (let size = one.size in omega (arith, size, below))) (after_settles calls done)
+        (λ b below. after_whole calls done b (let size = one.size in omega (arith, size, below)))
+        (λ b below. after_settles opening first calls done b (one.only b below))
 
     module _ (g : Geometry) (sizes : IsGeometry g) (named : g.nonce < 2 ^ 64) (room : needed_blocks g ≤ length old) where
       -- the device has one image, which is empty

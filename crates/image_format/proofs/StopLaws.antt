@@ -278,12 +278,12 @@ super_sectors head i below =
 
 -- What a stop leaves on a device that had these blocks.
 
-misses_failed : (call : Call) (b : ℕ) → Misses call b → Misses (as_failed call) b
+pub misses_failed : (call : Call) (b : ℕ) → Misses call b → Misses (as_failed call) b
 misses_failed (Read _ _ _) b misses = tt
 misses_failed (Write at bytes ok) b misses = misses
 misses_failed (Flush _) b misses = tt
 
-all_behind : (P : Call → Type 0) (newer older : List Call) → AllByRecursion P (newer ++ older) → AllByRecursion P older
+pub all_behind : (P : Call → Type 0) (newer older : List Call) → AllByRecursion P (newer ++ older) → AllByRecursion P older
 all_behind P [] older all = all
 all_behind P (call ∷ newer) older all = all_behind P newer older all.1
 

@@ -10,4 +10,6 @@ pub mod SoundRows
 pub mod FaultRows
 pub mod EmptyLaws
 pub mod FaultLaws
+pub mod LookedLaws
+mod LookedRows
 pub mod WholeRows

@@ -5,3 +5,4 @@ pub mod Counts
 pub mod Sound
 pub mod Faults
 pub mod Empty
+pub mod Looked

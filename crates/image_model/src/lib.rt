@@ -6,7 +6,7 @@
 //! nor is a new page whose parent isn't linked, or one that is linked already. A new page of level 255 puts nothing
 //! anywhere. Two pages may stand at one block as far as the map is concerned: only one of them can have its own header
 //! there, so the other one has a page's fault. Counts of mappings are over all addresses that the leaves have slots
-//! for, past the logical size too.
+//! for, past the logical size too. No block of the index is looked at (`specs/Looked`).
 //!
 //! Only tested: the texts of the faults.
 //!

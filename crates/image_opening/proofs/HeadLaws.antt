@@ -1,8 +1,7 @@
--- What was read of block 0 of an honest device on which nothing is pending is that of its one image.
+-- What was read of block 0 of an honest device on which nothing is pending but in the index is that of its one image.
 use Rattle.std.proofs.Common.{ℕ, ◌≡◌, ◌<◌, Bool, IsTrue, List, [], ◌∷◌, length, Ok, Err, refl, sym, ◌∙◌, ap, ap₂, inl, inr, arith}
 use Rattle.blk_base.specs.declared.geometry.Super.{Super}
 use Rattle.disk_model.proofs.ImageLaws.{block_of_mix, settled_are_contents}
-use Rattle.disk_model.specs.Images.{HasOneImage}
 use Rattle.disk_model.specs.Log.{Blocks, block_at, settled}
 use Rattle.disk_model.specs.Seen.{Seen}
 use Rattle.disk_model.specs.Since.{WereRead}
@@ -10,7 +9,9 @@ use Rattle.image_layout.specs.Opened.{super_of_image}
 use Rattle.image_layout.specs.Superblock.{super_of}
 use Rattle.image_layout.specs.declared.fault.SuperFault.{SuperFault}
 use Rattle.image_layout.specs.declared.fault.SuperFault.TheVariants.{NotAnImage}
+use Rattle.image_model.proofs.LookedLaws.{looked_first}
 use Rattle.image_model.specs.Faults.{IsImageFault}
+use Rattle.image_model.specs.Looked.{HasOneImageButIndex}
 use Rattle.image_model.specs.declared.fault.ImageFault.{ImageFault}
 use Rattle.image_model.specs.declared.fault.ImageFault.TheVariants.{Super as SuperFaulty, Window, Page, Counter, SharedPage, Counts, Device, Unclean, Memory}
 use Rattle.image_opening.specs.Heads.{HeadFails, IsHeadRead}
@@ -23,11 +24,11 @@ no_blocks : (image : Blocks) → length image ≡ 0 → super_of_image image ≡
 no_blocks [] none = refl
 no_blocks (block ∷ image) none = absurd (omega (arith, none))
 
-module _ (tells honest : Bool) (before now : Seen) (image : Blocks) (told : IsTrue tells) (fair : IsTrue honest) (one : HasOneImage before.opening before.log image) where
+module _ (tells honest : Bool) (before now : Seen) (image : Blocks) (told : IsTrue tells) (fair : IsTrue honest) (one : HasOneImageButIndex before.opening before.log image) where
   block_shown : (block : List ℕ) → 0 < length before.opening → WereRead tells honest 0 before now (block ∷ []) → block ≡ block_at image 0
   block_shown block some read =
       block_of_mix (settled before.opening before.log 0) (block_at image 0) block (one.whole 0 some) read.given.0 (read.given.1 told fair)
-      (settled_are_contents _ before.opening before.log 0 (one.only 0 some))
+      (settled_are_contents _ before.opening before.log 0 (one.only 0 some (looked_first image)))
 
   says_of : (block : List ℕ) → 0 < before.size → WereRead tells honest 0 before now (block ∷ []) → super_of_image image ≡ super_of block before.size
   says_of block some read =

@@ -1,18 +1,18 @@
 ghost use Rattle.std.specs.Prelude.{◌≡◌, Bool, IsTrue, Ok, length};
 ghost use Rattle.blk_base.specs.declared.geometry.Super.{Super};
-ghost use Rattle.disk_model.specs.Images.{HasOneImage};
 ghost use Rattle.disk_model.specs.Log.{Blocks};
 ghost use Rattle.disk_model.specs.Seen.{Seen};
 ghost use Rattle.image_layout.specs.Opened.{super_of_image};
 ghost use Rattle.image_model.specs.Faults.{IsImageFault};
+ghost use Rattle.image_model.specs.Looked.{HasOneImageButIndex};
 ghost use Rattle.image_model.specs.declared.fault.ImageFault.{ImageFault};
 ghost use Rattle.image_opening.specs.Heads.{HeadFails, IsHeadRead};
 
-/// Where a device is honest and nothing is pending on it, what was read of its block 0 is the superblock of its one image,
-/// or its fault. It does nothing.
+/// Where a device is honest and nothing is pending on it but in the index, what was read of its block 0 is the superblock of
+/// its one image, or its fault. It does nothing.
 pub fn a_read_shows_the_superblock()
-    ensures head { (tells honest : Bool) (before now : Seen) (image : Blocks) (head : Super) → IsTrue tells → IsTrue honest → HasOneImage before.opening before.log image
+    ensures head { (tells honest : Bool) (before now : Seen) (image : Blocks) (head : Super) → IsTrue tells → IsTrue honest → HasOneImageButIndex before.opening before.log image
         → IsHeadRead tells honest before now head → super_of_image image ≡ Ok head }
     ensures fault { (tells honest : Bool) (before now : Seen) (image : Blocks) (why : ImageFault) → IsTrue tells → IsTrue honest → length before.opening ≡ before.size
-        → HasOneImage before.opening before.log image → HeadFails tells honest before now why → IsImageFault image why }
+        → HasOneImageButIndex before.opening before.log image → HeadFails tells honest before now why → IsImageFault image why }
 {}

@@ -3,15 +3,15 @@ use Rattle.std.proofs.Common.{ℕ, suc, ◌≡◌, ◌≢◌, ◌+◌, ◌<◌, 
 use Rattle.std.proofs.Math.Nat.{mod-lt}
 use Rattle.std.proofs.lemmas.Bool.Decides.{eqb_tells}
 use Rattle.std.specs.List.{AllByRecursion}
-use Rattle.blk_base.specs.Regions.{journal_slot_of}
+use Rattle.blk_base.specs.Regions.{journal_slot_of, first_index_of}
 use Rattle.blk_base.specs.Sectors.{sector}
 use Rattle.blk_base.specs.declared.geometry.Geometry.{Geometry}
 use Rattle.blk_base.specs.declared.place.Pbn.{Pbn}
 use Rattle.disk_model.specs.declared.call.Call.{Call}
 use Rattle.disk_model.specs.declared.call.Call.TheVariants.{Write, Flush}
-use Rattle.disk_model.specs.Images.{HasOneImage}
 use Rattle.disk_model.specs.Log.{Blocks, Misses, block_at, contents, settled}
 use Rattle.disk_model.proofs.ImageLaws.{kept, all_weaker, settled-misses, settled-write, contents-write}
+use Rattle.disk_model.specs.OneImages.{HasOneImageIn}
 use Rattle.journal_codec.specs.Grammar.{HoldsBlock}
 use Rattle.journal_codec.specs.Spelling.{block_bytes, entries_in}
 use Rattle.journal_codec.proofs.PrefixLaws.{written}
@@ -20,6 +20,8 @@ use Rattle.stop_laws.specs.Journals.{Surely, MissesJournal, block_of_slot}
 use Rattle.stop_laws.proofs.JournalLaws.{slots_apart}
 use Rattle.journal_stops.specs.Rings.{place_of, IsWhole, HasNothingLater, IsTornOver, StandWhole, IsRing, IsAtRest, IsUnderWay, IsWritten}
 use Rattle.journal_stops.specs.Sealed.{Sealed, IsSealed, next_of, head_of, front_of}
+use Rattle.image_model.proofs.LookedLaws.{looked_low}
+use Rattle.image_model.specs.Looked.{is_looked_at}
 
 -- Blocks.
 
@@ -173,27 +175,27 @@ ends opening log g start blocks block is way =
       ]);
     }
 
--- Where nothing is pending, the journal is that of the one image.
+-- Where nothing is pending but in the index, the journal is that of the one image.
 
-one_content : (opening : Blocks) (log : List Call) (image : Blocks) (b : ℕ) (P : List ℕ → Type 0) → b < length opening → HasOneImage opening log image
-    → Surely image [] b P → Surely opening log b P
-one_content opening log image b P below one holds =
-    all_weaker (λ content. content ≡ block_at image b) P (contents opening log b) (λ content same. subst P (sym same) holds.0) (one.only b below)
+one_content : (g : Geometry) (opening : Blocks) (log : List Call) (image : Blocks) (b : ℕ) (P : List ℕ → Type 0) → b < length opening → b < first_index_of g
+    → HasOneImageIn (is_looked_at g) opening log image → Surely image [] b P → Surely opening log b P
+one_content g opening log image b P below low one holds =
+    all_weaker (λ content. content ≡ block_at image b) P (contents opening log b) (λ content same. subst P (sym same) holds.0) (one.only b below (looked_low g b low))
 
 one_whole : (opening : Blocks) (log : List Call) (image : Blocks) (g : Geometry) (start from : ℕ) (blocks : List Sealed) → 0 < g.journal → 1 + g.journal ≤ length opening
-    → HasOneImage opening log image → StandWhole image [] g start from blocks → StandWhole opening log g start from blocks
+    → HasOneImageIn (is_looked_at g) opening log image → StandWhole image [] g start from blocks → StandWhole opening log g start from blocks
 one_whole opening log image g start from [] some inside one whole = tt
 one_whole opening log image g start from (block ∷ older) some inside one whole = (
   λ reached. let was = whole.0 reached in let below = mod-lt (next_of start older) some in
-      (was.0, was.1, one_content opening log image (place_of g (next_of start older)) (IsWhole g (next_of start older) block) (omega (arith, below, inside)) one was.2),
+      (was.0, was.1, one_content g opening log image (place_of g (next_of start older)) (IsWhole g (next_of start older) block) (omega (arith, below, inside)) (omega (arith, below)) one was.2),
   one_whole opening log image g start from older some inside one whole.1,
 )
 
 pub opened : (opening : Blocks) (log : List Call) (g : Geometry) (start : ℕ) (image : Blocks) (blocks : List Sealed) → 1 + g.journal ≤ length opening
-    → HasOneImage opening log image → IsAtRest image [] g start blocks → IsAtRest opening log g start blocks
+    → HasOneImageIn (is_looked_at g) opening log image → IsAtRest image [] g start blocks → IsAtRest opening log g start blocks
 opened opening log g start image blocks inside one rest = record {
   some = rest.some;
   ring = rest.ring;
   whole = one_whole opening log image g start (head_of start blocks) blocks (ring_has_slots g start blocks rest.ring) inside one rest.whole;
-  none = λ slot below. one_content opening log image (block_of_slot slot) (HasNothingLater g (next_of start blocks)) (omega (arith, below, inside)) one (rest.none slot below);
+  none = λ slot below. one_content g opening log image (block_of_slot slot) (HasNothingLater g (next_of start blocks)) (omega (arith, below, inside)) (omega (arith, below)) one (rest.none slot below);
 }

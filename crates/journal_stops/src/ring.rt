@@ -7,11 +7,13 @@ ghost use Rattle.blk_base.specs.declared.journal_entry.Entry.{Entry};
 ghost use Rattle.blk_base.specs.declared.place.Pbn.{Pbn};
 ghost use Rattle.disk_model.specs.declared.call.Call.{Call};
 ghost use Rattle.disk_model.specs.declared.call.Call.TheVariants.{Write, Flush};
-ghost use Rattle.disk_model.specs.Images.{IsImage, HasOneImage};
+ghost use Rattle.disk_model.specs.Images.{IsImage};
 ghost use Rattle.disk_model.specs.Log.{Blocks};
+ghost use Rattle.disk_model.specs.OneImages.{HasOneImageIn};
 ghost use Rattle.image_layout.specs.Values.{journal_of};
 ghost use Rattle.image_model.specs.Sound.{IsSound};
 ghost use Rattle.image_model.specs.Windows.{in_slot, IsWindow};
+ghost use Rattle.image_model.specs.Looked.{is_looked_at};
 ghost use Rattle.journal_codec.specs.Grammar.{HoldsBlock, IsSector, IsPrefix};
 ghost use Rattle.journal_codec.specs.Spelling.{block_bytes};
 ghost use Rattle.stop_laws.specs.Journals.{MissesJournal};
@@ -19,7 +21,7 @@ ghost use Rattle.journal_stops.specs.Rings.{IsWhole, IsRing, IsAtRest, IsUnderWa
 ghost use Rattle.journal_stops.specs.Sealed.{Sealed, IsSealed, next_of, head_of, window_of, front_of};
 
 /// A journal in which no sector is as late as the first sequence is at rest, and has no block; and where nothing is
-/// pending, it is at rest as it is in the one image. So the journal of each image that a stop leaves is at rest with a first
+/// pending but in the index, it is at rest as it is in the one image. So the journal of each image that a stop leaves is at rest with a first
 /// sequence two past its last one, or later, and so is that of each sound image. With the first sequence that it had, a
 /// journal goes on where its last block is whole, nothing is later, and the ring has a slot for the next one.
 pub fn a_journal_begins_at_rest()
@@ -30,7 +32,7 @@ pub fn a_journal_begins_at_rest()
     ensures sound { (image : Blocks) (s : IsSound image) (start : ℕ) → s.last + 2 ≤ start → IsAtRest image [] s.head.geometry start [] }
     ensures closed { (image : Blocks) (s : IsSound image) (start : ℕ) → IsTrue s.head.clean → s.head.start ≤ start → IsAtRest image [] s.head.geometry start [] }
     ensures opened { (opening : Blocks) (log : List Call) (g : Geometry) (start : ℕ) (image : Blocks) (blocks : List Sealed) → 1 + g.journal ≤ length opening
-        → HasOneImage opening log image → IsAtRest image [] g start blocks → IsAtRest opening log g start blocks }
+        → HasOneImageIn (is_looked_at g) opening log image → IsAtRest image [] g start blocks → IsAtRest opening log g start blocks }
     ensures rest { (opening : Blocks) (log : List Call) (g : Geometry) (start : ℕ) (blocks : List Sealed) (image : Blocks) (later : ℕ) → 1 + g.journal ≤ length opening
         → IsAtRest opening log g start blocks → IsImage opening log image → next_of start blocks ≤ later → IsAtRest image [] g later [] }
     ensures torn { (opening : Blocks) (log : List Call) (g : Geometry) (start : ℕ) (blocks : List Sealed) (block : Sealed) (image : Blocks) (later : ℕ) → 1 + g.journal ≤ length opening

@@ -1,21 +1,18 @@
--- What was read of the journal of an honest device on which nothing is pending is that of its one image.
+-- What was read of the journal of an honest device on which nothing is pending but in the index is that of its one image.
 use Rattle.std.proofs.Common.{ℕ, ◌≡◌, ◌+◌, ◌<◌, ◌≤◌, ◌++◌, Bool, false, IsTrue, List, [], ◌∷◌, length, take, drop, reverse, Result, Ok, refl, sym, ◌∙◌, ap, subst, inr, arith}
-use Rattle.std.proofs.Math.Seq.{take-suc}
-use Rattle.std.proofs.lemmas.Grind.{reverse_onto}
-use Rattle.std.proofs.lemmas.List.{get_or-drop, length-drop, length-reverse, reverse-reverse}
-use Rattle.blk_base.specs.Regions.{needed_blocks}
-use Rattle.blk_base.specs.Sectors.{zero_block}
+use Rattle.std.proofs.lemmas.List.{length-reverse, reverse-reverse}
+use Rattle.blk_base.specs.Regions.{first_index_of, needed_blocks}
 use Rattle.blk_base.specs.declared.geometry.Geometry.{Geometry}
 use Rattle.blk_base.specs.declared.geometry.Super.{Super}
-use Rattle.disk_model.proofs.ImageLaws.{settled_are_contents, block_of_mix}
-use Rattle.disk_model.specs.Images.{HasOneImage}
 use Rattle.disk_model.specs.Log.{Blocks, block_at, settled}
 use Rattle.disk_model.specs.Seen.{Seen}
-use Rattle.disk_model.specs.Since.{AreGiven}
+use Rattle.disk_model.proofs.LookedLaws.{given_blocks}
 use Rattle.image_layout.specs.Opened.{super_of_image}
 use Rattle.image_layout.specs.Values.{journal_of}
 use Rattle.image_layout.specs.declared.fault.SuperFault.{SuperFault}
+use Rattle.image_model.proofs.LookedLaws.{looked_in_place, looked_low}
 use Rattle.image_model.specs.Faults.{IsAtEnd, IsImageFault}
+use Rattle.image_model.specs.Looked.{HasOneImageButIndex, looked_in}
 use Rattle.image_model.specs.Sound.{Opens}
 use Rattle.image_model.specs.Windows.{IsLast, IsWindow, IsFaulty}
 use Rattle.image_model.specs.declared.fault.ImageFault.{ImageFault}
@@ -24,34 +21,20 @@ use Rattle.journal_window.specs.Reads.{IsJournalRead, IsWindowRead, Fails}
 use Rattle.journal_window.specs.States.{WindowState}
 use Rattle.journal_window.specs.Windows.{IsUsedUp}
 
--- blocks that were read from a place on
-given_from : (tells honest : Bool) (from : ℕ) (before : Seen) (blocks : List (List ℕ)) (image : Blocks) → IsTrue tells → IsTrue honest → AreGiven tells honest from before blocks
-    → from + length blocks ≤ length before.opening → HasOneImage before.opening before.log image → reverse blocks ≡ take (length blocks) (drop from image)
-given_from tells honest from before [] image told fair given room one = refl
-given_from tells honest from before (bytes ∷ older) image told fair (whole, mix, given) room one =
-    let n = length older in
-    let size = one.size in
-    let below : from + n < length before.opening = omega (arith, room) in
-    let here : bytes ≡ block_at image (from + n) =
-    block_of_mix (settled before.opening before.log (from + n)) (block_at image (from + n)) bytes (one.whole (from + n) below) whole (mix told fair)
-    (settled_are_contents _ before.opening before.log (from + n) (one.only (from + n) below)) in
-    let before_it : reverse older ≡ take n (drop from image) = given_from tells honest from before older image told fair given (omega (arith, room)) one in
-    let left = length-drop from image in
-    reverse_onto older bytes [] ∙ ap (λ (front : Blocks). front ++ (bytes ∷ [])) before_it
-    ∙ ap (λ (block : List ℕ). take n (drop from image) ++ (block ∷ [])) (here ∙ sym (get_or-drop from image n zero_block))
-    ∙ sym (take-suc (drop from image) n zero_block (omega (arith, below, size, left)))
-
 one_head : (a b : Super) → ◌≡◌ {A = Result Super SuperFault} (Ok a) (Ok b) → a ≡ b
 one_head a b same = cc
 
-module _ (tells honest : Bool) (before now : Seen) (image : Blocks) (told : IsTrue tells) (fair : IsTrue honest) (one : HasOneImage before.opening before.log image) where
+module _ (tells honest : Bool) (before now : Seen) (image : Blocks) (told : IsTrue tells) (fair : IsTrue honest) (one : HasOneImageButIndex before.opening before.log image) where
   -- the blocks of the journal
-  journal_shown : (g : Geometry) (journal : Blocks) → needed_blocks g ≤ before.size → IsJournalRead tells honest before now g journal → journal ≡ journal_of g image
-  journal_shown g journal room read =
+  journal_shown : (head : Super) (journal : Blocks) → needed_blocks head.geometry ≤ before.size → super_of_image image ≡ Ok head → IsJournalRead tells honest before now head.geometry journal
+      → journal ≡ journal_of head.geometry image
+  journal_shown head journal room accepted read =
       let count = read.count in
       let size = length-reverse journal in
       let opening = read.read.told told in
-      sym (reverse-reverse journal) ∙ given_from tells honest 1 before (reverse journal) image told fair read.read.given (omega (arith, count, size, opening, room)) one
+      sym (reverse-reverse journal)
+      ∙ given_blocks (looked_in image) tells honest 1 before image told fair one (reverse journal) read.read.given (omega (arith, count, size, opening, room))
+      (λ b less. looked_in_place image head accepted b (looked_low head.geometry b (omega (arith, less, count, size))))
       ∙ ap (λ (n : ℕ). take n (drop 1 image)) (size ∙ count)
 
   module _ (head : Super) (room : needed_blocks head.geometry ≤ before.size) (accepted : super_of_image image ≡ Ok head) where
@@ -59,7 +42,7 @@ module _ (tells honest : Bool) (before now : Seen) (image : Blocks) (told : IsTr
     window_shown window (journal, read, is) = record {
       accepted = accepted;
       sequences = is.sequences;
-      is_window = subst (λ (blocks : Blocks). IsWindow head.geometry head.start blocks window.last window.entries) (journal_shown head.geometry journal room read) is.is_window;
+      is_window = subst (λ (blocks : Blocks). IsWindow head.geometry head.start blocks window.last window.entries) (journal_shown head journal room accepted read) is.is_window;
     }
 
     -- the sequences of the image are used up where those of the blocks are, and the other way round
@@ -85,9 +68,9 @@ module _ (tells honest : Bool) (before now : Seen) (image : Blocks) (told : IsTr
         }
 
     pub fault_shown : (why : ImageFault) → Fails tells honest before now head why → IsImageFault image why
-    fault_shown (Superblock fault) (journal, read, refused) = inr (refused.0, at_end journal (journal_shown head.geometry journal room read) refused.1)
+    fault_shown (Superblock fault) (journal, read, refused) = inr (refused.0, at_end journal (journal_shown head journal room accepted read) refused.1)
     fault_shown (Window sequence) (journal, read, refused) =
-        let same = journal_shown head.geometry journal room read in
+        let same = journal_shown head journal room accepted read in
         record {
           head = head;
           accepted = accepted;

@@ -1,11 +1,11 @@
 ghost use Rattle.std.specs.Prelude.{◌≡◌, ◌≤◌, ◌⊎◌, Bool, IsTrue, Ok};
 ghost use Rattle.blk_base.specs.Regions.{needed_blocks};
 ghost use Rattle.blk_base.specs.declared.geometry.Super.{Super};
-ghost use Rattle.disk_model.specs.Images.{HasOneImage};
 ghost use Rattle.disk_model.specs.Log.{Blocks};
 ghost use Rattle.disk_model.specs.Seen.{Seen};
 ghost use Rattle.image_layout.specs.Opened.{super_of_image};
 ghost use Rattle.image_model.specs.Faults.{IsImageFault};
+ghost use Rattle.image_model.specs.Looked.{HasOneImageButIndex};
 ghost use Rattle.image_model.specs.Sound.{Opens};
 ghost use Rattle.image_model.specs.declared.fault.ImageFault.{ImageFault};
 ghost use Rattle.image_model.specs.declared.fault.ImageFault.TheVariants.{Memory};
@@ -23,15 +23,15 @@ pub fn a_journal_has_one_answer()
         → IsWindowOf head journal window → IsRefused head journal why → why ≡ Memory }
 {}
 
-/// Where a device is honest and nothing is pending on it, what was read of its journal is what its one image has: the
-/// window with which it is opened, or its fault. It does nothing.
+/// Where a device is honest and nothing is pending on it but in the index, what was read of its journal is what its one
+/// image has: the window with which it is opened, or its fault. It does nothing.
 pub fn reads_show_the_window()
     ensures window { (tells honest : Bool) (before now : Seen) (image : Blocks) (head : Super) (window : WindowState)
-        → IsTrue tells → IsTrue honest → HasOneImage before.opening before.log image → needed_blocks head.geometry ≤ before.size
+        → IsTrue tells → IsTrue honest → HasOneImageButIndex before.opening before.log image → needed_blocks head.geometry ≤ before.size
         → super_of_image image ≡ Ok head → IsWindowRead tells honest before now head window
         → Opens image head window.last window.entries }
     ensures fault { (tells honest : Bool) (before now : Seen) (image : Blocks) (head : Super) (why : ImageFault)
-        → IsTrue tells → IsTrue honest → HasOneImage before.opening before.log image → needed_blocks head.geometry ≤ before.size
+        → IsTrue tells → IsTrue honest → HasOneImageButIndex before.opening before.log image → needed_blocks head.geometry ≤ before.size
         → super_of_image image ≡ Ok head → Fails tells honest before now head why
         → IsImageFault image why }
 {}

@@ -17,6 +17,7 @@ use Rattle.image_layout.specs.Opened.{super_of_image}
 use Rattle.image_model.proofs.Example.{pbn}
 use Rattle.image_model.specs.Empty.{IsMade, made_block}
 use Rattle.image_model.specs.Maps.{Image}
+use Rattle.image_model.proofs.LookedLaws.{looked_first}
 use Rattle.recovery_laws.proofs.OpenedExample.{opened_is_to_recover, opened_super}
 use Rattle.recovery_laws.specs.Calls.{IsPut}
 use Rattle.recovery_laws.specs.Kept.{image_in}
@@ -60,7 +61,7 @@ module _ (first : Seen) (blocks : Blocks) where
       absurd (cc (here, clean, unclean))
 
 pending_start : IsStart true true (record seen { opening = zero_block ∷ []; log = Write (pbn 0) [] true ∷ [] }) (zero_block ∷ []) → ⊥
-pending_start start = let only = (start.to.one.only 0 (omega arith)).0 in let whole = start.to.one.whole 0 (omega arith) in let size = ap length only in omega (arith, size, whole)
+pending_start start = let only = (start.to.one.only 0 (omega arith) (looked_first (zero_block ∷ []))).0 in let whole = start.to.one.whole 0 (omega arith) in let size = ap length only in omega (arith, size, whole)
 
 -- A call that failed. each: those before it are reads and recovery's writes.
 none_taken : (call : Call) → Flush true ≡ as_failed call → ⊥

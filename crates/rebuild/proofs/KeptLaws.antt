@@ -1,16 +1,16 @@
 -- Whatever a stop leaves at each moment of recovery says the same.
 use Rattle.std.proofs.Common.{ℕ, ◌≡◌, Bool, IsTrue, true, List, [], ◌∷◌, ◌++◌, Result, Ok, Err, refl, sym, ◌∙◌, ap, ap₂, subst, inl, inr, append_assoc}
+use Rattle.std.specs.List.{AllByRecursion}
 use Rattle.blk_base.specs.declared.geometry.Super.{Super as Superblock}
 use Rattle.blk_base.specs.declared.journal_entry.CommittedEntry.{CommittedEntry}
+use Rattle.blk_base.specs.Regions.{IndexBlock, block_of}
 use Rattle.disk_model.specs.declared.call.Call.{Call}
 use Rattle.disk_model.specs.declared.call.Call.TheVariants.{Read, Write, Flush}
 use Rattle.disk_model.specs.declared.call.Failed.{Failed}
-use Rattle.disk_model.specs.Images.{HasOneImage}
-use Rattle.disk_model.specs.Log.{Blocks}
+use Rattle.disk_model.specs.Log.{Blocks, Misses}
 use Rattle.disk_model.specs.Seen.{Seen}
 use Rattle.disk_model.specs.Since.{IsUntouched, OnlyReads}
-use Rattle.disk_model.proofs.OneImageLaws.{one_image-unique}
-use Rattle.disk_model.proofs.SinceLaws.{image_since}
+use Rattle.disk_model.proofs.LookedLaws.{one_in-since, one_in-unique}
 use Rattle.image_format.specs.Calls.{put}
 use Rattle.image_format.specs.Runs.{Makes, WereMade, OneFailed, as_failed}
 use Rattle.image_layout.specs.Superblock.{super_block}
@@ -19,10 +19,11 @@ use Rattle.image_model.proofs.WindowLaws.{one_window}
 use Rattle.image_model.specs.Maps.{Image}
 use Rattle.image_model.specs.Sound.{IsSound, Opens, image_of}
 use Rattle.image_model.specs.Windows.{IsWindow}
-use Rattle.recovery_laws.proofs.KeptRows.{kept_by_itself}
-use Rattle.recovery_laws.proofs.WholeLaws.{cut, failures, parts, stops}
+use Rattle.image_model.specs.Looked.{HasOneImageButIndex, looked_in}
+use Rattle.recovery_laws.proofs.WholeLaws.{cut, failures, parts, stops, stops_behind}
 use Rattle.recovery_laws.specs.Calls.{ArePuts, recovery_calls}
 use Rattle.recovery_laws.specs.Kept.{AreKept, image_in, recovered_super}
+use Rattle.recovery_laws.proofs.AlikeLaws.{alike_is_kept}
 use Rattle.rebuild.specs.Acts.{AreMade, HasStopped, IsStart}
 use Rattle.rebuild.specs.Outcomes.{Ends, IsAllMade, IsKeptSince}
 
@@ -34,17 +35,25 @@ reads_behind (Read at bytes ok ∷ newer) older reads = reads_behind newer older
 reads_behind (Write at bytes ok ∷ newer) older reads = absurd reads
 reads_behind (Flush ok ∷ newer) older reads = absurd reads
 
-pub untouched_kept : (tells : Bool) (before now : Seen) (blocks : Blocks) (sound : IsSound blocks) → IsTrue tells → HasOneImage before.opening before.log blocks → IsUntouched tells before now
+reads_miss : (b : ℕ) (calls : List Call) → OnlyReads calls → AllByRecursion (λ call. Misses call b) calls
+reads_miss b [] reads = tt
+reads_miss b (Read at bytes ok ∷ calls) reads = (tt, reads_miss b calls reads)
+reads_miss b (Write at bytes ok ∷ calls) reads = absurd reads
+reads_miss b (Flush ok ∷ calls) reads = absurd reads
+
+pub untouched_kept : (tells : Bool) (before now : Seen) (blocks : Blocks) (sound : IsSound blocks) → IsTrue tells → HasOneImageButIndex before.opening before.log blocks → IsUntouched tells before now
     → IsKeptSince (image_in blocks sound) before now
 untouched_kept tells before now blocks sound told one untouched =
     let since = untouched.reads told in (
       since.0,
       since.1,
-      λ newer older image same is.
-          let reads = reads_behind newer older (subst OnlyReads same since.2) in
-          let still = image_since before.opening before.log (older ++ before.log) blocks (older, refl, reads) one in
-          let unchanged : image ≡ blocks = one_image-unique before.opening (older ++ before.log) blocks image still is in
-          subst (AreKept (image_in blocks sound)) (sym unchanged) (kept_by_itself blocks sound),
+      record {
+        kept = λ newer older image same is.
+            let reads = reads_behind newer older (subst OnlyReads same since.2) in
+            let still = one_in-since (looked_in blocks) before.opening before.log (older ++ before.log) blocks (older, refl, reads) one in
+            alike_is_kept blocks image sound (one_in-unique (looked_in blocks) before.opening (older ++ before.log) blocks image still is);
+        index = λ i below. reads_miss (block_of sound.head.geometry (IndexBlock i)) since.0 since.2;
+      },
     )
 
 module _ (tells honest : Bool) (first : Seen) (blocks : Blocks) (start : IsStart tells honest first blocks) where
@@ -89,8 +98,8 @@ module _ (tells honest : Bool) (first : Seen) (blocks : Blocks) (start : IsStart
           | inr lost ↦ (
             failed.done ++ puts,
             lost.0 ∙ log,
-            λ newer older other same is. stops first.opening blocks first.log puts start.to are (failed.newer ++ (failed.call ∷ newer)) older other
-                (whole ∙ ap (λ (l : List Call). failed.newer ++ (failed.call ∷ l)) same ∙ sym (append_assoc failed.newer (failed.call ∷ newer) older)) is,
+            stops_behind first.opening blocks first.log puts start.to are (failed.newer ++ (failed.call ∷ [])) (failed.done ++ puts)
+                (whole ∙ sym (append_assoc failed.newer (failed.call ∷ []) (failed.done ++ puts))),
           )
         ]
 

@@ -20,6 +20,7 @@ use Rattle.image_model.specs.Maps.{Image, ArePagesGood}
 use Rattle.image_model.specs.Sound.{AreStored, AreTrue, image_of}
 use Rattle.image_model.specs.declared.fault.ImageFault.{ImageFault}
 use Rattle.image_model.specs.declared.fault.ImageFault.TheVariants.{Super, Window, Page, Counter, SharedPage, Counts, Device, Unclean, Memory}
+use Rattle.image_model.proofs.LookedLaws.{looked_in_place}
 use Rattle.image_opening.specs.Heads.{HeadFails, IsHeadRead}
 use Rattle.journal_window.proofs.ReadWindowLaws.{fault_shown}
 use Rattle.journal_window.specs.Reads.{Fails, IsWindowRead}
@@ -151,7 +152,7 @@ module _ (tells honest : Bool) (before : Seen) (blocks : Blocks) (is : IsTold te
 
         shown : (now : Seen) (Says : Image → Type 0) → BothShow tells honest head window second now Says → Says here
         shown now Says both =
-            both_shown tells honest blocks is.told is.fair head window second now Says (one_behind tells honest before blocks is middle head read second window window_read)
+            both_shown tells honest blocks is.told is.fair head window second now Says (accepted tells honest before blocks is middle head read) (one_behind tells honest before blocks is middle head read second window window_read)
             (enough_behind tells honest before blocks is middle head read second window window_read) both
 
         later : (now : Seen) → AuditWithFails tells honest head window second now Device → IsOpeningRefusal blocks before now Device
@@ -167,7 +168,7 @@ module _ (tells honest : Bool) (before : Seen) (blocks : Blocks) (is : IsTold te
             here,
             is_opened,
             says blocks
-                (all_shown tells honest blocks is.told is.fair head.geometry second now pages (one_behind tells honest before blocks is middle head read second window window_read) pages_read),
+                (all_shown tells honest blocks is.told is.fair head.geometry second now pages (looked_in_place blocks head (accepted tells honest before blocks is middle head read)) (one_behind tells honest before blocks is middle head read second window window_read) pages_read),
           ),
         )
         refused_with now (Counter at point) fails =

@@ -1,15 +1,16 @@
 -- How a recovery ends: for each clause a small case that it accepts, and one that breaks it and is refused.
-use Rattle.std.proofs.Common.{ℕ, ◌≡◌, ◌+◌, ◌≤◌, Bool, true, false, List, [], ◌∷◌, ◌++◌, length, length-append, reverse, Ok, Err, refl, sym, ap, subst, inl, inr, arith}
+use Rattle.std.proofs.Common.{ℕ, ◌≡◌, ◌+◌, ◌≤◌, Bool, true, false, List, [], ◌∷◌, ◌++◌, length, length-append, reverse, Ok, Err, refl, sym, ap, subst, inl, inr, arith, ◌<◌}
 use Rattle.audit.specs.Audits.{BothShow}
 use Rattle.audit.specs.Reports.{HasNoFault}
 use Rattle.blk_base.specs.declared.geometry.Geometry.{Geometry}
 use Rattle.blk_base.specs.declared.geometry.Super.{Super as Superblock}
 use Rattle.blk_base.specs.declared.journal_entry.Entry.TheVariants.{NewPage}
 use Rattle.blk_base.specs.declared.place.Mapping.TheVariants.{At}
+use Rattle.blk_base.specs.Regions.{IndexBlock, block_of}
 use Rattle.disk_model.proofs.OneImageLaws.{one_image-unique}
 use Rattle.disk_model.proofs.SinceLaws.{untouched_yet}
 use Rattle.disk_model.specs.declared.call.Call.{Call}
-use Rattle.disk_model.specs.declared.call.Call.TheVariants.{Flush}
+use Rattle.disk_model.specs.declared.call.Call.TheVariants.{Flush, Write}
 use Rattle.disk_model.specs.declared.call.Failed.{Failed}
 use Rattle.disk_model.specs.Images.{HasOneImage, IsImage}
 use Rattle.disk_model.specs.Log.{Blocks}
@@ -28,7 +29,7 @@ use Rattle.journal_window.specs.States.{WindowState}
 use Rattle.journal_window.specs.Windows.{IsWindowOf}
 use Rattle.recovery_laws.proofs.KeptRows.{kept_by_itself}
 use Rattle.recovery_laws.specs.Calls.{ArePuts, recovery_calls}
-use Rattle.recovery_laws.specs.Kept.{AreKept, image_in}
+use Rattle.recovery_laws.specs.Kept.{AreKept, image_in, AreStopsKept}
 use Rattle.replay_counts.specs.Recovered.{Holds}
 use Rattle.replay_map.specs.Reads.{Shows}
 use Rattle.rebuild.proofs.ActLaws.{none_made}
@@ -191,10 +192,13 @@ module _ (blocks : Blocks) (sound : IsSound blocks) (one : HasOneImage blocks []
   kept_yet = (
     [],
     refl,
-    λ newer older now same is.
-        let none = no_older newer older same in
-        let here : IsImage blocks [] now = subst (λ (calls : List Call). IsImage blocks (calls ++ []) now) none is in
-        subst (AreKept (image_in blocks sound)) (sym (one_image-unique blocks [] blocks now one here)) (kept_by_itself blocks sound),
+    record {
+      kept = λ newer older now same is.
+          let none = no_older newer older same in
+          let here : IsImage blocks [] now = subst (λ (calls : List Call). IsImage blocks (calls ++ []) now) none is in
+          subst (AreKept (image_in blocks sound)) (sym (one_image-unique blocks [] blocks now one here)) (kept_by_itself blocks sound);
+      index = λ i below. tt;
+    },
   )
 
   -- Ends: after a refusal that is all; after an answer all was made
@@ -208,7 +212,12 @@ nothing_kept : (image : Image) → AreKept image [] → ⊥
 nothing_kept image kept = let accepted = kept.sound.opens.accepted in absurd (cc accepted)
 
 none_kept : (image : Image) → IsKeptSince image seen seen → ⊥
-none_kept image since = nothing_kept image (since.2 [] since.0 [] refl (record { size = refl; whole = λ b below. absurd (omega (arith, below)); sectors = λ b below. absurd (omega (arith, below)) }))
+none_kept image since = nothing_kept image (since.2.kept [] since.0 [] refl (record { size = refl; whole = λ b below. absurd (omega (arith, below)); sectors = λ b below. absurd (omega (arith, below)) }))
+
+-- nor is a write of the index among the calls
+index_written : (image : Image) (bytes : List ℕ) (ok : Bool) → 0 < image.geometry.index
+    → AreStopsKept image [] [] (Write (pbn (block_of image.geometry (IndexBlock 0))) bytes ok ∷ []) → ⊥
+index_written image bytes ok some stops = (stops.index 0 some).0 refl
 
 -- and the log goes on
 log_lost : (image : Image) → IsKeptSince image flushed seen → ⊥

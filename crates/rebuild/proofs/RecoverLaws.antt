@@ -2,7 +2,6 @@
 use Rattle.std.proofs.Common.{ℕ, ◌≡◌, ◌<◌, ◌^◌, ◌++◌, Bool, IsTrue, true, false, List, Result, Ok, Err, IsErrAnd, length, sym, ◌∙◌, subst, inl, inr}
 use Rattle.blk_base.specs.declared.geometry.Super.{Super as Superblock}
 use Rattle.disk_model.specs.declared.call.Call.{Call}
-use Rattle.disk_model.specs.Images.{HasOneImage}
 use Rattle.disk_model.specs.Log.{Blocks}
 use Rattle.disk_model.specs.Seen.{Seen}
 use Rattle.disk_model.specs.Since.{IsUntouched}
@@ -11,6 +10,7 @@ use Rattle.disk_model.proofs.SinceLaws.{untouched_on}
 use Rattle.image_layout.specs.Opened.{super_of_image}
 use Rattle.image_model.specs.Sound.{IsSound}
 use Rattle.image_model.specs.declared.fault.ImageFault.{ImageFault}
+use Rattle.image_model.specs.Looked.{HasOneImageButIndex}
 use Rattle.image_opening.proofs.HeadLaws.{head_shown}
 use Rattle.image_opening.specs.Heads.{HeadFails, IsHeadRead}
 use Rattle.recovery_laws.proofs.WholeLaws.{recovered}
@@ -94,8 +94,8 @@ module _ (tells honest : Bool) (before : Seen) where
           let opening = untouched.stays.opening in
           let opening_too = is_so.stays.opening in (
             last.0,
-            subst (λ (log : List Call). HasOneImage now.opening log last.0) (sym made.2)
-                (subst (λ (bs : Blocks). HasOneImage bs (recovery_calls (image_in blocks sound) sound.last made.0 ++ before.log) last.0) (sym (opening_too ∙ opening)) last.1),
+            subst (λ (log : List Call). HasOneImageButIndex now.opening log last.0) (sym made.2)
+                (subst (λ (bs : Blocks). HasOneImageButIndex bs (recovery_calls (image_in blocks sound) sound.last made.0 ++ before.log) last.0) (sym (opening_too ∙ opening)) last.1),
             last.2,
           );
     }

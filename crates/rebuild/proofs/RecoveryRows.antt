@@ -8,7 +8,7 @@ use Rattle.blk_base.specs.Sectors.{zero_block}
 use Rattle.blk_base.specs.declared.geometry.Geometry.{Geometry}
 use Rattle.blk_base.specs.declared.geometry.Super.{Super as Superblock}
 use Rattle.disk_model.proofs.ImageLaws.{block_of_mix, contents-write_other}
-use Rattle.disk_model.proofs.OneImageLaws.{one_image-is_image, one_image-opening, one_image-unique}
+use Rattle.disk_model.proofs.OneImageLaws.{one_image-is_image, one_image-opening}
 use Rattle.disk_model.proofs.SinceLaws.{untouched_yet}
 use Rattle.disk_model.specs.declared.call.Call.{Call}
 use Rattle.disk_model.specs.declared.call.Call.TheVariants.{Write, Flush}
@@ -16,6 +16,7 @@ use Rattle.disk_model.specs.Images.{HasOneImage, IsImage, IsMixOf}
 use Rattle.disk_model.specs.Log.{Blocks, block_at, contents}
 use Rattle.disk_model.specs.Seen.{Seen}
 use Rattle.disk_model.specs.Since.{reads_of}
+use Rattle.disk_model.proofs.LookedLaws.{one_in-all, one_in-unique}
 use Rattle.image_layout.specs.Opened.{super_of_image}
 use Rattle.image_layout.specs.Superblock.{super_block, super_of}
 use Rattle.image_layout.specs.declared.fault.SuperFault.TheVariants.{NotAnImage}
@@ -25,10 +26,13 @@ use Rattle.image_model.specs.Empty.{IsMade, made_block}
 use Rattle.image_model.specs.Maps.{Image}
 use Rattle.image_model.specs.Sound.{IsSound, Opens}
 use Rattle.image_model.specs.declared.fault.ImageFault.TheVariants.{Window, Counts, Device, Unclean, Memory}
+use Rattle.image_model.specs.Looked.{looked_in}
+use Rattle.image_model.proofs.LookedLaws.{looked_first}
 use Rattle.image_opening.specs.Heads.{IsHeadRead}
 use Rattle.recovery_laws.proofs.OpenedExample.{opened_super, whole_run}
 use Rattle.recovery_laws.specs.Calls.{recovery_calls}
 use Rattle.recovery_laws.specs.Kept.{IsRecovered, image_in}
+use Rattle.recovery_laws.proofs.AlikeLaws.{alike_super}
 use Rattle.rebuild.proofs.KeptLaws.{image_alike, opened_alike}
 use Rattle.rebuild.proofs.OutcomeRows.{kept_yet, never_unclean, none_of_zeros, opened}
 use Rattle.rebuild.proofs.ReadExample.{head_is_read, head_of, next_failed, no_entries, says_head, seen_failed, super_size, zero_size}
@@ -137,7 +141,7 @@ unfolding zero_block
 zero_whole b below = let first : b ≡ 0 = omega (arith, below) in rw first refl
 
 told_is : IsTold true true (opened one_block) one_block
-told_is = record { told = refl; fair = refl; one = one_image-opening one_block zero_whole }
+told_is = record { told = refl; fair = refl; one = one_in-all (looked_in one_block) one_block [] one_block (one_image-opening one_block zero_whole) }
 
 untold : (blocks : Blocks) → IsTold false true seen blocks → ⊥
 untold blocks is = let told = is.told in absurd (cc told)
@@ -147,7 +151,7 @@ unfair blocks is = let fair = is.fair in absurd (cc fair)
 
 -- a write is pending, of which a stop may leave nothing
 pending : IsTold true true (record (opened one_block) { log = Write (pbn 0) [] true ∷ [] }) one_block → ⊥
-pending is = let only = (is.one.only 0 (omega arith)).0 in let whole = is.one.whole 0 (omega arith) in let size = ap length only in omega (arith, size, whole)
+pending is = let only = (is.one.only 0 (omega arith) (looked_first one_block)).0 in let whole = is.one.whole 0 (omega arith) in let size = ap length only in omega (arith, size, whole)
 
 -- Each way it ends: what a sound image says is kept, and of one that isn't sound nothing is said.
 unsound : IsSound [] → ⊥
@@ -171,8 +175,8 @@ module _ (blocks : Blocks) (one : HasOneImage blocks [] blocks) where
   still_unclean : (sound : IsSound blocks) (count : ℕ) → sound.head.clean ≡ false → LeavesClosed blocks (opened blocks) (Entries count) → ⊥
   still_unclean sound count unclean leaves =
       let left = leaves sound in
-      let same : left.0 ≡ blocks = one_image-unique blocks [] blocks left.0 one (one_image-is_image blocks [] left.0 left.1) in
-      let accepted : super_of_image blocks ≡ Ok left.2.kept.sound.head = ap super_of_image (sym same) ∙ left.2.kept.sound.opens.accepted in
+      let alike = one_in-unique (looked_in left.0) blocks [] left.0 blocks left.1 (one_image-is_image blocks [] blocks one) in
+      let accepted = alike_super left.0 blocks left.2.kept.sound alike in
       let own = sound.opens.accepted in
       let head : left.2.kept.sound.head ≡ sound.head = cc (accepted, own) in
       let clean = ap (λ (h : Superblock). h.clean) left.2.closed in
@@ -256,7 +260,7 @@ module _ (before now : Seen) (blocks : Blocks) (told : IsTold true true before b
 
 module _ (blocks : Blocks) (sound : IsSound blocks) (one : HasOneImage blocks [] blocks) where
   told_here : IsTold true true (opened blocks) blocks
-  told_here = record { told = refl; fair = refl; one = one }
+  told_here = record { told = refl; fair = refl; one = one_in-all (looked_in blocks) blocks [] blocks one }
 
   left_unclean : (count : ℕ) → sound.head.clean ≡ false → IsRecovery true true (opened blocks) (opened blocks) (Ok (Entries count)) → ⊥
   left_unclean count unclean is = still_unclean blocks one sound count unclean (is.closed blocks told_here)
@@ -284,9 +288,9 @@ zeros_are_none size = refl
 written_over : (block : List ℕ) (more : Blocks) → IsSound (block ∷ more) → HasOneImage (block ∷ more) [] (block ∷ more)
     → IsRecovery true true (opened (block ∷ more)) (record (opened (block ∷ more)) { log = Write (pbn 0) zero_block true ∷ [] }) (Err Device) → ⊥
 written_over block more sound one is =
-    let since = is.stops (block ∷ more) (record { told = refl; fair = refl; one = one }) sound in
+    let since = is.stops (block ∷ more) (record { told = refl; fair = refl; one = one_in-all (looked_in (block ∷ more)) (block ∷ more) [] (block ∷ more) one }) sound in
     let stands = subst (λ (log : List Call). IsImage (block ∷ more) log (zero_block ∷ more)) since.1 (zeros_stand block more one.whole) in
-    let kept = since.2 [] since.0 (zero_block ∷ more) refl stands in
+    let kept = since.2.kept [] since.0 (zero_block ∷ more) refl stands in
     let accepted = kept.sound.opens.accepted in
     let none = zeros_are_none (length (zero_block ∷ more)) in
     absurd (cc (accepted, none))

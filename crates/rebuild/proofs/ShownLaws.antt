@@ -7,7 +7,6 @@ use Rattle.blk_base.specs.Regions.{needed_blocks}
 use Rattle.blk_base.specs.declared.geometry.Geometry.{Geometry}
 use Rattle.blk_base.specs.declared.geometry.Super.{Super as Superblock}
 use Rattle.disk_model.specs.declared.call.Call.{Call}
-use Rattle.disk_model.specs.Images.{HasOneImage}
 use Rattle.disk_model.specs.Log.{Blocks}
 use Rattle.disk_model.specs.Seen.{Seen}
 use Rattle.disk_model.specs.Since.{IsUntouched}
@@ -19,6 +18,8 @@ use Rattle.image_model.specs.Maps.{Image, ArePagesGood}
 use Rattle.image_model.specs.Sound.{AreStored, Opens, image_of}
 use Rattle.image_model.specs.declared.fault.ImageFault.{ImageFault}
 use Rattle.image_model.specs.declared.fault.ImageFault.TheVariants.{Super, Window, Page, Counter, SharedPage, Counts, Device, Unclean, Memory}
+use Rattle.image_model.specs.Looked.{HasOneImageButIndex}
+use Rattle.image_model.proofs.LookedLaws.{looked_in_place}
 use Rattle.image_opening.proofs.HeadLaws.{head_fault, head_shown}
 use Rattle.image_opening.specs.Heads.{HeadFails, IsHeadRead}
 use Rattle.journal_window.proofs.ReadWindowLaws.{fault_shown, window_shown}
@@ -81,7 +82,7 @@ module _ (tells honest : Bool) (before : Seen) (blocks : Blocks) (is : IsTold te
     pub head_untouched : IsUntouched tells before middle
     head_untouched = were_only_read tells honest 0 before middle (head_read.block ∷ []) head_read.read
 
-    pub one_there : HasOneImage middle.opening middle.log blocks
+    pub one_there : HasOneImageButIndex middle.opening middle.log blocks
     one_there = still tells honest blocks is.told is.fair before middle head_untouched is.one
 
     pub last_here : (now : Seen) → LastFailed tells middle now → LastFailed true before now
@@ -97,7 +98,7 @@ module _ (tells honest : Bool) (before : Seen) (blocks : Blocks) (is : IsTold te
       pub window_untouched : IsUntouched tells middle second
       window_untouched = were_only_read tells honest 1 middle second (reverse read.0) read.1.read
 
-      pub one_behind : HasOneImage second.opening second.log blocks
+      pub one_behind : HasOneImageButIndex second.opening second.log blocks
       one_behind = still tells honest blocks is.told is.fair middle second window_untouched one_there
 
       pub enough_behind : needed_blocks head.geometry ≤ second.size
@@ -108,12 +109,12 @@ module _ (tells honest : Bool) (before : Seen) (blocks : Blocks) (is : IsTold te
 
       audit_fault : (now : Seen) (why : ImageFault) → AuditWithFails tells honest head window second now why → IsUnclean blocks → IsRefusal blocks before now why
       audit_fault now (Page at fault) (pages, pages_read, says) unclean =
-          (unclean, (image_of head blocks window.entries, opened, says blocks (all_shown tells honest blocks is.told is.fair head.geometry second now pages one_behind pages_read)))
+          (unclean, (image_of head blocks window.entries, opened, says blocks (all_shown tells honest blocks is.told is.fair head.geometry second now pages (looked_in_place blocks head accepted) one_behind pages_read)))
       audit_fault now (Counter at point) fails unclean =
-          let said = both_shown tells honest blocks is.told is.fair head window second now (λ image. ArePagesGood image × IsCountFault image at point.0) one_behind enough_behind fails in
+          let said = both_shown tells honest blocks is.told is.fair head window second now (λ image. ArePagesGood image × IsCountFault image at point.0) accepted one_behind enough_behind fails in
           (unclean, (image_of head blocks window.entries, opened, said.0, said.1))
       audit_fault now (SharedPage at) fails unclean =
-          let said = both_shown tells honest blocks is.told is.fair head window second now (λ image. ArePagesGood image × AreStored image × IsShareFault image at) one_behind enough_behind fails in
+          let said = both_shown tells honest blocks is.told is.fair head window second now (λ image. ArePagesGood image × AreStored image × IsShareFault image at) accepted one_behind enough_behind fails in
           (unclean, (image_of head blocks window.entries, opened, said.0, said.1, said.2))
       audit_fault now Device fails unclean =
           last_here now (unclean_last tells honest head middle now (inr (inl (second, window, read, fails))))
@@ -153,7 +154,7 @@ module _ (tells honest : Bool) (before : Seen) (blocks : Blocks) (is : IsTold te
       window_opens has.middle has.window has.read,
       unclean,
       has.number,
-      both_shown tells honest blocks is.told is.fair head has.window has.middle has.behind HasNoFault (one_behind has.middle has.window has.read) (enough_behind has.middle has.window has.read) has.right,
+      both_shown tells honest blocks is.told is.fair head has.window has.middle has.behind HasNoFault accepted (one_behind has.middle has.window has.read) (enough_behind has.middle has.window has.read) has.right,
     )
 
   pub head_refused : (now : Seen) (why : ImageFault) → length before.opening ≡ before.size → HeadFails tells honest before now why → IsRefusal blocks before now why

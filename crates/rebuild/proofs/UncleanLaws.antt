@@ -9,7 +9,6 @@ use Rattle.blk_base.specs.declared.place.Mapping.{Mapping}
 use Rattle.disk_model.specs.declared.call.Call.{Call}
 use Rattle.disk_model.specs.declared.call.Call.TheVariants.{Flush}
 use Rattle.disk_model.specs.declared.call.Failed.{Failed}
-use Rattle.disk_model.specs.Images.{HasOneImage}
 use Rattle.disk_model.specs.Log.{Blocks}
 use Rattle.disk_model.specs.Seen.{Later, Seen, Stays}
 use Rattle.disk_model.specs.Since.{IsUntouched}
@@ -23,6 +22,7 @@ use Rattle.image_model.specs.Maps.{Image}
 use Rattle.image_model.specs.Sound.{Opens}
 use Rattle.image_model.specs.declared.fault.ImageFault.{ImageFault}
 use Rattle.image_model.specs.declared.fault.ImageFault.TheVariants.{Device}
+use Rattle.image_model.specs.Looked.{HasOneImageButIndex}
 use Rattle.journal_window.proofs.ReadWindowLaws.{window_shown}
 use Rattle.journal_window.specs.Reads.{IsWindowRead}
 use Rattle.journal_window.specs.States.{WindowState}
@@ -125,20 +125,20 @@ module _ (tells honest : Bool) (head : Superblock) (before second third now : Se
     abbrev image : Image
     image = image_in blocks start.to.sound
 
-    one_here : HasOneImage before.opening before.log blocks
+    one_here : HasOneImageButIndex before.opening before.log blocks
     one_here = still tells honest blocks start.told start.fair first before before_it start.to.one
 
     opens : Opens blocks head window.last window.entries
     opens = window_shown tells honest before second blocks start.told start.fair one_here head room accepted window read
 
-    one_there : HasOneImage second.opening second.log blocks
+    one_there : HasOneImageButIndex second.opening second.log blocks
     one_there = still tells honest blocks start.told start.fair before second window_read one_here
 
     needs : Needs image
     needs =
         let room_there : needed_blocks head.geometry ≤ second.size = let size = window_read.stays.size in omega (arith, size, room) in
         let both = both_shown tells honest blocks start.told start.fair head window second third
-        (λ i. HasMap i contents.map × HasCounts i contents.counts.counts.items contents.counts.sectors.items) one_there room_there is.shown in
+        (λ i. HasMap i contents.map × HasCounts i contents.counts.counts.items contents.counts.sectors.items) accepted one_there room_there is.shown in
         subst Needs (image_alike blocks start.to.sound head window.last window.entries opens)
         (record { sizes = refl; newest = newest; links = both.0.links; counts = both.1 })
 

@@ -1,5 +1,5 @@
 -- What is written while an image is recovered.
-use Rattle.std.proofs.Common.{ℕ, ◌≡◌, ◌+◌, ◌*◌, ◌/◌, ◌%◌, ◌<◌, ◌≤◌, ◌^◌, ◌==◌, ◌&&◌, Bool, true, false, if◌then◌else◌, List, [], ◌∷◌, ◌++◌, length, min, All, Option, Some, None, Ok, slice_index, refl, sym, ◌∙◌, ap, subst, inl, inr, arith}
+use Rattle.std.proofs.Common.{ℕ, ◌≡◌, ◌+◌, ◌*◌, ◌/◌, ◌%◌, ◌<◌, ◌≤◌, ◌^◌, ◌==◌, ◌&&◌, Bool, true, false, if◌then◌else◌, List, [], ◌∷◌, ◌++◌, length, min, All, Option, Some, None, Ok, slice_index, refl, sym, ◌∙◌, ap, subst, inl, inr, arith, IsTrue}
 use Rattle.std.specs.List.{AllByRecursion}
 use Rattle.std.proofs.Math.Nat.{mod-lt}
 use Rattle.std.proofs.lemmas.Bool.Decides.{eqb_tells}
@@ -28,7 +28,7 @@ use Rattle.disk_model.specs.Log.{Blocks, block_at, settled}
 use Rattle.disk_model.specs.Seen.{Seen}
 use Rattle.disk_model.specs.Since.{WereRead}
 use Rattle.disk_model.proofs.ImageLaws.{all_weaker, sector_of_mix, settled_are_contents}
-use Rattle.disk_model.proofs.OneImageLaws.{one_image-settled}
+use Rattle.disk_model.proofs.LookedLaws.{one_in-settled}
 use Rattle.image_format.specs.Calls.{put}
 use Rattle.image_model.proofs.EmptyLaws.{sizes_of_image}
 use Rattle.image_model.specs.Counts.{Stores}
@@ -36,6 +36,8 @@ use Rattle.image_model.specs.Maps.{Image, head_of, or_else, page_at, put_by, put
 use Rattle.image_model.specs.Pages.{above, leaf_of, slot_of, slot_of_address}
 use Rattle.image_model.specs.Sound.{IsSound}
 use Rattle.image_model.specs.Windows.{IsOfImage, LeadsToData}
+use Rattle.image_model.proofs.LookedLaws.{looked_in_place, looked_place}
+use Rattle.image_model.specs.Looked.{is_looked_at, looked_in}
 use Rattle.page_codec.proofs.HeldLaws.{holds_block}
 use Rattle.page_codec.proofs.SpellingLaws.{length-head}
 use Rattle.page_codec.specs.Grammar.{HasHead, HoldsMapping, slot_bytes}
@@ -54,6 +56,7 @@ use Rattle.recovery_laws.proofs.OldLaws.{says_put}
 use Rattle.recovery_laws.proofs.PutLaws.{IsFullBlock, IsPartBlock, old_is_part, puts_full}
 use Rattle.recovery_laws.proofs.SoundLaws.{known}
 use Rattle.recovery_laws.proofs.WindowFacts.{IsKnown}
+use Rattle.recovery_laws.proofs.StopLaws.{page_looked_at}
 use Rattle.replay_counts.specs.Recovered.{HasCounts}
 use Rattle.replay_counts.specs.declared.forms.SectorPoints.{SectorPoints}
 use Rattle.replay_map.specs.Changes.{AreNewest}
@@ -210,13 +213,14 @@ module _ (tells honest : Bool) (first : Seen) (blocks : Blocks) (start : IsStart
     full_puts : AllByRecursion (Puts (IsFullBlock blocks sound start.to.named)) calls
     full_puts = puts_full blocks sound start.to.named calls made.each
 
-    given_mix : IsMixOf (settled blocks calls at.0) given
-    given_mix =
+    given_mix : IsTrue (is_looked_at g at.0) → IsMixOf (settled blocks calls at.0) given
+    given_mix looked =
         let place : at.0 + 0 ≡ at.0 = omega arith in
         let was = subst (λ (b : ℕ). IsMixOf (settled before.opening before.log b) given) place (read.given.1 start.told start.fair) in
         let logged = subst (λ (log : List Call). IsMixOf (settled before.opening log at.0) given) made.logged was in
         let opened = subst (λ (opening : Blocks). IsMixOf (settled opening (calls ++ first.log) at.0) given) made.stays.opening logged in
-        one_image-settled first.opening first.log calls blocks at.0 given start.to.one (let size = start.to.one.size in omega (arith, size, below)) opened
+        one_in-settled (looked_in blocks) first.opening first.log calls blocks at.0 given start.to.one (let size = start.to.one.size in omega (arith, size, below))
+        (looked_in_place blocks sound.head sound.opens.accepted at.0 looked) opened
 
     -- a page
     pub page_put : (page : PageId) (changes : List (SlotId × Mapping)) (bytes : List ℕ) → page_at image page ≡ Some at → page.level < 2 ^ 8 → AreNewest image.window changes
@@ -224,7 +228,7 @@ module _ (tells honest : Bool) (first : Seen) (blocks : Blocks) (start : IsStart
     page_put page changes bytes there low newest patched =
         let parts = settled_kinds (IsPartBlock blocks sound start.to.named) calls at.0 (old_is_part blocks sound start.to.named at.0)
         (puts_part blocks sound start.to.named start.to.unclean whole calls full_puts) in
-        let part = page_of_mix image page at (settled blocks calls at.0) given read.given.0 given_mix
+        let part = page_of_mix image page at (settled blocks calls at.0) given read.given.0 (given_mix (page_looked_at blocks sound start.to.named page at there))
         (all_weaker (IsPartBlock blocks sound start.to.named at.0) (IsPartPage image page at) (settled blocks calls at.0) (λ content is. is.page page at there refl) parts) in (
           patched.size ∙ read.given.0,
           inl (page, there, page_of_patch image sound.last page at changes given bytes sizes (known blocks blocks sound) low newest part patched),
@@ -248,7 +252,8 @@ module _ (tells honest : Bool) (first : Seen) (blocks : Blocks) (start : IsStart
               (λ n row behind.
               let within : n < 8 * references_of g = let few = there.1 in omega (arith, few, row) in
               let here : block_of g (ReferenceBlock slab (n / 8)) ≡ at.0 = ap (λ (k : ℕ). block_of g (ReferenceBlock slab k)) row ∙ stands in
-              sector_of_mix (IsOldSector image slab n) (settled blocks calls at.0) given (n % 8) (mod-lt n (omega arith)) given_mix
+              sector_of_mix (IsOldSector image slab n) (settled blocks calls at.0) given (n % 8) (mod-lt n (omega arith))
+              (given_mix (subst (λ (b : ℕ). IsTrue (is_looked_at g b)) stands (looked_place g (ReferenceBlock slab i) there tt)))
               (all_weaker (PastKept at.0) (λ content. IsOldSector image slab n (sector (n % 8) content)) (settled blocks calls at.0)
               (λ content old. old slab n there.0 behind within here) kept))
               is),

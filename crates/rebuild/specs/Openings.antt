@@ -91,7 +91,7 @@ OpeningFails tells honest before now why =
     ⊎ ((head : Superblock) × (window : WindowState) × (middle : Seen) × IsOpenedTo tells honest before middle head window × (head.clean ≡ true)
     × OpenWithFails tells honest head window middle now why)
 
--- By the one image of an honest device on which nothing is pending.
+-- By the one image of an honest device on which nothing is pending but in the index.
 
 -- the image has this superblock, which says that the last session was closed
 abbrev pub IsCleanImage : Blocks → Type 0

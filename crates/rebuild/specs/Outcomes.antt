@@ -52,7 +52,7 @@ WritesNothing tells before now why = (why ≡ Device) ⊎ IsUntouched tells befo
 abbrev pub IsAllMade : Image → ℕ → Seen → Seen → Type 0
 IsAllMade image last first now = (puts : List Call) × ArePuts image puts × (now.log ≡ recovery_calls image last puts ++ first.log)
 
--- whatever a stop leaves says the same, at each moment since
+-- whatever a stop leaves says the same, at each moment since, and the index wasn't written
 abbrev pub IsKeptSince : Image → Seen → Seen → Type 0
 IsKeptSince image first now = SinceThen (AreStopsKept image first.opening first.log) first.log now.log
 

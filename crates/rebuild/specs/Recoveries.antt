@@ -3,13 +3,13 @@ use Rattle.std.specs.Prelude.{ℕ, ◌≡◌, ◌⊎◌, Bool, IsTrue, true, fal
 use Rattle.audit.specs.Reports.{HasNoFault}
 use Rattle.blk_base.specs.declared.geometry.Super.{Super as Superblock}
 use Rattle.blk_base.specs.declared.journal_entry.CommittedEntry.{CommittedEntry}
-use Rattle.disk_model.specs.Images.{HasOneImage}
 use Rattle.disk_model.specs.Log.{Blocks}
 use Rattle.disk_model.specs.Seen.{Later, Seen, Stays}
 use Rattle.disk_model.specs.Since.{IsUntouched}
 use Rattle.image_format.specs.Formats.{LastFailed}
 use Rattle.image_layout.specs.Opened.{super_of_image}
 use Rattle.image_model.specs.Faults.{IsImageFault}
+use Rattle.image_model.specs.Looked.{HasOneImageButIndex}
 use Rattle.image_model.specs.Sound.{IsSound, Opens, image_of}
 use Rattle.image_model.specs.declared.fault.ImageFault.{ImageFault}
 use Rattle.image_model.specs.declared.fault.ImageFault.TheVariants.{Super, Window, Page, Counter, SharedPage, Counts, Device, Unclean, Memory}
@@ -35,7 +35,7 @@ RecoverFails tells honest before now why =
     HeadFails tells honest before now why
     ⊎ ((head : Superblock) × (middle : Seen) × IsHeadRead tells honest before middle head × (head.clean ≡ false) × UncleanFails tells honest head middle now why)
 
--- Of an honest device on which nothing is pending: by its one image.
+-- Of an honest device on which nothing is pending but in the index: by its one image.
 
 -- what it answers: of an image that wasn't closed it has none of the faults
 abbrev pub IsAnswer : Blocks → Recovered → Type 0
@@ -69,17 +69,17 @@ IsResult blocks before now (Err why) = IsRefusal blocks before now why
 abbrev pub AreStopsSound : Blocks → Seen → Seen → Type 0
 AreStopsSound blocks before now = (sound : IsSound blocks) → IsKeptSince (image_in blocks sound) before now
 
--- After recovery nothing is pending, and the image is sound and closed, and says the same.
+-- After recovery nothing is pending but in the index, and the image is sound and closed, and says the same.
 abbrev pub LeavesClosed : Blocks → Seen → Recovered → Type 0
 LeavesClosed blocks now Clean = Unit {0}
 LeavesClosed blocks now (Entries count) =
-    (sound : IsSound blocks) → (image : Blocks) × HasOneImage now.opening now.log image × IsRecovered (image_in blocks sound) sound.last image
+    (sound : IsSound blocks) → (image : Blocks) × HasOneImageButIndex now.opening now.log image × IsRecovered (image_in blocks sound) sound.last image
 
--- the one image of a device that tells and is honest
+-- the one image, the index aside, of a device that tells and is honest
 pub record IsTold (tells honest : Bool) (seen : Seen) (blocks : Blocks) : Type 0 where
   pub told : IsTrue tells
   pub fair : IsTrue honest
-  pub one : HasOneImage seen.opening seen.log blocks
+  pub one : HasOneImageButIndex seen.opening seen.log blocks
 
 -- what a recovery promises of any device, and of an honest one
 pub record IsRecovery (tells honest : Bool) (before now : Seen) (result : Result Recovered ImageFault) : Type 0 where

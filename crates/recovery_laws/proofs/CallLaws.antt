@@ -1,32 +1,53 @@
 -- At each moment of recovery, whatever a stop then leaves, the image is sound and says the same.
 use Rattle.std.proofs.Common.{ℕ, ◌≡◌, ◌⊎◌, ◌<◌, ◌≤◌, ◌^◌, Bool, true, false, List, [], ◌∷◌, ◌++◌, length, Ok, refl, sym, ◌∙◌, ap, subst, inl, inr, arith}
 use Rattle.std.specs.List.{AllByRecursion}
-use Rattle.blk_base.specs.Regions.{ReferenceBlock, needed_blocks}
+use Rattle.blk_base.specs.Regions.{IndexBlock, ReferenceBlock, block_of, needed_blocks}
 use Rattle.blk_base.specs.Sectors.{sector}
-use Rattle.blk_base.proofs.RegionLaws.{inside}
+use Rattle.blk_base.proofs.RegionLaws.{apart, inside}
 use Rattle.blk_base.specs.declared.geometry.Geometry.{Geometry}
+use Rattle.blk_base.specs.declared.geometry.Super.{Super}
 use Rattle.disk_model.specs.declared.call.Call.{Call}
 use Rattle.disk_model.specs.declared.call.Call.TheVariants.{Read, Write, Flush}
-use Rattle.disk_model.specs.Images.{IsImage, HasOneImage}
-use Rattle.disk_model.specs.Log.{Blocks, block_at, contents, settled}
+use Rattle.disk_model.specs.Images.{IsImage}
+use Rattle.disk_model.specs.Log.{Blocks, Misses, block_at, contents, settled}
+use Rattle.disk_model.specs.OneImages.{HasOneImageIn, IsImageIn}
 use Rattle.disk_model.proofs.ImageLaws.{all_weaker, contents-write_other, sector_of_mix, settled-write_other}
-use Rattle.disk_model.proofs.OneImageLaws.{one_image-is_image, one_image-later}
+use Rattle.disk_model.proofs.LookedLaws.{image_in-all, one_in-is_image, one_in-later}
 use Rattle.image_format.specs.Runs.{as_failed}
-use Rattle.image_format.proofs.AfterLaws.{IsDone, after, after_flush}
+use Rattle.image_format.proofs.AfterLaws.{IsDone, after, after_flush_in}
 use Rattle.image_format.proofs.StopLaws.{AtEach, at_failure, at_moment, super_size}
 use Rattle.image_layout.specs.Opened.{super_of_image}
 use Rattle.image_layout.specs.Superblock.{super_block}
 use Rattle.image_layout.proofs.AgainLaws.{written_again}
 use Rattle.image_model.proofs.EmptyLaws.{sizes_of_image}
+use Rattle.image_model.proofs.LookedLaws.{looked_low, one_by_sizes, one_by_super}
+use Rattle.image_model.specs.Looked.{HasOneImageButIndex, is_looked_at}
 use Rattle.image_model.specs.Maps.{Image}
 use Rattle.image_model.specs.Sound.{IsSound}
 use Rattle.recovery_laws.specs.Calls.{ArePuts, IsPut, recovery_calls}
 use Rattle.recovery_laws.specs.Kept.{AreKept, IsRecovered, recovered_super}
 use Rattle.recovery_laws.proofs.ContentLaws.{Puts, contents_are}
 use Rattle.recovery_laws.proofs.PutLaws.{IsFullBlock, IsPartBlock, full_block_is_part, old_is_part, puts_full, settled_full}
-use Rattle.recovery_laws.proofs.SoundLaws.{full_is_recovered, here, room, underway_is_kept}
+use Rattle.recovery_laws.proofs.OldLaws.{no_page_there}
+use Rattle.recovery_laws.proofs.SoundLaws.{full_is_recovered, here, known, room, underway_is_kept}
 use Rattle.recovery_laws.proofs.StopLaws.{full_image, full_is_underway, no_counters_first, no_page_first, page_inside, part_image}
 use Rattle.recovery_laws.proofs.SuperLaws.{first_of_image, first_sector_says}
+
+-- No write of it is one to the index.
+module _ (blocks : Blocks) (sound : IsSound blocks) (i : ℕ) (below : i < sound.head.geometry.index) where
+  pub put_misses : (call : Call) → IsPut (here blocks blocks sound) call → Misses call (block_of sound.head.geometry (IndexBlock i))
+  put_misses (Read _ _ _) is = tt
+  put_misses (Flush _) is = absurd is
+  put_misses (Write at bytes false) is = absurd is
+  put_misses (Write at bytes true) is = λ same. elim is.1 [
+    | inl page ↦ no_page_there (here blocks blocks sound) sound.pages sound.last (known blocks blocks sound) (IndexBlock i) below tt (page.0, at, page.1, same)
+    | inr counters ↦
+        let one = apart sound.head.geometry (ReferenceBlock counters.slab counters.i) (IndexBlock i) counters.inside below (counters.stands ∙ same) in absurd (cc one)
+  ]
+
+  pub puts_miss : (calls : List Call) → AllByRecursion (IsPut (here blocks blocks sound)) calls → AllByRecursion (λ call. Misses call (block_of sound.head.geometry (IndexBlock i))) calls
+  puts_miss [] each = tt
+  puts_miss (call ∷ calls) each = (put_misses call each.0, puts_miss calls each.1)
 
 module _ (blocks : Blocks) (sound : IsSound blocks) (named : sound.head.geometry.nonce < 2 ^ 64) (unclean : sound.head.clean ≡ false)
     (whole : (b : ℕ) → b < length blocks → length (block_at blocks b) ≡ 4096) where
@@ -43,7 +64,7 @@ module _ (blocks : Blocks) (sound : IsSound blocks) (named : sound.head.geometry
   some = let wide = enough in omega (arith, wide)
 
   abbrev Stands : List Call → Type 0
-  Stands calls = (now : Blocks) → IsImage blocks calls now → AreKept image now
+  Stands calls = (now : Blocks) → IsImageIn (is_looked_at g) blocks calls now → AreKept image now
 
   -- While the pages and the counters are written.
 
@@ -82,11 +103,17 @@ module _ (blocks : Blocks) (sound : IsSound blocks) (named : sound.head.geometry
   cut_kept calls call each (inr is) =
       subst (λ (other : Call). AtEach Stands (as_failed other ∷ calls)) (sym is) (each_stands (Flush false ∷ calls) (tt, puts_part calls (puts_full blocks sound named calls each)))
 
-  -- On a device on which nothing was pending.
-  pub each_kept : (opening : Blocks) (first calls newer older : List Call) (now : Blocks) → HasOneImage opening first blocks → AtEach Stands calls → calls ≡ newer ++ older
+  -- On a device on which nothing was pending but in the index.
+  later_here : (opening : Blocks) (first older : List Call) (now : Blocks) → HasOneImageButIndex opening first blocks → IsImage opening (older ++ first) now
+      → IsImageIn (is_looked_at g) blocks older now
+  later_here opening first older now one is =
+      one_in-later (is_looked_at g) opening first older blocks now (one_by_sizes blocks sound.head sound.opens.accepted opening first blocks one)
+      (image_in-all (is_looked_at g) opening (older ++ first) now is)
+
+  pub each_kept : (opening : Blocks) (first calls newer older : List Call) (now : Blocks) → HasOneImageButIndex opening first blocks → AtEach Stands calls → calls ≡ newer ++ older
       → IsImage opening (older ++ first) now → AreKept image now
   each_kept opening first calls newer older now one each parts is =
-      at_moment Stands calls newer older each parts now (one_image-later opening first older blocks now one is)
+      at_moment Stands calls newer older each parts now (later_here opening first older now one is)
 
   -- While the superblock is written.
 
@@ -128,20 +155,20 @@ module _ (blocks : Blocks) (sound : IsSound blocks) (named : sound.head.geometry
     super_stands : (ok : Bool) → Stands (writing ok)
     super_stands ok now is =
         let full = full_image blocks sound named whole (writing ok) now is (other_contents ok) in
-        elim (sector_of_mix IsEither (contents blocks (writing ok) 0) (block_at now 0) 0 (omega arith) (is.sectors 0 some) (first_contents ok)) [
+        elim (sector_of_mix IsEither (contents blocks (writing ok) 0) (block_at now 0) 0 (omega arith) (is.sectors 0 some (looked_low g 0 (omega arith))) (first_contents ok)) [
           | inl new ↦ (full_is_recovered blocks now sound full (accepted_now now is.size new)).kept
           | inr was ↦ underway_is_kept blocks now sound unclean (full_is_underway blocks sound named now full was)
         ]
 
     -- and once it is flushed
-    pub at_last : (now : Blocks) → IsImage blocks (recovery_calls image sound.last puts) now → IsRecovered image sound.last now
+    pub at_last : (now : Blocks) → IsImageIn (is_looked_at g) blocks (recovery_calls image sound.last puts) now → IsRecovered image sound.last now
     at_last now is =
         full_is_recovered blocks now sound
         (full_image blocks sound named whole (recovery_calls image sound.last puts) now is
         (λ b behind. subst (AllByRecursion (IsFullBlock blocks sound named b))
         (sym (settled-write_other blocks flushed (record { 0 = 0 }) head_bytes true b (λ same. omega (arith, same, behind)))) (settled_full blocks sound named puts are b)))
         (accepted_now now is.size
-        (sector_of_mix (λ (s : List ℕ). s ≡ sector 0 head_bytes) (contents blocks (recovery_calls image sound.last puts) 0) (block_at now 0) 0 (omega arith) (is.sectors 0 some) (refl, tt)))
+        (sector_of_mix (λ (s : List ℕ). s ≡ sector 0 head_bytes) (contents blocks (recovery_calls image sound.last puts) 0) (block_at now 0) 0 (omega arith) (is.sectors 0 some (looked_low g 0 (omega arith))) (refl, tt)))
 
     stands_unflushed : (calls : List Call) → Stands calls → Stands (Flush false ∷ calls)
     stands_unflushed calls stands now is = stands now (record { size = is.size; whole = is.whole; sectors = is.sectors })
@@ -157,18 +184,18 @@ module _ (blocks : Blocks) (sound : IsSound blocks) (named : sound.head.geometry
       ),
     )
 
-    -- On a device on which nothing was pending.
+    -- On a device on which nothing was pending but in the index.
 
-    module _ (opening : Blocks) (first : List Call) (one : HasOneImage opening first blocks) where
+    module _ (opening : Blocks) (first : List Call) (one : HasOneImageButIndex opening first blocks) where
       pub moment_kept : (newer older : List Call) (now : Blocks) → recovery_calls image sound.last puts ≡ newer ++ older → IsImage opening (older ++ first) now → AreKept image now
       moment_kept newer older now parts is =
-          at_moment Stands (recovery_calls image sound.last puts) newer older recovery_stands parts now (one_image-later opening first older blocks now one is)
+          at_moment Stands (recovery_calls image sound.last puts) newer older recovery_stands parts now (later_here opening first older now one is)
 
       pub failure_kept : (newer done : List Call) (call : Call) (now : Blocks) → recovery_calls image sound.last puts ≡ newer ++ (call ∷ done)
           → IsImage opening ((as_failed call ∷ done) ++ first) now → AreKept image now
       failure_kept newer done call now parts is =
           at_failure Stands (recovery_calls image sound.last puts) newer done call recovery_stands parts now
-          (one_image-later opening first (as_failed call ∷ done) blocks now one is)
+          (later_here opening first (as_failed call ∷ done) now one is)
 
       done_puts : (calls : List Call) → AllByRecursion (IsPut image) calls → AllByRecursion (IsDone (length blocks)) calls
       done_puts [] each = tt
@@ -190,15 +217,17 @@ module _ (blocks : Blocks) (sound : IsSound blocks) (named : sound.head.geometry
       done_puts (Read _ _ _ ∷ calls) each = (tt, done_puts calls each.1)
       done_puts (Flush _ ∷ calls) each = absurd each.0
 
-      pub at_last_one : (now : Blocks) × HasOneImage opening (recovery_calls image sound.last puts ++ first) now × IsRecovered image sound.last now
+      pub at_last_one : (now : Blocks) × HasOneImageButIndex opening (recovery_calls image sound.last puts ++ first) now × IsRecovered image sound.last now
       at_last_one =
           let calls = Write (record { 0 = 0 }) head_bytes true ∷ flushed in
           let done : AllByRecursion (IsDone (length blocks)) calls = ((some, super_size (recovered_super g sound.last)), (tt, done_puts puts are.each)) in
           let now = after blocks calls in
-          let only : HasOneImage opening (recovery_calls image sound.last puts ++ first) now = after_flush blocks whole opening first one calls done in (
-            now,
-            only,
-            at_last now
-                (one_image-later opening first (recovery_calls image sound.last puts) blocks now one
-                (one_image-is_image opening (recovery_calls image sound.last puts ++ first) now only)),
-          )
+          let here : HasOneImageIn (is_looked_at g) opening first blocks = one_by_sizes blocks sound.head sound.opens.accepted opening first blocks one in
+          let only : HasOneImageIn (is_looked_at g) opening (recovery_calls image sound.last puts ++ first) now =
+          after_flush_in blocks whole opening first (is_looked_at g) calls done here in
+          let is : IsRecovered image sound.last now =
+          at_last now
+          (one_in-later (is_looked_at g) opening first (recovery_calls image sound.last puts) blocks now here
+          (one_in-is_image (is_looked_at g) opening (recovery_calls image sound.last puts ++ first) now only)) in
+          let accepted : super_of_image now ≡ Ok (recovered_super g sound.last) = is.kept.sound.opens.accepted ∙ ap (λ (h : Super). Ok h) is.closed in
+          (now, one_by_super now (recovered_super g sound.last) accepted opening (recovery_calls image sound.last puts ++ first) now only, is)

@@ -6,6 +6,7 @@ use Rattle.blk_base.specs.declared.geometry.Super.{Super}
 use Rattle.blk_base.specs.declared.place.Mapping.TheVariants.{Zero, At}
 use Rattle.byte_fields.specs.Fields.{number_at}
 use Rattle.disk_model.specs.Log.{Blocks, block_at}
+use Rattle.disk_model.specs.declared.call.Call.TheVariants.{Write, Flush}
 use Rattle.image_layout.specs.Opened.{super_of_image}
 use Rattle.image_model.proofs.CountLaws.{none_in_nothing, one_stored}
 use Rattle.image_model.proofs.CountRows.{place}
@@ -17,7 +18,7 @@ use Rattle.image_model.specs.Maps.{Image}
 use Rattle.image_model.specs.Sound.{IsSound}
 use Rattle.slab_codec.specs.Grammar.{IsSlabSector}
 use Rattle.slab_codec.specs.declared.forms.SlabEntry.{SlabEntry}
-use Rattle.recovery_laws.specs.Kept.{AreKept, IsRecovered, SayTheSame, image_in, recovered_super}
+use Rattle.recovery_laws.specs.Kept.{AreKept, IsRecovered, SayTheSame, image_in, recovered_super, AreIndexMissed, AreStopsKept}
 use Rattle.recovery_laws.specs.Written.{AreOthersKept, AreRestKept}
 use Rattle.recovery_laws.proofs.CountsKept.{stores_counter}
 
@@ -88,7 +89,7 @@ other_count same =
 
 -- A sound image is kept by itself; blocks without a superblock keep none, and those of other sizes not this one.
 pub others_kept : (image : Image) → AreOthersKept image image.blocks
-others_kept image b behind below no_page no_counters = refl
+others_kept image b behind below looked no_page no_counters = refl
 
 pub rest_kept : (image : Image) → AreRestKept image image.blocks
 rest_kept image slab n is below offset behind sector_is = inr refl
@@ -130,3 +131,14 @@ one_behind blocks head image accepted starts is =
     let start = ap (λ (h : Super). h.start) is.closed in
     let start_too = ap (λ (h : Super). h.start) same_head in
     omega (arith, start, start_too, starts)
+
+-- The index: calls that write other blocks, and a write of its last one.
+index_missed : AreIndexMissed small (Write (pbn 85) [] true ∷ Flush true ∷ [])
+index_missed i below = (λ same. omega (arith, same, below), (tt, tt))
+
+index_written : AreIndexMissed small (Write (pbn 84) [] false ∷ []) → ⊥
+index_written missed = (missed 15 (omega arith)).0 refl
+
+stops_with_the_index_written : (image : Image) → image.geometry ≡ small → AreStopsKept image [] [] (Write (pbn 84) [] false ∷ []) → ⊥
+stops_with_the_index_written image sizes stops =
+    index_written (subst (λ (g : Geometry). AreIndexMissed g (Write (pbn 84) [] false ∷ [])) sizes stops.index)

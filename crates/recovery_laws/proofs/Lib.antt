@@ -6,6 +6,7 @@ pub mod SuperLaws
 pub mod CountsKept
 pub mod StillLaws
 pub mod SoundLaws
+pub mod AlikeLaws
 pub mod PageIdLaws
 pub mod ContentLaws
 pub mod PutLaws

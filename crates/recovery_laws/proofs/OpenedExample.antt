@@ -13,13 +13,14 @@ use Rattle.blk_base.specs.declared.layout.DataPlace.{DataPlace}
 use Rattle.blk_base.specs.declared.place.Mapping.TheVariants.{Unmapped}
 use Rattle.byte_fields.specs.Fields.{number_at}
 use Rattle.disk_model.specs.Log.{Blocks, block_at}
-use Rattle.disk_model.specs.Images.{HasOneImage}
+use Rattle.disk_model.proofs.LookedLaws.{one_in-all}
 use Rattle.disk_model.proofs.OneImageLaws.{one_image-opening}
 use Rattle.image_layout.specs.Opened.{super_of_image}
 use Rattle.image_model.proofs.EmptyLaws.{all_counted, blank_slot, no_sector, no_updates, not_shared, pages_good, root_says, sizes_of_image, stored_counter, the_image, window_is}
 use Rattle.image_model.proofs.ZeroLaws.{no_commit, no_slab_sector, zero_sector}
 use Rattle.image_model.specs.Counts.{IsKept, Stores, block_of_data, counter_of, reference_sector_at}
 use Rattle.image_model.specs.Empty.{IsMade, empty_root, made_block}
+use Rattle.image_model.specs.Looked.{HasOneImageButIndex, looked_in}
 use Rattle.image_model.specs.Maps.{mapping_in}
 use Rattle.image_model.specs.Sound.{IsDataPlace, IsSound}
 use Rattle.slab_codec.specs.Grammar.{IsSlabSector}
@@ -99,7 +100,7 @@ module _ (g : Geometry) (blocks : Blocks) (accepted : super_of_image blocks ≡ 
   -- It may be recovered, without a write but that of the superblock.
   pub opened_is_to_recover : g.nonce < 2 ^ 64 → ((b : ℕ) → b < length blocks → length (block_at blocks b) ≡ 4096) → IsToRecover blocks [] blocks
   unfolding opened_is_sound
-  opened_is_to_recover named whole = record { one = one_image-opening blocks whole; sound = opened_is_sound; unclean = refl; named = named }
+  opened_is_to_recover named whole = record { one = one_in-all (looked_in blocks) blocks [] blocks (one_image-opening blocks whole); sound = opened_is_sound; unclean = refl; named = named }
 
   pub nothing_to_put : ArePuts (the_image g blocks) []
   nothing_to_put = record {
@@ -110,6 +111,6 @@ module _ (g : Geometry) (blocks : Blocks) (accepted : super_of_image blocks ≡ 
 
   -- and then it is recovered
   pub whole_run : g.nonce < 2 ^ 64 → ((b : ℕ) → b < length blocks → length (block_at blocks b) ≡ 4096)
-      → (now : Blocks) × HasOneImage blocks (recovery_calls (the_image g blocks) 0 [] ++ []) now × IsRecovered (the_image g blocks) 0 now
+      → (now : Blocks) × HasOneImageButIndex blocks (recovery_calls (the_image g blocks) 0 [] ++ []) now × IsRecovered (the_image g blocks) 0 now
   unfolding opened_is_sound opened_is_to_recover
   whole_run named whole = recovered blocks blocks [] [] (opened_is_to_recover named whole) nothing_to_put

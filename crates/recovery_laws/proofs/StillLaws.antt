@@ -10,6 +10,7 @@ use Rattle.blk_base.specs.declared.place.Mapping.TheVariants.{Unmapped, Zero, At
 use Rattle.blk_base.specs.declared.place.Pbn.{Pbn}
 use Rattle.disk_model.specs.Log.{Blocks, block_at}
 use Rattle.image_layout.specs.Values.{journal_of}
+use Rattle.image_model.proofs.LookedLaws.{looked_high, looked_place}
 use Rattle.image_model.specs.Counts.{IsKept}
 use Rattle.image_model.specs.Maps.{Image, ArePagesGood, mapping_of, value_with}
 use Rattle.image_model.specs.Sound.{AreUnshared}
@@ -46,7 +47,7 @@ module _ (image : Image) (blocks' : Blocks) (good : ArePagesGood image) (last : 
   slot_kept : (slot : ℕ) → slot < g.journal → block_at blocks' (1 + slot) ≡ block_at image.blocks (1 + slot)
   slot_kept slot is =
       let below = inside g (JournalSlot slot) is in
-      others (1 + slot) (omega arith) (omega (arith, below, room)) (no_page_there image good last known (JournalSlot slot) is tt) (no_counters_there (JournalSlot slot) is tt)
+      others (1 + slot) (omega arith) (omega (arith, below, room)) (looked_place g (JournalSlot slot) is tt) (no_page_there image good last known (JournalSlot slot) is tt) (no_counters_there (JournalSlot slot) is tt)
 
   pub same_journal : journal_of g blocks' ≡ journal_of g image.blocks
   same_journal =
@@ -64,7 +65,7 @@ module _ (image : Image) (blocks' : Blocks) (good : ArePagesGood image) (last : 
   slab_slot_kept : (slab slot : ℕ) → slab < g.slabs → slot < g.slab_journal → block_at blocks' (block_of g (SlabJournalSlot slab slot)) ≡ block_at image.blocks (block_of g (SlabJournalSlot slab slot))
   slab_slot_kept slab slot is below_slots =
       let below = inside g (SlabJournalSlot slab slot) (is, below_slots) in
-      others (block_of g (SlabJournalSlot slab slot)) (omega arith) (omega (arith, below, room))
+      others (block_of g (SlabJournalSlot slab slot)) (omega arith) (omega (arith, below, room)) (looked_place g (SlabJournalSlot slab slot) (is, below_slots) tt)
       (no_page_there image good last known (SlabJournalSlot slab slot) (is, below_slots) tt) (no_counters_there (SlabJournalSlot slab slot) (is, below_slots) tt)
 
   pub kept_again : (slab : ℕ) (entry : SlabEntry) → slab < g.slabs → IsKept g image.blocks slab entry → IsKept g blocks' slab entry
@@ -99,5 +100,5 @@ module _ (image : Image) (blocks' : Blocks) (good : ArePagesGood image) (last : 
       let high = data_block_high g block.0 stands in
       let below = inside g (DataBlock stands.slab stands.offset) stands.inside in
       let at = stands.stands in
-      others block.0 (omega (arith, high)) (omega (arith, below, at, room)) (mapped_is_no_page image good last known unshared address block is)
+      others block.0 (omega (arith, high)) (omega (arith, below, at, room)) (looked_high g block.0 high) (mapped_is_no_page image good last known unshared address block is)
       (λ (slab, i, there, same). let one = apart g (ReferenceBlock slab i) (DataBlock stands.slab stands.offset) there stands.inside (same ∙ sym at) in absurd (cc one)))

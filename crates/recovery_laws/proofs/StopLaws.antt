@@ -1,5 +1,5 @@
 -- What a stop leaves while an image is recovered.
-use Rattle.std.proofs.Common.{ℕ, ◌≡◌, ◌⊎◌, ◌+◌, ◌*◌, ◌/◌, ◌%◌, ◌<◌, ◌≤◌, ◌^◌, List, length, All, Some, refl, ap, inl, inr, arith}
+use Rattle.std.proofs.Common.{ℕ, ◌≡◌, ◌⊎◌, ◌+◌, ◌*◌, ◌/◌, ◌%◌, ◌<◌, ◌≤◌, ◌^◌, IsTrue, List, length, All, Some, refl, ap, subst, inl, inr, arith}
 use Rattle.std.specs.List.{AllByRecursion}
 use Rattle.std.proofs.Math.Nat.{mod-lt}
 use Rattle.std.proofs.lemmas.Bool.{cases_lt}
@@ -14,10 +14,12 @@ use Rattle.blk_base.specs.declared.sizes.TheConstants.{PAGE_SLOTS}
 use Rattle.byte_fields.specs.Mappings.{mapping_bytes}
 use Rattle.byte_fields.proofs.MappingLaws.{length-mapping}
 use Rattle.disk_model.specs.declared.call.Call.{Call}
-use Rattle.disk_model.specs.Images.{IsImage}
 use Rattle.disk_model.specs.Log.{Blocks, block_at, contents}
+use Rattle.disk_model.specs.OneImages.{IsImageIn}
 use Rattle.disk_model.proofs.ImageLaws.{all_weaker, block_of_mix, sector_of_mix}
+use Rattle.image_model.proofs.LookedLaws.{looked_high, looked_low, looked_place}
 use Rattle.image_model.specs.Counts.{reference_sector_at}
+use Rattle.image_model.specs.Looked.{is_looked_at}
 use Rattle.image_model.specs.Maps.{Image, head_of, page_at, says}
 use Rattle.image_model.specs.Sound.{IsSound}
 use Rattle.page_codec.proofs.SpellingLaws.{length-head}
@@ -58,19 +60,25 @@ module _ (blocks : Blocks) (sound : IsSound blocks) (named : sound.head.geometry
     | inr stands ↦ let high = data_block_high g at.0 stands in omega (arith, high)
   ]
 
+  pub page_looked_at : (page : PageId) (at : Pbn) → page_at image page ≡ Some at → IsTrue (is_looked_at g at.0)
+  page_looked_at page at there = elim (page_stands image sound.pages sound.last all_known page at there) [
+    | inl root ↦ subst (λ (b : ℕ). IsTrue (is_looked_at g b)) root.2 (looked_place g (Root page.tree) root.1 tt)
+    | inr stands ↦ looked_high g at.0 (data_block_high g at.0 stands)
+  ]
+
   pub no_page_first : IsPageBlock image 0 → ⊥
   no_page_first (page, at, there, same) = let behind = page_behind page at there in omega (arith, same, behind)
 
   pub no_counters_first : IsCountersBlock image 0 → ⊥
   no_counters_first (slab, i, is, same) = omega (arith, same)
 
-  module _ (old_whole : (b : ℕ) → b < length blocks → length (block_at blocks b) ≡ 4096) (calls : List Call) (now : Blocks) (is : IsImage blocks calls now) where
+  module _ (old_whole : (b : ℕ) → b < length blocks → length (block_at blocks b) ≡ 4096) (calls : List Call) (now : Blocks) (is : IsImageIn (is_looked_at g) blocks calls now) where
     mixed_head : (page : PageId) (at : Pbn) → page_at image page ≡ Some at → AllByRecursion (λ content. HasHead (head_of image page at) content) (contents blocks calls at.0)
         → HasHead (head_of image page at) (block_at now at.0)
     mixed_head page at there all =
         let below = page_inside page at there in
         part_of_mix (contents blocks calls at.0) (block_at now at.0) 0 36 (head_bytes (head_of image page at)) (length-head (head_of image page at)) (omega arith)
-        (is.whole at.0 below) (is.sectors at.0 below) all
+        (is.whole at.0 below) (is.sectors at.0 below (page_looked_at page at there)) all
 
     mixed_slot : (page : PageId) (at : Pbn) (slot : ℕ) → page_at image page ≡ Some at → slot < PAGE_SLOTS
         → AllByRecursion (λ content. IsSlot (head_of image page at) content slot (says image page at slot)) (contents blocks calls at.0)
@@ -82,11 +90,11 @@ module _ (blocks : Blocks) (sound : IsSound blocks) (named : sound.head.geometry
           headed = headed;
           spelled =
               part_of_mix (contents blocks calls at.0) (block_at now at.0) (36 + 5 * slot) 5 (mapping_bytes mapping) (length-mapping mapping) (omega (arith, small))
-              (is.whole at.0 below) (is.sectors at.0 below)
+              (is.whole at.0 below) (is.sectors at.0 below (page_looked_at page at there))
               (all_weaker (λ content. IsSlot (head_of image page at) content slot mapping) (λ content. slot_bytes slot content ≡ mapping_bytes mapping) (contents blocks calls at.0)
               (λ content said. said.spelled) all);
           held =
-              sector_of_mix (λ (s : List ℕ). HoldsMapping g page.level mapping) (contents blocks calls at.0) (block_at now at.0) 0 (omega arith) (is.sectors at.0 below)
+              sector_of_mix (λ (s : List ℕ). HoldsMapping g page.level mapping) (contents blocks calls at.0) (block_at now at.0) 0 (omega arith) (is.sectors at.0 below (page_looked_at page at there))
               (all_weaker (λ content. IsSlot (head_of image page at) content slot mapping) (λ content. HoldsMapping g page.level mapping) (contents blocks calls at.0)
               (λ content said. said.held) all);
         }
@@ -120,7 +128,7 @@ module _ (blocks : Blocks) (sound : IsSound blocks) (named : sound.head.geometry
         → AllByRecursion (λ content. P (sector (n % 8) content)) (contents blocks calls (block_of g (ReferenceBlock slab (n / 8)))) → P (reference_sector_at g now slab n)
     sector_mixed P slab n is_slab below all =
         let b = block_of g (ReferenceBlock slab (n / 8)) in
-        sector_of_mix P (contents blocks calls b) (block_at now b) (n % 8) (mod-lt n (omega arith)) (is.sectors b (counters_inside slab n is_slab below)) all
+        sector_of_mix P (contents blocks calls b) (block_at now b) (n % 8) (mod-lt n (omega arith)) (is.sectors b (counters_inside slab n is_slab below) (looked_place g (ReferenceBlock slab (n / 8)) (is_slab, omega (arith, below)) tt)) all
 
     -- Before the superblock is written.
 
@@ -129,7 +137,7 @@ module _ (blocks : Blocks) (sound : IsSound blocks) (named : sound.head.geometry
       size = is.size;
       head =
           sector_of_mix (λ (s : List ℕ). s ≡ sector 0 (block_at blocks 0)) (contents blocks calls 0) (block_at now 0) 0 (omega arith)
-          (is.sectors 0 (let wide = enough in omega (arith, wide)))
+          (is.sectors 0 (let wide = enough in omega (arith, wide)) (looked_low g 0 (omega arith)))
           (all_weaker (IsPartBlock blocks sound named 0) (λ content. sector 0 content ≡ sector 0 (block_at blocks 0)) (contents blocks calls 0)
           (λ content part. ap (sector 0) (part.other no_page_first no_counters_first)) (all 0));
       pages = λ page at there. page_part page at there
@@ -138,8 +146,8 @@ module _ (blocks : Blocks) (sound : IsSound blocks) (named : sound.head.geometry
           (all_weaker (IsPartBlock blocks sound named (block_of g (ReferenceBlock slab (n / 8))))
           (λ content. IsOldSector image slab n (sector (n % 8) content) ⊎ IsFullSector image slab n (sector (n % 8) content)) (contents blocks calls (block_of g (ReferenceBlock slab (n / 8))))
           (λ content part. part.counters slab n is_slab below refl) (all (block_of g (ReferenceBlock slab (n / 8)))));
-      others = λ b behind below no_page no_counters.
-          block_of_mix (contents blocks calls b) (block_at blocks b) (block_at now b) (old_whole b below) (is.whole b below) (is.sectors b below)
+      others = λ b behind below looked no_page no_counters.
+          block_of_mix (contents blocks calls b) (block_at blocks b) (block_at now b) (old_whole b below) (is.whole b below) (is.sectors b below looked)
           (all_weaker (IsPartBlock blocks sound named b) (λ content. content ≡ block_at blocks b) (contents blocks calls b)
           (λ content part. part.other no_page no_counters) (all b));
     }
@@ -157,8 +165,8 @@ module _ (blocks : Blocks) (sound : IsSound blocks) (named : sound.head.geometry
       past = λ slab n is_slab behind below. sector_mixed (IsOldSector image slab n) slab n is_slab below
           (all_weaker (IsFullBlock blocks sound named (block_of g (ReferenceBlock slab (n / 8)))) (λ content. IsOldSector image slab n (sector (n % 8) content))
           (contents blocks calls (block_of g (ReferenceBlock slab (n / 8)))) (λ content full. full.past slab n is_slab behind below refl) (all (block_of g (ReferenceBlock slab (n / 8))) (omega arith)));
-      others = λ b behind below no_page no_counters.
-          block_of_mix (contents blocks calls b) (block_at blocks b) (block_at now b) (old_whole b below) (is.whole b below) (is.sectors b below)
+      others = λ b behind below looked no_page no_counters.
+          block_of_mix (contents blocks calls b) (block_at blocks b) (block_at now b) (old_whole b below) (is.whole b below) (is.sectors b below looked)
           (all_weaker (IsFullBlock blocks sound named b) (λ content. content ≡ block_at blocks b) (contents blocks calls b)
           (λ content full. full.other no_page no_counters) (all b behind));
     }

@@ -1,18 +1,21 @@
 -- The laws of recovery as they are promised.
-use Rattle.std.proofs.Common.{ℕ, ◌≡◌, ◌⊎◌, ◌<◌, true, List, [], ◌∷◌, ◌++◌, length, refl, sym, ◌∙◌, ap, subst, inl, inr, arith, append_assoc}
+use Rattle.std.proofs.Common.{ℕ, ◌≡◌, ◌⊎◌, ◌<◌, IsTrue, true, List, [], ◌∷◌, ◌++◌, length, refl, sym, ◌∙◌, ap, subst, inl, inr, arith, append_assoc}
 use Rattle.std.specs.List.{AllByRecursion}
+use Rattle.blk_base.specs.Regions.{IndexBlock, block_of}
 use Rattle.blk_base.specs.declared.geometry.Geometry.{Geometry}
 use Rattle.disk_model.specs.declared.call.Call.{Call}
 use Rattle.disk_model.specs.declared.call.Call.TheVariants.{Flush}
-use Rattle.disk_model.specs.Images.{IsImage, HasOneImage}
-use Rattle.disk_model.specs.Log.{Blocks, block_at}
+use Rattle.disk_model.specs.Images.{IsImage}
+use Rattle.disk_model.specs.Log.{Blocks, Misses, block_at}
 use Rattle.image_format.specs.Runs.{as_failed}
+use Rattle.image_format.proofs.StopLaws.{all_behind, misses_failed}
+use Rattle.image_model.specs.Looked.{HasOneImageButIndex, is_looked_at}
 use Rattle.image_model.specs.Maps.{Image}
 use Rattle.image_model.specs.Sound.{IsDataPlace}
 use Rattle.recovery_laws.specs.Calls.{ArePuts, IsPut, recovery_calls}
-use Rattle.recovery_laws.specs.Kept.{AreKept, AreStopsKept, IsRecovered, IsToRecover, SayTheSame, image_in}
+use Rattle.recovery_laws.specs.Kept.{AreIndexMissed, AreKept, AreStopsKept, IsRecovered, IsToRecover, SayTheSame, image_in}
 use Rattle.recovery_laws.specs.Written.{AreRestKept, IsCountersBlock}
-use Rattle.recovery_laws.proofs.CallLaws.{at_last_one, cut_kept, each_kept, failure_kept, moment_kept, part_kept}
+use Rattle.recovery_laws.proofs.CallLaws.{at_last_one, cut_kept, each_kept, failure_kept, moment_kept, part_kept, put_misses, puts_miss}
 
 pub same_again : (old middle new : Image) → SayTheSame old middle → SayTheSame middle new → SayTheSame old new
 same_again old middle new first second = record {
@@ -31,10 +34,10 @@ pub kept_by_both : (old : Image) (middle new : Blocks) (first : AreKept old midd
 kept_by_both old middle new first size second = record {
   sound = second.sound;
   same = same_again old (image_in middle first.sound) (image_in new second.sound) first.same second.same;
-  others = λ b behind below no_page no_counters.
-      second.others b behind (omega (arith, below, size)) (λ (page, at, there, same). no_page (page, at, first.same.map.pages page ∙ there, same))
+  others = λ b behind below looked no_page no_counters.
+      second.others b behind (omega (arith, below, size)) (subst (λ (g : Geometry). IsTrue (is_looked_at g b)) (sym first.same.geometry) looked) (λ (page, at, there, same). no_page (page, at, first.same.map.pages page ∙ there, same))
       (λ counters. no_counters (subst (λ (g : Geometry). IsCountersBlock (record old { geometry = g }) b) first.same.geometry counters))
-      ∙ first.others b behind below no_page no_counters;
+      ∙ first.others b behind below looked no_page no_counters;
   rest =
       let again : AreRestKept (record old { blocks = middle }) new = subst (λ (g : Geometry). AreRestKept (record old { geometry = g; blocks = middle }) new) first.same.geometry second.rest in
       λ slab n is below offset behind sector_is. elim (again slab n is below offset behind sector_is) [
@@ -49,14 +52,25 @@ module _ (opening blocks : Blocks) (first calls : List Call) (to : IsToRecover o
   whole_blocks b below = to.one.whole b (let size = to.one.size in omega (arith, size, below))
 
   pub parts : AreStopsKept (image_in blocks to.sound) opening first calls
-  parts newer older now same is =
-      each_kept blocks to.sound to.named to.unclean whole_blocks opening first calls newer older now to.one
-      (part_kept blocks to.sound to.named to.unclean whole_blocks calls each) same is
+  parts = record {
+    kept = λ newer older now same is.
+        each_kept blocks to.sound to.named to.unclean whole_blocks opening first calls newer older now to.one
+        (part_kept blocks to.sound to.named to.unclean whole_blocks calls each) same is;
+    index = λ i below. puts_miss blocks to.sound i below calls each;
+  }
+
+  cut_misses : (i : ℕ) → i < to.sound.head.geometry.index → (call : Call) → IsPut (image_in blocks to.sound) call ⊎ (call ≡ Flush true)
+      → Misses (as_failed call) (block_of to.sound.head.geometry (IndexBlock i))
+  cut_misses i below call (inl is) = misses_failed call (block_of to.sound.head.geometry (IndexBlock i)) (put_misses blocks to.sound i below call is)
+  cut_misses i below call (inr is) = subst (λ (other : Call). Misses (as_failed other) (block_of to.sound.head.geometry (IndexBlock i))) (sym is) tt
 
   pub cut : (call : Call) → IsPut (image_in blocks to.sound) call ⊎ (call ≡ Flush true) → AreStopsKept (image_in blocks to.sound) opening first (as_failed call ∷ calls)
-  cut call kind newer older now same is =
-      each_kept blocks to.sound to.named to.unclean whole_blocks opening first (as_failed call ∷ calls) newer older now to.one
-      (cut_kept blocks to.sound to.named to.unclean whole_blocks calls call each kind) same is
+  cut call kind = record {
+    kept = λ newer older now same is.
+        each_kept blocks to.sound to.named to.unclean whole_blocks opening first (as_failed call ∷ calls) newer older now to.one
+        (cut_kept blocks to.sound to.named to.unclean whole_blocks calls call each kind) same is;
+    index = λ i below. (cut_misses i below call kind, puts_miss blocks to.sound i below calls each);
+  }
 
 module _ (opening blocks : Blocks) (first puts : List Call) (to : IsToRecover opening first blocks) (are : ArePuts (image_in blocks to.sound) puts) where
   abbrev image : Image
@@ -68,20 +82,43 @@ module _ (opening blocks : Blocks) (first puts : List Call) (to : IsToRecover op
   whole : (b : ℕ) → b < length blocks → length (block_at blocks b) ≡ 4096
   whole b below = to.one.whole b (let size = to.one.size in omega (arith, size, below))
 
-  moments : (front calls : List Call) → all_calls ≡ front ++ calls → AreStopsKept image opening first calls
-  moments front calls parts newer older now same is =
+  -- none of the calls writes the index
+  misses : (i : ℕ) → i < image.geometry.index → AllByRecursion (λ call. Misses call (block_of image.geometry (IndexBlock i))) all_calls
+  misses i below = (tt, (λ same. omega (arith, same), (tt, puts_miss blocks to.sound i below puts are.each)))
+
+  behind : (front calls : List Call) → all_calls ≡ front ++ calls → AreIndexMissed image.geometry calls
+  behind front calls parts i below =
+      let P : Call → Type 0 = λ call. Misses call (block_of image.geometry (IndexBlock i)) in
+      all_behind P front calls (subst (AllByRecursion P) parts (misses i below))
+
+  moment : (front calls : List Call) → all_calls ≡ front ++ calls → (newer older : List Call) (now : Blocks) → calls ≡ newer ++ older → IsImage opening (older ++ first) now → AreKept image now
+  moment front calls parts newer older now same is =
       moment_kept blocks to.sound to.named to.unclean whole puts are opening first to.one (front ++ newer) older now
       (parts ∙ ap (λ (list : List Call). front ++ list) same ∙ sym (append_assoc front newer older)) is
 
-  pub stops : AreStopsKept image opening first all_calls
-  stops = moments [] all_calls refl
+  -- of the calls that were made so far, and of all
+  pub stops_behind : (front calls : List Call) → all_calls ≡ front ++ calls → AreStopsKept image opening first calls
+  stops_behind front calls parts = record { kept = moment front calls parts; index = behind front calls parts }
 
-  pub failures : (front done : List Call) (call : Call) → all_calls ≡ front ++ (call ∷ done) → AreStopsKept image opening first (as_failed call ∷ done)
-  failures front done call parts [] older now same is =
+  pub stops : AreStopsKept image opening first all_calls
+  stops = stops_behind [] all_calls refl
+
+  failure : (front done : List Call) (call : Call) → all_calls ≡ front ++ (call ∷ done) → (newer older : List Call) (now : Blocks) → as_failed call ∷ done ≡ newer ++ older
+      → IsImage opening (older ++ first) now → AreKept image now
+  failure front done call parts [] older now same is =
       failure_kept blocks to.sound to.named to.unclean whole puts are opening first to.one front done call now parts
       (subst (λ (calls : List Call). IsImage opening (calls ++ first) now) (sym same) is)
-  failures front done call parts (other ∷ newer) older now same is =
-      moments (front ++ (call ∷ [])) done (parts ∙ sym (append_assoc front (call ∷ []) done)) newer older now (cc same) is
+  failure front done call parts (other ∷ newer) older now same is =
+      moment (front ++ (call ∷ [])) done (parts ∙ sym (append_assoc front (call ∷ []) done)) newer older now (cc same) is
 
-  pub recovered : (now : Blocks) × HasOneImage opening (all_calls ++ first) now × IsRecovered image to.sound.last now
+  pub failures : (front done : List Call) (call : Call) → all_calls ≡ front ++ (call ∷ done) → AreStopsKept image opening first (as_failed call ∷ done)
+  failures front done call parts = record {
+    kept = failure front done call parts;
+    index = λ i below.
+        let b = block_of image.geometry (IndexBlock i) in
+        let all = behind front (call ∷ done) parts i below in
+        (misses_failed call b all.0, all.1);
+  }
+
+  pub recovered : (now : Blocks) × HasOneImageButIndex opening (all_calls ++ first) now × IsRecovered image to.sound.last now
   recovered = at_last_one blocks to.sound to.named to.unclean whole puts are opening first to.one

@@ -2,7 +2,7 @@
 use Rattle.std.proofs.Common.{ℕ, ◌≡◌, ◌⊎◌, ◌∙◌, ◌+◌, ◌%◌, ◌<◌, ◌≤◌, ◌++◌, List, [], ◌∷◌, length, replicate, get_or, Some, None, Ok, refl, sym, ap, inl, inr, arith}
 use Rattle.std.proofs.Math.Seq.{drop-nil}
 use Rattle.blk_base.specs.Counters.{counters_per_sector, sector_of_offset}
-use Rattle.blk_base.specs.Regions.{IndexBlock, ReferenceBlock, Root, block_of, needed_blocks}
+use Rattle.blk_base.specs.Regions.{JournalSlot, ReferenceBlock, Root, block_of, first_index_of, first_slab_of, needed_blocks}
 use Rattle.blk_base.specs.Sectors.{sector, zero_block}
 use Rattle.blk_base.proofs.RegionLaws.{apart, data_block_inside, inside}
 use Rattle.blk_base.specs.declared.layout.DataPlace.{DataPlace}
@@ -16,6 +16,7 @@ use Rattle.image_model.proofs.CountLaws.{one_stored}
 use Rattle.image_model.proofs.CountRows.{kept_is, place, updated}
 use Rattle.image_model.proofs.Example.{small, pbn}
 use Rattle.image_model.proofs.FaultRows.{zeros_unheaded}
+use Rattle.image_model.proofs.LookedLaws.{looked_high, looked_place, looked_where}
 use Rattle.image_model.proofs.MapLaws.{slot_says_its_mapping}
 use Rattle.image_model.proofs.MapRows.{image as mapped, page, remap, root, said, with_root}
 use Rattle.image_model.specs.Counts.{Stores, commit_at, reference_sector_at}
@@ -144,36 +145,41 @@ old_sector = refl
 not_old_sector : IsOldSector (counted_as 2) 0 0 (sector 0 (0 ∷ 4 ∷ 0 ∷ 0 ∷ 0 ∷ 0 ∷ 0 ∷ 0 ∷ 1 ∷ 3 ∷ [])) → ⊥
 not_old_sector same = let last : 3 ≡ 2 = ap (λ (bytes : List ℕ). get_or bytes 9 0) same in omega (arith, last)
 
--- Other blocks. In a sound image an index block is no page and no counters, so it is kept.
-module _ (blocks now : Blocks) (sound : IsSound blocks) (some : 1 ≤ sound.head.geometry.index) where
-  index_is_other : (IsPageBlock (image_in blocks sound) (block_of sound.head.geometry (IndexBlock 0)) → ⊥) × (IsCountersBlock (image_in blocks sound) (block_of sound.head.geometry (IndexBlock 0)) → ⊥)
-  index_is_other = (
-    no_page_there (image_in blocks sound) sound.pages sound.last (known blocks blocks sound) (IndexBlock 0) some tt,
-    λ (slab, i, is, same). let one = apart sound.head.geometry (ReferenceBlock slab i) (IndexBlock 0) is some same in absurd (cc one),
+-- Other blocks. In a sound image a block of the journal is no page and no counters, so it is kept.
+module _ (blocks now : Blocks) (sound : IsSound blocks) (some : 1 ≤ sound.head.geometry.journal) where
+  journal_is_other : (IsPageBlock (image_in blocks sound) (block_of sound.head.geometry (JournalSlot 0)) → ⊥) × (IsCountersBlock (image_in blocks sound) (block_of sound.head.geometry (JournalSlot 0)) → ⊥)
+  journal_is_other = (
+    no_page_there (image_in blocks sound) sound.pages sound.last (known blocks blocks sound) (JournalSlot 0) some tt,
+    λ (slab, i, is, same). let one = apart sound.head.geometry (ReferenceBlock slab i) (JournalSlot 0) is some same in absurd (cc one),
   )
 
-  pub other_changed : (block_at now (block_of sound.head.geometry (IndexBlock 0)) ≡ block_at blocks (block_of sound.head.geometry (IndexBlock 0)) → ⊥)
+  pub other_changed : (block_at now (block_of sound.head.geometry (JournalSlot 0)) ≡ block_at blocks (block_of sound.head.geometry (JournalSlot 0)) → ⊥)
       → AreOthersKept (image_in blocks sound) now → ⊥
   other_changed differs kept =
       let wide = room blocks blocks sound in
-      let within = inside sound.head.geometry (IndexBlock 0) some in
-      differs (kept (block_of sound.head.geometry (IndexBlock 0)) (omega arith) (omega (arith, within, wide)) index_is_other.0 index_is_other.1)
+      let within = inside sound.head.geometry (JournalSlot 0) some in
+      differs (kept (block_of sound.head.geometry (JournalSlot 0)) (omega arith) (omega (arith, within, wide)) (looked_place sound.head.geometry (JournalSlot 0) some tt) journal_is_other.0 journal_is_other.1)
 
-  others_of_underway : (block_at now (block_of sound.head.geometry (IndexBlock 0)) ≡ block_at blocks (block_of sound.head.geometry (IndexBlock 0)) → ⊥)
+  others_of_underway : (block_at now (block_of sound.head.geometry (JournalSlot 0)) ≡ block_at blocks (block_of sound.head.geometry (JournalSlot 0)) → ⊥)
       → AreUnderway (image_in blocks sound) now → ⊥
   others_of_underway differs underway = other_changed differs underway.others
 
-  others_of_full : (block_at now (block_of sound.head.geometry (IndexBlock 0)) ≡ block_at blocks (block_of sound.head.geometry (IndexBlock 0)) → ⊥)
+  others_of_full : (block_at now (block_of sound.head.geometry (JournalSlot 0)) ≡ block_at blocks (block_of sound.head.geometry (JournalSlot 0)) → ⊥)
       → AreFull (image_in blocks sound) now → ⊥
   others_of_full differs full = other_changed differs full.others
 
-  others_of_kept : (block_at now (block_of sound.head.geometry (IndexBlock 0)) ≡ block_at blocks (block_of sound.head.geometry (IndexBlock 0)) → ⊥)
+  others_of_kept : (block_at now (block_of sound.head.geometry (JournalSlot 0)) ≡ block_at blocks (block_of sound.head.geometry (JournalSlot 0)) → ⊥)
       → AreKept (image_in blocks sound) now → ⊥
   others_of_kept differs kept = other_changed differs kept.others
 
-  others_of_recovered : (last : ℕ) → (block_at now (block_of sound.head.geometry (IndexBlock 0)) ≡ block_at blocks (block_of sound.head.geometry (IndexBlock 0)) → ⊥)
+  others_of_recovered : (last : ℕ) → (block_at now (block_of sound.head.geometry (JournalSlot 0)) ≡ block_at blocks (block_of sound.head.geometry (JournalSlot 0)) → ⊥)
       → IsRecovered (image_in blocks sound) last now → ⊥
   others_of_recovered last differs is = other_changed differs is.kept.others
+
+-- a block of the index isn't looked at: it may be another one
+index_aside : (image : Image) (now : Blocks) → ((b : ℕ) → (b < first_index_of image.geometry) ⊎ (first_slab_of image.geometry ≤ b) → block_at now b ≡ block_at image.blocks b)
+    → AreOthersKept image now
+index_aside image now same b behind below looked no_page no_counters = same b (looked_where image.geometry b looked)
 
 -- and so is a block behind the image
 module _ (blocks now : Blocks) (sound : IsSound blocks) (b : ℕ) (behind : needed_blocks sound.head.geometry ≤ b) (below : b < length blocks) where
@@ -187,7 +193,8 @@ module _ (blocks now : Blocks) (sound : IsSound blocks) (b : ℕ) (behind : need
   no_counters_behind (slab, i, is, same) = let within = inside sound.head.geometry (ReferenceBlock slab i) is in omega (arith, within, same, behind)
 
   behind_changed : (block_at now b ≡ block_at blocks b → ⊥) → AreKept (image_in blocks sound) now → ⊥
-  behind_changed differs kept = differs (kept.others b (omega (arith, behind)) below no_page_behind no_counters_behind)
+  behind_changed differs kept =
+      differs (kept.others b (omega (arith, behind)) below (looked_high sound.head.geometry b (omega (arith, behind))) no_page_behind no_counters_behind)
 
 -- An image whose pages can be read is underway by itself.
 underway_by_itself : (image : Image) → ((which : PageId) (at : Pbn) → page_at image which ≡ Some at → IsGoodPage image which at) → AreUnderway image image.blocks

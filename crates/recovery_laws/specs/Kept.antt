@@ -1,12 +1,15 @@
 -- What recovery keeps of an image.
 use Rattle.std.specs.Prelude.{ℕ, ◌≡◌, ◌+◌, ◌^◌, ◌<◌, ◌↔◌, ◌++◌, true, false, List, Ok}
+use Rattle.std.specs.List.{AllByRecursion}
+use Rattle.blk_base.specs.Regions.{IndexBlock, block_of}
 use Rattle.blk_base.specs.declared.geometry.Geometry.{Geometry}
 use Rattle.blk_base.specs.declared.geometry.Super.{Super}
 use Rattle.blk_base.specs.declared.layout.DataPlace.{DataPlace}
 use Rattle.disk_model.specs.declared.call.Call.{Call}
-use Rattle.disk_model.specs.Images.{IsImage, HasOneImage}
-use Rattle.disk_model.specs.Log.{Blocks}
+use Rattle.disk_model.specs.Images.{IsImage}
+use Rattle.disk_model.specs.Log.{Blocks, Misses}
 use Rattle.image_model.specs.Counts.{Stores}
+use Rattle.image_model.specs.Looked.{HasOneImageButIndex}
 use Rattle.image_model.specs.Maps.{Image, HaveSameMap, value_of}
 use Rattle.image_model.specs.Sound.{IsDataPlace, IsSound, image_of}
 use Rattle.recovery_laws.specs.Written.{AreOthersKept, AreRestKept}
@@ -18,20 +21,24 @@ pub record SayTheSame (old new : Image) : Type 0 where
   pub values : (address : ℕ) → value_of new address ≡ value_of old address
   pub counts : (place : DataPlace) (count : ℕ) → IsDataPlace old.geometry place → Stores new place (Ok count) ↔ Stores old place (Ok count)
 
--- These blocks are a sound image that says the same; and each block but the superblock's, the pages' and the counters' has
--- the bytes that it had: those of the index and of both journals, all data blocks that are no page, and all behind the
--- image. The counters behind the slabs' ends are 0, or what they were.
+-- These blocks are a sound image that says the same; and each block but the superblock's, the pages', the counters' and the
+-- index's has the bytes that it had: those of both journals, all data blocks that are no page, and all behind the image. The
+-- counters behind the slabs' ends are 0, or what they were.
 pub record AreKept (old : Image) (blocks : Blocks) : Type 0 where
   pub sound : IsSound blocks
   pub same : SayTheSame old (image_of sound.head blocks sound.window)
   pub others : AreOthersKept old blocks
   pub rest : AreRestKept old blocks
 
+-- these calls write no block of the index: it has what it had, and what was pending there is
+abbrev pub AreIndexMissed : Geometry → List Call → Type 0
+AreIndexMissed g calls = (i : ℕ) → i < g.index → AllByRecursion (λ call. Misses call (block_of g (IndexBlock i))) calls
+
 -- Whatever a stop leaves at each moment since the log was the first one, once all these calls were made and before: the
--- same image.
-abbrev pub AreStopsKept : Image → Blocks → List Call → List Call → Type 0
-AreStopsKept old opening first calls =
-    (newer older : List Call) (now : Blocks) → calls ≡ newer ++ older → IsImage opening (older ++ first) now → AreKept old now
+-- same image. The index isn't written.
+pub record AreStopsKept (old : Image) (opening : Blocks) (first calls : List Call) : Type 0 where
+  pub kept : (newer older : List Call) (now : Blocks) → calls ≡ newer ++ older → IsImage opening (older ++ first) now → AreKept old now
+  pub index : AreIndexMissed old.geometry calls
 
 -- The superblock that recovery writes: closed, and the next session begins two behind the last sequence, so that a block
 -- of the next one that was torn stays below every later session.
@@ -43,9 +50,9 @@ pub record IsRecovered (old : Image) (last : ℕ) (blocks : Blocks) : Type 0 whe
   pub kept : AreKept old blocks
   pub closed : kept.sound.head ≡ recovered_super old.geometry last
 
--- An image to recover: nothing is pending on its device, it is sound, and its last session wasn't closed.
+-- An image to recover: nothing is pending on its device but in the index, it is sound, and its last session wasn't closed.
 pub record IsToRecover (opening : Blocks) (first : List Call) (blocks : Blocks) : Type 0 where
-  pub one : HasOneImage opening first blocks
+  pub one : HasOneImageButIndex opening first blocks
   pub sound : IsSound blocks
   pub unclean : sound.head.clean ≡ false
   pub named : sound.head.geometry.nonce < 2 ^ 64

@@ -1,5 +1,5 @@
 -- What the blocks of an image have that recovery writes, while it does, and afterwards.
-use Rattle.std.specs.Prelude.{ℕ, ◌≡◌, ◌⊎◌, ◌+◌, ◌*◌, ◌%◌, ◌<◌, ◌≤◌, List, length, Ok, Some, None}
+use Rattle.std.specs.Prelude.{ℕ, ◌≡◌, ◌⊎◌, ◌+◌, ◌*◌, ◌%◌, ◌<◌, ◌≤◌, IsTrue, List, length, Ok, Some, None}
 use Rattle.blk_base.specs.Counters.{counters_per_sector, sector_of_offset, sectors_per_slab}
 use Rattle.blk_base.specs.Regions.{ReferenceBlock, IsPlace, block_of, references_of}
 use Rattle.blk_base.specs.Sectors.{sector}
@@ -11,6 +11,7 @@ use Rattle.byte_fields.specs.Fields.{number_at}
 use Rattle.count_updates.specs.Applied.{IsGreatest}
 use Rattle.disk_model.specs.Log.{Blocks, block_at}
 use Rattle.image_model.specs.Counts.{Stores, commit_at, reference_sector_at}
+use Rattle.image_model.specs.Looked.{is_looked_at}
 use Rattle.image_model.specs.Maps.{Image, head_of, page_at, put_last, says}
 use Rattle.image_model.specs.Sound.{IsDataPlace}
 use Rattle.page_codec.specs.Grammar.{HasHead, IsSlot}
@@ -59,10 +60,11 @@ IsPageBlock image b = (page : PageId) × (at : Pbn) × (page_at image page ≡ S
 abbrev pub IsCountersBlock : Image → ℕ → Type 0
 IsCountersBlock image b = (slab : ℕ) × (i : ℕ) × IsPlace image.geometry (ReferenceBlock slab i) × (block_of image.geometry (ReferenceBlock slab i) ≡ b)
 
--- the blocks but the superblock's, the pages' and the counters' are what they were
+-- the blocks but the superblock's, the pages', the counters' and the index's are what they were
 abbrev pub AreOthersKept : Image → Blocks → Type 0
 AreOthersKept image blocks =
-    (b : ℕ) → 1 ≤ b → b < length image.blocks → (IsPageBlock image b → ⊥) → (IsCountersBlock image b → ⊥) → block_at blocks b ≡ block_at image.blocks b
+    (b : ℕ) → 1 ≤ b → b < length image.blocks → IsTrue (is_looked_at image.geometry b) → (IsPageBlock image b → ⊥) → (IsCountersBlock image b → ⊥)
+    → block_at blocks b ≡ block_at image.blocks b
 
 -- the counters behind the slabs' ends are 0, or what they were
 abbrev pub AreRestKept : Image → Blocks → Type 0

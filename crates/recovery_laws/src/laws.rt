@@ -2,10 +2,11 @@ ghost use Rattle.std.specs.Prelude.{◌≡◌, ◌⊎◌, ◌∷◌, ◌++◌, t
 ghost use Rattle.std.specs.List.{AllByRecursion};
 ghost use Rattle.disk_model.specs.declared.call.Call.{Call};
 ghost use Rattle.disk_model.specs.declared.call.Call.TheVariants.{Flush};
-ghost use Rattle.disk_model.specs.Images.{HasOneImage};
 ghost use Rattle.disk_model.specs.Log.{Blocks};
+ghost use Rattle.disk_model.specs.OneImages.{AreAlikeIn};
 ghost use Rattle.image_format.specs.Runs.{as_failed};
 ghost use Rattle.image_layout.specs.Opened.{super_of_image};
+ghost use Rattle.image_model.specs.Looked.{HasOneImageButIndex, looked_in};
 ghost use Rattle.image_model.specs.Maps.{Image};
 ghost use Rattle.image_model.specs.Sound.{IsSound};
 ghost use Rattle.recovery_laws.specs.Calls.{ArePuts, IsPut, recovery_calls};
@@ -27,10 +28,17 @@ pub fn blocks_underway_say_the_same()
         → AreKept (image_in middle first.sound) now → AreKept old now }
 {}
 
+/// Nothing rests on the blocks of the index: images that are alike in all others are sound alike, and say the same. It does
+/// nothing.
+pub fn the_index_says_nothing()
+    ensures { (blocks now : Blocks) (sound : IsSound blocks) → AreAlikeIn (looked_in blocks) blocks now → AreKept (image_in blocks sound) now }
+{}
+
 /// Recovery makes its writes in any order, with reads among them; then a flush, the superblock, and a flush. Of a sound image
-/// on which nothing is pending, whatever a stop leaves at any moment of that, also where a call failed and no other was made
-/// behind it, is sound and says the same, with each block as it was that is neither the superblock's, nor a page's, nor the
-/// counters'; and afterwards nothing is pending and the image is closed. It does nothing.
+/// on which nothing is pending but in the index, whatever a stop leaves at any moment of that, also where a call failed and no
+/// other was made behind it, is sound and says the same, with each block as it was that is neither the superblock's, nor a
+/// page's, nor the counters', nor the index's, which it doesn't write; and afterwards nothing else is pending and the image is
+/// closed. It does nothing.
 pub fn recovery_keeps_what_an_image_says()
     // While not all writes are made.
     ensures parts { (opening blocks : Blocks) (first calls : List Call) (to : IsToRecover opening first blocks) → AllByRecursion (IsPut (image_in blocks to.sound)) calls
@@ -46,6 +54,6 @@ pub fn recovery_keeps_what_an_image_says()
         → ArePuts (image_in blocks to.sound) puts → recovery_calls (image_in blocks to.sound) to.sound.last puts ≡ newer ++ (call ∷ done)
         → AreStopsKept (image_in blocks to.sound) opening first (as_failed call ∷ done) }
     ensures recovered { (opening blocks : Blocks) (first puts : List Call) (to : IsToRecover opening first blocks) → ArePuts (image_in blocks to.sound) puts
-        → (now : Blocks) × HasOneImage opening (recovery_calls (image_in blocks to.sound) to.sound.last puts ++ first) now
+        → (now : Blocks) × HasOneImageButIndex opening (recovery_calls (image_in blocks to.sound) to.sound.last puts ++ first) now
         × IsRecovered (image_in blocks to.sound) to.sound.last now }
 {}

@@ -8,9 +8,11 @@
 //! Not there: that a page into which the window puts nothing, or a block of counters without an update, isn't written.
 //! Of what is kept, a page has its header and what its slots say, the counters give the stored counts, and block 0 is a
 //! superblock of the same sizes: nothing else is said of their bytes, as of a commit point or of block 0's other
-//! sectors. Nothing pending means here that all blocks have one content, those of the index too.
+//! sectors.
 #![tactic(auto)]
 
 mod laws;
 
-pub use laws::{blocks_underway_say_the_same, recovery_keeps_what_an_image_says};
+pub use laws::{
+    blocks_underway_say_the_same, recovery_keeps_what_an_image_says, the_index_says_nothing,
+};

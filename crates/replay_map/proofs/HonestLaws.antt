@@ -1,16 +1,20 @@
--- What was read of an honest device on which nothing is pending is what its one image has.
+-- What was read of an honest device on which nothing is pending but in the index is what its one image has.
 use Rattle.std.proofs.Common.{ℕ, ◌≡◌, ◌+◌, ◌<◌, ◌≤◌, Bool, IsTrue, List, [], ◌∷◌, length, Ok, refl, sym, subst, inl, inr, arith}
-use Rattle.blk_base.specs.Regions.{needed_blocks}
+use Rattle.blk_base.proofs.RegionLaws.{data_block_high}
+use Rattle.blk_base.specs.Regions.{Root, needed_blocks}
 use Rattle.blk_base.specs.declared.geometry.Geometry.{Geometry}
 use Rattle.blk_base.specs.declared.geometry.Super.{Super as Superblock}
-use Rattle.disk_model.proofs.ImageLaws.{block_of_mix, settled_are_contents}
-use Rattle.disk_model.proofs.SinceLaws.{image_since, were_only_read}
-use Rattle.disk_model.specs.Images.{HasOneImage, IsMixOf}
+use Rattle.blk_base.specs.declared.place.Pbn.{Pbn}
+use Rattle.disk_model.proofs.LookedLaws.{one_in-read, one_in-since}
+use Rattle.disk_model.proofs.SinceLaws.{were_only_read}
+use Rattle.disk_model.specs.Images.{IsMixOf}
 use Rattle.disk_model.specs.Log.{Blocks, block_at, settled}
 use Rattle.disk_model.specs.Seen.{Seen}
 use Rattle.disk_model.specs.Since.{IsUntouched}
 use Rattle.image_layout.specs.Opened.{super_of_image}
+use Rattle.image_model.proofs.LookedLaws.{looked_high, looked_in_place, looked_place}
 use Rattle.image_model.specs.Faults.{IsOpened, IsPageFault, IsShareFault}
+use Rattle.image_model.specs.Looked.{HasOneImageButIndex, is_looked_at, looked_in}
 use Rattle.image_model.specs.Maps.{ArePagesGood, Image}
 use Rattle.image_model.specs.Sound.{Opens, image_of}
 use Rattle.image_model.specs.declared.fault.ImageFault.{ImageFault}
@@ -19,20 +23,26 @@ use Rattle.journal_window.proofs.ReadWindowLaws.{fault_shown, window_shown}
 use Rattle.journal_window.specs.Reads.{Fails, IsWindowRead}
 use Rattle.journal_window.specs.States.{WindowState}
 use Rattle.replay_map.proofs.ReadLaws.{blocks_untouched}
-use Rattle.replay_map.specs.Reads.{BlocksRead, Reading, Shows}
+use Rattle.replay_map.specs.Reads.{BlocksRead, IsPageBlock, Reading, Shows}
 use Rattle.replay_map.specs.Replayed.{HasMap, HasMapOf, IsFound, IsMapFault, IsReplayed, MapFails, ReplayFails}
 use Rattle.replay_map.specs.declared.recovered.RecoveredMap.{RecoveredMap}
 
+-- a page never stands in the index
+page_is_looked_at : (g : Geometry) (at : Pbn) → IsPageBlock g at → IsTrue (is_looked_at g at.0)
+page_is_looked_at g at (inl data_block) = looked_high g at.0 (data_block_high g at.0 data_block)
+page_is_looked_at g at (inr (tree, below, same)) = subst (λ (b : ℕ). IsTrue (is_looked_at g b)) (sym same) (looked_place g (Root tree) below tt)
+
 module _ (tells honest : Bool) (image : Blocks) (told : IsTrue tells) (fair : IsTrue honest) where
   -- it still has this image where blocks were read alone
-  still : (before now : Seen) → IsUntouched tells before now → HasOneImage before.opening before.log image → HasOneImage now.opening now.log image
+  still : (before now : Seen) → IsUntouched tells before now → HasOneImageButIndex before.opening before.log image → HasOneImageButIndex now.opening now.log image
   still before now untouched one =
-      subst (λ (opening : Blocks). HasOneImage opening now.log image) (sym untouched.stays.opening)
-      (image_since before.opening before.log now.log image (untouched.reads told) one)
+      subst (λ (opening : Blocks). HasOneImageButIndex opening now.log image) (sym untouched.stays.opening)
+      (one_in-since (looked_in image) before.opening before.log now.log image (untouched.reads told) one)
 
-  pub all_shown : (g : Geometry) (before now : Seen) (reads : List Reading) → HasOneImage before.opening before.log image → BlocksRead tells honest g before now reads → Shows image reads
-  all_shown g before now [] one read = tt
-  all_shown g before now (reading ∷ older) one read =
+  pub all_shown : (g : Geometry) (before now : Seen) (reads : List Reading) → ((b : ℕ) → IsTrue (is_looked_at g b) → IsTrue (looked_in image b))
+      → HasOneImageButIndex before.opening before.log image → BlocksRead tells honest g before now reads → Shows image reads
+  all_shown g before now [] looks one read = tt
+  all_shown g before now (reading ∷ older) looks one read =
       let middle = read.0 in
       let here = still before middle (blocks_untouched tells honest g before middle older read.1) one in
       let size = read.2.told told in
@@ -40,18 +50,17 @@ module _ (tells honest : Bool) (image : Blocks) (told : IsTrue tells) (fair : Is
       let below : reading.at.0 < length middle.opening = omega (arith, size, inside) in
       let place : reading.at.0 + 0 ≡ reading.at.0 = omega arith in
       let mix = subst (λ (b : ℕ). IsMixOf (settled middle.opening middle.log b) reading.bytes) place (read.2.given.1 told fair) in
-      let same = block_of_mix (settled middle.opening middle.log reading.at.0) (block_at image reading.at.0) reading.bytes (here.whole reading.at.0 below) read.2.given.0 mix
-      (settled_are_contents _ middle.opening middle.log reading.at.0 (here.only reading.at.0 below)) in
-      (sym same, all_shown g before middle older one read.1)
+      let same = one_in-read (looked_in image) middle.opening middle.log image reading.at.0 reading.bytes below (looks reading.at.0 (page_is_looked_at g reading.at read.4)) read.2.given.0 mix here in
+      (sym same, all_shown g before middle older looks one read.1)
 
-  module _ (before now : Seen) (head : Superblock) (one : HasOneImage before.opening before.log image) (room : needed_blocks head.geometry ≤ before.size)
+  module _ (before now : Seen) (head : Superblock) (one : HasOneImageButIndex before.opening before.log image) (room : needed_blocks head.geometry ≤ before.size)
       (accepted : super_of_image image ≡ Ok head) where
     found_shown : (middle : Seen) (window : WindowState) (Says : Image → Type 0) → IsWindowRead tells honest before middle head window
         → IsFound tells honest head.geometry window.entries middle now Says → Opens image head window.last window.entries × Says (image_of head image window.entries)
     found_shown middle window Says read found =
         let journal = were_only_read tells honest 1 before middle _ read.1.read in (
           window_shown tells honest before middle image told fair one head room accepted window read,
-          found.2 image (all_shown head.geometry middle now found.0 (still before middle journal one) found.1),
+          found.2 image (all_shown head.geometry middle now found.0 (looked_in_place image head accepted) (still before middle journal one) found.1),
         )
 
     pub map_shown : (map : RecoveredMap) → IsReplayed tells honest head before now map → HasMapOf image head map

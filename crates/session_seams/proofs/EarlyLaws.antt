@@ -5,18 +5,21 @@ use Rattle.disk_model.specs.declared.call.Call.TheVariants.{Read, Write, Flush}
 use Rattle.disk_model.specs.Images.{IsImage, HasOneImage}
 use Rattle.disk_model.specs.Log.{Blocks}
 use Rattle.disk_model.specs.Since.{OnlyReads}
-use Rattle.disk_model.proofs.OneImageLaws.{one_image-unique}
+use Rattle.disk_model.proofs.LookedLaws.{one_in-unique}
+use Rattle.disk_model.proofs.SinceLaws.{image_before}
 use Rattle.blk_base.specs.declared.geometry.Geometry.{Geometry}
 use Rattle.image_model.specs.Maps.{value_of}
 use Rattle.image_model.specs.Sound.{IsSound}
+use Rattle.image_model.specs.Looked.{HasOneImageButIndex, looked_in}
 use Rattle.recovery_laws.specs.Kept.{AreKept, image_in}
+use Rattle.recovery_laws.proofs.AlikeLaws.{alike_is_kept, alike_super}
 use Rattle.vdo_model.specs.declared.report.RunReport.{RunReport}
 use Rattle.vdo_model.specs.FlushMarks.{successes}
 use Rattle.vdo_model.specs.Stops.{RightAfterStops}
 use Rattle.session_seams.specs.Logs.{AreWithin, StopsRight, StopsShow, report_from}
 use Rattle.session_seams.specs.Sequences.{AreStopsServed, CanBegin, ShowsValues, next_start}
 use Rattle.session_seams.proofs.LogLaws.{parted, stops_right}
-use Rattle.session_seams.proofs.SequenceLaws.{next_run}
+use Rattle.session_seams.proofs.SequenceLaws.{next_run, next_by_same}
 
 -- Reads leave what was there.
 
@@ -25,13 +28,6 @@ reads_behind [] front reads = reads
 reads_behind (Read at bytes ok ∷ later) front reads = reads_behind later front reads
 reads_behind (Write at bytes ok ∷ later) front reads = absurd reads
 reads_behind (Flush ok ∷ later) front reads = absurd reads
-
-image_before : (opening : Blocks) (log reads : List Call) (image : Blocks) → OnlyReads reads → IsImage opening (reads ++ log) image → IsImage opening log image
-image_before opening log [] image only is = is
-image_before opening log (Read at bytes ok ∷ reads) image only is =
-    image_before opening log reads image only (record { size = is.size; whole = is.whole; sectors = is.sectors })
-image_before opening log (Write at bytes ok ∷ reads) image only is = absurd only
-image_before opening log (Flush ok ∷ reads) image only is = absurd only
 
 module _ (opening blocks : Blocks) (first : List Call) (sound : IsSound blocks) (most logical : ℕ) (few : next_start blocks sound ≤ most) where
   abbrev g : Geometry
@@ -63,11 +59,13 @@ module _ (opening blocks : Blocks) (first : List Call) (sound : IsSound blocks) 
   ]
 
   -- where nothing was to be recovered
-  pub reads_show : (reads : List Call) → OnlyReads reads → HasOneImage opening first blocks → StopsShow (ShowsValues g most) opening first logical values reads
+  pub reads_show : (reads : List Call) → OnlyReads reads → HasOneImageButIndex opening first blocks → StopsShow (ShowsValues g most) opening first logical values reads
   reads_show reads only one later prefix same image is =
       let front_only : OnlyReads prefix = reads_behind later prefix (subst OnlyReads same only) in
-      let image_is : image ≡ blocks = one_image-unique opening first blocks image one (image_before opening first prefix image front_only is) in
-      (values, subst (λ (i : Blocks). ShowsValues g most i values) (sym image_is) (record { sound = sound; sizes = refl; next = few; values_are = λ a. refl }), λ a below. refl)
+      let alike = one_in-unique (looked_in blocks) opening first blocks image one (image_before opening first prefix image front_only is) in
+      let kept = alike_is_kept blocks image sound alike in
+      let next = next_by_same blocks image sound alike.size kept (alike_super blocks image sound alike) in
+      (value_of (image_in image kept.sound), shows_kept image kept next, λ a below. kept.same.values a)
 
 -- All of a run.
 module _ (opening blocks : Blocks) (entry earlier session : List Call) (sound : IsSound blocks) (logical most left : ℕ) (report : RunReport) (within : AreWithin session report.marks)

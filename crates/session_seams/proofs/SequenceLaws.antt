@@ -22,6 +22,8 @@ use Rattle.image_model.proofs.WindowLaws.{one_window}
 use Rattle.image_model.specs.Maps.{value_of}
 use Rattle.image_model.specs.Sound.{IsSound, image_of}
 use Rattle.image_model.specs.Windows.{IsWindow}
+use Rattle.image_model.specs.Looked.{HasOneImageButIndex}
+use Rattle.image_model.proofs.LookedLaws.{looked_first}
 use Rattle.recovery_laws.specs.Calls.{ArePuts, IsPut, recovery_calls}
 use Rattle.recovery_laws.specs.Kept.{AreKept, AreStopsKept, IsRecovered, IsToRecover, image_in, recovered_super}
 use Rattle.recovery_laws.proofs.SoundLaws.{known, room}
@@ -102,7 +104,7 @@ can_serve blocks can clean = record {
   named = can.named;
 }
 
-pub can_recover : (opening : Blocks) (first : List Call) (left : ℕ) (blocks : Blocks) (can : CanBegin left blocks) → HasOneImage opening first blocks → can.sound.head.clean ≡ false
+pub can_recover : (opening : Blocks) (first : List Call) (left : ℕ) (blocks : Blocks) (can : CanBegin left blocks) → HasOneImageButIndex opening first blocks → can.sound.head.clean ≡ false
     → IsToRecover opening first blocks
 can_recover opening first left blocks can one unclean = record { one = one; sound = can.sound; unclean = unclean; named = can.named }
 
@@ -137,7 +139,7 @@ pub recovered_next : (blocks now : Blocks) (sound : IsSound blocks) → sound.he
 recovered_next blocks now sound unclean is =
     ap (λ (h : Super). next_by h is.kept.sound.last) is.closed ∙ sym (next_open sound.head sound.last unclean)
 
-pub recovered_can : (blocks : Blocks) (left : ℕ) (can : CanBegin left blocks) → can.sound.head.clean ≡ false → (opening : Blocks) (log : List Call) (now : Blocks) → HasOneImage opening log now
+pub recovered_can : (blocks : Blocks) (left : ℕ) (can : CanBegin left blocks) → can.sound.head.clean ≡ false → (opening : Blocks) (log : List Call) (now : Blocks) → HasOneImageButIndex opening log now
     → (is : IsRecovered (image_in blocks can.sound) can.sound.last now) → (new : CanBegin left now) × (new.sound.head.clean ≡ true)
 recovered_can blocks left can unclean opening log now one is = (
   record {
@@ -149,10 +151,10 @@ recovered_can blocks left can unclean opening log now one is = (
   ap (λ (h : Super). h.clean) is.closed,
 )
 
--- By the superblock, which is the old one or the one that recovery writes.
-pub next_by_heads : (blocks now : Blocks) (sound : IsSound blocks) → sound.head.clean ≡ false → length now ≡ length blocks → (kept : AreKept (image_in blocks sound) now)
-    → (super_of_image now ≡ Ok sound.head) ⊎ (super_of_image now ≡ Ok (recovered_super sound.head.geometry sound.last)) → next_start now kept.sound ≡ next_start blocks sound
-next_by_heads blocks now sound unclean size kept (inl old) =
+-- By the superblock: where it is the old one the journal says the rest ..
+pub next_by_same : (blocks now : Blocks) (sound : IsSound blocks) → length now ≡ length blocks → (kept : AreKept (image_in blocks sound) now) → super_of_image now ≡ Ok sound.head
+    → next_start now kept.sound ≡ next_start blocks sound
+next_by_same blocks now sound size kept old =
     let both : Ok kept.sound.head ≡ Ok sound.head = sym kept.sound.opens.accepted ∙ old in
     let heads : kept.sound.head ≡ sound.head = cc both in
     let journal = same_journal (image_in blocks sound) now sound.pages sound.last (known blocks blocks sound) (room blocks blocks sound) size kept.others in
@@ -162,6 +164,11 @@ next_by_heads blocks now sound unclean size kept (inl old) =
     subst (λ (j : Blocks). IsWindow sound.head.geometry sound.head.start j kept.sound.last kept.sound.window) journal window in
     let same = one_window sound.head.geometry sound.head.start (journal_of sound.head.geometry blocks) kept.sound.last sound.last kept.sound.window sound.window window_too sound.opens.is_window in
     ap (λ (h : Super). next_by h kept.sound.last) heads ∙ ap (next_by sound.head) same.0
+
+-- .. and else it is the one that recovery writes.
+pub next_by_heads : (blocks now : Blocks) (sound : IsSound blocks) → sound.head.clean ≡ false → length now ≡ length blocks → (kept : AreKept (image_in blocks sound) now)
+    → (super_of_image now ≡ Ok sound.head) ⊎ (super_of_image now ≡ Ok (recovered_super sound.head.geometry sound.last)) → next_start now kept.sound ≡ next_start blocks sound
+next_by_heads blocks now sound unclean size kept (inl old) = next_by_same blocks now sound size kept old
 next_by_heads blocks now sound unclean size kept (inr new) =
     let both : Ok kept.sound.head ≡ Ok (recovered_super sound.head.geometry sound.last) = sym kept.sound.opens.accepted ∙ new in
     let heads : kept.sound.head ≡ recovered_super sound.head.geometry sound.last = cc both in
@@ -185,7 +192,7 @@ module _ (opening blocks : Blocks) (first : List Call) (to : IsToRecover opening
   at_first =
       all_weaker (λ content. content ≡ block_at blocks 0) IsKeptHead (contents opening first 0)
       (λ content is. inl (ap (λ (c : List ℕ). super_of c (length blocks)) is ∙ sym (first_of_image blocks some) ∙ sound.opens.accepted))
-      (to.one.only 0 (let size = to.one.size in let long = some in omega (arith, size, long)))
+      (to.one.only 0 (let size = to.one.size in let long = some in omega (arith, size, long)) (looked_first blocks))
 
   heads_of : (calls : List Call) → AllByRecursion (PutsOnly 0 IsKeptHead) calls → Surely opening (calls ++ first) 0 IsKeptHead
   heads_of [] each = at_first
@@ -209,7 +216,7 @@ module _ (opening blocks : Blocks) (first : List Call) (to : IsToRecover opening
   pub served : (calls : List Call) → AllByRecursion (PutsOnly 0 IsKeptHead) calls → AreStopsKept (image_in blocks sound) opening first calls
       → AreStopsServed opening first blocks sound calls
   served calls each stops newer older now parts is =
-      let kept = stops newer older now parts is in (kept, kept_next calls newer older now each parts is kept)
+      let kept = stops.kept newer older now parts is in (kept, kept_next calls newer older now each parts is kept)
 
   -- the calls of recovery
 

@@ -8,6 +8,7 @@ use Rattle.disk_model.specs.declared.call.Call.TheVariants.{Read}
 use Rattle.disk_model.specs.Images.{IsImage}
 use Rattle.disk_model.specs.Log.{Blocks, block_at}
 use Rattle.disk_model.proofs.OneImageLaws.{one_image-opening}
+use Rattle.disk_model.proofs.LookedLaws.{one_in-all}
 use Rattle.image_layout.specs.Superblock.{super_of}
 use Rattle.image_layout.specs.declared.fault.SuperFault.{SuperFault}
 use Rattle.image_model.specs.Empty.{IsEmpty, empty_super}
@@ -15,6 +16,7 @@ use Rattle.image_model.specs.Maps.{value_of}
 use Rattle.image_model.specs.Sound.{IsSound}
 use Rattle.image_model.proofs.EmptyLaws.{is_sound}
 use Rattle.image_model.proofs.Example.{small}
+use Rattle.image_model.specs.Looked.{looked_in}
 use Rattle.recovery_laws.specs.Kept.{AreKept, IsToRecover, image_in, recovered_super}
 use Rattle.recovery_laws.proofs.WholeLaws.{parts}
 use Rattle.session_stops.specs.Beginnings.{IsToServe}
@@ -61,7 +63,8 @@ module _ (blocks : Blocks) (empty : IsEmpty small blocks) (whole : (b : ℕ) →
       let slots = ap (λ g. g.journal) same in omega (arith, slots)
 
   read_first : StopsShow (ShowsValues sound.head.geometry 1) blocks [] 5 (value_of (image_in blocks sound)) (Read (record { 0 = 0 }) (block_at blocks 0) true ∷ [])
-  read_first = reads_show blocks blocks [] sound 1 5 (let one = first sound in omega (arith, one)) (Read (record { 0 = 0 }) (block_at blocks 0) true ∷ []) tt (one_image-opening blocks whole)
+  read_first = reads_show blocks blocks [] sound 1 5 (let one = first sound in omega (arith, one)) (Read (record { 0 = 0 }) (block_at blocks 0) true ∷ []) tt
+      (one_in-all (looked_in blocks) blocks [] blocks (one_image-opening blocks whole))
 
   -- with a value that isn't the image's, or a next sequence that is past the bound
   other_value : (values : ℕ → List ℕ) (is : ShowsValues small 1 blocks values) (address : ℕ) → (values address ≡ value_of (image_in blocks is.sound) address → ⊥) → ⊥

@@ -8,6 +8,7 @@ ghost use Rattle.disk_model.specs.Log.{Blocks};
 ghost use Rattle.image_format.specs.Runs.{as_failed};
 ghost use Rattle.image_model.specs.Maps.{value_of};
 ghost use Rattle.image_model.specs.Sound.{IsSound};
+ghost use Rattle.image_model.specs.Looked.{HasOneImageButIndex};
 ghost use Rattle.journal_stops.specs.Sealed.{Sealed};
 ghost use Rattle.recovery_laws.specs.Calls.{ArePuts, IsPut, recovery_calls};
 ghost use Rattle.recovery_laws.specs.Kept.{AreKept, AreStopsKept, IsRecovered, IsToRecover, image_in};
@@ -32,9 +33,9 @@ pub fn a_run_leaves_what_the_next_one_needs()
         → (later prefix : List Call) → now ≡ later ++ (prefix ++ entry) → (image : Blocks) → IsImage blocks (prefix ++ entry) image
         → HasOneImage image [] image × CanBegin left image }
     ensures serves { (blocks : Blocks) (can : CanBegin (2 ^ 19) blocks) → can.sound.head.clean ≡ true → IsToServe blocks }
-    ensures recovers { (opening : Blocks) (first : List Call) (left : ℕ) (blocks : Blocks) (can : CanBegin left blocks) → HasOneImage opening first blocks
+    ensures recovers { (opening : Blocks) (first : List Call) (left : ℕ) (blocks : Blocks) (can : CanBegin left blocks) → HasOneImageButIndex opening first blocks
         → can.sound.head.clean ≡ false → IsToRecover opening first blocks }
-    ensures recovered { (blocks : Blocks) (left : ℕ) (can : CanBegin left blocks) → can.sound.head.clean ≡ false → (opening : Blocks) (log : List Call) (now : Blocks) → HasOneImage opening log now
+    ensures recovered { (blocks : Blocks) (left : ℕ) (can : CanBegin left blocks) → can.sound.head.clean ≡ false → (opening : Blocks) (log : List Call) (now : Blocks) → HasOneImageButIndex opening log now
         → IsRecovered (image_in blocks can.sound) can.sound.last now → (new : CanBegin left now) × (new.sound.head.clean ≡ true) }
     ensures less { (blocks : Blocks) (left fewer : ℕ) → fewer ≤ left → CanBegin left blocks → CanBegin fewer blocks }
     // Of the start and of what recovery makes of it, the one number says both.

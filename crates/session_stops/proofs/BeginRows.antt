@@ -8,6 +8,7 @@ use Rattle.disk_model.specs.declared.call.Call.TheVariants.{Write, Flush}
 use Rattle.disk_model.specs.Images.{HasOneImage}
 use Rattle.disk_model.specs.Log.{Blocks, block_at}
 use Rattle.disk_model.proofs.OneImageLaws.{one_image-is_image, one_image-opening}
+use Rattle.disk_model.proofs.LookedLaws.{one_in-all}
 use Rattle.image_layout.specs.Opened.{super_of_image}
 use Rattle.image_layout.specs.Superblock.{super_block, super_of}
 use Rattle.image_layout.specs.declared.fault.SuperFault.{SuperFault}
@@ -16,6 +17,8 @@ use Rattle.image_model.specs.Maps.{value_of}
 use Rattle.image_model.specs.Sound.{IsSound}
 use Rattle.image_model.proofs.EmptyLaws.{is_sound}
 use Rattle.image_model.proofs.Example.{small, pbn}
+use Rattle.image_model.specs.Looked.{looked_in}
+use Rattle.image_model.proofs.LookedLaws.{looked_low}
 use Rattle.recovery_laws.proofs.SuperLaws.{first_of_image, room_of_image}
 use Rattle.recovery_laws.specs.Kept.{image_in}
 use Rattle.session_stops.specs.Beginnings.{HeadStands, IsAsOpened, IsBeginning, IsHeadOf, IsToServe, head_in, opened_in}
@@ -69,7 +72,7 @@ module _ (blocks : Blocks) (empty : IsEmpty small blocks) (whole : (b : ℕ) →
   -- It begins, and goes on with a write of the session's superblock that fails.
 
   beginning : IsBeginning blocks [] blocks to_serve
-  beginning = begins_with blocks to_serve blocks [] one
+  beginning = begins_with blocks to_serve blocks [] (one_in-all (looked_in blocks) blocks [] blocks one)
 
   tried : IsBeginning blocks (Write (pbn 0) (super_block (head_in blocks to_serve)) false ∷ []) blocks to_serve
   tried = beginning_goes_on blocks to_serve blocks [] (Write (pbn 0) (super_block (head_in blocks to_serve)) false) (λ same. session_head) (λ b behind same. omega (arith, same, behind)) beginning
@@ -82,7 +85,7 @@ module _ (blocks : Blocks) (empty : IsEmpty small blocks) (whole : (b : ℕ) →
   other_block is =
       let room = room_of_image blocks (empty_super small) empty.accepted in
       let here = whole 5 (omega (arith, room)) in
-      let same = ap length (is.others 5 (omega arith) (omega (arith, room))).0 in omega (arith, same, here)
+      let same = ap length (is.others 5 (omega arith) (omega (arith, room)) (looked_low to_serve.sound.head.geometry 5 (omega arith))).0 in omega (arith, same, here)
 
   other_super : (content : List ℕ) → (IsHeadOf blocks to_serve content → ⊥) → IsBeginning blocks (Write (pbn 0) content false ∷ []) blocks to_serve → ⊥
   other_super content other is = other is.super.0

@@ -9,10 +9,11 @@ use Rattle.blk_base.specs.declared.place.PageId.{PageId}
 use Rattle.blk_base.specs.declared.place.Pbn.{Pbn}
 use Rattle.disk_model.specs.declared.call.Call.{Call}
 use Rattle.disk_model.specs.declared.call.Call.TheVariants.{Flush}
-use Rattle.disk_model.specs.Images.{IsMixOf, IsImage, HasOneImage}
+use Rattle.disk_model.specs.Images.{IsMixOf, IsImage}
 use Rattle.disk_model.specs.Log.{Blocks, block_at, contents}
 use Rattle.disk_model.proofs.ImageLaws.{all_weaker, contents-write_other, sector_of_mix, settled-write_other}
-use Rattle.disk_model.proofs.OneImageLaws.{one_image-write_flush}
+use Rattle.disk_model.specs.OneImages.{HasOneImageIn}
+use Rattle.disk_model.proofs.LookedLaws.{one_in-write_flush}
 use Rattle.image_format.proofs.StopLaws.{super_size}
 use Rattle.image_layout.specs.Opened.{super_of_image}
 use Rattle.image_layout.specs.Superblock.{super_block, super_of}
@@ -128,7 +129,7 @@ module _ (opening : Blocks) (log : List Call) (base : Blocks) (to : IsToServe ba
           (old_other (block_of sound.head.geometry (ReferenceBlock slab (n / 8))) (omega arith)) (was_full.counters slab n is_slab inside);
       past = λ slab n is_slab behind below. subst (λ (block : List ℕ). IsOldSector image slab n (sector (n % 8) block))
           (old_other (block_of sound.head.geometry (ReferenceBlock slab (n / 8))) (omega arith)) (was_full.past slab n is_slab behind below);
-      others = λ b behind below no_page no_counters. sym (old_other b behind);
+      others = λ b behind below looked no_page no_counters. sym (old_other b behind);
     }
 
     -- the closed superblock is there
@@ -155,6 +156,7 @@ module _ (opening : Blocks) (log : List Call) (base : Blocks) (to : IsToServe ba
       is_image = old_is;
       shows = shows;
       recovered = subst (λ (n : ℕ). IsRecovered image n now) last_is (recovered same);
+      others = λ b behind. sym (old_other b behind);
     }
 
     -- it isn't yet
@@ -185,6 +187,7 @@ module _ (opening : Blocks) (log : List Call) (base : Blocks) (to : IsToServe ba
       is_image = old_is;
       shows = shows;
       kept = (recovered new).kept;
+      others = λ b behind. sym (old_other b behind);
       head = inr ((recovered new).closed ∙ ap (λ (h : Super). recovered_super h.geometry sound.last) head_is ∙ ap (recovered_super head.geometry) last_is);
     }
     is_closing (inr yet) =
@@ -194,6 +197,7 @@ module _ (opening : Blocks) (log : List Call) (base : Blocks) (to : IsToServe ba
           is_image = old_is;
           shows = shows;
           kept = kept;
+          others = λ b behind. sym (old_other b behind);
           head = inl (heads ∙ head_is, same_last kept heads ∙ last_is);
         }
 
@@ -220,11 +224,11 @@ closed opening log base to blocks close now is =
     (sector_of_mix (λ (s : List ℕ). s ≡ sector 0 (super_block (closed_head base to blocks))) (contents opening (closing_calls base to blocks log) 0) (block_at now 0) 0 (omega arith)
     (is.sectors 0 close.some) (refl, tt))
 
--- where nothing is pending before, nothing is pending again
-pub closed_one : (opening : Blocks) (log : List Call) (base : Blocks) (to : IsToServe base) (blocks : List Sealed) (image : Blocks) → 0 < length opening
-    → HasOneImage opening (Flush true ∷ log) image → HasOneImage opening (closing_calls base to blocks log) (set image 0 (super_block (closed_head base to blocks)))
-closed_one opening log base to blocks image some one =
-    one_image-write_flush opening (Flush true ∷ log) image (record { 0 = 0 }) (super_block (closed_head base to blocks)) some (super_size (closed_head base to blocks)) one
+-- where nothing is pending before in the blocks that are looked at, nothing is pending again
+pub closed_one : (looked : ℕ → Bool) (opening : Blocks) (log : List Call) (base : Blocks) (to : IsToServe base) (blocks : List Sealed) (image : Blocks) → 0 < length opening
+    → HasOneImageIn looked opening (Flush true ∷ log) image → HasOneImageIn looked opening (closing_calls base to blocks log) (set image 0 (super_block (closed_head base to blocks)))
+closed_one looked opening log base to blocks image some one =
+    one_in-write_flush looked opening (Flush true ∷ log) image (record { 0 = 0 }) (super_block (closed_head base to blocks)) some (super_size (closed_head base to blocks)) one
 
 -- A session that is written out has what closing needs.
 to_close : (opening : Blocks) (log : List Call) (base : Blocks) (to : IsToServe base) (blocks : List Sealed) → IsWrittenOut opening log base to blocks

@@ -85,7 +85,8 @@ module _ (blocks : Blocks) (empty : IsEmpty small blocks) (whole : (b : ℕ) →
       → IsWrittenOut blocks calls blocks base_to list → ⊥
   update_left calls x point there has never all = never (all.counts x point there has)
 
-  -- While it is closed: not another superblock, not the session's with another last sequence, and no other value of an address.
+  -- While it is closed: not another superblock, not the session's with another last sequence, no other value of an address, and
+  -- no other block, also none of the index.
 
   later_start : (now : Blocks) (is : IsClosing blocks log blocks base_to list now) → is.kept.sound.head.start ≡ last_in blocks base_to list + 3 → first ≡ 1 → ⊥
   later_start now is late one = elim is.head [
@@ -110,6 +111,9 @@ module _ (blocks : Blocks) (empty : IsEmpty small blocks) (whole : (b : ℕ) →
   no_image : (now : Blocks) (is : IsClosing blocks log blocks base_to list now) → (IsImage blocks log is.old → ⊥) → ⊥
   no_image now is never = never is.is_image
 
+  other_block : (now : Blocks) (is : IsClosing blocks log blocks base_to list now) → (block_at now 69 ≡ block_at is.old 69 → ⊥) → ⊥
+  other_block now is differs = differs (is.others 69 (omega arith))
+
   -- Once it is closed: not the session's superblock, and no other value.
 
   unclosed : (now : Blocks) (is : IsClosedImage blocks (Flush true ∷ log) blocks base_to list now) → is.recovered.kept.sound.head.clean ≡ false → ⊥
@@ -122,6 +126,9 @@ module _ (blocks : Blocks) (empty : IsEmpty small blocks) (whole : (b : ℕ) →
   other_entries_then : (now : Blocks) (is : IsClosedImage blocks (Flush true ∷ log) blocks base_to list now) (address : ℕ)
       → (mapping_of (later_image (opened_in blocks base_to) is.old is.shows.shows.shown.window) address ≡ mapping_after (opened_in blocks base_to) (entries_of first list) address → ⊥) → ⊥
   other_entries_then now is address differs = differs (is.shows.shows.mappings address)
+
+  other_block_then : (now : Blocks) (is : IsClosedImage blocks (Flush true ∷ log) blocks base_to list now) → (block_at now 69 ≡ block_at is.old 69 → ⊥) → ⊥
+  other_block_then now is differs = differs (is.others 69 (omega arith))
 
   no_image_then : (now : Blocks) (is : IsClosedImage blocks (Flush true ∷ log) blocks base_to list now) → (IsImage blocks (Flush true ∷ log) is.old → ⊥) → ⊥
   no_image_then now is never = never is.is_image

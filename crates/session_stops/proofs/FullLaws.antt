@@ -115,5 +115,5 @@ module _ (base : Blocks) (to : IsToServe base) (opening : Blocks) (log : List Ca
       pages = page_full;
       counters = sector_full;
       past = λ slab n in_slab past below. refl;
-      others = λ b behind below no_page no_counters. refl;
+      others = λ b behind below looked no_page no_counters. refl;
     }

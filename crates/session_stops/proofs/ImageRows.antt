@@ -17,6 +17,7 @@ use Rattle.disk_model.specs.declared.call.Call.TheVariants.{Flush}
 use Rattle.disk_model.specs.Images.{HasOneImage, IsImage}
 use Rattle.disk_model.specs.Log.{Blocks, block_at}
 use Rattle.disk_model.proofs.OneImageLaws.{one_image-is_image, one_image-kept, one_image-write_flush}
+use Rattle.disk_model.proofs.LookedLaws.{one_in-all, one_in-every}
 use Rattle.image_format.proofs.StopLaws.{super_size}
 use Rattle.image_layout.specs.Superblock.{super_block}
 use Rattle.image_model.specs.Empty.{IsEmpty, empty_super}
@@ -162,8 +163,11 @@ module _ (blocks : Blocks) (empty : IsEmpty small blocks) (whole : (b : ℕ) →
   closed_blocks : (now : Blocks) × HasOneImage blocks (closing_calls blocks base_to (block blocks empty whole ∷ []) (log_counts blocks empty whole)) now
   closed_blocks = (
     set last_blocks 0 (super_block (closed_head blocks base_to (block blocks empty whole ∷ []))),
-    closed_one blocks (log_counts blocks empty whole) blocks base_to (block blocks empty whole ∷ []) last_blocks (let room = wide in omega (arith, room))
-        (one_image-kept blocks (log_counts blocks empty whole) last_blocks (Flush true) (λ b. tt) one_last),
+    one_in-every blocks (closing_calls blocks base_to (block blocks empty whole ∷ []) (log_counts blocks empty whole))
+        (set last_blocks 0 (super_block (closed_head blocks base_to (block blocks empty whole ∷ []))))
+        (closed_one (λ b. true) blocks (log_counts blocks empty whole) blocks base_to (block blocks empty whole ∷ []) last_blocks (let room = wide in omega (arith, room))
+        (one_in-all (λ b. true) blocks (Flush true ∷ log_counts blocks empty whole) last_blocks
+        (one_image-kept blocks (log_counts blocks empty whole) last_blocks (Flush true) (λ b. tt) one_last))),
   )
 
   closed_there : IsClosedImage blocks (Flush true ∷ log_counts blocks empty whole) blocks base_to (block blocks empty whole ∷ []) closed_blocks.0

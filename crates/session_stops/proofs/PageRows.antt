@@ -20,6 +20,7 @@ use Rattle.disk_model.specs.declared.call.Call.TheVariants.{Read, Write, Flush}
 use Rattle.disk_model.specs.Images.{IsImage}
 use Rattle.disk_model.specs.Log.{Blocks, block_at}
 use Rattle.disk_model.proofs.OneImageLaws.{one_image-opening}
+use Rattle.disk_model.proofs.LookedLaws.{one_in-all}
 use Rattle.image_model.specs.Empty.{IsEmpty, empty_root, empty_super}
 use Rattle.image_model.specs.Maps.{Image, ArePagesGood, head_of, or_else, put_last}
 use Rattle.image_model.specs.Pages.{is_page}
@@ -223,8 +224,11 @@ module _ (blocks : Blocks) (empty : IsEmpty small blocks) (whole : (b : ℕ) →
 
   -- It begins: its pages stand. They don't where a root may have been overwritten.
   at_first : PagesStand blocks [] image [] []
-  at_first = begins blocks [] image (one_image-opening blocks whole) good
-      (λ p at there. let low = only_roots p at (page_with_none image p ∙ there) in let room = room_of_image blocks (empty_super small) empty.accepted in omega (arith, low, room))
+  at_first = begins (λ b. true) blocks [] image (one_in-all (λ b. true) blocks [] blocks (one_image-opening blocks whole)) good
+      (λ p at there.
+      let low = only_roots p at (page_with_none image p ∙ there) in
+      let room = room_of_image blocks (empty_super small) empty.accepted in
+      (omega (arith, low, room), refl))
 
   root_linked : page_after image [] root ≡ Some (pbn 9)
   root_linked = refl

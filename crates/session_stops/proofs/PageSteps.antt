@@ -1,5 +1,5 @@
 -- What keeps the pages standing, and what grows with them.
-use Rattle.std.proofs.Common.{ℕ, suc, ◌≡◌, ◌⊎◌, ◌+◌, ◌-◌, ◌<◌, List, [], ◌∷◌, ◌++◌, length, replicate, Option, Some, None, refl, sym, ◌∙◌, ap, subst, inl, inr, arith}
+use Rattle.std.proofs.Common.{ℕ, suc, ◌≡◌, ◌⊎◌, ◌+◌, ◌-◌, ◌<◌, List, [], ◌∷◌, ◌++◌, length, replicate, Option, Some, None, refl, sym, ◌∙◌, ap, subst, inl, inr, arith, Bool, IsTrue}
 use Rattle.std.specs.List.{AllByRecursion}
 use Rattle.std.proofs.lemmas.Bool.{cases_Bool}
 use Rattle.std.proofs.lemmas.List.{get_or-replicate}
@@ -15,9 +15,9 @@ use Rattle.blk_base.specs.declared.place.Pbn.{Pbn}
 use Rattle.blk_base.specs.declared.sizes.TheConstants.{PAGE_SLOTS, TREES}
 use Rattle.disk_model.specs.declared.call.Call.{Call}
 use Rattle.disk_model.specs.declared.call.Call.TheVariants.{Read, Write, Flush}
-use Rattle.disk_model.specs.Images.{HasOneImage}
 use Rattle.disk_model.specs.Log.{Blocks, Misses, block_at, contents}
 use Rattle.disk_model.proofs.ImageLaws.{all_weaker}
+use Rattle.disk_model.specs.OneImages.{HasOneImageIn}
 use Rattle.image_model.specs.Maps.{Image, ArePagesGood, head_of, or_else, page_at, put_last, target_of}
 use Rattle.image_model.specs.Pages.{above, is_page, slot_of}
 use Rattle.page_codec.proofs.ReadLaws.{slots}
@@ -146,12 +146,14 @@ rises opening log opened entries window behind older all each stand page at link
 
 -- The beginning.
 
--- Where nothing is pending, and the image's pages can be read, they stand: the window leaves the rest to them.
-pub begins : (opening : Blocks) (log : List Call) (opened : Image) → HasOneImage opening log opened.blocks → ArePagesGood opened
-    → ((page : PageId) (at : Pbn) → page_at opened page ≡ Some at → at.0 < length opening) → PagesStand opening log opened [] opened.window
-begins opening log opened one good on_it page at linked =
+-- Where nothing is pending in the blocks that are looked at, and the image's pages are among these and can be read, they
+-- stand: the window leaves the rest to them.
+pub begins : (looked : ℕ → Bool) (opening : Blocks) (log : List Call) (opened : Image) → HasOneImageIn looked opening log opened.blocks → ArePagesGood opened
+    → ((page : PageId) (at : Pbn) → page_at opened page ≡ Some at → (at.0 < length opening) × IsTrue (looked at.0)) → PagesStand opening log opened [] opened.window
+begins looked opening log opened one good on_it page at linked =
     let there : page_at opened page ≡ Some at = sym (page_with_none opened page) ∙ linked in
-    let only = one.only at.0 (on_it page at there) in
+    let seen = on_it page at there in
+    let only = one.only at.0 seen.0 seen.1 in
     let is_good = good page at there in
     record {
       headed = all_weaker (λ content. content ≡ block_at opened.blocks at.0) (HasHead (head_of opened page at)) (contents opening log at.0)

@@ -18,12 +18,14 @@ use Rattle.byte_fields.specs.Fields.{number_at}
 use Rattle.disk_model.specs.declared.call.Call.{Call}
 use Rattle.disk_model.specs.declared.call.Call.TheVariants.{Write, Flush}
 use Rattle.disk_model.specs.Log.{Blocks, block_at}
+use Rattle.disk_model.proofs.LookedLaws.{one_in-all}
 use Rattle.image_model.specs.Empty.{IsEmpty, empty_super}
 use Rattle.image_model.specs.Maps.{Image, put_last}
 use Rattle.image_model.specs.Maps as maps
 use Rattle.image_model.specs.Sound.{IsDataPlace}
 use Rattle.image_model.specs.Windows.{IsOfImage}
 use Rattle.image_model.proofs.Example.{small, pbn}
+use Rattle.image_model.specs.Looked.{looked_in}
 use Rattle.journal_codec.specs.Grammar.{HoldsEntry}
 use Rattle.journal_codec.specs.Spelling.{block_bytes}
 use Rattle.page_codec.proofs.HeldLaws.{held_unmapped}
@@ -80,7 +82,7 @@ module _ (blocks : Blocks) (empty : IsEmpty small blocks) (whole : (b : ℕ) →
   -- The superblock is written, and flushed; before that nothing stands.
 
   pub at_rest : StandsAtRest blocks (log_opened blocks empty whole) blocks to []
-  at_rest = session_opens blocks to blocks [] (one blocks empty whole)
+  at_rest = session_opens blocks to blocks [] (one_in-all (looked_in blocks) blocks [] blocks (one blocks empty whole))
 
   too_early : StandsAtRest blocks [] blocks to [] → ⊥
   too_early stands = not_yet blocks empty whole to stands.behind.super

@@ -13,11 +13,13 @@ use Rattle.blk_base.specs.declared.place.Pbn.{Pbn}
 use Rattle.blk_base.specs.declared.point.Half.TheVariants.{Increment}
 use Rattle.disk_model.specs.declared.call.Call.{Call}
 use Rattle.disk_model.specs.declared.call.Call.TheVariants.{Write, Flush}
-use Rattle.disk_model.specs.Images.{HasOneImage}
 use Rattle.disk_model.specs.Log.{Blocks}
+use Rattle.disk_model.specs.OneImages.{HasOneImageIn}
 use Rattle.image_layout.specs.Superblock.{super_block}
 use Rattle.image_model.specs.Maps.{Image, page_at}
 use Rattle.image_model.proofs.EmptyLaws.{sizes_of_image}
+use Rattle.image_model.specs.Looked.{HasOneImageButIndex, is_looked_at}
+use Rattle.image_model.proofs.LookedLaws.{one_by_sizes}
 use Rattle.journal_stops.specs.Rings.{IsWhole, IsWritten, place_of}
 use Rattle.journal_stops.specs.Sealed.{Sealed, IsSealed, entries_of, next_of, window_of}
 use Rattle.journal_stops.proofs.EntryLaws.{window_of_all}
@@ -25,6 +27,7 @@ use Rattle.journal_stops.proofs.OpenedLaws.{page_with_none}
 use Rattle.journal_stops.proofs.ReopenLaws.{closed_at_rest}
 use Rattle.journal_stops.proofs.StepLaws as journal
 use Rattle.recovery_laws.proofs.SoundLaws.{known, room}
+use Rattle.recovery_laws.proofs.StopLaws.{page_looked_at}
 use Rattle.count_laws.specs.Counters.{CountsStand}
 use Rattle.count_laws.specs.Points.{ArePointed}
 use Rattle.count_laws.specs.Turns.{AreInTurn}
@@ -64,30 +67,31 @@ module _ (base : Blocks) (to : IsToServe base) where
 
   -- A session is opened: its superblock is written where nothing is pending, and flushed.
 
-  counts_opened : (opening : Blocks) (log : List Call) → HasOneImage opening log base → CountsStand opening log opened [] []
+  counts_opened : (opening : Blocks) (log : List Call) → HasOneImageButIndex opening log base → CountsStand opening log opened [] []
   counts_opened opening log one =
       let wide = room base base to.sound in
       let size = one.size in
-      counts_begin opening log opened (omega (arith, wide, size)) one (closed_counts base to.sound to.clean).updates
+      counts_begin opening log opened (omega (arith, wide, size)) (one_by_sizes base to.sound.head to.sound.opens.accepted opening log base one) (closed_counts base to.sound to.clean).updates
 
-  pub session_opens : (opening : Blocks) (log : List Call) → HasOneImage opening log base
+  pub session_opens : (opening : Blocks) (log : List Call) → HasOneImageButIndex opening log base
       → StandsAtRest opening (Flush true ∷ Write (record { 0 = 0 }) (super_block (head_in base to)) true ∷ log) base to []
   session_opens opening log one =
       let size : length opening ≡ length base = sym one.size in
       let enough = room base base to.sound in
+      let sized : HasOneImageIn (is_looked_at g) opening log base = one_by_sizes base to.sound.head to.sound.opens.accepted opening log base one in
       let writing : Call = Write (record { 0 = 0 }) (super_block (head_in base to)) true in
       let on_it : (page : PageId) (at : Pbn) → page_at opened page ≡ Some at → at.0 < length opening = λ page at there.
       pages_on_it opened to.sound.pages to.sound.last (known base base to.sound) [] tt (length opening) (omega (arith, enough, size)) page at (page_with_none opened page ∙ there) in
       let none : opened.window ≡ window_from start start [] = (to.sound.closed to.clean).window ∙ sym (window_of_all start [] refl) in
       let empty : [] ≡ window_from start start [] = sym (window_of_all start [] refl) in
-      let stand = subst (PagesStand opening log opened []) none (pages.begins opening log opened one to.sound.pages on_it) in
+      let stand = subst (PagesStand opening log opened []) none (pages.begins (is_looked_at g) opening log opened sized to.sound.pages (λ page at there. (on_it page at there, page_looked_at base to.sound to.named page at there))) in
       let still = pages.pages_missed opening log opened [] (window_from start start []) stand writing (λ page at linked same. let high = page_behind base to [] tt page at linked in omega (arith, same, high)) in
       let counted = counts_in_front base to opening log [] (window_from start start []) (record { 0 = 0 }) (super_block (head_in base to)) true (omega arith)
       (subst (CountsStand opening log opened []) empty (counts_opened opening log one)) in
       record {
         journal = journal.rest_kept opening (writing ∷ log) g start [] (Flush true) (λ slot below. tt)
             (journal.rest_kept opening log g start [] writing (λ slot below same. omega (arith, same))
-            (journal.opened opening log g start base [] (omega (arith, enough, size)) one (closed_at_rest base to.sound start to.clean (omega arith))));
+            (journal.opened opening log g start base [] (omega (arith, enough, size)) sized (closed_at_rest base to.sound start to.clean (omega arith))));
         behind = record {
           size = size;
           whole = λ b below. one.whole b (omega (arith, below, size));

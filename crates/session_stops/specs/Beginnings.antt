@@ -6,6 +6,7 @@ use Rattle.disk_model.specs.Log.{Blocks, block_at}
 use Rattle.image_layout.specs.Superblock.{super_block, super_of}
 use Rattle.image_model.specs.Maps.{Image}
 use Rattle.image_model.specs.Sound.{IsSound}
+use Rattle.image_model.specs.Looked.{is_looked_at}
 use Rattle.recovery_laws.specs.Kept.{SayTheSame, image_in}
 use Rattle.stop_laws.specs.Journals.{Surely}
 
@@ -30,12 +31,12 @@ abbrev pub IsHeadOf : (base : Blocks) → IsToServe base → List ℕ → Type 0
 IsHeadOf base to content = (super_of content (length base) ≡ Ok to.sound.head) ⊎ (super_of content (length base) ≡ Ok (head_in base to))
 
 -- Nothing was done yet but to the superblock: whatever a stop leaves, it is the one of the opened image or that of the
--- session, and each other block is what it was.
+-- session, and each other block is what it was, the index aside.
 pub record IsBeginning (opening : Blocks) (log : List Call) (base : Blocks) (to : IsToServe base) : Type 0 where
   pub size : length opening ≡ length base
   pub whole : (b : ℕ) → b < length base → length (block_at base b) ≡ 4096
   pub super : Surely opening log 0 (IsHeadOf base to)
-  pub others : (b : ℕ) → 1 ≤ b → b < length base → Surely opening log b (λ content. content ≡ block_at base b)
+  pub others : (b : ℕ) → 1 ≤ b → b < length base → IsTrue (is_looked_at to.sound.head.geometry b) → Surely opening log b (λ content. content ≡ block_at base b)
 
 -- the session's superblock stands, whatever a stop leaves
 abbrev pub HeadStands : Blocks → List Call → (base : Blocks) → IsToServe base → Type 0

@@ -8,7 +8,7 @@ use Rattle.byte_fields.specs.Fields.{number_at}
 use Rattle.disk_model.specs.declared.call.Call.{Call}
 use Rattle.disk_model.specs.declared.call.Call.TheVariants.{Write, Flush}
 use Rattle.disk_model.specs.Images.{IsImage}
-use Rattle.disk_model.specs.Log.{Blocks}
+use Rattle.disk_model.specs.Log.{Blocks, block_at}
 use Rattle.image_layout.specs.Superblock.{super_block}
 use Rattle.image_model.specs.Maps.{Image}
 use Rattle.image_model.specs.Sound.{IsDataPlace}
@@ -49,17 +49,19 @@ abbrev pub closing_calls : (base : Blocks) → IsToServe base → List Sealed �
 closing_calls base to blocks log = Flush true ∷ closing_write base to blocks true ∷ Flush true ∷ log
 
 -- While it is closed: these blocks are sound and say the same as an image that could have been left before, which shows all
--- entries; their superblock is the session's, with the same last sequence, or the closed one.
+-- entries and has each other block; their superblock is the session's, with the same last sequence, or the closed one.
 pub record IsClosing (opening : Blocks) (log : List Call) (base : Blocks) (to : IsToServe base) (blocks : List Sealed) (now : Blocks) : Type 0 where
   pub old : Blocks
   pub is_image : IsImage opening log old
   pub shows : ShowsSoundly (opened_in base to) (head_in base to) old (entries_of to.sound.head.start blocks)
   pub kept : AreKept (image_in old shows.sound) now
+  pub others : (b : ℕ) → 1 ≤ b → block_at now b ≡ block_at old b
   pub head : ((kept.sound.head ≡ head_in base to) × (kept.sound.last ≡ last_in base to blocks)) ⊎ (kept.sound.head ≡ closed_head base to blocks)
 
--- Once it is closed: they say the same, and are closed.
+-- Once it is closed: they say the same, with each other block, and are closed.
 pub record IsClosedImage (opening : Blocks) (log : List Call) (base : Blocks) (to : IsToServe base) (blocks : List Sealed) (now : Blocks) : Type 0 where
   pub old : Blocks
   pub is_image : IsImage opening log old
   pub shows : ShowsSoundly (opened_in base to) (head_in base to) old (entries_of to.sound.head.start blocks)
   pub recovered : IsRecovered (image_in old shows.sound) (last_in base to blocks) now
+  pub others : (b : ℕ) → 1 ≤ b → block_at now b ≡ block_at old b

@@ -1,8 +1,9 @@
 ghost use Rattle.std.specs.Prelude.{◌≡◌, ◌∷◌, ◌<◌, ℕ, Bool, true, false, List, length};
 ghost use Rattle.disk_model.specs.declared.call.Call.{Call};
 ghost use Rattle.disk_model.specs.declared.call.Call.TheVariants.{Flush};
-ghost use Rattle.disk_model.specs.Images.{HasOneImage, IsImage};
+ghost use Rattle.disk_model.specs.Images.{IsImage};
 ghost use Rattle.disk_model.specs.Log.{Blocks};
+ghost use Rattle.disk_model.specs.OneImages.{HasOneImageIn};
 ghost use Rattle.journal_stops.specs.Mapped.{later_image};
 ghost use Rattle.journal_stops.specs.Sealed.{Sealed, window_of};
 ghost use Rattle.recovery_laws.specs.Written.{AreFull};
@@ -22,7 +23,7 @@ pub fn a_session_is_closed()
     ensures closed { (base : Blocks) (to : IsToServe base) (opening : Blocks) (log : List Call) (blocks : List Sealed) → IsWrittenOut opening (Flush true ∷ log) base to blocks
         → (now : Blocks) → IsImage opening (closing_calls base to blocks log) now → IsClosedImage opening (Flush true ∷ log) base to blocks now }
 
-    // Where nothing is pending before, nothing is pending afterwards.
+    // Where nothing is pending before, in all blocks or in some, nothing is pending afterwards.
     ensures one { (base : Blocks) (to : IsToServe base) (opening : Blocks) (log : List Call) (blocks : List Sealed) (image : Blocks) → 0 < length opening
-        → HasOneImage opening (Flush true ∷ log) image → (now : Blocks) × HasOneImage opening (closing_calls base to blocks log) now }
+        → (looked : ℕ → Bool) → HasOneImageIn looked opening (Flush true ∷ log) image → (now : Blocks) × HasOneImageIn looked opening (closing_calls base to blocks log) now }
 {}

@@ -12,8 +12,8 @@
 //! Of the superblock of a session its bytes are said, not only what they decode to: the images of its close are mixes
 //! of them and the closed one, and each half must be one that could have been there.
 //!
-//! Not there: that any core's log is of this kind, and the data of addresses. An image's blocks are all taken to have
-//! one content when a session begins (`HasOneImage`), those of the index too.
+//! Not there: that any core's log is of this kind, and the data of addresses. An image's blocks but those of the index are
+//! taken to have one content when a session begins (`HasOneImageButIndex`).
 #![tactic(auto)]
 
 mod beginnings;

@@ -1,4 +1,4 @@
-ghost use Rattle.std.specs.Prelude.{◌≡◌, ◌<◌, ◌≤◌, ◌^◌, ◌++◌, ◌∷◌, [], ℕ, Bool, true, List, length, replicate, Some, None};
+ghost use Rattle.std.specs.Prelude.{◌≡◌, ◌<◌, ◌≤◌, ◌^◌, ◌++◌, ◌∷◌, [], ℕ, Bool, true, List, length, replicate, Some, None, IsTrue};
 ghost use Rattle.blk_base.specs.Regions.{needed_blocks};
 ghost use Rattle.blk_base.specs.declared.journal_entry.CommittedEntry.{CommittedEntry};
 ghost use Rattle.blk_base.specs.declared.place.Mapping.{Mapping};
@@ -8,8 +8,9 @@ ghost use Rattle.blk_base.specs.declared.place.Pbn.{Pbn};
 ghost use Rattle.blk_base.specs.declared.sizes.TheConstants.{PAGE_SLOTS};
 ghost use Rattle.disk_model.specs.declared.call.Call.{Call};
 ghost use Rattle.disk_model.specs.declared.call.Call.TheVariants.{Write, Flush};
-ghost use Rattle.disk_model.specs.Images.{IsImage, HasOneImage};
+ghost use Rattle.disk_model.specs.Images.{IsImage};
 ghost use Rattle.disk_model.specs.Log.{Blocks, Misses, block_at};
+ghost use Rattle.disk_model.specs.OneImages.{HasOneImageIn};
 ghost use Rattle.image_model.specs.Maps.{Image, ArePagesGood, head_of, mapping_in, page_at, put_last};
 ghost use Rattle.image_model.specs.Sound.{IsSound};
 ghost use Rattle.page_codec.specs.Grammar.{IsPage, IsSlot};
@@ -97,8 +98,8 @@ pub fn what_keeps_pages_standing()
 
     // They begin as the opened image has them, and go on with newer entries that the window has, where those that these make
     // are new, and stand empty.
-    ensures begins { (opening : Blocks) (log : List Call) (opened : Image) → HasOneImage opening log opened.blocks → ArePagesGood opened
-        → ((page : PageId) (at : Pbn) → page_at opened page ≡ Some at → at.0 < length opening) → PagesStand opening log opened [] opened.window }
+    ensures begins { (looked : ℕ → Bool) (opening : Blocks) (log : List Call) (opened : Image) → HasOneImageIn looked opening log opened.blocks → ArePagesGood opened
+        → ((page : PageId) (at : Pbn) → page_at opened page ≡ Some at → (at.0 < length opening) × IsTrue (looked at.0)) → PagesStand opening log opened [] opened.window }
     ensures grows { (opening : Blocks) (log : List Call) (opened : Image) (newer older window : List CommittedEntry) → AreInTurn opened (newer ++ older)
         → NewPagesStand opening log opened newer → PagesStand opening log opened older window → PagesStand opening log opened (newer ++ older) (newer ++ window) }
 {}

@@ -9,11 +9,12 @@ ghost use Rattle.blk_base.specs.declared.place.Pbn.{Pbn};
 ghost use Rattle.blk_base.specs.declared.point.Half.TheVariants.{Increment};
 ghost use Rattle.disk_model.specs.declared.call.Call.{Call};
 ghost use Rattle.disk_model.specs.declared.call.Call.TheVariants.{Write, Flush};
-ghost use Rattle.disk_model.specs.Images.{IsImage, HasOneImage};
+ghost use Rattle.disk_model.specs.Images.{IsImage};
 ghost use Rattle.disk_model.specs.Log.{Blocks, Misses};
 ghost use Rattle.image_layout.specs.Superblock.{super_block};
 ghost use Rattle.image_model.specs.Counts.{block_of_data, counter_of};
 ghost use Rattle.image_model.specs.Sound.{IsDataPlace};
+ghost use Rattle.image_model.specs.Looked.{HasOneImageButIndex};
 ghost use Rattle.journal_stops.specs.Mapped.{page_after};
 ghost use Rattle.journal_stops.specs.Rings.{IsWhole, IsWritten, place_of};
 ghost use Rattle.journal_stops.specs.Sealed.{Sealed, IsSealed, entries_of, next_of, window_of};
@@ -40,7 +41,7 @@ pub fn each_stop_leaves_a_sound_image()
 /// What keeps a session standing: its superblock, written where nothing is pending and flushed; the next block of the journal,
 /// from its write to the flush behind it; and a later head. It does nothing.
 pub fn what_keeps_a_session_standing()
-    ensures opens { (base : Blocks) (to : IsToServe base) (opening : Blocks) (log : List Call) → HasOneImage opening log base
+    ensures opens { (base : Blocks) (to : IsToServe base) (opening : Blocks) (log : List Call) → HasOneImageButIndex opening log base
         → StandsAtRest opening (Flush true ∷ Write (record { 0 = 0 }) (super_block (head_in base to)) true ∷ log) base to [] }
 
     // The next block is written, failed or not: what its head lets go of stands without it, its entries come in turn, and the

@@ -13,6 +13,7 @@ use Rattle.disk_model.specs.Images.{HasOneImage, IsImage}
 use Rattle.disk_model.specs.Log.{Blocks}
 use Rattle.disk_model.specs.Seen.{Seen}
 use Rattle.disk_model.specs.Since.{OnlyReads}
+use Rattle.disk_model.proofs.OneImageLaws.{one_image-unique}
 use Rattle.core_model.specs.declared.sizes.Sizes.{Sizes}
 use Rattle.core_model.specs.Sessions.{Session}
 use Rattle.core_model.specs.SessionLimits.{requests_in}
@@ -200,7 +201,7 @@ module _ (head : Super) (window : List Entry) (moments : List Moment) (report : 
   -- and a stop then leaves the image that was there,
   happens-not_another_image : (image other : Blocks) → HasOneImage before.opening before.log image → IsImage before.opening opened.log other → other ≢ image → ⊥
   happens-not_another_image image other one is differ =
-      differ (happens.stops_early [] happens.earlier refl image other one (subst (λ (log : List Call). IsImage before.opening log other) happens.earlier_is is))
+      differ (one_image-unique before.opening before.log image other one (happens.stops_early [] happens.earlier refl other (subst (λ (log : List Call). IsImage before.opening log other) happens.earlier_is is)))
 
   -- the moments have the lines of the desk log, and the calls of the device
   happens-not_another_line : moments ≡ [] → report.desk ≡ Begin (of_a 0) ∷ [] → ⊥

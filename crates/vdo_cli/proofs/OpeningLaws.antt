@@ -2,19 +2,23 @@
 use Rattle.std.proofs.Common.{ℕ, suc, ◌≡◌, ◌≤◌, ◌++◌, Bool, IsTrue, List, [], ◌∷◌, length, take, drop, reverse, Result, Ok, Err, refl, sym, ◌∙◌, ap, subst, inl, inr, arith}
 use Rattle.std.proofs.lemmas.Grind.{reverse_onto}
 use Rattle.std.proofs.lemmas.List.{length-reverse, reverse-reverse}
+use Rattle.std.proofs.Math.Seq.{take-suc}
 use Rattle.blk_base.specs.declared.geometry.Super.{Super}
 use Rattle.blk_base.specs.declared.journal_entry.Entry.{Entry}
-use Rattle.disk_model.specs.Images.{HasOneImage}
-use Rattle.disk_model.specs.Log.{Blocks}
+use Rattle.blk_base.specs.Sectors.{zero_block}
+use Rattle.disk_model.specs.Log.{Blocks, block_at}
 use Rattle.disk_model.specs.Seen.{Seen}
 use Rattle.disk_model.specs.Since.{WereRead}
-use Rattle.disk_model.proofs.SinceLaws.{read_on, failed_on, front_of_image}
+use Rattle.disk_model.proofs.SinceLaws.{read_on, failed_on}
+use Rattle.disk_model.proofs.LookedLaws.{given_block, given_blocks}
 use Rattle.image_layout.specs.Opened.{IsHead, super_of_image}
 use Rattle.image_layout.specs.Superblock.{super_of}
 use Rattle.image_layout.specs.Values.{journal_of}
 use Rattle.image_layout.specs.declared.fault.SuperFault.{SuperFault}
 use Rattle.image_model.specs.declared.fault.ImageFault.{ImageFault}
 use Rattle.image_model.specs.declared.fault.ImageFault.TheVariants as image
+use Rattle.image_model.specs.Looked.{HasOneImageButIndex, looked_in}
+use Rattle.image_model.proofs.LookedLaws.{looked_first, looked_in_place, looked_low}
 use Rattle.vdo_cli.specs.declared.fault.Fault.{Fault}
 use Rattle.vdo_cli.specs.declared.fault.Fault.TheVariants as fault
 use Rattle.vdo_cli.specs.Openings.{CanServe, CantServe, IsRead, IsOpened, HasNoImage, HasFaulty, JournalFails, OpeningFails, ServingFails, opening_of, trust}
@@ -60,7 +64,7 @@ serving_fails tells honest before now head journal (fault.Image (image.Window se
 serving_fails tells honest before now head journal fault.Memory read cause = tt
 serving_fails tells honest before now head journal other read cause = absurd cause
 
--- What holds of the one image of an honest device where nothing is pending.
+-- What holds of the one image of an honest device where nothing is pending but in the index.
 
 -- an image that begins with a block says what the block says
 of_first : (image : Blocks) (first : List ℕ) (others : Blocks) (size n : ℕ) (says : Result Super SuperFault) → first ∷ others ≡ take (suc n) image → length image ≡ size → super_of first size ≡ says
@@ -72,24 +76,42 @@ journal_behind : (image : Blocks) (first : List ℕ) (journal : Blocks) (n : ℕ
 journal_behind [] first journal n is = absurd cc
 journal_behind (block ∷ blocks) first journal n is = cc
 
-module _ (tells honest : Bool) (before now : Seen) (image : Blocks) (told : IsTrue tells) (fair : IsTrue honest) (one : HasOneImage before.opening before.log image) where
+module _ (tells honest : Bool) (before now : Seen) (image : Blocks) (told : IsTrue tells) (fair : IsTrue honest) (one : HasOneImageButIndex before.opening before.log image) where
   -- the blocks that were read are its first ones
-  front_read : (blocks : List (List ℕ)) (n : ℕ) → WereRead tells honest 0 before now (reverse blocks) → length blocks ≡ n → n ≤ before.size → blocks ≡ take n image
-  front_read blocks n read count room =
+  front_read : (blocks : List (List ℕ)) (n : ℕ) → WereRead tells honest 0 before now (reverse blocks) → length blocks ≡ n → n ≤ before.size
+      → ((b : ℕ) → b < n → IsTrue (looked_in image b)) → blocks ≡ take n image
+  front_read blocks n read count room looks =
       let size = length-reverse blocks in
-      sym (reverse-reverse blocks) ∙ front_of_image tells honest before (reverse blocks) image told fair read.given (omega (arith, size, count, room, read.told told)) one
+      sym (reverse-reverse blocks)
+      ∙ given_blocks (looked_in image) tells honest 0 before image told fair one (reverse blocks) read.given (omega (arith, size, count, room, read.told told))
+      (λ b less. looks b (omega (arith, less, size, count)))
       ∙ ap (λ (m : ℕ). take m image) (size ∙ count)
 
   size_is : (blocks : List (List ℕ)) → WereRead tells honest 0 before now blocks → length image ≡ before.size
   size_is blocks read = one.size ∙ read.told told
 
-  module _ (head : Super) (journal : List (List ℕ)) (read : IsRead (trust tells honest) before now head journal) where
-    front_is : read.first ∷ journal ≡ take (suc head.geometry.journal) image
-    front_is = front_read (read.first ∷ journal) (suc head.geometry.journal) read.read (ap suc read.count) (omega (arith, read.is_head.room))
+  -- and the first one by itself
+  first_read : (first : List ℕ) (others : Blocks) → WereRead tells honest 0 before now (reverse (first ∷ others)) → suc (length others) ≤ before.size → first ∷ [] ≡ take 1 image
+  first_read first others read room =
+      let size = length-reverse (first ∷ others) in
+      let opening = read.told told in
+      let count = one.size in
+      let here = given_block (looked_in image) tells honest 0 before image told fair one (reverse (first ∷ others)) read.given (omega (arith, size, room, opening)) 0
+      (omega (arith, size)) (looked_first image) in
+      ap (λ (block : List ℕ). block ∷ []) (sym (here ∙ ap (λ (blocks : Blocks). block_at blocks 0) (reverse-reverse (first ∷ others))))
+      ∙ sym (take-suc image 0 zero_block (omega (arith, count, opening, room)))
 
+  module _ (head : Super) (journal : List (List ℕ)) (read : IsRead (trust tells honest) before now head journal) where
     -- the superblock that was read
     pub says_head : super_of_image image ≡ Ok head
-    says_head = of_first image read.first journal before.size head.geometry.journal (Ok head) front_is (size_is _ read.read) read.is_head.says
+    says_head =
+        let count = read.count in
+        let room = read.is_head.room in
+        of_first image read.first [] before.size 0 (Ok head) (first_read read.first journal read.read (omega (arith, count, room))) (size_is _ read.read) read.is_head.says
+
+    front_is : read.first ∷ journal ≡ take (suc head.geometry.journal) image
+    front_is = front_read (read.first ∷ journal) (suc head.geometry.journal) read.read (ap suc read.count) (omega (arith, read.is_head.room))
+        (λ b less. looked_in_place image head says_head b (looked_low head.geometry b (omega (arith, less))))
 
     -- the journal that was read
     pub journal_is : journal_of head.geometry image ≡ journal
@@ -110,7 +132,7 @@ module _ (tells honest : Bool) (before now : Seen) (image : Blocks) (told : IsTr
       empty : (blocks : Blocks) → length blocks ≡ 0 → super_of_image blocks ≡ Err why
       empty [] count = ap Err (sym is)
       empty (block ∷ blocks) count = absurd (omega arith)
-  says_none why (inr (first, some, read, says)) = of_first image first [] before.size 0 (Err why) (front_read (first ∷ []) 1 read refl some) (size_is _ read) says
+  says_none why (inr (first, some, read, says)) = of_first image first [] before.size 0 (Err why) (first_read first [] read some) (size_is _ read) says
 
   pub faulty_journal : (why : ImageFault) → (faulty : HasFaulty (trust tells honest) before now why)
       → (super_of_image image ≡ Ok faulty.head) × CantServe faulty.head (journal_of faulty.head.geometry image) why

@@ -13,14 +13,13 @@ use Rattle.blk_base.specs.declared.request.Writer.{Writer}
 use Rattle.disk_model.specs.Causes.{Rose}
 use Rattle.disk_model.specs.declared.call.Call.{Call}
 use Rattle.disk_model.specs.declared.call.Call.TheVariants.{Flush, Read, Write}
-use Rattle.disk_model.specs.Images.{HasOneImage}
 use Rattle.disk_model.specs.Log.{Blocks}
 use Rattle.disk_model.specs.Seen.{Seen, Stays}
 use Rattle.disk_model.specs.Streams.{SourceSeen}
 use Rattle.disk_model.specs.Since.{IsUntouched, OnlyReads}
-use Rattle.disk_model.proofs.OneImageLaws.{one_image-unique}
 use Rattle.disk_model.proofs.SeenLaws.{stays_on}
-use Rattle.disk_model.proofs.SinceLaws.{image_since}
+use Rattle.disk_model.proofs.SinceLaws.{image_before}
+use Rattle.disk_model.proofs.LookedLaws.{one_in-since}
 use Rattle.image_layout.specs.Opened.{super_of_image}
 use Rattle.image_layout.specs.Values.{journal_of, value_of}
 use Rattle.core_model.specs.declared.sizes.Sizes.{Sizes}
@@ -67,6 +66,8 @@ use Rattle.vdo_cli.specs.Stops.{Happens, OpensWith}
 use Rattle.vdo_cli.specs.Outsides.{input_setting, inputs}
 use Rattle.vdo_cli.proofs.OpeningLaws.{opened_count, opened_serves, says_head}
 use Rattle.vdo_cli.proofs.StopLaws.{same_super, some_blocks}
+use Rattle.image_model.specs.Looked.{HasOneImageButIndex, looked_in}
+use Rattle.image_model.proofs.LookedLaws.{one_by_sizes}
 
 -- what happened before a happening, of a right trace
 right_at : (s : Session) (newer older : Trace) (h : Happening) → RightTrace s (newer ++ h ∷ older) → MayFollow s h older
@@ -193,7 +194,7 @@ module _ (tells honest : Bool) (head : Super) (window : List Entry) (used : ℕ)
 
   -- of an honest device, over the one image that there was
   module _ (image : Blocks) (told : IsTrue tells) (fair : IsTrue honest) (room : needed_blocks head.geometry ≤ length before.opening)
-      (one : HasOneImage before.opening before.log image) (count : length (journal_of head.geometry image) ≡ head.geometry.journal)
+      (one : HasOneImageButIndex before.opening before.log image) (accepted : super_of_image image ≡ Ok head) (count : length (journal_of head.geometry image) ≡ head.geometry.journal)
       (serves : CanServe head (journal_of head.geometry image) window used) where
     abbrev real : Session
     real = record {
@@ -222,7 +223,7 @@ module _ (tells honest : Bool) (head : Super) (window : List Entry) (used : ℕ)
       honest = honest_reads real trace (called.given told fair);
       opened = record {
         room = room;
-        one_image = one;
+        one_image = one_by_sizes image head accepted before.opening before.log image one;
         journal = stands real serves.found.last serves.found.entries can.start.0 count serves.is_window.is_window serves.mapped.0 serves.used_is refl;
       };
     }
@@ -230,12 +231,12 @@ module _ (tells honest : Bool) (head : Super) (window : List Entry) (used : ℕ)
     reads_of_image : ReadsRight (value_of image window) report.requests report.desk report.places report.histories
     reads_of_image = report_reads_right real trace real_session real_legal.right (real_legal.gives_right real_fair)
 
-    stops_of_image : super_of_image image ≡ Ok head → RightAfterStops (OpensWith head) before.opening before.log head.geometry.logical (value_of image window) report (calls trace)
-    stops_of_image says later prefix calls_are other is =
+    stops_of_image : RightAfterStops (OpensWith head) before.opening before.log head.geometry.logical (value_of image window) report (calls trace)
+    stops_of_image later prefix calls_are other is =
         let (values, shows, right) = report_stops_right real trace real_session real_legal.right real_fair later prefix calls_are other is in
         let size : length other ≡ length image = is.size ∙ sym one.size in (
           values,
-          record { superblock = same_super image other (some_blocks image head says) size shows.0 ∙ says; has_values = shows.1 },
+          record { superblock = same_super image other (some_blocks image head accepted) size shows.0 ∙ accepted; has_values = shows.1 },
           right,
         )
 
@@ -252,26 +253,25 @@ module _ (tells honest : Bool) (head : Super) (window : List Entry) (used : ℕ)
           earlier = earlier;
           earlier_is = earlier_is;
           only_reads = reads;
-          stops_early = λ later prefix parts image other one is.
-              one_image-unique start.opening (prefix ++ start.log) image other
-              (image_since start.opening start.log (prefix ++ start.log) image (prefix, refl, reads_behind later prefix (subst OnlyReads parts reads)) one) is;
+          stops_early = λ later prefix parts image is.
+              image_before start.opening start.log prefix image (reads_behind later prefix (subst OnlyReads parts reads)) is;
           lines = refl;
           calls = called.log told;
           flushes = marks_right over trace session legal.right;
         }
 
     -- the image that there was is the one of the session
-    of_start : IsTrue tells → (image : Blocks) → HasOneImage start.opening start.log image → HasOneImage before.opening before.log image
+    of_start : IsTrue tells → (image : Blocks) → HasOneImageButIndex start.opening start.log image → HasOneImageButIndex before.opening before.log image
     of_start told image one =
-        rw untouched.stays.opening (image_since start.opening start.log before.log image (untouched.reads told) one)
+        rw untouched.stays.opening (one_in-since (looked_in image) start.opening start.log before.log image (untouched.reads told) one)
 
-    pub stops_right : IsTrue tells → IsTrue honest → (image : Blocks) → HasOneImage start.opening start.log image
+    pub stops_right : IsTrue tells → IsTrue honest → (image : Blocks) → HasOneImageButIndex start.opening start.log image
         → RightAfterStops (OpensWith head) start.opening before.log head.geometry.logical (value_of image window) report (calls trace)
     stops_right told fair image one =
         rw (← untouched.stays.opening) (stops_of_image image told fair (has_blocks told) (of_start told image one)
+        (says_head tells honest start before image told fair one head opened.journal opened.read)
         (opened_count tells honest start before image told fair one head window used opened)
-        (opened_serves tells honest start before image told fair one head window used opened)
-        (says_head tells honest start before image told fair one head opened.journal opened.read))
+        (opened_serves tells honest start before image told fair one head window used opened))
 
     pub plays : (source_tells : Bool) (schedule state : ℕ) (events : List Event) (source rest : SourceSeen) → Stays before after
         → Drives tells honest (run_sizes head used) schedule state events first last before after trace
@@ -297,6 +297,7 @@ module _ (tells honest : Bool) (head : Super) (window : List Entry) (used : ℕ)
       stays = stays_on start before after untouched.stays stays;
       reads_right = λ told fair image one.
           reads_of_image image told fair (has_blocks told) (of_start told image one)
+          (says_head tells honest start before image told fair one head opened.journal opened.read)
           (opened_count tells honest start before image told fair one head window used opened) (opened_serves tells honest start before image told fair one head window used opened);
       happens = happens;
       stops = stops_right;

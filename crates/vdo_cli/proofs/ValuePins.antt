@@ -6,7 +6,7 @@ use Rattle.blk_base.specs.declared.journal_entry.Entry.{Entry}
 use Rattle.blk_base.specs.declared.request.Answer.TheVariants as reply
 use Rattle.blk_base.specs.declared.request.Request.TheVariants as request
 use Rattle.disk_model.specs.declared.call.Call.{Call}
-use Rattle.disk_model.specs.Images.{HasOneImage, IsImage}
+use Rattle.disk_model.specs.Images.{IsImage}
 use Rattle.disk_model.specs.Log.{Blocks}
 use Rattle.disk_model.specs.Seen.{Seen}
 use Rattle.blk_base.specs.declared.journal_entry.CommittedEntry.{CommittedEntry}
@@ -14,6 +14,7 @@ use Rattle.core_model.specs.Sessions.{said_by}
 use Rattle.image_layout.specs.Values.{journal_of, value_of}
 use Rattle.image_model.specs.Windows.{IsWindow}
 use Rattle.image_model.proofs.WindowLaws.{one_window}
+use Rattle.image_model.specs.Looked.{HasOneImageButIndex}
 use Rattle.core_model.specs.Trace.{calls}
 use Rattle.stop_laws.proofs.HistoryLaws.{length_at_within}
 use Rattle.stream_text.specs.Texts.{answers_text}
@@ -66,7 +67,7 @@ write_report calls = record {
 
 -- A device has this image and nothing is pending on it, and it was opened: address 1 has block 11 there.
 module _ (before opened : Seen) (head : Super) (window : List Entry) (used : ℕ) (is_opened : IsOpened (trust true true) before opened (opening_of head window used))
-    (image : Blocks) (one : HasOneImage before.opening before.log image) (has_value : value_of image window 1 ≡ block 11)
+    (image : Blocks) (one : HasOneImageButIndex before.opening before.log image) (has_value : value_of image window 1 ≡ block 11)
     (below : 1 < head.geometry.logical) where
   -- what was read of it is what the image has
   same_window : (opened' : Seen) (head' : Super) (window' : List Entry) (used' : ℕ) → IsOpened (trust true true) before opened' (opening_of head' window' used') → (head ≡ head') × (window ≡ window')

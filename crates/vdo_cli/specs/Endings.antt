@@ -1,7 +1,6 @@
 -- How a run ends, and why.
 use Rattle.std.specs.Prelude.{ℕ, ◌≡◌, Bool, IsTrue, List, [], Some, None, Ok, Err}
 use Rattle.disk_model.specs.Causes.{Rose}
-use Rattle.disk_model.specs.Images.{HasOneImage}
 use Rattle.disk_model.specs.Log.{Blocks}
 use Rattle.disk_model.specs.Seen.{Seen, Stays}
 use Rattle.disk_model.specs.Streams.{SourceSeen}
@@ -19,6 +18,7 @@ use Rattle.vdo_cli.specs.Openings.{IsOpened, Opening, OpeningFails, Trust}
 use Rattle.vdo_cli.specs.Outsides.{InputSetting, Inputs}
 use Rattle.vdo_cli.specs.Sessions.{IsDriven, IsReported, task}
 use Rattle.vdo_cli.specs.Stops.{Happens, OpensWith}
+use Rattle.image_model.specs.Looked.{HasOneImageButIndex}
 
 -- what a session did, from the superblock on
 pub record Plays (s : InputSetting) (schedule : ℕ) (report : RunReport) (before after : Inputs) : Type 0 where
@@ -36,13 +36,13 @@ pub record Plays (s : InputSetting) (schedule : ℕ) (report : RunReport) (befor
   pub stays : Stays before.device after.device
   -- before the first write of an address in the session, a read of it gives its value in the image that was opened
   pub reads_right : IsTrue s.device.tells → IsTrue s.device.honest → (image : Blocks)
-      → HasOneImage before.device.opening before.device.log image
+      → HasOneImageButIndex before.device.opening before.device.log image
       → ReadsRight (value_of image found.window) report.requests report.desk report.places report.histories
   -- flush marks
   pub happens : IsTrue s.device.tells → Happens (moments trace) report before.device opened after.device
   -- a stop before or within any of the session's calls leaves each address a value no older than its last flushed one
   pub stops : IsTrue s.device.tells → IsTrue s.device.honest → (image : Blocks)
-      → HasOneImage before.device.opening before.device.log image
+      → HasOneImageButIndex before.device.opening before.device.log image
       → RightAfterStops (OpensWith found.head) before.device.opening opened.log found.head.geometry.logical
       (value_of image found.window) report (calls_of (moments trace))
 

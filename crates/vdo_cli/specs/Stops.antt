@@ -2,7 +2,7 @@
 use Rattle.std.specs.Prelude.{ℕ, ◌≡◌, ◌++◌, List, Ok}
 use Rattle.blk_base.specs.declared.geometry.Super.{Super}
 use Rattle.disk_model.specs.declared.call.Call.{Call}
-use Rattle.disk_model.specs.Images.{HasOneImage, IsImage}
+use Rattle.disk_model.specs.Images.{IsImage}
 use Rattle.disk_model.specs.Log.{Blocks}
 use Rattle.disk_model.specs.Seen.{Seen}
 use Rattle.disk_model.specs.Since.{OnlyReads}
@@ -22,9 +22,9 @@ pub record Happens (moments : List Moment) (report : RunReport) (before opened a
   pub earlier : List Call
   pub earlier_is : opened.log ≡ earlier ++ before.log
   pub only_reads : OnlyReads earlier
-  -- a stop before or within any of these reads leaves the image that was there
-  pub stops_early : (later prefix : List Call) → earlier ≡ later ++ prefix → (image other : Blocks) → HasOneImage before.opening before.log image
-      → IsImage before.opening (prefix ++ before.log) other → other ≡ image
+  -- a stop before or within any of these reads leaves an image that was there
+  pub stops_early : (later prefix : List Call) → earlier ≡ later ++ prefix → (image : Blocks) → IsImage before.opening (prefix ++ before.log) image
+      → IsImage before.opening before.log image
   -- the moments are the lines of the desk log and the calls that the device's log has since
   pub lines : lines_of moments ≡ report.desk
   pub calls : after.log ≡ calls_of moments ++ opened.log

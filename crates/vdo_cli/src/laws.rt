@@ -1,6 +1,5 @@
 ghost use Rattle.std.specs.Prelude.{◌≡◌, ◌⊎◌, ℕ, Bool, IsTrue, List, Ok, Err};
 ghost use Rattle.blk_base.specs.declared.geometry.Super.{Super};
-ghost use Rattle.disk_model.specs.Images.{HasOneImage};
 ghost use Rattle.disk_model.specs.Log.{Blocks};
 ghost use Rattle.disk_model.specs.Seen.{Seen};
 ghost use Rattle.image_layout.specs.Opened.{super_of_image};
@@ -8,6 +7,7 @@ ghost use Rattle.image_layout.specs.Values.{journal_of};
 ghost use Rattle.image_layout.specs.declared.fault.SuperFault.{SuperFault};
 ghost use Rattle.image_model.specs.declared.fault.ImageFault.{ImageFault};
 ghost use Rattle.image_model.specs.declared.fault.ImageFault.TheVariants.{Memory};
+ghost use Rattle.image_model.specs.Looked.{HasOneImageButIndex};
 ghost use Rattle.vdo_cli.specs.Onward.{GoesOn};
 ghost use Rattle.vdo_cli.specs.Openings.{CanServe, CantServe, HasFaulty, HasNoImage, IsOpened, Opening, Trust};
 ghost use Rattle.vdo_cli.specs.Outsides.{Outcome, Outside, Setting};
@@ -18,17 +18,17 @@ ghost use Rattle.vdo_cli.specs.Runs.{EndsSo};
 pub fn reads_show_the_image()
     ensures opened { (trust : Trust) (before now : Seen) (image : Blocks) (found : Opening)
         → IsTrue trust.tells → IsTrue trust.honest
-        → HasOneImage before.opening before.log image
+        → HasOneImageButIndex before.opening before.log image
         → IsOpened trust before now found
         → (super_of_image image ≡ Ok found.head)
         × CanServe found.head (journal_of found.head.geometry image) found.window found.used }
     ensures no_image { (trust : Trust) (before now : Seen) (image : Blocks) (why : SuperFault)
         → IsTrue trust.tells → IsTrue trust.honest
-        → HasOneImage before.opening before.log image
+        → HasOneImageButIndex before.opening before.log image
         → HasNoImage trust before now why → super_of_image image ≡ Err why }
     ensures faulty { (trust : Trust) (before now : Seen) (image : Blocks) (why : ImageFault)
         → IsTrue trust.tells → IsTrue trust.honest
-        → HasOneImage before.opening before.log image
+        → HasOneImageButIndex before.opening before.log image
         → HasFaulty trust before now why
         → (head : Super) × (super_of_image image ≡ Ok head)
         × CantServe head (journal_of head.geometry image) why }

@@ -13,7 +13,7 @@
 //! used up (a `start` near 2^54), and one whose window has a new page of the block map. A session knows the entries of
 //! the journal alone, so of one on an image whose block map has mappings nothing is claimed. It doesn't write the
 //! superblock, so the promises of a recovery, which are about sound images, don't cover the images that a session
-//! leaves. Of an image on which writes are pending when it is opened nothing is claimed.
+//! leaves. Of an image on which writes are pending when it is opened nothing is claimed, those of the index aside.
 //!
 //! No rows yet: but through the definitions that use them: `OpensWith`, `NotBegun`, `PlayedOut` and `EndsAs`.
 #![tactic(auto)]

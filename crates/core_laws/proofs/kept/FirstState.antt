@@ -19,6 +19,7 @@ use Rattle.core_model.specs.LogicalRows.{is_among, mapped_by, mapping_at}
 use Rattle.byte_fields.specs.Mappings.{HoldsMapping}
 use Rattle.blk_base.proofs.RegionLaws.{data_block_high, data_block_inside}
 use Rattle.core_laws.proofs.device.DeviceCalls.{blocks_fit, window_data}
+use Rattle.image_model.proofs.LookedLaws.{looked_high, looked_low}
 
 -- sums of what each thing has, as the one is at most the other
 pub total_at_most : {X : Type 0} (f g : X → ℕ) (xs : List X) → Each (λ i x. f x ≤ g x) xs → total f xs ≤ total g xs
@@ -95,18 +96,21 @@ module _ (s : Session) (session : IsSession s) (as_opened : IsAsOpened s) where
   first_stands : (a : ℕ) (m : Mapping) → mapping_of s.window a ≡ m → OnBlock (λ x. Stands s [] x.0 (value_in s.image m)) m
   first_stands a Unmapped e = tt
   first_stands a Zero e = tt
-  first_stands a (At y) e = as_opened.one_image.only y.0 (omega (arith, as_opened.room, data_block_inside s.sizes.geometry y.0 (window_data s a y session e)))
+  first_stands a (At y) e =
+      let is_data = window_data s a y session e in
+      as_opened.one_image.only y.0 (omega (arith, as_opened.room, data_block_inside s.sizes.geometry y.0 is_data))
+      (looked_high s.sizes.geometry y.0 (data_block_high s.sizes.geometry y.0 is_data))
 
   first_blocks : HasWholeBlocks s ⊎ HasNoneLeft s → HasBlocks s [] []
   first_blocks (inl whole) = inl (whole, opened s.blocks s.before s.sizes.geometry s.sizes.start s.image s.sealed (omega (arith, as_opened.room)) as_opened.one_image whole.at_rest)
-  first_blocks (inr none) = inr (record { none = refl; opening = none; same = λ slot below. as_opened.one_image.only (block_of_slot slot) (omega (arith, as_opened.room, below)) })
+  first_blocks (inr none) = inr (record { none = refl; opening = none; same = λ slot below. as_opened.one_image.only (block_of_slot slot) (omega (arith, as_opened.room, below)) (looked_low s.sizes.geometry (block_of_slot slot) (omega (arith, below))) })
 
   at_rest : AtRest s [] []
   at_rest = (first_blocks as_opened.journal, λ a. first_stands a (mapping_of s.window a) refl)
 
   pub shown_at_start : Shown s []
   shown_at_start = record {
-    superblock = as_opened.one_image.only 0 (omega (arith, as_opened.room));
+    superblock = as_opened.one_image.only 0 (omega (arith, as_opened.room)) (looked_low s.sizes.geometry 0 (omega arith));
     journal = inl (record { rest = []; all = refl; stands = at_rest });
     filling = tt;
   }

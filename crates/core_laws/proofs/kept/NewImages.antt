@@ -5,9 +5,9 @@ use Rattle.core_laws.proofs.Common.{Calls, Geometry, IsAsOpened, IsFair, IsSessi
 use Rattle.blk_base.specs.Regions.{needed_blocks}
 use Rattle.blk_base.specs.Sectors.{sector, zero_block}
 use Rattle.blk_base.specs.declared.geometry.Super.{Super}
-use Rattle.disk_model.specs.Images.{HasOneImage}
 use Rattle.disk_model.specs.Log.{block_at}
 use Rattle.disk_model.specs.declared.call.Call.TheVariants.{Read}
+use Rattle.disk_model.specs.OneImages.{HasOneImageIn}
 use Rattle.image_layout.specs.FirstImage.{first_blocks, first_head}
 use Rattle.image_layout.specs.Superblock.{field_bytes, super_block}
 use Rattle.image_layout.specs.Values.{journal_of}
@@ -17,6 +17,7 @@ use Rattle.core_laws.proofs.lists.Zeros.{zeros_length}
 use Rattle.journal_stops.specs.Rings.{IsAtRest}
 use Rattle.journal_stops.proofs.ShownLaws.{begins_anew}
 use Rattle.image_model.proofs.ZeroLaws.{no_journal_sector}
+use Rattle.image_model.specs.Looked.{is_looked_at}
 
 super_whole : (head : Super) → length (super_block head) ≡ 4096
 super_whole head =
@@ -42,8 +43,8 @@ module _ (g : Geometry) where
   large_enough = let count = length-replicate others zero_block in omega (arith, count)
 
   -- it is the one image of its device, and its journal has no block
-  one_image : HasOneImage (first_blocks g) [] (first_blocks g)
-  one_image = record { size = refl; whole = λ b below. block_whole b; only = λ b below. (refl, tt) }
+  one_image : HasOneImageIn (is_looked_at g) (first_blocks g) [] (first_blocks g)
+  one_image = record { size = refl; whole = λ b below. block_whole b; only = λ b below here. (refl, tt) }
 
   journal_zeros : (slot : ℕ) → slot < g.journal → get_or (journal_of g (first_blocks g)) slot zero_block ≡ zero_block
   journal_zeros slot below = get_or-take g.journal (replicate others zero_block) slot zero_block below ∙ zeros_at others slot

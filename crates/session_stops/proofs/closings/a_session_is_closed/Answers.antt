@@ -15,4 +15,4 @@ pub returns-clause-closed : goal.returns-clause-closed
 returns-clause-closed c = λ base to opening log blocks. session_closed opening log base to blocks
 
 pub returns-clause-one : goal.returns-clause-one
-returns-clause-one c = λ base to opening log blocks image some one. (_, closed_one opening log base to blocks image some one)
+returns-clause-one c = λ base to opening log blocks image some looked one. (_, closed_one looked opening log base to blocks image some one)
