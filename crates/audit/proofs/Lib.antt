@@ -2,3 +2,4 @@ pub mod TallyLaws
 pub mod ReportLaws
 pub mod AuditLaws
 pub mod Rows
+mod AcceptedRows

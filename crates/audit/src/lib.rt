@@ -11,8 +11,8 @@
 //! those of linked pages, and each of them once, so that of a device which gives two contents of one block nothing is
 //! said.
 //!
-//! No rows yet: an accepted case of a whole audit (`IsAudited`, `AuditFails`, `BothShow`), and that the map and the
-//! counts are what was read (`AreContents`, `shown`).
+//! No rows yet: an accepted case of a whole audit (`IsAudited`), of why there is none behind a superblock that was read
+//! (`AuditFails`), and that the map and the counts are what was read (`AreContents`, `shown`).
 #![tactic(auto)]
 
 mod auditing;
