@@ -12,8 +12,6 @@
 //! and below it everything was handed out (`first_unhanded` says up to where); a lower one than before changes nothing.
 //!
 //! Only tested: a full ring that waits for its head; one behind an earlier session, whose head stays.
-//!
-//! No rows yet: any of its definitions.
 #![tactic(auto)]
 
 mod entering;
