@@ -106,11 +106,18 @@ pub record IsDrawn (s : Session) (t : Trace) (w : Writer) (asks : Asks) (a place
 abbrev pub IsPlaced : Session → Trace → Vio → Type 0
 IsPlaced s t v = IsDrawn s t v.request v.asks v.at.0 v.place
 
--- one that holds the lock of its address, and knows what is mapped there
-pub record HasLock (s : Session) (t : Trace) (w : Writer) (asks : Asks) (a place : ℕ) (old : Mapping) : Type 0 where
+-- one that holds the lock of its address: all entries there are done, and whatever was done or given there has a lower place
+pub record HasTurn (s : Session) (t : Trace) (w : Writer) (asks : Asks) (a place : ℕ) : Type 0 where
   pub is_placed : IsDrawn s t w asks a place
   pub quiet : Quiet t a
   pub below : AllBelow t a place
+
+abbrev pub IsInTurn : Session → Trace → Vio → Type 0
+IsInTurn s t v = HasTurn s t v.request v.asks v.at.0 v.place
+
+-- and knows what is mapped there
+pub record HasLock (s : Session) (t : Trace) (w : Writer) (asks : Asks) (a place : ℕ) (old : Mapping) : Type 0 where
+  pub turn : HasTurn s t w asks a place
   pub old_held : HoldsMapping old
   -- it knows what its address is mapped to, by the slots that are set
   pub old_is : old ≡ mapping_of (entries_of s.window (done t)) a
@@ -173,6 +180,7 @@ IsToInside s other = ⊥
 abbrev pub Carries : Session → Trace → Vio → Phase → Type 0
 Carries s t v phase.Arrive = IsUndrawn t v.request v.asks
 Carries s t v phase.Wait = IsPlaced s t v × (has_taken t v.request ≡ false)
+Carries s t v phase.Look = IsInTurn s t v × (has_taken t v.request ≡ false)
 Carries s t v phase.Claim = Holds s t v × (v.asks ≡ Write) × NeedsBlock t v.request v.bytes
 Carries s t v phase.Store = Holds s t v × (v.asks ≡ Write) × IsToFresh s v.new
 Carries s t v phase.Enter = Holds s t v × MapsTo v.asks v.bytes v.new × OnBlock (IsFresh s) v.new × (IsFair s t → OnBlock (λ x. ReadsAs s t x.0 v.bytes) v.new)

@@ -117,17 +117,17 @@ passed_to a l (Some v) = record l { held = lock_of v ∷ without a l.held; waiti
 abbrev pub released : ℕ → LogicalZone → LogicalZone
 released a l = passed_to a l (first_for a l.waiting)
 
--- what is posted for the one that gets it, where somebody does
-abbrev pub only_post : Option Post → Option (List Post)
-only_post None = None
-only_post (Some post) = Some (post ∷ [])
+-- whoever gets the lock of an address looks up what is mapped there
+abbrev pub looks_up : Vio → Post
+looks_up v = (v.home, item.Request (turned phase.Look v))
 
-abbrev pub passes_on : Sizes → LogicalZone → Option Vio → Option (List Post)
-passes_on sizes l None = Some []
-passes_on sizes l (Some v) = only_post (goes_on sizes l v)
+-- so does the one that it is passed on to, where somebody waits
+abbrev pub passes_on : Option Vio → List Post
+passes_on None = []
+passes_on (Some v) = looks_up v ∷ []
 
-abbrev pub granted : Sizes → ℕ → LogicalZone → Option (List Post)
-granted sizes a l = passes_on sizes l (first_for a l.waiting)
+abbrev pub granted : ℕ → LogicalZone → List Post
+granted a l = passes_on (first_for a l.waiting)
 
 -- The lock of an address is never released: nobody waits for it any more.
 abbrev pub retire : ℕ → LogicalZone → LogicalZone
@@ -147,28 +147,32 @@ pub data LogicalServes (sizes : Sizes) (old : LogicalZone) (v : Vio) (new : Logi
       → new ≡ drawn_by old v → made ≡ Draws (place_of_vio old v) ∷ []
       → posts ≡ (id.Desk, item.Request (ended phase.Reply reply.Stopped (placed old v))) ∷ []
       → LogicalServes sizes old v new made posts
-  arrives_free : (post : Post) → v.phase ≡ phase.Arrive → is_among v.at.0 old.retired ≡ false → is_held v.at.0 old.held ≡ false → goes_on sizes old (placed old v) ≡ Some post
+  arrives_free : v.phase ≡ phase.Arrive → is_among v.at.0 old.retired ≡ false → is_held v.at.0 old.held ≡ false
       → new ≡ record (drawn_by old v) { held = lock_of (placed old v) ∷ old.held } → made ≡ Draws (place_of_vio old v) ∷ []
-      → posts ≡ post ∷ []
+      → posts ≡ looks_up (placed old v) ∷ []
       → LogicalServes sizes old v new made posts
   arrives_held : v.phase ≡ phase.Arrive → is_among v.at.0 old.retired ≡ false → is_held v.at.0 old.held ≡ true
       → new ≡ record (drawn_by old v) { waiting = old.waiting ++ turned phase.Wait (placed old v) ∷ [] } → made ≡ Draws (place_of_vio old v) ∷ []
       → posts ≡ []
       → LogicalServes sizes old v new made posts
+  -- it has the lock: what is mapped at its address says where it goes
+  looks : (post : Post) → v.phase ≡ phase.Look → goes_on sizes old v ≡ Some post
+      → new ≡ old → made ≡ [] → posts ≡ post ∷ []
+      → LogicalServes sizes old v new made posts
   -- its slot is set
-  settles : (more : List Post) → v.phase ≡ phase.Settle → granted sizes v.at.0 (with_slot old v) ≡ Some more
+  settles : v.phase ≡ phase.Settle
       → new ≡ released v.at.0 (with_slot old v) → made ≡ Sets (logged v) ∷ []
-      → posts ≡ (id.Desk, item.Request (ended phase.Reply reply.Ok v)) ∷ more
+      → posts ≡ (id.Desk, item.Request (ended phase.Reply reply.Ok v)) ∷ granted v.at.0 old
       → LogicalServes sizes old v new made posts
   -- it is given its bytes
-  gives : (more : List Post) → v.phase ≡ phase.Loaded → granted sizes v.at.0 old ≡ Some more
+  gives : v.phase ≡ phase.Loaded
       → new ≡ released v.at.0 old → made ≡ Gives (gift v) ∷ []
-      → posts ≡ (id.Desk, item.Request (ended phase.Reply (reply.Bytes v.bytes) v)) ∷ more
+      → posts ≡ (id.Desk, item.Request (ended phase.Reply (reply.Bytes v.bytes) v)) ∷ granted v.at.0 old
       → LogicalServes sizes old v new made posts
   -- it is aborted
-  aborts : (more : List Post) → v.phase ≡ phase.Abort → granted sizes v.at.0 old ≡ Some more
+  aborts : v.phase ≡ phase.Abort
       → new ≡ released v.at.0 old → made ≡ []
-      → posts ≡ (id.Desk, item.Request (turned phase.Reply v)) ∷ more
+      → posts ≡ (id.Desk, item.Request (turned phase.Reply v)) ∷ granted v.at.0 old
       → LogicalServes sizes old v new made posts
   -- it is aborted with its entry handed in
   aborts_entered : v.phase ≡ phase.AbortEntered

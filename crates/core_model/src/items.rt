@@ -18,6 +18,8 @@ pub enum Phase {
     Arrive,
     /// Logical: it has its place, and waits for the lock.
     Wait,
+    /// Logical: it has the lock of its address, and what is mapped there says where it goes.
+    Look,
     /// Physical: a write takes a free data block.
     Claim,
     /// Device: the data of a write is written to its block.
@@ -60,9 +62,9 @@ pub struct Vio {
     pub bytes: Block,
     /// The number that it drew in its logical zone.
     pub place: u64,
-    /// The mapping of its address when it took the lock.
+    /// What its address was mapped to when that was looked up.
     pub old: Mapping,
-    /// The last write of its address that was done in this session when it took the lock.
+    /// The last write of its address that was done in this session by then.
     pub latest: Option<Logged>,
     /// What a write or a discard maps its address to: the data block that it has taken, or none; `Unmapped` until that is
     /// known.

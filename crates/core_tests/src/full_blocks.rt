@@ -43,7 +43,7 @@ const ADDRESSES: u32 = WRITES / 2;
 const UNFLUSHED: u32 = 6;
 
 /// A block of the journal has many entries from so many on.
-const MANY: usize = 8;
+const MANY: usize = 4;
 
 /// Each call of so many is one at which the device is stopped.
 const EACH: u64 = 7;

@@ -7,7 +7,7 @@ use Rattle.core_model.specs.declared.sizes.Sizes.{Sizes}
 use Rattle.core_model.specs.declared.zones.ZoneData.TheVariants as at
 use Rattle.core_model.specs.LogicalData.{LogicalZone}
 use Rattle.core_model.specs.LogicalRows.{LogicalServes}
-use Rattle.core_model.specs.LogicalRows.LogicalServes.{arrives_retired, arrives_free, arrives_held, settles, gives, aborts, aborts_entered}
+use Rattle.core_model.specs.LogicalRows.LogicalServes.{arrives_retired, arrives_free, arrives_held, looks, settles, gives, aborts, aborts_entered}
 use Rattle.core_model.specs.Steps.{Act}
 use Rattle.core_model.specs.Steps.Act.{serves, serves_notice}
 use Rattle.core_model.specs.Trace.{Trace}
@@ -18,11 +18,12 @@ use Rattle.step_parts.proofs.SilentLaws.{Silent, none_called, silent}
 
 makes_no_call : (sizes : Sizes) (old new : LogicalZone) (v : Vio) (made : Trace) (posts : List Post) → LogicalServes sizes old v new made posts → Silent made
 makes_no_call sizes old new v made posts (arrives_retired h1 h2 h3 is h5) = silent _ _ is refl refl refl
-makes_no_call sizes old new v made posts (arrives_free post h1 h2 h3 h4 h5 is h7) = silent _ _ is refl refl refl
+makes_no_call sizes old new v made posts (arrives_free h1 h2 h3 h4 is h6) = silent _ _ is refl refl refl
 makes_no_call sizes old new v made posts (arrives_held h1 h2 h3 h4 is h6) = silent _ _ is refl refl refl
-makes_no_call sizes old new v made posts (settles more h1 h2 h3 is h5) = silent _ _ is refl refl refl
-makes_no_call sizes old new v made posts (gives more h1 h2 h3 is h5) = silent _ _ is refl refl refl
-makes_no_call sizes old new v made posts (aborts more h1 h2 h3 is h5) = silent _ _ is refl refl refl
+makes_no_call sizes old new v made posts (looks post h1 h2 h3 is h5) = silent _ _ is refl refl refl
+makes_no_call sizes old new v made posts (settles h1 h2 is h4) = silent _ _ is refl refl refl
+makes_no_call sizes old new v made posts (gives h1 h2 is h4) = silent _ _ is refl refl refl
+makes_no_call sizes old new v made posts (aborts h1 h2 is h4) = silent _ _ is refl refl refl
 makes_no_call sizes old new v made posts (aborts_entered h1 h2 is h4) = silent _ _ is refl refl refl
 
 pub acts : (sizes : Sizes) (old new : LogicalZone) (v : Vio) (posts : List Post)

@@ -2,19 +2,11 @@
 use Rattle.std.proofs.Common.{ℕ, ◌≡◌, ◌+◌, false, Option, None, Some, List, [], ◌∷◌, length, refl, ap, sym, ◌∙◌, arith, inl, inr}
 use Rattle.std.proofs.lemmas.Bool.{eq-eqb}
 use Rattle.std.proofs.lemmas.Option.{same_Some}
-use Rattle.blk_base.specs.declared.place.Mapping.{Mapping}
-use Rattle.blk_base.specs.declared.place.Mapping.TheVariants.{Unmapped, Zero, At}
 use Rattle.std.proofs.lemmas.Bool.Decides.{eqb_tells}
-use Rattle.core_model.specs.LogicalRows.{all_for, but_first_for, drawn_by, first_for, goes_on, is_held, lock_of, looked, mapping_at, next_for, none_for, passed_to, placed, read_next, released, without}
-use Rattle.core_model.specs.Vios.{Post, turned}
+use Rattle.core_model.specs.LogicalRows.{all_for, but_first_for, first_for, is_held, none_for, passed_to, released, without}
 use Rattle.core_model.specs.Waiters.{IsFree}
-use Rattle.core_model.specs.declared.items.Asks.{Asks}
-use Rattle.core_model.specs.declared.items.Asks.TheVariants.{Read, Write, Discard, Flush}
-use Rattle.core_model.specs.declared.items.Phase.{Phase}
-use Rattle.core_model.specs.declared.items.Phase.TheVariants as phase
 use Rattle.core_model.specs.declared.items.Vio.{Vio}
 use Rattle.core_model.specs.LogicalData.{Lock, LogicalZone}
-use Rattle.core_model.specs.declared.sizes.Sizes.{Sizes}
 
 -- where nobody waits for it, all wait for others
 pub nobody : (a : ℕ) (vs : List Vio) → first_for a vs ≡ None → (all_for a vs ≡ []) × (none_for a vs ≡ vs) × (but_first_for a vs ≡ vs)
@@ -50,21 +42,6 @@ fewer_wait a (w ∷ vs) v some = elim (eqb_tells w.at.0 a) [
   | inl here ↦ rw here.0 (omega arith)
   | inr there ↦ let rest = fewer_wait a vs v (rw there.0 at some) in rw there.0 (omega (arith, rest))
 ]
-
--- where a request goes that has its lock doesn't depend on its phase, nor on who else has one
-read_any_phase : (sizes : Sizes) (l : LogicalZone) (v : Vio) (q : Phase) (m : Mapping) → read_next sizes l (looked l (turned q v)) m ≡ read_next sizes l (looked l v) m
-read_any_phase sizes l v q (At x) = refl
-read_any_phase sizes l v q Unmapped = refl
-read_any_phase sizes l v q Zero = refl
-
-any_phase : (sizes : Sizes) (l : LogicalZone) (v : Vio) (q : Phase) (a : Asks) → next_for sizes l (turned q v) a ≡ next_for sizes l v a
-any_phase sizes l v q Read = ap (λ (p : Post). Some p) (read_any_phase sizes l v q (mapping_at l v.at.0))
-any_phase sizes l v q Write = refl
-any_phase sizes l v q Discard = refl
-any_phase sizes l v q Flush = refl
-
-pub goes_as_holder : (sizes : Sizes) (l : LogicalZone) (v : Vio) → goes_on sizes (record (drawn_by l v) { held = lock_of (placed l v) ∷ l.held }) (turned phase.Wait (placed l v)) ≡ goes_on sizes l (placed l v)
-goes_as_holder sizes l v = any_phase sizes l (placed l v) phase.Wait v.asks
 
 -- The zone while those that wait for an address come out, and when all have.
 abbrev pub emptied : ℕ → LogicalZone → LogicalZone

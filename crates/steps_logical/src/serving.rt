@@ -98,45 +98,51 @@ fn goes_on(sizes: &Sizes, zone: &LogicalZone, vio: BoxedVio) -> Option<(ZoneId, 
     }
 }
 
-// The lock of an address goes to the first that waits for it, or is released.
-fn release(sizes: &Sizes, zone: &mut LogicalZone, at: Lba, posts: &mut Posts) -> Result<(), Stray>
-    requires { length posts.old ≤ 1 }
-    ensures zone { OnOk result (zone.new ≡ rows.released at.0 zone.old) }
-    ensures posts { OnOk result ((more : List Post) × (rows.granted sizes.now at.0 zone.old ≡ Some more) × (posts.new ≡ posts.old ++ more)) }
-    ensures err { OnErr result (rows.granted sizes.now at.0 zone.old ≡ None) }
+// Whoever gets the lock of an address looks up what is mapped there.
+fn look_up(vio: BoxedVio) -> (ZoneId, Item)
+    ensures { result ≡ rows.looks_up vio }
 {
-    let Some(vio) = zone.release(at) else {
-        return Ok(());
-    };
-    let Some((to, item)) = goes_on(sizes, zone, vio) else {
-        return Err(Stray);
-    };
-    posts.push(to, item);
-    Ok(())
+    let home = vio.get().home;
+    let looks = vio.turn(Phase::Look);
+    (home, Item::Request(looks))
+}
+
+// The lock of an address goes to the first that waits for it, or is released.
+fn release(zone: &mut LogicalZone, at: Lba, posts: &mut Posts)
+    requires { length posts.old ≤ 1 }
+    ensures zone { zone.new ≡ rows.released at.0 zone.old }
+    ensures posts { posts.new ≡ posts.old ++ rows.granted at.0 zone.old }
+{
+    if let Some(vio) = zone.release(at) {
+        let (to, item) = look_up(vio);
+        posts.push(to, item);
+    }
 }
 
 // A request draws its place, and takes the lock of its address or waits for it.
-fn arrive(
-    sizes: &Sizes,
-    zone: &mut LogicalZone,
-    vio: BoxedVio,
-    posts: &mut Posts,
-) -> Result<(), Stray>
+fn arrive(sizes: &Sizes, zone: &mut LogicalZone, vio: BoxedVio, posts: &mut Posts)
     requires phase { vio.phase ≡ phase.Arrive }
     requires within { IsLogicalWithin (2 ^ 64 - 2) zone.old }
     requires none { posts.old ≡ [] }
-    ensures ok { OnOk result (rows.LogicalServes sizes.now zone.old vio zone.new (Draws (rows.place_of_vio zone.old vio) ∷ []) posts.new) }
-    ensures err { OnErr result (NoRule (rows.LogicalServes sizes.now zone.old vio)) }
+    ensures { rows.LogicalServes sizes.now zone.old vio zone.new (Draws (rows.place_of_vio zone.old vio) ∷ []) posts.new }
 {
     if zone.is_retired(vio.get().at) {
         let stopped = zone.draw(vio).end(Phase::Reply, Answer::Stopped);
         posts.first(ZoneId::Desk, Item::Request(stopped));
-        return Ok(());
+    } else if let Some(holder) = zone.ask(vio) {
+        let (to, item) = look_up(holder);
+        posts.first(to, item);
     }
-    let Some(holder) = zone.ask(vio) else {
-        return Ok(());
-    };
-    let Some((to, item)) = goes_on(sizes, zone, holder) else {
+}
+
+// It has the lock: what is mapped at its address says where it goes.
+fn go_on(sizes: &Sizes, zone: &LogicalZone, vio: BoxedVio, posts: &mut Posts) -> Result<(), Stray>
+    requires phase { vio.phase ≡ phase.Look }
+    requires none { posts.old ≡ [] }
+    ensures ok { OnOk result (rows.LogicalServes sizes.now zone.now vio zone.now [] posts.new) }
+    ensures err { OnErr result (NoRule (rows.LogicalServes sizes.now zone.now vio)) }
+{
+    let Some((to, item)) = goes_on(sizes, zone, vio) else {
         return Err(Stray);
     };
     posts.first(to, item);
@@ -144,17 +150,11 @@ fn arrive(
 }
 
 // The entry of a write is committed: its slot is set, and the lock released.
-fn settle(
-    sizes: &Sizes,
-    zone: &mut LogicalZone,
-    vio: BoxedVio,
-    posts: &mut Posts,
-) -> Result<(), Stray>
+fn settle(sizes: &Sizes, zone: &mut LogicalZone, vio: BoxedVio, posts: &mut Posts)
     requires phase { vio.phase ≡ phase.Settle }
     requires within { IsLogicalWithin (2 ^ 64 - 2) zone.old }
     requires none { posts.old ≡ [] }
-    ensures ok { OnOk result (rows.LogicalServes sizes.now zone.old vio zone.new (Sets (vios.logged vio) ∷ []) posts.new) }
-    ensures err { OnErr result (NoRule (rows.LogicalServes sizes.now zone.old vio)) }
+    ensures { rows.LogicalServes sizes.now zone.old vio zone.new (Sets (vios.logged vio) ∷ []) posts.new }
 {
     let at = vio.get().at;
     zone.set(vio.logged());
@@ -162,21 +162,15 @@ fn settle(
         ZoneId::Desk,
         Item::Request(vio.end(Phase::Reply, Answer::Ok)),
     );
-    release(sizes, zone, at, posts)
+    release(zone, at, posts);
 }
 
 // A read is given its bytes, and the lock is released.
-fn give(
-    sizes: &Sizes,
-    zone: &mut LogicalZone,
-    vio: BoxedVio,
-    posts: &mut Posts,
-) -> Result<(), Stray>
+fn give(sizes: &Sizes, zone: &mut LogicalZone, vio: BoxedVio, posts: &mut Posts)
     requires phase { vio.phase ≡ phase.Loaded }
     requires within { IsLogicalWithin (2 ^ 64 - 2) zone.old }
     requires none { posts.old ≡ [] }
-    ensures ok { OnOk result (rows.LogicalServes sizes.now zone.old vio zone.new (Gives (vios.gift vio) ∷ []) posts.new) }
-    ensures err { OnErr result (NoRule (rows.LogicalServes sizes.now zone.old vio)) }
+    ensures { rows.LogicalServes sizes.now zone.old vio zone.new (Gives (vios.gift vio) ∷ []) posts.new }
 {
     let at = vio.get().at;
     let mut bytes = Block::zero();
@@ -185,25 +179,19 @@ fn give(
         ZoneId::Desk,
         Item::Request(vio.end(Phase::Reply, Answer::Bytes(bytes))),
     );
-    release(sizes, zone, at, posts)
+    release(zone, at, posts);
 }
 
 // A request is aborted, and the lock is released.
-fn abort(
-    sizes: &Sizes,
-    zone: &mut LogicalZone,
-    vio: BoxedVio,
-    posts: &mut Posts,
-) -> Result<(), Stray>
+fn abort(sizes: &Sizes, zone: &mut LogicalZone, vio: BoxedVio, posts: &mut Posts)
     requires phase { vio.phase ≡ phase.Abort }
     requires within { IsLogicalWithin (2 ^ 64 - 2) zone.old }
     requires none { posts.old ≡ [] }
-    ensures ok { OnOk result (rows.LogicalServes sizes.now zone.old vio zone.new [] posts.new) }
-    ensures err { OnErr result (NoRule (rows.LogicalServes sizes.now zone.old vio)) }
+    ensures { rows.LogicalServes sizes.now zone.old vio zone.new [] posts.new }
 {
     let at = vio.get().at;
     posts.first(ZoneId::Desk, Item::Request(vio.turn(Phase::Reply)));
-    release(sizes, zone, at, posts)
+    release(zone, at, posts);
 }
 
 // A write whose entry was handed in is aborted: the lock of its address is never released.
@@ -234,15 +222,14 @@ pub(crate) fn serve_logical(
     let phase = vio.get().phase;
     match phase {
         Phase::Arrive => arrive(sizes, zone, vio, posts),
+        Phase::Look => return go_on(sizes, zone, vio, posts),
         Phase::Settle => settle(sizes, zone, vio, posts),
         Phase::Loaded => give(sizes, zone, vio, posts),
         Phase::Abort => abort(sizes, zone, vio, posts),
-        Phase::AbortEntered => {
-            abort_entered(sizes, zone, vio, posts);
-            Ok(())
-        }
-        _ => Err(Stray),
+        Phase::AbortEntered => abort_entered(sizes, zone, vio, posts),
+        _ => return Err(Stray),
     }
+    Ok(())
 }
 
 /// The session is stopped: a logical zone passes the notice on.

@@ -126,7 +126,7 @@ module _ {s : Session} {t : Trace} {n : ℕ} {old : DeviceZone} {v : Vio} (known
   load_value x bytes is from fair =
       let carries = in_phase known phase.Load is in
       let maps = ap (λ o. mapped_by o (mapping_of s.window v.at.0)) carries.0.latest ∙ sym (mapping_by s.window (done t) v.at.0) ∙ sym carries.0.held.old_is ∙ from in
-      read_value s t known.session known.right (fair_before s (Calls (call.Read x bytes true)) t fair) v.at.0 v.latest x bytes carries.0.held.quiet carries.0.latest maps fair.honest.0 fair.honest.1 ∙ ap (value_from s v.at.0) carries.0.latest
+      read_value s t known.session known.right (fair_before s (Calls (call.Read x bytes true)) t fair) v.at.0 v.latest x bytes carries.0.held.turn.quiet carries.0.latest maps fair.honest.0 fair.honest.1 ∙ ap (value_from s v.at.0) carries.0.latest
 
   pub device_serves : (new : DeviceZone) (made : Trace) (posts : List Post) → DeviceServes s.sizes old v new made posts → ActKept s t n (at.Device old) (item.Request v ∷ []) (at.Device new) made posts
   device_serves new made posts (device.stores x is to runs inside e m p) =
@@ -170,7 +170,7 @@ module _ {s : Session} {t : Trace} {n : ℕ} {old : DeviceZone} {v : Vio} (known
       let k = looks_kept s h t v tt tt (in_phase known phase.Load is).0 in
       let may : FailureMayFollow s v.request c t = record { is_open = (vio_ok known).is_open; fails = refl; goes_on = λ (writes : true ≡ false). absurd cc; made_for = made_for x bytes false is from } in
       rw (e, m, p) (act_one known h (quiet c failed (λ x. tt)) (λ g fair. g (fair_before s h t fair)) (quiet_call s t c failed may (λ x. tt) known.right) (after_failure known.own v.request c kept old.stopped refl known.own.lists.stopped_is)
-      ((home, (vio_kept s h t v tt (vio_ok known), (k.held, cause_fault s (h ∷ t) v.request v.asks v.at v.bytes k.is_read (some_is _ _ k.held.is_placed.placed) (rw (same_self v.request) refl)), refl)), tt))
+      ((home, (vio_kept s h t v tt (vio_ok known), (k.held, cause_fault s (h ∷ t) v.request v.asks v.at v.bytes k.is_read (some_is _ _ k.held.turn.is_placed.placed) (rw (same_self v.request) refl)), refl)), tt))
   device_serves new made posts (device.flushes is runs e m p) =
       let c = call.Flush true in
       let h = Calls c in

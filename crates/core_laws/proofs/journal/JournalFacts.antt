@@ -65,10 +65,10 @@ home_within s t v session ok =
 module _ (s : Session) (t : Trace) where
   -- a write or a discard that holds its lock is aborted
   pub stopped_post : (v : Vio) → RightTrace s t → has_stopped t ≡ true → VioOk s t v → Holds s t v → IsChange v.asks → PostOk s t (refused s.sizes reply.Stopped v)
-  stopped_post v right stopped ok k is = (omega arith, (ok, (k, may_stop s t v is stopped k.is_placed.placed (unentered_slot s t v.request right k.is_placed.not_entered)), refl))
+  stopped_post v right stopped ok k is = (omega arith, (ok, (k, may_stop s t v is stopped k.turn.is_placed.placed (unentered_slot s t v.request right k.turn.is_placed.not_entered)), refl))
 
   pub full_post : (v : Vio) → HasFullJournal s t → VioOk s t v → Holds s t v → IsChange v.asks → PostOk s t (refused s.sizes reply.Full v)
-  full_post v full ok k is = (omega arith, (ok, (k, may_fill s t v is k.is_placed full), refl))
+  full_post v full ok k is = (omega arith, (ok, (k, may_fill s t v is k.turn.is_placed full), refl))
 
   -- all that wait do
   pub stopped_posts : (vs : List Vio) → RightTrace s t → has_stopped t ≡ true → AllByRecursion (KeptOk s t phase.Enter) vs → AllByRecursion (PostOk s t) (all_refused s.sizes reply.Stopped vs)
@@ -145,14 +145,14 @@ module _ (s : Session) (t : Trace) (v : Vio) (right : RightTrace s t) (ok : VioO
   enter_right = (
     record {
       is_open = ok.is_open;
-      is_write = record { asks = v.asks; bytes = v.bytes; asked = ok.asked; maps = carries.1; placed = carries.0.is_placed.placed };
-      once = carries.0.is_placed.not_entered;
-      quiet = carries.0.quiet;
-      below = carries.0.below;
+      is_write = record { asks = v.asks; bytes = v.bytes; asked = ok.asked; maps = carries.1; placed = carries.0.turn.is_placed.placed };
+      once = carries.0.turn.is_placed.not_entered;
+      quiet = carries.0.turn.quiet;
+      below = carries.0.turn.below;
       left = left;
       room = room;
       new_data = on_each v.new (λ x to fresh. fresh.is_data) carries.2;
-      old_is = carries.0.old_is ∙ mapping_same s.window (done t) (committed t) v.at.0 (sym carries.0.quiet.all_done);
+      old_is = carries.0.old_is ∙ mapping_same s.window (done t) (committed t) v.at.0 (sym carries.0.turn.quiet.all_done);
     },
     shown_on,
     right,
@@ -164,13 +164,13 @@ module _ (s : Session) (t : Trace) (v : Vio) (right : RightTrace s t) (ok : VioO
     record {
       is_entered = record {
         is_change = maps_change v.asks v.bytes v.new carries.1;
-        placed = carries.0.is_placed.placed;
+        placed = carries.0.turn.is_placed.placed;
         entry = rw (same_self v.request) refl;
-        unset = unentered_slot s t v.request right carries.0.is_placed.not_entered;
-        unaborted = unentered_abort s t v.request right carries.0.is_placed.not_entered;
+        unset = unentered_slot s t v.request right carries.0.turn.is_placed.not_entered;
+        unaborted = unentered_abort s t v.request right carries.0.turn.is_placed.not_entered;
       };
-      pending = record { last = of_same (logged v) (entered t) ∙ ap (λ es. logged v ∷ es) carries.0.quiet.all_committed; others = carries.0.quiet.all_done };
-      below = record { writes = carries.0.below.writes; reads = carries.0.below.reads };
+      pending = record { last = of_same (logged v) (entered t) ∙ ap (λ es. logged v ∷ es) carries.0.turn.quiet.all_committed; others = carries.0.turn.quiet.all_done };
+      below = record { writes = carries.0.turn.below.writes; reads = carries.0.turn.below.reads };
       maps = carries.1;
       fresh = carries.2;
       old_held = carries.0.old_held;

@@ -17,7 +17,7 @@ use Rattle.core_model.specs.DeviceRows.{DeviceServes, DeviceWorks, stop_notices}
 use Rattle.core_model.specs.JournalRows as journal
 use Rattle.core_model.specs.JournalRows.{PhysicalServes, JournalServes, JournalEnds, all_again, all_dropped, all_refused}
 use Rattle.core_model.specs.LogicalRows as logical
-use Rattle.core_model.specs.LogicalRows.{LogicalServes, goes_on, read_next, looked, mapping_at, first_for, all_for, all_stopped, with_slot, placed, place_of_vio}
+use Rattle.core_model.specs.LogicalRows.{LogicalServes, goes_on, passes_on, read_next, looked, mapping_at, first_for, all_for, all_stopped, placed, place_of_vio}
 use Rattle.core_model.specs.Legal.{ComesAfter}
 use Rattle.core_model.specs.Steps.{Act}
 use Rattle.core_model.specs.Steps as steps
@@ -25,7 +25,7 @@ use Rattle.core_model.specs.Streams.{counted}
 use Rattle.core_laws.proofs.desk.DeskFacts.{begun_now}
 use Rattle.core_laws.proofs.kept.ActKept.{unborn_place}
 use Rattle.core_laws.proofs.kept.Streams.{Keeps, items_to}
-use Rattle.core_laws.proofs.tokens.Posts.{goes_by, IsGranted, nobody, somebody, is_granted}
+use Rattle.core_laws.proofs.tokens.Posts.{goes_by}
 use Rattle.core_laws.proofs.tokens.Known.{IsIn, KeptIn}
 use Rattle.core_laws.proofs.trace.Growth.{begun_stays}
 use Rattle.core_laws.proofs.trace.PlacesOfTrace.{cause_placed}
@@ -51,9 +51,9 @@ goes_still sizes l v post goes = goes_by Still sizes l v post goes (λ reads. re
     read Zero = refl
     read (At x) = refl
 
-passes_still : (sizes : Sizes) (l : LogicalZone) (o : Option Vio) (more : List Post) → IsGranted sizes l o more → AllByRecursion Still more
-passes_still sizes l None more nobody = tt
-passes_still sizes l (Some v) more (somebody u post goes) = (goes_still sizes l v post goes, tt)
+passes_still : (o : Option Vio) → AllByRecursion Still (passes_on o)
+passes_still None = tt
+passes_still (Some v) = (refl, tt)
 
 stopped_still : (vs : List Vio) → AllByRecursion Still (all_stopped vs)
 stopped_still [] = tt
@@ -114,11 +114,12 @@ pub data Course (s : Session) (t : Trace) (old : ZoneData) (front : List Item) (
 module _ (s : Session) (t : Trace) where
   logical_course : (old : LogicalZone) (v : Vio) (new : LogicalZone) (made : Trace) (posts : List Post) → LogicalServes s.sizes old v new made posts → Course s t (at.Logical old) (item.Request v ∷ []) made posts
   logical_course old v new made posts (logical.arrives_retired p d n m q) = draws old v refl refl p (rw q (refl, tt)) (rw m refl) (λ zone. rw m refl)
-  logical_course old v new made posts (logical.arrives_free post p d f goes n m q) = draws old v refl refl p (rw q (goes_still s.sizes old (placed old v) post goes, tt)) (rw m refl) (λ zone. rw m refl)
+  logical_course old v new made posts (logical.arrives_free p d f n m q) = draws old v refl refl p (rw q (refl, tt)) (rw m refl) (λ zone. rw m refl)
   logical_course old v new made posts (logical.arrives_held p d f n m q) = draws old v refl refl p (rw q tt) (rw m refl) (λ zone. rw m refl)
-  logical_course old v new made posts (logical.settles more p grants n m q) = still (past v p) (rw q (refl, passes_still s.sizes (with_slot old v) (first_for v.at.0 old.waiting) more (is_granted s.sizes (with_slot old v) (first_for v.at.0 old.waiting) more grants))) (rw m refl) (λ zone. rw m refl)
-  logical_course old v new made posts (logical.gives more p grants n m q) = still (past v p) (rw q (refl, passes_still s.sizes old (first_for v.at.0 old.waiting) more (is_granted s.sizes old (first_for v.at.0 old.waiting) more grants))) (rw m refl) (λ zone. rw m refl)
-  logical_course old v new made posts (logical.aborts more p grants n m q) = still (past v p) (rw q (refl, passes_still s.sizes old (first_for v.at.0 old.waiting) more (is_granted s.sizes old (first_for v.at.0 old.waiting) more grants))) (rw m refl) (λ zone. rw m refl)
+  logical_course old v new made posts (logical.looks post p goes n m q) = still (past v p) (rw q (goes_still s.sizes old v post goes, tt)) (rw m refl) (λ zone. rw m refl)
+  logical_course old v new made posts (logical.settles p n m q) = still (past v p) (rw q (refl, passes_still (first_for v.at.0 old.waiting))) (rw m refl) (λ zone. rw m refl)
+  logical_course old v new made posts (logical.gives p n m q) = still (past v p) (rw q (refl, passes_still (first_for v.at.0 old.waiting))) (rw m refl) (λ zone. rw m refl)
+  logical_course old v new made posts (logical.aborts p n m q) = still (past v p) (rw q (refl, passes_still (first_for v.at.0 old.waiting))) (rw m refl) (λ zone. rw m refl)
   logical_course old v new made posts (logical.aborts_entered p n m q) = still (past v p) (rw q (refl, stopped_still (all_for v.at.0 old.waiting))) (rw m refl) (λ zone. rw m refl)
 
   physical_course : (old : PhysicalZone) (v : Vio) (new : PhysicalZone) (made : Trace) (posts : List Post) → PhysicalServes s.sizes old v new made posts → Course s t (at.Physical old) (item.Request v ∷ []) made posts

@@ -1,6 +1,6 @@
 -- What requests and sealed blocks carry stays where the next happening is about something else.
 use Rattle.std.proofs.Common.{◌≡◌, ℕ, ◌≤◌, Bool, true, false, Option, None, Some, List, [], ◌∷◌, ◌++◌, refl, ap, sym, ◌∙◌, subst, arith}
-use Rattle.core_laws.proofs.Common.{AllByRecursion, Answer, BlockOk, Carries, Happening, HasCause, Holds, IsEarned, IsEntered, IsPlaced, IsSealed, IsUndrawn, Item, ItemOk, KeptOk, Logged, Looks, MayReply, Pbn, Phase, Request, SealedBlock, Session, Stage, StandsAt, Trace, Vio, VioOk, Writer, all_logged, all_of, done, entered, fair_before, gift_of, gifts, has_taken, holds, logged, logged_of, newest, place_of, places, request_of, sealed, total}
+use Rattle.core_laws.proofs.Common.{AllByRecursion, Answer, BlockOk, Carries, Happening, HasCause, Holds, IsEarned, IsEntered, IsInTurn, IsPlaced, IsSealed, IsUndrawn, Item, ItemOk, KeptOk, Logged, Looks, MayReply, Pbn, Phase, Request, SealedBlock, Session, Stage, StandsAt, Trace, Vio, VioOk, Writer, all_logged, all_of, done, entered, fair_before, gift_of, gifts, has_taken, holds, logged, logged_of, newest, place_of, places, request_of, sealed, total}
 use Rattle.blk_base.specs.declared.place.Mapping.TheVariants.{At}
 use Rattle.blk_base.specs.declared.request.Answer.TheVariants as reply
 use Rattle.blk_base.specs.declared.request.Request.TheVariants as request
@@ -86,11 +86,16 @@ module _ (s : Session) (h : Happening) (t : Trace) where
     not_entered = rw (entry_same h t v.request apart) k.not_entered;
   }
 
-  pub holds_kept : (v : Vio) → SparesRequest h v.request → SparesAddress h v.at.0 → Holds s t v → Holds s (h ∷ t) v
-  holds_kept v apart off k = record {
+  turn_kept : (v : Vio) → SparesRequest h v.request → SparesAddress h v.at.0 → IsInTurn s t v → IsInTurn s (h ∷ t) v
+  turn_kept v apart off k = record {
     is_placed = placed_kept v apart k.is_placed;
     quiet = quiet_kept h t v.at.0 off k.quiet;
     below = below_kept h t v.at.0 v.place off k.below;
+  }
+
+  pub holds_kept : (v : Vio) → SparesRequest h v.request → SparesAddress h v.at.0 → Holds s t v → Holds s (h ∷ t) v
+  holds_kept v apart off k = record {
+    turn = turn_kept v apart off k.turn;
     old_held = k.old_held;
     old_is = k.old_is ∙ sym (mapping_same s.window (done (h ∷ t)) (done t) v.at.0 (done_at h t v.at.0 off));
   }
@@ -116,6 +121,7 @@ module _ (s : Session) (h : Happening) (t : Trace) where
       → Carries s t v q → Carries s (h ∷ t) v q
   by_phase v phase.Arrive r a b k = unplaced_kept v r k
   by_phase v phase.Wait r a b k = (placed_kept v r k.0, take_same h t v.request r ∙ k.1)
+  by_phase v phase.Look r a b k = (turn_kept v r (a refl) k.0, take_same h t v.request r ∙ k.1)
   by_phase v phase.Claim r a b k = (holds_kept v r (a refl) k.0, k.1, needs_kept h t v.request v.bytes (take_same h t v.request r) k.2)
   by_phase v phase.Store r a b k = (holds_kept v r (a refl) k.0, k.1, k.2)
   by_phase v phase.Enter r a b k = (holds_kept v r (a refl) k.0, k.1, k.2, λ fair. on_both v.new (λ x to fresh reads. reads_kept s h t x.0 v.bytes (b refl x to fresh.is_data) reads) k.2 (k.3 (fair_before s h t fair)))

@@ -15,11 +15,12 @@ module _ (sizes : Sizes) where
 
   logical_once : (old : LogicalZone) (v : Vio) (new : LogicalZone) (made : Trace) (posts : List Post) → LogicalServes sizes old v new made posts → new.next ≤ old.next + 1
   logical_once old v new made posts (logical.arrives_retired p among n m q) = rw n (omega arith)
-  logical_once old v new made posts (logical.arrives_free post p among held goes n m q) = rw n (omega arith)
+  logical_once old v new made posts (logical.arrives_free p among held n m q) = rw n (omega arith)
   logical_once old v new made posts (logical.arrives_held p among held n m q) = rw n (omega arith)
-  logical_once old v new made posts (logical.settles more p grants n m q) = rw n (omega (arith, passed_next v.at.0 (logical.with_slot old v) (first_for v.at.0 old.waiting)))
-  logical_once old v new made posts (logical.gives more p grants n m q) = rw n (omega (arith, passed_next v.at.0 old (first_for v.at.0 old.waiting)))
-  logical_once old v new made posts (logical.aborts more p grants n m q) = rw n (omega (arith, passed_next v.at.0 old (first_for v.at.0 old.waiting)))
+  logical_once old v new made posts (logical.looks post p goes n m q) = rw n (omega arith)
+  logical_once old v new made posts (logical.settles p n m q) = rw n (omega (arith, passed_next v.at.0 (logical.with_slot old v) (first_for v.at.0 old.waiting)))
+  logical_once old v new made posts (logical.gives p n m q) = rw n (omega (arith, passed_next v.at.0 old (first_for v.at.0 old.waiting)))
+  logical_once old v new made posts (logical.aborts p n m q) = rw n (omega (arith, passed_next v.at.0 old (first_for v.at.0 old.waiting)))
   logical_once old v new made posts (logical.aborts_entered p n m q) = rw n (omega arith)
 
   device_once : (old : DeviceZone) (v : Vio) (new : DeviceZone) (made : Trace) (posts : List Post) → DeviceServes sizes old v new made posts → new.calls ≤ old.calls + 1

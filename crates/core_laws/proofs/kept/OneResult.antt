@@ -13,7 +13,7 @@ use Rattle.core_model.specs.declared.zones.ZoneData.TheVariants as at
 use Rattle.core_model.specs.DeskRows.{BeginsNext, DeskBegins, DeskServes, parks, answers, marks, at_once, first_zone, vio_of, is_notified, is_stopped, is_marked, mark_of_vio}
 use Rattle.core_model.specs.DeviceRows.{DeviceServes, DeviceWorks, counted, halted, stop_notices, next_stage, next_zone}
 use Rattle.core_model.specs.JournalRows.{PhysicalServes, JournalServes, JournalEnds, is_closed, has_block, has_room, next_block, refused, all_refused, all_again, all_dropped, entered_by, committed_by, sealed_by, hands_out}
-use Rattle.core_model.specs.LogicalRows.{LogicalServes, is_among, is_held, lock_of, all_for, placed, place_of_vio, drawn_by, goes_on, granted, released, retire, all_stopped, with_slot}
+use Rattle.core_model.specs.LogicalRows.{LogicalServes, is_among, is_held, lock_of, all_for, placed, place_of_vio, drawn_by, goes_on, granted, looks_up, released, retire, all_stopped, with_slot}
 use Rattle.core_model.specs.Steps.{Act, CallsDevice}
 use Rattle.core_laws.proofs.desk.BeginLaws.{begins_one}
 use Rattle.core_model.specs.Steps as steps
@@ -85,34 +85,38 @@ physical_is sizes p v new made posts (PhysicalServes.aborts_claim is n m q) = rw
 physical_is sizes p v new made posts (PhysicalServes.aborts_entered_claim is n m q) = rw (n, m, q, is) refl
 
 -- a logical zone
-abbrev arrival_at : LogicalZone → Vio → (retired held : Bool) → Option Post → Result LogicalZone
-arrival_at l v true held next = (drawn_by l v, Draws (place_of_vio l v) ∷ [], (id.Desk, item.Request (ended phase.Reply reply.Stopped (placed l v))) ∷ [])
-arrival_at l v false true next = (record (drawn_by l v) { waiting = l.waiting ++ turned phase.Wait (placed l v) ∷ [] }, Draws (place_of_vio l v) ∷ [], [])
-arrival_at l v false false (Some post) = (record (drawn_by l v) { held = lock_of (placed l v) ∷ l.held }, Draws (place_of_vio l v) ∷ [], post ∷ [])
-arrival_at l v false false None = (l, [], [])
+abbrev arrival_at : LogicalZone → Vio → (retired held : Bool) → Result LogicalZone
+arrival_at l v true held = (drawn_by l v, Draws (place_of_vio l v) ∷ [], (id.Desk, item.Request (ended phase.Reply reply.Stopped (placed l v))) ∷ [])
+arrival_at l v false true = (record (drawn_by l v) { waiting = l.waiting ++ turned phase.Wait (placed l v) ∷ [] }, Draws (place_of_vio l v) ∷ [], [])
+arrival_at l v false false = (record (drawn_by l v) { held = lock_of (placed l v) ∷ l.held }, Draws (place_of_vio l v) ∷ [], looks_up (placed l v) ∷ [])
+
+-- it goes where the map says
+abbrev onward_at : LogicalZone → Option Post → Result LogicalZone
+onward_at l (Some post) = (l, [], post ∷ [])
+onward_at l None = (l, [], [])
 
 -- the lock is passed on
-abbrev passes : LogicalZone → ℕ → Trace → Post → Option (List Post) → Result LogicalZone
-passes l a made post (Some more) = (released a l, made, post ∷ more)
-passes l a made post None = (l, [], [])
+abbrev passes : LogicalZone → ℕ → Trace → Post → Result LogicalZone
+passes l a made post = (released a l, made, post ∷ granted a l)
 
 abbrev logical_at : Sizes → LogicalZone → Vio → Phase → Result LogicalZone
-logical_at sizes l v phase.Arrive = arrival_at l v (is_among v.at.0 l.retired) (is_held v.at.0 l.held) (goes_on sizes l (placed l v))
-logical_at sizes l v phase.Settle =
-    passes (with_slot l v) v.at.0 (Sets (logged v) ∷ []) (id.Desk, item.Request (ended phase.Reply reply.Ok v)) (granted sizes v.at.0 (with_slot l v))
-logical_at sizes l v phase.Loaded = passes l v.at.0 (Gives (gift v) ∷ []) (id.Desk, item.Request (ended phase.Reply (reply.Bytes v.bytes) v)) (granted sizes v.at.0 l)
-logical_at sizes l v phase.Abort = passes l v.at.0 [] (to_desk phase.Reply v) (granted sizes v.at.0 l)
+logical_at sizes l v phase.Arrive = arrival_at l v (is_among v.at.0 l.retired) (is_held v.at.0 l.held)
+logical_at sizes l v phase.Look = onward_at l (goes_on sizes l v)
+logical_at sizes l v phase.Settle = passes (with_slot l v) v.at.0 (Sets (logged v) ∷ []) (id.Desk, item.Request (ended phase.Reply reply.Ok v))
+logical_at sizes l v phase.Loaded = passes l v.at.0 (Gives (gift v) ∷ []) (id.Desk, item.Request (ended phase.Reply (reply.Bytes v.bytes) v))
+logical_at sizes l v phase.Abort = passes l v.at.0 [] (to_desk phase.Reply v)
 logical_at sizes l v phase.AbortEntered = (retire v.at.0 l, Aborts (logged v) ∷ [], to_desk phase.Reply v ∷ all_stopped (all_for v.at.0 l.waiting))
 logical_at sizes l v other = (l, [], [])
 
 logical_is : (sizes : Sizes) (l : LogicalZone) (v : Vio) (new : LogicalZone) (made : Trace) (posts : List Post) → LogicalServes sizes l v new made posts
     → (new, made, posts) ≡ logical_at sizes l v v.phase
 logical_is sizes l v new made posts (LogicalServes.arrives_retired is retired n m q) = rw (n, m, q, is, retired) refl
-logical_is sizes l v new made posts (LogicalServes.arrives_free post is alive free next n m q) = rw (n, m, q, is, alive, free, next) refl
+logical_is sizes l v new made posts (LogicalServes.arrives_free is alive free n m q) = rw (n, m, q, is, alive, free) refl
 logical_is sizes l v new made posts (LogicalServes.arrives_held is alive held n m q) = rw (n, m, q, is, alive, held) refl
-logical_is sizes l v new made posts (LogicalServes.settles more is next n m q) = rw (n, m, q, is, next) refl
-logical_is sizes l v new made posts (LogicalServes.gives more is next n m q) = rw (n, m, q, is, next) refl
-logical_is sizes l v new made posts (LogicalServes.aborts more is next n m q) = rw (n, m, q, is, next) refl
+logical_is sizes l v new made posts (LogicalServes.looks post is next n m q) = rw (n, m, q, is, next) refl
+logical_is sizes l v new made posts (LogicalServes.settles is n m q) = rw (n, m, q, is) refl
+logical_is sizes l v new made posts (LogicalServes.gives is n m q) = rw (n, m, q, is) refl
+logical_is sizes l v new made posts (LogicalServes.aborts is n m q) = rw (n, m, q, is) refl
 logical_is sizes l v new made posts (LogicalServes.aborts_entered is n m q) = rw (n, m, q, is) refl
 
 -- the journal

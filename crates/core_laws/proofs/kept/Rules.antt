@@ -2,7 +2,7 @@
 use Rattle.std.proofs.Common.{◌≡◌, ℕ, ◌<◌, ◌≤◌, true, false, None, Some, Option, List, [], ◌∷◌, ◌++◌, length, slice_get, refl, ap, sym, ◌∙◌, subst, inl, inr, arith}
 use Rattle.std.proofs.lemmas.Option.{slice_get_within}
 use Rattle.core_laws.proofs.journal.LogLaws.{has_next, is_sealable}
-use Rattle.core_laws.proofs.Common.{all_logged, all_of, AllByRecursion, Answer, Asks, Call, Carries, cases_Bool, committed, DataOk, Desk, desk_zone, device_zone, DeviceZone, eqb_tells, every-map, IsForBlock, IsServed, IsSession, IsToFresh, IsToInside, Item, ItemOk, journal_zone, JournalLists, JournalZone, KeptOk, logical_zone, LogicalZone, Mapping, MayReply, notified_zones, option_cases, Pbn, Phase, physical_zone, PhysicalZone, Post, Request, request_at, Script, sealed, SealedBlock, Session, some_of, Stage, StandsAt, Trace, Vio, VioOk, Writer, Zone, zone_at, zone_count, zone_number, zone_of, zone_of_stage, ZoneData}
+use Rattle.core_laws.proofs.Common.{all_logged, all_of, AllByRecursion, Answer, Asks, Call, Carries, cases_Bool, committed, DataOk, Desk, desk_zone, device_zone, DeviceZone, IsForBlock, IsServed, IsSession, IsToFresh, IsToInside, Item, ItemOk, journal_zone, JournalLists, JournalZone, logical_zone, LogicalZone, Mapping, MayReply, notified_zones, option_cases, Pbn, Phase, physical_zone, PhysicalZone, Post, Request, request_at, Script, sealed, SealedBlock, Session, some_of, Stage, StandsAt, Trace, Vio, VioOk, Writer, Zone, zone_at, zone_count, zone_number, zone_of, zone_of_stage, ZoneData}
 use Rattle.blk_base.specs.Regions.{journal_slot_of}
 use Rattle.blk_base.specs.declared.request.Answer.TheVariants as reply
 use Rattle.blk_base.specs.declared.request.Request.TheVariants as request
@@ -17,7 +17,7 @@ use Rattle.core_model.specs.DeskRows.{DeskBegins, DeskServes, at_once, vio_of, i
 use Rattle.core_model.specs.DeviceRows.{DeviceServes, DeviceWorks, IsInside, call_of, journal_bytes}
 use Rattle.core_model.specs.JournalRows.{PhysicalServes, JournalServes, JournalEnds, is_closed, has_block, has_room}
 use Rattle.core_model.specs.Legal.{Legal}
-use Rattle.core_model.specs.LogicalRows.{LogicalServes, is_among, is_held, first_for, placed, next_for, goes_on, passes_on, with_slot}
+use Rattle.core_model.specs.LogicalRows.{LogicalServes, is_among, is_held, next_for, goes_on}
 use Rattle.core_model.specs.Steps as steps
 use Rattle.core_model.specs.Steps.{Act, HasAct, MayBegin, Core}
 use Rattle.core_laws.proofs.desk.BeginLaws.{begins_some}
@@ -25,7 +25,6 @@ use Rattle.core_laws.proofs.device.DeviceCalls.{request_served}
 use Rattle.core_laws.proofs.kept.LegalKept.{goes}
 use Rattle.core_laws.proofs.kept.ZoneKinds.{Keeps, desk_keeps, logical_keeps, physical_keeps, journal_keeps, device_keeps}
 use Rattle.core_laws.proofs.physical.PhysicalFacts.{zone_below}
-use Rattle.core_laws.proofs.kept.ActKept.{carries_at}
 use Rattle.blk_base.specs.declared.place.Mapping.TheVariants.{Unmapped, Zero, At}
 
 -- a marked answer is that of a flush that returned
@@ -71,11 +70,8 @@ module _ (s : Session) (session : IsSession s) (t : Trace) where
         | inr once ↦ (_, _, _, steps.begins (DeskBegins.answers w asked.0 served.0 once.0 next asked.1 served.1 once.1 refl refl refl))
       ]
 
-  -- a logical zone: whoever goes on with a lock asks for a block
-  abbrev IsBlockRequest : Vio → Type 0
-  IsBlockRequest v = IsForBlock v.asks
-
-  goes_some : (l : LogicalZone) (v : Vio) → IsBlockRequest v → (post : Post) × (goes_on s.sizes l v ≡ Some post)
+  -- a logical zone: whoever looks asks for a block
+  goes_some : (l : LogicalZone) (v : Vio) → IsForBlock v.asks → (post : Post) × (goes_on s.sizes l v ≡ Some post)
   goes_some l v block = by v.asks block
     where
       by : (q : Asks) → IsForBlock q → (post : Post) × (next_for s.sizes l v q ≡ Some post)
@@ -84,25 +80,17 @@ module _ (s : Session) (session : IsSession s) (t : Trace) where
       by Discard block = (_, refl)
       by Flush block = absurd block
 
-  grants_some : (l : LogicalZone) (a : ℕ) (vs : List Vio) → AllByRecursion IsBlockRequest vs → (more : List Post) × (passes_on s.sizes l (first_for a vs) ≡ Some more)
-  grants_some l a [] all = ([], refl)
-  grants_some l a (v ∷ vs) all = elim (eqb_tells v.at.0 a) [
-    | inl same ↦ let goes = goes_some l v all.0 in (goes.0 ∷ [], rw (same.0, goes.1) refl)
-    | inr other ↦ rw other.0 (grants_some l a vs all.1)
-  ]
-
-  arrives : (l : LogicalZone) (v : Vio) → v.phase ≡ phase.Arrive → IsBlockRequest v → HasAct s.sizes (at.Logical l) (item.Request v ∷ [])
-  arrives l v is block = elim (cases_Bool (is_among v.at.0 l.retired)) [
+  arrives : (l : LogicalZone) (v : Vio) → v.phase ≡ phase.Arrive → HasAct s.sizes (at.Logical l) (item.Request v ∷ [])
+  arrives l v is = elim (cases_Bool (is_among v.at.0 l.retired)) [
     | inl retired ↦ (_, _, _, steps.serves (LogicalServes.arrives_retired is retired refl refl refl))
     | inr alive ↦ elim (cases_Bool (is_held v.at.0 l.held)) [
       | inl held ↦ (_, _, _, steps.serves (LogicalServes.arrives_held is alive held refl refl refl))
-      | inr free ↦ let goes = goes_some l (placed l v) block in (_, _, _, steps.serves (LogicalServes.arrives_free goes.0 is alive free goes.1 refl refl refl))
+      | inr free ↦ (_, _, _, steps.serves (LogicalServes.arrives_free is alive free refl refl refl))
     ]
   ]
 
-  -- whoever waits in a zone is one
-  passes : (l : LogicalZone) (n : ℕ) (a : ℕ) (to : LogicalZone) → DataOk s t n (at.Logical l) → (more : List Post) × (passes_on s.sizes to (first_for a l.waiting) ≡ Some more)
-  passes l n a to own = grants_some to a l.waiting (every-map {P = KeptOk s t phase.Wait} {Q = IsBlockRequest} (λ v k. (carries_at s t v phase.Wait k.2 k.1).0.for_block) l.waiting own.kept)
+  looks : (l : LogicalZone) (v : Vio) → v.phase ≡ phase.Look → IsForBlock v.asks → HasAct s.sizes (at.Logical l) (item.Request v ∷ [])
+  looks l v is block = let goes = goes_some l v block in (_, _, _, steps.serves (LogicalServes.looks goes.0 is goes.1 refl refl refl))
 
   -- the physical zone
   claims : (p : PhysicalZone) (v : Vio) (free : List Pbn) → p.free ≡ free → v.phase ≡ phase.Claim → HasAct s.sizes (at.Physical p) (item.Request v ∷ [])
@@ -211,16 +199,16 @@ module _ (s : Session) (session : IsSession s) (t : Trace) where
 
     -- a request, by its phase; one that waits is in no lane
     by_phase : (v : Vio) (q : Phase) → v.phase ≡ q → VioOk s t v → Carries s t v q → n ≡ zone_at s.sizes v.home q → Has (item.Request v)
-    by_phase v phase.Arrive is ok carries to = in_home v ok to (λ l here. arrives l v is carries.for_block)
+    by_phase v phase.Arrive is ok carries to = in_home v ok to (λ l here. arrives l v is)
+    by_phase v phase.Look is ok carries to = in_home v ok to (λ l here. looks l v is carries.0.is_placed.for_block)
     by_phase v phase.Claim is ok carries to = in_physical _ to (λ p. claims p v p.free refl is)
     by_phase v phase.Store is ok carries to = in_device _ to (λ dev. stores_by dev v v.new is refl carries.2)
     by_phase v phase.Enter is ok carries to = in_journal _ to (λ j lists. enters j v is)
-    by_phase v phase.Settle is ok carries to =
-        in_home v ok to (λ l here. let grants = passes l _ v.at.0 (with_slot l v) here in (_, _, _, steps.serves (LogicalServes.settles grants.0 is grants.1 refl refl refl)))
+    by_phase v phase.Settle is ok carries to = in_home v ok to (λ l here. (_, _, _, steps.serves (LogicalServes.settles is refl refl refl)))
     by_phase v phase.Load is ok carries to = in_device _ to (λ dev. loads_by dev v v.old is refl carries.1)
-    by_phase v phase.Loaded is ok carries to = in_home v ok to (λ l here. let grants = passes l _ v.at.0 l here in (_, _, _, steps.serves (LogicalServes.gives grants.0 is grants.1 refl refl refl)))
+    by_phase v phase.Loaded is ok carries to = in_home v ok to (λ l here. (_, _, _, steps.serves (LogicalServes.gives is refl refl refl)))
     by_phase v phase.AbortClaim is ok carries to = in_physical _ to (λ p. (_, _, _, steps.takes (PhysicalServes.aborts_claim is refl refl refl)))
-    by_phase v phase.Abort is ok carries to = in_home v ok to (λ l here. let grants = passes l _ v.at.0 l here in (_, _, _, steps.serves (LogicalServes.aborts grants.0 is grants.1 refl refl refl)))
+    by_phase v phase.Abort is ok carries to = in_home v ok to (λ l here. (_, _, _, steps.serves (LogicalServes.aborts is refl refl refl)))
     by_phase v phase.AbortEnteredClaim is ok carries to = in_physical _ to (λ p. (_, _, _, steps.takes (PhysicalServes.aborts_entered_claim is refl refl refl)))
     by_phase v phase.AbortEntered is ok carries to = in_home v ok to (λ l here. (_, _, _, steps.serves (LogicalServes.aborts_entered is refl refl refl)))
     by_phase v phase.Flush is ok carries to = in_device _ to (λ dev. flushes dev v is)

@@ -3,7 +3,7 @@ use Rattle.std.proofs.Common.{◌≡◌, ℕ, ◌+◌, ◌==◌, Bool, true, fal
 use Rattle.core_laws.proofs.Common.{Aborts, AllBelow, AllByRecursion, Asks, DataOk, DeskLine, Draws, FlushMark, Follows, Gives, GivesRight, Happening, HasAddress, HasEarned, IsChange, IsCommitted, IsEntered, IsFair, IsForBlock, IsFresh, IsOfZone, IsPlaced, IsUndrawn, KeptOk, Lba, Lock, LocksOk, Logged, LogicalZone, Looks, MayReply, OnBlock, Pbn, Phase, Placed, PlaceMayFollow, Post, Quiet, RightTrace, Session, Sets, Trace, Vio, VioOk, Writer, aborted, answer_of, asked, before_begin, done, ended, eq-eqb, eqb_tells, every-append, every-map, fair_before, gift, gift_of, gifts, has_stopped, holds, lines, logged, logged_of, logical_zone, mapping_in, places, request_at, same_self, same_writer, some_is, turned, value_at, zone_number, zone_of}
 use Rattle.core_model.specs.declared.items.Asks.TheVariants.{Read, Write, Discard, Flush}
 use Rattle.core_model.specs.Legal.{ComesAfter}
-use Rattle.core_model.specs.LogicalRows.{is_among, is_held, lock_of, placed, place_of_vio, drawn_by, goes_on, LogicalServes, arrives_retired, arrives_free, arrives_held, settles, gives, aborts, aborts_entered, released, granted, retire, all_stopped, all_for, with_slot}
+use Rattle.core_model.specs.LogicalRows.{is_among, is_held, lock_of, placed, place_of_vio, drawn_by, goes_on, LogicalServes, arrives_retired, arrives_free, arrives_held, looks, looks_up, settles, gives, aborts, aborts_entered, released, granted, retire, all_stopped, all_for, with_slot}
 use Rattle.core_laws.proofs.trace.DeskOfTrace.{shown_of}
 use Rattle.core_laws.proofs.kept.ActKept.{Known, Mine, ActKept, act_one, own_request, plain_clears, line_kept, shown_plain, vio_over, carries_at, IsPlain, act_none, own_address, vio_ok, in_phase}
 use Rattle.core_laws.proofs.kept.Keys.{Clears, OfRequest, OfAddress, IfAny, happens_in}
@@ -12,7 +12,7 @@ use Rattle.core_laws.proofs.logical.LockLaws.{more_drawn, one_waits, one_takes}
 use Rattle.core_laws.proofs.tokens.Owners.{at_home}
 use Rattle.core_model.specs.Phases.{row}
 use Rattle.core_laws.proofs.lists.CoreLists.{or_none}
-use Rattle.core_laws.proofs.logical.Releases.{below_more, has_below_more, goes_ok, stopped_ok, release_ok, retire_ok, drawn_before}
+use Rattle.core_laws.proofs.logical.Releases.{below_more, has_below_more, goes_ok, looks_ok, stopped_ok, release_ok, retire_ok, drawn_before}
 use Rattle.blk_base.specs.declared.place.Mapping.TheVariants.{At}
 use Rattle.byte_fields.specs.Mappings.{HoldsMapping}
 use Rattle.core_model.specs.DeskRows.{mark_of_vio}
@@ -142,13 +142,15 @@ module _ {s : Session} {t : Trace} {n : ℕ} {l : LogicalZone} {v : Vio} (known 
         act_one known (Draws p) clears gives_same right'
         (drawn_ok l.held (l.waiting ++ w ∷ []) (one_waits s l.zone l.next l.held l.waiting known.own.sound.locks w home_is refl held) (every-append (KeptOk s t' phase.Wait) l.waiting (w ∷ []) others_wait ((placed_ok, (is_placed, unplaced.none_taken), refl), tt)) (λ a free. free)) tt
 
-    pub free_kept : (post : Post) → is_among v.at.0 l.retired ≡ false → is_held v.at.0 l.held ≡ false → goes_on s.sizes l v' ≡ Some post
-        → ActKept s t n (at.Logical l) (item.Request v ∷ []) (at.Logical (record (drawn_by l v) { held = lock_of v' ∷ l.held })) (Draws p ∷ []) (post ∷ [])
-    free_kept post alive free goes =
-        let same = drawn_ok l.held l.waiting (more_drawn s l.zone l.next l.held l.waiting known.own.sound.locks) others_wait (λ a none. none) in
+    pub free_kept : is_among v.at.0 l.retired ≡ false → is_held v.at.0 l.held ≡ false
+        → ActKept s t n (at.Logical l) (item.Request v ∷ []) (at.Logical (record (drawn_by l v) { held = lock_of v' ∷ l.held })) (Draws p ∷ []) (looks_up v' ∷ [])
+    free_kept alive free =
         act_one known (Draws p) clears gives_same right'
-        (drawn_ok (lock_of v' ∷ l.held) l.waiting (one_takes s l.zone l.next l.held l.waiting known.own.sound.locks v' zone_is refl free) others_wait (λ a none. (or_none (v.at.0 == a) (is_held a l.held) none).1))
-        (goes_ok s t' n (drawn_by l v) known.session right' same v' placed_ok is_placed unplaced.none_taken (quiet' v.at.0 zone_is free alive) (below_kept (Draws p) t v.at.0 l.next tt (known.own.lists.below v.at.0 zone_is)) home_is post goes, tt)
+        (drawn_ok (lock_of v' ∷ l.held) l.waiting (one_takes s l.zone l.next l.held l.waiting known.own.sound.locks v' zone_is refl free) others_wait (λ a none. (or_none (v.at.0 == a) (is_held a l.held) none).1)) (
+          looks_ok s t' l.zone known.own.sound.among v' placed_ok home_is
+              (record { is_placed = is_placed; quiet = quiet' v.at.0 zone_is free alive; below = below_kept (Draws p) t v.at.0 l.next tt (known.own.lists.below v.at.0 zone_is) }) unplaced.none_taken,
+          tt,
+        )
 
 -- a write or a discard that is done, and a read that was given its bytes, may be answered so
 done_earned : (s : Session) (t : Trace) (m : FlushMark) (asks : Asks) (at : Lba) (bytes : List ℕ) → IsChange asks → IsSome (logged_of (done t) m.request) → HasEarned s t m asks (asked asks at bytes) (Some reply.Ok)
@@ -179,6 +181,12 @@ module _ {s : Session} {t : Trace} {n : ℕ} {l : LogicalZone} {v : Vio} (known 
   -- whoever did what is done or given at its address had a place that was drawn
   drawn_here : (q : Phase) → v.phase ≡ q → holds q ≡ true → v.place < l.next
   drawn_here q is held = drawn_before s t n l known.session known.right known.own v (leased q is held) home
+
+  -- It goes where the map says.
+  looks_kept : v.phase ≡ phase.Look → (post : Post) → goes_on s.sizes l v ≡ Some post → After l [] (post ∷ [])
+  looks_kept is post goes =
+      let carries = in_phase known phase.Look is in
+      act_none known known.own (goes_ok s t n l known.session known.right known.own v (vio_ok known) carries.0 carries.1 (home_is known) post goes, tt)
 
   -- Its slot is set.
   module _ (is : v.phase ≡ phase.Settle) where
@@ -238,9 +246,9 @@ module _ {s : Session} {t : Trace} {n : ℕ} {l : LogicalZone} {v : Vio} (known 
           told = k.told;
         }
 
-    settles_kept : (more : List Post) → granted s.sizes v.at.0 (with_slot l v) ≡ Some more → After (released v.at.0 (with_slot l v)) (Sets (logged v) ∷ []) ((id.Desk, item.Request (ended phase.Reply reply.Ok v)) ∷ more)
-    settles_kept more grants =
-        let both = release_ok s set_t n (with_slot l v) known.session right_set slot_ok v (leased phase.Settle is refl) home quiet_set below_set more grants in
+    settles_kept : After (released v.at.0 (with_slot l v)) (Sets (logged v) ∷ []) ((id.Desk, item.Request (ended phase.Reply reply.Ok v)) ∷ granted v.at.0 l)
+    settles_kept =
+        let both = release_ok s set_t n (with_slot l v) known.session right_set slot_ok v (leased phase.Settle is refl) home quiet_set below_set in
         act_one known (Sets e) clears_set (λ f fair. f (fair_before s (Sets e) t fair)) right_set both.0
         ((omega arith, (vio_over s (Sets e) t v refl (vio_ok known), done_earned s set_t (mark_of_vio v) v.asks v.at v.bytes facts.0.is_change (rw (same_self v.request) (some_is (Some e) e refl)), refl)), both.1)
 
@@ -257,7 +265,7 @@ module _ {s : Session} {t : Trace} {n : ℕ} {l : LogicalZone} {v : Vio} (known 
 
     right_give : RightTrace s u
     right_give =
-        let held = looked.0.held in (
+        let held = looked.0.held.turn in (
           record { is_open = (vio_ok known).is_open; asked = (vio_ok known).asked ∙ ap (λ (asks : Asks). Some (asked asks v.at v.bytes)) looked.0.is_read; placed = held.is_placed.placed; quiet = held.quiet; below = held.below },
           shown_plain s t (Gives (gift v)) tt (shown_of s t known.right),
           known.right,
@@ -268,7 +276,7 @@ module _ {s : Session} {t : Trace} {n : ℕ} {l : LogicalZone} {v : Vio} (known 
 
     below_give : AllBelow u v.at.0 (v.place + 1)
     below_give =
-        let more = below_more t v.at.0 v.place (v.place + 1) (omega arith) looked.0.held.below in
+        let more = below_more t v.at.0 v.place (v.place + 1) (omega arith) looked.0.held.turn.below in
         record { writes = more.writes; reads = ((λ same. omega arith), more.reads) }
 
     given_ok : DataOk s u n (at.Logical l)
@@ -288,17 +296,17 @@ module _ {s : Session} {t : Trace} {n : ℕ} {l : LogicalZone} {v : Vio} (known 
           told = k.told;
         }
 
-    gives_kept : (more : List Post) → granted s.sizes v.at.0 l ≡ Some more → After (released v.at.0 l) (Gives (gift v) ∷ []) ((id.Desk, item.Request (ended phase.Reply (reply.Bytes v.bytes) v)) ∷ more)
-    gives_kept more grants =
-        let both = release_ok s u n l known.session right_give given_ok v (leased phase.Loaded is refl) home (quiet_same v.at.0 looked.0.held.quiet) below_give more grants in
+    gives_kept : After (released v.at.0 l) (Gives (gift v) ∷ []) ((id.Desk, item.Request (ended phase.Reply (reply.Bytes v.bytes) v)) ∷ granted v.at.0 l)
+    gives_kept =
+        let both = release_ok s u n l known.session right_give given_ok v (leased phase.Loaded is refl) home (quiet_same v.at.0 looked.0.held.turn.quiet) below_give in
         act_one known (Gives (gift v)) clears_give (λ f fair. let before = fair_before s (Gives (gift v)) t fair in (looked.1 before, f before)) right_give both.0
         ((omega arith, (vio_over s (Gives (gift v)) t v refl (vio_ok known), given_earned s u (mark_of_vio v) v.asks v.at v.bytes v.place looked.0.is_read (rw (same_self v.request) refl), refl)), both.1)
 
   -- It is aborted, before its entry was handed in ..
-  aborts_kept : (more : List Post) → v.phase ≡ phase.Abort → granted s.sizes v.at.0 l ≡ Some more → After (released v.at.0 l) [] ((id.Desk, item.Request (turned phase.Reply v)) ∷ more)
-  aborts_kept more is grants =
+  aborts_kept : v.phase ≡ phase.Abort → After (released v.at.0 l) [] ((id.Desk, item.Request (turned phase.Reply v)) ∷ granted v.at.0 l)
+  aborts_kept is =
       let facts = in_phase known phase.Abort is in
-      let both = release_ok s t n l known.session known.right known.own v (leased phase.Abort is refl) home facts.0.quiet (below_more t v.at.0 v.place (v.place + 1) (omega arith) facts.0.below) more grants in
+      let both = release_ok s t n l known.session known.right known.own v (leased phase.Abort is refl) home facts.0.turn.quiet (below_more t v.at.0 v.place (v.place + 1) (omega arith) facts.0.turn.below) in
       act_none known both.0 ((omega arith, ((vio_ok known), facts.1, refl)), both.1)
 
   -- .. or after.
@@ -340,11 +348,12 @@ module _ {s : Session} {t : Trace} {n : ℕ} {l : LogicalZone} {v : Vio} (known 
   -- each act of a logical zone
   pub logical_serves : (new : LogicalZone) (made : Trace) (posts : List Post) → LogicalServes s.sizes l v new made posts → After new made posts
   logical_serves new made posts (arrives_retired p d i m q) = rw (i, m, q) (retired_kept known p d)
-  logical_serves new made posts (arrives_free post p d f goes i m q) = rw (i, m, q) (free_kept known p post d f goes)
+  logical_serves new made posts (arrives_free p d f i m q) = rw (i, m, q) (free_kept known p d f)
   logical_serves new made posts (arrives_held p d f i m q) = rw (i, m, q) (held_kept known p f)
-  logical_serves new made posts (settles more p grants i m q) = rw (i, m, q) (settles_kept p more grants)
-  logical_serves new made posts (gives more p grants i m q) = rw (i, m, q) (gives_kept p more grants)
-  logical_serves new made posts (aborts more p grants i m q) = rw (i, m, q) (aborts_kept more p grants)
+  logical_serves new made posts (looks post p goes i m q) = rw (i, m, q) (looks_kept p post goes)
+  logical_serves new made posts (settles p i m q) = rw (i, m, q) (settles_kept p)
+  logical_serves new made posts (gives p i m q) = rw (i, m, q) (gives_kept p)
+  logical_serves new made posts (aborts p i m q) = rw (i, m, q) (aborts_kept p)
   logical_serves new made posts (aborts_entered p i m q) = rw (i, m, q) (aborts_entered_kept p)
 
 -- a stop notice

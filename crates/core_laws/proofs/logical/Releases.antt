@@ -1,6 +1,6 @@
 -- A lock is passed on to the first that waits for it, or released, or never released.
 use Rattle.std.proofs.Common.{◌≡◌, ◌≢◌, ℕ, ◌+◌, ◌<◌, ◌≤◌, ◌==◌, true, false, Option, None, Some, List, [], ◌∷◌, refl, ap, sym, ◌∙◌, subst, inl, inr, arith}
-use Rattle.core_laws.proofs.Common.{AllBelow, AllByRecursion, Asks, DataOk, Gift, HasBelow, HasCause, Holds, IsForBlock, IsPlaced, IsSession, IsToInside, KeptOk, Logged, LogicalZone, Looks, Mapping, MapsTo, Pbn, Post, Quiet, Request, RightTrace, Session, Trace, Vio, VioOk, WaitsOk, aborted, asked, done, each_both, ended, eqb_tells, every-map, gifts, has_stopped, newest, of_address, request_at, some_is, value_at, zone_count, zone_number, zone_of, has_taken}
+use Rattle.core_laws.proofs.Common.{AllBelow, AllByRecursion, Asks, DataOk, Gift, HasBelow, HasCause, Holds, IsForBlock, IsInTurn, IsPlaced, IsSession, IsToInside, KeptOk, Logged, LogicalZone, Looks, Mapping, MapsTo, Pbn, Post, Quiet, Request, RightTrace, Session, Trace, Vio, VioOk, WaitsOk, aborted, asked, done, each_both, ended, eqb_tells, every-map, gifts, has_stopped, newest, of_address, request_at, some_is, value_at, zone_count, zone_number, zone_of, has_taken}
 use Rattle.blk_base.specs.Sectors.{zero_block}
 use Rattle.blk_base.specs.declared.place.Mapping.TheVariants.{Unmapped, Zero, At}
 use Rattle.blk_base.specs.declared.place.ZoneId.TheVariants as id
@@ -11,12 +11,12 @@ use Rattle.core_model.specs.declared.items.Asks.TheVariants.{Read, Write, Discar
 use Rattle.core_model.specs.declared.items.Item.TheVariants as item
 use Rattle.core_model.specs.declared.items.Phase.TheVariants as phase
 use Rattle.core_model.specs.declared.zones.ZoneData.TheVariants as at
-use Rattle.core_model.specs.LogicalRows.{are_zeros, is_among, is_held, without, first_for, all_for, none_for, latest_at, mapped_by, mapping_at, looked, read_next, goes_on, passed_to, released, granted, retire, all_stopped}
+use Rattle.core_model.specs.LogicalRows.{are_zeros, is_among, is_held, without, first_for, all_for, none_for, latest_at, mapped_by, mapping_at, looked, looks_up, passes_on, read_next, goes_on, passed_to, released, granted, retire, all_stopped}
 use Rattle.core_laws.proofs.kept.ActKept.{PostOk, carries_at, unentered_slot}
 use Rattle.core_laws.proofs.logical.LockLaws.{place_drawn, waits_behind, one_back, one_passed, one_retired}
 use Rattle.core_laws.proofs.tokens.Known.{Leased}
 use Rattle.core_laws.proofs.lists.CoreLists.{or_none, held_without, every_but_first, every_none_for, every_all_for, first_has}
-use Rattle.core_laws.proofs.tokens.Posts.{goes_by, IsGranted, nobody, somebody, is_granted}
+use Rattle.core_laws.proofs.tokens.Posts.{goes_by}
 use Rattle.core_laws.proofs.device.DeviceCalls.{write_whole}
 use Rattle.core_laws.proofs.trace.ZeroWrites.{zeros_by}
 use Rattle.core_laws.proofs.lists.Zeros.{others_are, zeros_of}
@@ -34,7 +34,14 @@ below_more t a m n less k = record {
 pub asked_read : (asks : Asks) (v : Vio) (bytes : List ℕ) → asks ≡ Read → asked asks v.at v.bytes ≡ asked asks v.at bytes
 asked_read asks v bytes is = rw is refl
 
-module _ (s : Session) (t : Trace) (n : ℕ) (l : LogicalZone) (session : IsSession s) (right : RightTrace s t) (k : DataOk s t n (at.Logical l)) (u : Vio) (ok : VioOk s t u) (place : IsPlaced s t u) (none_taken : has_taken t u.request ≡ false) (quiet : Quiet t u.at.0) (below : AllBelow t u.at.0 u.place)
+-- whoever gets a lock may look up what is mapped there
+pub looks_ok : (s : Session) (t : Trace) (zone : ℕ) → zone < s.sizes.zones → (u : Vio) → VioOk s t u → u.home ≡ id.Logical zone → IsInTurn s t u → has_taken t u.request ≡ false → PostOk s t (looks_up u)
+looks_ok s t zone among u ok home turn none_taken =
+    let here = ap (zone_number s.sizes) home in
+    (omega (arith, among, here), (record { asked = ok.asked; is_open = ok.is_open; address = ok.address; home = ok.home }, (turn, none_taken), refl))
+
+-- Whoever has looked goes where the map says.
+module _ (s : Session) (t : Trace) (n : ℕ) (l : LogicalZone) (session : IsSession s) (right : RightTrace s t) (k : DataOk s t n (at.Logical l)) (u : Vio) (ok : VioOk s t u) (turn : IsInTurn s t u) (none_taken : has_taken t u.request ≡ false)
     (home : u.home ≡ id.Logical l.zone) where
   among : 1 + l.zone < zone_count s.sizes
   among = let a = k.sound.among in omega (arith, a)
@@ -50,9 +57,7 @@ module _ (s : Session) (t : Trace) (n : ℕ) (l : LogicalZone) (session : IsSess
 
   holds : Holds s t (looked l u)
   holds = record {
-    is_placed = place;
-    quiet = quiet;
-    below = below;
+    turn = turn;
     old_held = k.sound.map.mapped u.at.0;
     old_is = mapping_is ∙ ap (λ o. mapped_by o (mapping_of s.window u.at.0)) latest_is ∙ sym (mapping_by s.window (done t) u.at.0);
   }
@@ -144,21 +149,25 @@ module _ (s : Session) (t : Trace) (n : ℕ) (l : LogicalZone) (session : IsSess
       | inr other ↦ k.answers b zone (other_free b other.1 free) alive
     ]
 
-    passes_ok : (w : Vio) → first_for v.at.0 l.waiting ≡ Some w → (post : Post) → goes_on s.sizes l w ≡ Some post → PostOk s t post
-    passes_ok w is post goes =
+    passes_ok : (w : Vio) → first_for v.at.0 l.waiting ≡ Some w → PostOk s t (looks_up w)
+    passes_ok w is =
         let kept = first_has (KeptOk s t phase.Wait) v.at.0 l.waiting w is k.kept in
         let waits = first_has (WaitsOk l.zone l.next l.held) v.at.0 l.waiting w is k.sound.locks.waits in
         let later = first_has (λ u. u.at.0 ≡ v.at.0 → v.place < u.place) v.at.0 l.waiting w is behind in
         let above = later.0 kept.1 in
         let carries = carries_at s t w phase.Wait kept.0.2 kept.0.1 in
-        goes_ok s t n l session right k w kept.0.0 carries.0 carries.1 (subst (λ (c : ℕ). Quiet t c) (sym kept.1) quiet)
-        (subst (λ (c : ℕ). AllBelow t c w.place) (sym kept.1) (below_more t v.at.0 (v.place + 1) w.place (omega (arith, above)) below)) waits.0.at_home post goes
+        looks_ok s t l.zone k.sound.among w kept.0.0 waits.0.at_home
+        (record {
+          is_placed = carries.0;
+          quiet = subst (λ (c : ℕ). Quiet t c) (sym kept.1) quiet;
+          below = subst (λ (c : ℕ). AllBelow t c w.place) (sym kept.1) (below_more t v.at.0 (v.place + 1) w.place (omega (arith, above)) below);
+        }) carries.1
 
-    pub release_ok : (more : List Post) → granted s.sizes v.at.0 l ≡ Some more → DataOk s t n (at.Logical (released v.at.0 l)) × AllByRecursion (PostOk s t) more
-    release_ok more grants = by (first_for v.at.0 l.waiting) more refl (is_granted s.sizes l (first_for v.at.0 l.waiting) more grants)
+    pub release_ok : DataOk s t n (at.Logical (released v.at.0 l)) × AllByRecursion (PostOk s t) (granted v.at.0 l)
+    release_ok = by (first_for v.at.0 l.waiting) refl
       where
-        by : (o : Option Vio) (more : List Post) → first_for v.at.0 l.waiting ≡ o → IsGranted s.sizes l o more → DataOk s t n (at.Logical (passed_to v.at.0 l o)) × AllByRecursion (PostOk s t) more
-        by None more is nobody = (
+        by : (o : Option Vio) → first_for v.at.0 l.waiting ≡ o → DataOk s t n (at.Logical (passed_to v.at.0 l o)) × AllByRecursion (PostOk s t) (passes_on o)
+        by None is = (
           record {
             number_is = k.number_is;
             lists = k.lists;
@@ -169,7 +178,7 @@ module _ (s : Session) (t : Trace) (n : ℕ) (l : LogicalZone) (session : IsSess
           },
           tt,
         )
-        by (Some w) more is (somebody u post goes) = (
+        by (Some w) is = (
           record {
             number_is = k.number_is;
             lists = k.lists;
@@ -178,7 +187,7 @@ module _ (s : Session) (t : Trace) (n : ℕ) (l : LogicalZone) (session : IsSess
             answers = λ b zone free alive. quiet_without b zone (or_none (w.at.0 == b) (is_held b (without v.at.0 l.held)) free).1 alive;
             told = k.told;
           },
-          (passes_ok w is post goes, tt),
+          (passes_ok w is, tt),
         )
 
   -- The lock is never released, since its holder was aborted.

@@ -31,9 +31,11 @@ none_left (y ∷ ys) (suc n) is = omega (arith, none_left ys n is)
 -- a write that takes a block holds its lock as before
 still_holds : (s : Session) (t : Trace) (v : Vio) (x : Pbn) → Holds s t v → Holds s (Takes v.request x ∷ t) v
 still_holds s t v x k = record {
-  is_placed = record { for_block = k.is_placed.for_block; placed = k.is_placed.placed; not_entered = k.is_placed.not_entered };
-  quiet = quiet_kept (Takes v.request x) t v.at.0 tt k.quiet;
-  below = below_kept (Takes v.request x) t v.at.0 v.place tt k.below;
+  turn = record {
+    is_placed = record { for_block = k.turn.is_placed.for_block; placed = k.turn.is_placed.placed; not_entered = k.turn.is_placed.not_entered };
+    quiet = quiet_kept (Takes v.request x) t v.at.0 tt k.turn.quiet;
+    below = below_kept (Takes v.request x) t v.at.0 v.place tt k.turn.below;
+  };
   old_held = k.old_held;
   old_is = k.old_is;
 }
@@ -59,7 +61,7 @@ module _ {s : Session} {t : Trace} {n : ℕ} {old : PhysicalZone} {v : Vio} (kno
   physical_serves new made posts (PhysicalServes.is_full is free_is i m q) =
       let k = in_phase known phase.Claim is in
       let full : IsFull s t v.request v.bytes = inr (k.2, none_left s.free (taken t) (sym free_is ∙ known.own.lists.left)) in
-      rw (i, m, q) (act_none known known.own ((home, ((vio_ok known), (k.0, write_full s t v k.1 k.0.is_placed full), refl)), tt))
+      rw (i, m, q) (act_none known known.own ((home, ((vio_ok known), (k.0, write_full s t v k.1 k.0.turn.is_placed full), refl)), tt))
   physical_serves new made posts (PhysicalServes.aborts_claim is i m q) = rw (i, m, q) (act_none known known.own ((home, ((vio_ok known), in_phase known phase.AbortClaim is, refl)), tt))
   physical_serves new made posts (PhysicalServes.aborts_entered_claim is i m q) = rw (i, m, q) (act_none known known.own ((home, ((vio_ok known), in_phase known phase.AbortEnteredClaim is, refl)), tt))
 

@@ -33,7 +33,7 @@ all_there vs f = total (λ v. f (Request v)) vs
 abbrev pub kept_of : JournalZone → Sum
 kept_of j f = all_there j.filling f + all_there j.waiting f
 
--- how a request goes on that has the lock of its address
+-- how a request goes on that has looked
 pub record Onward : Type 0 where
   pub phase : Phase
   pub old : Mapping
@@ -68,17 +68,19 @@ pub data Row (sizes : Sizes) : ZoneData → ZoneData → Sum → Sum → Type 0 
   -- a logical zone
   arrives_retired : (l : LogicalZone) (v : Vio)
       → Row sizes (at.Logical l) (at.Logical (drawn_by l v)) (λ f. f (Request (turned phase.Arrive v)) + all_in phase.Wait l.waiting f) (λ f. f (Request (ended phase.Reply reply.Stopped (placed l v))) + all_in phase.Wait l.waiting f)
-  arrives_free : (l : LogicalZone) (v : Vio) (on : Onward)
+  arrives_free : (l : LogicalZone) (v : Vio)
       → Row sizes (at.Logical l) (at.Logical (record (drawn_by l v) { held = lock_of (placed l v) ∷ l.held }))
-      (λ f. f (Request (turned phase.Arrive v)) + all_in phase.Wait l.waiting f) (λ f. f (Request (onward on (placed l v))) + all_in phase.Wait l.waiting f)
+      (λ f. f (Request (turned phase.Arrive v)) + all_in phase.Wait l.waiting f) (λ f. f (Request (turned phase.Look (placed l v))) + all_in phase.Wait l.waiting f)
   arrives_held : (l : LogicalZone) (v : Vio) (waiting : List Vio)
       → Row sizes (at.Logical l) (at.Logical (record (drawn_by l v) { waiting = waiting })) (λ f. f (Request (turned phase.Arrive v)) + all_in phase.Wait l.waiting f) (λ f. f (Request (turned phase.Wait (placed l v))) + all_in phase.Wait l.waiting f)
+  looks : (l : LogicalZone) (v : Vio) (on : Onward)
+      → Row sizes (at.Logical l) (at.Logical l) (λ f. f (Request (turned phase.Look v)) + all_in phase.Wait l.waiting f) (λ f. f (Request (onward on v)) + all_in phase.Wait l.waiting f)
   -- a request leaves its lock, and nobody waits for it, or one does
   leaves : (l : LogicalZone) (slots : List Logged) (v : Vio) (q : Phase) (a : Option Answer) → holds q ≡ true → IsSetBy l q slots → Leased l v
       → Row sizes (at.Logical l) (at.Logical (record l { slots = slots; held = without v.at.0 l.held })) (λ f. f (Request (turned q v)) + all_in phase.Wait l.waiting f) (λ f. f (Request (replied a v)) + all_in phase.Wait l.waiting f)
-  hands_on : (l : LogicalZone) (slots : List Logged) (v : Vio) (q : Phase) (a : Option Answer) (w : Vio) (on : Onward) (others : List Vio) → holds q ≡ true → IsSetBy l q slots → Leased l v
+  hands_on : (l : LogicalZone) (slots : List Logged) (v : Vio) (q : Phase) (a : Option Answer) (w : Vio) (others : List Vio) → holds q ≡ true → IsSetBy l q slots → Leased l v
       → Row sizes (at.Logical l) (at.Logical (record l { slots = slots; held = lock_of w ∷ without v.at.0 l.held; waiting = others }))
-      (λ f. f (Request (turned q v)) + (f (Request (turned phase.Wait w)) + all_in phase.Wait others f)) (λ f. f (Request (replied a v)) + (f (Request (onward on w)) + all_in phase.Wait others f))
+      (λ f. f (Request (turned q v)) + (f (Request (turned phase.Wait w)) + all_in phase.Wait others f)) (λ f. f (Request (replied a v)) + (f (Request (turned phase.Look w)) + all_in phase.Wait others f))
   retires : (l : LogicalZone) (v : Vio) → Leased l v
       → Row sizes (at.Logical l) (at.Logical (retire v.at.0 l)) (λ f. f (Request (turned phase.AbortEntered v)) + (all_in phase.Wait (all_for v.at.0 l.waiting) f + all_in phase.Wait (none_for v.at.0 l.waiting) f))
       (λ f. f (Request (turned phase.Reply v)) + (all_ended phase.Reply reply.Stopped (all_for v.at.0 l.waiting) f + all_in phase.Wait (none_for v.at.0 l.waiting) f))

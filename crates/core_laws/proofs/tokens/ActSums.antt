@@ -16,7 +16,7 @@ use Rattle.core_model.specs.DeviceRows.{DeviceServes, DeviceWorks, stop_notices}
 use Rattle.core_model.specs.JournalRows as journal
 use Rattle.core_model.specs.JournalRows.{PhysicalServes, JournalServes, JournalEnds, all_again, all_dropped, all_refused}
 use Rattle.core_model.specs.LogicalRows as logical
-use Rattle.core_model.specs.LogicalRows.{LogicalServes, placed, with_slot, first_for, but_first_for, all_for, none_for, looked, read_next, latest_at, mapping_at, goes_on, passed_to, passes_on, all_stopped}
+use Rattle.core_model.specs.LogicalRows.{LogicalServes, placed, with_slot, first_for, but_first_for, all_for, none_for, looked, read_next, latest_at, mapping_at, goes_on, granted, passed_to, passes_on, released, all_stopped}
 use Rattle.core_model.specs.Steps as steps
 use Rattle.core_model.specs.Steps.{Act}
 use Rattle.core_laws.proofs.lists.CoreLists.{every_but_first, every_none_for}
@@ -24,7 +24,7 @@ use Rattle.core_laws.proofs.lists.ZoneNames.{notified_count}
 use Rattle.core_laws.proofs.tokens.ActRows as row
 use Rattle.core_laws.proofs.tokens.ActRows.{Row, Sum, all_in, all_ended, all_there, Onward, onward, replied, IsSetBy}
 use Rattle.core_laws.proofs.tokens.Known.{Known, IsIn, KeptIn, Leased}
-use Rattle.core_laws.proofs.tokens.Posts.{begun_request, begun_phase, goes_by, IsGranted, nobody, somebody, is_granted}
+use Rattle.core_laws.proofs.tokens.Posts.{begun_request, begun_phase, goes_by}
 
 -- what the posts have together
 abbrev pub posts_sum : List Post → Sum
@@ -132,37 +132,36 @@ module _ (sizes : Sizes) where
     abbrev set : LogicalZone
     set = record l { slots = slots }
 
-    left_row : (o : Option Vio) (more : List Post) → first_for v.at.0 l.waiting ≡ o → IsGranted sizes set o more
-        → IsRow sizes (at.Logical l) (Request v ∷ []) (at.Logical (passed_to v.at.0 set o)) ((id.Desk, Request (replied a v)) ∷ more)
-    left_row None more first nobody =
+    left_row : (o : Option Vio) → first_for v.at.0 l.waiting ≡ o → IsRow sizes (at.Logical l) (Request v ∷ []) (at.Logical (passed_to v.at.0 set o)) ((id.Desk, Request (replied a v)) ∷ passes_on o)
+    left_row None first =
         is_row (row.leaves l slots v q a locks is_set leased) (λ f. omega (arith, in_phase f v q in_it, all_are f phase.Wait l.waiting kept)) (λ f. omega (arith, all_are f phase.Wait l.waiting kept))
-    left_row (Some w) more first (somebody u post goes) =
-        let on = went_on set w post goes in
+    left_row (Some w) first =
         let others = but_first_for v.at.0 l.waiting in
         let taken : (f : Item → ℕ) → all_in phase.Wait l.waiting f ≡ f (Request (turned phase.Wait w)) + all_in phase.Wait others f = λ f. first_taken v.at.0 (λ u. f (Request (turned phase.Wait u))) l.waiting w first in
-        is_row (row.hands_on l slots v q a w on.0 others locks is_set leased) (λ f. omega (arith, in_phase f v q in_it, all_are f phase.Wait l.waiting kept, taken f))
-        (λ f. omega (arith, ap f on.1, all_are f phase.Wait others (every_but_first (IsIn phase.Wait) v.at.0 l.waiting kept)))
+        is_row (row.hands_on l slots v q a w others locks is_set leased) (λ f. omega (arith, in_phase f v q in_it, all_are f phase.Wait l.waiting kept, taken f))
+        (λ f. omega (arith, all_are f phase.Wait others (every_but_first (IsIn phase.Wait) v.at.0 l.waiting kept)))
 
-    leaves_row : (more : List Post) → passes_on sizes set (first_for v.at.0 l.waiting) ≡ Some more
-        → IsRow sizes (at.Logical l) (Request v ∷ []) (at.Logical (passed_to v.at.0 set (first_for v.at.0 l.waiting))) ((id.Desk, Request (replied a v)) ∷ more)
-    leaves_row more grants = left_row (first_for v.at.0 l.waiting) more refl (is_granted sizes set (first_for v.at.0 l.waiting) more grants)
+    leaves_row : IsRow sizes (at.Logical l) (Request v ∷ []) (at.Logical (released v.at.0 set)) ((id.Desk, Request (replied a v)) ∷ granted v.at.0 set)
+    leaves_row = left_row (first_for v.at.0 l.waiting) refl
 
   logical_row : (old : LogicalZone) (v : Vio) (new : LogicalZone) (made : Trace) (posts : List Post) → KeptIn (at.Logical old) → (holds v.phase ≡ true → Leased old v) → LogicalServes sizes old v new made posts
       → IsRow sizes (at.Logical old) (Request v ∷ []) (at.Logical new) posts
   logical_row old v new made posts kept leased (logical.arrives_retired p among n m q) =
       rw (n, q) (is_row (row.arrives_retired old v) (λ f. omega (arith, in_phase f v phase.Arrive p, all_are f phase.Wait old.waiting kept)) (λ f. omega (arith, all_are f phase.Wait old.waiting kept)))
-  logical_row old v new made posts kept leased (logical.arrives_free post p among held goes n m q) =
-      let on = went_on old (placed old v) post goes in
-      rw (n, q) (is_row (row.arrives_free old v on.0) (λ f. omega (arith, in_phase f v phase.Arrive p, all_are f phase.Wait old.waiting kept)) (λ f. omega (arith, ap f on.1, all_are f phase.Wait old.waiting kept)))
+  logical_row old v new made posts kept leased (logical.arrives_free p among held n m q) =
+      rw (n, q) (is_row (row.arrives_free old v) (λ f. omega (arith, in_phase f v phase.Arrive p, all_are f phase.Wait old.waiting kept)) (λ f. omega (arith, all_are f phase.Wait old.waiting kept)))
   logical_row old v new made posts kept leased (logical.arrives_held p among held n m q) =
       rw (n, q) (is_row (row.arrives_held old v (old.waiting ++ turned phase.Wait (placed old v) ∷ [])) (λ f. omega (arith, in_phase f v phase.Arrive p, all_are f phase.Wait old.waiting kept))
       (λ f. omega (arith, items_more f old.waiting (turned phase.Wait (placed old v)), all_are f phase.Wait old.waiting kept)))
-  logical_row old v new made posts kept leased (logical.settles more p grants n m q) =
-      rw (n, q) (leaves_row old (with_slot old v).slots v phase.Settle p refl (omega arith) (leased (ap holds p)) kept (Some reply.Ok) more grants)
-  logical_row old v new made posts kept leased (logical.gives more p grants n m q) =
-      rw (n, q) (leaves_row old old.slots v phase.Loaded p refl (omega arith) (leased (ap holds p)) kept (Some (reply.Bytes v.bytes)) more grants)
-  logical_row old v new made posts kept leased (logical.aborts more p grants n m q) =
-      rw (n, q) (leaves_row old old.slots v phase.Abort p refl (omega arith) (leased (ap holds p)) kept v.answer more grants)
+  logical_row old v new made posts kept leased (logical.looks post p goes n m q) =
+      let on = went_on old v post goes in
+      rw (n, q) (is_row (row.looks old v on.0) (λ f. omega (arith, in_phase f v phase.Look p, all_are f phase.Wait old.waiting kept)) (λ f. omega (arith, ap f on.1, all_are f phase.Wait old.waiting kept)))
+  logical_row old v new made posts kept leased (logical.settles p n m q) =
+      rw (n, q) (leaves_row old (with_slot old v).slots v phase.Settle p refl (omega arith) (leased (ap holds p)) kept (Some reply.Ok))
+  logical_row old v new made posts kept leased (logical.gives p n m q) =
+      rw (n, q) (leaves_row old old.slots v phase.Loaded p refl (omega arith) (leased (ap holds p)) kept (Some (reply.Bytes v.bytes)))
+  logical_row old v new made posts kept leased (logical.aborts p n m q) =
+      rw (n, q) (leaves_row old old.slots v phase.Abort p refl (omega arith) (leased (ap holds p)) kept v.answer)
   logical_row old v new made posts kept leased (logical.aborts_entered p n m q) =
       let split : (f : Item → ℕ) → all_in phase.Wait (all_for v.at.0 old.waiting) f + all_in phase.Wait (none_for v.at.0 old.waiting) f ≡ all_in phase.Wait old.waiting f = λ f. split_for (λ u. f (Request (turned phase.Wait u))) v.at.0 old.waiting in
       let others = every-map {P = λ u. IsIn phase.Wait u × (u.at.0 ≡ v.at.0 → ⊥)} {Q = IsIn phase.Wait} (λ u both. both.0) (none_for v.at.0 old.waiting) (every_none_for (IsIn phase.Wait) v.at.0 old.waiting kept) in

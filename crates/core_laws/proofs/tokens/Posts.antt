@@ -1,5 +1,5 @@
 -- What is posted for a request that is begun, and for one that gets the lock of its address.
-use Rattle.std.proofs.Common.{◌≡◌, ◌⊎◌, true, false, List, [], ◌∷◌, Option, None, Some, inl, inr, refl, ap, sym, subst}
+use Rattle.std.proofs.Common.{◌≡◌, ◌⊎◌, true, false, Some, inl, inr, refl, ap, sym, subst}
 use Rattle.core_laws.proofs.Common.{Asks, LogicalZone, Post, Request, Sizes, Vio, Writer, cases_Bool, same_Some, turned}
 use Rattle.blk_base.specs.declared.place.Mapping.TheVariants.{Unmapped, Zero}
 use Rattle.blk_base.specs.declared.place.ZoneId.TheVariants as id
@@ -8,7 +8,7 @@ use Rattle.core_model.specs.declared.items.Asks.TheVariants.{Read, Write, Discar
 use Rattle.core_model.specs.declared.items.Item.TheVariants as item
 use Rattle.core_model.specs.declared.items.Phase.TheVariants as phase
 use Rattle.core_model.specs.DeskRows.{vio_of}
-use Rattle.core_model.specs.LogicalRows.{are_zeros, enters_with, looked, read_next, next_for, mapping_at, goes_on, only_post, passes_on}
+use Rattle.core_model.specs.LogicalRows.{are_zeros, enters_with, looked, read_next, next_for, mapping_at, goes_on}
 
 -- a request that is begun has its name, and arrives or flushes
 pub begun_request : (sizes : Sizes) (w : Writer) (r : Request) (v : Vio) → vio_of sizes w r ≡ Some v → v.request ≡ w
@@ -40,16 +40,3 @@ goes_by P sizes l v post is reads zeros others discards = by v.asks refl is
     ]
     by Discard asks next = subst P (same_Some _ _ next) (discards asks)
     by Flush asks next = absurd cc
-
--- and for the one that gets a lock, where somebody does
-pub data IsGranted (sizes : Sizes) (l : LogicalZone) : Option Vio → List Post → Type 0 where
-  nobody : IsGranted sizes l None []
-  somebody : (v : Vio) (post : Post) → goes_on sizes l v ≡ Some post → IsGranted sizes l (Some v) (post ∷ [])
-
-pub is_granted : (sizes : Sizes) (l : LogicalZone) (o : Option Vio) (more : List Post) → passes_on sizes l o ≡ Some more → IsGranted sizes l o more
-is_granted sizes l None more is = subst (IsGranted sizes l None) (same_Some _ _ is) nobody
-is_granted sizes l (Some v) more is = by (goes_on sizes l v) refl is
-  where
-    by : (o : Option Post) → goes_on sizes l v ≡ o → only_post o ≡ Some more → IsGranted sizes l (Some v) more
-    by None goes only = absurd cc
-    by (Some post) goes only = subst (IsGranted sizes l (Some v)) (same_Some _ _ only) (somebody v post goes)

@@ -51,27 +51,26 @@ module _ (sizes : Sizes) where
 
   -- a lock goes to who arrives first, or from who leaves it to the first that waits
   pub leases_law : (a : ℕ) (test : ℕ → Bool) {old new : ZoneData} {before after : Sum} → Row sizes old new before after → Conserves (lease_token a test) old new before after
-  leases_law a test (row.arrives_free l v on) = omega (arith, ap (λ b. bit (b && (v.at.0 == a && test l.next))) on.locks)
+  leases_law a test (row.looks l v on) = omega (arith, ap (λ b. bit (b && (v.at.0 == a && test v.place))) on.locks)
   leases_law a test (row.leaves l slots v q answer locks is_set leased) = omega (arith, ap (λ b. bit (b && (v.at.0 == a && test v.place))) locks, freed a test l v leased)
-  leases_law a test (row.hands_on l slots v q answer w on others locks is_set leased) =
-      omega (arith, ap (λ b. bit (b && (v.at.0 == a && test v.place))) locks, ap (λ b. bit (b && (w.at.0 == a && test w.place))) on.locks, freed a test l v leased)
+  leases_law a test (row.hands_on l slots v q answer w others locks is_set leased) = omega (arith, ap (λ b. bit (b && (v.at.0 == a && test v.place))) locks, freed a test l v leased)
   leases_law a test (row.retires l v leased) = omega (arith, freed a test l v leased)
   leases_law a test (row.fails j b) = omega (arith, in_block (holder_weight a test) phase.Pending b.vios)
   leases_law a test other = omega arith
 
   -- and the zone has so many more or less
   pub holders_law : {old new : ZoneData} {before after : Sum} → Row sizes old new before after → Conserves holder_token old new before after
-  holders_law (row.arrives_free l v on) = omega (arith, ap bit on.locks)
+  holders_law (row.looks l v on) = omega (arith, ap bit on.locks)
   holders_law (row.leaves l slots v q answer locks is_set leased) = omega (arith, ap bit locks, one_freed l v leased)
-  holders_law (row.hands_on l slots v q answer w on others locks is_set leased) = omega (arith, ap bit locks, ap bit on.locks, one_freed l v leased)
+  holders_law (row.hands_on l slots v q answer w others locks is_set leased) = omega (arith, ap bit locks, one_freed l v leased)
   holders_law (row.retires l v leased) = omega (arith, one_freed l v leased)
   holders_law (row.fails j b) = omega (arith, in_block (λ v. bit (holds v.phase)) phase.Pending b.vios)
   holders_law other = omega arith
 
   -- an entry goes from its block to its slot, or its address is retired
   pub entries_law : {old new : ZoneData} {before after : Sum} → Row sizes old new before after → Conserves entry_token old new before after
-  entries_law (row.arrives_free l v on) = omega (arith, ap bit on.unentered)
+  entries_law (row.looks l v on) = omega (arith, ap bit on.unentered)
   entries_law (row.leaves l slots v q answer locks is_set leased) = omega (arith, is_set)
-  entries_law (row.hands_on l slots v q answer w on others locks is_set leased) = omega (arith, is_set, ap bit on.unentered)
+  entries_law (row.hands_on l slots v q answer w others locks is_set leased) = omega (arith, is_set)
   entries_law (row.fails j b) = omega (arith, nothing, in_block (λ v. bit (has_entry v.phase)) phase.Pending b.vios)
   entries_law other = omega (arith, nothing)

@@ -11,11 +11,12 @@ use Rattle.core_model.specs.declared.items.Item.TheVariants.{Request}
 use Rattle.core_model.specs.declared.items.Phase.TheVariants as phase
 use Rattle.core_model.specs.declared.items.Vio.{Vio}
 use Rattle.core_model.specs.declared.zones.Zone.{Zone}
-use Rattle.core_model.specs.Facts.{Carries, DataOk, ItemOk, VioOk, ZoneOk}
+use Rattle.core_model.specs.Facts.{Carries, DataOk, IsInTurn, ItemOk, VioOk, ZoneOk}
 use Rattle.core_model.specs.Sessions.{IsFresh}
+use Rattle.core_model.specs.Trace.{Enters, Gives, Sets}
 use Rattle.plain_laws.specs.Sums.{Each}
 use Rattle.core_model.proofs.rows.PhaseRows.{device, physical, vio, writes}
-use Rattle.core_model.proofs.rows.WorkedTraces.{address, block, other, session, took, two_not_zeros, y}
+use Rattle.core_model.proofs.rows.WorkedTraces.{address, block, given, of_first, other, session, took, two_not_zeros, y}
 
 -- of the blocks from 79 to 142
 first_fresh : IsFresh session (block 85)
@@ -52,22 +53,43 @@ not_begun = λ is. omega (arith, is.is_open.is_begun)
 of_another_home : ¬ VioOk session took (record claims { home = id.Logical 0 })
 of_another_home = λ is. let no = is.home in absurd cc
 
--- Carries: it holds its lock, it writes, and it needs a block
+-- Carries: it holds its lock: its place is drawn, and all entries of its address are done, with a lower place
+in_turn : IsInTurn session took claims
+in_turn = record {
+  is_placed = record { for_block = tt; placed = refl; not_entered = refl };
+  quiet = record { all_committed = refl; all_done = refl };
+  below = record { writes = tt; reads = tt };
+}
+
+may_look : Carries session took claims phase.Look
+may_look = (in_turn, refl)
+
+looks_without_a_place : ¬ Carries session [] claims phase.Look
+looks_without_a_place = λ is. let no = is.0.is_placed.placed in absurd cc
+
+not_before_an_entry_is_done : ¬ IsInTurn session (Enters (record of_first { at = address 812 }) ∷ took) claims
+not_before_an_entry_is_done = λ is. let no = ap length is.quiet.all_committed in omega (arith, no)
+
+not_behind_a_later_write : ¬ IsInTurn session (Sets (record of_first { at = address 812 }) ∷ took) claims
+not_behind_a_later_write = λ is. let no = is.below.writes.0 refl in omega (arith, no)
+
+not_behind_a_later_read : ¬ IsInTurn session (Gives (record (given 0) { at = address 812 }) ∷ took) claims
+not_behind_a_later_read = λ is. let no = is.below.reads.0 refl in omega (arith, no)
+
+-- and no block was taken for it
+first_may_not_look : ¬ Carries session took (writes phase.Look) phase.Look
+first_may_not_look = λ is. let no = is.1 in absurd cc
+
+-- it knows what is mapped there, it writes, and it needs a block
 may_claim : Carries session took claims phase.Claim
 may_claim = (
-  record {
-    is_placed = record { for_block = tt; placed = refl; not_entered = refl };
-    quiet = record { all_committed = refl; all_done = refl };
-    below = record { writes = tt; reads = tt };
-    old_held = tt;
-    old_is = refl;
-  },
+  record { turn = in_turn; old_held = tt; old_is = refl },
   refl,
   record { not_zeros = two_not_zeros; none_taken = refl },
 )
 
 without_a_place : ¬ Carries session [] claims phase.Claim
-without_a_place = λ is. let no = is.0.is_placed.placed in absurd cc
+without_a_place = λ is. let no = is.0.turn.is_placed.placed in absurd cc
 
 first_has_its_block : ¬ Carries session took (writes phase.Claim) phase.Claim
 first_has_its_block = λ is. let no = is.2.none_taken in absurd cc
@@ -76,9 +98,11 @@ first_has_its_block = λ is. let no = is.2.none_taken in absurd cc
 may_store : Carries session took (writes phase.Store) phase.Store
 may_store = (
   record {
-    is_placed = record { for_block = tt; placed = refl; not_entered = refl };
-    quiet = record { all_committed = refl; all_done = refl };
-    below = record { writes = tt; reads = tt };
+    turn = record {
+      is_placed = record { for_block = tt; placed = refl; not_entered = refl };
+      quiet = record { all_committed = refl; all_done = refl };
+      below = record { writes = tt; reads = tt };
+    };
     old_held = tt;
     old_is = refl;
   },

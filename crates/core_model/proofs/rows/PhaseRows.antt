@@ -174,27 +174,10 @@ replies_later = answers (DeskServes.parks reply.Stopped refl refl refl refl refl
 replies_at_last : Acts (desk [] [] 3 (answered reply.Stopped (writes phase.Reply) ∷ [])) (StopNotice ∷ []) (desk [] [] 4 []) [] ((id.Desk, Request (answered reply.Stopped (writes phase.Reply))) ∷ [])
 replies_at_last = hears
 
--- Arrive: the address is free, or held, or retired; then a write claims a block, but for one of zeros, a discard hands in its
--- entry, a read goes to the block that is mapped, or has zeros
+-- Arrive: the address is free, or held, or retired
 arrives : Acts (logical 0 [] [] [] [] []) (Request (vio first asks.Write phase.Arrive 0) ∷ []) (logical 1 (place first 0 0 ∷ []) (lock 0 ∷ []) [] [] []) (Draws (place first 0 0) ∷ [])
-    ((id.Physical 0, Request (vio first asks.Write phase.Claim 0)) ∷ [])
-arrives = serves (LogicalServes.arrives_free _ refl refl refl refl refl refl refl)
-
-arrives_to_read : Acts (logical 2 [] [] [] [] (of_first ∷ [])) (Request (vio reader asks.Read phase.Arrive 0) ∷ []) (logical 3 (place reader 0 2 ∷ []) (lock 2 ∷ []) [] [] (of_first ∷ []))
-    (Draws (place reader 0 2) ∷ []) ((id.Device, Request (finds phase.Load)) ∷ [])
-arrives_to_read = serves (LogicalServes.arrives_free _ refl refl refl refl refl refl refl)
-
-arrives_to_zeros : Acts (logical 2 [] [] [] [] []) (Request (vio reader asks.Read phase.Arrive 0) ∷ []) (logical 3 (place reader 0 2 ∷ []) (lock 2 ∷ []) [] [] [])
-    (Draws (place reader 0 2) ∷ []) ((id.Logical 0, Request (record (vio reader asks.Read phase.Loaded 2) { bytes = zero_block })) ∷ [])
-arrives_to_zeros = serves (LogicalServes.arrives_free _ refl refl refl refl refl refl refl)
-
-arrives_to_discard : Acts (logical 0 [] [] [] [] []) (Request (vio first asks.Discard phase.Arrive 0) ∷ []) (logical 1 (place first 0 0 ∷ []) (lock 0 ∷ []) [] [] []) (Draws (place first 0 0) ∷ [])
-    ((id.Journal, Request (vio first asks.Discard phase.Enter 0)) ∷ [])
-arrives_to_discard = serves (LogicalServes.arrives_free _ refl refl refl refl refl refl refl)
-
-arrives_to_write_zeros : Acts (logical 0 [] [] [] [] []) (Request (record (vio first asks.Write phase.Arrive 0) { bytes = 0 ∷ 0 ∷ [] }) ∷ []) (logical 1 (place first 0 0 ∷ []) (lock 0 ∷ []) [] [] [])
-    (Draws (place first 0 0) ∷ []) ((id.Journal, Request (record (vio first asks.Write phase.Enter 0) { bytes = 0 ∷ 0 ∷ []; new = Zero })) ∷ [])
-arrives_to_write_zeros = serves (LogicalServes.arrives_free _ refl refl refl refl refl refl refl)
+    ((id.Logical 0, Request (vio first asks.Write phase.Look 0)) ∷ [])
+arrives = serves (LogicalServes.arrives_free refl refl refl refl refl refl)
 
 arrives_to_wait : Acts (logical 2 [] (lock 0 ∷ []) [] [] []) (Request (vio reader asks.Read phase.Arrive 0) ∷ [])
     (logical 3 (place reader 0 2 ∷ []) (lock 0 ∷ []) (vio reader asks.Read phase.Wait 2 ∷ []) [] []) (Draws (place reader 0 2) ∷ []) []
@@ -203,6 +186,24 @@ arrives_to_wait = serves (LogicalServes.arrives_held refl refl refl refl refl re
 arrives_retired : Acts (logical 2 [] [] [] (address 0 ∷ []) []) (Request (vio reader asks.Read phase.Arrive 0) ∷ []) (logical 3 (place reader 0 2 ∷ []) [] [] (address 0 ∷ []) [])
     (Draws (place reader 0 2) ∷ []) ((id.Desk, Request (answered reply.Stopped (vio reader asks.Read phase.Reply 2))) ∷ [])
 arrives_retired = serves (LogicalServes.arrives_retired refl refl refl refl refl)
+
+-- Look: a write claims a block, but for one of zeros, a discard hands in its entry, a read goes to the block that is mapped, or
+-- has zeros
+looks_to_write : Acts (logical 1 [] (lock 0 ∷ []) [] [] []) (Request (vio first asks.Write phase.Look 0) ∷ []) (logical 1 [] (lock 0 ∷ []) [] [] []) [] ((id.Physical 0, Request (vio first asks.Write phase.Claim 0)) ∷ [])
+looks_to_write = serves (LogicalServes.looks _ refl refl refl refl refl)
+
+looks_to_write_zeros : Acts (logical 1 [] (lock 0 ∷ []) [] [] []) (Request (record (vio first asks.Write phase.Look 0) { bytes = 0 ∷ 0 ∷ [] }) ∷ []) (logical 1 [] (lock 0 ∷ []) [] [] []) []
+    ((id.Journal, Request (record (vio first asks.Write phase.Enter 0) { bytes = 0 ∷ 0 ∷ []; new = Zero })) ∷ [])
+looks_to_write_zeros = serves (LogicalServes.looks _ refl refl refl refl refl)
+
+looks_to_discard : Acts (logical 1 [] (lock 0 ∷ []) [] [] []) (Request (vio first asks.Discard phase.Look 0) ∷ []) (logical 1 [] (lock 0 ∷ []) [] [] []) [] ((id.Journal, Request (vio first asks.Discard phase.Enter 0)) ∷ [])
+looks_to_discard = serves (LogicalServes.looks _ refl refl refl refl refl)
+
+looks_to_read : Acts (logical 3 [] (lock 2 ∷ []) [] [] (of_first ∷ [])) (Request (reads phase.Look) ∷ []) (logical 3 [] (lock 2 ∷ []) [] [] (of_first ∷ [])) [] ((id.Device, Request (finds phase.Load)) ∷ [])
+looks_to_read = serves (LogicalServes.looks _ refl refl refl refl refl)
+
+looks_to_read_zeros : Acts (logical 3 [] (lock 2 ∷ []) [] [] []) (Request (reads phase.Look) ∷ []) (logical 3 [] (lock 2 ∷ []) [] [] []) [] ((id.Logical 0, Request (record (reads phase.Loaded) { bytes = zero_block })) ∷ [])
+looks_to_read_zeros = serves (LogicalServes.looks _ refl refl refl refl refl)
 
 -- Claim: the next free block, or none
 claims : Acts (physical (block 85 ∷ block 86 ∷ [])) (Request (vio first asks.Write phase.Claim 0) ∷ []) (physical (block 86 ∷ [])) (Takes first (block 85) ∷ []) ((id.Device, Request (writes phase.Store)) ∷ [])
@@ -278,8 +279,8 @@ fails = ends (JournalEnds.fails refl refl refl refl)
 
 -- Settle: the slot is set, and the lock goes to the reader
 settles : Acts (logical 3 [] (lock 0 ∷ []) (reads phase.Wait ∷ []) [] []) (Request (writes phase.Settle) ∷ []) (logical 3 [] (lock 2 ∷ []) [] [] (of_first ∷ [])) (Sets of_first ∷ [])
-    ((id.Desk, Request (answered reply.Ok (writes phase.Reply))) ∷ (id.Device, Request (finds phase.Load)) ∷ [])
-settles = serves (LogicalServes.settles _ refl refl refl refl refl)
+    ((id.Desk, Request (answered reply.Ok (writes phase.Reply))) ∷ (id.Logical 0, Request (reads phase.Look)) ∷ [])
+settles = serves (LogicalServes.settles refl refl refl refl)
 
 -- Load: the block is read, or not
 loads : Acts (device true 6) (Request (finds phase.Load) ∷ []) (device true 7) (Calls (Read (block 85) y true) ∷ []) ((id.Logical 0, Request (record (finds phase.Loaded) { bytes = y })) ∷ [])
@@ -290,7 +291,7 @@ loads_in_vain = calls (DeviceServes.load_fails (block 85) y true refl refl (omeg
 
 -- Loaded: it is given its bytes, and the lock is free
 gives : Acts (logical 3 [] (lock 2 ∷ []) [] [] []) (Request (reads phase.Loaded) ∷ []) (logical 3 [] [] [] [] []) (Gives (given 2) ∷ []) ((id.Desk, Request (answered (reply.Bytes x) (reads phase.Reply))) ∷ [])
-gives = serves (LogicalServes.gives _ refl refl refl refl refl)
+gives = serves (LogicalServes.gives refl refl refl refl)
 
 -- AbortClaim, AbortEnteredClaim: it passes by
 aborts_claim : Acts (physical []) (Request (answered reply.Full (writes phase.AbortClaim)) ∷ []) (physical []) [] ((id.Logical 0, Request (answered reply.Full (writes phase.Abort))) ∷ [])
@@ -301,8 +302,8 @@ aborts_entered_claim = takes (PhysicalServes.aborts_entered_claim refl refl refl
 
 -- Abort: the lock goes to the reader; AbortEntered: the address is retired, and the reader is stopped
 aborts : Acts (logical 3 [] (lock 0 ∷ []) (reads phase.Wait ∷ []) [] []) (Request (answered reply.Full (writes phase.Abort)) ∷ []) (logical 3 [] (lock 2 ∷ []) [] [] []) []
-    ((id.Desk, Request (answered reply.Full (writes phase.Reply))) ∷ (id.Logical 0, Request (record (reads phase.Loaded) { bytes = zero_block })) ∷ [])
-aborts = serves (LogicalServes.aborts _ refl refl refl refl refl)
+    ((id.Desk, Request (answered reply.Full (writes phase.Reply))) ∷ (id.Logical 0, Request (reads phase.Look)) ∷ [])
+aborts = serves (LogicalServes.aborts refl refl refl refl)
 
 aborts_entered : Acts (logical 3 [] (lock 0 ∷ []) (reads phase.Wait ∷ []) [] []) (Request (answered reply.Stopped (writes phase.AbortEntered)) ∷ []) (logical 3 [] [] [] (address 0 ∷ []) []) (Aborts of_first ∷ [])
     ((id.Desk, Request (answered reply.Stopped (writes phase.Reply))) ∷ (id.Desk, Request (answered reply.Stopped (reads phase.Reply))) ∷ [])

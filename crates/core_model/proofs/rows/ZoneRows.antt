@@ -57,6 +57,9 @@ row_arrive = (refl, refl, refl, refl, refl)
 row_wait : IsRow phase.Wait (zone_count sizes) false false [] false
 row_wait = (refl, refl, refl, refl, refl)
 
+row_look : IsRow phase.Look 2 true false [] false
+row_look = (refl, refl, refl, refl, refl)
+
 row_claim : IsRow phase.Claim 3 true false [] false
 row_claim = (refl, refl, refl, refl, refl)
 
