@@ -21,7 +21,7 @@ pub(crate) fn compare(
     ensures few { IfOk result (λ report. length report.differs.items < 2 ^ 32) }
 {
     let used = count_used(stored);
-    let total = layout.geometry.slabs * layout.geometry.slab_blocks;
+    let total = layout.data_blocks();
     let mut differs = Vec::new(alloc);
     for n in 0..total {
         push_difference(&mut differs, layout, stored, mapped, n)?;
@@ -46,10 +46,7 @@ fn push_difference(
     requires mapped { length mapped.now ≡ all_blocks layout.now.geometry }
     ensures { OnOk result (differs.new.items ≡ differs.old.items ++ difference_in layout.now.geometry stored.now mapped.now n) }
 {
-    let at = layout.data_block(
-        n / layout.geometry.slab_blocks,
-        n % layout.geometry.slab_blocks,
-    );
+    let at = layout.numbered_block(n);
     let count = u32::from(stored[n as usize]);
     let mappings = mapped[n as usize];
     if u64::from(count) != mappings {

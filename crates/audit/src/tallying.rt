@@ -22,7 +22,7 @@ pub(crate) fn tally(
     requires { length mapped.now < 2 ^ 63 }
     ensures { IfOk result (λ counts. AreTallied layout.now.geometry links.now mapped.now counts.items) }
 {
-    let mut counts = zeros(alloc, layout.geometry.slabs * layout.geometry.slab_blocks)?;
+    let mut counts = zeros(alloc, layout.data_blocks())?;
     mark_all(&mut counts, layout, links);
     count_all(&mut counts, layout, mapped);
     Ok(counts)
@@ -90,7 +90,7 @@ fn number_of(layout: &Layout, at: Pbn) -> Option<usize>
     match layout.place(at) {
         None => None,
         Some(place) => {
-            let number = place.slab * layout.geometry.slab_blocks + place.offset;
+            let number = layout.block_number(place.slab, place.offset);
             Some(number as usize)
         }
     }

@@ -4,3 +4,4 @@ pub mod Points
 pub mod Limits
 pub mod Counters
 pub mod Regions
+pub mod Pages

@@ -1,4 +1,4 @@
-ghost use Rattle.std.specs.Prelude.{◌≡◌, ◌<◌, ◌≤◌, ◌+◌, ◌*◌, ◌↔◌, ℕ, IsTrue, IfSome, IfNone};
+ghost use Rattle.std.specs.Prelude.{◌≡◌, ◌<◌, ◌≤◌, ◌+◌, ◌*◌, ◌/◌, ◌%◌, ◌↔◌, ℕ, IsTrue, IfSome, IfNone};
 ghost use Rattle.blk_base.specs.Limits.{IsGeometry};
 ghost use Rattle.blk_base.specs.Counters.{limit_of, counters_per_sector, sectors_per_slab, sector_of_offset};
 ghost use Rattle.blk_base.specs.Regions.{Place, IsPlace, IsDataBlock, block_of, slab_slot_of, journal_block_of, needed_blocks, references_of, slab_stride_of, first_index_of, first_slab_of, slab_start_of};
@@ -187,8 +187,45 @@ impl Layout {
         }
     }
 
-    // Reference blocks of a slab.
-    fn references(&self) -> u32
+    /// How many data blocks the image has.
+    pub fn data_blocks(&self) -> u32
+        ensures { result ≡ self.now.geometry.slabs * self.now.geometry.slab_blocks }
+    {
+        self.geometry.slabs * self.geometry.slab_blocks
+    }
+
+    /// The number of a data block among those of the image, slab after slab.
+    pub fn block_number(&self, slab: u32, offset: u32) -> u32
+        requires { IsPlace self.now.geometry (DataBlock slab offset) }
+        ensures number { result ≡ slab * self.now.geometry.slab_blocks + offset }
+        ensures inside { result < self.now.geometry.slabs * self.now.geometry.slab_blocks }
+    {
+        slab * self.geometry.slab_blocks + offset
+    }
+
+    /// The data block with this number.
+    pub fn numbered_block(&self, number: u32) -> Pbn
+        requires { number < self.now.geometry.slabs * self.now.geometry.slab_blocks }
+        ensures block { result.0 ≡ block_of self.now.geometry
+            (DataBlock (number / self.now.geometry.slab_blocks) (number % self.now.geometry.slab_blocks)) }
+        ensures inside { result.0 < needed_blocks self.now.geometry }
+    {
+        let slab_blocks = self.geometry.slab_blocks;
+        self.data_block(number / slab_blocks, number % slab_blocks)
+    }
+
+    /// The number of a sector of counters among those of the image, slab after slab; `sector` is its number in its slab.
+    pub fn sector_number(&self, slab: u32, sector: u32) -> u32
+        requires slab { slab < self.now.geometry.slabs }
+        requires sector { sector < sectors_per_slab self.now.geometry }
+        ensures number { result ≡ slab * sectors_per_slab self.now.geometry + sector }
+        ensures inside { result < self.now.geometry.slabs * sectors_per_slab self.now.geometry }
+    {
+        slab * self.sectors_per_slab() + sector
+    }
+
+    /// How many reference blocks a slab has.
+    pub fn references(&self) -> u32
         ensures { result ≡ references_of self.now.geometry }
     {
         self.geometry

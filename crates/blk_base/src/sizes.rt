@@ -9,3 +9,6 @@ pub const SECTOR_COUNTERS: usize = 504;
 
 /// The greatest count of a data block, with the claims on it.
 pub const COUNT_LIMIT: u16 = 254;
+
+/// How many entries a block of the recovery journal has room for.
+pub const JOURNAL_ENTRIES: usize = 192;

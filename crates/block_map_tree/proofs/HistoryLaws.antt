@@ -8,6 +8,7 @@ use Rattle.blk_base.specs.declared.place.Mapping.{Mapping}
 use Rattle.blk_base.specs.declared.place.Mapping.TheVariants.{Unmapped, At}
 use Rattle.blk_base.specs.declared.point.Point.{Point}
 use Rattle.blk_base.specs.Regions.{Root, block_of}
+use Rattle.blk_base.specs.Pages.{above, slot_of}
 use Rattle.page_codec.specs.declared.forms.MapPage.{MapPage}
 use Rattle.dirty_pages.specs.declared.marks.Marks.{Marks}
 use Rattle.dirty_pages.specs.Marks.{HasPoint, IsLowPoint, AreClean, marks_at, with_marks, changed_at, handed_out, settled}
@@ -17,7 +18,7 @@ use Rattle.dirty_pages.proofs.HistoryLaws as dirty
 use Rattle.block_map_tree.specs.declared.forms.Forest.{Forest}
 use Rattle.block_map_tree.specs.declared.forms.Path.{Path}
 use Rattle.block_map_tree.specs.declared.forms.Found.TheVariants.{Missing}
-use Rattle.block_map_tree.specs.Pages.{IsTreeOf, IsOnPath, IsRoot, IsLower, IsInner, page_on, page_at, above, slot_of}
+use Rattle.block_map_tree.specs.Pages.{IsTreeOf, IsOnPath, IsRoot, IsLower, IsInner, page_on, page_at}
 use Rattle.block_map_tree.specs.Tree.{Tree, IsTree, IsAt, as_root, by_link, IsThere, IsFound, IsLinkable, Links, Expires, IsWriting, number_of, marks_of, mappings_of, mapping_of}
 use Rattle.block_map_tree.specs.History.{Call, Link, HandOut, Write, Leads, LeadTo, event_of, events_of}
 use Rattle.dirty_pages.proofs.PageLists.{at_set}

@@ -10,12 +10,13 @@ use Rattle.blk_base.specs.declared.place.PageId.{PageId}
 use Rattle.blk_base.specs.declared.place.Mapping.{Mapping}
 use Rattle.blk_base.specs.declared.place.Mapping.TheVariants.{Unmapped}
 use Rattle.blk_base.specs.declared.opened.OpenedPage.{OpenedPage}
+use Rattle.blk_base.specs.Pages.{above, slot_of}
 use Rattle.page_codec.specs.Grammar.{AreHeld}
 use Rattle.page_codec.proofs.HeldLaws.{held_unmapped, held_above}
 use Rattle.dirty_pages.specs.declared.marks.Marks.{Marks}
 use Rattle.dirty_pages.specs.Marks.{HasPoint, clean, marks_at}
 use Rattle.block_map_tree.specs.declared.forms.Forest.{Forest}
-use Rattle.block_map_tree.specs.Pages.{IsForest, IsTreeOf, IsOnPath, IsRoot, IsLower, IsInner, above, slot_of}
+use Rattle.block_map_tree.specs.Pages.{IsForest, IsTreeOf, IsOnPath, IsRoot, IsLower, IsInner}
 use Rattle.block_map_tree.specs.Tree.{Tree, as_root, by_link, trees_of, number_of, most_rows, mappings_of, mapping_of}
 use Rattle.block_map_tree.specs.Opening.{all_trees, IsListed, IsOpened, IsOpening, AreEnough, blank, IsTakenOver}
 use Rattle.dirty_pages.proofs.PageLists.{at_set, replicate_at, listed_or_not}

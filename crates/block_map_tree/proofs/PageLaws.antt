@@ -6,8 +6,9 @@ use Rattle.std.proofs.lemmas.Nat.{div-add-mod', le-div, div-mul-add, mod-mul-add
 use Rattle.std.proofs.lemmas.Bool.Decides.{eqb_tells}
 use Rattle.blk_base.specs.declared.place.PageId.{PageId}
 use Rattle.blk_base.proofs.PageIdLaws.{same_page}
+use Rattle.blk_base.specs.Pages.{above, slot_of}
 use Rattle.block_map_tree.specs.declared.forms.Forest.{Forest}
-use Rattle.block_map_tree.specs.Pages.{IsForest, IsTreeOf, IsOnPath, IsRoot, IsLower, IsInner, above, slot_of, page_at}
+use Rattle.block_map_tree.specs.Pages.{IsForest, IsTreeOf, IsOnPath, IsRoot, IsLower, IsInner, page_at}
 use Rattle.block_map_tree.specs.Tree.{trees_of, row_of, number_of, most_rows}
 
 -- the trees of a zone, and their numbers there

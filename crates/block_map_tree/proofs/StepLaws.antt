@@ -9,12 +9,13 @@ use Rattle.blk_base.specs.declared.place.Mapping.TheVariants.{At}
 use Rattle.blk_base.specs.declared.point.Point.{Point}
 use Rattle.page_codec.specs.declared.forms.MapPage.{MapPage}
 use Rattle.blk_base.specs.Regions.{IsDataBlock}
+use Rattle.blk_base.specs.Pages.{above, slot_of}
 use Rattle.page_codec.specs.Grammar.{AreHeld}
 use Rattle.page_codec.proofs.HeldLaws.{held_above}
 use Rattle.dirty_pages.specs.declared.marks.Marks.{Marks}
 use Rattle.dirty_pages.specs.Marks.{HandsOut, marks_at, with_marks, changed_at, handed_out, settled}
 use Rattle.dirty_pages.proofs.MarkLaws.{due_inside, out_inside}
-use Rattle.block_map_tree.specs.Pages.{IsInner, IsOnPath, IsRoot, above, slot_of}
+use Rattle.block_map_tree.specs.Pages.{IsInner, IsOnPath, IsRoot}
 use Rattle.block_map_tree.specs.Tree.{Tree, IsTree, IsAt, IsThere, IsLinkable, Links, Expires, IsWriting, Writes, number_of, mappings_of}
 use Rattle.block_map_tree.proofs.TreeLaws.{HasPlace, marks_keep, marks_move_none, marks_move_none_back, links, place_above}
 

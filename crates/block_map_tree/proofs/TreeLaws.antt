@@ -13,7 +13,7 @@ use Rattle.page_codec.specs.Grammar.{AreHeld}
 use Rattle.page_codec.proofs.HeldLaws.{held-set, holds_block}
 use Rattle.dirty_pages.specs.declared.marks.Marks.{Marks}
 use Rattle.dirty_pages.specs.Marks.{HasPoint, marks_at, changed_at}
-use Rattle.block_map_tree.specs.Pages.{above, slot_of}
+use Rattle.blk_base.specs.Pages.{above, slot_of}
 use Rattle.block_map_tree.specs.Tree.{Tree, IsTree, IsAt, as_root, by_link, IsThere, IsLinkable, Links, number_of, mappings_of, marks_of, with_change, with_mapping}
 use Rattle.dirty_pages.proofs.PageLists.{at_set}
 use Rattle.block_map_tree.proofs.PageLaws.{one_number, lower_on_path, above_on_path, above_inner}

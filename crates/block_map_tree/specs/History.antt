@@ -5,7 +5,7 @@ use Rattle.blk_base.specs.declared.place.Pbn.{Pbn}
 use Rattle.blk_base.specs.declared.point.Point.{Point}
 use Rattle.page_codec.specs.declared.forms.MapPage.{MapPage}
 use Rattle.dirty_pages.specs.History.{Event, Changed, HandedOut, Written}
-use Rattle.block_map_tree.specs.Pages.{above}
+use Rattle.blk_base.specs.Pages.{above}
 use Rattle.block_map_tree.specs.Tree.{Tree, IsLinkable, Links, Expires, IsWriting, Writes}
 
 -- a page is linked, a page is handed out to be written, a page is reported as written

@@ -9,10 +9,11 @@ use Rattle.blk_base.specs.declared.geometry.Geometry.{Geometry}
 use Rattle.blk_base.specs.declared.opened.Opened.{Opened}
 use Rattle.blk_base.specs.declared.opened.OpenedPage.{OpenedPage}
 use Rattle.blk_base.specs.Regions.{Root, block_of}
+use Rattle.blk_base.specs.Pages.{above, slot_of}
 use Rattle.page_codec.specs.Grammar.{AreHeld}
 use Rattle.dirty_pages.specs.Marks.{AreClean}
 use Rattle.block_map_tree.specs.declared.forms.Forest.{Forest}
-use Rattle.block_map_tree.specs.Pages.{IsTreeOf, IsOnPath, IsRoot, IsLower, IsInner, above, slot_of}
+use Rattle.block_map_tree.specs.Pages.{IsTreeOf, IsOnPath, IsRoot, IsLower, IsInner}
 use Rattle.block_map_tree.specs.Tree.{Tree, IsTree, IsAt, IsThere, row_of, most_rows, number_of, mappings_of, mapping_of}
 
 -- the trees that one of so many zones has of an image

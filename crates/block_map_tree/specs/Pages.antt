@@ -85,10 +85,3 @@ pub record IsLower (f : Forest) (page : PageId) : Type 0 where
 pub record IsInner (f : Forest) (page : PageId) : Type 0 where
   pub level : 1 ≤ page.level
   pub there : IsRoot f page ⊎ IsLower f page
-
--- the page that leads to a page that is no root, and the slot there
-abbrev pub above : PageId → PageId
-above page = record { tree = page.tree; level = page.level + 1; index = page.index / PAGE_SLOTS }
-
-abbrev pub slot_of : PageId → ℕ
-slot_of page = page.index % PAGE_SLOTS

@@ -7,6 +7,7 @@ use Rattle.blk_base.specs.declared.place.Mapping.{Mapping}
 use Rattle.blk_base.specs.declared.place.Mapping.TheVariants.{Unmapped, At}
 use Rattle.blk_base.specs.declared.point.Point.{Point}
 use Rattle.blk_base.specs.Regions.{Root, block_of}
+use Rattle.blk_base.specs.Pages.{above, slot_of}
 use Rattle.page_codec.specs.declared.forms.MapPage.{MapPage}
 use Rattle.page_codec.specs.Grammar.{AreHeld}
 use Rattle.dirty_pages.specs.declared.marks.Marks.{Marks}
@@ -15,7 +16,7 @@ use Rattle.block_map_tree.specs.declared.forms.Path.{Path}
 use Rattle.block_map_tree.specs.declared.forms.Forest.{Forest}
 use Rattle.block_map_tree.specs.declared.forms.Found.{Found}
 use Rattle.block_map_tree.specs.declared.forms.Found.TheVariants.{Leaf, Missing}
-use Rattle.block_map_tree.specs.Pages.{page_on, IsForest, IsOnPath, IsRoot, IsLower, IsInner, above, slot_of}
+use Rattle.block_map_tree.specs.Pages.{page_on, IsForest, IsOnPath, IsRoot, IsLower, IsInner}
 
 -- what each page that is no leaf says, and its marks, by the numbers of the pages
 pub record Tree : Type 0 where

@@ -8,11 +8,12 @@ ghost use Rattle.block_map_tree.specs.declared.forms.Forest.{Forest};
 ghost use Rattle.block_map_tree.specs.declared.forms.Found.{Found};
 ghost use Rattle.block_map_tree.specs.declared.forms.Found.TheVariants.{Missing};
 ghost use Rattle.block_map_tree.specs.declared.forms.Path.{Path};
-ghost use Rattle.block_map_tree.specs.Pages.{IsTreeOf, IsRoot, above, page_on, page_at};
+ghost use Rattle.block_map_tree.specs.Pages.{IsTreeOf, IsRoot, page_on, page_at};
 ghost use Rattle.block_map_tree.specs.Tree.{Tree, IsTree, IsAt, IsThere, IsFound, IsLinkable, Links, Expires, IsWriting, Writes, marks_of};
 ghost use Rattle.block_map_tree.specs.Opening.{IsOpened, all_trees};
 ghost use Rattle.block_map_tree.specs.History.{Call, Leads, LeadTo, events_of};
 ghost use Rattle.blk_base.specs.Regions.{IsDataBlock};
+ghost use Rattle.blk_base.specs.Pages.{above};
 ghost use Rattle.dirty_pages.specs.Marks.{IsLowPoint, AreClean, NoneIsDue};
 ghost use Rattle.dirty_pages.specs.History.{IsWaiting, IsUnwritten, IsUnreported, AtMost};
 

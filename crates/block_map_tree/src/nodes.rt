@@ -4,14 +4,13 @@ ghost use Rattle.blk_base.specs.declared.point.Point.{Point};
 ghost use Rattle.blk_base.specs.declared.place.PageId.{PageId};
 ghost use Rattle.blk_base.specs.Limits.{IsGeometry};
 ghost use Rattle.blk_base.specs.Regions.{IsDataBlock};
+ghost use Rattle.blk_base.specs.Pages.{above};
 ghost use Rattle.dirty_pages.specs.Marks.{NoneIsDue, IsFirstDue, NoneIsEverDue, IsLowPoint, AreClean};
-ghost use Rattle.block_map_tree.specs.Pages.{IsTreeOf, IsPath, above};
+ghost use Rattle.block_map_tree.specs.Pages.{IsTreeOf, IsPath};
 ghost use Rattle.block_map_tree.specs.Tree.{IsAt, IsThere, IsFound, IsLinkable, Links, Expires, IsWriting, Writes, mapping_of};
 ghost use Rattle.block_map_tree.specs.Opening.{IsOpened, IsOpening, forest_of};
 
-use crate::numbers::{
-    SLOTS, has_tree, is_below_a_root, is_inner, number, page_above, page_numbered, slot, width,
-};
+use crate::numbers::{SLOTS, has_tree, is_below_a_root, is_inner, number, page_numbered, width};
 use crate::opening::{count_pages, take_over};
 use crate::{Forest, Found, Path};
 use blk_base::{
@@ -114,8 +113,8 @@ impl TreeNodes {
         ensures { Links self.old self.new page at point }
     {
         let forest = self.forest;
-        let number = number(page_above(page), &forest);
-        self.pages[number].set(slot(page), Mapping::At(at));
+        let number = number(page.parent(), &forest);
+        self.pages[number].set(page.parent_slot(), Mapping::At(at));
         self.marks.change(number, point);
     }
 
@@ -123,7 +122,7 @@ impl TreeNodes {
     pub fn may_link(&self, page: PageId) -> bool
         ensures { IsTrue result ↔ (IsLinkable self.now page × IsThere self.now (above page)) }
     {
-        is_below_a_root(page, &self.forest) && self.at(page_above(page)).is_some()
+        is_below_a_root(page, &self.forest) && self.at(page.parent()).is_some()
     }
 
     /// The block of a page; `None` exactly where the page is no root and isn't linked, or is of another zone's trees.
@@ -142,7 +141,7 @@ impl TreeNodes {
         if level + 1 == height {
             return Some(Layout::of(&self.forest.geometry).root(page.tree));
         }
-        match self.mapping(page_above(page), slot(page)) {
+        match self.mapping(page.parent(), page.parent_slot()) {
             Mapping::At(at) => Some(at),
             Mapping::Zero | Mapping::Unmapped => None,
         }

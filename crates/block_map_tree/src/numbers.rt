@@ -1,5 +1,5 @@
 ghost use Rattle.std.specs.Prelude.{◌≡◌, ◌<◌, ◌≤◌, ◌*◌, ◌^◌, ◌↔◌, IsTrue};
-ghost use Rattle.block_map_tree.specs.Pages.{above, first_below, slot_of, IsForest, IsTreeOf, IsOnPath, IsRoot, IsInner};
+ghost use Rattle.block_map_tree.specs.Pages.{first_below, IsForest, IsTreeOf, IsOnPath, IsRoot, IsInner};
 ghost use Rattle.block_map_tree.specs.Tree.{trees_of, number_of, most_rows};
 
 use crate::Forest;
@@ -123,24 +123,4 @@ pub(crate) fn page_numbered(number: usize, forest: &Forest) -> PageId
             index: (row - 1) as u32,
         }
     }
-}
-
-/// The page that leads to a page.
-pub(crate) fn page_above(page: PageId) -> PageId
-    requires { page.level < 255 }
-    ensures { result ≡ above page }
-{
-    PageId {
-        tree: page.tree,
-        level: page.level + 1,
-        index: page.index / SLOTS,
-    }
-}
-
-/// The slot that leads to a page.
-pub(crate) fn slot(page: PageId) -> u16
-    ensures value { result ≡ slot_of page }
-    ensures inside { result < PAGE_SLOTS }
-{
-    (page.index % SLOTS) as u16
 }

@@ -13,10 +13,10 @@ use Rattle.blk_base.specs.declared.point.Point.{Point}
 use Rattle.blk_base.specs.declared.sizes.TheConstants.{PAGE_SLOTS, TREES}
 use Rattle.disk_model.specs.Log.{Blocks}
 use Rattle.image_model.specs.Counts.{HasMappings}
-use Rattle.image_model.specs.Maps.{Image, IsTreePage, mapping_of, page_at, says}
+use Rattle.image_model.specs.Maps.{Image, IsTreePage, mapping_of, page_at, says, slot_in}
 use Rattle.image_model.specs.Pages.{address_count, leaf_of, slot_of_address}
 use Rattle.image_model.specs.Sound.{AreUnshared}
-use Rattle.journal_stops.specs.Mapped.{ShowsEntries, later_image, mapping_after, slot_in}
+use Rattle.journal_stops.specs.Mapped.{ShowsEntries, later_image, mapping_after}
 use Rattle.journal_stops.proofs.GrowLaws.{by_leaf}
 use Rattle.journal_stops.proofs.OpenedLaws.{page_with_none, slot_of_page}
 use Rattle.count_laws.specs.Points.{ArePointed, points_by, points_for}

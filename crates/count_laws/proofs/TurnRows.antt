@@ -6,12 +6,13 @@ use Rattle.blk_base.specs.declared.journal_entry.Entry.TheVariants.{NewPage}
 use Rattle.blk_base.specs.declared.place.Mapping.TheVariants.{Unmapped, Zero, At}
 use Rattle.blk_base.specs.declared.place.PageId.{PageId}
 use Rattle.blk_base.specs.declared.place.Pbn.{Pbn}
+use Rattle.blk_base.specs.Pages.{above}
 use Rattle.disk_model.specs.Log.{Blocks}
 use Rattle.image_model.proofs.Example.{pbn, small}
 use Rattle.image_model.specs.Counts.{leads_to, mapped_below}
 use Rattle.image_model.specs.Empty.{IsEmpty}
 use Rattle.image_model.specs.Maps.{Image}
-use Rattle.image_model.specs.Pages.{above, address_count}
+use Rattle.image_model.specs.Pages.{address_count}
 use Rattle.journal_stops.specs.Mapped.{mapping_after, page_after}
 use Rattle.plain_laws.specs.Sums.{bit}
 use Rattle.count_laws.specs.Running.{RunningCount}

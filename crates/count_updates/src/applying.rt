@@ -21,8 +21,10 @@ pub fn applied_points(
         match layout.place(update.at) {
             None => {}
             Some(place) => {
-                let sector = place.slab * layout.sectors_per_slab()
-                    + layout.sector_of_offset(place.offset);
+                let sector = layout.sector_number(
+                    place.slab,
+                    layout.sector_of_offset(place.offset),
+                );
                 raise(&mut applied, sector as usize, update.point);
             }
         }

@@ -1,4 +1,4 @@
-ghost use Rattle.std.specs.Prelude.{◌≡◌, ◌+◌, ◌*◌, ◌<◌, ◌≤◌, ℕ, List, ◌∷◌, Ok, Err, IfOk, IfErr, IfSome, IfNone, OnOk, length, get_or};
+ghost use Rattle.std.specs.Prelude.{◌≡◌, ◌+◌, ◌<◌, ◌≤◌, ℕ, List, ◌∷◌, Ok, Err, IfOk, IfErr, IfSome, IfNone, OnOk, length, get_or};
 ghost use Rattle.blk_base.specs.declared.journal_entry.Update.{Update};
 ghost use Rattle.image_model.specs.Counts.{block_of_data, count_after};
 ghost use Rattle.image_model.specs.Sound.{IsDataPlace};
@@ -99,8 +99,8 @@ fn count_of(
     ensures left { IfErr result (λ point. IsCountedAt layout.now.geometry found.now.counters.items found.now.commits.items updates.now place (Err point.0)) }
 {
     let at = layout.data_block(place.slab, place.offset);
-    let sector = place.slab * layout.sectors_per_slab() + layout.sector_of_offset(place.offset);
-    let block = place.slab * layout.geometry.slab_blocks + place.offset;
+    let sector = layout.sector_number(place.slab, layout.sector_of_offset(place.offset));
+    let block = layout.block_number(place.slab, place.offset);
     let commit = found.commits[sector as usize];
     let counter = found.counters[block as usize];
     count_from(layout.limit(), at, commit, counter, updates)

@@ -1,5 +1,5 @@
 -- The log of a device: the calls made, the newest first.
-use Rattle.std.specs.Prelude.{ℕ, ◌≢◌, true, false, if◌then◌else◌, ◌==◌, List, [], ◌∷◌, get_or}
+use Rattle.std.specs.Prelude.{ℕ, ◌≡◌, ◌≢◌, ◌⊎◌, true, false, if◌then◌else◌, ◌==◌, List, [], ◌∷◌, get_or}
 use Rattle.blk_base.specs.Sectors.{zero_block}
 use Rattle.disk_model.specs.declared.call.Call.{Call}
 use Rattle.disk_model.specs.declared.call.Call.TheVariants.{Read, Write, Flush}
@@ -34,3 +34,10 @@ abbrev pub Misses : Call → ℕ → Type 0
 Misses (Read _ _ _) b = Unit {0}
 Misses (Write at _ _) b = at.0 ≢ b
 Misses (Flush _) b = Unit {0}
+
+-- one of these calls writes a block
+abbrev pub IsWritten : List Call → ℕ → Type 0
+IsWritten [] b = ⊥
+IsWritten (Write at bytes ok ∷ older) b = (at.0 ≡ b) ⊎ IsWritten older b
+IsWritten (Read _ _ _ ∷ older) b = IsWritten older b
+IsWritten (Flush _ ∷ older) b = IsWritten older b

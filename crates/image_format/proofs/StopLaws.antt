@@ -13,7 +13,7 @@ use Rattle.blk_base.proofs.RegionLaws.{apart, data_block_high, inside}
 use Rattle.disk_model.specs.declared.call.Call.{Call}
 use Rattle.disk_model.specs.declared.call.Call.TheVariants.{Read, Write, Flush}
 use Rattle.disk_model.specs.Images.{IsImage, HasOneImage}
-use Rattle.disk_model.specs.Log.{Blocks, block_at, settled, contents, Misses}
+use Rattle.disk_model.specs.Log.{Blocks, block_at, settled, contents, Misses, IsWritten}
 use Rattle.disk_model.proofs.ImageLaws.{contents-write_other, settled-misses, settled-write_other, all_weaker, kept, sector_of_mix, block_of_image}
 use Rattle.disk_model.proofs.OneImageLaws.{one_image-later, one_image-opening, one_image-unique}
 use Rattle.image_layout.specs.Opened.{super_of_image}
@@ -78,13 +78,6 @@ all_append P (x ∷ xs) ys one two = (one.0, all_append P xs ys one.1 two)
 all_below : (P : Call → Type 0) (f : ℕ → List Call) (n : ℕ) → ((i : ℕ) → i < n → AllByRecursion P (f i)) → AllByRecursion P (calls_below f n)
 all_below P f zero each = tt
 all_below P f (suc n) each = all_append P (f n) (calls_below f n) (each n (omega arith)) (all_below P f n (λ i below. each i (omega (arith, below))))
-
--- a block is written
-abbrev IsWritten : List Call → ℕ → Type 0
-IsWritten [] b = ⊥
-IsWritten (Write at bytes ok ∷ older) b = (at.0 ≡ b) ⊎ IsWritten older b
-IsWritten (Read _ _ _ ∷ older) b = IsWritten older b
-IsWritten (Flush _ ∷ older) b = IsWritten older b
 
 written_front : (xs ys : List Call) (b : ℕ) → IsWritten xs b → IsWritten (xs ++ ys) b
 written_front [] ys b is = absurd is

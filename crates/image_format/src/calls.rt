@@ -5,7 +5,7 @@ ghost use Rattle.image_format.specs.Calls.{put, zeros_from, roots_below, slab_ca
 ghost use Rattle.image_format.specs.Runs.{Makes};
 ghost use Rattle.image_model.specs.Empty.{empty_root};
 
-use blk_base::{Block, Layout, Mappings, PageId, Pbn, Super, TREES};
+use blk_base::{Block, Layout, Mappings, Pbn, Super, TREES};
 use disk_model::{Disk, Failed};
 use image_layout::write_super;
 use page_codec::{MapPage, PageHead, encode};
@@ -44,14 +44,9 @@ fn root_page(layout: &Layout, tree: u8, into: &mut Block)
     requires { IsPlace layout.now.geometry (Root tree) }
     ensures { into.new ≡ empty_root layout.now.geometry tree }
 {
-    let page = PageId {
-        tree,
-        level: (layout.geometry.height - 1) as u8,
-        index: 0,
-    };
     let head = PageHead {
         geometry: layout.geometry,
-        page,
+        page: layout.root_page(tree),
         at: layout.root(tree),
     };
     let mappings = Mappings::new();

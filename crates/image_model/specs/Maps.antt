@@ -11,11 +11,12 @@ use Rattle.blk_base.specs.declared.place.Mapping.TheVariants.{Unmapped, Zero, At
 use Rattle.blk_base.specs.declared.place.PageId.{PageId}
 use Rattle.blk_base.specs.declared.place.Pbn.{Pbn}
 use Rattle.blk_base.specs.declared.sizes.TheConstants.{PAGE_SLOTS, TREES}
+use Rattle.blk_base.specs.Pages.{above, slot_of}
 use Rattle.byte_fields.specs.Fields.{number_at}
 use Rattle.disk_model.specs.Log.{Blocks, block_at}
 use Rattle.page_codec.specs.Grammar.{HasHead, IsSlot}
 use Rattle.page_codec.specs.declared.forms.PageHead.{PageHead}
-use Rattle.image_model.specs.Pages.{leaf_of, slot_of_address, above, slot_of, is_page}
+use Rattle.image_model.specs.Pages.{leaf_of, slot_of_address, is_page}
 
 -- an image: its sizes, its blocks, and its window, the newest entry first
 pub record Image : Type 0 where
@@ -122,3 +123,14 @@ pub record IsGoodPage (image : Image) (page : PageId) (at : Pbn) : Type 0 where
 -- each linked page, roots too, can be read
 abbrev pub ArePagesGood : Image → Type 0
 ArePagesGood image = (page : PageId) (at : Pbn) → page_at image page ≡ Some at → IsGoodPage image page at
+
+-- what an image has in a slot: what the page says there, or nothing where it has no such page
+abbrev pub slot_in : Image → PageId → ℕ → Mapping
+slot_in image page slot = elim (page_at image page) [
+  | Some at ↦ says image page at slot
+  | None ↦ Unmapped
+]
+
+-- the image with these sizes, these blocks and this window, the newest entry first
+abbrev pub image_with : Geometry → Blocks → List CommittedEntry → Image
+image_with g blocks window = record { geometry = g; blocks = blocks; window = window }

@@ -15,13 +15,6 @@ leaf_of address = page_above 0 address
 abbrev pub slot_of_address : ℕ → ℕ
 slot_of_address address = address % PAGE_SLOTS
 
--- the page that leads to a page, and the slot there
-abbrev pub above : PageId → PageId
-above page = record { tree = page.tree; level = page.level + 1; index = page.index / PAGE_SLOTS }
-
-abbrev pub slot_of : PageId → ℕ
-slot_of page = page.index % PAGE_SLOTS
-
 abbrev pub is_page : PageId → PageId → Bool
 is_page page other = (page.tree == other.tree) && (page.level == other.level) && (page.index == other.index)
 

@@ -1,4 +1,4 @@
-use blk_base::Entry;
+use blk_base::{Entry, JOURNAL_ENTRIES};
 use sector_records::Records;
 
 /// At most `N` entries of the journal.
@@ -11,7 +11,7 @@ pub struct JournalBlock {
     pub nonce: u64,
     pub sequence: u64,
     pub head: u64,
-    pub entries: Entries<192>,
+    pub entries: Entries<JOURNAL_ENTRIES>,
 }
 
 /// What a valid sector says. It has at most 24 entries.
@@ -27,6 +27,6 @@ pub struct Sector {
 pub struct Prefix {
     pub sequence: u64,
     pub head: u64,
-    pub entries: Entries<192>,
+    pub entries: Entries<JOURNAL_ENTRIES>,
     pub whole: bool,
 }

@@ -6,7 +6,7 @@ ghost use Rattle.journal_codec.specs.Grammar.{HoldsEntry, IsSector, IsRun, IsPre
 
 use crate::format::{JournalHead, PER_SECTOR};
 use crate::{Entries, Prefix, Sector};
-use blk_base::{Block, Entry, Mapping, TREES};
+use blk_base::{Block, Entry, JOURNAL_ENTRIES, Mapping, TREES};
 use byte_fields::{read_u16, read_u64};
 use sector_records::{bytes_of_sector, is_sector, read_records};
 
@@ -133,7 +133,7 @@ fn add_next(
     sequence: u64,
     head: u64,
     count: u16,
-    entries: &mut Entries<192>,
+    entries: &mut Entries<JOURNAL_ENTRIES>,
 ) -> bool
     requires place { count < 8 }
     requires run { IsRun nonce block.now sequence head count entries.old }

@@ -15,7 +15,7 @@ use Rattle.byte_fields.proofs.FieldLaws.{number_at-drop}
 use Rattle.std.proofs.lemmas.List.{drop-replicate}
 use Rattle.disk_model.specs.Log.{Blocks, block_at}
 use Rattle.image_layout.specs.Values.{journal_of}
-use Rattle.image_model.specs.Maps.{mapping_in, mapping_with, mapping_of, page_at}
+use Rattle.image_model.specs.Maps.{mapping_in, mapping_with, mapping_of, page_at, slot_in}
 use Rattle.image_model.specs.Windows.{in_slot, IsThere, IsWindow}
 use Rattle.image_model.specs.Pages.{is_page}
 use Rattle.image_model.proofs.Example.{small, pbn}
@@ -23,7 +23,7 @@ use Rattle.image_model.proofs.MapRows.{said, blocks, image, page, logged, remap}
 use Rattle.image_model.proofs.WindowLaws.{one_window}
 use Rattle.image_model.proofs.ZeroLaws.{of_eight}
 use Rattle.journal_codec.proofs.ReadLaws.{length-sector_bytes}
-use Rattle.journal_stops.specs.Mapped.{slot_in, slot_after, linked_after, page_after, mapping_after, put_at, newest_for, put_page, newest_page, page_of, AreRooted, ArePagesShown, ArePagesMade, ShowsEntries}
+use Rattle.journal_stops.specs.Mapped.{slot_after, linked_after, page_after, mapping_after, put_at, newest_for, put_page, newest_page, page_of, AreRooted, ArePagesShown, ArePagesMade, ShowsEntries}
 use Rattle.journal_stops.specs.Shown.{HasInWindow}
 use Rattle.journal_stops.proofs.MapLaws.{pages_show}
 use Rattle.journal_stops.proofs.NewestLaws.{page_equal}

@@ -9,19 +9,13 @@ use Rattle.blk_base.specs.declared.place.Mapping.TheVariants.{Unmapped, At}
 use Rattle.blk_base.specs.declared.place.PageId.{PageId}
 use Rattle.blk_base.specs.declared.place.Pbn.{Pbn}
 use Rattle.blk_base.specs.declared.sizes.TheConstants.{TREES}
+use Rattle.blk_base.specs.Pages.{above, slot_of}
 use Rattle.disk_model.specs.Log.{Blocks, block_at}
-use Rattle.image_model.specs.Maps.{Image, put_last, or_else, mapping_in, says, target_of, page_at, mapping_of}
-use Rattle.image_model.specs.Pages.{leaf_of, slot_of_address, above, slot_of, is_page}
+use Rattle.image_model.specs.Maps.{Image, put_last, or_else, mapping_in, target_of, page_at, mapping_of, slot_in}
+use Rattle.image_model.specs.Pages.{leaf_of, slot_of_address, is_page}
 use Rattle.journal_stops.specs.Shown.{HasInWindow}
 
 -- What the entries give.
-
--- what an image has in a slot: what the page says there, or nothing where it has no such page
-abbrev pub slot_in : Image → PageId → ℕ → Mapping
-slot_in image page slot = elim (page_at image page) [
-  | Some at ↦ says image page at slot
-  | None ↦ Unmapped
-]
 
 -- what a slot has after these entries: what the newest one for it puts there, or what the opened image has
 abbrev pub slot_after : Image → List CommittedEntry → PageId → ℕ → Mapping

@@ -1,5 +1,5 @@
 -- What reading the journal of a device finds: by the blocks that the device gave.
-use Rattle.std.specs.Prelude.{◌≡◌, ◌<◌, Bool, length, reverse}
+use Rattle.std.specs.Prelude.{◌≡◌, Bool, length, reverse}
 use Rattle.blk_base.specs.declared.geometry.Geometry.{Geometry}
 use Rattle.blk_base.specs.declared.geometry.Super.{Super}
 use Rattle.disk_model.specs.Log.{Blocks}

@@ -8,6 +8,7 @@ use Rattle.blk_base.specs.declared.place.PageId.{PageId}
 use Rattle.blk_base.specs.declared.place.Pbn.{Pbn}
 use Rattle.blk_base.specs.declared.point.Point.{Point}
 use Rattle.blk_base.proofs.PageIdLaws.{same_or_not}
+use Rattle.blk_base.specs.Pages.{above, slot_of}
 use Rattle.dirty_pages.specs.declared.marks.Marks.{Marks}
 use Rattle.dirty_pages.specs.History.{IsUnreported}
 use Rattle.dirty_pages.specs.Marks.{handed_out, marks_at}
@@ -17,7 +18,7 @@ use Rattle.page_codec.specs.declared.forms.MapPage.{MapPage}
 use Rattle.page_codec.specs.declared.forms.PageHead.{PageHead}
 use Rattle.page_codec.proofs.ReadLaws.{one_mapping, slots}
 use Rattle.block_map_tree.specs.History as history
-use Rattle.block_map_tree.specs.Pages.{IsLower, above, slot_of}
+use Rattle.block_map_tree.specs.Pages.{IsLower}
 use Rattle.block_map_tree.specs.Tree.{IsAt, Tree, as_root, by_link, mappings_of}
 use Rattle.block_map_tree.specs.Tree as trees
 use Rattle.block_map_tree.proofs.HistoryLaws as tree_laws

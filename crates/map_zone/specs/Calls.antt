@@ -12,7 +12,7 @@ use Rattle.blk_base.specs.declared.point.Point.{Point}
 use Rattle.dirty_pages.specs.History.{Changed, Event, HandedOut, Written}
 use Rattle.page_codec.specs.Grammar.{IsPage}
 use Rattle.page_codec.specs.declared.forms.MapPage.{MapPage}
-use Rattle.block_map_tree.specs.Pages.{above}
+use Rattle.blk_base.specs.Pages.{above}
 use Rattle.map_page_cache.specs.CachedPages.{IsThere}
 use Rattle.map_zone.specs.declared.forms.Applied.TheVariants.{Done}
 use Rattle.map_zone.specs.Serving.{Applies, Installs, MayApply, MayInstall}

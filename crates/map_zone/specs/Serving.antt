@@ -9,10 +9,11 @@ use Rattle.blk_base.specs.declared.place.PageId.{PageId}
 use Rattle.blk_base.specs.declared.place.Pbn.{Pbn}
 use Rattle.blk_base.specs.declared.point.Point.{Point}
 use Rattle.blk_base.specs.Regions.{IsDataBlock}
+use Rattle.blk_base.specs.Pages.{above}
 use Rattle.page_codec.specs.Grammar.{HoldsMapping, IsPage, IsPageFault}
 use Rattle.page_codec.specs.declared.fault.PageFault.{PageFault}
 use Rattle.page_codec.specs.declared.forms.MapPage.{MapPage}
-use Rattle.block_map_tree.specs.Pages.{IsTreeOf, above, page_at}
+use Rattle.block_map_tree.specs.Pages.{IsTreeOf, page_at}
 use Rattle.block_map_tree.specs.Tree.{IsAt, IsLinkable, IsThere, Links}
 use Rattle.map_page_cache.specs.CachedPages.{Fills, GivesUp, HasNoFrame, IsAbsent, Sets}
 use Rattle.map_page_cache.specs.CachedPages as cached

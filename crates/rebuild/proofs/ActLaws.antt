@@ -5,7 +5,7 @@ use Rattle.blk_base.specs.declared.place.Pbn.{Pbn}
 use Rattle.disk_model.specs.declared.call.Call.{Call}
 use Rattle.disk_model.specs.declared.call.Call.TheVariants.{Read, Write, Flush}
 use Rattle.disk_model.specs.declared.call.Failed.{Failed}
-use Rattle.disk_model.specs.Log.{Blocks}
+use Rattle.disk_model.specs.Log.{Blocks, IsWritten}
 use Rattle.disk_model.specs.Seen.{Seen}
 use Rattle.disk_model.specs.Since.{IsUntouched, OnlyReads, WereRead, NextFailed, reads_of}
 use Rattle.disk_model.proofs.SeenLaws.{stays_on, later_on, stays_yet, later_yet}
@@ -13,7 +13,7 @@ use Rattle.image_format.proofs.FormatLaws.{last_failed}
 use Rattle.image_format.specs.Calls.{put}
 use Rattle.image_format.specs.Runs.{as_failed, Makes}
 use Rattle.image_model.specs.Maps.{Image}
-use Rattle.recovery_laws.specs.Calls.{IsPut, IsWritten}
+use Rattle.recovery_laws.specs.Calls.{IsPut}
 use Rattle.recovery_laws.specs.Kept.{image_in}
 use Rattle.rebuild.proofs.FailLaws.{failed_behind, failed_on, on_err, read_is_last}
 use Rattle.rebuild.specs.Acts.{Acts, AreMade, Grows, IsStart, Recovers, Stopped, Went}

@@ -11,14 +11,14 @@ use Rattle.image_model.proofs.MapLaws.{page_in_range}
 use Rattle.image_model.specs.Maps.{Image, page_at}
 use Rattle.recovery_blocks.specs.Patches.{HasChange}
 use Rattle.recovery_laws.proofs.CountsKept.{sectors_inside}
-use Rattle.recovery_laws.specs.Calls.{IsWritten}
+use Rattle.disk_model.specs.Log.{IsWritten}
 use Rattle.replay_counts.specs.Recovered.{HasCounts}
 use Rattle.replay_counts.specs.declared.forms.SectorPoints.{SectorPoints}
 use Rattle.replay_map.proofs.TreeLaws.{root_linked, under_root}
 use Rattle.replay_map.proofs.UnderLaws.{same_under}
 use Rattle.replay_map.specs.Changes.{AreNewest, changed}
 use Rattle.replay_map.specs.Replayed.{AreAllLinks}
-use Rattle.replay_map.specs.Sums.{root_page}
+use Rattle.blk_base.specs.Pages.{root_page}
 use Rattle.replay_map.specs.declared.changes.SlotId.{SlotId}
 use Rattle.replay_map.specs.declared.links.Link.{Link}
 use Rattle.rebuild.specs.Done.{AreCountersDone, AreLinksDone, ArePagesDone, AreRootsDone, AreSlabsDone}

@@ -13,7 +13,7 @@ use Rattle.blk_base.specs.declared.place.Pbn.{Pbn}
 use Rattle.blk_base.specs.declared.sizes.TheConstants.{PAGE_SLOTS, TREES}
 use Rattle.disk_model.specs.declared.call.Call.{Call}
 use Rattle.disk_model.specs.declared.call.Failed.{Failed}
-use Rattle.disk_model.specs.Log.{Blocks}
+use Rattle.disk_model.specs.Log.{Blocks, IsWritten}
 use Rattle.disk_model.specs.Seen.{Seen}
 use Rattle.disk_model.specs.Since.{WereRead}
 use Rattle.image_format.specs.Calls.{put}
@@ -22,14 +22,13 @@ use Rattle.image_model.proofs.CountLaws.{is_behind, is_first, is_first_or_behind
 use Rattle.image_model.specs.Maps.{Image, page_at}
 use Rattle.recovery_blocks.specs.Counters.{AreCountsPut, HasUpdate}
 use Rattle.recovery_blocks.specs.Patches.{HasChange, IsPatched}
-use Rattle.recovery_laws.specs.Calls.{IsWritten}
 use Rattle.recovery_laws.specs.Kept.{image_in}
 use Rattle.recovery_laws.proofs.StopLaws.{page_inside}
 use Rattle.replay_counts.specs.declared.forms.SectorPoints.{SectorPoints}
 use Rattle.replay_map.proofs.TreeLaws.{root_linked}
 use Rattle.replay_map.specs.Forms.{HasForm}
 use Rattle.replay_map.specs.Walks.{IsRoot}
-use Rattle.replay_map.specs.Sums.{root_page}
+use Rattle.blk_base.specs.Pages.{root_page}
 use Rattle.replay_map.specs.declared.changes.SlotId.{SlotId}
 use Rattle.replay_map.specs.declared.found.SlotChange.{SlotChange}
 use Rattle.replay_map.specs.declared.links.Link.{Link}

@@ -12,12 +12,12 @@ use Rattle.image_model.specs.Counts.{commit_at}
 use Rattle.image_model.specs.Maps.{Image, page_at, put_last}
 use Rattle.recovery_blocks.specs.Counters.{HasUpdate}
 use Rattle.recovery_blocks.specs.Patches.{HasChange}
-use Rattle.recovery_laws.specs.Calls.{IsWritten}
+use Rattle.disk_model.specs.Log.{IsWritten}
 use Rattle.replay_counts.specs.Recovered.{HasCounts, IsInSector}
 use Rattle.replay_counts.specs.declared.forms.SectorPoints.{SectorPoints}
 use Rattle.replay_map.specs.Changes.{AreNewest}
 use Rattle.replay_map.specs.Replayed.{AreAllLinks}
-use Rattle.replay_map.specs.Sums.{root_page}
+use Rattle.blk_base.specs.Pages.{root_page}
 use Rattle.replay_map.specs.declared.changes.SlotId.{SlotId}
 use Rattle.replay_map.specs.declared.links.Link.{Link}
 

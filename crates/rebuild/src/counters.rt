@@ -5,13 +5,10 @@ ghost use Rattle.rebuild.specs.Acts.{Acts};
 ghost use Rattle.rebuild.specs.Done.{AreSlabsDone, HasTheseCounts, IsBlockDone, IsSlabDone};
 
 use crate::calls::put;
-use blk_base::{Block, Layout};
+use blk_base::Layout;
 use disk_model::{Disk, Failed, read_block};
 use recovery_blocks::{has_updates, put_counts};
 use replay_counts::RecoveredCounts;
-
-/// How many sectors a block has.
-const SECTORS: u32 = 8;
 
 // Writes each block of counters that has an update above a commit point.
 pub(crate) fn put_slabs<D: Disk>(
@@ -45,17 +42,10 @@ fn put_slab<D: Disk>(
     ensures { Acts D.tells D.honest (D.seen device.old) (D.seen device.new) (HasTheseCounts layout.now.geometry counts.now.counts.items counts.now.sectors.items)
         (IsSlabDone layout.now.geometry counts.now.sectors.items slab (references_of layout.now.geometry)) result }
 {
-    for i in 0..references(layout) {
+    for i in 0..layout.references() {
         put_block(device, layout, slab, i, counts)?;
     }
     Ok(())
-}
-
-// How many blocks have the counters of a slab.
-fn references(layout: &Layout) -> u32
-    ensures { result ≡ references_of layout.now.geometry }
-{
-    layout.sectors_per_slab().div_ceil(SECTORS)
 }
 
 // Writes this one, if it has.

@@ -1,12 +1,11 @@
 ghost use Rattle.std.specs.Prelude.{◌<◌, ◌≤◌, All};
 ghost use Rattle.blk_base.specs.Regions.{needed_blocks};
 ghost use Rattle.blk_base.specs.declared.sizes.TheConstants.{TREES};
-ghost use Rattle.replay_map.specs.Walks.{IsRoot};
 ghost use Rattle.rebuild.specs.Acts.{Acts};
 ghost use Rattle.rebuild.specs.Done.{AreLinksDone, ArePagesDone, AreRootsDone, HasLinks, HasPage, HasPages, HasRoots, IsPageDone};
 
 use crate::calls::put;
-use blk_base::{Block, Layout, PageId, TREES};
+use blk_base::{Layout, TREES};
 use disk_model::{Disk, Failed, read_block};
 use recovery_blocks::{has_changes, put_changes};
 use replay_map::{Changes, Link};
@@ -33,25 +32,10 @@ fn put_roots<D: Disk>(device: &mut D, layout: &Layout, changes: &Changes) -> Res
         (AreRootsDone layout.now.geometry changes.now TREES) result }
 {
     for tree in 0..TREES {
-        let root = root_of(layout, tree);
+        let root = Link::root(layout, tree);
         put_page(device, changes, root)?;
     }
     Ok(())
-}
-
-// The root of a tree.
-fn root_of(layout: &Layout, tree: u8) -> Link
-    requires { tree < TREES }
-    ensures { IsRoot layout.now.geometry tree result }
-{
-    Link {
-        page: PageId {
-            tree,
-            level: (layout.geometry.height - 1) as u8,
-            index: 0,
-        },
-        at: layout.root(tree),
-    }
 }
 
 // Writes those of these pages.

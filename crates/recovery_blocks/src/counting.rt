@@ -97,7 +97,7 @@ fn points_at(layout: &Layout, slab: u32, n: u32, sectors: &[SectorPoints]) -> Se
     requires all { length sectors.now ≡ all_sectors layout.now.geometry }
     ensures { result ≡ points_of layout.now.geometry sectors.now slab n }
 {
-    sectors[(slab * layout.sectors_per_slab() + n) as usize]
+    sectors[layout.sector_number(slab, n) as usize]
 }
 
 // The counters of a sector; those past the slab's end are 0.
@@ -112,7 +112,7 @@ fn counters_of(layout: &Layout, slab: u32, n: u32, counts: &[u16]) -> [u8; SECTO
     let end = (first + width).min(layout.geometry.slab_blocks);
     let mut counters = [0; SECTOR_COUNTERS];
     for offset in first..end {
-        let count = counts[(slab * layout.geometry.slab_blocks + offset) as usize];
+        let count = counts[layout.block_number(slab, offset) as usize];
         counters[(offset - first) as usize] = counter(count);
     }
     counters

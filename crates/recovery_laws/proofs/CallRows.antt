@@ -9,7 +9,7 @@ use Rattle.blk_base.specs.declared.place.PageId.{PageId}
 use Rattle.blk_base.specs.declared.place.Pbn.{Pbn}
 use Rattle.byte_fields.specs.Fields.{number_at}
 use Rattle.disk_model.specs.declared.call.Call.TheVariants.{Read, Write, Flush}
-use Rattle.disk_model.specs.Log.{Blocks, block_at}
+use Rattle.disk_model.specs.Log.{Blocks, block_at, IsWritten}
 use Rattle.image_layout.specs.Superblock.{super_block}
 use Rattle.image_model.proofs.CountRows.{kept_is, updated}
 use Rattle.image_model.proofs.Example.{small, pbn}
@@ -17,7 +17,7 @@ use Rattle.image_model.proofs.MapRows.{image as mapped, page, remap}
 use Rattle.image_model.specs.Counts.{commit_at}
 use Rattle.image_model.specs.Maps.{Image, page_at}
 use Rattle.image_model.specs.Sound.{IsSound}
-use Rattle.recovery_laws.specs.Calls.{ArePuts, IsCountersPut, IsPut, IsWritten, recovery_calls}
+use Rattle.recovery_laws.specs.Calls.{ArePuts, IsCountersPut, IsPut, recovery_calls}
 use Rattle.recovery_laws.specs.Kept.{image_in}
 use Rattle.recovery_laws.specs.Written.{IsFullPage, IsFullSector, IsOldSector}
 use Rattle.recovery_laws.proofs.KeptRows.{counted_as}

@@ -4,9 +4,8 @@ use Rattle.std.specs.List.{AllByRecursion}
 use Rattle.std.proofs.lemmas.Bool.Decides.{eqb_tells}
 use Rattle.disk_model.specs.declared.call.Call.{Call}
 use Rattle.disk_model.specs.declared.call.Call.TheVariants.{Read, Write, Flush}
-use Rattle.disk_model.specs.Log.{Blocks, block_at, contents, settled, Misses}
+use Rattle.disk_model.specs.Log.{Blocks, block_at, contents, settled, Misses, IsWritten}
 use Rattle.disk_model.proofs.ImageLaws.{settled_are_contents}
-use Rattle.recovery_laws.specs.Calls.{IsWritten}
 
 -- what is written to each block is of its kind
 abbrev pub Puts : (ℕ → List ℕ → Type 0) → Call → Type 0

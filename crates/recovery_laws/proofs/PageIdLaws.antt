@@ -10,7 +10,7 @@ use Rattle.blk_base.specs.declared.place.Pbn.{Pbn}
 use Rattle.disk_model.specs.Log.{block_at}
 use Rattle.image_model.proofs.MapLaws.{page_in_range}
 use Rattle.image_model.specs.Maps.{Image, ArePagesGood, head_of, linked_at, page_at, says, target_of}
-use Rattle.image_model.specs.Pages.{above, slot_of}
+use Rattle.blk_base.specs.Pages.{above, slot_of}
 use Rattle.page_codec.proofs.HeadLaws.{one_head}
 use Rattle.page_codec.proofs.HeldLaws.{holds_block}
 use Rattle.page_codec.specs.Grammar.{IsHead}

@@ -12,7 +12,7 @@ use Rattle.blk_base.specs.declared.place.Pbn.{Pbn}
 use Rattle.byte_fields.specs.Fields.{number_at}
 use Rattle.disk_model.specs.declared.call.Call.{Call}
 use Rattle.disk_model.specs.declared.call.Call.TheVariants.{Read, Write, Flush}
-use Rattle.disk_model.specs.Log.{Blocks, block_at, settled, Misses}
+use Rattle.disk_model.specs.Log.{Blocks, block_at, settled, Misses, IsWritten}
 use Rattle.disk_model.proofs.ImageLaws.{settled-misses}
 use Rattle.image_model.proofs.EmptyLaws.{sizes_of_image}
 use Rattle.image_model.specs.Counts.{IsUpdate, Stores, commit_at, commit_of, reference_sector_at}
@@ -20,7 +20,7 @@ use Rattle.image_model.specs.Maps.{Image, page_at, put_last}
 use Rattle.image_model.specs.Sound.{IsSound}
 use Rattle.plain_laws.proofs.OptionLaws.{option_cases}
 use Rattle.replay_counts.specs.Recovered.{IsInSector}
-use Rattle.recovery_laws.specs.Calls.{ArePuts, IsCountersPut, IsPagePut, IsPut, IsWritten}
+use Rattle.recovery_laws.specs.Calls.{ArePuts, IsCountersPut, IsPagePut, IsPut}
 use Rattle.recovery_laws.specs.Written.{IsCountersBlock, IsFullPage, IsFullSector, IsOldSector, IsPageBlock, IsPartPage}
 use Rattle.recovery_laws.proofs.ContentLaws.{AllTaken, Puts, missed, settled_are, written_or_not}
 use Rattle.recovery_laws.proofs.CountsKept.{counter_is_stored, sectors_inside}

@@ -1,5 +1,5 @@
 -- The calls that recover an image, the newest first.
-use Rattle.std.specs.Prelude.{ℕ, ◌≡◌, ◌⊎◌, ◌/◌, ◌%◌, ◌<◌, ◌≤◌, true, false, List, [], ◌∷◌, length, Some}
+use Rattle.std.specs.Prelude.{ℕ, ◌≡◌, ◌⊎◌, ◌/◌, ◌%◌, ◌<◌, ◌≤◌, true, false, List, ◌∷◌, length, Some}
 use Rattle.std.specs.List.{AllByRecursion}
 use Rattle.blk_base.specs.Counters.{sectors_per_slab}
 use Rattle.blk_base.specs.Regions.{ReferenceBlock, IsPlace, block_of}
@@ -10,6 +10,7 @@ use Rattle.blk_base.specs.declared.place.Pbn.{Pbn}
 use Rattle.blk_base.specs.declared.sizes.TheConstants.{PAGE_SLOTS}
 use Rattle.disk_model.specs.declared.call.Call.{Call}
 use Rattle.disk_model.specs.declared.call.Call.TheVariants.{Read, Write, Flush}
+use Rattle.disk_model.specs.Log.{IsWritten}
 use Rattle.image_format.specs.Calls.{put}
 use Rattle.image_layout.specs.Superblock.{super_block}
 use Rattle.image_model.specs.Counts.{commit_at}
@@ -39,13 +40,6 @@ IsPut image (Write at bytes true) = (length bytes ≡ 4096) × (IsPagePut image 
 IsPut image (Write at bytes false) = ⊥
 IsPut image (Read _ _ _) = Unit {0}
 IsPut image (Flush _) = ⊥
-
--- one of these calls writes a block
-abbrev pub IsWritten : List Call → ℕ → Type 0
-IsWritten [] b = ⊥
-IsWritten (Write at bytes ok ∷ older) b = (at.0 ≡ b) ⊎ IsWritten older b
-IsWritten (Read _ _ _ ∷ older) b = IsWritten older b
-IsWritten (Flush _ ∷ older) b = IsWritten older b
 
 -- The writes of recovery, in any order, with reads among them: each page with a slot into which the window puts something, each block of
 -- counters with a sector that has an update above its commit point; and no other block.

@@ -22,7 +22,7 @@ use Rattle.count_updates.specs.Numbers.{block_number}
 use Rattle.disk_model.specs.Log.{Blocks, block_at}
 use Rattle.image_model.specs.Counts.{IsKept, IsUpdate, Stores, Updates, block_of_data, commit_at, count_from, counter_of}
 use Rattle.image_model.specs.Faults.{IsCountFault}
-use Rattle.image_model.specs.Maps.{Image}
+use Rattle.image_model.specs.Maps.{Image, image_with}
 use Rattle.image_model.specs.Sound.{IsDataPlace}
 use Rattle.slab_codec.specs.Grammar.{HoldsEntry, IsSlabSector}
 use Rattle.slab_codec.specs.declared.forms.SlabEntry.{SlabEntry}
@@ -31,7 +31,7 @@ use Rattle.image_model.specs.declared.fault.ImageFault.TheVariants.{Counter}
 use Rattle.disk_model.specs.Seen.{Seen}
 use Rattle.slab_reading.specs.Reads.{read_of, SlabsRead}
 use Rattle.slab_reading.specs.Slabs.{first_of_slab, blocks_per_slab, SlabKeeps, IsOf}
-use Rattle.replay_counts.specs.Recovered.{AreCountsRead, CountsFail, HasCounts, Holds, IsCountedFrom, IsInSector, image_with, no_points}
+use Rattle.replay_counts.specs.Recovered.{AreCountsRead, CountsFail, HasCounts, Holds, IsCountedFrom, IsInSector, no_points}
 use Rattle.replay_counts.specs.declared.forms.SectorPoints.{SectorPoints}
 
 abbrev block : ℕ → Pbn

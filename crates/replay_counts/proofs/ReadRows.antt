@@ -21,13 +21,13 @@ use Rattle.image_model.proofs.CountRows.{kept_is, updated}
 use Rattle.image_model.proofs.Example.{pbn, small, zeros}
 use Rattle.image_model.proofs.ZeroLaws.{of_eight}
 use Rattle.image_model.specs.Counts.{Stores, commit_at}
-use Rattle.image_model.specs.Maps.{Image}
+use Rattle.image_model.specs.Maps.{Image, image_with}
 use Rattle.image_model.specs.Windows.{IsThere}
 use Rattle.image_model.specs.declared.fault.ImageFault.TheVariants.{Super, Window, Counter, Counts, Device, Unclean, Memory}
 use Rattle.journal_codec.specs.Grammar.{IsSector}
 use Rattle.journal_window.specs.Reads.{IsWindowRead}
 use Rattle.journal_window.specs.States.{WindowState}
-use Rattle.replay_counts.specs.Recovered.{AreCountsOf, AreCountsRead, ArePointsOf, AreSlabsRead, CountingFails, CountsFail, HasCounts, IsCountedFrom, IsInSector, image_with}
+use Rattle.replay_counts.specs.Recovered.{AreCountsOf, AreCountsRead, ArePointsOf, AreSlabsRead, CountingFails, CountsFail, HasCounts, IsCountedFrom, IsInSector}
 use Rattle.replay_counts.specs.declared.forms.SectorPoints.{SectorPoints}
 use Rattle.slab_reading.specs.Reads.{SlabFailed}
 

@@ -6,7 +6,8 @@ use Rattle.byte_fields.specs.Fields.{number_at}
 use Rattle.image_model.specs.Counts.{commit_at}
 use Rattle.image_model.proofs.CountRows.{kept_is, updated}
 use Rattle.image_model.proofs.Example.{small}
-use Rattle.replay_counts.specs.Recovered.{ArePaired, ArePointsOf, HasCounts, Holds, IsInSector, image_with}
+use Rattle.image_model.specs.Maps.{image_with}
+use Rattle.replay_counts.specs.Recovered.{ArePaired, ArePointsOf, HasCounts, Holds, IsInSector}
 use Rattle.replay_counts.specs.declared.forms.SectorPoints.{SectorPoints}
 
 abbrev point : ℕ → Point

@@ -14,7 +14,7 @@ use Rattle.disk_model.specs.Log.{Blocks, block_at}
 use Rattle.disk_model.specs.Seen.{Seen}
 use Rattle.image_model.specs.Counts.{IsUpdate, Stores, commit_at}
 use Rattle.image_model.specs.Faults.{IsCountFault}
-use Rattle.image_model.specs.Maps.{Image}
+use Rattle.image_model.specs.Maps.{Image, image_with}
 use Rattle.image_model.specs.Sound.{IsDataPlace}
 use Rattle.image_model.specs.declared.fault.ImageFault.{ImageFault}
 use Rattle.image_model.specs.declared.fault.ImageFault.TheVariants.{Super, Window, Page, Counter, SharedPage, Counts, Device, Unclean, Memory}
@@ -55,10 +55,6 @@ Holds g blocks reads =
 pub record AreSlabsRead (tells honest : Bool) (g : Geometry) (before now : Seen) (reads : List Blocks) : Type 0 where
   pub count : length reads ≡ g.slabs
   pub read : SlabsRead tells honest g before now reads
-
--- the image with these sizes, these blocks and this window, the newest entry first
-abbrev pub image_with : Geometry → Blocks → List CommittedEntry → Image
-image_with g blocks window = record { geometry = g; blocks = blocks; window = window }
 
 -- All slabs were read, and each image that has what was read has these counts.
 abbrev pub AreCountsRead : Bool → Bool → Geometry → List CommittedEntry → Seen → Seen → List ℕ → List SectorPoints → Type 0

@@ -12,6 +12,7 @@ use Rattle.blk_base.specs.declared.journal_entry.CommittedEntry.{CommittedEntry}
 use Rattle.blk_base.specs.declared.journal_entry.Entry.{Entry}
 use Rattle.blk_base.specs.declared.place.Mapping.{Mapping}
 use Rattle.blk_base.specs.declared.place.PageId.{PageId}
+use Rattle.blk_base.specs.Pages.{page_order}
 use Rattle.image_model.specs.Maps.{or_else, put_by, put_last}
 use Rattle.replay_map.specs.contracts.changes.SlotIdOrd.TheImpl as slot_ord
 use Rattle.replay_map.specs.Changes.{AreNewest, changed, is_slot}
@@ -19,11 +20,8 @@ use Rattle.replay_map.specs.declared.changes.SlotId.{SlotId}
 
 -- The order of slots.
 
-abbrev pub page_cmp : PageId → PageId → Ordering
-page_cmp a b = ordering_then (nat_cmp a.tree b.tree) (ordering_then (nat_cmp a.level b.level) (nat_cmp a.index b.index))
-
 abbrev pub slot_cmp : SlotId → SlotId → Ordering
-slot_cmp a b = ordering_then (page_cmp a.page b.page) (nat_cmp a.slot b.slot)
+slot_cmp a b = ordering_then (page_order a.page b.page) (nat_cmp a.slot b.slot)
 
 -- it is the one of `SlotId`
 pub order_is : (a b : SlotId) → (slot_ord.ghosts).cmp a b ≡ slot_cmp a b
@@ -47,7 +45,7 @@ flipped x y = tie x y ∙ nat_eq_equiv.symm x y
 -- two slots are alike in the order where they are one
 pub alike : (a b : SlotId) → is_eq (slot_cmp a b) ≡ is_slot b a.page a.slot
 alike a b =
-    both (page_cmp a.page b.page) (nat_cmp a.slot b.slot)
+    both (page_order a.page b.page) (nat_cmp a.slot b.slot)
     ∙ ap₂ (λ (p q : Bool). p && q)
     (both (nat_cmp a.page.tree b.page.tree) (ordering_then (nat_cmp a.page.level b.page.level) (nat_cmp a.page.index b.page.index))
     ∙ ap₂ (λ (p q : Bool). p && q) (tie a.page.tree b.page.tree)
@@ -58,7 +56,7 @@ alike a b =
 
 pub alike_back : (a b : SlotId) → is_eq (slot_cmp a b) ≡ is_slot a b.page b.slot
 alike_back a b =
-    both (page_cmp a.page b.page) (nat_cmp a.slot b.slot)
+    both (page_order a.page b.page) (nat_cmp a.slot b.slot)
     ∙ ap₂ (λ (p q : Bool). p && q)
     (both (nat_cmp a.page.tree b.page.tree) (ordering_then (nat_cmp a.page.level b.page.level) (nat_cmp a.page.index b.page.index))
     ∙ ap₂ (λ (p q : Bool). p && q) (flipped a.page.tree b.page.tree)

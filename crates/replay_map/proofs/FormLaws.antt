@@ -13,7 +13,7 @@ use Rattle.blk_base.specs.declared.place.Mapping.TheVariants.{Unmapped, Zero, At
 use Rattle.blk_base.specs.declared.place.PageId.{PageId}
 use Rattle.blk_base.specs.declared.place.Pbn.{Pbn}
 use Rattle.blk_base.specs.declared.sizes.TheConstants.{PAGE_SLOTS, TREES}
-use Rattle.image_model.specs.Pages.{above}
+use Rattle.blk_base.specs.Pages.{above, page_below, root_page}
 use Rattle.image_model.specs.Maps.{target_of}
 use Rattle.image_model.specs.Windows.{LeadsToData}
 use Rattle.replay_map.proofs.LinkLaws.{more_of_slots}
@@ -21,9 +21,8 @@ use Rattle.replay_map.proofs.TakenLaws.{only_one}
 use Rattle.replay_map.proofs.UnderLaws.{no_slots_yet, under_itself, under_slots, up_to_more}
 use Rattle.replay_map.specs.Changes.{changed}
 use Rattle.replay_map.specs.Forms.{Adds, AddsForm, HasForm, HasVisited, IsInTree, IsListed, IsRootPage, SamePage, SameSlot, Takes, above_of, changes_in, is_page_of, links_in}
-use Rattle.replay_map.specs.Links.{AreOfSlots, link_of, page_below}
+use Rattle.replay_map.specs.Links.{AreOfSlots, link_of}
 use Rattle.replay_map.specs.Reads.{AreLeading}
-use Rattle.replay_map.specs.Sums.{root_page}
 use Rattle.replay_map.specs.Taken.{change_in}
 use Rattle.replay_map.specs.Walks.{IsInTrees, IsRoot, IsUnder, IsUpTo}
 use Rattle.replay_map.specs.declared.changes.SlotId.{SlotId}

@@ -10,9 +10,9 @@ use Rattle.blk_base.specs.declared.place.Pbn.{Pbn}
 use Rattle.blk_base.specs.declared.sizes.TheConstants.{PAGE_SLOTS, TREES}
 use Rattle.image_model.proofs.MapLaws.{page_in_range}
 use Rattle.image_model.specs.Maps.{Image, linked_at, page_at, says, target_of}
-use Rattle.image_model.specs.Pages.{above, slot_of}
+use Rattle.blk_base.specs.Pages.{above, page_below, slot_of}
 use Rattle.page_codec.specs.declared.forms.PageHead.{PageHead}
-use Rattle.replay_map.specs.Links.{AreLinks, AreOfSlots, link_of, page_below}
+use Rattle.replay_map.specs.Links.{AreLinks, AreOfSlots, link_of}
 use Rattle.replay_map.specs.Pages.{IsReadAs}
 use Rattle.replay_map.specs.declared.links.Link.{Link}
 

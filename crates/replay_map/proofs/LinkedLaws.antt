@@ -7,10 +7,9 @@ use Rattle.blk_base.specs.declared.place.Pbn.{Pbn}
 use Rattle.blk_base.specs.declared.sizes.TheConstants.{PAGE_SLOTS}
 use Rattle.image_model.proofs.MapLaws.{page_in_range}
 use Rattle.image_model.specs.Maps.{Image, linked_at, page_at, says, target_of}
-use Rattle.image_model.specs.Pages.{above, slot_of}
+use Rattle.blk_base.specs.Pages.{above, page_below, slot_of}
 use Rattle.replay_map.proofs.LinkLaws.{at_links, where_above_says}
 use Rattle.replay_map.proofs.UnderLaws.{page_is, up_on, same_under}
-use Rattle.replay_map.specs.Links.{page_below}
 use Rattle.replay_map.specs.Walks.{IsUnder}
 
 module _ (image : Image) where

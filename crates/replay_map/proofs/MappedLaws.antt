@@ -7,27 +7,27 @@ use Rattle.blk_base.specs.declared.place.PageId.{PageId}
 use Rattle.blk_base.specs.declared.place.Pbn.{Pbn}
 use Rattle.blk_base.specs.declared.sizes.TheConstants.{PAGE_SLOTS}
 use Rattle.image_model.specs.Counts.{leads_to, mapped_below}
-use Rattle.image_model.specs.Maps.{Image, page_at, says}
+use Rattle.image_model.specs.Maps.{Image, page_at, says, slot_in}
 use Rattle.plain_laws.specs.Sums.{bit}
 use Rattle.replay_map.proofs.SumLaws.{mapped_same, mapped_sum, sum_next, sum_none, sum_zero}
 use Rattle.replay_map.proofs.UnderLaws.{under_itself, under_slots}
-use Rattle.replay_map.specs.Links.{page_below}
-use Rattle.replay_map.specs.Sums.{maps_below, maps_in, maps_under, maps_up_to, says_leaf}
+use Rattle.blk_base.specs.Pages.{page_below}
+use Rattle.replay_map.specs.Sums.{maps_below, maps_in, maps_under, maps_up_to}
 use Rattle.replay_map.specs.Walks.{IsUnder}
 
 module _ (image : Image) where
   -- a leaf at its block says what stands there
-  pub leaf_says : (page : PageId) (at : Pbn) (slot : ℕ) → page_at image page ≡ Some at → says_leaf image page slot ≡ says image page at slot
-  leaf_says page at slot there = rw (there, says_leaf) refl
+  pub leaf_says : (page : PageId) (at : Pbn) (slot : ℕ) → page_at image page ≡ Some at → slot_in image page slot ≡ says image page at slot
+  leaf_says page at slot there = rw (there, slot_in) refl
 
-  pub leaf_silent : (page : PageId) (slot : ℕ) → page_at image page ≡ None → says_leaf image page slot ≡ Unmapped
-  leaf_silent page slot there = rw (there, says_leaf) refl
+  pub leaf_silent : (page : PageId) (slot : ℕ) → page_at image page ≡ None → slot_in image page slot ≡ Unmapped
+  leaf_silent page slot there = rw (there, slot_in) refl
 
   pub leaf_maps : (page : PageId) (at block : Pbn) (mappings : List Mapping) → page_at image page ≡ Some at
       → ((slot : ℕ) → slot < PAGE_SLOTS → slice_index_or mappings slot Unmapped ≡ says image page at slot)
       → mapped_below (λ slot. slice_index_or mappings slot Unmapped) block PAGE_SLOTS ≡ maps_under image block 0 page
   leaf_maps page at block mappings there each =
-      mapped_same (λ slot. slice_index_or mappings slot Unmapped) (says_leaf image page) block PAGE_SLOTS (λ slot inside. each slot inside ∙ sym (leaf_says page at slot there))
+      mapped_same (λ slot. slice_index_or mappings slot Unmapped) (slot_in image page) block PAGE_SLOTS (λ slot inside. each slot inside ∙ sym (leaf_says page at slot there))
 
   -- where nothing below a page is linked, nothing is mapped
   not_some : (o : Option Pbn) → ((at : Pbn) → o ≡ Some at → ⊥) → o ≡ None
@@ -38,8 +38,8 @@ module _ (image : Image) where
       → maps_under image block levels page ≡ 0
   maps_none block zero page level none =
       let away = not_some (page_at image page) (λ at there. none page at (under_itself page) there) in
-      mapped_sum (says_leaf image page) block PAGE_SLOTS
-      ∙ sum_zero (λ slot. bit (leads_to block (says_leaf image page slot))) PAGE_SLOTS (λ slot inside. ap (λ (m : Mapping). bit (leads_to block m)) (leaf_silent page slot away))
+      mapped_sum (slot_in image page) block PAGE_SLOTS
+      ∙ sum_zero (λ slot. bit (leads_to block (slot_in image page slot))) PAGE_SLOTS (λ slot inside. ap (λ (m : Mapping). bit (leads_to block m)) (leaf_silent page slot away))
   maps_none block (suc levels) page level none =
       sum_zero (λ slot. maps_under image block levels (page_below page slot)) PAGE_SLOTS
       (λ slot inside. maps_none block levels (page_below page slot) (omega (arith, level))

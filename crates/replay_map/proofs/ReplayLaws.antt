@@ -5,13 +5,13 @@ use Rattle.blk_base.specs.declared.journal_entry.CommittedEntry.{CommittedEntry}
 use Rattle.blk_base.specs.declared.place.Mapping.{Mapping}
 use Rattle.disk_model.specs.Seen.{Seen}
 use Rattle.image_model.specs.Faults.{IsPageFault, IsShareFault}
-use Rattle.image_model.specs.Maps.{Image, ArePagesGood}
+use Rattle.image_model.specs.Maps.{Image, ArePagesGood, image_with}
 use Rattle.image_model.specs.declared.fault.ImageFault.{ImageFault}
 use Rattle.image_model.specs.declared.fault.ImageFault.TheVariants.{Super, Window, Page, Counter, SharedPage, Counts, Device, Unclean, Memory}
 use Rattle.replay_map.specs.Changes.{AreNewest}
 use Rattle.replay_map.specs.Finding.{FindFails}
 use Rattle.replay_map.specs.Reads.{IsShown}
-use Rattle.replay_map.specs.Replayed.{IsFound, MapFails, image_with}
+use Rattle.replay_map.specs.Replayed.{IsFound, MapFails}
 use Rattle.replay_map.specs.declared.changes.SlotId.{SlotId}
 
 module _ (tells honest : Bool) (g : Geometry) (changes : List (SlotId × Mapping)) (window : List CommittedEntry) (newest : AreNewest window changes) (before now : Seen) where

@@ -19,7 +19,7 @@ use Rattle.image_model.proofs.MapRows.{bad_head, image, page, remap, root, with_
 use Rattle.image_model.specs.Counts.{leads_to}
 use Rattle.image_model.specs.Empty.{empty_root}
 use Rattle.image_model.specs.Faults.{IsPageFault, IsShareFault}
-use Rattle.image_model.specs.Maps.{ArePagesGood, Image, mapping_of}
+use Rattle.image_model.specs.Maps.{ArePagesGood, Image, mapping_of, image_with}
 use Rattle.image_model.specs.Pages.{address_count}
 use Rattle.image_model.specs.Sound.{Opens, image_of}
 use Rattle.image_model.specs.declared.fault.ImageFault.TheVariants.{Page, Counter, SharedPage, Device, Memory}
@@ -31,7 +31,7 @@ use Rattle.replay_map.proofs.SumLaws.{mapped_sum, sum_has}
 use Rattle.replay_map.proofs.WalkRows.{read_fails, read_fails_rose, seen_with, shown_since}
 use Rattle.replay_map.proofs.WholeSumLaws.{count_is}
 use Rattle.replay_map.specs.Finding.{FindFails, IsMapFound, map_with}
-use Rattle.replay_map.specs.Replayed.{AreAllChanges, AreAllLinks, AreAllMapped, HasMap, HasMapOf, IsFound, IsMapFault, IsMapRead, IsReplayed, MapFails, ReplayFails, image_with, times}
+use Rattle.replay_map.specs.Replayed.{AreAllChanges, AreAllLinks, AreAllMapped, HasMap, HasMapOf, IsFound, IsMapFault, IsMapRead, IsReplayed, MapFails, ReplayFails, times}
 use Rattle.replay_map.specs.declared.found.Found.{Found}
 use Rattle.replay_map.specs.declared.found.SlotChange.{SlotChange}
 use Rattle.replay_map.specs.declared.links.Link.{Link}

@@ -13,7 +13,7 @@ use Rattle.image_model.specs.Windows.{LeadsToData}
 use Rattle.image_model.specs.declared.fault.ImageFault.{ImageFault}
 use Rattle.replay_map.proofs.ReadLaws.{shown_as, shown_on}
 use Rattle.replay_map.proofs.WholeWalkLaws.{child_linked, fails_behind, slot_fault, slot_passed, slot_walked}
-use Rattle.replay_map.specs.Links.{page_below}
+use Rattle.blk_base.specs.Pages.{page_below}
 use Rattle.replay_map.specs.Pages.{IsReadAs}
 use Rattle.replay_map.specs.Reads.{IsPageBlock, IsShown}
 use Rattle.replay_map.specs.Walks.{IsFirstFault, IsLinked, IsUnder, WalkFails, WalkedUnder, WalkedUpTo, head_at}

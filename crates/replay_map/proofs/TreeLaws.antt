@@ -6,11 +6,12 @@ use Rattle.blk_base.specs.declared.place.PageId.{PageId}
 use Rattle.blk_base.specs.declared.place.Pbn.{Pbn}
 use Rattle.blk_base.specs.declared.sizes.TheConstants.{PAGE_SLOTS, TREES}
 use Rattle.blk_base.specs.declared.place.Mapping.{Mapping}
+use Rattle.blk_base.specs.Pages.{above, root_page}
 use Rattle.disk_model.specs.Seen.{Seen}
 use Rattle.image_model.proofs.MapLaws.{page_in_range}
 use Rattle.image_model.specs.Faults.{IsPageFault}
 use Rattle.image_model.specs.Maps.{Image, ArePagesGood, IsGoodPage, linked_at, page_at, put_last}
-use Rattle.image_model.specs.Pages.{IsAhead, above}
+use Rattle.image_model.specs.Pages.{IsAhead}
 use Rattle.image_model.specs.declared.fault.ImageFault.{ImageFault}
 use Rattle.page_codec.specs.declared.fault.PageFault.{PageFault}
 use Rattle.replay_map.proofs.LinkLaws.{at_links}
@@ -23,7 +24,7 @@ use Rattle.replay_map.proofs.WholeSumLaws.{all_trees}
 use Rattle.replay_map.proofs.WholeWalkLaws.{fails_behind}
 use Rattle.replay_map.specs.Reads.{IsShown}
 use Rattle.replay_map.specs.Replayed.{AreAllChanges, AreAllLinks, AreAllMapped, times}
-use Rattle.replay_map.specs.Sums.{maps_below, maps_in_trees, maps_under, root_page}
+use Rattle.replay_map.specs.Sums.{maps_below, maps_in_trees, maps_under}
 use Rattle.replay_map.specs.Walks.{ALink, AChange, IsFirstFault, IsInTrees, IsLinked, IsRoot, IsUnder, WalkFails, WalkedTrees, WalkedUnder}
 use Rattle.replay_map.specs.declared.changes.SlotId.{SlotId}
 use Rattle.replay_map.specs.declared.found.Found.{Found}

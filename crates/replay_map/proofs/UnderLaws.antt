@@ -6,7 +6,7 @@ use Rattle.std.proofs.lemmas.Nat.{le-div, pow-add}
 use Rattle.blk_base.specs.declared.place.PageId.{PageId}
 use Rattle.blk_base.specs.declared.sizes.TheConstants.{PAGE_SLOTS}
 use Rattle.image_model.specs.Pages.{IsAhead}
-use Rattle.replay_map.specs.Links.{page_below}
+use Rattle.blk_base.specs.Pages.{page_below}
 use Rattle.replay_map.specs.Walks.{IsUnder, IsUpTo}
 
 -- Levels up.

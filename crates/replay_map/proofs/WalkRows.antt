@@ -20,7 +20,7 @@ use Rattle.image_model.proofs.Example.{small, pbn}
 use Rattle.image_model.proofs.MapRows.{bad_head, image, logged, page, remap, root, with_root}
 use Rattle.image_model.specs.Counts.{leads_to, mapped_below}
 use Rattle.image_model.specs.Faults.{HasFault}
-use Rattle.image_model.specs.Maps.{Image, IsGoodPage, page_at}
+use Rattle.image_model.specs.Maps.{Image, IsGoodPage, page_at, slot_in}
 use Rattle.image_model.specs.Pages.{IsAhead}
 use Rattle.image_model.specs.declared.fault.ImageFault.TheVariants.{Page, Counter, Device, Memory}
 use Rattle.page_codec.specs.Grammar.{HasHead}
@@ -33,11 +33,11 @@ use Rattle.replay_map.proofs.SumLaws.{mapped_sum, sum_has, sum_more, sum_none}
 use Rattle.replay_map.proofs.TakenLaws.{gained_list, mapped_more, mapped_yet, only_one}
 use Rattle.replay_map.proofs.UnderLaws.{none_ahead_of_top, same_under, under_itself}
 use Rattle.replay_map.proofs.WalkLaws.{walked_none}
-use Rattle.replay_map.specs.Links.{page_below}
+use Rattle.blk_base.specs.Pages.{page_below, root_page}
 use Rattle.replay_map.specs.Reads.{AreLeading, BlocksRead, HasReads, IsPageBlock, IsShown, LeadToData, ReadFails, Reading, Shows}
 use Rattle.replay_map.specs.Replayed.{times}
 use Rattle.replay_map.specs.Shares.{IsLeastOf, has_page}
-use Rattle.replay_map.specs.Sums.{maps_below, maps_in, maps_in_trees, maps_under, maps_up_to, root_page, says_leaf, sum_below}
+use Rattle.replay_map.specs.Sums.{maps_below, maps_in, maps_in_trees, maps_under, maps_up_to, sum_below}
 use Rattle.replay_map.specs.Taken.{AreBelow, AreChanges, Gained, GainedMapped, block_in, change_in}
 use Rattle.replay_map.specs.Walks.{ALink, AChange, Gives, Has, HasTaken, HasWalked, IsFirstFault, IsGiven, IsInTrees, IsLinked, IsRoot, IsUnder, IsUpTo, WalkFails, head_at, link_to}
 use Rattle.replay_map.specs.declared.changes.SlotId.{SlotId}
@@ -223,23 +223,23 @@ sum_of_nothing : sum_below (λ i. i + 1) 0 ≡ 0
 unfolding sum_below
 sum_of_nothing = refl
 
-leaf_says : says_leaf (image []) (page 0 0 0) 5 ≡ At (pbn 86)
+leaf_says : slot_in (image []) (page 0 0 0) 5 ≡ At (pbn 86)
 unfolding number_at
 leaf_says = refl
 
-leaf_unlinked : says_leaf (image []) (page 0 0 1) 5 ≡ Unmapped
+leaf_unlinked : slot_in (image []) (page 0 0 1) 5 ≡ Unmapped
 unfolding number_at
 leaf_unlinked = refl
 
-one : 1 ≤ bit (leads_to (pbn 86) (says_leaf (image []) (page 0 0 0) 5))
+one : 1 ≤ bit (leads_to (pbn 86) (slot_in (image []) (page 0 0 0) 5))
 unfolding number_at
 one = omega arith
 
 -- slot 5 of the leaf leads to 86, and so it does below the root
 leaf_maps : maps_under (image []) (pbn 86) 0 (page 0 0 0) ≡ 0 → ⊥
 leaf_maps none =
-    let some = sum_has (λ slot. bit (leads_to (pbn 86) (says_leaf (image []) (page 0 0 0) slot))) PAGE_SLOTS 5 (omega arith) one in
-    let sum = mapped_sum (says_leaf (image []) (page 0 0 0)) (pbn 86) PAGE_SLOTS in
+    let some = sum_has (λ slot. bit (leads_to (pbn 86) (slot_in (image []) (page 0 0 0) slot))) PAGE_SLOTS 5 (omega arith) one in
+    let sum = mapped_sum (slot_in (image []) (page 0 0 0)) (pbn 86) PAGE_SLOTS in
     omega (arith, none, some, sum)
 
 maps_of_leaf : maps_in (image []) (page 0 0 0) (pbn 86) ≡ maps_under (image []) (pbn 86) 0 (page 0 0 0)

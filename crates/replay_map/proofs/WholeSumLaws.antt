@@ -6,13 +6,14 @@ use Rattle.blk_base.specs.declared.place.Mapping.{Mapping}
 use Rattle.blk_base.specs.declared.place.PageId.{PageId}
 use Rattle.blk_base.specs.declared.place.Pbn.{Pbn}
 use Rattle.blk_base.specs.declared.sizes.TheConstants.{PAGE_SLOTS, TREES}
+use Rattle.blk_base.specs.Pages.{root_page}
 use Rattle.image_model.specs.Counts.{leads_to, mapped_below}
-use Rattle.image_model.specs.Maps.{Image, mapping_of}
+use Rattle.image_model.specs.Maps.{Image, mapping_of, slot_in}
 use Rattle.image_model.specs.Pages.{address_count, leaf_of, slot_of_address}
 use Rattle.plain_laws.specs.Sums.{bit}
 use Rattle.replay_map.proofs.SumLaws.{mapped_sum, sum_more, sum_none, sum_rows, sum_same, sum_swap}
 use Rattle.replay_map.proofs.UnderLaws.{page_is}
-use Rattle.replay_map.specs.Sums.{maps_in_trees, maps_under, root_page, says_leaf, sum_below}
+use Rattle.replay_map.specs.Sums.{maps_in_trees, maps_under, sum_below}
 
 -- a page has 812 times as many leaves below it as one of the level below
 pub one_level : (n : ℕ) → PAGE_SLOTS ^ suc n ≡ PAGE_SLOTS * PAGE_SLOTS ^ n
@@ -71,7 +72,7 @@ module _ (image : Image) (block : Pbn) where
       each ∙ rows ∙ sym whole
 
   -- a slot of a leaf is that of an address
-  slot_is : (tree index slot : ℕ) → tree < TREES → slot < PAGE_SLOTS → says_leaf image (record { tree = tree; level = 0; index = index }) slot ≡ mapping_of image ((index * TREES + tree) * PAGE_SLOTS + slot)
+  slot_is : (tree index slot : ℕ) → tree < TREES → slot < PAGE_SLOTS → slot_in image (record { tree = tree; level = 0; index = index }) slot ≡ mapping_of image ((index * TREES + tree) * PAGE_SLOTS + slot)
   slot_is tree index slot few inside =
       let address : ℕ = (index * TREES + tree) * PAGE_SLOTS + slot in
       let row : address / PAGE_SLOTS ≡ index * TREES + tree = omega (arith, inside) in
@@ -79,12 +80,12 @@ module _ (image : Image) (block : Pbn) where
       let same_index : address / PAGE_SLOTS / TREES / PAGE_SLOTS ^ 0 ≡ index = omega (arith, row, few) in
       let same : leaf_of address ≡ record { tree = tree; level = 0; index = index } = page_is (leaf_of address) (record { tree = tree; level = 0; index = index }) same_tree refl same_index in
       let number : slot_of_address address ≡ slot = omega (arith, inside) in
-      sym (ap₂ (λ (page : PageId) (s : ℕ). says_leaf image page s) same number)
+      sym (ap₂ (λ (page : PageId) (s : ℕ). slot_in image page s) same number)
 
   leaf_sum : (tree index : ℕ) → tree < TREES → of_leaf tree index ≡ sum_below (λ slot. of_address ((index * TREES + tree) * PAGE_SLOTS + slot)) PAGE_SLOTS
   leaf_sum tree index few =
-      mapped_sum (says_leaf image (record { tree = tree; level = 0; index = index })) block PAGE_SLOTS
-      ∙ sum_same (λ slot. bit (leads_to block (says_leaf image (record { tree = tree; level = 0; index = index }) slot)))
+      mapped_sum (slot_in image (record { tree = tree; level = 0; index = index })) block PAGE_SLOTS
+      ∙ sum_same (λ slot. bit (leads_to block (slot_in image (record { tree = tree; level = 0; index = index }) slot)))
       (λ slot. of_address ((index * TREES + tree) * PAGE_SLOTS + slot)) PAGE_SLOTS
       (λ slot inside. ap (λ (m : Mapping). bit (leads_to block m)) (slot_is tree index slot few inside))
 

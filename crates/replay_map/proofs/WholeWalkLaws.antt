@@ -18,7 +18,7 @@ use Rattle.replay_map.proofs.ReadLaws.{failed_behind, shown_on}
 use Rattle.replay_map.proofs.UnderLaws.{by_slots, leaf_alone, none_ahead_of_slot, none_ahead_of_top, one_slot_more, under_itself, under_slots, up_to_more}
 use Rattle.replay_map.proofs.MappedLaws.{all_of_leaf, all_of_slots, maps_none, up_to_next}
 use Rattle.replay_map.proofs.WalkLaws.{fault_among, walked_as, walked_none, walked_on}
-use Rattle.replay_map.specs.Links.{page_below}
+use Rattle.blk_base.specs.Pages.{page_below}
 use Rattle.replay_map.specs.Reads.{IsShown}
 use Rattle.replay_map.specs.Sums.{maps_below, maps_up_to}
 use Rattle.replay_map.specs.Walks.{IsFirstFault, IsLinked, IsUnder, IsUpTo, WalkFails, WalkedUnder, WalkedUpTo}

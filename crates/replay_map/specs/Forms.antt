@@ -8,10 +8,9 @@ use Rattle.blk_base.specs.declared.place.Mapping.TheVariants.{Unmapped, At}
 use Rattle.blk_base.specs.declared.place.PageId.{PageId}
 use Rattle.blk_base.specs.declared.place.Pbn.{Pbn}
 use Rattle.blk_base.specs.declared.sizes.TheConstants.{PAGE_SLOTS, TREES}
-use Rattle.image_model.specs.Pages.{above}
+use Rattle.blk_base.specs.Pages.{above, page_below, root_page}
 use Rattle.replay_map.specs.Changes.{changed}
-use Rattle.replay_map.specs.Links.{link_of, page_below}
-use Rattle.replay_map.specs.Sums.{root_page}
+use Rattle.replay_map.specs.Links.{link_of}
 use Rattle.replay_map.specs.Taken.{change_in}
 use Rattle.replay_map.specs.Walks.{IsUpTo}
 use Rattle.replay_map.specs.declared.changes.SlotId.{SlotId}

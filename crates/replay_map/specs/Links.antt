@@ -1,12 +1,13 @@
 -- The pages to which a page leads.
-use Rattle.std.specs.Prelude.{ℕ, ◌≡◌, ◌+◌, ◌-◌, ◌*◌, ◌<◌, ◌↔◌, List, [], ◌∷◌, Some, Contains, slice_index_or}
+use Rattle.std.specs.Prelude.{ℕ, ◌≡◌, ◌<◌, ◌↔◌, List, [], ◌∷◌, Some, Contains, slice_index_or}
+use Rattle.blk_base.specs.Pages.{above, page_below, root_page}
+use Rattle.blk_base.specs.Regions.{Root, block_of}
+use Rattle.blk_base.specs.declared.geometry.Geometry.{Geometry}
 use Rattle.blk_base.specs.declared.place.Mapping.{Mapping}
 use Rattle.blk_base.specs.declared.place.Mapping.TheVariants.{Unmapped, Zero, At}
 use Rattle.blk_base.specs.declared.place.PageId.{PageId}
 use Rattle.blk_base.specs.declared.place.Pbn.{Pbn}
-use Rattle.blk_base.specs.declared.sizes.TheConstants.{PAGE_SLOTS}
 use Rattle.image_model.specs.Maps.{Image, page_at}
-use Rattle.image_model.specs.Pages.{above}
 use Rattle.replay_map.specs.declared.links.Link.{Link}
 
 -- the linked pages of an image that are just below this one, each with its block
@@ -16,9 +17,9 @@ AreLinks image page links = (below : PageId) (at : Pbn)
 
 -- By the page's mappings.
 
--- the page to which a slot leads, of a page that is no leaf
-abbrev pub page_below : PageId → ℕ → PageId
-page_below page slot = record { tree = page.tree; level = page.level - 1; index = page.index * PAGE_SLOTS + slot }
+-- the root of a tree, at its block
+abbrev pub root_link : Geometry → ℕ → Link
+root_link g tree = record { page = root_page g tree; at = record { 0 = block_of g (Root tree) } }
 
 -- the link of a slot, if it has one
 abbrev pub link_of : PageId → ℕ → Mapping → List Link

@@ -9,7 +9,7 @@ use Rattle.disk_model.specs.Log.{Blocks}
 use Rattle.disk_model.specs.Seen.{Seen}
 use Rattle.image_model.specs.Counts.{mapped_below}
 use Rattle.image_model.specs.Faults.{IsImageFault, IsOpened, IsPageFault, IsShareFault}
-use Rattle.image_model.specs.Maps.{Image, ArePagesGood, mapping_of, page_at, put_last}
+use Rattle.image_model.specs.Maps.{Image, ArePagesGood, mapping_of, page_at, put_last, image_with}
 use Rattle.image_model.specs.Pages.{address_count}
 use Rattle.image_model.specs.Sound.{AreUnshared, Opens, image_of}
 use Rattle.image_model.specs.declared.fault.ImageFault.{ImageFault}
@@ -51,10 +51,6 @@ pub record HasMap (image : Image) (map : RecoveredMap) : Type 0 where
   pub mapped : AreAllMapped image map.mapped.items
 
 -- By what was read.
-
--- the image with these sizes, these blocks and this window, the newest entry first
-abbrev pub image_with : Geometry → Blocks → List CommittedEntry → Image
-image_with g blocks window = record { geometry = g; blocks = blocks; window = window }
 
 -- blocks were read, and this holds of each image with this window that has what was read
 abbrev pub IsFound : Bool → Bool → Geometry → List CommittedEntry → Seen → Seen → (Image → Type 0) → Type 0

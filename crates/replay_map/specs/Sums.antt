@@ -1,30 +1,20 @@
 -- How often the pages of an image map to a block.
-use Rattle.std.specs.Prelude.{ℕ, zero, suc, ◌+◌, ◌-◌, ◌==◌, if◌then◌else◌, Some, None}
-use Rattle.blk_base.specs.declared.geometry.Geometry.{Geometry}
-use Rattle.blk_base.specs.declared.place.Mapping.{Mapping}
-use Rattle.blk_base.specs.declared.place.Mapping.TheVariants.{Unmapped}
+use Rattle.std.specs.Prelude.{ℕ, zero, suc, ◌+◌, ◌-◌, ◌==◌, if◌then◌else◌}
 use Rattle.blk_base.specs.declared.place.PageId.{PageId}
 use Rattle.blk_base.specs.declared.place.Pbn.{Pbn}
 use Rattle.blk_base.specs.declared.sizes.TheConstants.{PAGE_SLOTS}
 use Rattle.image_model.specs.Counts.{mapped_below}
-use Rattle.image_model.specs.Maps.{Image, page_at, says}
-use Rattle.replay_map.specs.Links.{page_below}
+use Rattle.image_model.specs.Maps.{Image, slot_in}
+use Rattle.blk_base.specs.Pages.{page_below, root_page}
 
 -- the sum of what stands at the first numbers
 unfoldable pub sum_below : (ℕ → ℕ) → ℕ → ℕ
 sum_below f zero = 0
 sum_below f (suc n) = sum_below f n + f n
 
--- what a slot of a leaf says; nothing where the leaf isn't linked
-abbrev pub says_leaf : Image → PageId → ℕ → Mapping
-says_leaf image page slot = elim (page_at image page) [
-  | Some at ↦ says image page at slot
-  | None ↦ Unmapped
-]
-
 -- how many slots of the leaves so many levels below a page map to a block
 abbrev pub maps_under : Image → Pbn → ℕ → PageId → ℕ
-maps_under image block zero page = mapped_below (says_leaf image page) block PAGE_SLOTS
+maps_under image block zero page = mapped_below (slot_in image page) block PAGE_SLOTS
 maps_under image block (suc levels) page = sum_below (λ slot. maps_under image block levels (page_below page slot)) PAGE_SLOTS
 
 -- of all leaves below a page, or of the page itself, if it is one
@@ -38,10 +28,6 @@ maps_in image page block = if page.level == 0 then maps_under image block 0 page
 -- of a page, and of all leaves below its first slots
 abbrev pub maps_up_to : Image → PageId → ℕ → Pbn → ℕ
 maps_up_to image page slots block = maps_in image page block + sum_below (λ slot. maps_under image block (page.level - 1) (page_below page slot)) slots
-
--- the root of a tree
-abbrev pub root_page : Geometry → ℕ → PageId
-root_page g tree = record { tree = tree; level = g.height - 1; index = 0 }
 
 -- of the leaves of the first trees
 abbrev pub maps_in_trees : Image → ℕ → Pbn → ℕ

@@ -6,7 +6,7 @@ use Rattle.blk_base.specs.declared.place.PageId.{PageId}
 use Rattle.blk_base.specs.declared.place.Pbn.{Pbn}
 use Rattle.image_model.specs.Counts.{mapped_below}
 use Rattle.image_model.specs.Maps.{Image, page_at}
-use Rattle.image_model.specs.Pages.{above}
+use Rattle.blk_base.specs.Pages.{above}
 use Rattle.replay_map.specs.Changes.{changed}
 use Rattle.replay_map.specs.Replayed.{times}
 use Rattle.replay_map.specs.declared.changes.SlotId.{SlotId}

@@ -9,15 +9,15 @@ use Rattle.blk_base.specs.declared.sizes.TheConstants.{PAGE_SLOTS}
 use Rattle.disk_model.specs.Seen.{Seen}
 use Rattle.image_model.specs.Faults.{HasFault}
 use Rattle.image_model.specs.Maps.{Image, IsGoodPage, page_at, put_last}
-use Rattle.image_model.specs.Pages.{IsAhead, above}
+use Rattle.image_model.specs.Pages.{IsAhead}
 use Rattle.image_model.specs.declared.fault.ImageFault.{ImageFault}
 use Rattle.image_model.specs.declared.fault.ImageFault.TheVariants.{Super, Window, Page, Counter, SharedPage, Counts, Device, Unclean, Memory}
 use Rattle.page_codec.specs.declared.fault.PageFault.{PageFault}
 use Rattle.page_codec.specs.declared.forms.PageHead.{PageHead}
-use Rattle.replay_map.specs.Links.{page_below}
+use Rattle.blk_base.specs.Pages.{above, page_below, root_page}
 use Rattle.replay_map.specs.Reads.{IsShown, ReadFails}
 use Rattle.replay_map.specs.Replayed.{times}
-use Rattle.replay_map.specs.Sums.{maps_below, maps_in, maps_in_trees, maps_up_to, root_page}
+use Rattle.replay_map.specs.Sums.{maps_below, maps_in, maps_in_trees, maps_up_to}
 use Rattle.replay_map.specs.declared.changes.SlotId.{SlotId}
 use Rattle.replay_map.specs.declared.found.Found.{Found}
 use Rattle.replay_map.specs.declared.found.SlotChange.{SlotChange}

@@ -1,7 +1,8 @@
 ghost use Rattle.std.specs.Prelude.{◌≡◌, ◌<◌, ◌^◌, ℕ, if◌then◌else◌, Some, None, IfOk, IfSome, IfNone, OnOk, reverse};
+ghost use Rattle.blk_base.specs.Pages.{above, slot_of};
 ghost use Rattle.blk_base.specs.declared.place.PageId.{PageId};
 ghost use Rattle.image_model.specs.Maps.{or_else, put_by};
-ghost use Rattle.image_model.specs.Pages.{above, leaf_of, slot_of, slot_of_address};
+ghost use Rattle.image_model.specs.Pages.{leaf_of, slot_of_address};
 ghost use Rattle.replay_map.specs.Changes.{AreNewest, changed, is_slot};
 
 use blk_base::{CommittedEntry, Entry, Lba, Mapping, PAGE_SLOTS, PageId, TREES};
@@ -99,13 +100,11 @@ fn slot_above(page: PageId) -> Option<SlotId>
     ensures some { IfSome result (λ id. id ≡ record { page = above page; slot = slot_of page }) }
     ensures none { IfNone result (page.level ≡ 255) }
 {
-    let level = page.level.checked_add(1)?;
+    if page.level == u8::MAX {
+        return None;
+    }
     Some(SlotId {
-        page: PageId {
-            tree: page.tree,
-            level,
-            index: page.index / u32::from(PAGE_SLOTS),
-        },
-        slot: (page.index % u32::from(PAGE_SLOTS)) as u16,
+        page: page.parent(),
+        slot: page.parent_slot(),
     })
 }

@@ -5,15 +5,34 @@ ghost use Rattle.replay_map.specs.Forms.{links_in};
 ghost use Rattle.replay_map.specs.Links.{AreLinks, AreOfSlots, link_of};
 ghost use Rattle.replay_map.specs.Pages.{IsReadAs};
 
-use blk_base::{Mapping, Mappings, PAGE_SLOTS, PageId, Pbn};
+use blk_base::{Layout, Mapping, Mappings, PAGE_SLOTS, PageId, Pbn};
 use page_codec::PageHead;
 use std::alloc::{AllocError, Global};
 
-/// A linked page, which is no root, and the block at which it stands.
+/// A page that is a root or linked, and the block at which it stands.
 #[derive(Clone, Copy, Debug, PartialEq, Eq)]
 pub struct Link {
     pub page: PageId,
     pub at: Pbn,
+}
+
+impl Link {
+    ghost use Rattle.blk_base.specs.declared.sizes.TheConstants.{TREES};
+    ghost use Rattle.replay_map.specs.Links.{root_link};
+    ghost use Rattle.replay_map.specs.Walks.{IsRoot};
+
+    /// The root of a tree, 0 to 59.
+    pub fn root(layout: &Layout, tree: u8) -> Link
+        requires { tree < TREES }
+        ensures link { result ≡ root_link layout.now.geometry tree }
+        ensures root { IsRoot layout.now.geometry tree result }
+        ensures inner { 0 < result.page.level }
+    {
+        Link {
+            page: layout.root_page(tree),
+            at: layout.root(tree),
+        }
+    }
 }
 
 /// The pages to which a page with these mappings leads, in the order of its slots; a leaf leads to none. `page` is the page
@@ -64,12 +83,10 @@ fn push_link(
     ensures { OnOk result (links.new.items ≡ links.old.items ++ link_of page slot mapping) }
 {
     if let Mapping::At(at) = mapping {
-        let below = PageId {
-            tree: page.tree,
-            level: page.level - 1,
-            index: page.index * u32::from(PAGE_SLOTS) + u32::from(slot),
-        };
-        links.push(Link { page: below, at })?;
+        links.push(Link {
+            page: page.child(slot),
+            at,
+        })?;
     }
     Ok(())
 }

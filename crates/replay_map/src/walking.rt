@@ -5,15 +5,15 @@ ghost use Rattle.blk_base.specs.declared.sizes.TheConstants.{PAGE_SLOTS, TREES};
 ghost use Rattle.disk_model.specs.Since.{IsUntouched};
 ghost use Rattle.image_model.specs.Maps.{target_of};
 ghost use Rattle.replay_map.specs.Forms.{AddsForm, HasVisited, IsInTree, IsRootPage};
-ghost use Rattle.replay_map.specs.Links.{page_below};
+ghost use Rattle.blk_base.specs.Pages.{page_below};
 ghost use Rattle.replay_map.specs.Pages.{IsReadAs};
 ghost use Rattle.replay_map.specs.Reads.{AreLeading, IsPageBlock, IsShown, LeadToData};
-ghost use Rattle.replay_map.specs.Walks.{IsInTrees, IsLinked, IsRoot, IsUnder, IsUpTo, WalkFails, WalkedTrees, WalkedUnder, WalkedUpTo, head_at, link_to};
+ghost use Rattle.replay_map.specs.Walks.{IsInTrees, IsLinked, IsUnder, IsUpTo, WalkFails, WalkedTrees, WalkedUnder, WalkedUpTo, head_at, link_to};
 
 use crate::found::Found;
 use crate::taking::take_page;
 use crate::{Changes, Link, read_page};
-use blk_base::{Block, Layout, Mapping, Mappings, PAGE_SLOTS, PageId, Pbn, TREES};
+use blk_base::{Layout, Mapping, Mappings, PAGE_SLOTS, PageId, Pbn, TREES};
 use disk_model::{Disk, read_block};
 use image_model::ImageFault;
 use page_codec::PageHead;
@@ -41,25 +41,10 @@ pub(crate) fn walk_trees<D: Disk>(
     ensures untouched { IsUntouched D.tells (D.seen device.old) (D.seen device.new) }
 {
     for tree in 0..TREES {
-        let root = root_of(layout, tree);
+        let root = Link::root(layout, tree);
         walk(alloc, layout, changes, device, root, found)?;
     }
     Ok(())
-}
-
-// The root of a tree.
-fn root_of(layout: &Layout, tree: u8) -> Link
-    requires { tree < TREES }
-    ensures { IsRoot layout.now.geometry tree result }
-{
-    Link {
-        page: PageId {
-            tree,
-            level: (layout.geometry.height - 1) as u8,
-            index: 0,
-        },
-        at: layout.root(tree),
-    }
 }
 
 // Reads a page at its block, and then those below it.
@@ -122,11 +107,7 @@ fn link_below(page: PageId, slot: u16, at: Pbn) -> Link
     ensures { result ≡ record { page = page_below page slot; at = at } }
 {
     Link {
-        page: PageId {
-            tree: page.tree,
-            level: page.level - 1,
-            index: page.index * u32::from(PAGE_SLOTS) + u32::from(slot),
-        },
+        page: page.child(slot),
         at,
     }
 }

@@ -15,18 +15,18 @@ use Rattle.blk_base.specs.declared.place.PageId.{PageId}
 use Rattle.blk_base.specs.declared.place.Pbn.{Pbn}
 use Rattle.blk_base.specs.declared.sizes.TheConstants.{PAGE_SLOTS, TREES}
 use Rattle.block_map_tree.specs.Opening.{IsOpened, IsLed, IsListed, IsPlaced, all_trees}
-use Rattle.block_map_tree.specs.Pages.{IsInner, IsLower, IsRoot, IsTreeOf, above, slot_of}
+use Rattle.block_map_tree.specs.Pages.{IsInner, IsLower, IsRoot, IsTreeOf}
 use Rattle.block_map_tree.specs.declared.forms.Forest.{Forest}
 use Rattle.page_codec.specs.Grammar.{AreHeld, HoldsMapping}
 use Rattle.plain_laws.proofs.OptionLaws.{some_of, some_is}
 use Rattle.replay_map.specs.Forms.{HasForm, IsInTree}
-use Rattle.replay_map.specs.Links.{page_below}
-use Rattle.replay_map.specs.Sums.{root_page}
+use Rattle.blk_base.specs.Pages.{above, page_below, root_page, slot_of}
 use Rattle.replay_map.specs.declared.found.SlotChange.{SlotChange}
 use Rattle.replay_map.specs.declared.links.Link.{Link}
 use Rattle.session_opening.proofs.ListedLaws.{in_reverse, in_roots, linked_every, linked_of, linked_once, of_reverse, pairs_append, roots_in, roots_once}
 use Rattle.session_opening.proofs.PlaceLaws.{block_linked, linked_has}
-use Rattle.session_opening.specs.Pages.{ArePages, root_link, roots_below}
+use Rattle.replay_map.specs.Links.{root_link}
+use Rattle.session_opening.specs.Pages.{ArePages, roots_below}
 use Rattle.session_opening.specs.Places.{AreLeading, block_by, mapping_to}
 
 -- a page of the levels that there are has a small number

@@ -13,7 +13,8 @@ use Rattle.blk_base.specs.declared.place.PageId.{PageId}
 use Rattle.blk_base.specs.declared.sizes.TheConstants.{PAGE_SLOTS}
 use Rattle.image_model.proofs.CountLaws.{is_first, is_first_or_behind, none_in_nothing}
 use Rattle.replay_map.specs.declared.links.Link.{Link}
-use Rattle.session_opening.specs.Pages.{AreLinked, root_link, roots_below}
+use Rattle.replay_map.specs.Links.{root_link}
+use Rattle.session_opening.specs.Pages.{AreLinked, roots_below}
 use Rattle.session_opening.specs.Places.{AreLeading}
 
 -- Lists.

@@ -7,7 +7,8 @@ use Rattle.blk_base.specs.declared.sizes.TheConstants.{PAGE_SLOTS, TREES}
 use Rattle.blk_base.specs.declared.geometry.Geometry.{Geometry}
 use Rattle.replay_map.specs.declared.links.Link.{Link}
 use Rattle.session_opening.specs.declared.places.Places.{Places}
-use Rattle.session_opening.specs.Pages.{AreAdded, AreLinked, ArePages, root_link, roots_below}
+use Rattle.replay_map.specs.Links.{root_link}
+use Rattle.session_opening.specs.Pages.{AreAdded, AreLinked, ArePages, roots_below}
 use Rattle.session_opening.specs.Places.{AreLeading, ArePlaces}
 
 module _ (links : List Link) where

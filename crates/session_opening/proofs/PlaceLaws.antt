@@ -18,11 +18,12 @@ use Rattle.blk_base.specs.declared.place.Mapping.TheVariants.{Unmapped}
 use Rattle.blk_base.specs.declared.place.PageId.{PageId}
 use Rattle.blk_base.specs.declared.place.Pbn.{Pbn}
 use Rattle.blk_base.specs.declared.sizes.TheConstants.{PAGE_SLOTS}
+use Rattle.blk_base.specs.Pages.{page_order}
 use Rattle.image_model.proofs.CountLaws.{is_first_or_behind, none_in_nothing}
 use Rattle.image_model.specs.Pages.{is_page}
 use Rattle.replay_map.specs.declared.links.Link.{Link}
 use Rattle.session_opening.specs.declared.places.Places.{Places}
-use Rattle.session_opening.specs.Places.{AreInner, AreLeading, ArePlaces, LeadsTo, block_by, page_order}
+use Rattle.session_opening.specs.Places.{AreInner, AreLeading, ArePlaces, LeadsTo, block_by}
 
 -- The order of pages.
 

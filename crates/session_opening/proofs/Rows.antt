@@ -10,6 +10,7 @@ use Rattle.blk_base.specs.declared.opened.OpenedPage.{OpenedPage}
 use Rattle.blk_base.specs.declared.place.Mapping.{Mapping}
 use Rattle.blk_base.specs.declared.place.Mapping.TheVariants.{Unmapped, Zero, At}
 use Rattle.blk_base.specs.declared.place.Pbn.{Pbn}
+use Rattle.blk_base.specs.Pages.{page_order}
 use Rattle.image_model.proofs.CountLaws.{is_first, none_in_nothing, one_stored}
 use Rattle.image_model.proofs.Example.{pbn, small}
 use Rattle.image_model.proofs.MapRows.{page, root, with_root}
@@ -27,8 +28,9 @@ use Rattle.replay_map.specs.declared.links.Link.{Link}
 use Rattle.session_opening.proofs.PageLaws.{none_added}
 use Rattle.session_opening.proofs.PlaceLaws.{inner_more, none_placed}
 use Rattle.session_opening.specs.declared.places.Places.{Places}
-use Rattle.session_opening.specs.Pages.{AreAdded, AreLinked, ArePages, root_link, roots_below}
-use Rattle.session_opening.specs.Places.{AreInner, AreLeading, ArePlaces, LeadsTo, block_by, page_order}
+use Rattle.replay_map.specs.Links.{root_link}
+use Rattle.session_opening.specs.Pages.{AreAdded, AreLinked, ArePages, roots_below}
+use Rattle.session_opening.specs.Places.{AreInner, AreLeading, ArePlaces, LeadsTo, block_by}
 use Rattle.session_opening.specs.Starts.{AreCommits, AreCounters, AreInnerPages, ArePageBlocks, IsInnerPage, IsStart}
 
 -- An image whose root of tree 0 has a page without mappings.

@@ -24,21 +24,21 @@ use Rattle.disk_model.specs.Log.{block_at}
 use Rattle.image_model.proofs.CountLaws.{is_first, is_first_or_behind, none_in_nothing}
 use Rattle.image_model.proofs.MapLaws.{page_in_range, slot_says_its_mapping}
 use Rattle.image_model.specs.Maps.{Image, ArePagesGood, IsReadable, head_of, mapping_in, or_else, page_at, put_by, put_last, says, target_of}
-use Rattle.image_model.specs.Pages.{above, is_page, leaf_of, slot_of}
+use Rattle.image_model.specs.Pages.{is_page, leaf_of}
 use Rattle.page_codec.specs.Grammar.{IsSlot}
 use Rattle.replay_counts.specs.Recovered.{HasCounts, no_points}
 use Rattle.replay_counts.specs.declared.forms.SectorPoints.{SectorPoints}
 use Rattle.replay_map.proofs.LinkedLaws.{below_at}
 use Rattle.replay_map.proofs.TreeLaws.{root_linked, under_root}
 use Rattle.replay_map.proofs.UnderLaws.{up_none}
-use Rattle.replay_map.specs.Links.{page_below}
+use Rattle.blk_base.specs.Pages.{above, page_below, root_page, slot_of}
 use Rattle.replay_map.specs.Replayed.{AreAllLinks, HasMap}
-use Rattle.replay_map.specs.Sums.{root_page}
 use Rattle.replay_map.specs.declared.links.Link.{Link}
 use Rattle.replay_map.specs.declared.recovered.RecoveredMap.{RecoveredMap}
 use Rattle.session_opening.proofs.ListedLaws.{behind_in, in_map, in_reverse, in_roots, linked_every, linked_once, of_map, of_reverse, pairs_append, roots_in, roots_once}
 use Rattle.session_opening.proofs.PlaceLaws.{block_linked, linked_has, tells}
-use Rattle.session_opening.specs.Pages.{AreLinked, ArePages, root_link, roots_below}
+use Rattle.replay_map.specs.Links.{root_link}
+use Rattle.session_opening.specs.Pages.{AreLinked, ArePages, roots_below}
 use Rattle.session_opening.specs.Places.{AreLeading, block_by, mapping_to}
 use Rattle.session_opening.specs.Starts.{AreCommits, AreCounters, AreInnerPages, ArePageBlocks, IsInnerPage, IsStart}
 

@@ -1,16 +1,11 @@
 -- The pages of a block map that are no leaves, by its links.
 use Rattle.std.specs.Prelude.{ℕ, zero, suc, ◌≡◌, List, [], ◌∷◌, ◌++◌}
-use Rattle.blk_base.specs.Regions.{Root, block_of}
 use Rattle.blk_base.specs.declared.geometry.Geometry.{Geometry}
 use Rattle.blk_base.specs.declared.opened.OpenedPage.{OpenedPage}
 use Rattle.blk_base.specs.declared.sizes.TheConstants.{PAGE_SLOTS, TREES}
-use Rattle.replay_map.specs.Sums.{root_page}
+use Rattle.replay_map.specs.Links.{root_link}
 use Rattle.replay_map.specs.declared.links.Link.{Link}
 use Rattle.session_opening.specs.Places.{AreInner, AreLeading}
-
--- the root of a tree, at its block
-abbrev pub root_link : Geometry → ℕ → Link
-root_link g tree = record { page = root_page g tree; at = record { 0 = block_of g (Root tree) } }
 
 -- those of the first trees
 abbrev pub roots_below : Geometry → ℕ → List Link

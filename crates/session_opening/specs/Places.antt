@@ -2,21 +2,15 @@
 use Rattle.std.specs.Prelude.{ℕ, ◌≡◌, ◌+◌, ◌*◌, ◌^◌, ◌<◌, if◌then◌else◌, List, [], ◌∷◌, length, Option, Some, None, IsSome, Contains, slice_index_or}
 use Rattle.std.specs.BTreeMap.{get}
 use Rattle.std.specs.List.{AllPairs}
-use Rattle.std.specs.Ordering.{nat_cmp, ordering_then}
-use Rattle.std.specs.declared.cmp.Ordering.{Ordering}
 use Rattle.blk_base.specs.declared.place.Mapping.{Mapping}
 use Rattle.blk_base.specs.declared.place.Mapping.TheVariants.{Unmapped, At}
 use Rattle.blk_base.specs.declared.place.PageId.{PageId}
 use Rattle.blk_base.specs.declared.place.Pbn.{Pbn}
 use Rattle.blk_base.specs.declared.sizes.TheConstants.{PAGE_SLOTS}
 use Rattle.image_model.specs.Pages.{is_page}
-use Rattle.replay_map.specs.Links.{page_below}
+use Rattle.blk_base.specs.Pages.{page_below, page_order}
 use Rattle.replay_map.specs.declared.links.Link.{Link}
 use Rattle.session_opening.specs.declared.places.Places.{Places}
-
--- the order of pages: by tree, level and index
-abbrev pub page_order : PageId → PageId → Ordering
-page_order a b = ordering_then (nat_cmp a.tree b.tree) (ordering_then (nat_cmp a.level b.level) (nat_cmp a.index b.index))
 
 -- the block to which the newest link of a page leads
 abbrev pub block_by : List Link → PageId → Option Pbn

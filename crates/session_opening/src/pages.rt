@@ -1,7 +1,7 @@
-ghost use Rattle.std.specs.Prelude.{◌≡◌, ◌<◌, ◌∷◌, [], List, reverse, IfOk, OnOk, All};
+ghost use Rattle.std.specs.Prelude.{◌<◌, ◌∷◌, [], List, reverse, IfOk, OnOk, All};
 ghost use Rattle.blk_base.specs.declared.sizes.TheConstants.{PAGE_SLOTS, TREES};
 ghost use Rattle.replay_map.specs.declared.links.Link.{Link as Linked};
-ghost use Rattle.session_opening.specs.Pages.{AreAdded, ArePages, root_link, roots_below};
+ghost use Rattle.session_opening.specs.Pages.{AreAdded, ArePages, roots_below};
 ghost use Rattle.session_opening.specs.Places.{ArePlaces, AreLeading};
 
 use crate::places::{Places, mapping_below, places_of};
@@ -34,25 +34,9 @@ fn push_roots(
         → AreAdded links (roots_below layout.now.geometry TREES) pages.old.items pages.new.items) }
 {
     for tree in 0..TREES {
-        push_page(pages, places, root_of(layout, tree))?;
+        push_page(pages, places, Link::root(layout, tree))?;
     }
     Ok(())
-}
-
-// The root of a tree.
-fn root_of(layout: &Layout, tree: u8) -> Link
-    requires { tree < TREES }
-    ensures root { result ≡ root_link layout.now.geometry tree }
-    ensures inner { 0 < result.page.level }
-{
-    Link {
-        page: PageId {
-            tree,
-            level: (layout.geometry.height - 1) as u8,
-            index: 0,
-        },
-        at: layout.root(tree),
-    }
 }
 
 // Adds the linked pages that are no leaves.

@@ -52,12 +52,7 @@ pub(crate) fn mapping_below(places: &Places, page: PageId, slot: u16) -> Mapping
     if index > u64::from(u32::MAX) {
         return Mapping::Unmapped;
     }
-    let below = PageId {
-        tree: page.tree,
-        level: page.level - 1,
-        index: index as u32,
-    };
-    match places.blocks.get(&below) {
+    match places.blocks.get(&page.child(slot)) {
         Some(at) => Mapping::At(*at),
         None => Mapping::Unmapped,
     }

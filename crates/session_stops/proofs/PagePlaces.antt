@@ -12,13 +12,14 @@ use Rattle.blk_base.specs.declared.place.Mapping.TheVariants.{Unmapped, At}
 use Rattle.blk_base.specs.declared.place.PageId.{PageId}
 use Rattle.blk_base.specs.declared.place.Pbn.{Pbn}
 use Rattle.blk_base.specs.declared.sizes.TheConstants.{TREES}
-use Rattle.image_model.specs.Maps.{Image, ArePagesGood, linked_at, or_else, page_at, says, target_of}
-use Rattle.image_model.specs.Pages.{above, is_page, slot_of}
+use Rattle.blk_base.specs.Pages.{above, slot_of}
+use Rattle.image_model.specs.Maps.{Image, ArePagesGood, linked_at, or_else, page_at, says, target_of, slot_in}
+use Rattle.image_model.specs.Pages.{is_page}
 use Rattle.plain_laws.proofs.OptionLaws.{option_cases}
 use Rattle.recovery_laws.proofs.OldLaws.{page_stands}
 use Rattle.recovery_laws.proofs.SameMapLaws.{at_links}
 use Rattle.recovery_laws.proofs.WindowFacts.{IsKnown}
-use Rattle.journal_stops.specs.Mapped.{linked_after, newest_page, page_after, put_page, slot_after, slot_in}
+use Rattle.journal_stops.specs.Mapped.{linked_after, newest_page, page_after, put_page, slot_after}
 use Rattle.journal_stops.proofs.GrowLaws.{by_link, in_range}
 use Rattle.journal_stops.proofs.NewestLaws.{newest_is_block, newest_page_same}
 use Rattle.session_stops.specs.Pages.{ArePagesOnIt}

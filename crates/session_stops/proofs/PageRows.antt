@@ -22,7 +22,7 @@ use Rattle.disk_model.specs.Log.{Blocks, block_at}
 use Rattle.disk_model.proofs.OneImageLaws.{one_image-opening}
 use Rattle.disk_model.proofs.LookedLaws.{one_in-all}
 use Rattle.image_model.specs.Empty.{IsEmpty, empty_root, empty_super}
-use Rattle.image_model.specs.Maps.{Image, ArePagesGood, head_of, or_else, put_last}
+use Rattle.image_model.specs.Maps.{Image, ArePagesGood, head_of, or_else, put_last, slot_in}
 use Rattle.image_model.specs.Pages.{is_page}
 use Rattle.image_model.proofs.EmptyLaws.{blank_slot, no_tree_page, pages_good, root_says, sizes_of_image}
 use Rattle.image_model.proofs.Example.{small, pbn}
@@ -34,7 +34,7 @@ use Rattle.page_codec.specs.declared.forms.PageHead.{PageHead}
 use Rattle.plain_laws.proofs.OptionLaws.{option_cases}
 use Rattle.recovery_laws.proofs.SuperLaws.{room_of_image}
 use Rattle.recovery_laws.proofs.WindowFacts.{IsKnown}
-use Rattle.journal_stops.specs.Mapped.{ArePagesShown, page_after, slot_after, slot_in}
+use Rattle.journal_stops.specs.Mapped.{ArePagesShown, page_after, slot_after}
 use Rattle.journal_stops.proofs.NewestLaws.{page_equal}
 use Rattle.journal_stops.proofs.OpenedLaws.{page_with_none}
 use Rattle.count_laws.proofs.Example.{at_point, data_block, four, leaf, leaf_gone, one, opened, page, remap}

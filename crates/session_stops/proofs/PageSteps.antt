@@ -13,13 +13,14 @@ use Rattle.blk_base.specs.declared.place.Mapping.TheVariants.{Unmapped, At}
 use Rattle.blk_base.specs.declared.place.PageId.{PageId}
 use Rattle.blk_base.specs.declared.place.Pbn.{Pbn}
 use Rattle.blk_base.specs.declared.sizes.TheConstants.{PAGE_SLOTS, TREES}
+use Rattle.blk_base.specs.Pages.{above, slot_of}
 use Rattle.disk_model.specs.declared.call.Call.{Call}
 use Rattle.disk_model.specs.declared.call.Call.TheVariants.{Read, Write, Flush}
 use Rattle.disk_model.specs.Log.{Blocks, Misses, block_at, contents}
 use Rattle.disk_model.proofs.ImageLaws.{all_weaker}
 use Rattle.disk_model.specs.OneImages.{HasOneImageIn}
 use Rattle.image_model.specs.Maps.{Image, ArePagesGood, head_of, or_else, page_at, put_last, target_of}
-use Rattle.image_model.specs.Pages.{above, is_page, slot_of}
+use Rattle.image_model.specs.Pages.{is_page}
 use Rattle.page_codec.proofs.ReadLaws.{slots}
 use Rattle.page_codec.specs.Grammar.{HasHead, IsPage, IsSlot}
 use Rattle.page_codec.specs.declared.forms.PageHead.{PageHead}

@@ -9,15 +9,12 @@ use disk_model::{Disk, ReadError, read_blocks};
 use image_model::ImageFault;
 use std::alloc::Global;
 
-/// How many sectors a block has.
-const SECTORS: u32 = 8;
-
 // How many blocks say what there is to know of a slab's counts: its reference blocks, and those of its journal.
 fn blocks_per_slab(layout: &Layout) -> u32
     ensures count { result ≡ blocks_per_slab layout.now.geometry }
     ensures small { result < 1000 }
 {
-    layout.sectors_per_slab().div_ceil(SECTORS) + layout.geometry.slab_journal
+    layout.references() + layout.geometry.slab_journal
 }
 
 /// Reads these blocks of a slab, one after the other.

@@ -64,7 +64,7 @@ fn push_updates(
     requires all { length read.now ≡ blocks_per_slab layout.now.geometry }
     ensures { OnOk result (Grew layout.now.geometry slab (SlabKeeps layout.now.geometry slab read.now layout.now.geometry.slab_journal) updates.old.items updates.new.items) }
 {
-    let references = layout.sectors_per_slab().div_ceil(8);
+    let references = layout.references();
     for slot in 0..layout.geometry.slab_journal {
         push_block(layout, slab, &read[(references + slot) as usize], updates)?;
     }

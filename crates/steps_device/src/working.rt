@@ -13,14 +13,14 @@ ghost use Rattle.steps_device.specs.DeviceCalls.{Fits, HasFailed};
 
 use crate::calling::{flush, write_block};
 use crate::stopping::halt;
-use blk_base::{Block, Layout, Pbn, ZoneId};
+use blk_base::{Block, JOURNAL_ENTRIES, Layout, Pbn, ZoneId};
 use core_model::{DeviceZone, Item, SealedBlock, Sizes, Stage};
 use disk_model::{Disk, Failed};
 use journal_codec::{Entries, JournalBlock, encode};
 use step_parts::{Posts, Stray};
 
 // The entries of a sealed block, the oldest first.
-fn sealed_entries(block: &SealedBlock) -> Entries<192>
+fn sealed_entries(block: &SealedBlock) -> Entries<JOURNAL_ENTRIES>
     ensures { result ≡ map (λ v. entry_of (vios.logged v)) block.now.vios }
 {
     let mut entries = Entries::new();

@@ -1,5 +1,5 @@
 -- The book that the index blocks of an image give.
-use Rattle.std.specs.Prelude.{ℕ, suc, ◌≡◌, ◌⊎◌, ◌/◌, ◌%◌, ◌<◌, ◌^◌, Bool, true, false, IsTrue, List, [], ◌∷◌, filter, All, AllPairs, Option, None, Some, nat_eq}
+use Rattle.std.specs.Prelude.{ℕ, suc, ◌≡◌, ◌⊎◌, ◌/◌, ◌%◌, ◌<◌, ◌^◌, Bool, IsTrue, List, [], ◌∷◌, filter, All, AllPairs, Option, None, Some, nat_eq}
 use Rattle.std.specs.List.{list_any}
 use Rattle.std.specs.Option.{option_or}
 use Rattle.blk_base.specs.declared.place.Pbn.{Pbn}

@@ -1,5 +1,6 @@
-use Rattle.std.proofs.Common.{◌≡◌, ◌∙◌, ℕ, ◌+◌, ◌*◌, ◌<◌, List, length, take, sym, ap₂, subst, arith}
+use Rattle.std.proofs.Common.{◌≡◌, ◌∙◌, ℕ, ◌+◌, ◌*◌, ◌<◌, List, length, take, sym, ap, subst, arith}
 use Rattle.std.proofs.lemmas.List.{with_items_is}
+use Rattle.blk_base.specs.Counters.{sectors_per_slab}
 use Rattle.blk_base.specs.declared.point.Point.{Point}
 use Rattle.count_updates.specs.Applied.{AreApplied}
 use Rattle.count_updates.proofs.AppliedLaws.{none_of_list, one_of_list}
@@ -19,5 +20,5 @@ loop-update-preserved c =
           rw w.applied-is (subst (λ (points : List Point). AreApplied c.args.layout.now.geometry (take (c.loop-update.update-index + 1) c.args.found.now.updates.items) c.args.found.now.commits.items points)
           (sym (with_items_is c.loop-update.applied w.raise.new.points size ∙ w.raise.ensures))
           (rw w.deref_mut.ensures.value
-          (one_of_list _ _ _ is c.loop-update.update-index _ inside _ _ were w.in-Some.place _ found.0 found.1 (ap₂ (λ (n m : ℕ). w.in-Some.place.slab * n + m) w.sectors_per_slab.ensures w.sector_of_offset.ensures))))
+          (one_of_list _ _ _ is c.loop-update.update-index _ inside _ _ were w.in-Some.place _ found.0 found.1 (w.sector_number-sector.ensures.number ∙ ap (λ (m : ℕ). w.in-Some.place.slab * sectors_per_slab c.args.layout.now.geometry + m) w.sector_of_offset.ensures))))
     ]

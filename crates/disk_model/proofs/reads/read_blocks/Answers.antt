@@ -1,4 +1,4 @@
-use Rattle.std.proofs.Common.{◌≡◌, ◌+◌, length, reverse, refl, arith}
+use Rattle.std.proofs.Common.{◌≡◌, ◌+◌, length, reverse, arith}
 use Rattle.std.proofs.lemmas.List.{length-reverse}
 use Rattle.disk_model.proofs.SinceLaws.{none_read, next_read, next_failed, were_only_read, next_only_read}
 use Rattle.disk_model.proofs.reads.read_blocks.Goals as goal

@@ -1,5 +1,7 @@
-use Rattle.std.proofs.Common.{ℕ, ◌-◌, List, ◌∙◌, ap₂}
+use Rattle.std.proofs.Common.{ℕ, List, ◌∙◌, ap, ap₂}
+use Rattle.blk_base.specs.Pages.{root_page}
 use Rattle.blk_base.specs.declared.place.Mapping.{Mapping}
+use Rattle.blk_base.specs.declared.place.PageId.{PageId}
 use Rattle.page_codec.specs.Spelling.{page_bytes}
 use Rattle.image_format.proofs.calls.root_page.Goals as goal
 
@@ -7,5 +9,6 @@ pub returns : goal.returns
 returns c =
     let g = c.args.layout.now.geometry in
     c.encode.ensures
-    ∙ ap₂ (λ (at : ℕ) (mappings : List Mapping). page_bytes (record { geometry = g; page = record { tree = c.args.tree; level = g.height - 1; index = 0 }; at = record { 0 = at } }) mappings)
+    ∙ ap (λ (page : PageId). page_bytes (record { geometry = g; page = page; at = c.root.result }) c.new-mappings.result) c.root_page.ensures.page
+    ∙ ap₂ (λ (at : ℕ) (mappings : List Mapping). page_bytes (record { geometry = g; page = root_page g c.args.tree; at = record { 0 = at } }) mappings)
     c.root.ensures.block c.new-mappings.ensures

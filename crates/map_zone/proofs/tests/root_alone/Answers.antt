@@ -6,10 +6,11 @@ use Rattle.blk_base.specs.declared.place.Pbn.{Pbn}
 use Rattle.blk_base.specs.declared.place.Mapping.{Mapping}
 use Rattle.blk_base.specs.declared.place.Mapping.TheVariants.{Unmapped}
 use Rattle.blk_base.proofs.PageIdLaws.{same_page}
+use Rattle.blk_base.specs.Pages.{above}
 use Rattle.page_codec.specs.Grammar.{AreHeld}
 use Rattle.page_codec.proofs.HeldLaws.{held_unmapped}
 use Rattle.block_map_tree.specs.declared.forms.Forest.{Forest}
-use Rattle.block_map_tree.specs.Pages.{IsInner, IsRoot, IsTreeOf, above}
+use Rattle.block_map_tree.specs.Pages.{IsInner, IsRoot, IsTreeOf}
 use Rattle.block_map_tree.specs.Opening.{IsLed, IsOpened, IsPlaced}
 use Rattle.map_zone.specs.declared.tests.TheConstants.{GEOMETRY, ROOT}
 use Rattle.map_zone.proofs.tests.root_alone.Goals as goal

@@ -1,10 +1,11 @@
 use Rattle.std.proofs.Common.{ℕ, ◌≡◌, ◌<◌, ◌≤◌, ◌-◌, ◌/◌, ◌%◌, ◌∙◌, ap, sym, subst, arith}
 use Rattle.blk_base.specs.declared.place.PageId.{PageId}
 use Rattle.blk_base.specs.Regions.{IsDataBlock}
+use Rattle.blk_base.specs.Pages.{above}
 use Rattle.block_map_tree.specs.declared.forms.Forest.{Forest}
 use Rattle.block_map_tree.specs.declared.forms.Path.{Path}
 use Rattle.block_map_tree.specs.declared.forms.Found.TheVariants.{Missing}
-use Rattle.block_map_tree.specs.Pages.{IsTreeOf, page_at, page_on, above}
+use Rattle.block_map_tree.specs.Pages.{IsTreeOf, page_at, page_on}
 use Rattle.block_map_tree.specs.Tree.{Tree, IsTree, IsThere, IsFound, IsLinkable}
 use Rattle.block_map_tree.proofs.HistoryLaws.{missing_linkable}
 use Rattle.part_tests.specs.declared.trees.TheConstants.{FOREST}

@@ -10,10 +10,11 @@ use Rattle.blk_base.specs.declared.place.PageId.{PageId}
 use Rattle.blk_base.specs.declared.place.Pbn.{Pbn}
 use Rattle.blk_base.specs.declared.opened.OpenedPage.{OpenedPage}
 use Rattle.blk_base.proofs.PageIdLaws.{same_page}
+use Rattle.blk_base.specs.Pages.{above, slot_of}
 use Rattle.page_codec.specs.Grammar.{AreHeld}
 use Rattle.page_codec.proofs.HeldLaws.{held_unmapped, held-set}
 use Rattle.block_map_tree.specs.declared.forms.Forest.{Forest}
-use Rattle.block_map_tree.specs.Pages.{IsTreeOf, IsInner, IsRoot, IsLower, above, slot_of}
+use Rattle.block_map_tree.specs.Pages.{IsTreeOf, IsInner, IsRoot, IsLower}
 use Rattle.block_map_tree.specs.Opening.{IsOpened, IsListed, IsLed, IsPlaced}
 use Rattle.part_tests.specs.declared.trees.TheConstants.{FOREST, GEOMETRY}
 use Rattle.part_tests.proofs.trees.small_pages.Goals as goal

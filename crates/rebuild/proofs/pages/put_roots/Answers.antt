@@ -11,12 +11,12 @@ pub loop-tree-init : goal.loop-tree-init
 loop-tree-init g c = no_roots _ _ _ _ _
 
 pub loop-tree-preserved : goal.loop-tree-preserved
-loop-tree-preserved g c = one_root_more _ _ _ _ _ _ _ _ _ (Ok tt) c.args.layout.now.sizes (omega arith) c.root_of-root.ensures c.loop-tree.invariant c.in_ok-put_page.ensures
+loop-tree-preserved g c = one_root_more _ _ _ _ _ _ _ _ _ (Ok tt) c.args.layout.now.sizes (omega arith) c.root-root.ensures.root c.loop-tree.invariant c.in_ok-put_page.ensures
 
 pub returns-in_err-put_page : goal.returns-in_err-put_page
 returns-in_err-put_page g c =
     still_failed _ _ _ _ _ _ _ _ c.from_residual.result c.from_residual.ensures.0
-    (one_root_more _ _ _ _ _ _ _ _ _ (Err _) c.args.layout.now.sizes (omega arith) c.root_of-root.ensures c.loop-tree.invariant c.in_err-put_page.ensures)
+    (one_root_more _ _ _ _ _ _ _ _ _ (Err _) c.args.layout.now.sizes (omega arith) c.root-root.ensures.root c.loop-tree.invariant c.in_err-put_page.ensures)
 
 pub returns : goal.returns
 returns g c =
@@ -31,5 +31,5 @@ pub put_page-requires : goal.put_page-requires
 put_page-requires g c =
     let size = c.loop-tree.invariant.stays.size in
     let room = c.requires in
-    let root = c.root_of-root.ensures in
-    page_inside c.args.layout.now.geometry c.root_of-root.result.at _ (omega (arith, size, room)) (inr (c.loop-tree.tree, omega arith, root.1))
+    let root = c.root-root.ensures.root in
+    page_inside c.args.layout.now.geometry c.root-root.result.at _ (omega (arith, size, room)) (inr (c.loop-tree.tree, omega arith, root.1))

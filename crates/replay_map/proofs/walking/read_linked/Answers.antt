@@ -1,5 +1,5 @@
 use Rattle.image_model.specs.Maps.{Image}
-use Rattle.replay_map.proofs.ReadLaws.{blocks_untouched, failed_at_once, shown_by_one}
+use Rattle.replay_map.proofs.ReadLaws.{failed_at_once, shown_by_one}
 use Rattle.replay_map.proofs.SlotLaws.{page_inside}
 use Rattle.replay_map.proofs.WholeWalkLaws.{own_fault}
 use Rattle.replay_map.specs.Pages.{IsReadAs}

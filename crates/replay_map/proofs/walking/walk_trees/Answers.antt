@@ -28,7 +28,7 @@ returns-in_err-walk-clause-fault g c =
     let middle = g.D.Disk.seen c.loop-tree.device in
     let now = g.D.Disk.seen c.walk.new.device in
     passed_on c.from_residual.result (WalkFails tells honest sizes changes before now (λ image. Unit {0}) (IsInTrees TREES)) c.in_err-walk.field-0.0 c.from_residual.ensures.1
-    (tree_fails tells honest sizes changes (let high = c.args.layout.now.sizes.height.0 in omega (arith, high)) c.loop-tree.tree c.root_of-root.result c.loop-tree-test.true c.root_of-root.ensures before middle now c.args.found.now c.loop-tree.found c.loop-tree.found
+    (tree_fails tells honest sizes changes (let high = c.args.layout.now.sizes.height.0 in omega (arith, high)) c.loop-tree.tree c.root-root.result c.loop-tree-test.true c.root-root.ensures.root before middle now c.args.found.now c.loop-tree.found c.loop-tree.found
     c.loop-tree.invariant.shown c.in_err-walk.field-0.0 c.in_err-walk.ensures.fault)
 
 pub returns-in_err-walk-clause-untouched : goal.returns-in_err-walk-clause-untouched
@@ -36,10 +36,10 @@ returns-in_err-walk-clause-untouched g c = untouched_on g.D.Disk.tells _ _ _ c.l
 
 pub loop-tree-preserved : goal.loop-tree-preserved
 loop-tree-preserved g c = record {
-  shown = one_tree_more g.D.Disk.tells g.D.Disk.honest c.args.layout.now.geometry c.args.changes.now (let high = c.args.layout.now.sizes.height.0 in omega (arith, high)) c.loop-tree.tree c.root_of-root.result c.loop-tree-test.true c.root_of-root.ensures
+  shown = one_tree_more g.D.Disk.tells g.D.Disk.honest c.args.layout.now.geometry c.args.changes.now (let high = c.args.layout.now.sizes.height.0 in omega (arith, high)) c.loop-tree.tree c.root-root.result c.loop-tree-test.true c.root-root.ensures.root
       (g.D.Disk.seen c.args.device.now) (g.D.Disk.seen c.loop-tree.device) (g.D.Disk.seen c.walk.new.device) c.args.found.now c.loop-tree.found c.walk.new.found
       c.loop-tree.invariant.shown c.in_ok-walk.ensures.walked;
-  form = tree_formed c.args.layout.now.geometry c.loop-tree.tree c.root_of-root.result c.args.found.now c.loop-tree.found c.walk.new.found c.root_of-root.ensures c.loop-tree.invariant.form c.in_ok-walk.ensures.form;
+  form = tree_formed c.args.layout.now.geometry c.loop-tree.tree c.root-root.result c.args.found.now c.loop-tree.found c.walk.new.found c.root-root.ensures.root c.loop-tree.invariant.form c.in_ok-walk.ensures.form;
   untouched = untouched_on g.D.Disk.tells _ _ _ c.loop-tree.invariant.untouched c.walk.ensures.untouched;
 }
 
@@ -62,4 +62,4 @@ returns-clause-form g c =
 pub walk-requires-clause-place : goal.walk-requires-clause-place
 walk-requires-clause-place g c =
     let high = c.args.layout.now.sizes.height.0 in
-    root_in_tree c.args.layout.now.geometry c.loop-tree.tree c.root_of-root.result (omega (arith, high)) c.loop-tree-test.true c.root_of-root.ensures
+    root_in_tree c.args.layout.now.geometry c.loop-tree.tree c.root-root.result (omega (arith, high)) c.loop-tree-test.true c.root-root.ensures.root

@@ -9,7 +9,7 @@ loop-tree-init c links are = none_added links _
 
 pub loop-tree-preserved : goal.loop-tree-preserved
 loop-tree-preserved c links are =
-    root_next links c.args.layout.now.geometry c.loop-tree.tree _ _ _ _ c.root_of.ensures.root (c.loop-tree.invariant links are) (c.in_ok-push_page.ensures links are)
+    root_next links c.args.layout.now.geometry c.loop-tree.tree _ _ _ _ c.root.ensures.link (c.loop-tree.invariant links are) (c.in_ok-push_page.ensures links are)
 
 pub returns : goal.returns
 returns c links are =

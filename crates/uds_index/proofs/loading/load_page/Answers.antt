@@ -1,4 +1,4 @@
-use Rattle.std.proofs.Common.{ℕ, List, None, Some, [], ◌∷◌, refl, subst}
+use Rattle.std.proofs.Common.{ℕ, None, Some, [], ◌∷◌, refl, subst}
 use Rattle.disk_model.specs.Since.{NextFailed, WereRead}
 use Rattle.uds_index.proofs.LoadLaws.{page_read}
 use Rattle.uds_index.proofs.loading.load_page.Goals as goal

@@ -10,6 +10,6 @@ pub returns-then-is_below_a_root : goal.returns-then-is_below_a_root
 returns-then-is_below_a_root c =
     linkable_so c.args.self.now c.args.page c.at.result c.is_some.result
     (subst (λ (t : Tree). IsOnPath t.forest c.args.page × (IsRoot t.forest c.args.page → ⊥)) c.self.view_is (c.is_below_a_root.ensures.0 c.if-is_below_a_root.true))
-    (subst (λ (p : PageId). IfSome c.at.result (IsAt c.args.self.now p)) c.page_above.ensures c.at.ensures.some)
-    (subst (λ (p : PageId). IfNone c.at.result ((at : Pbn) → IsAt c.args.self.now p at → ⊥)) c.page_above.ensures c.at.ensures.none)
+    (subst (λ (p : PageId). IfSome c.at.result (IsAt c.args.self.now p)) c.parent.ensures c.at.ensures.some)
+    (subst (λ (p : PageId). IfNone c.at.result ((at : Pbn) → IsAt c.args.self.now p at → ⊥)) c.parent.ensures c.at.ensures.none)
     c.is_some.ensures

@@ -1,0 +1,46 @@
+-- Rows that pin the trees of pages: for each definition a page that it gives, and one that it doesn't.
+use Rattle.std.proofs.Common.{ℕ, ◌≡◌, ◌-◌, refl, ap, arith}
+use Rattle.std.specs.declared.cmp.Ordering.TheVariants.{Less, Equal, Greater}
+use Rattle.blk_base.specs.Pages.{above, page_below, page_order, root_page, slot_of}
+use Rattle.blk_base.specs.declared.geometry.Geometry.{Geometry}
+use Rattle.blk_base.specs.declared.place.PageId.{PageId}
+
+abbrev page : ℕ → ℕ → ℕ → PageId
+page tree level index = record { tree = tree; level = level; index = index }
+
+root_is : (g : Geometry) → g.height ≡ 3 → root_page g 5 ≡ page 5 2 0
+root_is g high = ap (λ (height : ℕ). page 5 (height - 1) 0) high
+
+root_is-not_lower : (g : Geometry) → g.height ≡ 3 → root_page g 5 ≡ page 5 1 0 → ⊥
+root_is-not_lower g high same = let level = ap (λ (p : PageId). p.level) same in omega (arith, level, high)
+
+above_is : above (page 5 0 813) ≡ page 5 1 1
+above_is = refl
+
+above_is-not_first : above (page 5 0 813) ≡ page 5 1 0 → ⊥
+above_is-not_first same = let index : ◌≡◌ {A = ℕ} 1 0 = ap (λ (p : PageId). p.index) same in omega (arith, index)
+
+slot_is : slot_of (page 5 0 813) ≡ 1
+slot_is = refl
+
+slot_is-not_number : ◌≡◌ {A = ℕ} (slot_of (page 5 0 813)) 813 → ⊥
+slot_is-not_number same = omega (arith, same)
+
+below_is : page_below (page 5 1 1) 1 ≡ page 5 0 813
+below_is = refl
+
+below_is-not_slot : page_below (page 5 1 1) 1 ≡ page 5 0 1 → ⊥
+below_is-not_slot same = let index : ◌≡◌ {A = ℕ} 813 1 = ap (λ (p : PageId). p.index) same in omega (arith, index)
+
+-- by tree first, then by level, then by index
+by_tree : page_order (page 1 1 9) (page 2 0 0) ≡ Less
+by_tree = refl
+
+by_level : page_order (page 2 1 0) (page 2 0 9) ≡ Greater
+by_level = refl
+
+by_index : page_order (page 2 1 3) (page 2 1 4) ≡ Less
+by_index = refl
+
+one_page : page_order (page 2 1 3) (page 2 1 3) ≡ Equal
+one_page = refl
