@@ -1,6 +1,6 @@
 -- Rows that pin what is owed of any device and what of a fair session alone: for each clause a case that it accepts, and one
 -- that breaks it alone. A session that is fair when it begins, over a new image, stands in core_laws.
-use Rattle.std.proofs.Common.{ℕ, ◌≡◌, ◌≢◌, ◌⊎◌, ◌+◌, ◌<◌, ◌≤◌, true, false, List, [], ◌∷◌, ◌++◌, length, refl, inl, inr, arith}
+use Rattle.std.proofs.Common.{ℕ, ◌≡◌, ◌≢◌, ◌⊎◌, ◌+◌, ◌<◌, ◌≤◌, true, false, List, [], ◌∷◌, ◌++◌, length, refl, inl, inr, arith, IsTrue}
 use Rattle.blk_base.specs.Regions.{needed_blocks}
 use Rattle.blk_base.specs.Sectors.{sector}
 use Rattle.blk_base.specs.declared.journal_entry.Entry.{Entry}
@@ -19,6 +19,7 @@ use Rattle.core_model.specs.Trace.{Calls, Happening, Trace, all_of, committed, h
 use Rattle.core_model.specs.Vios.{all_logged}
 use Rattle.core_model.proofs.FairLaws.{fair_before, fair_on}
 use Rattle.core_model.proofs.rows.WorkedTraces.{session}
+use Rattle.image_model.specs.Looked.{is_looked_at}
 
 -- IsSession: one block of the journal stays free
 session-not_with_all_blocks_used : (s : Session) → s.sizes.opened ≡ s.sizes.geometry.journal → IsSession s → ⊥
@@ -34,9 +35,9 @@ opened-not_on_a_small_device s small is = omega (arith, small, is.room)
 no_device : IsAsOpened session → ⊥
 no_device is = opened-not_on_a_small_device session (omega arith) is
 
--- the device had no other image: none where a block differs, and none where a write isn't flushed
-opened-not_where_a_block_differs : (s : Session) (b : ℕ) → s.before ≡ [] → b < length s.blocks → block_at s.blocks b ≢ block_at s.image b → IsAsOpened s → ⊥
-opened-not_where_a_block_differs s b none below differs is = let only = rw none at (is.one_image.only b below) in differs only.0
+-- the device had no other image: none where a block differs that is looked at
+opened-not_where_a_block_differs : (s : Session) (b : ℕ) → s.before ≡ [] → b < length s.blocks → IsTrue (is_looked_at s.sizes.geometry b) → block_at s.blocks b ≢ block_at s.image b → IsAsOpened s → ⊥
+opened-not_where_a_block_differs s b none below looked differs is = let only = rw none at (is.one_image.only b below looked) in differs only.0
 
 -- and the journal of the image says what the session knows: blocks that were sealed have its window
 opened-not_with_another_window : (s : Session) (e : Entry) → s.sealed ≡ [] → s.sizes.opened + 1 < s.sizes.geometry.journal → s.window ≡ e ∷ [] → IsAsOpened s → ⊥
