@@ -10,7 +10,7 @@ use Rattle.core_model.specs.declared.sizes.Sizes.{Sizes}
 use Rattle.core_model.specs.declared.zones.Zone.{Zone}
 use Rattle.core_model.specs.declared.zones.ZoneData.{ZoneData}
 use Rattle.core_model.specs.declared.zones.ZoneData.TheVariants as at
-use Rattle.core_model.specs.Sessions.{IsServed, Session}
+use Rattle.core_model.specs.Sessions.{Session}
 use Rattle.core_model.specs.Start.{IsFirst, IsFirstData, IsFirstZone, first_log}
 use Rattle.core_model.specs.Steps.{rests}
 use Rattle.disk_model.specs.Seen.{Seen}
@@ -113,7 +113,7 @@ no_request P = (tt, (tt, (tt, (tt, (tt, (tt, (tt, (tt, (tt, (tt, (tt, (tt, (tt, 
 -- Over an image that was opened.
 module _ (tells honest : Bool) (schedule : ℕ) (head : Super) (window : List Entry) (used : ℕ) (before opened : Seen) (is_opened : IsOpened (trust tells honest) before opened (opening_of head window used)) where
   can : CanBegin (run_sizes head used) no_requests window
-  can = can_begin tells honest before opened head window used no_requests is_opened (record { rows = refl; few = omega arith; writes = no_request HasWholeBlock }) (no_request IsServed)
+  can = can_begin tells honest before opened head window used no_requests is_opened (record { rows = refl; few = omega arith; writes = no_request HasWholeBlock })
 
   -- a core begins and is done, tells an empty report, and calls no device
   pub empty_driven : IsDriven (trust tells honest) schedule (task (opening_of head window used) no_requests) [] opened opened

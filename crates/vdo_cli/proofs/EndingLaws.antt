@@ -1,16 +1,19 @@
 -- A run ends by what its fault says.
-use Rattle.std.proofs.Common.{ℕ, ◌≡◌, Bool, List, Option, Some, None, Result, Ok, Err, IfErr}
+use Rattle.std.proofs.Common.{ℕ, ◌≡◌, Bool, List, [], Option, Some, None, Result, Ok, Err, IfErr, inl, inr}
 use Rattle.std.specs.Result.{IsErrAnd}
 use Rattle.blk_base.specs.declared.geometry.Geometry.{Geometry}
 use Rattle.disk_model.specs.Seen.{Seen}
-use Rattle.disk_model.specs.Streams.{SourceSeen}
+use Rattle.disk_model.specs.Streams.{Puts, SinkSeen, SourceSeen}
+use Rattle.audit.specs.declared.forms.Report.{Report}
+use Rattle.command_text.specs.Audits.{report_text}
 use Rattle.vdo_model.specs.declared.report.RunReport.{RunReport}
 use Rattle.vdo_cli.specs.declared.fault.Fault.{Fault}
 use Rattle.vdo_cli.specs.declared.fault.Fault.TheVariants as fault
 use Rattle.vdo_cli.specs.Endings.{FailsOpened, PlayFails, ScriptFails}
 use Rattle.vdo_cli.specs.Openings.{OpeningFails, trust}
 use Rattle.vdo_cli.specs.NewImages.{IsMade, IsMadeOrNot, IsNotMade}
-use Rattle.vdo_cli.specs.Outsides.{Outcome, Outside, Setting, input_setting, inputs, outcome}
+use Rattle.vdo_cli.specs.Inspections.{TellsReport}
+use Rattle.vdo_cli.specs.Outsides.{Outcome, Outside, PutsOrFails, Setting, Tells, input_setting, inputs, outcome}
 use Rattle.vdo_cli.specs.Runs.{NotBegun, PlayedOut, RunsScript}
 
 -- after a session
@@ -38,6 +41,20 @@ pub not_made_ends : (s : Setting) (g : Geometry) (before after : Outside) (outco
     → IsNotMade s g before after outcome why → IsMadeOrNot (Some why) s g before after outcome
 not_made_ends s g before after outcome fault.Sink not_made = absurd not_made.cause
 not_made_ends s g before after outcome other not_made = not_made
+
+-- a text that was put, or whose sink failed
+pub puts_or_fails : {T E : Type 0} {tells : Bool} {text : List ℕ} {before after : SinkSeen} {result : Result T E}
+    → Puts tells text before after result → PutsOrFails tells text before after
+puts_or_fails {result = Ok x} puts = inl puts.ok
+puts_or_fails {result = Err e} puts = inr (puts.cause.failed, puts.err)
+
+-- a report in which no block differs is told as what was found by any other command
+pub tells_clean : (tells : Bool) (report : Report) (status : ℕ) (ended : Option Fault) (before after : SinkSeen)
+    → report.differs.items ≡ [] → Tells tells (report_text report) status ended before after
+    → TellsReport tells report status ended before after
+tells_clean tells report status None before after none told = (none, told)
+tells_clean tells report status (Some (fault.Differs count)) before after none told = absurd told
+tells_clean tells report status (Some other) before after none told = (none, told)
 
 -- where the device couldn't be opened
 pub not_opened : (tells honest source_tells : Bool) (before after : Seen) (source rest : SourceSeen) (why : Fault)

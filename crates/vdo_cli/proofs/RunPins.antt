@@ -155,7 +155,7 @@ served-whole report before after left rest played = record {
   closes = (refl, both (some_lost report.desk));
 }
   where
-    both : (lost : Bool) → MatchBool lost (PutsOrFails true (answers_text report.requests report.desk report.places) [] 0 (answers_text report.requests report.desk report.places) 0) (IsTrue true → answers_text report.requests report.desk report.places ≡ answers_text report.requests report.desk report.places)
+    both : (lost : Bool) → MatchBool lost (PutsOrFails true (answers_text report.requests report.desk report.places) (sink [] 0) (sink (answers_text report.requests report.desk report.places) 0)) (IsTrue true → answers_text report.requests report.desk report.places ≡ answers_text report.requests report.desk report.places)
     both true = inl (λ told. refl)
     both false = λ told. refl
 

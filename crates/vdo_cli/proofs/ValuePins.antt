@@ -82,7 +82,7 @@ module _ (before opened : Seen) (head : Super) (window : List Entry) (used : ℕ
   -- a session that was served says nothing else of it, here that of no request
   served-empty : Served before [] (outside opened (source [] 0) (sink (answers_text empty_report.requests [] []) 0)) empty_report
   served-empty = record {
-    session = empty_plays true true 0 head window used before opened is_opened true [] [] (λ told. (refl, refl)) (λ told. refl);
+    session = empty_plays true true 0 head window used before opened is_opened true (source [] 0) (source [] 0) (λ told. refl) (λ told. refl);
     closes = (refl, λ told. refl);
   }
 

@@ -48,21 +48,22 @@ pub fn what_was_read_is_one()
         → IsTrue trust.tells
         → HasFaulty trust before now why → HasFaulty trust before now other
         → (why ≡ other) ⊎ (why ≡ Memory) ⊎ (other ≡ Memory) }
-    ensures not_opened_and_refused { (trust : Trust) (before now : Seen) (found : Opening) (why : SuperFault)
-        → IsTrue trust.tells
+    ensures not_opened_and_refused { (trust : Trust) (before now : Seen)
+        (found : Opening) (why : SuperFault) → IsTrue trust.tells
         → IsOpened trust before now found → HasNoImage trust before now why → ⊥ }
-    ensures not_faulty_and_refused { (trust : Trust) (before now : Seen) (cause : ImageFault) (why : SuperFault)
-        → IsTrue trust.tells
+    ensures not_faulty_and_refused { (trust : Trust) (before now : Seen)
+        (cause : ImageFault) (why : SuperFault) → IsTrue trust.tells
         → HasFaulty trust before now cause → HasNoImage trust before now why → ⊥ }
-    ensures not_opened_and_faulty { (trust : Trust) (before now : Seen) (found : Opening) (why : ImageFault)
-        → IsTrue trust.tells
+    ensures not_opened_and_faulty { (trust : Trust) (before now : Seen)
+        (found : Opening) (why : ImageFault) → IsTrue trust.tells
         → IsOpened trust before now found → HasFaulty trust before now why → why ≡ Memory }
 {}
 
 /// A device goes on over a run, however that ended, and so over two runs of which the second begins with the device that
 /// the first gave back. It does nothing.
 pub fn runs_go_on()
-    ensures one { (setting : Setting) (words : List (List ℕ)) (before after : Outside) (outcome : Outcome)
+    ensures one { (setting : Setting) (words : List (List ℕ))
+        (before after : Outside) (outcome : Outcome)
         → EndsSo setting words before after outcome
         → GoesOn setting.device.tells before.device after.device }
     ensures two { (tells : Bool) (first middle last : Seen)

@@ -3,15 +3,8 @@ ghost use Rattle.blk_base.specs.Limits.{IsGeometry};
 ghost use Rattle.blk_base.specs.Regions.{needed_blocks};
 ghost use Rattle.disk_model.specs.Since.{IsUntouched, WereRead};
 ghost use Rattle.image_layout.specs.Opened.{IsHead};
-ghost use Rattle.vdo_cli.specs.Openings.{
-  CanServe,
-  IsOpened,
-  OpeningFails,
-  JournalFails,
-  ServingFails,
-  opening_of,
-  trust,
-};
+ghost use Rattle.vdo_cli.specs.Openings.{CanServe, IsOpened, JournalFails, OpeningFails, ServingFails};
+ghost use Rattle.vdo_cli.specs.Openings.{opening_of, trust};
 
 use crate::Fault;
 use crate::ending::fault_of;
