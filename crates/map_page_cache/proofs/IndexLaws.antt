@@ -13,16 +13,17 @@ use Rattle.std.proofs.lemmas.List.Edits.{get_or-insert_at, get_or-insert_below, 
 use Rattle.std.proofs.lemmas.List.Sorted.{searchable_from_sorted}
 use Rattle.blk_base.specs.declared.place.PageId.{PageId}
 use Rattle.blk_base.proofs.PageIdLaws.{same_page}
+use Rattle.blk_base.specs.Pages.{page_order}
 use Rattle.map_page_cache.specs.declared.index.IndexEntry.{IndexEntry}
-use Rattle.map_page_cache.specs.Index.{Index, HasSlot, Adds, Removes, page_cmp, AreInOrder, IsPlaceOf, IsGapFor}
+use Rattle.map_page_cache.specs.Index.{Index, HasSlot, Adds, Removes, AreInOrder, IsPlaceOf, IsGapFor}
 
-page_total : IsTotalOrder page_cmp
+page_total : IsTotalOrder page_order
 page_total = then_total (on_total (λ (p : PageId). p.tree) nat_cmp_total) (then_total (on_total (λ (p : PageId). p.level) nat_cmp_total) (on_total (λ (p : PageId). p.index) nat_cmp_total))
 
 -- no page is before itself
-apart : (p q : PageId) → page_cmp p q ≡ Less → p ≡ q → ⊥
+apart : (p q : PageId) → page_order p q ≡ Less → p ≡ q → ⊥
 apart p q less same =
-    let own : page_cmp p q ≡ Equal = ap (λ (r : PageId). page_cmp p r) (sym same) ∙ tied_itself page_total p in
+    let own : page_order p q ≡ Equal = ap (λ (r : PageId). page_order p r) (sym same) ∙ tied_itself page_total p in
     cc
 
 both_equal : (o p : Ordering) → ordering_then o p ≡ Equal → (o ≡ Equal) × (p ≡ Equal)
@@ -30,7 +31,7 @@ both_equal Equal p equal = (refl, equal)
 both_equal Less p equal = absurd cc
 both_equal Greater p equal = absurd cc
 
-equal_pages : (p q : PageId) → page_cmp p q ≡ Equal → p ≡ q
+equal_pages : (p q : PageId) → page_order p q ≡ Equal → p ≡ q
 equal_pages p q equal =
     let tree = both_equal (nat_cmp p.tree q.tree) _ equal in
     let level = both_equal (nat_cmp p.level q.level) _ tree.1 in
@@ -38,7 +39,7 @@ equal_pages p q equal =
 
 -- what a search by pages finds: the page's place, or its gap
 pub searched : (entries : List IndexEntry) (page : PageId) (r : Result ℕ ℕ) → AreInOrder entries → IsSearchInRange r (length entries)
-    → IsBinarySearchResult (λ e. page_cmp e.page page) entries r
+    → IsBinarySearchResult (λ e. page_order e.page page) entries r
     → record { found : IfOk r (IsPlaceOf entries page); gap : IfErr r (IsGapFor entries page) }
 searched entries page (Ok place) order inside equal = record { found = record { inside = inside; named = λ d. equal_pages _ page (equal d) }; gap = tt }
 searched entries page (Err place) order inside parted =
@@ -99,9 +100,9 @@ behind_gap entries place entry d k j inside from is =
     ap (λ (n : ℕ). get_or (insert entries place entry) n d) is ∙ get_or-insert_above entries place entry d k from inside
 
 -- entries that are equal to two in order are in order
-moved : (a a' b b' : IndexEntry) → a' ≡ a → b' ≡ b → page_cmp a.page b.page ≡ Less → page_cmp a'.page b'.page ≡ Less
+moved : (a a' b b' : IndexEntry) → a' ≡ a → b' ≡ b → page_order a.page b.page ≡ Less → page_order a'.page b'.page ≡ Less
 moved a a' b b' left right less =
-    ap (λ (e : IndexEntry). page_cmp e.page b'.page) left ∙ ap (λ (e : IndexEntry). page_cmp a.page e.page) right ∙ less
+    ap (λ (e : IndexEntry). page_order e.page b'.page) left ∙ ap (λ (e : IndexEntry). page_order a.page e.page) right ∙ less
 
 -- in a gap the order stays
 pub order-insert : (entries : List IndexEntry) (place : ℕ) (entry : IndexEntry) → AreInOrder entries → IsGapFor entries entry.page place
@@ -174,9 +175,9 @@ removes room place entries page index is order found =
     let whole : before ++ get_or entries place d ∷ behind ≡ entries = ap (λ (es : List IndexEntry). before ++ es) (sym (drop-cons entries place d found.inside)) ∙ take-append-drop place entries in
     let gap : IsGapFor (remove entries place) page place = record {
       inside = let inside = found.inside in omega arith;
-      before = λ k e below. ap₂ (λ (i : IndexEntry) (p : PageId). page_cmp i.page p) (get_or-remove_below entries place e k below found.inside) (sym (found.named e))
+      before = λ k e below. ap₂ (λ (i : IndexEntry) (p : PageId). page_order i.page p) (get_or-remove_below entries place e k below found.inside) (sym (found.named e))
           ∙ order k place e below found.inside;
-      behind = λ k e from within. ap₂ (λ (p : PageId) (i : IndexEntry). page_cmp p i.page) (sym (found.named e)) (get_or-remove_above entries place e k from found.inside)
+      behind = λ k e from within. ap₂ (λ (p : PageId) (i : IndexEntry). page_order p i.page) (sym (found.named e)) (get_or-remove_above entries place e k from found.inside)
           ∙ order place (k + 1) e (omega arith) (omega arith);
     } in
     rw (← is) (record {

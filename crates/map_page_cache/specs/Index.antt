@@ -1,9 +1,8 @@
 -- Which slot each page has.
 use Rattle.std.specs.Prelude.{ℕ, ◌≡◌, ◌≢◌, ◌<◌, ◌≤◌, ◌+◌, ◌⊎◌, List, [], length, Contains, slice_index_or}
-use Rattle.std.specs.declared.cmp.Ordering.{Ordering}
 use Rattle.std.specs.declared.cmp.Ordering.TheVariants.{Less}
-use Rattle.std.specs.Ordering.{nat_cmp, ordering_then}
 use Rattle.blk_base.specs.declared.place.PageId.{PageId}
+use Rattle.blk_base.specs.Pages.{page_order}
 use Rattle.map_page_cache.specs.declared.index.IndexEntry.{IndexEntry}
 
 -- `room` is the greatest number of entries
@@ -35,14 +34,10 @@ pub record Removes (old new : Index) (page : PageId) : Type 0 where
   pub kept : (other : PageId) (s : ℕ) → other ≢ page → HasSlot old other s → HasSlot new other s
   pub only : (other : PageId) (s : ℕ) → HasSlot new other s → HasSlot old other s
 
--- pages are ordered by tree, then level, then number
-abbrev pub page_cmp : PageId → PageId → Ordering
-page_cmp p q = ordering_then (nat_cmp p.tree q.tree) (ordering_then (nat_cmp p.level q.level) (nat_cmp p.index q.index))
-
 -- the entries are in the order of their pages, no two of which are equal
 abbrev pub AreInOrder : List IndexEntry → Type 0
 AreInOrder entries =
-    (i j : ℕ) (d : IndexEntry) → i < j → j < length entries → page_cmp (slice_index_or entries i d).page (slice_index_or entries j d).page ≡ Less
+    (i j : ℕ) (d : IndexEntry) → i < j → j < length entries → page_order (slice_index_or entries i d).page (slice_index_or entries j d).page ≡ Less
 
 -- the entry of the page stands here
 pub record IsPlaceOf (entries : List IndexEntry) (page : PageId) (place : ℕ) : Type 0 where
@@ -52,5 +47,5 @@ pub record IsPlaceOf (entries : List IndexEntry) (page : PageId) (place : ℕ) :
 -- an entry of the page would stand here, and there is none
 pub record IsGapFor (entries : List IndexEntry) (page : PageId) (place : ℕ) : Type 0 where
   pub inside : place ≤ length entries
-  pub before : (k : ℕ) (d : IndexEntry) → k < place → page_cmp (slice_index_or entries k d).page page ≡ Less
-  pub behind : (k : ℕ) (d : IndexEntry) → place ≤ k → k < length entries → page_cmp page (slice_index_or entries k d).page ≡ Less
+  pub before : (k : ℕ) (d : IndexEntry) → k < place → page_order (slice_index_or entries k d).page page ≡ Less
+  pub behind : (k : ℕ) (d : IndexEntry) → place ≤ k → k < length entries → page_order page (slice_index_or entries k d).page ≡ Less
