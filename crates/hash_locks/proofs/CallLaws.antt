@@ -1,6 +1,7 @@
 -- Every list of calls keeps the locks in order.
-use Rattle.std.specs.Prelude.{ℕ, List, [], ◌∷◌}
+use Rattle.std.specs.Prelude.{ℕ, List}
 use Rattle.std.proofs.Common.{sym, subst, inl, inr}
+use Rattle.plain_laws.proofs.LeadLaws.{leads_keep}
 use Rattle.hash_locks.specs.Calls.{Call, Arrival, Settling, RollingOver, Ending, Does, LeadTo}
 use Rattle.hash_locks.specs.Sharing.{Sharing, AreInOrder}
 use Rattle.hash_locks.proofs.SharingLaws.{arrives_in_order, leaves_in_order, oldest_in_order, frees_in_order}
@@ -16,5 +17,4 @@ module _ {V : Type 0} (bytes_of : V → List ℕ) where
   call_keeps Ending old new order (inr (nobody, same)) = subst (λ (k : Sharing V). AreInOrder bytes_of k) (sym same) order
 
   pub calls_keep : (old new : Sharing V) (calls : List (Call V)) → AreInOrder bytes_of old → LeadTo bytes_of old calls new → AreInOrder bytes_of new
-  calls_keep old new [] order same = subst (λ (k : Sharing V). AreInOrder bytes_of k) (sym same) order
-  calls_keep old new (call ∷ calls) order (before, lead, did) = call_keeps call before new (calls_keep old before calls order lead) did
+  calls_keep = leads_keep (Does {V = V} bytes_of) (AreInOrder bytes_of) call_keeps

@@ -1,5 +1,6 @@
 -- Lists of calls of hash locks.
 use Rattle.std.specs.Prelude.{ℕ, ◌≡◌, ◌⊎◌, List, [], ◌∷◌, None}
+use Rattle.plain_laws.specs.Leads.{LeadsBy}
 use Rattle.hash_locks.specs.declared.role.Role.{Role}
 use Rattle.hash_locks.specs.declared.waiter.Waiter.{Waiter}
 use Rattle.hash_locks.specs.Sharing.{Sharing, HasRoom, Arrives, Leaves, Frees, first_for}
@@ -21,5 +22,4 @@ Does {V} bytes_of Ending old new =
 
 -- these calls, the newest first, lead from the ones to the others
 abbrev pub LeadTo : {V : Type 0} → (V → List ℕ) → Sharing V → List (Call V) → Sharing V → Type 0
-LeadTo bytes_of old [] new = new ≡ old
-LeadTo {V} bytes_of old (call ∷ calls) new = (before : Sharing V) × LeadTo bytes_of old calls before × Does bytes_of call before new
+LeadTo {V} bytes_of old calls new = LeadsBy (Does {V = V} bytes_of) old calls new

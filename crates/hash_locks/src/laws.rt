@@ -4,7 +4,6 @@ ghost use Rattle.hash_locks.specs.Calls.{Call, LeadTo};
 
 /// Over every list of calls at most as many locks and waiters are kept as there is room for, no two locks are of one name,
 /// and whoever waits has the bytes of the lock for which it waits.
-#[tactic(auto, using(crate::proofs::CallLaws::calls_keep))]
 pub fn locks_stay_in_order<V>()
     ensures opening { (bytes_of : V → List ℕ) (room : ℕ) → AreInOrder bytes_of (nothing V room) }
     ensures calls { (bytes_of : V → List ℕ) (old new : Sharing V) (calls : List (Call V)) → AreInOrder bytes_of old

@@ -8,6 +8,7 @@ use Rattle.std.proofs.lemmas.List.Filters.{length-filter_both}
 use Rattle.std.proofs.lemmas.Map.Views.{any-filter_same}
 use Rattle.plain_laws.proofs.FirstLaws.{find-none, length-but_first, All-but_first}
 use Rattle.blk_base.specs.declared.place.Lba.{Lba}
+use Rattle.plain_laws.proofs.LeadLaws.{leads_keep}
 use Rattle.logical_locks.specs.Calls.{Call, Asks, Releases, Does, LeadTo, AreDistinct, AreInOrder}
 use Rattle.logical_locks.specs.Holders.{Holders, HasRoom, Takes, Waits, HoldsNext, Frees, is_held, without, lock_of}
 use Rattle.logical_locks.specs.declared.lock.Lock.{Lock}
@@ -106,5 +107,4 @@ module _ {V : Type 0} where
   call_keeps (Releases at) old new order (inr free) = frees old new at order free
 
   pub calls_keep : (old new : Holders V) (calls : List (Call V)) → AreInOrder old → LeadTo old calls new → AreInOrder new
-  calls_keep old new [] order same = subst (λ (locks : Holders V). AreInOrder locks) (sym same) order
-  calls_keep old new (call ∷ calls) order (before, lead, did) = call_keeps call before new (calls_keep old before calls order lead) did
+  calls_keep = leads_keep (Does {V = V}) AreInOrder call_keeps

@@ -1,6 +1,7 @@
 -- Lists of calls of the locks, and what they keep.
 use Rattle.std.specs.Prelude.{ℕ, ◌≡◌, ◌≤◌, ◌+◌, ◌⊎◌, true, false, List, [], ◌∷◌, length, All}
 use Rattle.blk_base.specs.declared.place.Lba.{Lba}
+use Rattle.plain_laws.specs.Leads.{LeadsBy}
 use Rattle.logical_locks.specs.declared.lock.Lock.{Lock}
 use Rattle.logical_locks.specs.Holders.{Holders, HasRoom, Takes, Waits, HoldsNext, Frees, is_held}
 
@@ -16,8 +17,7 @@ Does {V} (Releases at) old new = ((place : ℕ) × (vio : V) × HoldsNext old ne
 
 -- these calls, the newest first, lead from the ones to the others
 abbrev pub LeadTo : {V : Type 0} → Holders V → List (Call V) → Holders V → Type 0
-LeadTo old [] new = new ≡ old
-LeadTo {V} old (call ∷ calls) new = (before : Holders V) × LeadTo old calls before × Does call before new
+LeadTo {V} old calls new = LeadsBy (Does {V = V}) old calls new
 
 -- no two of the locks are of one address
 abbrev pub AreDistinct : List Lock → Type 0

@@ -4,7 +4,6 @@ ghost use Rattle.logical_locks.specs.Calls.{Call, LeadTo, AreInOrder};
 
 /// Over every list of calls at most as many hold and wait as there is room for, no address is held twice, and whoever
 /// waits waits for an address that is held.
-#[tactic(auto, using(crate::proofs::CallLaws::calls_keep))]
 pub fn locks_stay_in_order<V>()
     ensures opening { (room : ℕ) → AreInOrder (nobody V room) }
     ensures calls { (old new : Holders V) (calls : List (Call V)) → AreInOrder old → LeadTo old calls new → AreInOrder new }

@@ -1,3 +1,5 @@
 pub mod FirstLaws
 pub mod ListLaws
 pub mod OptionLaws
+pub mod LeadLaws
+mod LeadRows

@@ -1,2 +1,3 @@
 pub mod Firsts
+pub mod Leads
 pub mod Sums
