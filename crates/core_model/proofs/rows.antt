@@ -15,3 +15,4 @@ pub mod CountRows
 pub mod PortRows
 pub mod SlotRows
 pub mod WaiterRows
+mod LegalRows

@@ -9,8 +9,8 @@
 //! `Facts`, `Legal` the invariant; `Sessions`, `Start`, `Limits` what a session is; `Views`, `Streams` what threads
 //! know of zones.
 //!
-//! No rows yet: but through the definitions that use them: `Legal`; `Carries` in most phases; `IsSession` and `Shown`;
-//! `GivesValues` and `report_of`; `HasNext`, `IsSealable`, `first_log` and `earlier_from`; the tokens.
+//! No rows yet: but through the definitions that use them: `Carries` in most phases; `IsSession` and `Shown`;
+//! `GivesValues` and `report_of`; `first_log` and `earlier_from`; the tokens. A legal core is in the rows of `core_laws`.
 #![tactic(auto)]
 
 mod boxed;

@@ -79,14 +79,14 @@ abbrev pub logical : ℕ → List Placed → List Lock → List Vio → List Lba
 logical next places held waiting retired slots =
     at.Logical (record { zone = 0; notified = false; next = next; places = places; held = held; waiting = waiting; retired = retired; window = []; slots = slots })
 
-abbrev lock : ℕ → Lock
+abbrev pub lock : ℕ → Lock
 lock n = record { at = address 0; place = n }
 
 abbrev pub physical : List Pbn → ZoneData
 physical free = at.Physical (record { notified = false; free = free })
 
 -- the entries of these two, as the journal has them
-abbrev of_write : Entry
+abbrev pub of_write : Entry
 of_write = entry_of (logged (writes phase.Pending))
 
 abbrev of_read : Entry

@@ -1,0 +1,127 @@
+-- For each clause of a legal core, and of what its journal may hand out and seal, a case that breaks it; a core that is legal
+-- stands in `core_laws` (`proofs/kept/FirstCore`), which has the law that one is at its start.
+use Rattle.std.specs.Prelude.{ℕ, ◌≡◌, ◌==◌, Bool, true, false, Some, List, [], ◌∷◌, length, replicate, refl}
+use Rattle.std.proofs.Common.{ap, arith}
+use Rattle.blk_base.specs.declared.request.Answer.TheVariants as reply
+use Rattle.blk_base.specs.declared.request.Writer.{Writer}
+use Rattle.vdo_model.specs.declared.report.DeskLine.TheVariants as line
+use Rattle.core_model.specs.declared.items.Asks.TheVariants as asks
+use Rattle.core_model.specs.declared.items.Item.{Item}
+use Rattle.core_model.specs.declared.items.Item.TheVariants.{Request}
+use Rattle.core_model.specs.declared.items.Phase.TheVariants as phase
+use Rattle.core_model.specs.declared.zones.Zone.{Zone}
+use Rattle.core_model.specs.declared.zones.ZoneData.{ZoneData}
+use Rattle.core_model.specs.JournalRows.{HasNext, IsSealable}
+use Rattle.core_model.specs.Legal.{ComesAfter, Legal, share}
+use Rattle.core_model.specs.Steps.{Core}
+use Rattle.core_model.specs.Trace.{Says, Trace}
+use Rattle.core_model.proofs.rows.PhaseRows.{device, desk, empty_log, journal, lock, log_with, logical, of_write, physical, vio}
+use Rattle.core_model.proofs.rows.WorkedTraces.{begun, block, first, of_first, place, reader, second, session}
+use Rattle.recovery_journal.specs.Log.{placed}
+
+-- its six zones, with nothing in their lanes, and only some of them
+abbrev zone : ℕ → ZoneData → Zone
+zone number keeps = record { number = number; steps = 0; keeps = keeps; ports = record { inbox = []; outboxes = replicate 6 [] } }
+
+abbrev core : List Zone → Trace → Core
+core zones trace = record { zones = zones; trace = trace }
+
+-- count, each
+of_no_zones : ¬ Legal session (core [] [])
+of_no_zones = λ legal. omega (arith, legal.count)
+
+of_another_number : (others : List Zone) (t : Trace) → ¬ Legal session (core (zone 1 (desk [] [] 0 []) ∷ others) t)
+of_another_number others t = λ legal. let ok = legal.each 0 (zone 1 (desk [] [] 0 [])) refl in omega (arith, ok.number_is)
+
+-- requests, room: one that was begun is nowhere
+abbrev lost : Core
+lost = core (zone 0 (desk (line.Begin first ∷ []) [] 0 []) ∷ []) []
+
+request_lost : ¬ Legal session lost
+request_lost = λ legal. omega (arith, legal.requests first)
+
+room_left : ¬ Legal session lost
+room_left = λ legal. omega (arith, legal.room)
+
+-- and one is there twice that was begun once
+abbrev twice : Core
+twice = core (record (zone 0 (desk (line.Begin first ∷ []) [] 0 [])) { ports = record { inbox = Request (vio first asks.Write phase.Reply 0) ∷ Request (vio first asks.Write phase.Reply 0) ∷ []; outboxes = [] } } ∷ []) []
+
+request_doubled : ¬ Legal session twice
+request_doubled = λ legal. omega (arith, legal.requests first)
+
+-- leases, holders: a lock is held by nobody; or by a request with another place
+abbrev unheld : Core
+unheld = core (zone 1 (logical 1 [] (lock 0 ∷ []) [] [] []) ∷ []) []
+
+lock_unheld : ¬ Legal session unheld
+lock_unheld = λ legal. omega (arith, legal.holders)
+
+abbrev held_by : ℕ → Core
+held_by n = core (record (zone 1 (logical 1 [] (lock 0 ∷ []) [] [] [])) { ports = record { inbox = Request (vio first asks.Write phase.Claim n) ∷ []; outboxes = [] } } ∷ []) []
+
+held_by_another : ¬ Legal session (held_by 1)
+held_by_another = λ legal. omega (arith, legal.leases 0 (λ n. n == 0))
+
+-- entries: one that was handed in is nowhere
+entry_lost : ¬ Legal session (core (zone 4 (journal false empty_log [] [] (of_first ∷ []) []) ∷ []) [])
+entry_lost = λ legal. omega (arith, legal.entries)
+
+-- blocks: one is free twice
+block_doubled : ¬ Legal session (core (zone 3 (physical (block 85 ∷ block 85 ∷ [])) ∷ []) [])
+block_doubled = λ legal. omega (arith, legal.blocks 85)
+
+-- journal: it is busy, and no block is under way
+block_lost : ¬ Legal session (core (zone 4 (journal true empty_log [] [] [] []) ∷ []) [])
+block_lost = λ legal. omega (arith, legal.journal)
+
+-- stop_notices: the device stopped, and no notice of it is under way or came
+notice_lost : ¬ Legal session (core (zone 5 (device true 1) ∷ []) [])
+notice_lost = λ legal. omega (arith, legal.stop_notices)
+
+-- in_order: the desk sent three requests to the first logical zone, of which none came and none is in the lane
+abbrev unsent : Core
+unsent = core (zone 0 (desk [] [] 0 []) ∷ zone 1 (logical 0 [] [] [] [] []) ∷ []) begun
+
+arrivals_lost : ¬ Legal session unsent
+arrivals_lost = λ legal.
+    let same = (legal.in_order 0 (omega arith)).in_order (zone 1 (logical 0 [] [] [] [] [])) (zone 0 (desk [] [] 0 [])) [] refl refl refl in
+    let count : 3 ≡ 0 = ap (λ (ws : List Writer). length ws) same in
+    omega (arith, count)
+
+-- right: an answer may not follow where nothing was begun
+answers_early : (zones : List Zone) → ¬ Legal session (core zones (Says (line.Answer first reply.Ok) ∷ []))
+answers_early zones = λ legal. omega (arith, legal.right.0.0.0)
+
+-- The order of a stream in a zone.
+later_number : ComesAfter 0 reader (place first 0 0)
+later_number = λ here stream. omega arith
+
+other_zone : ComesAfter 1 first (place reader 0 2)
+other_zone = λ here. omega (arith, here)
+
+other_stream : ComesAfter 0 first (place second 0 1)
+other_stream = λ here stream. omega (arith, stream)
+
+lower_number : ¬ ComesAfter 0 first (place reader 0 2)
+lower_number = λ comes. omega (arith, comes refl refl)
+
+-- three streams of two, four stop notices, and a block
+share_is : share session ≡ 11
+share_is = refl
+
+-- What is left to hand out, and what may be sealed.
+has_next : HasNext (log_with 2 [] (placed 1 0 (of_write ∷ [])) 0 2)
+has_next = omega arith
+
+all_handed : ¬ HasNext (log_with 2 [] (placed 1 0 (of_write ∷ [])) 1 2)
+all_handed = λ next. omega (arith, next)
+
+sealable : IsSealable (log_with 1 (of_write ∷ []) [] 0 1)
+sealable = record { some = omega arith; durable = refl }
+
+nothing_to_seal : ¬ IsSealable empty_log
+nothing_to_seal = λ is. omega (arith, is.some)
+
+one_is_written : ¬ IsSealable (log_with 2 (of_write ∷ []) [] 0 1)
+one_is_written = λ is. omega (arith, is.durable)
