@@ -4,7 +4,6 @@ use Rattle.std.proofs.lemmas.List.{length-map, length-replicate}
 use Rattle.std.proofs.lemmas.Option.{same_Some}
 use Rattle.std.specs.List.{AllByRecursion}
 use Rattle.zone_queues.specs.Queues.{Boxes, Queue, empty, outbox_to, with_more, with_outbox}
-use Rattle.core_model.specs.Limits.{IsShort}
 use Rattle.core_model.specs.PortsData.{AreLanes, IsLane, Ports, items_of, lane_room, ports_of}
 use Rattle.core_model.specs.Steps.{posted}
 use Rattle.core_model.proofs.ListForms.{posted_is}
@@ -53,18 +52,6 @@ set_in boxes seen to q is =
 pub seen_at : (boxes : Boxes Item) (seen : Ports) (to : ℕ) → ports_of boxes ≡ seen → to < length seen.outboxes → slice_get seen.outboxes to ≡ Some (outbox_to boxes to).items
 seen_at boxes seen to is there =
     subst (λ (p : Ports). slice_get p.outboxes to ≡ Some (outbox_to boxes to).items) is (lane_at boxes.outboxes to (empty Item 0) (inside boxes seen to is there))
-
--- each is short, by either
-short_map : (queues : List (Queue Item)) → AllByRecursion (λ lane. IsShort (items_of lane)) queues → AllByRecursion (λ lane. IsShort lane) (map items_of queues)
-short_map [] all = tt
-short_map (q ∷ qs) all = (all.0, short_map qs all.1)
-
-map_short : (queues : List (Queue Item)) → AllByRecursion (λ lane. IsShort lane) (map items_of queues) → AllByRecursion (λ lane. IsShort (items_of lane)) queues
-map_short [] all = tt
-map_short (q ∷ qs) all = (all.0, map_short qs all.1)
-
-pub shorts : (queues : List (Queue Item)) → AllByRecursion (λ lane. IsShort (items_of lane)) queues ↔ AllByRecursion (λ lane. IsShort lane) (map items_of queues)
-shorts queues = (short_map queues, map_short queues)
 
 -- nothing is posted to a zone
 none_there : (items : List Item) (b : Bool) → (IsTrue b ↔ (0 < length items)) → (b ≡ false) ↔ (items ≡ [])

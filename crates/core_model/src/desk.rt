@@ -1,17 +1,15 @@
-ghost use Rattle.std.specs.Prelude.{◌↔◌, IsTrue, ◌≡◌, ◌+◌, ◌*◌, ◌-◌, ◌^◌, ◌<◌, ◌≤◌, [], ◌∷◌, ◌++◌, IfOk, IfSome, IfNone, length, reverse, vec_len, vec_capacity};
+ghost use Rattle.std.specs.Prelude.{◌≡◌, ◌+◌, ◌*◌, ◌-◌, ◌^◌, ◌<◌, ◌≤◌, [], ◌∷◌, ◌++◌, IfOk, IfSome, IfNone, length, reverse, vec_len, vec_capacity};
 ghost use Rattle.blk_base.specs.declared.request.Answer.TheVariants.{Ok as Done};
 ghost use Rattle.vdo_model.specs.DeskLog.{answered, begun};
 ghost use Rattle.vdo_model.specs.declared.report.DeskLine.TheVariants.{Answer as Answered, Begin};
 ghost use Rattle.core_model.specs.DeskRows.{mark_of_vio};
-ghost use Rattle.core_model.specs.Limits.{HasRoomToBegin, IsDeskWithin};
+ghost use Rattle.core_model.specs.Limits.{HasRoomToBegin};
 ghost use Rattle.core_model.specs.SessionLimits.{most_requests, most_streams, most_under_way, requests_in};
 ghost use Rattle.plain_laws.specs.Sums.{total};
 
 use crate::counts::StreamCounts;
 use crate::scripts::count_requests;
-use crate::{
-    Asks, BoxedVio, Fifo, LANE_ROOM, MOST_ITEMS, MOST_NOTICES, MOST_UNDER_WAY, Phase, Vio,
-};
+use crate::{Asks, BoxedVio, Fifo, LANE_ROOM, MOST_UNDER_WAY, Phase, Vio};
 use blk_base::{Answer, Block, Lba, Mapping, Writer, ZoneId};
 use std::alloc::{AllocError, Global};
 use std::marker::Model;
@@ -175,31 +173,20 @@ impl Desk {
         self.notices
     }
 
-    /// Whether the desk keeps within its room.
-    pub fn is_within(&self) -> bool
-        ensures { IsTrue result ↔ IsDeskWithin self.now }
+    /// A request is begun, as it is under way.
+    pub fn begin(&mut self, vio: Vio) -> BoxedVio
+        requires { HasRoomToBegin self.old }
+        ensures desk { self.new ≡ record self.old { log = Begin vio.request ∷ self.old.log } }
+        ensures vio { result ≡ vio }
     {
-        self.lines.len() <= 2 * self.count
-            && self.marks.len() <= self.count
-            && self.parked.len() <= MOST_ITEMS
-            && self.notices <= MOST_NOTICES
-    }
-
-    /// A request is begun, as it is under way; `None` only where there is no room for it.
-    pub fn begin(&mut self, vio: Vio) -> Option<BoxedVio>
-        ensures desk { IfSome result (λ boxed. self.new ≡ record self.old { log = Begin vio.request ∷ self.old.log }) }
-        ensures vio { IfSome result (λ boxed. boxed ≡ vio) }
-        ensures none { IfNone result (HasRoomToBegin self.old → ⊥) }
-    {
-        if self.lines.len() + 2 > 2 * self.count {
-            return None;
-        }
-        let mut boxed = self.spare.pop()?;
+        let Some(mut boxed) = self.spare.pop() else {
+            unreachable!();
+        };
         let request = vio.request;
         self.begun.raise(vio.request.stream);
         boxed.put(vio);
         self.lines.push_reserved(DeskLine::Begin { request });
-        Some(boxed)
+        boxed
     }
 
     /// A request is begun, and answered at once.

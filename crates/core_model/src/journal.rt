@@ -1,24 +1,19 @@
 ghost use Rattle.std.specs.Prelude.{◌↔◌, IsTrue, ◌≡◌, ◌+◌, ◌<◌, ◌≤◌, ◌^◌, [], ◌∷◌, ◌++◌, IfOk, IfErr, IfSome, IfNone, OnOk, OnErr, true, false, length, reverse};
-ghost use Rattle.std.specs.Bool.{OnTrue, OnFalse};
 ghost use Rattle.blk_base.specs.Limits.{IsGeometry};
 ghost use Rattle.core_model.specs.JournalRows as rows;
 ghost use Rattle.core_model.specs.JournalRows.{HasNext, IsSealable};
-ghost use Rattle.core_model.specs.Limits.{IsJournalWithin};
 ghost use Rattle.core_model.specs.SessionLimits.{most_items, most_requests};
 ghost use Rattle.core_model.specs.Start.{first_log};
 ghost use Rattle.core_model.specs.declared.items.Stage.TheVariants.{Commit, Cover};
 
 use crate::{
-    BLOCK_ENTRIES, BoxedVio, Fifo, LANE_ROOM, Logged, MOST_ITEMS, MOST_REQUESTS, Phase,
-    REQUEST_ROOM, Register, SealedBlock, Sizes, Stage,
+    BLOCK_ENTRIES, BoxedVio, Fifo, LANE_ROOM, Logged, Phase, REQUEST_ROOM, Register, SealedBlock,
+    Sizes, Stage,
 };
 use recovery_journal::Journal;
 use std::alloc::{AllocError, Global};
 use std::marker::Model;
 use std::mem::replace;
-
-/// The sequences that a block can have are below this one.
-const SEQUENCES: u64 = 1 << 55;
 
 /// The zone of the recovery journal: its log, and the requests whose entries it has.
 #[derive(Drop)]
@@ -154,17 +149,6 @@ impl JournalZone {
         self.filling.is_empty()
     }
 
-    /// Whether the journal keeps within its room.
-    pub fn is_within(&self) -> bool
-        ensures { IsTrue result ↔ IsJournalWithin self.now }
-    {
-        self.log.sequence() < SEQUENCES
-            && self.filling.len() <= BLOCK_ENTRIES as usize
-            && self.waiting.len() <= MOST_ITEMS
-            && self.entered.len() <= MOST_REQUESTS
-            && self.committed.len() <= MOST_REQUESTS
-    }
-
     /// The entries that were handed in, the oldest first.
     pub fn entered(&self) -> &[Logged]
         ensures { self.now.entered ≡ reverse result.now }
@@ -217,36 +201,34 @@ impl JournalZone {
     }
 
     /// The entry of a request is committed, which is the next one of the log: the block that was sealed last is durable.
-    /// `false` where each entry of a sealed block was handed out before; then nothing is committed.
-    pub fn commit(&mut self, vio: &BoxedVio) -> bool
-        requires { length self.old.committed ≤ most_requests }
-        ensures yes { OnTrue result (HasNext self.old.log × (self.new ≡ rows.committed_by vio.now self.old)) }
-        ensures no { OnFalse result (HasNext self.old.log → ⊥) }
+    pub fn commit(&mut self, vio: &BoxedVio)
+        requires room { length self.old.committed ≤ most_requests }
+        requires next { HasNext self.old.log }
+        ensures { self.new ≡ rows.committed_by vio.now self.old }
     {
         make_durable(&mut self.log);
         let Some(_) = self.log.next_committed() else {
-            return false;
+            unreachable!();
         };
         self.committed.push(vio.logged());
-        true
     }
 
-    /// The block being filled is sealed. The next one is filled in the room of a block whose entries are all committed. `None`
-    /// where it has no entry, or the one before it isn't durable yet.
-    pub fn seal(&mut self, block: SealedBlock) -> Option<SealedBlock>
+    /// The block being filled is sealed. The next one is filled in the room of a block whose entries are all committed.
+    pub fn seal(&mut self, block: SealedBlock) -> SealedBlock
         requires done { block.vios ≡ [] }
-        ensures due { IfSome result (λ sealed. IsSealable self.old.log) }
-        ensures block { IfSome result (λ sealed. sealed ≡ rows.next_block self.old Cover self.old.filling) }
-        ensures zone { IfSome result (λ sealed. self.new ≡ record self.old { log = rows.sealed_log self.old.log; filling = [] }) }
-        ensures none { IfNone result (IsSealable self.old.log → ⊥) }
+        requires due { IsSealable self.old.log }
+        ensures block { result ≡ rows.next_block self.old Cover self.old.filling }
+        ensures zone { self.new ≡ record self.old { log = rows.sealed_log self.old.log; filling = [] } }
     {
-        let sealed = self.log.seal()?;
-        Some(SealedBlock {
+        let Some(sealed) = self.log.seal() else {
+            unreachable!();
+        };
+        SealedBlock {
             stage: Stage::Cover,
             sequence: sealed.sequence,
             head: sealed.head,
             vios: replace(&mut self.filling, block.vios),
-        })
+        }
     }
 
     /// No block goes round any more: the entries of this one are all committed.

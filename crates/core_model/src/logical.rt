@@ -1,15 +1,13 @@
 ghost use Rattle.std.specs.Prelude.{◌↔◌, IsTrue, ◌≡◌, ◌+◌, ◌-◌, ◌^◌, ◌<◌, ◌≤◌, [], ◌∷◌, ◌++◌, IfOk, IfSome, IfNone, None, true, false, length, reverse};
 ghost use Rattle.logical_locks.specs.Holders.{HasRoom};
-ghost use Rattle.core_model.specs.Limits.{IsLogicalWithin, IsShort};
+ghost use Rattle.core_model.specs.Limits.{IsLogicalWithin};
 ghost use Rattle.core_model.specs.LogicalRows as rows;
 ghost use Rattle.core_model.specs.SessionLimits.{most_requests};
 ghost use Rattle.core_model.specs.Waiters.{AreOwn, IsFree, vios};
 ghost use Rattle.core_model.specs.Vios.{turned};
 ghost use Rattle.core_model.specs.declared.items.Phase.TheVariants as phase;
 
-use crate::{
-    BoxedVio, LOCK_ROOM, Logged, MOST_ITEMS, MOST_REQUESTS, Phase, REQUEST_ROOM, Register, Slots,
-};
+use crate::{BoxedVio, LOCK_ROOM, Logged, Phase, REQUEST_ROOM, Register, Slots};
 use blk_base::{Entry, Lba};
 use logical_locks::Locks;
 use std::alloc::{AllocError, Global};
@@ -125,16 +123,6 @@ impl LogicalZone {
         is_among(at, self.retired.as_slice())
     }
 
-    /// Whether it keeps within its room, after so many steps.
-    pub fn is_within(&self, steps: u64) -> bool
-        ensures { IsTrue result ↔ IsLogicalWithin steps self.now }
-    {
-        are_within(&self.locks, steps)
-            && self.places.len() <= MOST_REQUESTS
-            && self.retired.len() <= MOST_REQUESTS
-            && self.slots.len() <= MOST_REQUESTS
-    }
-
     /// The stop notice has come.
     pub fn notify(&mut self)
         ensures { self.new ≡ record self.old { notified = true } }
@@ -197,14 +185,6 @@ impl LogicalZone {
     {
         self.retired.push(at);
     }
-}
-
-// Whether no more places were drawn than steps were made, and no more requests hold a lock or wait than may be.
-#[tactic(auto, using(crate::proofs::LockLaws::length_vios))]
-fn are_within(locks: &Locks<BoxedVio>, steps: u64) -> bool
-    ensures { IsTrue result ↔ (locks.now.next ≤ steps) × IsShort (reverse locks.now.held) × IsShort (vios locks.now.waiting) }
-{
-    locks.next() <= steps && locks.held() <= MOST_ITEMS && locks.waiting() <= MOST_ITEMS
 }
 
 // The place that a request draws.

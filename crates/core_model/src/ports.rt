@@ -5,7 +5,7 @@ ghost use Rattle.core_model.specs.Limits.{IsShort};
 ghost use Rattle.core_model.specs.PortsData.{items_of};
 ghost use Rattle.core_model.specs.Steps.{posted};
 
-use crate::{Fifo, Item, LANE_ROOM, MOST_ITEMS};
+use crate::{Fifo, Item, LANE_ROOM};
 use std::alloc::{AllocError, Global};
 use std::marker::Model;
 use std::mem::replace;
@@ -88,13 +88,6 @@ impl Ports {
         self.boxes.has_posts(to)
     }
 
-    /// Whether no list has more items than may be under way.
-    pub fn are_short(&self) -> bool
-        ensures { IsTrue result ↔ IsShort self.now.inbox × AllByRecursion (λ lane. IsShort lane) self.now.outboxes }
-    {
-        self.boxes.inbox().len() <= MOST_ITEMS && are_short(self.boxes.outboxes())
-    }
-
     /// Hands out the items of the outbox to a zone, and takes those of this list in their place.
     pub fn exchange(&mut self, to: u32, batch: &mut Lane)
         requires { to < length self.old.outboxes }
@@ -114,13 +107,6 @@ impl Ports {
     {
         self.boxes.receive(&mut batch.items);
     }
-}
-
-// Whether none of these has more items than may be under way.
-fn are_short(lanes: &[zone_queues::Lane<Item>]) -> bool
-    ensures { IsTrue result ↔ AllByRecursion (λ lane. IsShort (items_of lane)) lanes.now }
-{
-    lanes.iter().all(|lane| lane.len() <= MOST_ITEMS)
 }
 
 // The room of a lane for each of so many.

@@ -1,14 +1,14 @@
-ghost use Rattle.std.specs.Prelude.{◌≡◌, ◌+◌, ◌<◌, ◌≤◌, ◌^◌, ◌++◌, [], ◌∷◌, IfOk, OnOk};
+ghost use Rattle.std.specs.Prelude.{◌≡◌, ◌++◌, [], ◌∷◌, IfOk, OnOk};
 ghost use Rattle.std.specs.List.{AllByRecursion};
-ghost use Rattle.blk_base.specs.Limits.{IsGeometry};
 ghost use Rattle.core_model.specs.Sessions.{IsServed};
 ghost use Rattle.steps_device.specs.DeviceCalls.{Fits};
 
-use blk_base::{Answer, Block, Geometry, Layout, Lba, Pbn, Request, Writer};
-use core_model::{Sizes, Zone, ZoneData, is_limited};
+use crate::sessions::open_over;
+use blk_base::{Answer, Block, Geometry, Lba, Request, Writer};
+use core_model::{Zone, ZoneData};
 use disk_model::Disk;
 use std::alloc::{AllocError, Global};
-use vdo_core::{Event, StepFault, Stepped, Zones, begin, play};
+use vdo_core::{Core, Event, Setup, Stepped};
 use vdo_model::{DeskLine, Placed, Requests};
 
 /// Why a core wasn't played.
@@ -17,18 +17,11 @@ pub(crate) enum Unplayed {
     Memory,
     TooLarge,
     Device,
-    Step(StepFault),
 }
 
 impl From<AllocError> for Unplayed {
     fn from(_: AllocError) -> Unplayed {
         Unplayed::Memory
-    }
-}
-
-impl From<StepFault> for Unplayed {
-    fn from(fault: StepFault) -> Unplayed {
-        Unplayed::Step(fault)
     }
 }
 
@@ -49,21 +42,6 @@ pub(crate) enum Given {
     Full,
     Stopped,
     Other,
-}
-
-pub(crate) fn sizes(zones: u8, depth: u32) -> Sizes
-    ensures default { result.geometry ≡ Geometry.DEFAULT }
-    ensures geometry { IsGeometry result.geometry }
-    ensures start { (1 ≤ result.start) × (result.start < 2 ^ 54) }
-    ensures room { result.opened + 1 ≤ result.geometry.journal }
-{
-    Sizes {
-        geometry: Geometry::DEFAULT,
-        start: 1,
-        opened: 0,
-        zones,
-        depth,
-    }
 }
 
 // One more item.
@@ -114,30 +92,6 @@ pub(crate) fn script(alloc: Global, streams: &[&[Ask]]) -> Result<Requests, Allo
     Ok(Requests::of_streams(script))
 }
 
-// All data blocks.
-fn data_blocks(alloc: Global) -> Result<Vec<Pbn>, AllocError> {
-    let layout = Layout::of(&Geometry::DEFAULT);
-    let mut blocks = Vec::new(alloc);
-    for offset in 0..Geometry::DEFAULT.slab_blocks {
-        blocks.push(layout.data_block(0, offset))?;
-    }
-    Ok(blocks)
-}
-
-// A core at the start of a session on a fresh image.
-fn first(alloc: Global, sizes: &Sizes, streams: &[&[Ask]]) -> Result<Zones, Unplayed>
-    requires geometry { IsGeometry sizes.now.geometry }
-    requires start { (1 ≤ sizes.now.start) × (sizes.now.start < 2 ^ 54) }
-    requires room { sizes.now.opened + 1 ≤ sizes.now.geometry.journal }
-{
-    let script = script(alloc, streams)?;
-    if !is_limited(&script) {
-        return Err(Unplayed::TooLarge);
-    }
-    let free = data_blocks(alloc)?;
-    Ok(begin(alloc, sizes, script, &[], free)?)
-}
-
 // Each zone steps, and then each of its outboxes moves.
 pub(crate) fn in_order(alloc: Global, zones: u32) -> Result<Vec<Event>, AllocError> {
     let mut events = Vec::new(alloc);
@@ -150,43 +104,53 @@ pub(crate) fn in_order(alloc: Global, zones: u32) -> Result<Vec<Event>, AllocErr
     Ok(events)
 }
 
+/// One event; whether there was work for it.
+pub(crate) fn stepped<D: Disk>(core: &mut Core, event: Event, device: &mut D) -> bool
+    requires { Fits core.old.sizes (D.seen device.old) }
+    ensures { Fits core.new.sizes (D.seen device.new) }
+{
+    match core.step(event, device) {
+        Stepped::Did => true,
+        Stepped::Idle => false,
+    }
+}
+
+// These events, one after another; whether there was work for one.
+fn play_once<D: Disk>(core: &mut Core, events: &[Event], disk: &mut D) -> bool
+    requires { Fits core.old.sizes (D.seen disk.old) }
+    ensures { Fits core.new.sizes (D.seen disk.new) }
+{
+    let mut any = false;
+    for event in events {
+        any = stepped(core, *event, disk) || any;
+    }
+    any
+}
+
 // Plays these events again and again, until there is no work for any of them.
-fn play_out<D: Disk>(
-    sizes: &Sizes,
-    zones: &mut Zones,
-    events: &[Event],
-    disk: &mut D,
-) -> Result<(), Unplayed>
-    requires { Fits sizes.now (D.seen disk.old) }
+fn play_out<D: Disk>(core: &mut Core, events: &[Event], disk: &mut D) -> Result<(), Unplayed>
+    requires { Fits core.old.sizes (D.seen disk.old) }
 {
     for round in 0..1000_u32 {
-        match play(sizes, zones, events, disk)? {
-            Stepped::Did => {}
-            Stepped::Idle => return Ok(()),
+        if !play_once(core, events, disk) {
+            return Ok(());
         }
     }
-    Err(Unplayed::Step(StepFault::Exhausted))
+    Err(Unplayed::TooLarge)
 }
 
 // The core after these events, again and again, on a device with what these streams ask.
 pub(crate) fn played<D: Disk>(
     alloc: Global,
-    sizes: &Sizes,
+    setup: &Setup,
     streams: &[&[Ask]],
     events: &[Event],
     disk: &mut D,
-) -> Result<Zones, Unplayed>
-    requires default { sizes.now.geometry ≡ Geometry.DEFAULT }
-    requires geometry { IsGeometry sizes.now.geometry }
-    requires start { (1 ≤ sizes.now.start) × (sizes.now.start < 2 ^ 54) }
-    requires room { sizes.now.opened + 1 ≤ sizes.now.geometry.journal }
-{
-    if disk.blocks() < Layout::of(&Geometry::DEFAULT).needed() {
-        return Err(Unplayed::Step(StepFault::Stray));
-    }
-    let mut zones = first(alloc, sizes, streams)?;
-    play_out(sizes, &mut zones, events, disk)?;
-    Ok(zones)
+) -> Result<Core, Unplayed> {
+    let requests = script(alloc, streams)?;
+    let mut core = open_over(alloc, &Geometry::DEFAULT, setup, requests, disk)?;
+    play_out(&mut core, events, disk)?;
+    Ok(core)
 }
 
 fn shown(answer: &Answer) -> Given {

@@ -1,11 +1,17 @@
-use crate::cores::{Ask, Given, Unplayed, are_answers, in_order, places, played, push, sizes};
+use crate::cores::{Ask, Given, Unplayed, are_answers, in_order, places, played, push};
 use crate::sessions::{Trouble, troubled};
 use blk_base::{Pbn, Writer};
 use disk_model::{Call, CallKind, FaultAt, MemDisk};
 use std::alloc::{AllocError, Global};
 use std::test::Fail;
-use vdo_core::Event;
+use vdo_core::{Event, Setup};
 use vdo_model::Placed;
+
+// One request after the other, in one logical zone.
+const SETUP: Setup = Setup {
+    logical_zones: 1,
+    depth: 1,
+};
 
 // What one stream asks, the block whose first write fails, and what it is given.
 struct Row {
@@ -118,8 +124,8 @@ fn failing(alloc: Global, fails: Option<u32>) -> Result<MemDisk, AllocError> {
 // Whether the row's requests are answered so.
 fn is_answered(alloc: Global, events: &[Event], row: &Row) -> Result<bool, Unplayed> {
     let mut disk = failing(alloc, row.fails)?;
-    let zones = played(alloc, &sizes(1, 1), &[row.asks], events, &mut disk)?;
-    Ok(are_answers(zones.as_slice(), 0, row.gives))
+    let core = played(alloc, &SETUP, &[row.asks], events, &mut disk)?.into_zones();
+    Ok(are_answers(core.zones.as_slice(), 0, row.gives))
 }
 
 #[test]
@@ -154,7 +160,7 @@ const PLACES: [Placed; 2] = [
 // The blocks that are written for these requests.
 fn written(alloc: Global, events: &[Event], asks: &[Ask]) -> Result<Vec<Pbn>, Unplayed> {
     let mut disk = troubled(alloc, Trouble::Nothing)?;
-    let _zones = played(alloc, &sizes(1, 1), &[asks], events, &mut disk)?;
+    let _core = played(alloc, &SETUP, &[asks], events, &mut disk)?;
     let mut written = Vec::new(alloc);
     for call in disk.calls() {
         if let Call::Write { at, .. } = call {
@@ -192,8 +198,8 @@ fn drawn(
 ) -> Result<(usize, Option<Placed>, Option<Placed>), Unplayed> {
     let asks: &[Ask] = &[Ask::Write(5, 0x61), Ask::Read(5)];
     let mut disk = troubled(alloc, Trouble::Nothing)?;
-    let zones = played(alloc, &sizes(1, 1), &[asks], events, &mut disk)?;
-    let places = places(zones.as_slice());
+    let core = played(alloc, &SETUP, &[asks], events, &mut disk)?.into_zones();
+    let places = places(core.zones.as_slice());
     Ok((
         places.len(),
         places.first().copied(),

@@ -1,7 +1,7 @@
 ghost use Rattle.std.specs.Prelude.{◌≡◌};
 ghost use Rattle.steps_device.specs.DeviceCalls.{Fits};
 
-use crate::cores::{Ask, Unplayed, push};
+use crate::cores::{Ask, Unplayed, push, stepped};
 use crate::sessions::{Plan, Trouble, driven, open_core, troubled};
 use blk_base::Answer;
 use disk_model::Disk;
@@ -9,7 +9,7 @@ use schedule::play;
 use std::alloc::{AllocError, Global};
 use std::sync::Wait;
 use std::test::Fail;
-use vdo_core::{Core, CoreZones, Event, Setup, Stepped};
+use vdo_core::{Core, CoreZones, Event, Setup};
 use vdo_model::{DeskLine, RunReport};
 
 const TWO_ZONES: Plan = Plan {
@@ -81,17 +81,6 @@ fn chosen(
         return Ok(None);
     }
     Ok(ready.get((number % count) as usize).copied())
-}
-
-// One event; whether there was work for it.
-fn stepped<D: Disk>(core: &mut Core, event: Event, device: &mut D) -> bool
-    requires { Fits core.old.sizes (D.seen device.old) }
-    ensures { Fits core.new.sizes (D.seen device.new) }
-{
-    match core.step(event, device) {
-        Stepped::Did => true,
-        Stepped::Idle => false,
-    }
 }
 
 // Takes the events that a row of numbers chooses, until the core is done, and gives them.

@@ -1,9 +1,13 @@
-use crate::cores::{Ask, Given, Unplayed, are_answers, in_order, played, sizes};
+use crate::cores::{Ask, Given, Unplayed, are_answers, in_order, played};
 use crate::sessions::{Trouble, troubled};
-use core_model::Sizes;
 use std::alloc::{AllocError, Global};
 use std::test::Fail;
-use vdo_core::{Event, StepFault, Zones, is_done, ready};
+use vdo_core::{Core, Event, Setup};
+
+const SETUP: Setup = Setup {
+    logical_zones: 2,
+    depth: 3,
+};
 
 // Addresses below 812 are of logical zone 0 of two, and those from there on of zone 1.
 const ASKS: [&[Ask]; 2] = [
@@ -64,8 +68,8 @@ fn mixed(alloc: Global, events: &[Event]) -> Result<Vec<Event>, AllocError> {
 // Whether both streams are answered so where these events are played.
 fn are_answered(alloc: Global, events: &[Event]) -> Result<bool, Unplayed> {
     let mut disk = troubled(alloc, Trouble::Nothing)?;
-    let zones = played(alloc, &sizes(2, 3), &ASKS, events, &mut disk)?;
-    let zones = zones.as_slice();
+    let core = played(alloc, &SETUP, &ASKS, events, &mut disk)?.into_zones();
+    let zones = core.zones.as_slice();
     Ok(are_answers(zones, 0, &GIVES_0) && are_answers(zones, 1, &GIVES_1))
 }
 
@@ -82,25 +86,22 @@ fn answers_in_three_orders(rt: HostRuntime) -> Result<(), Fail> {
 }
 
 // Whether all is answered, and for how many of these events there is work.
-fn left_over(sizes: &Sizes, zones: &Zones, events: &[Event]) -> Result<(bool, u32), StepFault> {
+fn left_over(core: &Core, events: &[Event]) -> (bool, u32) {
     let mut count = 0_u32;
     for event in events {
-        if ready(sizes, zones, *event)? {
+        if core.ready(*event) {
             count = count.wrapping_add(1);
         }
     }
-    Ok((is_done(zones), count))
+    (core.done(), count)
 }
 
 // What is left over at the start of a session, and when these events were played as long as there was work for one.
 fn before_and_after(alloc: Global, events: &[Event]) -> Result<[(bool, u32); 2], Unplayed> {
-    let sizes = sizes(2, 3);
     let mut disk = troubled(alloc, Trouble::Nothing)?;
-    let first = played(alloc, &sizes, &ASKS, &[], &mut disk)?;
-    let before = left_over(&sizes, &first, events)?;
-    let last = played(alloc, &sizes, &ASKS, events, &mut disk)?;
-    let after = left_over(&sizes, &last, events)?;
-    Ok([before, after])
+    let first = played(alloc, &SETUP, &ASKS, &[], &mut disk)?;
+    let last = played(alloc, &SETUP, &ASKS, events, &mut disk)?;
+    Ok([left_over(&first, events), left_over(&last, events)])
 }
 
 #[test]

@@ -1,4 +1,2 @@
 pub mod DevicePins
 pub mod SilentLaws
-pub mod ResultLaws
-pub mod FaultLaws

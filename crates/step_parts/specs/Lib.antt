@@ -1,3 +1,3 @@
 pub mod Acts
-pub mod Causes
 pub mod DeviceLog
+pub mod Rules

@@ -1,5 +1,8 @@
 -- What the desk did is an act, and it doesn't call the device.
-use Rattle.std.proofs.Common.{◌≡◌, List, [], ◌∷◌, refl}
+use Rattle.std.proofs.Common.{◌≡◌, IsSome, List, [], ◌∷◌, refl}
+use Rattle.plain_laws.proofs.OptionLaws.{some_is}
+use Rattle.blk_base.specs.declared.request.Answer.TheVariants.{Ok}
+use Rattle.core_model.specs.declared.items.Phase.TheVariants.{Reply}
 use Rattle.core_model.specs.declared.items.Item.TheVariants as item
 use Rattle.core_model.specs.declared.items.Vio.{Vio}
 use Rattle.core_model.specs.declared.sizes.Sizes.{Sizes}
@@ -8,12 +11,11 @@ use Rattle.core_model.specs.DeskData.{Desk}
 use Rattle.core_model.specs.DeskRows.{DeskBegins, DeskServes, with_notice, woken}
 use Rattle.core_model.specs.DeskRows.DeskBegins.{answers as answers_at_once, sends}
 use Rattle.core_model.specs.DeskRows.DeskServes.{parks, answers, marks}
-use Rattle.core_model.specs.Steps.{Act}
+use Rattle.core_model.specs.Steps.{HasAct}
 use Rattle.core_model.specs.Steps.Act.{begins as begins_one, answers as serves, hears as hears_notice}
 use Rattle.core_model.specs.Trace.{Trace}
 use Rattle.core_model.specs.Vios.{Post}
 use Rattle.step_parts.specs.Acts.{ActsAlone}
-use Rattle.step_parts.specs.Causes.{NoRule}
 use Rattle.step_parts.proofs.SilentLaws.{Silent, none_called, silent}
 
 serves_silently : (sizes : Sizes) (old new : Desk) (v : Vio) (made : Trace) (posts : List Post) → DeskServes sizes old v new made posts → Silent made
@@ -37,6 +39,8 @@ pub begins : (sizes : Sizes) (old new : Desk) (posts : List Post)
     → ((made : Trace) × DeskBegins sizes old new made posts) → ActsAlone sizes (at.Desk old) [] (at.Desk new) posts
 begins sizes old new posts (made, row) = (made, begins_one row, begins_silently sizes old new made posts row)
 
--- where no rule serves a request, the desk has no act for it
-pub stays : (sizes : Sizes) (old : Desk) (v : Vio) → NoRule (DeskServes sizes old v) → NoRule (Act sizes (at.Desk old) (item.Request v ∷ []))
-stays sizes old v none new made posts (serves row) = none _ _ _ row
+-- a request that a rule serves comes back with its answer
+pub comes_back : (sizes : Sizes) (old : Desk) (v : Vio) → HasAct sizes (at.Desk old) (item.Request v ∷ []) → (v.phase ≡ Reply) × IsSome v.answer
+comes_back sizes old v (new, made, posts, serves (parks a is given h3 h4 h5 h6 h7)) = (is, some_is v.answer a given)
+comes_back sizes old v (new, made, posts, serves (answers a is given h3 h4 h5 h6 h7)) = (is, some_is v.answer a given)
+comes_back sizes old v (new, made, posts, serves (marks is h2 given h4 h5 h6)) = (is, some_is v.answer Ok given)

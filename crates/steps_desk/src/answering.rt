@@ -1,4 +1,4 @@
-ghost use Rattle.std.specs.Prelude.{◌≡◌, [], OnOk, OnErr, Some, None, true};
+ghost use Rattle.std.specs.Prelude.{◌≡◌, [], IsSome, Some, true};
 ghost use Rattle.blk_base.specs.declared.request.Answer.{Answer};
 ghost use Rattle.blk_base.specs.declared.request.Answer.TheVariants.{Ok};
 ghost use Rattle.core_model.specs.declared.items.Asks.TheVariants.{Flush};
@@ -6,11 +6,10 @@ ghost use Rattle.core_model.specs.declared.items.Phase.TheVariants.{Reply};
 ghost use Rattle.core_model.specs.DeskRows as rows;
 ghost use Rattle.core_model.specs.Limits.{IsDeskWithin};
 ghost use Rattle.core_model.specs.Trace.{Trace};
-ghost use Rattle.step_parts.specs.Causes.{NoRule};
 
 use blk_base::{Answer, ZoneId};
-use core_model::{Asks, BoxedVio, Desk, Item, Phase, Sizes};
-use step_parts::{Posts, Stray};
+use core_model::{Asks, BoxedVio, Desk, Item, Sizes};
+use step_parts::Posts;
 
 /// Whether the stop notice of every zone has come to the desk.
 pub(crate) fn is_notified(sizes: &Sizes, desk: &Desk) -> bool
@@ -35,44 +34,38 @@ fn is_stopped(answer: &Answer) -> bool
 }
 
 // A request that need not wait is answered.
-fn reply(sizes: &Sizes, desk: &mut Desk, mut vio: BoxedVio) -> Result<(), Stray>
+fn reply(sizes: &Sizes, desk: &mut Desk, mut vio: BoxedVio)
     requires phase { vio.phase ≡ Reply }
+    requires answered { IsSome vio.answer }
     requires within { IsDeskWithin desk.old }
     requires notified { (given : Answer) → vio.answer ≡ Some given → rows.is_stopped given ≡ true → rows.is_notified sizes.now desk.old ≡ true }
-    ensures ok { OnOk result ((made : Trace) × rows.DeskServes sizes.now desk.old vio desk.new made []) }
-    ensures err { OnErr result (vio.answer ≡ None) }
+    ensures { (made : Trace) × rows.DeskServes sizes.now desk.old vio desk.new made [] }
 {
     let asks = vio.get().asks;
-    match vio.take_answer() {
-        None => Err(Stray),
-        Some(given) => {
-            if is_marked(asks, &given) {
-                desk.mark(vio);
-            } else {
-                desk.answer(vio, given);
-            }
-            Ok(())
-        }
+    let Some(given) = vio.take_answer() else {
+        unreachable!();
+    };
+    if is_marked(asks, &given) {
+        desk.mark(vio);
+    } else {
+        desk.answer(vio, given);
     }
 }
 
 /// A request that comes back is answered, or waits until the stop notice of every zone has come.
-pub(crate) fn serve_desk(sizes: &Sizes, desk: &mut Desk, vio: BoxedVio) -> Result<(), Stray>
-    requires { IsDeskWithin desk.old }
-    ensures ok { OnOk result ((made : Trace) × rows.DeskServes sizes.now desk.old vio desk.new made []) }
-    ensures err { OnErr result (NoRule (rows.DeskServes sizes.now desk.old vio)) }
+pub(crate) fn serve_desk(sizes: &Sizes, desk: &mut Desk, vio: BoxedVio)
+    requires within { IsDeskWithin desk.old }
+    requires phase { vio.phase ≡ Reply }
+    requires answered { IsSome vio.answer }
+    ensures { (made : Trace) × rows.DeskServes sizes.now desk.old vio desk.new made [] }
 {
-    let Phase::Reply = vio.get().phase else {
-        return Err(Stray);
-    };
     let Some(given) = &vio.get().answer else {
-        return Err(Stray);
+        unreachable!();
     };
     if is_stopped(given) && !is_notified(sizes, desk) {
         desk.park(vio);
-        Ok(())
     } else {
-        reply(sizes, desk, vio)
+        reply(sizes, desk, vio);
     }
 }
 

@@ -1,4 +1,4 @@
-ghost use Rattle.std.specs.Prelude.{◌≡◌, ◌<◌, ◌+◌, ◌∷◌, [], ℕ, IfOk, IfErr, OnOk, IsTrue, IfSome, IfNone, false, length};
+ghost use Rattle.std.specs.Prelude.{◌≡◌, ◌<◌, ◌+◌, ◌∷◌, [], ℕ, IsTrue, IfSome, IfNone, false, length};
 ghost use Rattle.vdo_model.specs.DeskLog.{IsNextLine};
 ghost use Rattle.vdo_model.specs.declared.report.DeskLine.TheVariants as line;
 ghost use Rattle.core_model.specs.declared.items.Item.TheVariants as item;
@@ -6,16 +6,15 @@ ghost use Rattle.core_model.specs.declared.zones.ZoneData.TheVariants as at;
 ghost use Rattle.core_model.specs.DeskRows as rows;
 ghost use Rattle.core_model.specs.Limits.{HasRoomToBegin};
 ghost use Rattle.core_model.specs.Steps.{MayBegin};
-ghost use Rattle.step_parts.specs.declared.fault.StepFault.TheVariants.{Exhausted};
 ghost use Rattle.core_model.specs.Trace.{Trace};
 ghost use Rattle.core_model.specs.Vios as vios;
 ghost use Rattle.step_parts.specs.Acts.{ActsAlone};
-ghost use Rattle.steps_desk.specs.Begins.{BeginsNone, CanBegin};
+ghost use Rattle.steps_desk.specs.Begins.{CanBegin};
 
 use crate::answering::is_notified;
 use blk_base::{Answer, Block, Lba, Mapping, PAGE_SLOTS, Request, TREES, Writer, ZoneId};
 use core_model::{Asks, Desk, Item, Phase, Sizes, Vio};
-use step_parts::{Posts, StepFault};
+use step_parts::Posts;
 
 // A request for an address when it is begun.
 fn begun_vio(sizes: &Sizes, request: Writer, asks: Asks, at: Lba, bytes: Block) -> Vio
@@ -164,66 +163,50 @@ pub fn may_begin(sizes: &Sizes, desk: &Desk) -> bool
 }
 
 // A request is begun, and sent on.
-fn send(desk: &mut Desk, vio: Vio, posts: &mut Posts) -> Result<(), StepFault>
-    requires { posts.old ≡ [] }
-    ensures desk { OnOk result (desk.new ≡ record desk.old { log = line.Begin vio.request ∷ desk.old.log }) }
-    ensures posts { OnOk result (posts.new ≡ (rows.first_zone vio, item.Request vio) ∷ []) }
-    ensures err { IfErr result (λ fault. (fault ≡ Exhausted) × (HasRoomToBegin desk.old → ⊥)) }
+fn send(desk: &mut Desk, vio: Vio, posts: &mut Posts)
+    requires room { HasRoomToBegin desk.old }
+    requires none { posts.old ≡ [] }
+    ensures desk { desk.new ≡ record desk.old { log = line.Begin vio.request ∷ desk.old.log } }
+    ensures posts { posts.new ≡ (rows.first_zone vio, item.Request vio) ∷ [] }
 {
     let to = first_zone(&vio);
-    match desk.begin(vio) {
-        Some(boxed) => {
-            posts.first(to, Item::Request(boxed));
-            Ok(())
-        }
-        None => Err(StepFault::Exhausted),
-    }
+    let boxed = desk.begin(vio);
+    posts.first(to, Item::Request(boxed));
 }
 
 // A request is begun, and answered at once or sent on.
-fn begin_one(
-    sizes: &Sizes,
-    desk: &mut Desk,
-    request: Writer,
-    posts: &mut Posts,
-) -> Result<(), StepFault>
+fn begin_one(sizes: &Sizes, desk: &mut Desk, request: Writer, posts: &mut Posts)
     requires can { CanBegin sizes.now desk.old }
     requires next { rows.BeginsNext sizes.now.depth desk.old request }
     requires none { posts.old ≡ [] }
-    ensures ok { OnOk result ((made : Trace) × rows.DeskBegins sizes.now desk.old desk.new made posts.new) }
-    ensures err { IfErr result (BeginsNone sizes.now desk.old) }
+    ensures { (made : Trace) × rows.DeskBegins sizes.now desk.old desk.new made posts.new }
 {
     let notified = is_notified(sizes, desk);
     let requests = desk.requests().stream(request.stream);
     let Some(vio) = vio_of(sizes, request, &requests[request.number as usize]) else {
-        return Err(StepFault::Stray);
+        unreachable!();
     };
     match at_once(sizes, notified, vio.asks, vio.at) {
-        Some(given) => {
-            desk.answer_at_once(request, given);
-            Ok(())
-        }
+        Some(given) => desk.answer_at_once(request, given),
         None => send(desk, vio, posts),
     }
 }
 
 /// What the desk does with no item in its inbox: the next request of the lowest stream that may begin one is begun, and it
-/// posts this; it says whether a stream may. It fails with `Exhausted` where there is no room for one more request, and
-/// with `Stray` where the request isn't one that is served.
-pub fn begin_next(sizes: &Sizes, desk: &mut Desk, posts: &mut Posts) -> Result<bool, StepFault>
+/// posts this; it says whether a stream may.
+pub fn begin_next(sizes: &Sizes, desk: &mut Desk, posts: &mut Posts) -> bool
     requires can { CanBegin sizes.now desk.old }
     requires none { posts.old ≡ [] }
-    ensures begun { IfOk result (λ some. IsTrue some → ActsAlone sizes.now (at.Desk desk.old) [] (at.Desk desk.new) posts.new) }
-    ensures might { IfOk result (λ some. IsTrue some → MayBegin sizes.now (at.Desk desk.old)) }
-    ensures same { IfOk result (λ some. (some ≡ false) → (desk.new ≡ desk.old) × (posts.new ≡ [])) }
-    ensures none { IfOk result (λ some. (some ≡ false) → MayBegin sizes.now (at.Desk desk.old) → ⊥) }
-    ensures err { IfErr result (λ fault. MayBegin sizes.now (at.Desk desk.old) × BeginsNone sizes.now desk.old fault) }
+    ensures begun { IsTrue result → ActsAlone sizes.now (at.Desk desk.old) [] (at.Desk desk.new) posts.new }
+    ensures might { IsTrue result → MayBegin sizes.now (at.Desk desk.old) }
+    ensures same { (result ≡ false) → (desk.new ≡ desk.old) × (posts.new ≡ []) }
+    ensures none { (result ≡ false) → MayBegin sizes.now (at.Desk desk.old) → ⊥ }
 {
     match lowest(sizes, desk) {
         Some(request) => {
-            begin_one(sizes, desk, request, posts)?;
-            Ok(true)
+            begin_one(sizes, desk, request, posts);
+            true
         }
-        None => Ok(false),
+        None => false,
     }
 }

@@ -1,5 +1,5 @@
 -- What a call leaves in the log of the device, as a part of the trace.
-use Rattle.std.proofs.Common.{◌≡◌, ◌≤◌, Bool, true, false, List, [], ◌∷◌, Result, Ok, Err, OnOk, OnErr, Some, IsTrue, ℕ, length, refl, ap, sym, ◌∙◌, inl, inr, arith}
+use Rattle.std.proofs.Common.{◌≡◌, ◌<◌, ◌≤◌, Bool, true, false, List, [], ◌∷◌, Result, Ok, Err, OnOk, OnErr, Some, IsTrue, ℕ, length, refl, ap, sym, ◌∙◌, inl, inr, arith}
 use Rattle.blk_base.specs.declared.place.Pbn.{Pbn}
 use Rattle.blk_base.specs.declared.place.ZoneId.{ZoneId}
 use Rattle.disk_model.specs.declared.call.Call.{Call}
@@ -13,6 +13,7 @@ use Rattle.core_model.specs.declared.items.Item.TheVariants as item
 use Rattle.core_model.specs.declared.items.SealedBlock.{SealedBlock}
 use Rattle.core_model.specs.declared.items.Stage.{Stage}
 use Rattle.core_model.specs.declared.items.Stage.TheVariants as stage
+use Rattle.core_model.specs.declared.items.Vio.{Vio}
 use Rattle.core_model.specs.declared.sizes.Sizes.{Sizes}
 use Rattle.core_model.specs.DeviceRows.{call_of, journal_bytes}
 use Rattle.core_model.specs.Trace.{Calls}
@@ -80,3 +81,8 @@ some_call sizes b slot ok stage.Fail needed = (call.Flush ok, cc)
 pub block_post : (posts rest : List Post) (to to' : ZoneId) (b b' : SealedBlock) → posts ≡ (to, item.Block b) ∷ rest → to ≡ to' → b ≡ b'
     → posts ≡ (to', item.Block b') ∷ rest
 block_post posts rest to to' b b' posted to_is b_is = rw (← to_is, ← b_is) posted
+
+-- the oldest request of a block that has one
+pub oldest_of : (vs : List Vio) → 0 < length vs → (v : Vio) × (others : List Vio) × (vs ≡ v ∷ others)
+oldest_of [] some = absurd (omega (arith, some))
+oldest_of (v ∷ others) some = (v, others, refl)

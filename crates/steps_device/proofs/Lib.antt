@@ -1,4 +1,3 @@
 mod ActLaws
 mod BlockEntries
 mod Calls
-mod StrayLaws

@@ -1,1 +1,2 @@
 pub mod DeviceCalls
+pub mod Served

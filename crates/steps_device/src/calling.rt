@@ -1,14 +1,11 @@
-ghost use Rattle.std.specs.Prelude.{◌↔◌, ◌<◌, [], ◌∷◌, true, false, OnOk, OnErr, IsTrue};
-ghost use Rattle.blk_base.specs.Limits.{IsGeometry};
+ghost use Rattle.std.specs.Prelude.{◌<◌, [], ◌∷◌, true, false, OnOk, OnErr};
 ghost use Rattle.disk_model.specs.declared.call.Call.TheVariants as call;
 ghost use Rattle.disk_model.specs.Seen.{Stays};
-ghost use Rattle.core_model.specs.DeviceRows as rows;
 ghost use Rattle.core_model.specs.Trace.{Calls};
 ghost use Rattle.step_parts.specs.DeviceLog.{HasCalled};
 ghost use Rattle.steps_device.specs.DeviceCalls.{HasFailed};
 
-use blk_base::{Block, Layout, Pbn};
-use core_model::Sizes;
+use blk_base::{Block, Pbn};
 use disk_model::{Disk, Failed};
 
 /// Reads a block.
@@ -38,12 +35,4 @@ pub(crate) fn flush<D: Disk>(disk: &mut D) -> Result<(), Failed>
     ensures err { OnErr result (HasFailed D.tells D.honest (D.seen disk.old) (D.seen disk.new) (call.Flush false)) }
 {
     disk.flush()
-}
-
-/// Whether a block lies inside an image of these sizes.
-pub(crate) fn is_inside(sizes: &Sizes, block: Pbn) -> bool
-    requires { IsGeometry sizes.now.geometry }
-    ensures { IsTrue result ↔ rows.IsInside sizes.now block }
-{
-    block.0 < Layout::of(&sizes.geometry).needed()
 }

@@ -1,35 +1,19 @@
-ghost use Rattle.std.specs.Prelude.{◌≡◌, ◌<◌, ◌≤◌, ◌^◌, ◌-◌, [], false, OnOk, OnErr, IfSome, IfNone};
-ghost use Rattle.blk_base.specs.Limits.{IsGeometry};
+ghost use Rattle.std.specs.Prelude.{◌≡◌, false};
 ghost use Rattle.blk_base.specs.declared.place.Mapping.TheVariants.{At};
-ghost use Rattle.blk_base.specs.declared.place.Pbn.{Pbn};
 ghost use Rattle.disk_model.specs.Seen.{Stays};
 ghost use Rattle.core_model.specs.DeviceRows as rows;
 ghost use Rattle.core_model.specs.DeviceRows.{DeviceServes};
-ghost use Rattle.core_model.specs.SessionLimits.{most_zones};
 ghost use Rattle.core_model.specs.Trace.{Trace};
 ghost use Rattle.core_model.specs.declared.items.Phase.TheVariants as phase;
-ghost use Rattle.step_parts.specs.Causes.{NoRule};
 ghost use Rattle.step_parts.specs.DeviceLog.{HasCalled};
-ghost use Rattle.steps_device.specs.DeviceCalls.{Fits};
+ghost use Rattle.steps_device.specs.Served.{CanServe, MayServe};
 
-use crate::calling::{flush, is_inside, read_block, write_block};
+use crate::calling::{flush, read_block, write_block};
 use crate::stopping::halt;
 use blk_base::{Answer, Block, Mapping, Pbn, ZoneId};
 use core_model::{BoxedVio, DeviceZone, Item, Phase, Sizes};
 use disk_model::Disk;
-use step_parts::{Posts, Stray};
-
-// The block of a mapping, if there is one and it lies inside the image.
-fn block_inside(sizes: &Sizes, mapping: Mapping) -> Option<Pbn>
-    requires { IsGeometry sizes.now.geometry }
-    ensures some { IfSome result (λ block. (mapping ≡ At block) × rows.IsInside sizes.now block) }
-    ensures none { IfNone result ((block : Pbn) → mapping ≡ At block → rows.IsInside sizes.now block → ⊥) }
-{
-    match mapping {
-        Mapping::At(block) if is_inside(sizes, block) => Some(block),
-        _ => None,
-    }
-}
+use step_parts::Posts;
 
 // The data of a write.
 fn store<D: Disk>(
@@ -44,10 +28,7 @@ fn store<D: Disk>(
     requires block { vio.new ≡ At block }
     requires inside { rows.IsInside sizes.now block }
     requires runs { zone.old.stopped ≡ false }
-    requires counts { zone.old.calls < 2 ^ 64 - 1 }
-    requires fits { Fits sizes.now (D.seen disk.old) }
-    requires few { sizes.now.zones ≤ most_zones }
-    requires none { posts.old ≡ [] }
+    requires may { MayServe sizes.now zone.old (D.seen disk.old) posts.old }
     ensures stays { Stays (D.seen disk.old) (D.seen disk.new) }
     ensures serves { (made : Trace) × DeviceServes sizes.now zone.old vio zone.new made posts.new
         × HasCalled D.tells D.honest (D.seen disk.old) (D.seen disk.new) made }
@@ -79,10 +60,7 @@ fn load<D: Disk>(
     requires phase { vio.phase ≡ phase.Load }
     requires block { vio.old ≡ At block }
     requires inside { rows.IsInside sizes.now block }
-    requires counts { zone.old.calls < 2 ^ 64 - 1 }
-    requires fits { Fits sizes.now (D.seen disk.old) }
-    requires few { sizes.now.zones ≤ most_zones }
-    requires none { posts.old ≡ [] }
+    requires may { MayServe sizes.now zone.old (D.seen disk.old) posts.old }
     ensures stays { Stays (D.seen disk.old) (D.seen disk.new) }
     ensures serves { (made : Trace) × DeviceServes sizes.now zone.old vio zone.new made posts.new
         × HasCalled D.tells D.honest (D.seen disk.old) (D.seen disk.new) made }
@@ -107,9 +85,7 @@ fn flush_for<D: Disk>(
     posts: &mut Posts,
 )
     requires phase { vio.phase ≡ phase.Flush }
-    requires counts { zone.old.calls < 2 ^ 64 - 1 }
-    requires few { sizes.now.zones ≤ most_zones }
-    requires none { posts.old ≡ [] }
+    requires may { MayServe sizes.now zone.old (D.seen disk.old) posts.old }
     ensures stays { Stays (D.seen disk.old) (D.seen disk.new) }
     ensures serves { (made : Trace) × DeviceServes sizes.now zone.old vio zone.new made posts.new
         × HasCalled D.tells D.honest (D.seen disk.old) (D.seen disk.new) made }
@@ -135,29 +111,23 @@ fn serve_store<D: Disk>(
     vio: BoxedVio,
     disk: &mut D,
     posts: &mut Posts,
-) -> Result<(), Stray>
+)
     requires phase { vio.phase ≡ phase.Store }
-    requires counts { zone.old.calls < 2 ^ 64 - 1 }
-    requires fits { Fits sizes.now (D.seen disk.old) }
-    requires few { sizes.now.zones ≤ most_zones }
-    requires none { posts.old ≡ [] }
+    requires can { CanServe sizes.now zone.old vio phase.Store }
+    requires may { MayServe sizes.now zone.old (D.seen disk.old) posts.old }
     ensures stays { Stays (D.seen disk.old) (D.seen disk.new) }
-    ensures serves { OnOk result ((made : Trace) × DeviceServes sizes.now zone.old vio zone.new made posts.new
-        × HasCalled D.tells D.honest (D.seen disk.old) (D.seen disk.new) made) }
-    ensures err { OnErr result (NoRule (DeviceServes sizes.now zone.old vio)) }
+    ensures serves { (made : Trace) × DeviceServes sizes.now zone.old vio zone.new made posts.new
+        × HasCalled D.tells D.honest (D.seen disk.old) (D.seen disk.new) made }
 {
     if zone.stopped {
         let unmade = vio.end(Phase::AbortClaim, Answer::Stopped);
         posts.first(ZoneId::Physical(0), Item::Request(unmade));
-        return Ok(());
+        return;
     }
-    match block_inside(sizes, vio.get().new) {
-        None => Err(Stray),
-        Some(block) => {
-            store(sizes, zone, vio, block, disk, posts);
-            Ok(())
-        }
-    }
+    let Mapping::At(block) = vio.get().new else {
+        unreachable!();
+    };
+    store(sizes, zone, vio, block, disk, posts);
 }
 
 // The block of a read.
@@ -167,24 +137,18 @@ fn serve_load<D: Disk>(
     vio: BoxedVio,
     disk: &mut D,
     posts: &mut Posts,
-) -> Result<(), Stray>
+)
     requires phase { vio.phase ≡ phase.Load }
-    requires counts { zone.old.calls < 2 ^ 64 - 1 }
-    requires fits { Fits sizes.now (D.seen disk.old) }
-    requires few { sizes.now.zones ≤ most_zones }
-    requires none { posts.old ≡ [] }
+    requires can { CanServe sizes.now zone.old vio phase.Load }
+    requires may { MayServe sizes.now zone.old (D.seen disk.old) posts.old }
     ensures stays { Stays (D.seen disk.old) (D.seen disk.new) }
-    ensures serves { OnOk result ((made : Trace) × DeviceServes sizes.now zone.old vio zone.new made posts.new
-        × HasCalled D.tells D.honest (D.seen disk.old) (D.seen disk.new) made) }
-    ensures err { OnErr result (NoRule (DeviceServes sizes.now zone.old vio)) }
+    ensures serves { (made : Trace) × DeviceServes sizes.now zone.old vio zone.new made posts.new
+        × HasCalled D.tells D.honest (D.seen disk.old) (D.seen disk.new) made }
 {
-    match block_inside(sizes, vio.get().old) {
-        None => Err(Stray),
-        Some(block) => {
-            load(sizes, zone, vio, block, disk, posts);
-            Ok(())
-        }
-    }
+    let Mapping::At(block) = vio.get().old else {
+        unreachable!();
+    };
+    load(sizes, zone, vio, block, disk, posts);
 }
 
 /// What the device's zone does with a request in front of its inbox. It makes one call of the device, or none.
@@ -194,24 +158,18 @@ pub(crate) fn call_device<D: Disk>(
     vio: BoxedVio,
     disk: &mut D,
     posts: &mut Posts,
-) -> Result<(), Stray>
-    requires counts { zone.old.calls < 2 ^ 64 - 1 }
-    requires fits { Fits sizes.now (D.seen disk.old) }
-    requires few { sizes.now.zones ≤ most_zones }
-    requires none { posts.old ≡ [] }
+)
+    requires can { CanServe sizes.now zone.old vio vio.phase }
+    requires may { MayServe sizes.now zone.old (D.seen disk.old) posts.old }
     ensures stays { Stays (D.seen disk.old) (D.seen disk.new) }
-    ensures serves { OnOk result ((made : Trace) × DeviceServes sizes.now zone.old vio zone.new made posts.new
-        × HasCalled D.tells D.honest (D.seen disk.old) (D.seen disk.new) made) }
-    ensures err { OnErr result (NoRule (DeviceServes sizes.now zone.old vio)) }
+    ensures serves { (made : Trace) × DeviceServes sizes.now zone.old vio zone.new made posts.new
+        × HasCalled D.tells D.honest (D.seen disk.old) (D.seen disk.new) made }
 {
     let phase = vio.get().phase;
     match phase {
         Phase::Store => serve_store(sizes, zone, vio, disk, posts),
         Phase::Load => serve_load(sizes, zone, vio, disk, posts),
-        Phase::Flush => {
-            flush_for(sizes, zone, vio, disk, posts);
-            Ok(())
-        }
-        _ => Err(Stray),
+        Phase::Flush => flush_for(sizes, zone, vio, disk, posts),
+        _ => unreachable!(),
     }
 }

@@ -1,15 +1,14 @@
-ghost use Rattle.std.specs.Prelude.{◌≡◌, ◌<◌, ◌≤◌, ◌^◌, ◌-◌, [], ◌∷◌, true, false, Some, map, OnOk, OnErr};
+ghost use Rattle.std.specs.Prelude.{◌≡◌, ◌<◌, [], ◌∷◌, true, false, Some, length, map, OnOk, OnErr};
 ghost use Rattle.disk_model.specs.declared.call.Call.{Call};
 ghost use Rattle.disk_model.specs.Seen.{Stays};
 ghost use Rattle.core_model.specs.DeviceRows as rows;
 ghost use Rattle.core_model.specs.DeviceRows.{DeviceWorks, call_of, journal_bytes};
-ghost use Rattle.core_model.specs.SessionLimits.{most_zones};
 ghost use Rattle.core_model.specs.Trace.{Trace, Calls, entry_of};
 ghost use Rattle.core_model.specs.Vios as vios;
-ghost use Rattle.step_parts.specs.Causes.{NoRule};
 ghost use Rattle.step_parts.specs.DeviceLog.{HasCalled};
 ghost use Rattle.steps_device.specs.DeviceCalls as log;
-ghost use Rattle.steps_device.specs.DeviceCalls.{Fits, HasFailed};
+ghost use Rattle.steps_device.specs.DeviceCalls.{HasFailed};
+ghost use Rattle.steps_device.specs.Served.{MayServe};
 
 use crate::calling::{flush, write_block};
 use crate::stopping::halt;
@@ -17,7 +16,7 @@ use blk_base::{Block, JOURNAL_ENTRIES, Layout, Pbn, ZoneId};
 use core_model::{DeviceZone, Item, SealedBlock, Sizes, Stage};
 use disk_model::{Disk, Failed};
 use journal_codec::{Entries, JournalBlock, encode};
-use step_parts::{Posts, Stray};
+use step_parts::Posts;
 
 // The entries of a sealed block, the oldest first.
 fn sealed_entries(block: &SealedBlock) -> Entries<JOURNAL_ENTRIES>
@@ -49,16 +48,6 @@ fn sealed_bytes(sizes: &Sizes, block: &SealedBlock) -> Block
         &mut bytes,
     );
     bytes
-}
-
-// Whether a sealed block at this stage needs a call of the device.
-fn needs_call(stage: Stage) -> bool
-    ensures { result ≡ log.needs_call stage }
-{
-    match stage {
-        Stage::Cover | Stage::Write | Stage::Harden => true,
-        Stage::Commit | Stage::Fail => false,
-    }
 }
 
 // The stage behind this one.
@@ -115,43 +104,35 @@ fn staged(mut block: SealedBlock, stage: Stage) -> SealedBlock
     block
 }
 
-/// What the device's zone does with a sealed block in front of its inbox. It makes one call of the device, or none.
+/// What the device's zone does with a sealed block in front of its inbox, which has entries. It makes one call of the
+/// device, or none.
 pub(crate) fn work_block<D: Disk>(
     sizes: &Sizes,
     zone: &mut DeviceZone,
     block: SealedBlock,
     disk: &mut D,
     posts: &mut Posts,
-) -> Result<(), Stray>
-    requires counts { zone.old.calls < 2 ^ 64 - 1 }
-    requires fits { Fits sizes.now (D.seen disk.old) }
-    requires few { sizes.now.zones ≤ most_zones }
-    requires none { posts.old ≡ [] }
+)
+    requires some { 0 < length block.vios }
+    requires needed { log.needs_call block.stage ≡ true }
+    requires may { MayServe sizes.now zone.old (D.seen disk.old) posts.old }
     ensures stays { Stays (D.seen disk.old) (D.seen disk.new) }
-    ensures works { OnOk result ((made : Trace) × DeviceWorks sizes.now zone.old block zone.new made posts.new
-        × HasCalled D.tells D.honest (D.seen disk.old) (D.seen disk.new) made) }
-    ensures err { OnErr result (NoRule (DeviceWorks sizes.now zone.old block)) }
+    ensures works { (made : Trace) × DeviceWorks sizes.now zone.old block zone.new made posts.new
+        × HasCalled D.tells D.honest (D.seen disk.old) (D.seen disk.new) made }
 {
-    if block.vios.is_empty() {
-        return Err(Stray);
-    }
-    if !needs_call(block.stage) {
-        return Err(Stray);
-    }
     let slot = Layout::of(&sizes.geometry).journal_slot(block.sequence);
     if zone.stopped {
         let unmade = staged(block, Stage::Fail);
         posts.first(ZoneId::Journal, Item::Block(unmade));
-        return Ok(());
+        return;
     }
     let stage = next_stage(block.stage);
     let to = next_zone(block.stage);
     let Ok(()) = make_call(sizes, &block, slot, disk) else {
         let failed = staged(block, Stage::Fail);
         halt(sizes, zone, ZoneId::Journal, Item::Block(failed), posts);
-        return Ok(());
+        return;
     };
     zone.calls += 1;
     posts.first(to, Item::Block(staged(block, stage)));
-    Ok(())
 }

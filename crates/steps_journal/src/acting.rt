@@ -1,34 +1,24 @@
-ghost use Rattle.std.specs.Prelude.{◌≡◌, [], ◌∷◌, OnOk, OnErr};
+ghost use Rattle.std.specs.Prelude.{◌≡◌, [], ◌∷◌};
 ghost use Rattle.core_model.specs.declared.zones.ZoneData.TheVariants as at;
 ghost use Rattle.core_model.specs.Limits.{IsJournalWithin};
-ghost use Rattle.core_model.specs.Steps.{Act};
+ghost use Rattle.core_model.specs.Steps.{HasAct};
 ghost use Rattle.step_parts.specs.Acts.{ActsAlone};
-ghost use Rattle.step_parts.specs.Causes.{NoRule};
 
 use crate::ending::{end_block, hear_stop};
-use crate::entering::serve_journal;
+use crate::entering::enter;
 use core_model::{Item, JournalZone, Sizes};
-use step_parts::{Posts, Stray};
+use step_parts::Posts;
 
-/// What the journal does with the item in front of its inbox: it posts this. It is stray exactly where no rule applies to
-/// the item.
-pub fn act(
-    sizes: &Sizes,
-    zone: &mut JournalZone,
-    item: Item,
-    posts: &mut Posts,
-) -> Result<(), Stray>
+/// What the journal does with the item in front of its inbox, to which a rule applies: it posts this.
+pub fn act(sizes: &Sizes, zone: &mut JournalZone, item: Item, posts: &mut Posts)
     requires within { IsJournalWithin zone.old }
+    requires rule { HasAct sizes.now (at.Journal zone.old) (item ∷ []) }
     requires none { posts.old ≡ [] }
-    ensures ok { OnOk result (ActsAlone sizes.now (at.Journal zone.old) (item ∷ []) (at.Journal zone.new) posts.new) }
-    ensures err { OnErr result (NoRule (Act sizes.now (at.Journal zone.old) (item ∷ []))) }
+    ensures { ActsAlone sizes.now (at.Journal zone.old) (item ∷ []) (at.Journal zone.new) posts.new }
 {
     match item {
-        Item::Request(vio) => serve_journal(sizes, zone, vio, posts),
+        Item::Request(vio) => enter(sizes, zone, vio, posts),
         Item::Block(block) => end_block(sizes, zone, block, posts),
-        Item::StopNotice => {
-            hear_stop(sizes, zone, posts);
-            Ok(())
-        }
+        Item::StopNotice => hear_stop(sizes, zone, posts),
     }
 }

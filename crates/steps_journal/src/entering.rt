@@ -1,4 +1,4 @@
-ghost use Rattle.std.specs.Prelude.{◌≡◌, [], ◌∷◌, true, false, OnOk, OnErr};
+ghost use Rattle.std.specs.Prelude.{◌≡◌, [], ◌∷◌, true, false};
 ghost use Rattle.blk_base.specs.declared.place.ZoneId.TheVariants as id;
 ghost use Rattle.core_model.specs.JournalRows as rows;
 ghost use Rattle.core_model.specs.JournalRows.{JournalServes};
@@ -7,12 +7,11 @@ ghost use Rattle.core_model.specs.Trace.{Trace};
 ghost use Rattle.core_model.specs.declared.items.Item.TheVariants.{Block};
 ghost use Rattle.core_model.specs.declared.items.Phase.TheVariants.{Enter};
 ghost use Rattle.core_model.specs.declared.items.Stage.TheVariants.{Commit};
-ghost use Rattle.step_parts.specs.Causes.{NoRule};
 
 use crate::refusing::{Refusal, refuse};
 use blk_base::ZoneId;
-use core_model::{BoxedVio, Item, JournalZone, Phase, Sizes};
-use step_parts::{Posts, Stray};
+use core_model::{BoxedVio, Item, JournalZone, Sizes};
+use step_parts::Posts;
 
 // With the first entry the block goes round that is sealed.
 fn go_round(zone: &mut JournalZone, posts: &mut Posts)
@@ -43,8 +42,9 @@ fn hand_in(sizes: &Sizes, zone: &mut JournalZone, vio: BoxedVio, posts: &mut Pos
     }
 }
 
-// An entry is refused, or waits for the next block, or is handed in.
-fn enter(sizes: &Sizes, zone: &mut JournalZone, vio: BoxedVio, posts: &mut Posts)
+/// What the journal does with a request in front of its inbox: its entry is refused, or waits for the next block, or is
+/// handed in.
+pub(crate) fn enter(sizes: &Sizes, zone: &mut JournalZone, vio: BoxedVio, posts: &mut Posts)
     requires phase { vio.phase ≡ Enter }
     requires within { IsJournalWithin zone.old }
     requires none { posts.old ≡ [] }
@@ -56,27 +56,5 @@ fn enter(sizes: &Sizes, zone: &mut JournalZone, vio: BoxedVio, posts: &mut Posts
         refuse(sizes, Refusal::Full, vio, posts);
     } else {
         hand_in(sizes, zone, vio, posts);
-    }
-}
-
-/// What the journal does with a request in front of its inbox.
-pub(crate) fn serve_journal(
-    sizes: &Sizes,
-    zone: &mut JournalZone,
-    vio: BoxedVio,
-    posts: &mut Posts,
-) -> Result<(), Stray>
-    requires within { IsJournalWithin zone.old }
-    requires none { posts.old ≡ [] }
-    ensures ok { OnOk result ((made : Trace) × JournalServes sizes.now zone.old vio zone.new made posts.new) }
-    ensures err { OnErr result (NoRule (JournalServes sizes.now zone.old vio)) }
-{
-    let phase = vio.get().phase;
-    match phase {
-        Phase::Enter => {
-            enter(sizes, zone, vio, posts);
-            Ok(())
-        }
-        _ => Err(Stray),
     }
 }

@@ -8,12 +8,10 @@ use Rattle.core_model.specs.declared.zones.ZoneData.TheVariants as at
 use Rattle.core_model.specs.LogicalData.{LogicalZone}
 use Rattle.core_model.specs.LogicalRows.{LogicalServes}
 use Rattle.core_model.specs.LogicalRows.LogicalServes.{arrives_retired, arrives_free, arrives_held, looks, settles, gives, aborts, aborts_entered}
-use Rattle.core_model.specs.Steps.{Act}
 use Rattle.core_model.specs.Steps.Act.{serves, serves_notice}
 use Rattle.core_model.specs.Trace.{Trace}
 use Rattle.core_model.specs.Vios.{Post}
 use Rattle.step_parts.specs.Acts.{ActsAlone}
-use Rattle.step_parts.specs.Causes.{NoRule}
 use Rattle.step_parts.proofs.SilentLaws.{Silent, none_called, silent}
 
 makes_no_call : (sizes : Sizes) (old new : LogicalZone) (v : Vio) (made : Trace) (posts : List Post) → LogicalServes sizes old v new made posts → Silent made
@@ -34,7 +32,3 @@ acts sizes old new v posts (made, row) = (made, serves row, makes_no_call sizes 
 pub hears : (sizes : Sizes) (old new : LogicalZone) (posts : List Post)
     → new ≡ record old { notified = true } → posts ≡ (id.Desk, item.StopNotice) ∷ [] → ActsAlone sizes (at.Logical old) (item.StopNotice ∷ []) (at.Logical new) posts
 hears sizes old new posts new_is posts_is = rw (new_is, posts_is) ([], serves_notice, none_called [] refl refl refl)
-
--- where no rule serves a request, the zone has no act for it
-pub stays : (sizes : Sizes) (old : LogicalZone) (v : Vio) → NoRule (LogicalServes sizes old v) → NoRule (Act sizes (at.Logical old) (item.Request v ∷ []))
-stays sizes old v none new made posts (serves row) = none _ _ _ row

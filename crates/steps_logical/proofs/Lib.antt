@@ -1,4 +1,4 @@
 mod ActLaws
-mod StrayLaws
+mod ServedLaws
 mod WaitingLaws
 mod ZeroLaws

@@ -1,4 +1,4 @@
-ghost use Rattle.std.specs.Prelude.{◌≡◌, ◌-◌, ◌<◌, ◌≤◌, ◌^◌, List, [], ◌∷◌, ◌++◌, OnOk, OnErr, None, Some, true, length};
+ghost use Rattle.std.specs.Prelude.{◌≡◌, ◌-◌, ◌<◌, ◌≤◌, ◌^◌, List, [], ◌∷◌, ◌++◌, Some, true, length};
 ghost use Rattle.blk_base.specs.Sectors.{zero_block};
 ghost use Rattle.blk_base.specs.declared.place.ZoneId.TheVariants as id;
 ghost use Rattle.core_model.specs.declared.items.Item.TheVariants as item;
@@ -6,16 +6,15 @@ ghost use Rattle.core_model.specs.declared.items.Phase.TheVariants as phase;
 ghost use Rattle.core_model.specs.Limits.{IsLogicalWithin};
 ghost use Rattle.core_model.specs.LogicalRows as rows;
 ghost use Rattle.core_model.specs.Trace.{Trace, Aborts, Draws, Gives, Sets};
-ghost use Rattle.core_model.specs.Vios.{Post};
 ghost use Rattle.core_model.specs.Vios as vios;
-ghost use Rattle.step_parts.specs.Causes.{NoRule};
+ghost use Rattle.steps_logical.specs.Served.{CanServe};
 
 use crate::waiting::stop_all;
 use blk_base::{Answer, Block, Lba, Mapping, ZoneId};
 use core_model::{Asks, BoxedVio, Item, LogicalZone, Phase, Sizes};
 use image_layout::mapping_at;
 use lane_kernels::is_zero;
-use step_parts::{Posts, Stray};
+use step_parts::Posts;
 
 // The bytes of an address that is mapped to no block.
 fn zeros(vio: BoxedVio) -> BoxedVio
@@ -136,17 +135,16 @@ fn arrive(sizes: &Sizes, zone: &mut LogicalZone, vio: BoxedVio, posts: &mut Post
 }
 
 // It has the lock: what is mapped at its address says where it goes.
-fn go_on(sizes: &Sizes, zone: &LogicalZone, vio: BoxedVio, posts: &mut Posts) -> Result<(), Stray>
+fn go_on(sizes: &Sizes, zone: &LogicalZone, vio: BoxedVio, posts: &mut Posts)
     requires phase { vio.phase ≡ phase.Look }
+    requires goes { CanServe sizes.now zone.now vio phase.Look }
     requires none { posts.old ≡ [] }
-    ensures ok { OnOk result (rows.LogicalServes sizes.now zone.now vio zone.now [] posts.new) }
-    ensures err { OnErr result (NoRule (rows.LogicalServes sizes.now zone.now vio)) }
+    ensures { rows.LogicalServes sizes.now zone.now vio zone.now [] posts.new }
 {
     let Some((to, item)) = goes_on(sizes, zone, vio) else {
-        return Err(Stray);
+        unreachable!();
     };
     posts.first(to, item);
-    Ok(())
 }
 
 // The entry of a write is committed: its slot is set, and the lock released.
@@ -208,28 +206,22 @@ fn abort_entered(sizes: &Sizes, zone: &mut LogicalZone, vio: BoxedVio, posts: &m
 }
 
 /// One phase of a request in a logical zone.
-pub(crate) fn serve_logical(
-    sizes: &Sizes,
-    zone: &mut LogicalZone,
-    vio: BoxedVio,
-    posts: &mut Posts,
-) -> Result<(), Stray>
+pub(crate) fn serve_logical(sizes: &Sizes, zone: &mut LogicalZone, vio: BoxedVio, posts: &mut Posts)
     requires within { IsLogicalWithin (2 ^ 64 - 2) zone.old }
+    requires can { CanServe sizes.now zone.old vio vio.phase }
     requires none { posts.old ≡ [] }
-    ensures ok { OnOk result ((made : Trace) × rows.LogicalServes sizes.now zone.old vio zone.new made posts.new) }
-    ensures err { OnErr result (NoRule (rows.LogicalServes sizes.now zone.old vio)) }
+    ensures { (made : Trace) × rows.LogicalServes sizes.now zone.old vio zone.new made posts.new }
 {
     let phase = vio.get().phase;
     match phase {
         Phase::Arrive => arrive(sizes, zone, vio, posts),
-        Phase::Look => return go_on(sizes, zone, vio, posts),
+        Phase::Look => go_on(sizes, zone, vio, posts),
         Phase::Settle => settle(sizes, zone, vio, posts),
         Phase::Loaded => give(sizes, zone, vio, posts),
         Phase::Abort => abort(sizes, zone, vio, posts),
         Phase::AbortEntered => abort_entered(sizes, zone, vio, posts),
-        _ => return Err(Stray),
+        _ => unreachable!(),
     }
-    Ok(())
 }
 
 /// The session is stopped: a logical zone passes the notice on.

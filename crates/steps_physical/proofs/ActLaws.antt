@@ -8,12 +8,12 @@ use Rattle.core_model.specs.declared.zones.ZoneData.TheVariants as at
 use Rattle.core_model.specs.declared.zones.PhysicalZone.{PhysicalZone}
 use Rattle.core_model.specs.JournalRows.{PhysicalServes}
 use Rattle.core_model.specs.JournalRows.PhysicalServes.{claims, is_full, aborts_claim, aborts_entered_claim}
-use Rattle.core_model.specs.Steps.{Act}
+use Rattle.core_model.specs.Steps.{HasAct}
 use Rattle.core_model.specs.Steps.Act.{takes, takes_notice}
 use Rattle.core_model.specs.Trace.{Trace}
 use Rattle.core_model.specs.Vios.{Post}
 use Rattle.step_parts.specs.Acts.{ActsAlone}
-use Rattle.step_parts.specs.Causes.{NoRule}
+use Rattle.step_parts.specs.Rules.{Applies}
 use Rattle.step_parts.proofs.SilentLaws.{Silent, none_called, silent}
 
 makes_no_call : (sizes : Sizes) (old new : PhysicalZone) (v : Vio) (made : Trace) (posts : List Post) → PhysicalServes sizes old v new made posts → Silent made
@@ -31,6 +31,6 @@ pub hears : (sizes : Sizes) (old new : PhysicalZone) (posts : List Post)
     → new ≡ record old { notified = true } → posts ≡ (id.Desk, item.StopNotice) ∷ [] → ActsAlone sizes (at.Physical old) (item.StopNotice ∷ []) (at.Physical new) posts
 hears sizes old new posts new_is posts_is = rw (new_is, posts_is) ([], takes_notice, none_called [] refl refl refl)
 
--- where no rule serves a request, the zone has no act for it
-pub stays : (sizes : Sizes) (old : PhysicalZone) (v : Vio) → NoRule (PhysicalServes sizes old v) → NoRule (Act sizes (at.Physical old) (item.Request v ∷ []))
-stays sizes old v none new made posts (takes row) = none _ _ _ row
+-- an act on a request is by a rule that serves it
+pub served : (sizes : Sizes) (old : PhysicalZone) (v : Vio) → HasAct sizes (at.Physical old) (item.Request v ∷ []) → Applies (PhysicalServes sizes old v)
+served sizes old v (new, made, posts, takes row) = (_, _, _, row)

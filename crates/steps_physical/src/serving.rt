@@ -1,15 +1,15 @@
-ghost use Rattle.std.specs.Prelude.{◌≡◌, [], ◌∷◌, true, OnOk, OnErr};
+ghost use Rattle.std.specs.Prelude.{◌≡◌, [], ◌∷◌, true};
 ghost use Rattle.blk_base.specs.declared.place.ZoneId.TheVariants as id;
 ghost use Rattle.core_model.specs.JournalRows.{PhysicalServes};
 ghost use Rattle.core_model.specs.Trace.{Trace};
 ghost use Rattle.core_model.specs.Vios as vios;
 ghost use Rattle.core_model.specs.declared.items.Item.TheVariants.{Request, StopNotice};
 ghost use Rattle.core_model.specs.declared.items.Phase.TheVariants.{Claim};
-ghost use Rattle.step_parts.specs.Causes.{NoRule};
+ghost use Rattle.step_parts.specs.Rules.{Applies};
 
 use blk_base::{Answer, Mapping, ZoneId};
 use core_model::{BoxedVio, Item, Phase, PhysicalZone, Sizes};
-use step_parts::{Posts, Stray};
+use step_parts::Posts;
 
 // A write takes the first free block, or there is none.
 fn claim(sizes: &Sizes, zone: &mut PhysicalZone, vio: BoxedVio, posts: &mut Posts)
@@ -39,32 +39,23 @@ fn go_home(vio: BoxedVio, phase: Phase, posts: &mut Posts)
     posts.first(home, Item::Request(vio.turn(phase)));
 }
 
-/// What the physical zone does with a request in front of its inbox.
+/// What the physical zone does with a request in front of its inbox, which a rule serves.
 pub(crate) fn serve_physical(
     sizes: &Sizes,
     zone: &mut PhysicalZone,
     vio: BoxedVio,
     posts: &mut Posts,
-) -> Result<(), Stray>
-    requires { posts.old ≡ [] }
-    ensures ok { OnOk result ((made : Trace) × PhysicalServes sizes.now zone.old vio zone.new made posts.new) }
-    ensures err { OnErr result (NoRule (PhysicalServes sizes.now zone.old vio)) }
+)
+    requires rule { Applies (PhysicalServes sizes.now zone.old vio) }
+    requires none { posts.old ≡ [] }
+    ensures { (made : Trace) × PhysicalServes sizes.now zone.old vio zone.new made posts.new }
 {
     let phase = vio.get().phase;
     match phase {
-        Phase::Claim => {
-            claim(sizes, zone, vio, posts);
-            Ok(())
-        }
-        Phase::AbortClaim => {
-            go_home(vio, Phase::Abort, posts);
-            Ok(())
-        }
-        Phase::AbortEnteredClaim => {
-            go_home(vio, Phase::AbortEntered, posts);
-            Ok(())
-        }
-        _ => Err(Stray),
+        Phase::Claim => claim(sizes, zone, vio, posts),
+        Phase::AbortClaim => go_home(vio, Phase::Abort, posts),
+        Phase::AbortEnteredClaim => go_home(vio, Phase::AbortEntered, posts),
+        _ => unreachable!(),
     }
 }
 

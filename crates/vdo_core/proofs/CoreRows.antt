@@ -19,14 +19,12 @@ use Rattle.core_model.specs.declared.sizes.Sizes.{Sizes}
 use Rattle.core_model.specs.declared.zones.Zone.{Zone}
 use Rattle.core_model.specs.declared.zones.ZoneData.{ZoneData}
 use Rattle.core_model.specs.declared.zones.ZoneData.TheVariants as at
-use Rattle.core_model.specs.Limits.{HasRoomToBegin, IsWithin}
 use Rattle.core_model.specs.SessionLimits.{requests_in}
 use Rattle.core_model.specs.Sessions.{IsSession, Session}
 use Rattle.core_model.specs.Start.{IsFirst}
-use Rattle.core_model.specs.Steps.{MayBegin, StepOf}
+use Rattle.core_model.specs.Steps.{StepOf}
 use Rattle.core_model.specs.Steps.Leads.{rests, steps}
 use Rattle.core_model.specs.Trace.{Trace}
-use Rattle.vdo_core.specs.Causes.{BeginsCrowded, CanStep, IsServedBy, IsSized}
 use Rattle.vdo_core.specs.Cores.{CanBegin, IsReached}
 use Rattle.vdo_core.specs.Done.{IsDone}
 use Rattle.vdo_core.specs.FreeBlocks.{free_of}
@@ -167,49 +165,12 @@ room-not_past_it z room = let count = length-replicate 926 StopNotice in omega (
 room-not_past_it_in_an_outbox : (z : Zone) → HasRoomFor 1 (record z { ports = record z.ports { inbox = []; outboxes = [] ∷ replicate 926 StopNotice ∷ [] } }) → ⊥
 room-not_past_it_in_an_outbox z room = let count = length-replicate 926 StopNotice in omega (arith, count, room.outboxes.1.0)
 
--- IsSized: one logical zone at least, four at most
+-- CanBegin: with a window of the image, a block of the journal that stays free, and a script that is served and within the
+-- limits
 module _ (g : Geometry) where
   abbrev sizes : ℕ → ℕ → Sizes
   sizes start zones = record { geometry = g; start = start; opened = 0; zones = zones; depth = 1 }
 
-  sized : IsSized (sizes 1 4)
-  sized = record { zones = omega arith; few = omega arith }
-
-  sized-not_without_a_zone : IsSized (sizes 1 0) → ⊥
-  sized-not_without_a_zone is = omega (arith, is.zones)
-
-  sized-not_with_five : IsSized (sizes 1 5) → ⊥
-  sized-not_with_five is = omega (arith, is.few)
-
-  -- CanStep: that, the script of its desk, and its room
-  module _ (z : Zone) (served : IsServedBy (sizes 1 4) z.keeps) (within : IsWithin z) where
-    can_step : CanStep (sizes 1 4) z
-    can_step = record { sized = sized; served = served; within = within }
-
-    can_step-not_unsized : CanStep (sizes 1 0) z → ⊥
-    can_step-not_unsized can = omega (arith, can.sized.zones)
-
-  can_step-not_of_a_larger_script : (script : Script) (z : Zone) (d : Desk) → z.keeps ≡ at.Desk d → d.requests ≡ script → 17 ≤ length script → CanStep (sizes 1 4) z → ⊥
-  can_step-not_of_a_larger_script script z d keeps is many can =
-      let limited = subst (λ (kept : ZoneData). IsServedBy (sizes 1 4) kept) keeps can.served in
-      omega (arith, limited.streams, many, ap (λ (s : Script). length s) is)
-
-  can_step-not_past_its_room : (z : Zone) → 264 ≤ length z.ports.inbox → CanStep (sizes 1 4) z → ⊥
-  can_step-not_past_its_room z many can = omega (arith, can.within.inbox, many)
-
-  -- BeginsCrowded: a stream of the desk may begin a request, and there is no room for it
-  module _ (d : Desk) where
-    crowded : MayBegin (sizes 1 4) (at.Desk d) → (HasRoomToBegin d → ⊥) → BeginsCrowded (sizes 1 4) (at.Desk d)
-    crowded may none = (may, none)
-
-    crowded-not_with_room : HasRoomToBegin d → BeginsCrowded (sizes 1 4) (at.Desk d) → ⊥
-    crowded-not_with_room room crowd = crowd.1 room
-
-    crowded-not_of_a_device : (stopped : Bool) (calls : ℕ) → BeginsCrowded (sizes 1 4) (at.Device (record { stopped = stopped; calls = calls })) → ⊥
-    crowded-not_of_a_device stopped calls crowd = crowd
-
-  -- CanBegin: with a window of the image, a block of the journal that stays free, and a script that is served and within the
-  -- limits
   module _ (window : List Entry) (at : Lba) where
     begins-not_without_a_zone : (script : Script) → CanBegin (sizes 1 0) script window → ⊥
     begins-not_without_a_zone script can = omega (arith, can.zones)

@@ -1,17 +1,15 @@
 pub mod DoneLaws
 pub mod FreeLaws
-mod NoStrays
 pub mod PlayLaws
 mod StartLaws
-mod StrayLaws
 mod ZoneLaws
-mod CauseRows
+mod ConditionRows
 mod CoreRows
 mod FairRows
 pub mod PlayRows
 mod ToolRows
 mod LaneLaws
-mod NoFaults
+pub mod StepLaws
 pub mod JournalLaws
 pub mod SessionLaws
 mod MoveLaws

@@ -1,10 +1,7 @@
 -- Events one after another.
-use Rattle.std.proofs.Math.Seq.{drop-cons}
 use Rattle.std.proofs.Common.{arith, subst, ◌<◌, ◌≤◌, ◌+◌, length, drop, get_or, ◌≡◌, ℕ, zero, suc, Bool, true, false, List, [], ◌∷◌, ◌++◌, Some, slice_get, slice_set, refl, sym, ap, ◌∙◌, append_assoc, inl, inr}
-use Rattle.std.proofs.lemmas.List.{append-nil, drop_all}
+use Rattle.std.proofs.lemmas.List.{append-nil}
 use Rattle.std.proofs.lemmas.Option.{same_Some}
-use Rattle.std.specs.List.{AllByRecursion}
-use Rattle.std.proofs.lemmas.List.Elements.{All-from_recursion}
 use Rattle.disk_model.specs.Seen.{Seen}
 use Rattle.disk_model.specs.declared.call.Call.{Call}
 use Rattle.disk_model.specs.declared.call.Call.TheVariants.{Read}
@@ -23,8 +20,8 @@ use Rattle.vdo_core.specs.Moves.{MovesNothing}
 use Rattle.vdo_core.specs.Plays.{ComesTo, core_with, ZoneSteps, StepsAt, MovesAll, HasNoWork, PlaysOne, Plays, LeadsTo}
 use Rattle.vdo_core.specs.declared.events.Event.{Event}
 use Rattle.vdo_core.specs.declared.events.Event.TheVariants as event
-use Rattle.step_parts.specs.declared.fault.Stepped.{Stepped}
-use Rattle.step_parts.specs.declared.fault.Stepped.TheVariants.{Did, Idle}
+use Rattle.vdo_core.specs.declared.stepped.Stepped.{Stepped}
+use Rattle.vdo_core.specs.declared.stepped.Stepped.TheVariants.{Did, Idle}
 
 -- a zone that is put where it stood
 pub put_same : {X : Type 0} (xs : List X) (n : ℕ) (x : X) → slice_get xs n ≡ Some x → slice_set xs n x ≡ xs
@@ -72,10 +69,6 @@ called_on tells honest a b c made more early late = record {
   idle = λ none. (let each = none_called more made none in late.idle each.0 ∙ early.idle each.1);
 }
 
--- nothing happens
-pub nothing : (tells honest : Bool) (sizes : Sizes) (zones : List Zone) (log : Seen) → LeadsTo tells honest sizes zones zones log log
-nothing tells honest sizes zones log = ([], (λ (t : Trace). rests), unchanged tells honest log)
-
 -- this happens on the way from one core to another, whatever happened before
 abbrev pub LeadsBy : Bool → Bool → Sizes → List Zone → List Zone → Seen → Seen → Trace → Type 0
 LeadsBy tells honest sizes old new before after made = ((t : Trace) → Leads sizes (core_with old t) (core_with new (made ++ t))) × HasCalled tells honest before after made
@@ -87,12 +80,6 @@ led_on tells honest sizes a b c log log' log'' made more (early, called) (late, 
   (λ (t : Trace). rw append_assoc (leads_on sizes (core_with a t) (core_with b (made ++ t)) (core_with c (more ++ (made ++ t))) (early t) (late (made ++ t)))),
   called_on tells honest log log' log'' made more called called',
 )
-
-pub leads_further : (tells honest : Bool) (sizes : Sizes) (a b c : List Zone) (log log' log'' : Seen)
-    → LeadsTo tells honest sizes a b log log' → LeadsTo tells honest sizes b c log' log'' → LeadsTo tells honest sizes a c log log''
-leads_further tells honest sizes a b c log log' log'' (made, early, called) (more, late, called') =
-    let (leads, told) = led_on tells honest sizes a b c log log' log'' made more (early, called) (late, called') in
-    (more ++ made, leads, told)
 
 -- where nothing happens, that leads nowhere else
 none_leads : (tells honest : Bool) (sizes : Sizes) (a b : List Zone) (log log' : Seen) (made : Trace) → b ≡ a → log' ≡ log → made ≡ [] → LeadsBy tells honest sizes a b log log' made
@@ -140,10 +127,6 @@ was_done done none same stepped did comes = subst (λ (s : Stepped). ComesTo don
 
 pub was_idle : (done none same : Type 0) (stepped : Stepped) → stepped ≡ Idle → ComesTo done none same stepped → none × same
 was_idle done none same stepped idle comes = subst (λ (s : Stepped). ComesTo done none same s) idle comes
-
-pub comes_to : (done none same : Type 0) (stepped : Stepped) → (stepped ≡ Did → done × (none → ⊥)) → (stepped ≡ Idle → none × same) → ComesTo done none same stepped
-comes_to done none same Did did idle = did refl
-comes_to done none same Idle did idle = idle refl
 
 -- of which less is said
 pub comes_less : (done done' none same same' : Type 0) (stepped : Stepped) → (done → done') → (same → same') → ComesTo done none same stepped → ComesTo done' none same' stepped
@@ -197,43 +180,6 @@ played_leads tells honest sizes (event.Move from to) a b log log' made (inr (idl
 pub one_leads : (tells honest : Bool) (sizes : Sizes) (e : Event) (a b : List Zone) (log log' : Seen) → ((made : Trace) × PlaysOne tells honest sizes e a b log log' made)
     → LeadsTo tells honest sizes a b log log'
 one_leads tells honest sizes e a b log log' (made, one) = let (leads, called) = played_leads tells honest sizes e a b log log' made one in (made, leads, called)
-
--- an event before those that are left
-pub next_plays : (tells honest : Bool) (sizes : Sizes) (events : List Event) (n : ℕ) (d : Event) (a b last : List Zone) (log log' log'' : Seen)
-    → n < length events → ((first : Trace) × PlaysOne tells honest sizes (get_or events n d) a b log log' first)
-    → ((later : Trace) × Plays tells honest sizes (drop (n + 1) events) b last log' log'' later)
-    → (made : Trace) × Plays tells honest sizes (drop n events) a last log log'' made
-next_plays tells honest sizes events n d a b last log log' log'' within (first, one) (later, rest) =
-    let next : n + 1 ≡ suc n = omega (arith) in
-    let left = subst (λ (m : ℕ). Plays tells honest sizes (drop m events) b last log' log'' later) next rest in (
-      later ++ first,
-      subst (λ (es : List Event). Plays tells honest sizes es a last log log'' (later ++ first)) (sym (drop-cons events n d within)) (b, log', first, later, one, left, refl),
-    )
-
--- no event is left
-pub none_left : (tells honest : Bool) (sizes : Sizes) (events : List Event) (n : ℕ) (a : List Zone) (log : Seen)
-    → length events ≤ n → (made : Trace) × Plays tells honest sizes (drop n events) a a log log made
-none_left tells honest sizes events n a log past =
-    ([], subst (λ (es : List Event). Plays tells honest sizes es a a log log []) (sym (drop_all n events past)) (refl, refl, refl))
-
--- where no zone changed, there is still none
-pub none_still : (sizes : Sizes) (a b : List Zone) (e : Event) → a ≡ b → HasNoWork sizes a e → HasNoWork sizes b e
-none_still sizes a b e same none = subst (λ (zones : List Zone). HasNoWork sizes zones e) same none
-
--- there is no work for an event of these, and for one before them
-pub next_none : (P : Event → Type 0) (events : List Event) (n : ℕ) (d : Event) → n < length events
-    → P (get_or events n d) → AllByRecursion P (drop (n + 1) events) → AllByRecursion P (drop n events)
-next_none P events n d within one rest =
-    let next : n + 1 ≡ suc n = omega (arith) in
-    subst (AllByRecursion P) (sym (drop-cons events n d within)) (one, subst (λ (m : ℕ). AllByRecursion P (drop m events)) next rest)
-
--- there is none for those that are left where none is left
-pub none_for_none : (P : Event → Type 0) (events : List Event) (n : ℕ) → length events ≤ n → AllByRecursion P (drop n events)
-none_for_none P events n past = subst (AllByRecursion P) (sym (drop_all n events past)) tt
-
--- there is none for one of these, where there is none for any
-pub none_for_one : (P : Event → Type 0) (events : List Event) (n : ℕ) (d : Event) → n < length events → AllByRecursion P events → P (get_or events n d)
-none_for_one P events n d within none = All-from_recursion P events none n d within
 
 -- what happens by a list of events leads on
 pub plays_lead : (tells honest : Bool) (sizes : Sizes) (events : List Event) (a b : List Zone) (log log' : Seen) (made : Trace) → Plays tells honest sizes events a b log log' made

@@ -29,7 +29,7 @@ use Rattle.step_parts.specs.DeviceLog.{HasCalled}
 use Rattle.step_parts.proofs.SilentLaws.{none_called}
 use Rattle.vdo_core.specs.Done.{IsDone}
 use Rattle.vdo_core.specs.Plays.{ComesTo, HasNoWork, Plays, PlaysOne, StepsAt}
-use Rattle.step_parts.specs.declared.fault.Stepped.TheVariants.{Did, Idle}
+use Rattle.vdo_core.specs.declared.stepped.Stepped.TheVariants.{Did, Idle}
 use Rattle.vdo_core.specs.declared.events.Event.{Event}
 use Rattle.vdo_core.specs.declared.events.Event.TheVariants as event
 

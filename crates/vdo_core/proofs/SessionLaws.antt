@@ -20,15 +20,13 @@ use Rattle.core_laws.proofs.kept.FirstState.{legal_first}
 use Rattle.core_laws.proofs.kept.LegalMoves.{legal_leads}
 use Rattle.core_laws.proofs.kept.ZoneKinds.{desk_sits}
 use Rattle.step_parts.specs.DeviceLog.{GivesSettled}
-use Rattle.step_parts.specs.declared.fault.StepFault.{StepFault}
-use Rattle.vdo_core.specs.Causes.{MayFaultBy}
+use Rattle.vdo_core.specs.Conditions.{AllCanStep, CanStep}
 use Rattle.vdo_core.specs.Cores.{CanBegin, IsReached}
 use Rattle.vdo_core.specs.FreeBlocks.{free_of}
 use Rattle.vdo_core.specs.Plays.{LeadsTo, core_with}
 use Rattle.vdo_core.specs.Starts.{IsOf}
-use Rattle.vdo_core.specs.declared.events.Event.{Event}
 use Rattle.vdo_core.proofs.FreeLaws.{free_distinct, free_fresh}
-use Rattle.vdo_core.proofs.NoFaults.{none_fails_by}
+use Rattle.vdo_core.proofs.StepLaws.{can_step}
 use Rattle.vdo_core.proofs.PlayLaws.{leads_on}
 
 -- any session of these sizes, script, window and free blocks can be served, whatever else it says of a device
@@ -77,7 +75,7 @@ honest_reads s [] given = tt
 honest_reads s (Calls (Read at bytes true) ∷ t) given = (given.0, given.1, honest_reads s t given.2)
 honest_reads s (other ∷ t) given = honest_reads s t given
 
--- what is reached is legal, and leads to what is reached, and nothing fails there
+-- what is reached is legal, and leads to what is reached, and each zone can step there
 module _ (sizes : Sizes) (zones : List Zone) (reached : IsReached sizes zones) where
   pub legal_here : Legal reached.session (core_with zones reached.trace)
   legal_here =
@@ -99,8 +97,8 @@ module _ (sizes : Sizes) (zones : List Zone) (reached : IsReached sizes zones) w
     leads = leads_on reached.session.sizes (core_with reached.first []) (core_with zones reached.trace) (core_with later (made ++ reached.trace)) reached.leads (rw reached.sizes_are (leads reached.trace));
   }
 
-  pub none_fails_here : (e : Event) (f : StepFault) → MayFaultBy sizes zones e f → ⊥
-  none_fails_here e f why = none_fails_by reached.session zones reached.trace e f reached.is_session legal_here (rw reached.sizes_are why)
+  pub all_can_step : AllCanStep sizes zones
+  all_can_step n z had = subst (λ (sizes : Sizes). CanStep sizes z) reached.sizes_are (can_step reached.session (core_with zones reached.trace) n z reached.is_session legal_here had)
 
 -- a core has one script: that of its desk
 pub one_script : (s s' : Session) (zones : List Zone) (t t' : Trace) → Legal s (core_with zones t) → Legal s' (core_with zones t') → s.script ≡ s'.script

@@ -12,7 +12,9 @@ use Rattle.disk_model.specs.Seen.{Seen}
 use Rattle.core_model.specs.Trace.{Trace}
 use Rattle.core_model.specs.Vios.{Post}
 use Rattle.step_parts.specs.Acts.{Acts, ActsAlone}
-use Rattle.vdo_core.specs.Plays.{ZoneSteps}
+use Rattle.vdo_core.specs.Plays.{ComesTo, ZoneSteps}
+use Rattle.vdo_core.specs.declared.stepped.Stepped.{Stepped}
+use Rattle.vdo_core.specs.declared.stepped.Stepped.TheVariants.{Did}
 
 -- a step from its parts: what an act leaves in the zone, with its posts delivered
 pub step_of : (sizes : Sizes) (old new : Zone) (keeps : ZoneData) (front rest : List Item) (made : Trace) (posts : List Post)
@@ -39,21 +41,21 @@ served sizes old new keeps ports rest posts left is = is ∙ ap (λ (p : Ports).
 
 -- a zone steps with the item in front of its inbox
 pub stepped : (tells honest : Bool) (sizes : Sizes) (old new : Zone) (keeps : ZoneData) (front : Item) (ports : Ports) (posts : List Post) (before after : Seen)
-    → old.steps < step_limit → old.ports ≡ record ports { inbox = front ∷ ports.inbox } → Acts tells honest sizes old.keeps (front ∷ []) keeps posts before after
-    → new ≡ delivered sizes posts (record old { keeps = keeps; ports = ports; steps = old.steps + 1 }) → ZoneSteps tells honest sizes old new before after
-stepped tells honest sizes old new keeps front ports posts before after counts taken (made, act, log) is =
+    → old.steps < step_limit → old.ports ≡ record ports { inbox = front ∷ ports.inbox }
+    → new ≡ delivered sizes posts (record old { keeps = keeps; ports = ports; steps = old.steps + 1 }) → Acts tells honest sizes old.keeps (front ∷ []) keeps posts before after
+    → ZoneSteps tells honest sizes old new before after
+stepped tells honest sizes old new keeps front ports posts before after counts taken is (made, act, log) =
     let in_turn : front ∷ [] ≡ [] → ports.inbox ≡ [] = λ e. cc in
     let left : ports ≡ record old.ports { inbox = ports.inbox } = ap (λ (p : Ports). record p { inbox = ports.inbox }) (sym taken) in
     (made, step_of sizes old new keeps (front ∷ []) ports.inbox made posts counts (ap (λ (p : Ports). p.inbox) taken) in_turn act (served sizes old new keeps ports ports.inbox posts left is), log)
 
 -- a zone that doesn't call the device steps at each
 pub stepped_alone : (sizes : Sizes) (old new : Zone) (keeps : ZoneData) (front : Item) (ports : Ports) (posts : List Post)
-    → old.steps < step_limit → old.ports ≡ record ports { inbox = front ∷ ports.inbox } → ActsAlone sizes old.keeps (front ∷ []) keeps posts
-    → new ≡ delivered sizes posts (record old { keeps = keeps; ports = ports; steps = old.steps + 1 }) → (tells honest : Bool) (seen : Seen) → ZoneSteps tells honest sizes old new seen seen
-stepped_alone sizes old new keeps front ports posts counts taken (made, act, silent) is tells honest seen =
-    let in_turn : front ∷ [] ≡ [] → ports.inbox ≡ [] = λ e. cc in
-    let left : ports ≡ record old.ports { inbox = ports.inbox } = ap (λ (p : Ports). record p { inbox = ports.inbox }) (sym taken) in
-    (made, step_of sizes old new keeps (front ∷ []) ports.inbox made posts counts (ap (λ (p : Ports). p.inbox) taken) in_turn act (served sizes old new keeps ports ports.inbox posts left is), silent tells honest seen)
+    → old.steps < step_limit → old.ports ≡ record ports { inbox = front ∷ ports.inbox }
+    → new ≡ delivered sizes posts (record old { keeps = keeps; ports = ports; steps = old.steps + 1 }) → ActsAlone sizes old.keeps (front ∷ []) keeps posts
+    → (tells honest : Bool) (seen : Seen) → ZoneSteps tells honest sizes old new seen seen
+stepped_alone sizes old new keeps front ports posts counts taken is (made, act, silent) tells honest seen =
+    stepped tells honest sizes old new keeps front ports posts seen seen counts taken is (made, act, silent tells honest seen)
 
 -- a zone steps with no item
 pub begun : (sizes : Sizes) (old new : Zone) (keeps : ZoneData) (ports : Ports) (posts : List Post)
@@ -63,11 +65,6 @@ begun sizes old new keeps ports posts counts none same (made, act, silent) is te
     let left : ports ≡ record old.ports { inbox = [] } = same ∙ ap (λ (items : List Item). record old.ports { inbox = items }) none in
     (made, step_of sizes old new keeps [] [] made posts counts none (λ e. refl) act (served sizes old new keeps ports [] posts left is), silent tells honest seen)
 
--- the device's zone begins no request
-pub begins_none : (sizes : Sizes) (keeps : ZoneData) → CallsDevice keeps → MayBegin sizes keeps → ⊥
-begins_none sizes (at.Device d) calls may = may
-begins_none sizes other calls may = absurd calls
-
 -- a zone that counts on has work where it has an item, or may begin a request
 pub has_item : (sizes : Sizes) (z : Zone) (front : Item) (rest : List Item) → z.steps < step_limit → z.ports.inbox ≡ front ∷ rest → IsIdle sizes z → ⊥
 has_item sizes z front rest counts taken (inl nothing) = let none = nothing.inbox in cc
@@ -76,3 +73,12 @@ has_item sizes z front rest counts taken (inr most) = omega (arith, counts, most
 pub has_request : (sizes : Sizes) (z : Zone) → z.steps < step_limit → MayBegin sizes z.keeps → IsIdle sizes z → ⊥
 has_request sizes z counts may (inl nothing) = nothing.none_begins may
 has_request sizes z counts may (inr most) = omega (arith, counts, most)
+
+-- the device's zone begins no request
+pub begins_none : (sizes : Sizes) (keeps : ZoneData) → CallsDevice keeps → MayBegin sizes keeps → ⊥
+begins_none sizes (at.Device d) calls may = may
+begins_none sizes other calls may = absurd calls
+
+-- it was done, for which there was work
+pub has_done : (done none same : Type 0) (stepped : Stepped) → stepped ≡ Did → done → (none → ⊥) → ComesTo done none same stepped
+has_done done none same stepped is d some = rw is (d, some)

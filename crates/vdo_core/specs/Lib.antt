@@ -1,5 +1,5 @@
 pub mod Lanes
-pub mod Causes
+pub mod Conditions
 pub mod Cores
 pub mod Done
 pub mod FreeBlocks

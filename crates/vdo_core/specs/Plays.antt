@@ -7,8 +7,8 @@ use Rattle.core_model.specs.declared.zones.Zone.{Zone}
 use Rattle.core_model.specs.Steps.{Core, IsIdle, ZoneStep, Leads, step_limit, with_inbox, with_outboxes}
 use Rattle.core_model.specs.Trace.{Trace}
 use Rattle.step_parts.specs.DeviceLog.{HasCalled}
-use Rattle.step_parts.specs.declared.fault.Stepped.{Stepped}
-use Rattle.step_parts.specs.declared.fault.Stepped.TheVariants.{Did, Idle}
+use Rattle.vdo_core.specs.declared.stepped.Stepped.{Stepped}
+use Rattle.vdo_core.specs.declared.stepped.Stepped.TheVariants.{Did, Idle}
 use Rattle.vdo_core.specs.Moves.{MovesNothing}
 use Rattle.vdo_core.specs.declared.events.Event.{Event}
 use Rattle.vdo_core.specs.declared.events.Event.TheVariants as event

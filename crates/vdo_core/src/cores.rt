@@ -5,7 +5,7 @@ ghost use Rattle.core_model.specs.Reports.{report_of};
 ghost use Rattle.core_model.specs.Sessions.{IsSession, Session};
 ghost use Rattle.core_model.specs.Start.{IsFirst};
 ghost use Rattle.core_model.specs.Trace.{Trace};
-ghost use Rattle.step_parts.specs.declared.fault.Stepped.TheVariants.{Did, Idle};
+ghost use Rattle.vdo_core.specs.declared.stepped.Stepped.TheVariants.{Did, Idle};
 ghost use Rattle.steps_device.specs.DeviceCalls.{Fits};
 ghost use Rattle.vdo_core.specs.Cores.{CanBegin, IsWhole, sizes_of};
 ghost use Rattle.vdo_core.specs.Done.{IsDone};
@@ -16,6 +16,7 @@ ghost use Rattle.vdo_core.specs.Starts.{IsOf};
 use crate::events::{Event, play_one};
 use crate::free_blocks::free_blocks;
 use crate::starting::begin;
+use crate::stepped::Stepped;
 use crate::work::{is_done, ready};
 use crate::zones::Zones;
 use blk_base::{Entry, Layout, Super};
@@ -24,7 +25,6 @@ use core_reports::{ReportRoom, report};
 use disk_model::Disk;
 use std::alloc::{AllocError, Global};
 use std::marker::Model;
-use step_parts::Stepped;
 use vdo_model::{Requests, RunReport};
 
 /// How a core is set up.
@@ -36,8 +36,7 @@ pub struct Setup {
     pub depth: u32,
 }
 
-/// A core in a session: some events lead to it from a start. So nothing in it is stray, no zone is past its room, and none
-/// of its steps can fail.
+/// A core in a session: some events lead to it from a start. So each of its zones can step.
 #[derive(Drop)]
 pub struct Core {
     sizes: Sizes,
@@ -109,10 +108,7 @@ impl Core {
         ensures idle { result ≡ Idle → HasNoWork self.old.sizes self.old.zones event }
         ensures same { result ≡ Idle → self.new ≡ self.old }
     {
-        let Ok(stepped) = play_one(&self.sizes, &mut self.zones, event, device) else {
-            unreachable!();
-        };
-        stepped
+        play_one(&self.sizes, &mut self.zones, event, device)
     }
 
     /// Whether there is work for an event: exactly where `step` isn't idle.
@@ -120,10 +116,7 @@ impl Core {
         ensures yes { IsTrue result → HasNoWork self.now.sizes self.now.zones event → ⊥ }
         ensures no { (result ≡ false) → HasNoWork self.now.sizes self.now.zones event }
     {
-        let Ok(some) = ready(&self.sizes, &self.zones, event) else {
-            unreachable!();
-        };
-        some
+        ready(&self.sizes, &self.zones, event)
     }
 
     /// Whether each request is answered.

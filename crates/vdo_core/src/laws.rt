@@ -1,24 +1,28 @@
-ghost use Rattle.std.specs.Prelude.{◌≡◌, ◌↔◌, ◌≤◌, ℕ, Bool, Some, List, slice_get};
-ghost use Rattle.disk_model.specs.Seen.{Seen};
+ghost use Rattle.std.specs.Prelude.{◌≡◌, ◌↔◌, ◌≤◌, ℕ, Some, List, slice_get};
+ghost use Rattle.core_model.specs.declared.items.Item.{Item};
 ghost use Rattle.core_model.specs.declared.zones.Zone.{Zone};
 ghost use Rattle.core_model.specs.Legal.{Legal};
 ghost use Rattle.core_model.specs.Sessions.{Session, IsSession};
 ghost use Rattle.core_model.specs.Steps.{Core};
 ghost use Rattle.core_model.specs.Trace.{Trace, lines};
-ghost use Rattle.step_parts.specs.declared.fault.StepFault.{StepFault};
-ghost use Rattle.vdo_core.specs.Causes.{MayFault, MayFaultAfter};
+ghost use Rattle.core_model.specs.Views.{core_of};
+ghost use Rattle.vdo_core.specs.Conditions.{CanStep};
 ghost use Rattle.vdo_core.specs.Done.{IsDone};
-ghost use Rattle.vdo_core.specs.Plays.{HasNoWork, HaveStepsLeft, core_with};
+ghost use Rattle.vdo_core.specs.Plays.{HasNoWork, HaveStepsLeft};
 ghost use Rattle.vdo_core.specs.declared.events.Event.{Event};
 ghost use Rattle.vdo_model.specs.DeskLog.{AllAnswered};
 
-/// In a legal core no zone's step fails, and no event of a list that is played from it on: no zone is past its room, nothing
-/// that it counts is past its type, and nothing is stray.
-pub fn a_legal_core_never_fails()
-    ensures step { (s : Session) (core : Core) (n : ℕ) (z : Zone) (fault : StepFault) → IsSession s → Legal s core → slice_get core.zones n ≡ Some z
-        → MayFault s.sizes z fault → ⊥ }
-    ensures plays { (tells honest : Bool) (s : Session) (events : List Event) (zones : List Zone) (t : Trace) (before : Seen) (fault : StepFault) → IsSession s → Legal s (core_with zones t)
-        → MayFaultAfter tells honest s.sizes events zones before fault → ⊥ }
+/// Each zone of a legal core can step: it keeps within its room, a rule applies to what is in front of its inbox, and what a
+/// rule posts has a lane.
+pub fn a_legal_core_can_step()
+    ensures { (s : Session) (core : Core) (n : ℕ) (z : Zone) → IsSession s → Legal s core → slice_get core.zones n ≡ Some z → CanStep s.sizes z }
+{}
+
+/// What a step needs is said of the zone alone: a view of threads can step where the core is legal that the views and the
+/// lanes stand for.
+pub fn a_view_can_step_as_its_zone()
+    ensures { (s : Session) (views : List Zone) (lanes : List (List (List Item))) (t : Trace) (n : ℕ) (z : Zone) → IsSession s → Legal s (core_of views lanes t)
+        → slice_get views n ≡ Some z → CanStep s.sizes z }
 {}
 
 /// A legal core is done exactly where each request of the script is answered.

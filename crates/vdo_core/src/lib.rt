@@ -1,4 +1,4 @@
-//! The core: its zones, each event of it, and whole lists of events. A zone steps, or what it posted moves to another.
+//! The core: its zones, and each event of it. A zone steps, or what it posted moves to another.
 //! Each function does what the relation of `core_model` says; what a zone does itself stands in the crates `steps_..`.
 //!
 //! Only tested: answers of one stream, with discards and zeros, for which no data block is written, with a full journal
@@ -9,7 +9,6 @@
 
 mod acting;
 mod cores;
-mod counting;
 mod events;
 mod free_blocks;
 mod lanes;
@@ -17,21 +16,19 @@ mod laws;
 mod moving;
 mod numbers;
 mod starting;
+mod stepped;
 mod stepping;
 mod tools;
 mod work;
 mod zones;
 
 pub use cores::{Core, CoreZones, Setup};
-pub use events::{Event, play, step};
+pub use events::Event;
 pub use laws::{
-    a_legal_core_is_done_when_all_are_answered, a_legal_core_never_fails,
-    a_legal_core_without_work_is_done,
+    a_legal_core_can_step, a_legal_core_is_done_when_all_are_answered,
+    a_legal_core_without_work_is_done, a_view_can_step_as_its_zone,
 };
-pub use moving::move_items;
-pub use starting::begin;
-pub use step_parts::{StepFault, Stepped};
+pub use stepped::Stepped;
 pub use stepping::step_zone;
 pub use tools::Tools;
-pub use work::{is_done, ready};
 pub use zones::Zones;

@@ -1,15 +1,14 @@
-ghost use Rattle.std.specs.Prelude.{◌≡◌, ◌≢◌, ◌<◌, [], Some, IfOk, IfErr, IsTrue, List, false, length, slice_get};
+ghost use Rattle.std.specs.Prelude.{◌≡◌, ◌≢◌, ◌<◌, [], Some, IsTrue, List, false, length, slice_get};
 ghost use Rattle.core_model.specs.declared.items.Item.{Item};
 ghost use Rattle.core_model.specs.declared.zones.Zone.{Zone};
-ghost use Rattle.core_model.specs.Limits.{IsShort};
-ghost use Rattle.vdo_core.specs.Causes.{MoveMayFault};
+ghost use Rattle.core_model.specs.Limits.{IsShort, IsWithin};
+ghost use Rattle.plain_laws.specs.Sums.{Each};
 ghost use Rattle.vdo_core.specs.Moves.{MovesNothing, MovesSome, has_items};
 ghost use Rattle.vdo_core.specs.Plays.{ComesTo, MovesAll};
 
-use crate::counting::is_within;
+use crate::stepped::Stepped;
 use crate::zones::Zones;
 use core_model::{Lane, Zone};
-use step_parts::{StepFault, Stepped};
 
 // Whether an outbox has items.
 fn has_posted(zone: &Zone, to: u32) -> bool
@@ -48,23 +47,15 @@ pub(crate) fn can_move(zones: &Zones, from: u32, to: u32) -> bool
     has_posted(&zones.zones[source], to)
 }
 
-/// What one zone posted to another moves from the outbox to the tail of the inbox, all of it. It asks for no memory. It
-/// fails with `Exhausted` where one of the two is past its room.
-pub fn move_items(zones: &mut Zones, from: u32, to: u32) -> Result<Stepped, StepFault>
-    ensures moves { IfOk result (ComesTo (MovesAll from to zones.old zones.new) (MovesNothing zones.old from to) (zones.new ≡ zones.old)) }
-    ensures err { IfErr result (MoveMayFault zones.old from to) }
+/// What one zone posted to another moves from the outbox to the tail of the inbox, all of it. It asks for no memory.
+pub(crate) fn move_items(zones: &mut Zones, from: u32, to: u32) -> Stepped
+    requires { Each (λ n z. IsWithin z) zones.old }
+    ensures { ComesTo (MovesAll from to zones.old zones.new) (MovesNothing zones.old from to) (zones.new ≡ zones.old) result }
 {
     if !can_move(zones, from, to) {
-        return Ok(Stepped::Idle);
-    }
-    let (source, target) = (from as usize, to as usize);
-    if !is_within(&zones.zones[source]) {
-        return Err(StepFault::Exhausted);
-    }
-    if !is_within(&zones.zones[target]) {
-        return Err(StepFault::Exhausted);
+        return Stepped::Idle;
     }
     zones.batch.clear();
     carry(&mut zones.zones, &mut zones.batch, from, to);
-    Ok(Stepped::Did)
+    Stepped::Did
 }

@@ -1,101 +1,86 @@
-ghost use Rattle.std.specs.Prelude.{ℕ, Bool, ◌≡◌, ◌↔◌, [], IfOk, IfErr, IsTrue, false};
+ghost use Rattle.std.specs.Prelude.{Bool, ◌≡◌, ◌+◌, ◌<◌, ◌≤◌, ◌↔◌, [], IsTrue, true, false};
+ghost use Rattle.std.specs.List.{AllByRecursion};
 ghost use Rattle.disk_model.specs.Seen.{Seen, Stays};
-ghost use Rattle.core_model.specs.Limits.{IsDataWithin};
-ghost use Rattle.core_model.specs.Steps.{CallsDevice, IsIdle, MayBegin};
-ghost use Rattle.step_parts.specs.Acts.{ActsAlone};
+ghost use Rattle.core_model.specs.Steps.{CallsDevice, IsIdle, delivered, step_limit};
 ghost use Rattle.steps_device.specs.DeviceCalls.{Fits};
-ghost use Rattle.vdo_core.specs.Causes.{BeginsNone, IsServedBy, IsSized, MayFault};
+ghost use Rattle.vdo_core.specs.Conditions.{CanStep, HasLane};
+ghost use Rattle.vdo_core.specs.Lanes.{HasRoomFor, most_posts};
 ghost use Rattle.vdo_core.specs.Plays.{ComesTo, ZoneSteps};
+ghost use Rattle.vdo_core.specs.declared.stepped.Stepped.TheVariants.{Did};
 ghost use Rattle.vdo_core.specs.StepTools.{AreToolsOf, OnDevice, Uses};
 
-use crate::acting::{act, act_at_device};
-use crate::counting::{can_step, has_steps_left};
+use crate::acting::{act_alone, act_at_device, begin};
 use crate::lanes::deliver;
+use crate::stepped::Stepped;
 use crate::tools::Tools;
 use core_model::{Sizes, Zone, ZoneData};
 use disk_model::Disk;
-use step_parts::{Posts, StepFault, Stepped};
-use steps_desk::begin_next;
+use step_parts::Posts;
 
-// With no item the desk begins a request, where one may begin; it says whether one may.
-fn begin(sizes: &Sizes, keeps: &mut ZoneData, posts: &mut Posts) -> Result<bool, StepFault>
-    requires sized { IsSized sizes.now }
-    requires served { IsServedBy sizes.now keeps.old }
-    requires within { (steps : ℕ) × IsDataWithin steps keeps.old }
-    requires none { posts.old ≡ [] }
-    ensures begun { IfOk result (λ some. IsTrue some → ActsAlone sizes.now keeps.old [] keeps.new posts.new) }
-    ensures might { IfOk result (λ some. IsTrue some → MayBegin sizes.now keeps.old) }
-    ensures same { IfOk result (λ some. (some ≡ false) → (keeps.new ≡ keeps.old) × (posts.new ≡ [])) }
-    ensures none { IfOk result (λ some. (some ≡ false) → MayBegin sizes.now keeps.old → ⊥) }
-    ensures err { IfErr result (BeginsNone sizes.now keeps.old) }
+/// Whether a zone may step once more: it made fewer than 2^64 - 1 steps.
+pub(crate) fn has_steps_left(zone: &Zone) -> bool
+    ensures yes { result ≡ true → zone.now.steps < step_limit }
+    ensures no { result ≡ false → step_limit ≤ zone.now.steps }
 {
-    match keeps {
-        ZoneData::Desk(desk) => begin_next(sizes, desk, posts),
-        _ => Ok(false),
-    }
+    zone.steps < u64::MAX
+}
+
+// The zone made a step more, and what it posts goes to its lanes.
+fn end(sizes: &Sizes, zone: &mut Zone, posts: &mut Posts) -> Stepped
+    requires counts { zone.old.steps < step_limit }
+    requires room { HasRoomFor most_posts zone.old }
+    requires lanes { AllByRecursion (HasLane sizes.now zone.old) posts.old }
+    ensures zone { zone.new ≡ delivered sizes.now posts.old (record zone.old { steps = zone.old.steps + 1 }) }
+    ensures did { result ≡ Did }
+{
+    zone.steps += 1;
+    deliver(sizes, zone, posts);
+    Stepped::Did
 }
 
 // One step of a zone that isn't the device's.
-fn step_alone(sizes: &Sizes, zone: &mut Zone, posts: &mut Posts) -> Result<Stepped, StepFault>
+fn step_alone(sizes: &Sizes, zone: &mut Zone, posts: &mut Posts) -> Stepped
+    requires can { CanStep sizes.now zone.old }
     requires other { CallsDevice zone.old.keeps → ⊥ }
     requires none { posts.old ≡ [] }
-    ensures steps { IfOk result (ComesTo ((tells honest : Bool) (seen : Seen) → ZoneSteps tells honest sizes.now zone.old zone.new seen seen) (IsIdle sizes.now zone.old) (zone.new ≡ zone.old)) }
-    ensures err { IfErr result (MayFault sizes.now zone.old) }
+    ensures { ComesTo ((tells honest : Bool) (seen : Seen) → ZoneSteps tells honest sizes.now zone.old zone.new seen seen) (IsIdle sizes.now zone.old) (zone.new ≡ zone.old) result }
 {
     if !has_steps_left(zone) {
-        return Ok(Stepped::Idle);
-    }
-    if !can_step(sizes, zone) {
-        return Err(StepFault::Exhausted);
+        return Stepped::Idle;
     }
     match zone.ports.take() {
         Some(item) => {
-            act(sizes, &mut zone.keeps, item, posts)?;
-            zone.steps += 1;
-            deliver(sizes, zone, posts)?;
-            Ok(Stepped::Did)
+            act_alone(sizes, &mut zone.keeps, item, posts);
+            end(sizes, zone, posts)
         }
         None => {
-            let begun = begin(sizes, &mut zone.keeps, posts)?;
-            if !begun {
-                return Ok(Stepped::Idle);
+            if !begin(sizes, &mut zone.keeps, posts) {
+                return Stepped::Idle;
             }
-            zone.steps += 1;
-            deliver(sizes, zone, posts)?;
-            Ok(Stepped::Did)
+            end(sizes, zone, posts)
         }
     }
 }
 
 // One step of the device's zone.
-fn step_device<D: Disk>(
-    sizes: &Sizes,
-    zone: &mut Zone,
-    posts: &mut Posts,
-    disk: &mut D,
-) -> Result<Stepped, StepFault>
+fn step_device<D: Disk>(sizes: &Sizes, zone: &mut Zone, posts: &mut Posts, disk: &mut D) -> Stepped
+    requires can { CanStep sizes.now zone.old }
     requires own { CallsDevice zone.old.keeps }
     requires fits { Fits sizes.now (D.seen disk.old) }
     requires none { posts.old ≡ [] }
     ensures stays { Stays (D.seen disk.old) (D.seen disk.new) }
-    ensures steps { IfOk result (ComesTo (ZoneSteps D.tells D.honest sizes.now zone.old zone.new (D.seen disk.old) (D.seen disk.new)) (IsIdle sizes.now zone.old)
-        ((zone.new ≡ zone.old) × (D.seen disk.new ≡ D.seen disk.old))) }
-    ensures err { IfErr result (MayFault sizes.now zone.old) }
+    ensures steps { ComesTo (ZoneSteps D.tells D.honest sizes.now zone.old zone.new (D.seen disk.old) (D.seen disk.new)) (IsIdle sizes.now zone.old)
+        ((zone.new ≡ zone.old) × (D.seen disk.new ≡ D.seen disk.old)) result }
 {
     if !has_steps_left(zone) {
-        return Ok(Stepped::Idle);
-    }
-    if !can_step(sizes, zone) {
-        return Err(StepFault::Exhausted);
+        return Stepped::Idle;
     }
     match zone.ports.take() {
         Some(item) => {
-            act_at_device(sizes, &mut zone.keeps, item, disk, posts)?;
-            zone.steps += 1;
-            deliver(sizes, zone, posts)?;
-            Ok(Stepped::Did)
+            act_at_device(sizes, &mut zone.keeps, item, disk, posts);
+            end(sizes, zone, posts)
         }
-        None => Ok(Stepped::Idle),
+        None => Stepped::Idle,
     }
 }
 
@@ -104,21 +89,20 @@ fn step_device<D: Disk>(
 /// 2^64 - 1 steps. Where the device tells, the calls that it made stand in its log; and its count of faults rose with each
 /// call that failed. What it posts goes by way of `posts`, which is empty before.
 ///
-/// It asks for no memory. It fails with `Exhausted` where the session is larger than it may be or the zone is past its room,
-/// and with `Stray` where no rule applies to the item, a request isn't served, or what a rule posts goes to no zone.
+/// It asks for no memory. Each zone of a legal core can step (`a_legal_core_can_step`).
 pub fn step_zone<D: Disk>(
     sizes: &Sizes,
     zone: &mut Zone,
     posts: &mut Posts,
     tools: Tools<'_, D>,
-) -> Result<Stepped, StepFault>
+) -> Stepped
+    requires can { CanStep sizes.now zone.old }
     requires tools { AreToolsOf zone.old.keeps tools }
     requires fits { OnDevice (λ disk. Fits sizes.now (D.seen disk)) tools }
     requires none { posts.old ≡ [] }
     ensures stays { Uses D.seen Stays tools.entry tools.exit }
-    ensures steps { IfOk result (ComesTo (Uses D.seen (ZoneSteps D.tells D.honest sizes.now zone.old zone.new) tools.entry tools.exit) (IsIdle sizes.now zone.old)
-        ((zone.new ≡ zone.old) × Uses D.seen (λ before after. after ≡ before) tools.entry tools.exit)) }
-    ensures err { IfErr result (MayFault sizes.now zone.old) }
+    ensures steps { ComesTo (Uses D.seen (ZoneSteps D.tells D.honest sizes.now zone.old zone.new) tools.entry tools.exit) (IsIdle sizes.now zone.old)
+        ((zone.new ≡ zone.old) × Uses D.seen (λ before after. after ≡ before) tools.entry tools.exit) result }
 {
     match tools {
         Tools::Device(disk) => step_device(sizes, zone, posts, disk),
@@ -142,13 +126,13 @@ pub(crate) fn step_with<'a, D: Disk>(
     zone: &mut Zone,
     posts: &mut Posts,
     disk: &'a mut D,
-) -> Result<Stepped, StepFault>
+) -> Stepped
+    requires can { CanStep sizes.now zone.old }
     requires fits { Fits sizes.now (D.seen disk.old) }
     requires none { posts.old ≡ [] }
     ensures stays { Stays (D.seen disk.old) (D.seen disk.new) }
-    ensures steps { IfOk result (ComesTo (ZoneSteps D.tells D.honest sizes.now zone.old zone.new (D.seen disk.old) (D.seen disk.new)) (IsIdle sizes.now zone.old)
-        ((zone.new ≡ zone.old) × (D.seen disk.new ≡ D.seen disk.old))) }
-    ensures err { IfErr result (MayFault sizes.now zone.old) }
+    ensures steps { ComesTo (ZoneSteps D.tells D.honest sizes.now zone.old zone.new (D.seen disk.old) (D.seen disk.new)) (IsIdle sizes.now zone.old)
+        ((zone.new ≡ zone.old) × (D.seen disk.new ≡ D.seen disk.old)) result }
 {
     if is_device(zone) {
         let tools: Tools<'_, D> = Tools::Device(disk);

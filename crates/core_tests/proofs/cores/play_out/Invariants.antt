@@ -2,4 +2,4 @@ use Rattle.steps_device.specs.DeviceCalls.{Fits}
 use Rattle.core_tests.proofs.cores.play_out.Given as goal
 
 abbrev pub invariant-loop-round : goal.invariant-loop-round
-invariant-loop-round g l = Fits l.sizes (g.D.Disk.seen l.disk)
+invariant-loop-round g l = Fits l.core.sizes (g.D.Disk.seen l.disk)

@@ -3,17 +3,15 @@ use Rattle.core_model.specs.declared.items.Stage.{Stage}
 use Rattle.core_model.specs.Vios.{staged}
 use Rattle.core_model.specs.DeviceRows.DeviceWorks.{makes, fails, unmade}
 use Rattle.core_model.specs.Trace.{Calls, Fails}
-use Rattle.steps_device.specs.DeviceCalls.{needs_call}
 use Rattle.steps_device.proofs.Calls.{some_call, block_post}
 use Rattle.step_parts.proofs.SilentLaws.{unchanged}
-use Rattle.steps_device.proofs.StrayLaws.{oldest_of}
+use Rattle.steps_device.proofs.Calls.{oldest_of}
 use Rattle.steps_device.proofs.working.work_block.Goals as goal
 
 pub returns-then-zone-clause-works : goal.returns-then-zone-clause-works
 returns-then-zone-clause-works g c =
-    let needed : needs_call c.args.block.stage ≡ true = sym c.needs_call.ensures ∙ c.if-not-needs_call.false in
-    let first = oldest_of c.args.block.vios (λ none. let yes = rw c.if-is_empty.false at (c.is_empty.ensures.1 none) in cc) in
-    let some = some_call c.args.sizes.now c.args.block c.journal_slot-slot.result false c.args.block.stage needed in (
+    let first = oldest_of c.args.block.vios c.requires.some in
+    let some = some_call c.args.sizes.now c.args.block c.journal_slot-slot.result false c.args.block.stage c.requires.needed in (
       [],
       unmade some.0 c.journal_slot-slot.result first.0 first.1 first.2 some.1 c.if-zone.true refl refl (block_post _ _ _ _ _ _ c.first.ensures refl c.staged-unmade.ensures),
       unchanged _ _ _,
@@ -21,7 +19,7 @@ returns-then-zone-clause-works g c =
 
 pub returns-in_default-clause-works : goal.returns-in_default-clause-works
 returns-in_default-clause-works g c =
-    let first = oldest_of c.args.block.vios (λ none. let yes = rw c.if-is_empty.false at (c.is_empty.ensures.1 none) in cc) in
+    let first = oldest_of c.args.block.vios c.requires.some in
     let failed = c.in_default.ensures.err in (
       Fails first.0.request failed.0 failed.2.0 ∷ [],
       fails failed.0 c.journal_slot-slot.result failed.2.0 first.0 first.1 first.2 (rw c.of.ensures at c.journal_slot-slot.ensures.block) failed.1 c.if-zone.false c.halt.ensures.zone refl
@@ -31,7 +29,7 @@ returns-in_default-clause-works g c =
 
 pub returns-clause-works : goal.returns-clause-works
 returns-clause-works g c =
-    let first = oldest_of c.args.block.vios (λ none. let yes = rw c.if-is_empty.false at (c.is_empty.ensures.1 none) in cc) in
+    let first = oldest_of c.args.block.vios c.requires.some in
     let made = c.in-Ok.ensures.ok in (
       Calls made.0 ∷ [],
       makes made.0 c.journal_slot-slot.result first.0 first.1 first.2 (rw c.of.ensures at c.journal_slot-slot.ensures.block) made.1 c.if-zone.false (search rules) refl

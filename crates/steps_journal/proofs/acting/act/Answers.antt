@@ -1,18 +1,17 @@
-use Rattle.std.proofs.lemmas.Result.{on_ok_weaker, on_err_weaker}
-use Rattle.steps_journal.proofs.ActLaws.{acts, ends_block, hears, stays, keeps}
+use Rattle.steps_journal.proofs.ActLaws.{acts, ended, ends_block, enters_now, hears}
 use Rattle.steps_journal.proofs.acting.act.Goals as goal
 
-pub returns-in-Request-clause-ok : goal.returns-in-Request-clause-ok
-returns-in-Request-clause-ok c = rw c.in-Request.is (on_ok_weaker c.serve_journal.result (acts _ _ _ _ _) c.serve_journal.ensures.ok)
+pub returns-in-Request : goal.returns-in-Request
+returns-in-Request c = rw c.in-Request.is (acts _ _ _ _ _ c.enter.ensures)
 
-pub returns-in-Request-clause-err : goal.returns-in-Request-clause-err
-returns-in-Request-clause-err c = rw c.in-Request.is (on_err_weaker c.serve_journal.result (stays _ _ _) c.serve_journal.ensures.err)
+pub enter-requires-clause-phase : goal.enter-requires-clause-phase
+enter-requires-clause-phase c = enters_now _ _ _ (rw c.in-Request.is at c.requires.rule)
 
-pub returns-in-Block-clause-ok : goal.returns-in-Block-clause-ok
-returns-in-Block-clause-ok c = rw c.in-Block.is (on_ok_weaker c.end_block.result (ends_block _ _ _ _ _) c.end_block.ensures.ok)
+pub returns-in-Block : goal.returns-in-Block
+returns-in-Block c = rw c.in-Block.is (ends_block _ _ _ _ _ c.end_block.ensures)
 
-pub returns-in-Block-clause-err : goal.returns-in-Block-clause-err
-returns-in-Block-clause-err c = rw c.in-Block.is (on_err_weaker c.end_block.result (keeps _ _ _) c.end_block.ensures.err)
+pub end_block-requires-clause-rule : goal.end_block-requires-clause-rule
+end_block-requires-clause-rule c = ended _ _ _ (rw c.in-Block.is at c.requires.rule)
 
-pub returns-in-StopNotice-clause-ok : goal.returns-in-StopNotice-clause-ok
-returns-in-StopNotice-clause-ok c = rw c.in-StopNotice.is (hears _ _ _ _ c.hear_stop.ensures.zone c.hear_stop.ensures.posts)
+pub returns-in-StopNotice : goal.returns-in-StopNotice
+returns-in-StopNotice c = rw c.in-StopNotice.is (hears _ _ _ _ c.hear_stop.ensures.zone c.hear_stop.ensures.posts)

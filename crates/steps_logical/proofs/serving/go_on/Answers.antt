@@ -1,6 +1,13 @@
-use Rattle.std.proofs.Common.{refl, sym, ◌∙◌}
+use Rattle.std.proofs.Common.{◌∙◌, sym, refl}
 use Rattle.core_model.specs.LogicalRows.LogicalServes.{looks}
 use Rattle.steps_logical.proofs.serving.go_on.Goals as goal
 
-pub returns-clause-ok : goal.returns-clause-ok
-returns-clause-ok c = looks _ c.requires.phase (sym c.goes_on.ensures ∙ c.in-Some.is) refl refl c.first.ensures
+pub unreachable-requires : goal.unreachable-requires
+unreachable-requires c =
+    let some = c.requires.goes.1 in
+    let none = c.goes_on.ensures in
+    let is = c.in_default.is in
+    cc
+
+pub returns : goal.returns
+returns c = looks _ c.requires.phase (sym c.goes_on.ensures ∙ c.in-Some.is) refl refl c.first.ensures

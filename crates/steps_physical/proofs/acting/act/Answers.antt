@@ -1,12 +1,11 @@
-use Rattle.std.proofs.lemmas.Result.{on_ok_weaker, on_err_weaker}
-use Rattle.steps_physical.proofs.ActLaws.{acts, hears, stays}
+use Rattle.steps_physical.proofs.ActLaws.{acts, hears, served}
 use Rattle.steps_physical.proofs.acting.act.Goals as goal
 
-pub returns-in-Request-clause-ok : goal.returns-in-Request-clause-ok
-returns-in-Request-clause-ok c = rw c.in-Request.is (on_ok_weaker c.serve_physical.result (acts _ _ _ _ _) c.serve_physical.ensures.ok)
+pub returns-in-Request : goal.returns-in-Request
+returns-in-Request c = rw c.in-Request.is (acts _ _ _ _ _ c.serve_physical.ensures)
 
-pub returns-in-Request-clause-err : goal.returns-in-Request-clause-err
-returns-in-Request-clause-err c = rw c.in-Request.is (on_err_weaker c.serve_physical.result (stays _ _ _) c.serve_physical.ensures.err)
+pub serve_physical-requires-clause-rule : goal.serve_physical-requires-clause-rule
+serve_physical-requires-clause-rule c = served _ _ _ (rw c.in-Request.is at c.requires.rule)
 
-pub returns-in-StopNotice-clause-ok : goal.returns-in-StopNotice-clause-ok
-returns-in-StopNotice-clause-ok c = rw c.in-StopNotice.is (hears _ _ _ _ c.hear_stop.ensures.zone c.hear_stop.ensures.posts)
+pub returns-in-StopNotice : goal.returns-in-StopNotice
+returns-in-StopNotice c = rw c.in-StopNotice.is (hears _ _ _ _ c.hear_stop.ensures.zone c.hear_stop.ensures.posts)

@@ -1,61 +1,48 @@
-use Rattle.std.proofs.Common.{[], ◌∷◌, ap, arith, inr, length, refl, sym, take}
-use Rattle.step_parts.specs.declared.fault.StepFault.TheVariants as fault
-use Rattle.step_parts.proofs.FaultLaws.{passed_on}
+use Rattle.std.proofs.Common.{[], ◌∷◌, List, ap, arith, inr, length, refl, sym, subst, take}
+use Rattle.core_model.specs.declared.items.Item.{Item}
 use Rattle.core_model.specs.PortsData.{Ports}
-use Rattle.vdo_core.specs.Causes.{MayFault}
-use Rattle.vdo_core.proofs.LaneLaws.{room_within}
-use Rattle.vdo_core.proofs.StrayLaws.{act_may_fault, begin_may_fault, posts_may_fault}
-use Rattle.vdo_core.proofs.ZoneLaws.{stepped_alone, begun, has_item, has_request}
+use Rattle.core_model.specs.Steps.{Act}
+use Rattle.vdo_core.proofs.LaneLaws.{room_within, same_lanes}
+use Rattle.vdo_core.proofs.ZoneLaws.{begun, has_done, has_item, has_request, stepped_alone}
 use Rattle.vdo_core.proofs.stepping.step_alone.Goals as goal
 
-pub returns-in_ok-deliver-in-Some-clause-steps : goal.returns-in_ok-deliver-in-Some-clause-steps
-returns-in_ok-deliver-in-Some-clause-steps c =
-    let counts = c.has_steps_left.ensures.yes c.if-not-has_steps_left.false in (
-      stepped_alone c.args.sizes.now c.args.zone.now c.deliver.new.zone c.act.new.keeps c.in-Some.item c.take.new.self c.act.new.posts
-          counts c.in-Some.ensures.some c.in_ok-act-in-Some.ensures.acts c.in_ok-deliver-in-Some.ensures.ok,
-      has_item c.args.sizes.now c.args.zone.now c.in-Some.item c.take.new.self.inbox counts (ap (λ (p : Ports). p.inbox) c.in-Some.ensures.some),
-    )
+pub returns-in-Some : goal.returns-in-Some
+returns-in-Some c =
+    let counts = c.has_steps_left.ensures.yes c.if-not-has_steps_left.false in
+    has_done _ _ _ _ c.end.ensures.did
+    (stepped_alone c.args.sizes.now c.args.zone.now c.end.new.zone c.act_alone.new.keeps c.in-Some.item c.take.new.self c.act_alone.new.posts counts c.in-Some.ensures.some c.end.ensures.zone c.act_alone.ensures)
+    (has_item c.args.sizes.now c.args.zone.now c.in-Some.item c.take.new.self.inbox counts (ap (λ (p : Ports). p.inbox) c.in-Some.ensures.some))
 
-pub returns-in_ok-deliver-in-None-clause-steps : goal.returns-in_ok-deliver-in-None-clause-steps
-returns-in_ok-deliver-in-None-clause-steps c =
-    let acts = c.in_ok-begun-in-None.ensures.begun c.if-not-begun.false in
-    let counts = c.has_steps_left.ensures.yes c.if-not-has_steps_left.false in (
-      begun c.args.sizes.now c.args.zone.now c.deliver-in-None.new.zone c.begin.new.keeps c.take.new.self c.begin.new.posts
-          counts c.in-None.ensures.none.0 c.in-None.ensures.none.1 acts c.in_ok-deliver-in-None.ensures.ok,
-      has_request c.args.sizes.now c.args.zone.now counts (c.in_ok-begun-in-None.ensures.might c.if-not-begun.false),
-    )
+pub returns-else-not-begin : goal.returns-else-not-begin
+returns-else-not-begin c =
+    let acts = c.begin.ensures.begun c.if-not-begin.false in
+    let counts = c.has_steps_left.ensures.yes c.if-not-has_steps_left.false in
+    has_done _ _ _ _ c.end-in-None.ensures.did
+    (begun c.args.sizes.now c.args.zone.now c.end-in-None.new.zone c.begin.new.keeps c.take.new.self c.begin.new.posts counts c.in-None.ensures.none.0 c.in-None.ensures.none.1 acts c.end-in-None.ensures.zone)
+    (has_request c.args.sizes.now c.args.zone.now counts (c.begin.ensures.might c.if-not-begin.false))
 
-pub returns-in_err-act-in-Some-clause-err : goal.returns-in_err-act-in-Some-clause-err
-returns-in_err-act-in-Some-clause-err c =
-    let why = act_may_fault c.args.sizes.now c.args.zone.now c.in-Some.item c.take.new.self.inbox (ap (λ (p : Ports). p.inbox) c.in-Some.ensures.some) c.in_err-act-in-Some.ensures.err in
-    passed_on c.from_residual.result (MayFault c.args.sizes.now c.args.zone.now) fault.Stray c.from_residual.ensures.1 why
+pub returns-then-not-has_steps_left : goal.returns-then-not-has_steps_left
+returns-then-not-has_steps_left c = (inr (c.has_steps_left.ensures.no c.if-not-has_steps_left.true), refl)
 
-pub returns-in_err-deliver-in-Some-clause-err : goal.returns-in_err-deliver-in-Some-clause-err
-returns-in_err-deliver-in-Some-clause-err c =
-    let acts = c.in_ok-act-in-Some.ensures.acts in
-    let why = posts_may_fault c.args.sizes.now c.args.zone.now c.take.new.self (c.in-Some.item ∷ []) c.act.new.keeps acts.0 c.act.new.posts (ap (λ (p : Ports). take 1 p.inbox) c.in-Some.ensures.some)
-    (ap (λ (p : Ports). length p.outboxes) (sym c.in-Some.ensures.some)) acts.1 c.in_err-deliver-in-Some.ensures.err in
-    passed_on c.from_residual-in_err-deliver-in-Some.result (MayFault c.args.sizes.now c.args.zone.now) fault.Stray c.from_residual-in_err-deliver-in-Some.ensures.1 why
+pub end-requires-clause-room : goal.end-requires-clause-room
+end-requires-clause-room c =
+    let inbox = ap (λ (p : Ports). length p.inbox) c.in-Some.ensures.some in
+    room_within c.args.zone.now c.act_alone.new.keeps c.take.new.self c.requires.can.within (omega (arith, inbox)) (sym (ap (λ (p : Ports). p.outboxes) c.in-Some.ensures.some))
 
-pub returns-in_err-begun-in-None-clause-err : goal.returns-in_err-begun-in-None-clause-err
-returns-in_err-begun-in-None-clause-err c =
-    let why = begin_may_fault c.args.sizes.now c.args.zone.now _ c.in-None.ensures.none.0 c.in_err-begun-in-None.ensures.err in
-    passed_on c.from_residual-in_err-begun-in-None.result (MayFault c.args.sizes.now c.args.zone.now) c.in_err-begun-in-None.field-0.0 c.from_residual-in_err-begun-in-None.ensures.1 why
+pub end-requires-clause-lanes : goal.end-requires-clause-lanes
+end-requires-clause-lanes c =
+    let acts = c.act_alone.ensures in
+    same_lanes c.args.sizes.now c.args.zone.now c.act_alone.new.keeps c.take.new.self c.act_alone.new.posts (sym (ap (λ (p : Ports). p.outboxes) c.in-Some.ensures.some))
+    (c.requires.can.lanes c.act_alone.new.keeps acts.0 c.act_alone.new.posts
+    (subst (λ (items : List Item). Act c.args.sizes.now c.args.zone.now.keeps items c.act_alone.new.keeps acts.0 c.act_alone.new.posts) (sym (ap (λ (p : Ports). take 1 p.inbox) c.in-Some.ensures.some)) acts.1))
 
-pub returns-in_err-deliver-in-None-clause-err : goal.returns-in_err-deliver-in-None-clause-err
-returns-in_err-deliver-in-None-clause-err c =
-    let acts = c.in_ok-begun-in-None.ensures.begun c.if-not-begun.false in
-    let why = posts_may_fault c.args.sizes.now c.args.zone.now c.take.new.self [] c.begin.new.keeps acts.0 c.begin.new.posts (ap (take 1) c.in-None.ensures.none.0)
-    (ap (λ (p : Ports). length p.outboxes) c.in-None.ensures.none.1) acts.1 c.in_err-deliver-in-None.ensures.err in
-    passed_on c.from_residual-in_err-deliver-in-None.result (MayFault c.args.sizes.now c.args.zone.now) fault.Stray c.from_residual-in_err-deliver-in-None.ensures.1 why
+pub end-requires-in-None-clause-room : goal.end-requires-in-None-clause-room
+end-requires-in-None-clause-room c =
+    room_within c.args.zone.now c.begin.new.keeps c.take.new.self c.requires.can.within (rw c.in-None.ensures.none.1 (omega arith)) (ap (λ (p : Ports). p.outboxes) c.in-None.ensures.none.1)
 
-pub returns-then-not-has_steps_left-clause-steps : goal.returns-then-not-has_steps_left-clause-steps
-returns-then-not-has_steps_left-clause-steps c = (inr (c.has_steps_left.ensures.no c.if-not-has_steps_left.true), refl)
-
-pub begin-requires-clause-within : goal.begin-requires-clause-within
-begin-requires-clause-within c = let can = c.can_step.ensures.yes c.if-not-can_step.false in (c.args.zone.now.steps, can.within.own)
-
-pub deliver-requires-in-None : goal.deliver-requires-in-None
-deliver-requires-in-None c =
-    let can = c.can_step.ensures.yes c.if-not-can_step.false in
-    room_within c.args.zone.now c.begin.new.keeps c.take.new.self _ can.within (rw c.in-None.ensures.none.1 (omega arith)) (ap (λ (p : Ports). p.outboxes) c.in-None.ensures.none.1)
+pub end-requires-in-None-clause-lanes : goal.end-requires-in-None-clause-lanes
+end-requires-in-None-clause-lanes c =
+    let acts = c.begin.ensures.begun c.if-not-begin.false in
+    same_lanes c.args.sizes.now c.args.zone.now c.begin.new.keeps c.take.new.self c.begin.new.posts (ap (λ (p : Ports). p.outboxes) c.in-None.ensures.none.1)
+    (c.requires.can.lanes c.begin.new.keeps acts.0 c.begin.new.posts
+    (subst (λ (items : List Item). Act c.args.sizes.now c.args.zone.now.keeps items c.begin.new.keeps acts.0 c.begin.new.posts) (sym (ap (take 1) c.in-None.ensures.none.0)) acts.1))

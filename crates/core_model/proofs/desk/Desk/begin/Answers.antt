@@ -6,8 +6,8 @@ use Rattle.core_model.proofs.desk.Desk.begin.Goals as goal
 pub raise-requires : goal.raise-requires
 raise-requires c = let few = few_begun c.self.inside.begun c.self.inside.lines.items c.args.vio.request.stream c.self.invariant.begun in grind (arith, common_steps)
 
-pub invariant_of-self-2 : goal.invariant_of-self-2
-invariant_of-self-2 c = record {
+pub invariant_of-self : goal.invariant_of-self
+invariant_of-self c = record {
   counted = search rules;
   few = search rules;
   lines_room = search rules;

@@ -1,0 +1,5 @@
+use Rattle.steps_device.specs.DeviceCalls.{Fits}
+use Rattle.core_tests.proofs.cores.play_once.Given as goal
+
+abbrev pub invariant-loop-event : goal.invariant-loop-event
+invariant-loop-event g l = Fits l.core.sizes (g.D.Disk.seen l.disk)

@@ -1,5 +1,0 @@
-use Rattle.steps_device.proofs.StrayLaws.{none_stores}
-use Rattle.steps_device.proofs.serving.serve_store.Goals as goal
-
-pub returns-in-None-clause-err : goal.returns-in-None-clause-err
-returns-in-None-clause-err g c = none_stores c.args.sizes.now c.args.zone.now c.args.vio c.requires.phase c.if-zone.false (λ x is inside. c.in-None.ensures.none x (rw c.get.ensures is) inside)

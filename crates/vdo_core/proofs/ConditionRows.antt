@@ -1,0 +1,97 @@
+-- Rows that pin what a step of a zone needs: a zone that can step, and for each clause one that breaks it alone.
+use Rattle.std.proofs.Common.{ℕ, ◌≡◌, ◌≤◌, ◌∙◌, true, false, List, [], ◌∷◌, length, refl, sym, ap, inl, inr, arith}
+use Rattle.std.specs.List.{AllByRecursion}
+use Rattle.blk_base.specs.declared.geometry.Geometry.{Geometry}
+use Rattle.blk_base.specs.declared.place.ZoneId.TheVariants as id
+use Rattle.vdo_model.specs.Scripts.{Script}
+use Rattle.core_model.specs.DeskData.{Desk}
+use Rattle.core_model.specs.declared.items.Item.{Item}
+use Rattle.core_model.specs.declared.items.Item.TheVariants.{Request as Asked, StopNotice}
+use Rattle.core_model.specs.declared.items.Phase.TheVariants as phase
+use Rattle.core_model.specs.declared.items.Vio.{Vio}
+use Rattle.core_model.specs.declared.sizes.Sizes.{Sizes}
+use Rattle.core_model.specs.declared.zones.Zone.{Zone}
+use Rattle.core_model.specs.declared.zones.ZoneData.{ZoneData}
+use Rattle.core_model.specs.declared.zones.ZoneData.TheVariants as at
+use Rattle.core_model.specs.JournalRows.PhysicalServes.{claims, is_full, aborts_claim, aborts_entered_claim}
+use Rattle.core_model.specs.Limits.{HasRoomToBegin}
+use Rattle.core_model.specs.Steps.{Act, HasAct, MayBegin, takes, takes_notice}
+use Rattle.core_model.specs.Trace.{Trace}
+use Rattle.core_model.specs.Vios.{Post}
+use Rattle.steps_desk.specs.Begins.{CanBegin}
+use Rattle.vdo_core.specs.Conditions.{AllCanStep, CanBeginAt, CanStep, HasLane}
+
+module _ (g : Geometry) where
+  abbrev sizes : ℕ → Sizes
+  sizes zones = record { geometry = g; start = 1; opened = 0; zones = zones; depth = 1 }
+
+  -- the physical zone of a core of two logical ones, with these in its inbox, and so many outboxes
+  abbrev physical : List Item → List (List Item) → Zone
+  physical inbox outboxes = record { number = 3; steps = 0; keeps = at.Physical (record { notified = false; free = [] }); ports = record { inbox = inbox; outboxes = outboxes } }
+
+  -- its notice goes to the desk
+  lane_there : (new : ZoneData) (made : Trace) (posts : List Post) → Act (sizes 2) (at.Physical (record { notified = false; free = [] })) (StopNotice ∷ []) new made posts
+      → AllByRecursion (HasLane (sizes 2) (physical (StopNotice ∷ []) ([] ∷ []))) posts
+  lane_there new made posts takes_notice = (inr (omega arith), tt)
+
+  notice_applies : (zones : ℕ) (front : Item) (rest : List Item) → StopNotice ∷ [] ≡ front ∷ rest → HasAct (sizes zones) (at.Physical (record { notified = false; free = [] })) (front ∷ [])
+  notice_applies zones StopNotice rest is = (_, _, _, takes_notice)
+  notice_applies zones other rest is = absurd cc
+
+  can_step : CanStep (sizes 2) (physical (StopNotice ∷ []) ([] ∷ []))
+  can_step = record {
+    few = omega arith;
+    begins = tt;
+    within = record { inbox = omega arith; outboxes = (omega arith, tt); own = tt };
+    rule = notice_applies 2;
+    lanes = lane_there;
+  }
+
+  -- few: not beside five logical zones
+  can_step-not_of_five : (z : Zone) → CanStep (sizes 5) z → ⊥
+  can_step-not_of_five z can = omega (arith, can.few)
+
+  -- within: not past its room
+  can_step-not_past_its_room : (z : Zone) → 264 ≤ length z.ports.inbox → CanStep (sizes 2) z → ⊥
+  can_step-not_past_its_room z many can = omega (arith, can.within.inbox, many)
+
+  -- rule: not with a request in front that no rule serves
+  none_serves : (v : Vio) → v.phase ≡ phase.Reply → HasAct (sizes 2) (at.Physical (record { notified = false; free = [] })) (Asked v ∷ []) → ⊥
+  none_serves v is (new, made, posts, takes (claims x others p free n m q)) = let both = sym is ∙ p in cc
+  none_serves v is (new, made, posts, takes (is_full p free n m q)) = let both = sym is ∙ p in cc
+  none_serves v is (new, made, posts, takes (aborts_claim p n m q)) = let both = sym is ∙ p in cc
+  none_serves v is (new, made, posts, takes (aborts_entered_claim p n m q)) = let both = sym is ∙ p in cc
+
+  can_step-not_without_a_rule : (v : Vio) → v.phase ≡ phase.Reply → CanStep (sizes 2) (physical (Asked v ∷ []) ([] ∷ [])) → ⊥
+  can_step-not_without_a_rule v is can = none_serves v is (can.rule (Asked v) [] refl)
+
+  -- lanes: not where it has no lane to the desk
+  can_step-not_without_a_lane : CanStep (sizes 2) (physical (StopNotice ∷ []) []) → ⊥
+  can_step-not_without_a_lane can = elim (can.lanes _ _ _ takes_notice).0 [
+    | inl own ↦ let same : 0 ≡ 3 = own in absurd (omega (arith, same))
+    | inr below ↦ absurd (omega (arith, below))
+  ]
+
+  -- a zone has a lane to itself, and to each for which it has an outbox
+  lane_to_itself : HasLane (sizes 2) (physical [] []) (id.Physical 0, StopNotice)
+  lane_to_itself = inl refl
+
+  -- begins: the desk can begin what may begin
+  can_begin : (d : Desk) → CanBegin (sizes 2) d → CanBeginAt (sizes 2) (at.Desk d)
+  can_begin d can = can
+
+  can_begin-not_without_a_zone : (d : Desk) → CanBeginAt (sizes 0) (at.Desk d) → ⊥
+  can_begin-not_without_a_zone d can = omega (arith, can.zones)
+
+  can_begin-not_a_larger_script : (script : Script) (d : Desk) → d.requests ≡ script → 17 ≤ length script → CanBeginAt (sizes 2) (at.Desk d) → ⊥
+  can_begin-not_a_larger_script script d is many can = let streams = can.limited.streams in omega (arith, streams, many, ap (λ (s : Script). length s) is)
+
+  can_begin-not_past_its_room : (d : Desk) → 7 ≤ d.notices → CanBeginAt (sizes 2) (at.Desk d) → ⊥
+  can_begin-not_past_its_room d many can = omega (arith, many, can.within.notices)
+
+  can_begin-not_without_room : (d : Desk) → MayBegin (sizes 2) (at.Desk d) → (HasRoomToBegin d → ⊥) → CanBeginAt (sizes 2) (at.Desk d) → ⊥
+  can_begin-not_without_room d may crowded can = crowded (can.room may)
+
+  -- AllCanStep: each zone of a core
+  all_can_step-not_one_past_its_room : (z : Zone) → 264 ≤ length z.ports.inbox → AllCanStep (sizes 2) (physical (StopNotice ∷ []) ([] ∷ []) ∷ z ∷ []) → ⊥
+  all_can_step-not_one_past_its_room z many all = can_step-not_past_its_room z many (all 1 z refl)
