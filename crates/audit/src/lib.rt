@@ -15,12 +15,12 @@
 //! (`AuditFails`), and that the map and the counts are what was read (`AreContents`, `shown`).
 #![tactic(auto)]
 
-mod auditing;
-mod comparing;
+mod auditor;
+mod comparison;
 mod forms;
-mod reading;
-mod tallying;
+mod contents;
+mod tallies;
 
-pub use auditing::{audit, audit_with, report_of};
+pub use auditor::{audit, audit_with, report_of};
 pub use forms::{Contents, Difference, Report};
-pub use reading::read_contents;
+pub use contents::read_contents;

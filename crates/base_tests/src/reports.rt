@@ -1,7 +1,7 @@
 use blk_base::{Lba, Request, Writer};
 use std::alloc::{AllocError, Global};
 use std::test::Fail;
-use vdo_model::{Placed, Requests, Rows};
+use vdo_model::{Placed, Requests, ReportList};
 
 #[test]
 fn lists_are_kept(rt: HostRuntime) -> Result<(), Fail> {
@@ -13,8 +13,8 @@ fn lists_are_kept(rt: HostRuntime) -> Result<(), Fail> {
         zone: 0,
         place: 7,
     };
-    let rows = Rows::from_vec(vec![in rt.alloc(); placed]?);
-    let none: Rows<Placed> = Rows::new(rt.alloc());
+    let rows = ReportList::from_vec(vec![in rt.alloc(); placed]?);
+    let none: ReportList<Placed> = ReportList::new(rt.alloc());
     let first = rows.as_slice().first().copied();
     let lengths = [rows.as_slice().len(), none.as_slice().len()];
     assert_eq!(rt; (first, lengths), (Some(placed), [1, 0]));

@@ -21,7 +21,7 @@ mod forms;
 mod laws;
 mod nodes;
 mod numbers;
-mod opening;
+mod opened_pages;
 mod paths;
 mod slots;
 

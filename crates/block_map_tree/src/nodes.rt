@@ -11,7 +11,7 @@ ghost use Rattle.block_map_tree.specs.Tree.{IsAt, IsThere, IsFound, IsLinkable, 
 ghost use Rattle.block_map_tree.specs.Opening.{IsOpened, IsOpening, forest_of};
 
 use crate::numbers::{SLOTS, has_tree, is_below_a_root, is_inner, number, page_numbered, width};
-use crate::opening::{count_pages, take_over};
+use crate::opened_pages::{count_pages, take_over};
 use crate::{Forest, Found, Path};
 use blk_base::{
     Layout, Mapping, Mappings, Opened, PAGE_SLOTS, PageId, Pbn, Point, TREES, repeated_with,

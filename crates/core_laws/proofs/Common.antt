@@ -22,20 +22,20 @@ pub use Rattle.core_model.specs.RightTraces.{AllBelow, CommitMayFollow, EntryMay
 pub use Rattle.core_model.specs.Sessions.{AreAllThere, AreDistinct, AtRest, ComesLast, HasBlocks, HasHonestReads, HasWholeBlocks, IsAsOpened, IsFair, IsFresh, IsServed, IsSession, MapStands, NewReads, NewStands, OnBlock, OnItsWay, ReadsAs, ReadsBlock, Session, Shown, Stands, bytes_of, log, value_at, value_from}
 pub use Rattle.core_model.specs.Tokens.{AtMost, Balanced, Token, answers_of, as_items, begins_of, block_token, blocks_at, claims, ended_at, entered_at, entry_token, given, has_entry, heard_at, held_at, holder_token, holder_weight, holds, idle_at, in_log, is_answer, is_begin, is_block, is_entry, is_sealed, is_word, journal_token, kept_by, lease_token, lock_weight, locks_at, notice_token, notified_by, of_vio, names, one_journal, one_physical, queued, request_token, room_token, weight}
 pub use Rattle.core_model.specs.Trace.{Aborts, Calls, Commits, Draws, Enters, Fails, Flushes, Gift, Gives, Happening, Says, Seals, Sets, Takes, Trace, aborted, all_of, calls, committed, done, entered, entries_of, entry_of, filled, gift_of, gifts, has_read_fault, has_stopped, has_taken, is_ok, is_read, lines, logged_of, marks, moments, newest, of_address, places, sealed, taken}
-pub use Rattle.core_model.specs.Vios.{Post, all_logged, asked, begun_vio, ended, gift, logged, request_of, staged, turned}
-pub use Rattle.core_model.specs.Zones.{IsZone, desk_zone, device_zone, journal_zone, logical_zone, logical_zones, notified, notified_zones, physical_zone, zone_count, zone_number}
-pub use Rattle.core_model.specs.declared.items.Asks.{Asks}
-pub use Rattle.core_model.specs.declared.items.Item.{Item}
-pub use Rattle.core_model.specs.declared.items.Phase.{Phase}
-pub use Rattle.core_model.specs.declared.items.SealedBlock.{SealedBlock}
-pub use Rattle.core_model.specs.declared.items.Stage.{Stage}
-pub use Rattle.core_model.specs.declared.items.Vio.{Vio}
-pub use Rattle.core_model.specs.declared.sizes.Sizes.{Sizes}
+pub use Rattle.data_vio.specs.Vios.{Post, all_logged, asked, begun_vio, ended, gift, logged, request_of, staged, turned}
+pub use Rattle.data_vio.specs.Zones.{IsZone, desk_number, device_number, journal_number, logical_number, logical_zones, notified, notified_zones, physical_number, zone_count, zone_number}
+pub use Rattle.data_vio.specs.declared.items.Asks.{Asks}
+pub use Rattle.data_vio.specs.declared.items.Item.{Item}
+pub use Rattle.data_vio.specs.declared.items.Phase.{Phase}
+pub use Rattle.data_vio.specs.declared.items.SealedBlock.{SealedBlock}
+pub use Rattle.data_vio.specs.declared.items.Stage.{Stage}
+pub use Rattle.data_vio.specs.declared.items.Vio.{Vio}
+pub use Rattle.data_vio.specs.declared.sizes.Sizes.{Sizes}
 pub use Rattle.core_model.specs.DeskData.{Desk}
 pub use Rattle.core_model.specs.declared.zones.DeviceZone.{DeviceZone}
 pub use Rattle.core_model.specs.JournalData.{JournalZone}
 pub use Rattle.core_model.specs.LogicalData.{Lock}
-pub use Rattle.core_model.specs.declared.zones.Logged.{Logged}
+pub use Rattle.data_vio.specs.declared.logged.Logged.{Logged}
 pub use Rattle.core_model.specs.LogicalData.{LogicalZone}
 pub use Rattle.core_model.specs.declared.zones.PhysicalZone.{PhysicalZone}
 pub use Rattle.core_model.specs.declared.zones.Zone.{Zone}

@@ -21,11 +21,11 @@ ghost use Rattle.core_model.specs.DeskData.{Desk as DeskData};
 ghost use Rattle.core_model.specs.declared.zones.DeviceZone.{DeviceZone};
 ghost use Rattle.core_model.specs.JournalData.{JournalZone};
 ghost use Rattle.core_model.specs.LogicalData.{LogicalZone};
-ghost use Rattle.core_model.specs.declared.zones.Logged.{Logged};
+ghost use Rattle.data_vio.specs.declared.logged.Logged.{Logged};
 ghost use Rattle.core_model.specs.declared.zones.Zone.{Zone};
 ghost use Rattle.core_model.specs.declared.zones.ZoneData.{ZoneData};
-ghost use Rattle.core_model.specs.declared.items.Item.{Item};
-ghost use Rattle.core_model.specs.declared.sizes.Sizes.{Sizes};
+ghost use Rattle.data_vio.specs.declared.items.Item.{Item};
+ghost use Rattle.data_vio.specs.declared.sizes.Sizes.{Sizes};
 ghost use Rattle.core_model.specs.Legal.{Legal};
 ghost use Rattle.core_model.specs.Reports.{ShowsValues, opening_values, progress_of, report_of};
 ghost use Rattle.core_model.specs.RightTraces.{IsHeldBack, IsWrite, StopsAtFailure};
@@ -34,8 +34,8 @@ ghost use Rattle.core_model.specs.Start.{IsFirst};
 ghost use Rattle.core_model.specs.Steps.{Act, CallsDevice, Core, HasAct, Leads, MayBegin, MoveOf, StepOf, ZoneStep};
 ghost use Rattle.core_model.specs.Trace.{Enters, Trace, aborted, calls, committed, entries_of, entry_of, is_ok, is_read, lines, marks, moments, places};
 ghost use Rattle.core_model.specs.Views.{AreEmptyLanes, PostsBatch, ReceivesBatch, TakesBatch, View, core_of, zones_seen};
-ghost use Rattle.core_model.specs.Vios.{Post};
-ghost use Rattle.core_model.specs.Zones.{zone_number};
+ghost use Rattle.data_vio.specs.Vios.{Post};
+ghost use Rattle.data_vio.specs.Zones.{zone_number};
 ghost use Rattle.recovery_journal.specs.Log.{head_of};
 
 /// A core is legal when a session begins, and every list of events keeps it so.

@@ -1,8 +1,8 @@
 -- How long the lists of a legal core get: its locks by the requests that are under way, its slots and retired addresses by the
 -- entries of the journal, and those by the journal's blocks.
 use Rattle.std.proofs.Common.{ℕ, ◌^◌, ◌≡◌, ◌<◌, ◌≤◌, Bool, true, false, Some, List, [], ◌∷◌, IsNone, length, length-append, slice_get, refl, ap, ◌∙◌, subst, inl, inr, arith}
-use Rattle.core_laws.proofs.Common.{bit, committed, DataOk, DeviceZone, ended_at, entered, entered_at, entry_token, every-map, given, held_at, holder_token, holds, IsSession, IsWrite, Item, journal_zone, JournalZone, Logged, logged_of, LogicalZone, made_by, RightTrace, room_token, same_tells, sealed, Seals, Session, some_is, total, total-get, total_alone, Trace, Vio, weight, Writer, Zone, ZoneData}
-use Rattle.core_model.specs.declared.items.Item.TheVariants as item
+use Rattle.core_laws.proofs.Common.{bit, committed, DataOk, DeviceZone, ended_at, entered, entered_at, entry_token, every-map, given, held_at, holder_token, holds, IsSession, IsWrite, Item, journal_number, JournalZone, Logged, logged_of, LogicalZone, made_by, RightTrace, room_token, same_tells, sealed, Seals, Session, some_is, total, total-get, total_alone, Trace, Vio, weight, Writer, Zone, ZoneData}
+use Rattle.data_vio.specs.declared.items.Item.TheVariants as item
 use Rattle.core_model.specs.declared.zones.ZoneData.TheVariants as at
 use Rattle.core_model.specs.Legal.{Legal, share}
 use Rattle.core_model.specs.Limits.{most_requests, requests_in}
@@ -115,11 +115,11 @@ module _ (s : Session) (core : Core) (legal : Legal s core) (n : ℕ) (z : Zone)
     all_entries : total (given entry_token) core.zones ≡ length (entered core.trace)
     all_entries =
         let journal = journal_sits s core.trace core.zones legal.each legal.count in
-        let k = subst (λ (d : ZoneData). DataOk s core.trace (journal_zone s.sizes) d) journal.keeps (legal.each (journal_zone s.sizes) journal.zone journal.had).own in
-        total_alone (given entry_token) core.zones (journal_zone s.sizes) journal.zone journal.had (λ j y there ne. none_given j y.keeps ne (legal.each j y there).own)
+        let k = subst (λ (d : ZoneData). DataOk s core.trace (journal_number s.sizes) d) journal.keeps (legal.each (journal_number s.sizes) journal.zone journal.had).own in
+        total_alone (given entry_token) core.zones (journal_number s.sizes) journal.zone journal.had (λ j y there ne. none_given j y.keeps ne (legal.each j y there).own)
         ∙ ap entered_at journal.keeps ∙ ap length k.lists.entered_is
       where
-        none_given : (j : ℕ) (d : ZoneData) → (j ≡ journal_zone s.sizes → ⊥) → DataOk s core.trace j d → entered_at d ≡ 0
+        none_given : (j : ℕ) (d : ZoneData) → (j ≡ journal_number s.sizes → ⊥) → DataOk s core.trace j d → entered_at d ≡ 0
         none_given j (at.Journal x) ne k = absurd (ne k.number_is)
         none_given j other ne k = refl
 

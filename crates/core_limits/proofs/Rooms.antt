@@ -1,9 +1,9 @@
 -- In a legal core no lane and no list of a zone has more than its share.
 use Rattle.std.proofs.Common.{◌≡◌, ℕ, zero, suc, ◌+◌, ◌*◌, ◌<◌, ◌≤◌, Bool, true, false, cond, Some, List, [], ◌∷◌, length, slice_get, get_or, refl, ap, ◌∙◌, subst, inl, inr, arith}
-use Rattle.core_laws.proofs.Common.{answered, begun, DataOk, desk_zone, DeskLine, device_zone, eqb_tells, given, in_log, is_answer, is_begin, is_sealed, is_word, IsDeskLog, Item, journal_token, kept_by, lines, notice_token, notified_by, notified_zones, queued, room_token, Script, Session, some_of, Token, total, total-get, total_alone, weight, Zone, ZoneData}
+use Rattle.core_laws.proofs.Common.{answered, begun, DataOk, desk_number, DeskLine, device_number, eqb_tells, given, in_log, is_answer, is_begin, is_sealed, is_word, IsDeskLog, Item, journal_token, kept_by, lines, notice_token, notified_by, notified_zones, queued, room_token, Script, Session, some_of, Token, total, total-get, total_alone, weight, Zone, ZoneData}
 use Rattle.std.proofs.lemmas.Option.{slice_get_within}
 use Rattle.vdo_model.specs.declared.report.DeskLine.TheVariants.{Begin, Answer}
-use Rattle.core_model.specs.declared.items.Item.TheVariants as item
+use Rattle.data_vio.specs.declared.items.Item.TheVariants as item
 use Rattle.core_model.specs.declared.zones.ZoneData.TheVariants as at
 use Rattle.core_model.specs.Legal.{Legal, share}
 use Rattle.core_model.specs.Steps.{Core}
@@ -93,11 +93,11 @@ module _ (s : Session) (core : Core) (legal : Legal s core) where
   pub only_desk : (f : DeskLine → ℕ) → total (λ (z : Zone). in_log f z.keeps) core.zones ≡ total f (lines core.trace)
   only_desk f =
       let desk = desk_sits s core.trace core.zones legal.each legal.count in
-      let k = subst (λ (d : ZoneData). DataOk s core.trace desk_zone d) desk.keeps (legal.each desk_zone desk.zone desk.had).own in
-      total_alone (λ (z : Zone). in_log f z.keeps) core.zones desk_zone desk.zone desk.had (λ j y there ne. no_log j y.keeps ne (legal.each j y there).own)
+      let k = subst (λ (d : ZoneData). DataOk s core.trace desk_number d) desk.keeps (legal.each desk_number desk.zone desk.had).own in
+      total_alone (λ (z : Zone). in_log f z.keeps) core.zones desk_number desk.zone desk.had (λ j y there ne. no_log j y.keeps ne (legal.each j y there).own)
       ∙ ap (in_log f) desk.keeps ∙ ap (total f) k.lists.log_is
     where
-      no_log : (j : ℕ) (d : ZoneData) → (j ≡ desk_zone → ⊥) → DataOk s core.trace j d → in_log f d ≡ 0
+      no_log : (j : ℕ) (d : ZoneData) → (j ≡ desk_number → ⊥) → DataOk s core.trace j d → in_log f d ≡ 0
       no_log j (at.Desk d) ne k = absurd (ne k.number_is)
       no_log j other ne k = refl
 
@@ -105,7 +105,7 @@ module _ (s : Session) (core : Core) (legal : Legal s core) where
   pub few_words : total (given (notice_token s.sizes)) core.zones ≤ notified_zones s.sizes
   few_words =
       let device = device_sits s core.trace core.zones legal.each legal.count in
-      let alone = total_alone (given (notice_token s.sizes)) core.zones (device_zone s.sizes) device.zone device.had (λ j y there ne. no_words s core.trace j y.keeps ne (legal.each j y there).own) in
+      let alone = total_alone (given (notice_token s.sizes)) core.zones (device_number s.sizes) device.zone device.had (λ j y there ne. no_words s core.trace j y.keeps ne (legal.each j y there).own) in
       let notified = ap (notified_by s.sizes) device.keeps in
       omega (arith, alone, notified, by device.it.stopped)
     where

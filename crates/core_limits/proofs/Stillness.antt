@@ -2,11 +2,11 @@
 -- journal goes round, and the stop notices of all zones have come if the session is stopped.
 use Rattle.std.proofs.Common.{◌≡◌, ℕ, ◌≤◌, Bool, true, false, not, cond, Some, List, [], ◌∷◌, ◌++◌, length, slice_get, refl, sym, ap, ◌∙◌, subst, inl, inr, arith}
 use Rattle.std.proofs.lemmas.List.{nil_from_length}
-use Rattle.core_laws.proofs.Common.{AllAnswered, AllByRecursion, DataOk, Desk, IsNextLine, Item, JournalZone, LogicalZone, Phase, Session, Token, Vio, WaitsOk, Writer, Zone, ZoneData, as_items, bit, cases_Bool, cases_lt, desk_zone, device_zone, eqb_tells, given, heard_at, held_at, holder_token, holds, idle_at, is_answer, is_begin, is_sealed, is_word, journal_token, kept_by, lines, notice_token, notified_by, notified_zones, queued, room_token, total, total-get, total_alone, total_zero, weight}
-use Rattle.core_model.specs.declared.items.Phase.TheVariants as phase
+use Rattle.core_laws.proofs.Common.{AllAnswered, AllByRecursion, DataOk, Desk, IsNextLine, Item, JournalZone, LogicalZone, Phase, Session, Token, Vio, WaitsOk, Writer, Zone, ZoneData, as_items, bit, cases_Bool, cases_lt, desk_number, device_number, eqb_tells, given, heard_at, held_at, holder_token, holds, idle_at, is_answer, is_begin, is_sealed, is_word, journal_token, kept_by, lines, notice_token, notified_by, notified_zones, queued, room_token, total, total-get, total_alone, total_zero, weight}
+use Rattle.data_vio.specs.declared.items.Phase.TheVariants as phase
 use Rattle.core_model.specs.declared.zones.ZoneData.TheVariants as at
 use Rattle.core_model.specs.Legal.{Legal}
-use Rattle.core_model.specs.LogicalRows.{is_held}
+use Rattle.core_model.specs.LogicalRules.{is_held}
 use Rattle.core_model.specs.Steps.{Core, IsStill, MayBegin}
 use Rattle.core_model.specs.Tokens.{one_journal}
 use Rattle.vdo_model.specs.declared.report.DeskLine.TheVariants.{Begin}
@@ -114,12 +114,12 @@ module _ (s : Session) (core : Core) (legal : Legal s core) (still : IsStill s.s
     | inl some ↦
         let k = own n z had (at.Desk desk) keeps in
         let device = device_sits s core.trace core.zones legal.each legal.count in
-        let d = own (device_zone s.sizes) device.zone device.had (at.Device device.it) device.keeps in
+        let d = own (device_number s.sizes) device.zone device.had (at.Device device.it) device.keeps in
         let stopped : device.it.stopped ≡ true = d.lists.stopped_is ∙ k.told (omega (arith, some)) in
         let held = own_alone (notice_token s.sizes) (λ m y there. no_word (kept_by y.keeps)) in
         let heard = total_alone (λ (y : Zone). heard_at y.keeps) core.zones n z had (λ m y there ne. other m y.keeps ne (legal.each m y there).own) in
         let here = ap heard_at keeps in
-        let sent = total-get (given (notice_token s.sizes)) core.zones (device_zone s.sizes) device.zone device.had in
+        let sent = total-get (given (notice_token s.sizes)) core.zones (device_number s.sizes) device.zone device.had in
         let all : notified_by s.sizes device.zone.keeps ≡ notified_zones s.sizes = ap (notified_by s.sizes) device.keeps ∙ ap (λ (b : Bool). cond b (notified_zones s.sizes) 0) stopped in
         let early = k.sound.parked_early some in
         let balance = legal.stop_notices in
@@ -152,9 +152,9 @@ module _ (s : Session) (core : Core) (legal : Legal s core) (still : IsStill s.s
   none_begins : (w : Writer) → IsNextLine s.sizes.depth s.script (Begin w) (lines core.trace) → ⊥
   none_begins w next =
       let desk = desk_sits s core.trace core.zones legal.each legal.count in
-      let k = own desk_zone desk.zone desk.had (at.Desk desk.it) desk.keeps in
+      let k = own desk_number desk.zone desk.had (at.Desk desk.it) desk.keeps in
       let may : MayBegin s.sizes (at.Desk desk.it) = (w, rw (sym k.sound.requests, sym k.lists.log_is) at next) in
-      (still.nothing desk_zone desk.zone desk.had).none_begins (subst (MayBegin s.sizes) (sym desk.keeps) may)
+      (still.nothing desk_number desk.zone desk.had).none_begins (subst (MayBegin s.sizes) (sym desk.keeps) may)
 
   pub all_answered : 1 ≤ s.sizes.depth → AllAnswered s.script (lines core.trace)
   all_answered depth =

@@ -14,7 +14,7 @@ ghost use Rattle.core_model.specs.declared.zones.DeviceZone.{DeviceZone};
 ghost use Rattle.core_model.specs.JournalData.{JournalZone};
 ghost use Rattle.core_model.specs.LogicalData.{LogicalZone};
 ghost use Rattle.core_model.specs.declared.zones.Zone.{Zone};
-ghost use Rattle.core_model.specs.declared.items.Item.{Item};
+ghost use Rattle.data_vio.specs.declared.items.Item.{Item};
 ghost use Rattle.core_model.specs.Legal.{Legal, share};
 ghost use Rattle.core_model.specs.Limits.{IsDeskWithin, IsShort, IsWithin, most_requests, requests_in};
 ghost use Rattle.core_model.specs.Tokens.{is_answer, is_begin, kept_by, queued};

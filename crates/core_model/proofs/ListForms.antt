@@ -3,9 +3,9 @@ use Rattle.std.proofs.Common.{◌≡◌, ◌<◌, ◌+◌, ◌==◌, ℕ, zero, 
 use Rattle.std.specs.List.{filter}
 use Rattle.std.proofs.lemmas.List.{append-nil, drop_more, reverse-append}
 use Rattle.std.proofs.lemmas.Option.{same_Some}
-use Rattle.core_model.specs.LogicalRows.{without}
+use Rattle.core_model.specs.LogicalRules.{without}
 use Rattle.core_model.specs.Steps.{posted}
-use Rattle.core_model.specs.declared.items.Item.{Item}
+use Rattle.data_vio.specs.declared.items.Item.{Item}
 use Rattle.core_model.specs.LogicalData.{Lock}
 use Rattle.plain_laws.specs.Sums.{total}
 

@@ -13,14 +13,14 @@ use Rattle.logical_locks.specs.Holders as locks
 use Rattle.logical_locks.specs.declared.waiter.Waiter.{Waiter}
 use Rattle.plain_laws.specs.Firsts.{but_first}
 use Rattle.core_model.specs.LogicalData.{Lock, LogicalZone}
-use Rattle.core_model.specs.LogicalRows.{but_first_for, first_for, is_among, drawn_by, is_held, lock_of, passed_to, place_of_vio, placed, released, without}
+use Rattle.core_model.specs.LogicalRules.{but_first_for, first_for, is_among, drawn_by, is_held, lock_of, passed_to, place_of_vio, placed, released, without}
 use Rattle.core_model.specs.Waiters.{AreFree, AreOwn, IsFree, vios}
 use Rattle.core_model.specs.Limits.{IsLogicalWithin}
 use Rattle.core_model.specs.SessionLimits.{most_items}
-use Rattle.core_model.specs.Vios.{turned}
-use Rattle.core_model.specs.declared.items.Phase.TheVariants as phase
-use Rattle.core_model.specs.declared.items.Vio.{Vio}
-use Rattle.core_model.specs.declared.zones.Logged.{Logged}
+use Rattle.data_vio.specs.Vios.{turned}
+use Rattle.data_vio.specs.declared.items.Phase.TheVariants as phase
+use Rattle.data_vio.specs.declared.items.Vio.{Vio}
+use Rattle.data_vio.specs.declared.logged.Logged.{Logged}
 use Rattle.vdo_model.specs.declared.report.Placed.{Placed}
 use Rattle.core_model.proofs.ListForms.{without_reverse}
 

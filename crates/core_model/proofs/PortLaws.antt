@@ -7,7 +7,7 @@ use Rattle.zone_queues.specs.Queues.{Boxes, Queue, empty, outbox_to, with_more, 
 use Rattle.core_model.specs.PortsData.{AreLanes, IsLane, Ports, items_of, lane_room, ports_of}
 use Rattle.core_model.specs.Steps.{posted}
 use Rattle.core_model.proofs.ListForms.{posted_is}
-use Rattle.core_model.specs.declared.items.Item.{Item}
+use Rattle.data_vio.specs.declared.items.Item.{Item}
 
 -- the outbox to a zone that is there
 pub lane_at : (queues : List (Queue Item)) (to : ℕ) (d : Queue Item) → to < length queues → slice_get (map items_of queues) to ≡ Some (get_or queues to d).items

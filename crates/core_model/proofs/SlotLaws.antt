@@ -12,7 +12,7 @@ use Rattle.std.proofs.lemmas.List.Edits.{get_or-insert_at, get_or-insert_below, 
 use Rattle.std.proofs.lemmas.List.Sorted.{searchable_from_sorted}
 use Rattle.core_model.specs.SlotOrder.{AreInOrder, IsPlaceOf, IsGapFor}
 use Rattle.core_model.specs.Trace.{newest, of_address}
-use Rattle.core_model.specs.declared.zones.Logged.{Logged}
+use Rattle.data_vio.specs.declared.logged.Logged.{Logged}
 
 -- what a search by addresses finds: the place of the address, or its gap
 pub searched : (ws : List Logged) (a : ℕ) (r : Result ℕ ℕ) → AreInOrder ws → IsSearchInRange r (length ws) → IsBinarySearchResult (λ w. nat_cmp w.at.0 a) ws r

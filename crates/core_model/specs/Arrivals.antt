@@ -8,7 +8,7 @@ use Rattle.vdo_model.specs.Scripts.{request_at, same_writer}
 use Rattle.vdo_model.specs.declared.report.DeskLine.TheVariants as line
 use Rattle.vdo_model.specs.declared.report.Placed.{Placed}
 use Rattle.core_model.specs.Facts.{arrival}
-use Rattle.core_model.specs.Zones.{desk_zone, logical_zone}
+use Rattle.data_vio.specs.Zones.{desk_number, logical_number}
 use Rattle.core_model.specs.Sessions.{Session}
 use Rattle.core_model.specs.Streams.{Stream}
 use Rattle.core_model.specs.Trace.{Trace, Says, places}
@@ -42,4 +42,4 @@ drew_in zone (p ∷ older) = if p.zone == zone then drew_in zone older ++ p.requ
 
 -- the arrivals at a logical zone
 abbrev pub arrivals_at : Session → ℕ → Stream Writer
-arrivals_at s zone = record { from = desk_zone; to = logical_zone zone; counts = arrival; sent = sent_to_zone s zone; taken = λ t. drew_in zone (places t) }
+arrivals_at s zone = record { from = desk_number; to = logical_number zone; counts = arrival; sent = sent_to_zone s zone; taken = λ t. drew_in zone (places t) }

@@ -21,39 +21,39 @@ use Rattle.vdo_model.specs.Scripts.{request_at}
 use Rattle.vdo_model.specs.declared.report.FlushMark.{FlushMark}
 use Rattle.vdo_model.specs.declared.report.Placed.{Placed}
 use Rattle.vdo_model.specs.ZoneOrder.{places_in}
-use Rattle.core_model.specs.declared.items.Asks.{Asks}
-use Rattle.core_model.specs.declared.items.Asks.TheVariants.{Read, Write, Discard, Flush}
-use Rattle.core_model.specs.declared.items.Item.{Item}
-use Rattle.core_model.specs.declared.items.Item.TheVariants as item
-use Rattle.core_model.specs.declared.items.Phase.{Phase}
-use Rattle.core_model.specs.declared.items.Phase.TheVariants as phase
-use Rattle.core_model.specs.declared.items.SealedBlock.{SealedBlock}
-use Rattle.core_model.specs.declared.items.Stage.{Stage}
-use Rattle.core_model.specs.declared.items.Stage.TheVariants as stage
-use Rattle.core_model.specs.declared.items.Vio.{Vio}
-use Rattle.core_model.specs.declared.sizes.Sizes.{Sizes}
+use Rattle.data_vio.specs.declared.items.Asks.{Asks}
+use Rattle.data_vio.specs.declared.items.Asks.TheVariants.{Read, Write, Discard, Flush}
+use Rattle.data_vio.specs.declared.items.Item.{Item}
+use Rattle.data_vio.specs.declared.items.Item.TheVariants as item
+use Rattle.data_vio.specs.declared.items.Phase.{Phase}
+use Rattle.data_vio.specs.declared.items.Phase.TheVariants as phase
+use Rattle.data_vio.specs.declared.items.SealedBlock.{SealedBlock}
+use Rattle.data_vio.specs.declared.items.Stage.{Stage}
+use Rattle.data_vio.specs.declared.items.Stage.TheVariants as stage
+use Rattle.data_vio.specs.declared.items.Vio.{Vio}
+use Rattle.data_vio.specs.declared.sizes.Sizes.{Sizes}
 use Rattle.core_model.specs.declared.zones.ZoneData.{ZoneData}
 use Rattle.core_model.specs.declared.zones.ZoneData.TheVariants as at
 use Rattle.core_model.specs.DeskData.{Desk}
 use Rattle.core_model.specs.declared.zones.DeviceZone.{DeviceZone}
 use Rattle.core_model.specs.JournalData.{JournalZone}
 use Rattle.core_model.specs.LogicalData.{Lock}
-use Rattle.core_model.specs.declared.zones.Logged.{Logged}
+use Rattle.data_vio.specs.declared.logged.Logged.{Logged}
 use Rattle.core_model.specs.LogicalData.{LogicalZone}
 use Rattle.core_model.specs.declared.zones.PhysicalZone.{PhysicalZone}
 use Rattle.core_model.specs.declared.zones.Zone.{Zone}
-use Rattle.core_model.specs.DeskRows.{is_marked, mark_of_vio}
-use Rattle.core_model.specs.DeviceRows.{IsInside}
-use Rattle.core_model.specs.JournalRows.{is_closed}
-use Rattle.core_model.specs.LogicalRows.{is_among, is_held, mapped_by}
-use Rattle.core_model.specs.Phases.{row, number_at, stage_row}
-use Rattle.core_model.specs.Zones.{zone_number, zone_count, notified_zones}
+use Rattle.core_model.specs.DeskRules.{is_marked, mark_of_vio}
+use Rattle.core_model.specs.DeviceRules.{IsInside}
+use Rattle.core_model.specs.JournalRules.{is_closed}
+use Rattle.core_model.specs.LogicalRules.{is_among, is_held, mapped_by}
+use Rattle.data_vio.specs.Phases.{row, number_at, stage_row}
+use Rattle.data_vio.specs.Zones.{zone_number, zone_count, notified_zones}
 use Rattle.core_model.specs.RightTraces.{IsOpen, IsPending, MapsTo, NeedsBlock, Quiet, IsCommitted, AllBelow, HasPlace, HasBelow, HasCause}
 use Rattle.core_model.specs.Sessions.{Session, IsFair, IsFresh, OnBlock, NewReads, NewStands, ReadsAs, AtRest, OnItsWay, ReadsBlock, said_by, value_at}
 use Rattle.plain_laws.specs.Sums.{total, Each}
 use Rattle.core_model.specs.Tokens.{lock_weight}
 use Rattle.core_model.specs.Trace.{Trace, all_of, filled, sealed, moments, lines, calls, marks, places, entered, committed, done, aborted, taken, has_taken, has_stopped, of_address, newest, logged_of, entry_of, entries_of}
-use Rattle.core_model.specs.Vios.{all_logged, asked, request_of, logged}
+use Rattle.data_vio.specs.Vios.{all_logged, asked, request_of, logged}
 use Rattle.recovery_journal.specs.Log.{Log, head_of}
 
 -- the number of the zone where a phase, and a stage, is done

@@ -1,7 +1,7 @@
 -- What the journal keeps, as contracts see it.
 use Rattle.std.specs.Prelude.{Bool, List}
-use Rattle.core_model.specs.declared.items.Vio.{Vio}
-use Rattle.core_model.specs.declared.zones.Logged.{Logged}
+use Rattle.data_vio.specs.declared.items.Vio.{Vio}
+use Rattle.data_vio.specs.declared.logged.Logged.{Logged}
 use Rattle.recovery_journal.specs.Log.{Log}
 
 -- Whether the stop notice has come, whether a block is under way, sealed or to be sealed, and whether one failed; the log

@@ -4,7 +4,7 @@ use Rattle.blk_base.specs.declared.request.Writer.{Writer}
 use Rattle.vdo_model.specs.declared.report.Placed.{Placed}
 use Rattle.core_model.specs.Arrivals.{arrivals_at}
 use Rattle.core_model.specs.Facts.{ZoneOk}
-use Rattle.core_model.specs.Zones.{zone_count, notified_zones}
+use Rattle.data_vio.specs.Zones.{zone_count, notified_zones}
 use Rattle.core_model.specs.RightTraces.{RightTrace, GivesRight}
 use Rattle.core_model.specs.Sessions.{Session, IsFair}
 use Rattle.core_model.specs.Steps.{Core}

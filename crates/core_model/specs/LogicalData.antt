@@ -4,8 +4,8 @@ use Rattle.blk_base.specs.declared.journal_entry.Entry.{Entry}
 use Rattle.blk_base.specs.declared.place.Lba.{Lba}
 pub use Rattle.logical_locks.specs.declared.lock.Lock.{Lock}
 use Rattle.vdo_model.specs.declared.report.Placed.{Placed}
-use Rattle.core_model.specs.declared.items.Vio.{Vio}
-use Rattle.core_model.specs.declared.zones.Logged.{Logged}
+use Rattle.data_vio.specs.declared.items.Vio.{Vio}
+use Rattle.data_vio.specs.declared.logged.Logged.{Logged}
 
 -- Its number among the logical zones, whether the stop notice has come, the place that is drawn next and those that were;
 -- the locks that are held, one for each address at most, and who waits for one, in the order of their places; the addresses

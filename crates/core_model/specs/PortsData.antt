@@ -3,7 +3,7 @@ use Rattle.std.specs.Prelude.{ℕ, ◌+◌, ◌*◌, ◌^◌, ◌≡◌, ◌<◌
 use Rattle.std.specs.List.{AllByRecursion}
 use Rattle.zone_queues.specs.Queues.{Boxes, Queue}
 use Rattle.core_model.specs.SessionLimits.{most_items}
-use Rattle.core_model.specs.declared.items.Item.{Item}
+use Rattle.data_vio.specs.declared.items.Item.{Item}
 
 -- the items of each, the oldest first
 pub record Ports : Type 0 where

@@ -8,7 +8,7 @@ use Rattle.vdo_model.specs.ZoneOrder.{by_zone}
 use Rattle.vdo_model.specs.declared.report.HistoryEntry.{HistoryEntry}
 use Rattle.vdo_model.specs.declared.report.Placed.{Placed}
 use Rattle.vdo_model.specs.declared.report.RunReport.{RunReport}
-use Rattle.core_model.specs.declared.zones.Logged.{Logged}
+use Rattle.data_vio.specs.declared.logged.Logged.{Logged}
 use Rattle.core_model.specs.Sessions.{Session, said_by}
 use Rattle.core_model.specs.Trace.{Trace, lines, marks, places, entered, done, logged_of}
 use Rattle.image_model.specs.Windows.{IsWindow}

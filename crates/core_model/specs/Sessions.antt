@@ -17,8 +17,8 @@ use Rattle.disk_model.specs.OneImages.{HasOneImageIn}
 use Rattle.image_layout.specs.Values.{journal_of, mapping_of, value_of}
 use Rattle.stop_laws.specs.Journals.{Surely, block_of_slot}
 use Rattle.vdo_model.specs.Scripts.{Script, request_at, value_written}
-use Rattle.core_model.specs.declared.sizes.Sizes.{Sizes}
-use Rattle.core_model.specs.declared.zones.Logged.{Logged}
+use Rattle.data_vio.specs.declared.sizes.Sizes.{Sizes}
+use Rattle.data_vio.specs.declared.logged.Logged.{Logged}
 use Rattle.plain_laws.specs.Sums.{total}
 use Rattle.core_model.specs.SessionLimits.{IsLimited}
 use Rattle.core_model.specs.Tokens.{is_block}

@@ -1,6 +1,6 @@
 -- Writes in the order of their addresses, one for each of these.
 use Rattle.std.specs.Prelude.{ℕ, ◌≡◌, ◌<◌, ◌≤◌, List, length, slice_index_or}
-use Rattle.core_model.specs.declared.zones.Logged.{Logged}
+use Rattle.data_vio.specs.declared.logged.Logged.{Logged}
 
 -- each write has a lower address than those behind it
 abbrev pub AreInOrder : List Logged → Type 0

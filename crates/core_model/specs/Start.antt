@@ -9,16 +9,16 @@ use Rattle.core_model.specs.JournalData.{JournalZone}
 use Rattle.core_model.specs.LogicalData.{LogicalZone}
 use Rattle.core_model.specs.declared.zones.PhysicalZone.{PhysicalZone}
 use Rattle.core_model.specs.declared.zones.Zone.{Zone}
-use Rattle.core_model.specs.Zones.{desk_zone, logical_zone, physical_zone, journal_zone, device_zone, zone_count}
+use Rattle.data_vio.specs.Zones.{desk_number, logical_number, physical_number, journal_number, device_number, zone_count}
 use Rattle.core_model.specs.Sessions.{Session}
 use Rattle.core_model.specs.Steps.{Core}
-use Rattle.core_model.specs.declared.sizes.Sizes.{Sizes}
+use Rattle.data_vio.specs.declared.sizes.Sizes.{Sizes}
 use Rattle.plain_laws.specs.Sums.{Each}
 use Rattle.recovery_journal.specs.Log.{Log, opening}
 
 -- the desk has the script, and began nothing
 pub record IsFirstDesk (s : Session) (number : ℕ) (desk : Desk) : Type 0 where
-  pub number_is : number ≡ desk_zone
+  pub number_is : number ≡ desk_number
   pub requests : desk.requests ≡ s.script
   pub log : desk.log ≡ []
   pub marks : desk.marks ≡ []
@@ -27,7 +27,7 @@ pub record IsFirstDesk (s : Session) (number : ℕ) (desk : Desk) : Type 0 where
 
 -- a logical zone drew nothing, and has set nothing; it knows the window
 pub record IsFirstLogical (s : Session) (number : ℕ) (l : LogicalZone) : Type 0 where
-  pub number_is : number ≡ logical_zone l.zone
+  pub number_is : number ≡ logical_number l.zone
   pub among : l.zone < s.sizes.zones
   pub notified : l.notified ≡ false
   pub next : l.next ≡ 0
@@ -40,7 +40,7 @@ pub record IsFirstLogical (s : Session) (number : ℕ) (l : LogicalZone) : Type 
 
 -- the physical zone has all the free data blocks
 pub record IsFirstPhysical (s : Session) (number : ℕ) (p : PhysicalZone) : Type 0 where
-  pub number_is : number ≡ physical_zone s.sizes
+  pub number_is : number ≡ physical_number s.sizes
   pub notified : p.notified ≡ false
   pub free : p.free ≡ s.free
 
@@ -55,7 +55,7 @@ abbrev pub first_log : Sizes → Log
 first_log sizes = opening sizes.geometry (earlier_from sizes.start sizes.opened) (sizes.start + sizes.opened) (sizes.zones + 1)
 
 pub record IsFirstJournal (s : Session) (number : ℕ) (j : JournalZone) : Type 0 where
-  pub number_is : number ≡ journal_zone s.sizes
+  pub number_is : number ≡ journal_number s.sizes
   pub notified : j.notified ≡ false
   pub busy : j.busy ≡ false
   pub broken : j.broken ≡ false
@@ -66,7 +66,7 @@ pub record IsFirstJournal (s : Session) (number : ℕ) (j : JournalZone) : Type 
   pub committed : j.committed ≡ []
 
 pub record IsFirstDevice (s : Session) (number : ℕ) (d : DeviceZone) : Type 0 where
-  pub number_is : number ≡ device_zone s.sizes
+  pub number_is : number ≡ device_number s.sizes
   pub stopped : d.stopped ≡ false
   pub calls : d.calls ≡ 0
 

@@ -5,11 +5,11 @@ use Rattle.blk_base.specs.declared.request.Answer.TheVariants as reply
 use Rattle.blk_base.specs.declared.request.Writer.{Writer}
 use Rattle.vdo_model.specs.DeskLog.{IsNextLine}
 use Rattle.vdo_model.specs.declared.report.DeskLine.TheVariants as line
-use Rattle.core_model.specs.declared.items.Item.{Item}
-use Rattle.core_model.specs.declared.items.Item.TheVariants.{Request, Block, StopNotice}
-use Rattle.core_model.specs.declared.items.SealedBlock.{SealedBlock}
-use Rattle.core_model.specs.declared.items.Vio.{Vio}
-use Rattle.core_model.specs.declared.sizes.Sizes.{Sizes}
+use Rattle.data_vio.specs.declared.items.Item.{Item}
+use Rattle.data_vio.specs.declared.items.Item.TheVariants.{Request, Block, StopNotice}
+use Rattle.data_vio.specs.declared.items.SealedBlock.{SealedBlock}
+use Rattle.data_vio.specs.declared.items.Vio.{Vio}
+use Rattle.data_vio.specs.declared.sizes.Sizes.{Sizes}
 use Rattle.core_model.specs.declared.zones.ZoneData.{ZoneData}
 use Rattle.core_model.specs.declared.zones.ZoneData.TheVariants as at
 use Rattle.core_model.specs.DeskData.{Desk}
@@ -19,12 +19,13 @@ use Rattle.core_model.specs.LogicalData.{LogicalZone}
 use Rattle.core_model.specs.declared.zones.PhysicalZone.{PhysicalZone}
 use Rattle.core_model.specs.declared.zones.Zone.{Zone}
 use Rattle.core_model.specs.Trace.{Trace}
-use Rattle.core_model.specs.Vios.{Post}
-use Rattle.core_model.specs.DeskRows.{DeskBegins, DeskServes, with_notice, woken}
-use Rattle.core_model.specs.LogicalRows.{LogicalServes}
-use Rattle.core_model.specs.JournalRows.{PhysicalServes, JournalServes, JournalEnds, all_refused}
-use Rattle.core_model.specs.DeviceRows.{DeviceServes, DeviceWorks}
-use Rattle.core_model.specs.Zones.{zone_number}
+use Rattle.data_vio.specs.Vios.{Post}
+use Rattle.core_model.specs.DeskRules.{DeskBegins, DeskServes, with_notice, woken}
+use Rattle.core_model.specs.LogicalRules.{LogicalServes}
+use Rattle.core_model.specs.PhysicalRules.{PhysicalServes}
+use Rattle.core_model.specs.JournalRules.{JournalServes, JournalEnds, all_refused}
+use Rattle.core_model.specs.DeviceRules.{DeviceServes, DeviceWorks}
+use Rattle.data_vio.specs.Zones.{zone_number}
 use Rattle.plain_laws.specs.Sums.{Each}
 
 -- What a zone does with the item at the front of its inbox, or the desk with none: what it keeps then, what happens, and

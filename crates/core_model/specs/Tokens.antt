@@ -7,19 +7,19 @@ use Rattle.blk_base.specs.declared.request.Writer.{Writer}
 use Rattle.vdo_model.specs.Scripts.{same_writer}
 use Rattle.vdo_model.specs.declared.report.DeskLine.{DeskLine}
 use Rattle.vdo_model.specs.declared.report.DeskLine.TheVariants.{Begin, Answer}
-use Rattle.core_model.specs.declared.items.Item.{Item}
-use Rattle.core_model.specs.declared.items.Item.TheVariants.{Request, Block, StopNotice}
-use Rattle.core_model.specs.declared.items.Phase.{Phase}
-use Rattle.core_model.specs.declared.items.Vio.{Vio}
-use Rattle.core_model.specs.declared.sizes.Sizes.{Sizes}
+use Rattle.data_vio.specs.declared.items.Item.{Item}
+use Rattle.data_vio.specs.declared.items.Item.TheVariants.{Request, Block, StopNotice}
+use Rattle.data_vio.specs.declared.items.Phase.{Phase}
+use Rattle.data_vio.specs.declared.items.Vio.{Vio}
+use Rattle.data_vio.specs.declared.sizes.Sizes.{Sizes}
 use Rattle.core_model.specs.declared.zones.ZoneData.{ZoneData}
 use Rattle.core_model.specs.declared.zones.ZoneData.TheVariants as at
 use Rattle.core_model.specs.LogicalData.{Lock}
-use Rattle.core_model.specs.declared.zones.Logged.{Logged}
+use Rattle.data_vio.specs.declared.logged.Logged.{Logged}
 use Rattle.core_model.specs.declared.zones.Zone.{Zone}
 pub use Rattle.core_model.specs.DeskLines.{is_answer, is_begin}
-use Rattle.core_model.specs.Phases.{row}
-use Rattle.core_model.specs.Zones.{notified_zones}
+use Rattle.data_vio.specs.Phases.{row}
+use Rattle.data_vio.specs.Zones.{notified_zones}
 use Rattle.plain_laws.specs.Sums.{total, bit}
 
 -- a kind of token: what an item weighs, what a zone's data weighs beside the items that it keeps, and what it gave out

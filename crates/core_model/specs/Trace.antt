@@ -15,14 +15,8 @@ use Rattle.vdo_model.specs.declared.report.FlushMark.{FlushMark}
 use Rattle.vdo_model.specs.declared.report.Placed.{Placed}
 use Rattle.vdo_model.specs.FlushMarks.{Moment, Desk, Device, lines_of, calls_of}
 use Rattle.vdo_model.specs.Scripts.{same_writer}
-use Rattle.core_model.specs.declared.zones.Logged.{Logged}
-
--- a read that was given the bytes of its address
-pub record Gift : Type 0 where
-  pub request : Writer
-  pub at : Lba
-  pub place : ℕ
-  pub bytes : List ℕ
+use Rattle.data_vio.specs.declared.logged.Logged.{Logged}
+pub use Rattle.data_vio.specs.Vios.{Gift, entry_of}
 
 pub data Happening : Type 0 where
   -- a line of the desk log, but the answer Ok of a flush
@@ -183,10 +177,6 @@ logged_of (e ∷ older) w = if same_writer e.request w then Some e else logged_o
 abbrev pub gift_of : List Gift → Writer → Option Gift
 gift_of [] w = None
 gift_of (g ∷ older) w = if same_writer g.request w then Some g else gift_of older w
-
--- the entry of the journal, and those of the journal
-abbrev pub entry_of : Logged → Entry
-entry_of e = Remap e.at e.old e.new
 
 -- the entries of these writes, over those of the window
 abbrev pub entries_of : List Entry → List Logged → List Entry

@@ -1,7 +1,7 @@
 -- The zones of threads: each zone by what its thread knows, and what lies between two zones in a lane.
 use Rattle.std.specs.Prelude.{ℕ, ◌≡◌, ◌≢◌, Some, List, [], ◌∷◌, ◌++◌, slice_get, slice_set}
 use Rattle.std.specs.List.{AllByRecursion}
-use Rattle.core_model.specs.declared.items.Item.{Item}
+use Rattle.data_vio.specs.declared.items.Item.{Item}
 use Rattle.core_model.specs.declared.zones.Zone.{Zone}
 use Rattle.core_model.specs.Steps.{Core, with_inbox, with_outboxes}
 use Rattle.core_model.specs.Trace.{Trace}

@@ -3,8 +3,8 @@ use Rattle.std.specs.Prelude.{ℕ, ◌≡◌, true, false, None, List, [], ◌�
 use Rattle.blk_base.specs.declared.place.Lba.{Lba}
 use Rattle.logical_locks.specs.declared.waiter.Waiter.{Waiter}
 use Rattle.core_model.specs.LogicalData.{Lock}
-use Rattle.core_model.specs.LogicalRows.{first_for, is_among, is_held}
-use Rattle.core_model.specs.declared.items.Vio.{Vio}
+use Rattle.core_model.specs.LogicalRules.{first_for, is_among, is_held}
+use Rattle.data_vio.specs.declared.items.Vio.{Vio}
 
 -- the requests that wait
 abbrev pub vios : List (Waiter Vio) → List Vio

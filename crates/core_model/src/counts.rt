@@ -1,7 +1,7 @@
 ghost use Rattle.std.specs.Prelude.{◌≡◌, ◌+◌, ◌-◌, ◌^◌, ◌<◌, length, replicate, slice_index_or, slice_set};
 ghost use Rattle.core_model.specs.SessionLimits.{most_streams};
 
-use crate::MOST_STREAMS;
+use data_vio::MOST_STREAMS;
 use std::marker::Model;
 
 /// A number for each stream that a script may have, from 0 to 2^32 - 1: how many of its requests are begun, or answered.

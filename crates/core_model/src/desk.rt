@@ -2,18 +2,18 @@ ghost use Rattle.std.specs.Prelude.{◌≡◌, ◌+◌, ◌*◌, ◌-◌, ◌^�
 ghost use Rattle.blk_base.specs.declared.request.Answer.TheVariants.{Ok as Done};
 ghost use Rattle.vdo_model.specs.DeskLog.{answered, begun};
 ghost use Rattle.vdo_model.specs.declared.report.DeskLine.TheVariants.{Answer as Answered, Begin};
-ghost use Rattle.core_model.specs.DeskRows.{mark_of_vio};
+ghost use Rattle.core_model.specs.DeskRules.{mark_of_vio};
 ghost use Rattle.core_model.specs.Limits.{HasRoomToBegin};
 ghost use Rattle.core_model.specs.SessionLimits.{most_requests, most_streams, most_under_way, requests_in};
 ghost use Rattle.plain_laws.specs.Sums.{total};
 
 use crate::counts::StreamCounts;
 use crate::scripts::count_requests;
-use crate::{Asks, BoxedVio, Fifo, LANE_ROOM, MOST_UNDER_WAY, Phase, Vio};
+use data_vio::{Asks, BoxedVio, Fifo, LANE_ROOM, MOST_UNDER_WAY, Phase, Vio};
 use blk_base::{Answer, Block, Lba, Mapping, Writer, ZoneId};
 use std::alloc::{AllocError, Global};
 use std::marker::Model;
-use vdo_model::{DeskLine, FlushMark, Requests, Rows};
+use vdo_model::{DeskLine, FlushMark, Requests, ReportList};
 
 /// Where requests begin and are answered. It has the boxes of all requests that aren't under way.
 #[derive(Drop)]
@@ -65,10 +65,10 @@ impl Model for Desk {
 
 /// What a report has of the desk: the requests, the desk log and the marks.
 #[derive(Drop)]
-pub struct DeskRows {
+pub struct DeskReport {
     pub requests: Requests,
-    pub log: Rows<DeskLine>,
-    pub marks: Rows<FlushMark>,
+    pub log: ReportList<DeskLine>,
+    pub marks: ReportList<FlushMark>,
 }
 
 // A request in a box that isn't under way.
@@ -252,13 +252,13 @@ impl Desk {
     }
 
     /// What a report has of it.
-    pub fn into_rows(self) -> DeskRows
+    pub fn into_list(self) -> DeskReport
         ensures { result ≡ record { requests = self.requests; log = self.log; marks = self.marks } }
     {
-        DeskRows {
+        DeskReport {
             requests: self.requests,
-            log: Rows::from_vec(self.lines),
-            marks: Rows::from_vec(self.marks),
+            log: ReportList::from_vec(self.lines),
+            marks: ReportList::from_vec(self.marks),
         }
     }
 }

@@ -1,15 +1,12 @@
 ghost use Rattle.std.specs.Prelude.{◌↔◌, IsTrue, ◌≡◌, ◌+◌, ◌<◌, ◌≤◌, ◌^◌, [], ◌∷◌, ◌++◌, IfOk, IfErr, IfSome, IfNone, OnOk, OnErr, true, false, length, reverse};
 ghost use Rattle.blk_base.specs.Limits.{IsGeometry};
-ghost use Rattle.core_model.specs.JournalRows as rows;
-ghost use Rattle.core_model.specs.JournalRows.{HasNext, IsSealable};
+ghost use Rattle.core_model.specs.JournalRules as rows;
+ghost use Rattle.core_model.specs.JournalRules.{HasNext, IsSealable};
 ghost use Rattle.core_model.specs.SessionLimits.{most_items, most_requests};
 ghost use Rattle.core_model.specs.Start.{first_log};
-ghost use Rattle.core_model.specs.declared.items.Stage.TheVariants.{Commit, Cover};
+ghost use Rattle.data_vio.specs.declared.items.Stage.TheVariants.{Commit, Cover};
 
-use crate::{
-    BLOCK_ENTRIES, BoxedVio, Fifo, LANE_ROOM, Logged, Phase, REQUEST_ROOM, Register, SealedBlock,
-    Sizes, Stage,
-};
+use data_vio::{BLOCK_ENTRIES, BoxedVio, Fifo, LANE_ROOM, Logged, Phase, REQUEST_ROOM, Register, SealedBlock, Sizes, Stage};
 use recovery_journal::Journal;
 use std::alloc::{AllocError, Global};
 use std::marker::Model;

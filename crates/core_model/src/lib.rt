@@ -5,7 +5,7 @@
 //! let go of. There is one physical zone, each write but one of zeros takes a fresh data block, and no block becomes
 //! free again.
 //!
-//! `specs/Phases` and the files `..Rows` are the rules; `Trace`, `RightTraces` what happens and may happen; `Tokens`,
+//! `Phases` of `data_vio` and the files `..Rules` are the rules; `Trace`, `RightTraces` what happens and may happen; `Tokens`,
 //! `Facts`, `Legal` the invariant; `Sessions`, `Start`, `Limits` what a session is; `Views`, `Streams` what threads
 //! know of zones.
 //!
@@ -13,36 +13,21 @@
 //! `GivesValues` and `report_of`; `first_log` and `earlier_from`; the tokens. A legal core is in the rows of `core_laws`.
 #![tactic(auto)]
 
-mod boxed;
 mod counts;
 mod desk;
-mod fifo;
-mod items;
 mod journal;
-mod limits;
 mod logical;
 mod ports;
-mod register;
 mod scripts;
-mod sizes;
 mod slots;
 mod supply;
 mod zones;
 
-pub use boxed::BoxedVio;
-pub use desk::{Desk, DeskRows};
-pub use fifo::Fifo;
-pub use items::{Asks, Item, Phase, SealedBlock, Stage, Vio};
+pub use desk::{Desk, DeskReport};
 pub use journal::JournalZone;
-pub use limits::{
-    BLOCK_ENTRIES, LANE_ROOM, LOCK_ROOM, MOST_DEPTH, MOST_ITEMS, MOST_NOTICES, MOST_REQUESTS,
-    MOST_STREAMS, MOST_UNDER_WAY, MOST_ZONES, POST_ROOM, REQUEST_ROOM,
-};
 pub use logical::LogicalZone;
 pub use ports::{Lane, Ports};
-pub use register::Register;
 pub use scripts::is_limited;
-pub use sizes::Sizes;
 pub use slots::Slots;
 pub use supply::Supply;
-pub use zones::{DeviceZone, Logged, PhysicalZone, Zone, ZoneData};
+pub use zones::{DeviceZone, PhysicalZone, Zone, ZoneData};

@@ -1,18 +1,19 @@
 ghost use Rattle.std.specs.Prelude.{◌↔◌, IsTrue, ◌≡◌, ◌+◌, ◌-◌, ◌^◌, ◌<◌, ◌≤◌, [], ◌∷◌, ◌++◌, IfOk, IfSome, IfNone, None, true, false, length, reverse};
 ghost use Rattle.logical_locks.specs.Holders.{HasRoom};
 ghost use Rattle.core_model.specs.Limits.{IsLogicalWithin};
-ghost use Rattle.core_model.specs.LogicalRows as rows;
+ghost use Rattle.core_model.specs.LogicalRules as rows;
 ghost use Rattle.core_model.specs.SessionLimits.{most_requests};
 ghost use Rattle.core_model.specs.Waiters.{AreOwn, IsFree, vios};
-ghost use Rattle.core_model.specs.Vios.{turned};
-ghost use Rattle.core_model.specs.declared.items.Phase.TheVariants as phase;
+ghost use Rattle.data_vio.specs.Vios.{turned};
+ghost use Rattle.data_vio.specs.declared.items.Phase.TheVariants as phase;
 
-use crate::{BoxedVio, LOCK_ROOM, Logged, Phase, REQUEST_ROOM, Register, Slots};
+use crate::Slots;
+use data_vio::{BoxedVio, LOCK_ROOM, Logged, Phase, REQUEST_ROOM, Register};
 use blk_base::{Entry, Lba};
 use logical_locks::Locks;
 use std::alloc::{AllocError, Global};
 use std::marker::Model;
-use vdo_model::{Placed, Rows};
+use vdo_model::{Placed, ReportList};
 
 /// The addresses of some trees: their places, locks and slots.
 #[derive(Drop)]
@@ -26,7 +27,7 @@ pub struct LogicalZone {
     // The addresses whose locks are never released. The parts hold none of these: that no request gets one is seen here.
     retired: Register<Lba, REQUEST_ROOM>,
     // The entries of the journal when the session began.
-    window: Rows<Entry>,
+    window: ReportList<Entry>,
     slots: Slots,
 }
 
@@ -60,7 +61,7 @@ impl Model for LogicalZone {
 impl LogicalZone {
     /// A logical zone at the start of a session, by its number among the logical ones: it drew nothing and has set nothing,
     /// and knows these entries of the window. All its room is taken here.
-    pub fn new(alloc: Global, zone: u8, window: Rows<Entry>) -> Result<LogicalZone, AllocError>
+    pub fn new(alloc: Global, zone: u8, window: ReportList<Entry>) -> Result<LogicalZone, AllocError>
         ensures { IfOk result (λ logical. logical ≡ record {
           zone = zone;
           notified = false;

@@ -1,11 +1,11 @@
 ghost use Rattle.std.specs.Prelude.{◌≡◌, ◌+◌, ◌<◌, ◌≤◌, ◌↔◌, List, [], ◌∷◌, ◌++◌, Some, IfOk, IfSome, IfNone, IsTrue, false, length, replicate, slice_get, slice_set};
 ghost use Rattle.std.specs.List.{AllByRecursion};
-ghost use Rattle.core_model.specs.declared.items.Item.{Item};
+ghost use Rattle.data_vio.specs.declared.items.Item.{Item};
 ghost use Rattle.core_model.specs.Limits.{IsShort};
 ghost use Rattle.core_model.specs.PortsData.{items_of};
 ghost use Rattle.core_model.specs.Steps.{posted};
 
-use crate::{Fifo, Item, LANE_ROOM};
+use data_vio::{Fifo, Item, LANE_ROOM};
 use std::alloc::{AllocError, Global};
 use std::marker::Model;
 use std::mem::replace;

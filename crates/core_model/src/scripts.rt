@@ -1,7 +1,7 @@
 ghost use Rattle.std.specs.Prelude.{◌≡◌, ◌≤◌, ◌↔◌, IsTrue, length};
 ghost use Rattle.core_model.specs.SessionLimits.{most_requests, most_streams, requests_in};
 
-use crate::{MOST_REQUESTS, MOST_STREAMS};
+use data_vio::{MOST_REQUESTS, MOST_STREAMS};
 use vdo_model::Requests;
 
 /// How many requests there are.

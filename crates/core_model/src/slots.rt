@@ -2,7 +2,7 @@ ghost use Rattle.std.specs.Prelude.{ℕ, ◌≡◌, ◌+◌, ◌<◌, ◌≤◌,
 ghost use Rattle.core_model.specs.SlotOrder.{AreInOrder, IsGapFor, IsPlaceOf};
 ghost use Rattle.core_model.specs.Trace.{newest, of_address};
 
-use crate::{Logged, REQUEST_ROOM, Register};
+use data_vio::{Logged, REQUEST_ROOM, Register};
 use blk_base::Lba;
 use std::alloc::{AllocError, Global};
 use std::marker::Model;
@@ -21,7 +21,7 @@ impl Model for Slots {
     ghost use Rattle.core_model.specs.SessionLimits.{most_requests};
     ghost use Rattle.core_model.specs.SlotOrder.{AreInOrder};
     ghost use Rattle.core_model.specs.Trace.{newest, of_address};
-    ghost use Rattle.core_model.specs.declared.zones.Logged.{Logged};
+    ghost use Rattle.data_vio.specs.declared.logged.Logged.{Logged};
 
     ghost Value = { List Logged };
 

@@ -21,7 +21,7 @@ use Rattle.vdo_model.specs.Histories.{Progress, entry_of, histories_of, mark_of}
 use Rattle.vdo_model.specs.Scripts.{Script, request_at}
 use Rattle.core_model.specs.SessionLimits.{most_requests}
 use Rattle.core_model.specs.DeskData.{Desk}
-use Rattle.core_model.specs.declared.zones.Logged.{Logged}
+use Rattle.data_vio.specs.declared.logged.Logged.{Logged}
 use Rattle.core_model.specs.declared.zones.Zone.{Zone}
 use Rattle.core_model.specs.declared.zones.ZoneData.{ZoneData}
 use Rattle.core_model.specs.declared.zones.ZoneData.TheVariants as at

@@ -1,7 +1,7 @@
 -- The zones of a legal core have what its report says.
 use Rattle.std.proofs.Common.{ℕ, suc, ◌≡◌, ◌<◌, ◌≤◌, ◌+◌, ◌-◌, ◌++◌, Some, List, [], ◌∷◌, length, slice_get, refl, sym, ◌∙◌, ap, subst, append_assoc, inl, inr, arith}
 use Rattle.std.proofs.lemmas.List.{append-nil}
-use Rattle.core_laws.proofs.Common.{AllAnswered, AllByRecursion, AreDrawn, DataOk, DeskLine, HistoryEntry, IsSession, Placed, RunReport, Script, Session, Trace, Zone, ZoneData, desk_zone, entered, journal_zone, lines, marks, places, some_is, cases_lt}
+use Rattle.core_laws.proofs.Common.{AllAnswered, AllByRecursion, AreDrawn, DataOk, DeskLine, HistoryEntry, IsSession, Placed, RunReport, Script, Session, Trace, Zone, ZoneData, desk_number, entered, journal_number, lines, marks, places, some_is, cases_lt}
 use Rattle.core_laws.proofs.kept.ZoneKinds.{desk_sits, journal_sits}
 use Rattle.core_laws.proofs.trace.PlacesOfTrace.{places_drawn}
 use Rattle.core_limits.proofs.DeskLimits.{asked_inside}
@@ -10,7 +10,7 @@ use Rattle.vdo_model.proofs.ZoneOrderLaws.{drawn_same, listed_same}
 use Rattle.vdo_model.specs.Histories.{histories_of}
 use Rattle.vdo_model.specs.ZoneOrder.{by_zone}
 use Rattle.core_model.specs.DeskData.{Desk}
-use Rattle.core_model.specs.declared.desk.DeskRows.{DeskRows}
+use Rattle.core_model.specs.declared.desk.DeskReport.{DeskReport}
 use Rattle.core_model.specs.Legal.{Legal}
 use Rattle.core_model.specs.Reports.{listed_places, progress_of, report_of}
 use Rattle.core_model.specs.SessionLimits.{most_requests, most_streams}
@@ -128,7 +128,7 @@ module _ (s : Session) (t : Trace) (zones : List Zone) (session : IsSession s) (
   pub its_desk : ItsDesk
   its_desk =
       let sits = desk_sits s t zones legal.each legal.count in
-      let is = own desk_zone sits.zone (at.Desk sits.it) sits.had sits.keeps in
+      let is = own desk_number sits.zone (at.Desk sits.it) sits.had sits.keeps in
       record {
         desk = sits.it;
         has = record { zone = sits.zone; had = sits.had; keeps = sits.keeps };
@@ -141,7 +141,7 @@ module _ (s : Session) (t : Trace) (zones : List Zone) (session : IsSession s) (
   its_entries =
       let sits = journal_sits s t zones legal.each legal.count in
       record {
-        number = journal_zone s.sizes;
+        number = journal_number s.sizes;
         zone = sits.zone;
         journal = sits.it;
         had = sits.had;
@@ -150,15 +150,15 @@ module _ (s : Session) (t : Trace) (zones : List Zone) (session : IsSession s) (
       }
 
   -- so the desk, the places and the histories make the report
-  pub report_is : (rows : DeskRows) (ps : List Placed) (hs : List HistoryEntry)
+  pub report_is : (rows : DeskReport) (ps : List Placed) (hs : List HistoryEntry)
       → rows ≡ record { requests = its_desk.desk.requests; log = its_desk.desk.log; marks = its_desk.desk.marks } → ps ≡ places_of_all zones
       → hs ≡ histories_of its_desk.desk.requests its_desk.desk.log (progress_of t) ps
       → ◌≡◌ {A = RunReport} (record { requests = rows.requests; desk = rows.log; marks = rows.marks; places = ps; histories = hs }) (report_of s t)
   report_is rows ps hs rows_are ps_are hs_are =
       let placed : ps ≡ listed_places s t = ps_are ∙ places_listed in
-      let requests : rows.requests ≡ s.script = ap (λ (r : DeskRows). r.requests) rows_are ∙ its_desk.requests_is in
-      let log : rows.log ≡ lines t = ap (λ (r : DeskRows). r.log) rows_are ∙ its_desk.log_is in
-      let marked : rows.marks ≡ marks t = ap (λ (r : DeskRows). r.marks) rows_are ∙ its_desk.marks_is in
+      let requests : rows.requests ≡ s.script = ap (λ (r : DeskReport). r.requests) rows_are ∙ its_desk.requests_is in
+      let log : rows.log ≡ lines t = ap (λ (r : DeskReport). r.log) rows_are ∙ its_desk.log_is in
+      let marked : rows.marks ≡ marks t = ap (λ (r : DeskReport). r.marks) rows_are ∙ its_desk.marks_is in
       let histories : hs ≡ histories_of s.script (lines t) (progress_of t) (listed_places s t)
       = hs_are
       ∙ ap (λ (script : Script). histories_of script its_desk.desk.log (progress_of t) ps) its_desk.requests_is

@@ -16,7 +16,7 @@ use Rattle.core_model.specs.DeskData.{Desk}
 use Rattle.core_model.specs.Reports.{is_there}
 use Rattle.core_model.specs.Trace.{logged_of}
 use Rattle.core_model.specs.JournalData.{JournalZone}
-use Rattle.core_model.specs.declared.zones.Logged.{Logged}
+use Rattle.data_vio.specs.declared.logged.Logged.{Logged}
 use Rattle.core_model.specs.declared.zones.Zone.{Zone}
 use Rattle.core_model.specs.declared.zones.ZoneData.{ZoneData}
 use Rattle.core_model.specs.declared.zones.ZoneData.TheVariants as at

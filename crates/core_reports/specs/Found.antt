@@ -10,7 +10,7 @@ use Rattle.vdo_model.specs.Histories.{Progress}
 use Rattle.core_model.specs.Reports.{is_there}
 use Rattle.core_model.specs.SessionLimits.{most_requests, most_streams}
 use Rattle.core_model.specs.Trace.{logged_of}
-use Rattle.core_model.specs.declared.zones.Logged.{Logged}
+use Rattle.data_vio.specs.declared.logged.Logged.{Logged}
 
 -- each stream's answers among these lines are noted
 abbrev pub AreNoted : List DeskLine → List (List (Option ℕ)) → Type 0

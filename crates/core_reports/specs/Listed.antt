@@ -2,9 +2,9 @@
 use Rattle.std.specs.Prelude.{ℕ, ◌≡◌, List, [], ◌∷◌, ◌++◌, Some, slice_get}
 use Rattle.vdo_model.specs.declared.report.Placed.{Placed}
 use Rattle.core_model.specs.DeskData.{Desk}
-use Rattle.core_model.specs.Zones.{desk_zone}
+use Rattle.data_vio.specs.Zones.{desk_number}
 use Rattle.core_model.specs.JournalData.{JournalZone}
-use Rattle.core_model.specs.declared.zones.Logged.{Logged}
+use Rattle.data_vio.specs.declared.logged.Logged.{Logged}
 use Rattle.core_model.specs.declared.zones.Zone.{Zone}
 use Rattle.core_model.specs.declared.zones.ZoneData.{ZoneData}
 use Rattle.core_model.specs.declared.zones.ZoneData.TheVariants as at
@@ -22,7 +22,7 @@ places_of_all (z ∷ zones) = places_of_all zones ++ places_at z.keeps
 -- the desk is the first zone, and keeps this
 pub record HasDesk (desk : Desk) (zones : List Zone) : Type 0 where
   pub zone : Zone
-  pub had : slice_get zones desk_zone ≡ Some zone
+  pub had : slice_get zones desk_number ≡ Some zone
   pub keeps : zone.keeps ≡ at.Desk desk
 
 -- there is a journal, and each that is there has handed in these entries

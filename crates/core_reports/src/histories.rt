@@ -6,15 +6,16 @@ ghost use Rattle.vdo_model.specs.declared.report.Mark.{Mark as Marked};
 ghost use Rattle.core_model.specs.DeskData.{Desk as DeskData};
 ghost use Rattle.core_model.specs.Reports.{is_there};
 ghost use Rattle.core_model.specs.Trace.{logged_of};
-ghost use Rattle.core_model.specs.declared.zones.Logged.{Logged as Entered};
+ghost use Rattle.data_vio.specs.declared.logged.Logged.{Logged as Entered};
 ghost use Rattle.core_reports.specs.Found.{AreFound, AreNoted, IsFound};
 ghost use Rattle.core_reports.specs.Listed.{HasDesk, HasEntered};
 
-use crate::listing::entries;
+use crate::lists::entries;
 use crate::marks::mark;
 use crate::notes::{StreamNotes, note_streams, noted_line};
 use blk_base::{Lba, Request, Writer};
-use core_model::{Logged, REQUEST_ROOM, Register, Zone, ZoneData};
+use core_model::{Zone, ZoneData};
+use data_vio::{Logged, REQUEST_ROOM, Register};
 use vdo_model::{DeskLine, HistoryEntry, Placed, Requests};
 
 // The address that a request changes, where it is a write or a discard.

@@ -12,11 +12,11 @@
 #![tactic(auto)]
 
 mod histories;
-mod listing;
+mod lists;
 mod marks;
 mod notes;
-mod reporting;
+mod reports;
 mod room;
 
-pub use reporting::report;
+pub use reports::report;
 pub use room::ReportRoom;

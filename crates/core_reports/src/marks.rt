@@ -7,7 +7,7 @@ ghost use Rattle.core_model.specs.Reports.{is_there};
 ghost use Rattle.core_model.specs.Trace.{logged_of};
 
 use blk_base::{Answer, Writer};
-use core_model::Logged;
+use data_vio::Logged;
 use vdo_model::{DeskLine, Mark};
 
 // Whether the entry of a write is among these.

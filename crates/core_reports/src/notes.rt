@@ -4,7 +4,7 @@ ghost use Rattle.core_reports.specs.Found.{AreNoted};
 
 use answer_notes::note_answers;
 use blk_base::Writer;
-use core_model::MOST_STREAMS;
+use data_vio::MOST_STREAMS;
 use std::alloc::{AllocError, Global};
 use std::marker::Model;
 use vdo_model::DeskLine;

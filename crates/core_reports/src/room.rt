@@ -2,7 +2,7 @@ ghost use Rattle.std.specs.Prelude.{◌≡◌, ◌<◌, ℕ, IfOk, length, map};
 ghost use Rattle.core_reports.specs.Rooms.{IsRoomFor};
 
 use crate::notes::StreamNotes;
-use core_model::{MOST_STREAMS, REQUEST_ROOM, Register};
+use data_vio::{MOST_STREAMS, REQUEST_ROOM, Register};
 use std::alloc::{AllocError, Global};
 use std::marker::Model;
 use vdo_model::{HistoryEntry, Placed, Requests};

@@ -1,7 +1,7 @@
 ghost use Rattle.std.specs.Prelude.{◌≡◌, ◌++◌, [], ◌∷◌, IfOk, OnOk};
 ghost use Rattle.std.specs.List.{AllByRecursion};
 ghost use Rattle.core_model.specs.Sessions.{IsServed};
-ghost use Rattle.steps_device.specs.DeviceCalls.{Fits};
+ghost use Rattle.device_zone.specs.DeviceCalls.{Fits};
 
 use crate::sessions::open_over;
 use blk_base::{Answer, Block, Geometry, Lba, Request, Writer};

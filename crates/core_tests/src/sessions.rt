@@ -3,7 +3,7 @@ ghost use Rattle.std.specs.List.{AllByRecursion};
 ghost use Rattle.blk_base.specs.Limits.{IsGeometry};
 ghost use Rattle.blk_base.specs.Regions.{needed_blocks};
 ghost use Rattle.core_model.specs.Sessions.{IsServed, said_by};
-ghost use Rattle.steps_device.specs.DeviceCalls.{Fits};
+ghost use Rattle.device_zone.specs.DeviceCalls.{Fits};
 
 use crate::cores::{Ask, Unplayed, script};
 use blk_base::{Block, CommittedEntry, Entry, Geometry, Layout, Pbn, Super};

@@ -1,5 +1,5 @@
 ghost use Rattle.std.specs.Prelude.{◌≡◌};
-ghost use Rattle.steps_device.specs.DeviceCalls.{Fits};
+ghost use Rattle.device_zone.specs.DeviceCalls.{Fits};
 
 use crate::cores::{Ask, Unplayed, push, stepped};
 use crate::sessions::{Plan, Trouble, driven, open_core, troubled};

@@ -4,12 +4,12 @@
 //! updates, which may name an update more than once. What is asked for grows with these lists.
 #![tactic(auto)]
 
-mod applying;
-mod collecting;
-mod counting;
+mod applied;
+mod collection;
+mod block_counts;
 mod forms;
 
-pub use applying::applied_points;
-pub use collecting::{put_in_order, updates_of_window};
-pub use counting::counts_of;
+pub use applied::applied_points;
+pub use collection::{put_in_order, updates_of_window};
+pub use block_counts::counts_of;
 pub use forms::{CountFault, Found};

@@ -11,8 +11,8 @@
 #![tactic(auto)]
 
 mod disk;
-mod opening;
+mod open_files;
 mod places;
 
 pub use disk::FileDisk;
-pub use opening::{Access, open_disk};
+pub use open_files::{Access, open_disk};

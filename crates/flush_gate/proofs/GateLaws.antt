@@ -5,7 +5,7 @@ use Rattle.std.proofs.lemmas.List.{get_or-append_right, set-append_right, get_or
 use Rattle.std.proofs.lemmas.Bool.{cases_lt}
 use Rattle.std.proofs.Math.ListN.{get_or-append, get_or-eq_default}
 use Rattle.flush_gate.specs.Flushes.{Flushes, AreFrom, AreOlderDone, OldestWaits, Leaves}
-use Rattle.flush_gate.specs.declared.waiting.Waiting.{Waiting}
+use Rattle.flush_gate.specs.declared.waiters.Waiting.{Waiting}
 
 -- all counts, where those before `oldest` are 0
 abbrev pub all_counts : ℕ → List ℕ → List ℕ

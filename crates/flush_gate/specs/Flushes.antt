@@ -1,6 +1,6 @@
 -- What a gate of flushes knows.
 use Rattle.std.specs.Prelude.{ℕ, ◌≡◌, ◌<◌, ◌+◌, ◌^◌, List, [], ◌∷◌, length, slice_index}
-use Rattle.flush_gate.specs.declared.waiting.Waiting.{Waiting}
+use Rattle.flush_gate.specs.declared.waiters.Waiting.{Waiting}
 
 -- `under_way` has the number of writes under way for each generation from 0 to the one of now; the flushes wait in order
 pub record Flushes : Type 0 where

@@ -1,6 +1,6 @@
 ghost use Rattle.std.specs.Prelude.{◌≡◌, ℕ, ◌+◌, ◌-◌, ◌<◌, ◌^◌, ◌↔◌, ◌∷◌, ◌++◌, [], length, slice_index, slice_set, IsTrue, IfOk, IfSome, IfNone};
 ghost use Rattle.flush_gate.specs.Flushes.{opening, HasRoom, AreOlderDone, OldestWaits, Leaves};
-ghost use Rattle.flush_gate.specs.declared.waiting.Waiting.{Waiting};
+ghost use Rattle.flush_gate.specs.declared.waiters.Waiting.{Waiting};
 
 use crate::Waiting;
 use blk_base::Writer;

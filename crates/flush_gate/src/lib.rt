@@ -4,7 +4,7 @@
 #![tactic(auto)]
 
 mod gate;
-mod waiting;
+mod waiters;
 
 pub use gate::Gate;
-pub use waiting::Waiting;
+pub use waiters::Waiting;

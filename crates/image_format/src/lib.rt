@@ -17,7 +17,7 @@
 
 mod calls;
 mod fault;
-mod formatting;
+mod formatter;
 
 pub use fault::FormatFault;
-pub use formatting::format;
+pub use formatter::format;

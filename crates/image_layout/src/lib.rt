@@ -6,14 +6,14 @@
 
 mod fault;
 mod first;
-mod planning;
-mod reading;
+mod planner;
+mod superblock_reader;
 mod values;
-mod writing;
+mod superblock_writer;
 
 pub use fault::{Field, LayoutFault, SuperFault};
 pub use first::first_image;
-pub use planning::plan;
-pub use reading::read_super;
+pub use planner::plan;
+pub use superblock_reader::read_super;
 pub use values::mapping_at;
-pub use writing::write_super;
+pub use superblock_writer::write_super;

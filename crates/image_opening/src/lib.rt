@@ -2,7 +2,7 @@
 #![tactic(auto)]
 
 mod laws;
-mod reading;
+mod superblock;
 
 pub use laws::a_read_shows_the_superblock;
-pub use reading::read_head;
+pub use superblock::read_head;

@@ -5,7 +5,7 @@
 #![tactic(auto)]
 
 mod forms;
-mod reading;
+mod status_reader;
 
 pub use forms::ImageStatus;
-pub use reading::read_status;
+pub use status_reader::read_status;

@@ -36,13 +36,13 @@
 mod format;
 mod forms;
 mod laws;
-mod reading;
-mod writing;
+mod decoder;
+mod encoder;
 
 pub use forms::{Entries, JournalBlock, Prefix, Sector};
 pub use laws::{
     a_run_is_its_sectors, a_torn_write_leaves_a_prefix, bytes_have_one_reading,
     what_is_written_is_read,
 };
-pub use reading::{block_prefix, sector};
-pub use writing::encode;
+pub use decoder::{block_prefix, sector};
+pub use encoder::encode;

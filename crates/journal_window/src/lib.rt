@@ -12,14 +12,14 @@
 #![tactic(auto)]
 
 mod entries;
-mod finding;
+mod finder;
 mod laws;
 mod newest;
-mod reading;
-mod replaying;
+mod journal_reader;
+mod replayed_blocks;
 mod window;
 
-pub use finding::window_of;
+pub use finder::window_of;
 pub use laws::{a_journal_has_one_answer, reads_show_the_window};
-pub use reading::read_window;
+pub use journal_reader::read_window;
 pub use window::JournalWindow;

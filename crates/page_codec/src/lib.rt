@@ -35,8 +35,8 @@
 mod fault;
 mod forms;
 mod laws;
-mod reading;
-mod writing;
+mod decoder;
+mod encoder;
 
 pub use fault::PageFault;
 pub use forms::{MapPage, PageHead};
@@ -44,5 +44,5 @@ pub use laws::{
     a_page_is_its_slots, a_torn_page_keeps_whole_slots, bytes_have_one_reading,
     what_is_written_is_read,
 };
-pub use reading::{decode, slot};
-pub use writing::encode;
+pub use decoder::{decode, slot};
+pub use encoder::encode;

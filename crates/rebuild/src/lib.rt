@@ -28,12 +28,12 @@ mod calls;
 mod counters;
 mod forms;
 mod laws;
-mod opening;
+mod clean_image;
 mod pages;
-mod recovering;
+mod recovery;
 mod unclean;
 
 pub use forms::Recovered;
 pub use laws::recovered_once_for_all;
-pub use opening::open_clean;
-pub use recovering::recover;
+pub use clean_image::open_clean;
+pub use recovery::recover;

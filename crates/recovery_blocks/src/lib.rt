@@ -3,8 +3,8 @@
 //! kept; neither can be refused.
 #![tactic(auto)]
 
-mod counting;
-mod patching;
+mod counter_blocks;
+mod page_patches;
 
-pub use counting::{has_updates, put_counts};
-pub use patching::{has_changes, put_changes};
+pub use counter_blocks::{has_updates, put_counts};
+pub use page_patches::{has_changes, put_changes};

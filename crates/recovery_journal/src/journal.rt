@@ -4,8 +4,8 @@ ghost use Rattle.journal_codec.specs.Grammar.{HoldsEntry, HoldsBlock};
 ghost use Rattle.recovery_journal.specs.Log.{opening, head_of, first_point, unhanded, IsHead, HasRoom, HasNoRoom, IsWriting, Seals, HandsOut, NoneCommitted, IsBehind, IsNamed, Advances};
 
 use crate::Place;
-use crate::entering::enter;
-use crate::marking::{count_durable, first_needed, first_sequence, leave_out, sequence_of};
+use crate::new_entry::enter;
+use crate::watermarks::{count_durable, first_needed, first_sequence, leave_out, sequence_of};
 use blk_base::{CommittedEntry, Entry, Geometry, Half, Point, raise, repeated};
 use journal_codec::{Entries, JournalBlock};
 use std::alloc::{AllocError, Global};

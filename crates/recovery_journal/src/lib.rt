@@ -14,11 +14,11 @@
 //! Only tested: a full ring that waits for its head; one behind an earlier session, whose head stays.
 #![tactic(auto)]
 
-mod entering;
+mod new_entry;
 mod forms;
 mod journal;
 mod laws;
-mod marking;
+mod watermarks;
 
 pub use forms::Place;
 pub use journal::Journal;

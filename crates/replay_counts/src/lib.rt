@@ -11,9 +11,9 @@
 #![tactic(auto)]
 
 mod forms;
-mod recovering;
+mod replayed_counts;
 mod window;
 
 pub use forms::{RecoveredCounts, SectorPoints};
-pub use recovering::counts_with;
+pub use replayed_counts::counts_with;
 pub use window::counts;

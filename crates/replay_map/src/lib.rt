@@ -14,16 +14,16 @@
 #![tactic(auto)]
 
 mod changes;
-mod finding;
+mod found_map;
 mod found;
 mod laws;
 mod links;
 mod pages;
 mod recovered;
-mod replaying;
-mod sharing;
-mod taking;
-mod walking;
+mod replayed_map;
+mod shared_pages;
+mod taken_pages;
+mod tree_walk;
 
 pub use changes::{Changes, SlotId};
 pub use found::SlotChange;
@@ -31,4 +31,4 @@ pub use laws::reads_show_the_map;
 pub use links::{Link, links_of};
 pub use pages::read_page;
 pub use recovered::RecoveredMap;
-pub use replaying::{replay, replay_with};
+pub use replayed_map::{replay, replay_with};

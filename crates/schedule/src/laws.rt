@@ -1,6 +1,6 @@
 ghost use Rattle.std.specs.Prelude.{ℕ, ◌≡◌, Bool, List, ◌++◌};
 ghost use Rattle.disk_model.specs.Seen.{Seen};
-ghost use Rattle.core_model.specs.declared.sizes.Sizes.{Sizes};
+ghost use Rattle.data_vio.specs.declared.sizes.Sizes.{Sizes};
 ghost use Rattle.core_model.specs.declared.zones.Zone.{Zone};
 ghost use Rattle.core_model.specs.Steps.{Leads};
 ghost use Rattle.core_model.specs.Trace.{Trace};

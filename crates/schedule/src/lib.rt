@@ -14,12 +14,12 @@
 //! Not there: that `drive` returns, and, in a law of this crate, that a core that isn't done has a turn.
 #![tactic(auto)]
 
-mod driving;
+mod driver;
 mod laws;
-mod playing;
+mod player;
 mod turns;
 
-pub use driving::drive;
+pub use driver::drive;
 pub use laws::{a_played_list_is_a_first_part, a_schedule_plays_events, a_turn_takes_one_event};
-pub use playing::play;
+pub use player::play;
 pub use turns::Schedule;

@@ -2,7 +2,7 @@ ghost use Rattle.std.specs.Prelude.{◌≡◌, ◌≤◌, ◌<◌, [], List, Mat
 ghost use Rattle.disk_model.specs.Picks.{next_state, number_in};
 ghost use Rattle.disk_model.specs.Seen.{Stays};
 ghost use Rattle.core_model.specs.Trace.{Trace};
-ghost use Rattle.steps_device.specs.DeviceCalls.{Fits};
+ghost use Rattle.device_zone.specs.DeviceCalls.{Fits};
 ghost use Rattle.vdo_core.specs.Done.{IsDone};
 ghost use Rattle.vdo_core.specs.declared.events.Event.{Event};
 ghost use Rattle.schedule.specs.Turns.{AreReady, Drives, IsTurn, event_count, event_of};

@@ -8,11 +8,11 @@
 #![tactic(auto)]
 
 mod forms;
-mod reading;
+mod reader;
 mod records;
-mod writing;
+mod writer;
 
 pub use forms::Format;
-pub use reading::{bytes_of_sector, is_sector, read_records};
+pub use reader::{bytes_of_sector, is_sector, read_records};
 pub use records::Records;
-pub use writing::{put_block, put_sector};
+pub use writer::{put_block, put_sector};

@@ -11,6 +11,6 @@
 mod counts;
 mod pages;
 mod places;
-mod starting;
+mod session_start;
 
-pub use starting::opened_of;
+pub use session_start::opened_of;

@@ -38,13 +38,13 @@ mod counters;
 mod format;
 mod forms;
 mod laws;
-mod reading;
-mod writing;
+mod decoder;
+mod encoder;
 
 pub use counters::{encode_reference, reference_sector, sector_counters};
 pub use forms::{
     ReferenceBlock, ReferenceSector, SlabEntries, SlabEntry, SlabJournalBlock, SlabSector,
 };
 pub use laws::{a_counter_stands_at_its_place, bytes_have_one_reading, what_is_written_is_read};
-pub use reading::slab_sector;
-pub use writing::encode_slab;
+pub use decoder::slab_sector;
+pub use encoder::encode_slab;

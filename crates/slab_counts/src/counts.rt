@@ -8,7 +8,7 @@ ghost use Rattle.slab_counts.specs.Kept.{IsWithin, NoneFreeBelow};
 ghost use Rattle.slab_counts.specs.declared.refusals.Refusal.TheVariants.{Full};
 ghost use Rattle.blk_base.specs.declared.point.Half.TheVariants.{Increment, Decrement};
 
-use crate::opening::{opening_counters, opening_pages, repeated};
+use crate::opening_counts::{opening_counters, opening_pages, repeated};
 use crate::{Claim, Refusal, Stray};
 use blk_base::{Geometry, Half, Layout, Opened, Pbn, Update};
 use lane_kernels::first_free;

@@ -22,7 +22,7 @@
 mod claim;
 mod counts;
 mod laws;
-mod opening;
+mod opening_counts;
 mod refusals;
 mod tickets;
 

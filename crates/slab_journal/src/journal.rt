@@ -6,7 +6,7 @@ ghost use Rattle.slab_journal.specs.Slab.{opening, entry_of, IsOfSlab, IsFirst, 
 ghost use Rattle.slab_journal.specs.Unsettled.{IsLowPoint, NoneUnsettled};
 
 use crate::Full;
-use crate::covering::{are_covered, first_uncovered};
+use crate::coverage::{are_covered, first_uncovered};
 use crate::entries::{Updates, copy_of, slab_entry};
 use blk_base::{Geometry, Layout, Point, Update, raise, repeated, repeated_with};
 use slab_codec::{SlabEntries, SlabJournalBlock};

@@ -9,7 +9,7 @@
 //! Only tested: a slot that waits for both of its sectors; a block of 320 updates.
 #![tactic(auto)]
 
-mod covering;
+mod coverage;
 mod entries;
 mod forms;
 mod journal;

@@ -5,8 +5,8 @@ ghost use Rattle.disk_model.specs.Since.{IsUntouched};
 ghost use Rattle.slab_reading.specs.Found.{IsFound, Took};
 ghost use Rattle.slab_reading.specs.Reads.{IsSlabRead, SlabFails, SlabsRead, SlabsFail};
 
-use crate::reading::read_slab;
-use crate::taking::take_slab;
+use crate::slab_reader::read_slab;
+use crate::slab_parts::take_slab;
 use blk_base::Layout;
 use count_updates::Found;
 use disk_model::Disk;

@@ -9,7 +9,7 @@
 
 mod forms;
 mod laws;
-mod raising;
+mod commit_points;
 mod writes;
 
 pub use forms::{Need, SlabPart, SlabWork};

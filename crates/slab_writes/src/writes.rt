@@ -11,7 +11,7 @@ ghost use Rattle.slab_writes.specs.Writes.{SettlesReference};
 ghost use Rattle.slab_writes.specs.declared.forms.SlabPart.TheVariants.{Journal, References};
 ghost use Rattle.slab_writes.specs.Due.{IsDue, NoneDue, Wants, WantsJournal, WritesJournal, WritesReference};
 
-use crate::raising::raise_commits;
+use crate::commit_points::raise_commits;
 use crate::{Need, SlabPart, SlabWork};
 use blk_base::{Block, Geometry, Layout, Opened, Point, Update};
 use reference_blocks::ReferenceBlocks;

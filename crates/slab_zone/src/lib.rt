@@ -19,8 +19,8 @@
 #![tactic(auto)]
 
 mod laws;
-mod opening;
-mod writing;
+mod opened_zone;
+mod due_writes;
 mod zone;
 
 pub use laws::{

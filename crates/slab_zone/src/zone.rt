@@ -10,8 +10,8 @@ ghost use Rattle.zone_counts.specs.Asking.{Asks, WithdrawsFrom, SharesIn, IsRefu
 ghost use Rattle.slab_zone.specs.Whole.{IsOpeningWhole, IsWhole};
 ghost use Rattle.slab_zone.specs.Writing.{HasRoomAt, MayTake, RisesIn, TakesUpdate, IsDueIn, NoneDueIn, IsOutIn, SettlesIn, IsLowPointIn, NoneUnsettledIn};
 
-use crate::opening::opening_writes;
-use crate::writing::{first_due, least_low_point};
+use crate::opened_zone::opening_writes;
+use crate::due_writes::{first_due, least_low_point};
 use blk_base::{Block, Opened, Pbn, Point, Update, Writer};
 use slab_counts::{Claim, Refusal, Stray, Ticket};
 use slab_tickets::Withdrawn;

@@ -1,12 +1,12 @@
 -- What a zone did, with the trace that it made.
 use Rattle.std.specs.Prelude.{Bool, List}
 use Rattle.disk_model.specs.Seen.{Seen}
-use Rattle.core_model.specs.declared.items.Item.{Item}
-use Rattle.core_model.specs.declared.sizes.Sizes.{Sizes}
+use Rattle.data_vio.specs.declared.items.Item.{Item}
+use Rattle.data_vio.specs.declared.sizes.Sizes.{Sizes}
 use Rattle.core_model.specs.declared.zones.ZoneData.{ZoneData}
 use Rattle.core_model.specs.Steps.{Act}
 use Rattle.core_model.specs.Trace.{Trace}
-use Rattle.core_model.specs.Vios.{Post}
+use Rattle.data_vio.specs.Vios.{Post}
 use Rattle.step_parts.specs.DeviceLog.{HasCalled}
 
 -- the zone acts, and doesn't call the device

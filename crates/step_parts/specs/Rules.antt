@@ -1,7 +1,7 @@
 -- Whether a rule applies.
 use Rattle.std.specs.Prelude.{List}
 use Rattle.core_model.specs.Trace.{Trace}
-use Rattle.core_model.specs.Vios.{Post}
+use Rattle.data_vio.specs.Vios.{Post}
 
 -- a rule allows something: what is kept then, what happens and what is posted
 abbrev pub Applies : {New : Type 0} → (New → Trace → List Post → Type 0) → Type 0

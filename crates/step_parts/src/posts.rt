@@ -1,7 +1,7 @@
 ghost use Rattle.std.specs.Prelude.{◌≡◌, ◌<◌, ◌≤◌, [], ◌∷◌, ◌++◌, IfOk, IfSome, IfNone, length};
 
 use blk_base::ZoneId;
-use core_model::{Fifo, Item, POST_ROOM};
+use data_vio::{Fifo, Item, POST_ROOM};
 use std::alloc::{AllocError, Global};
 use std::marker::Model;
 
@@ -13,7 +13,7 @@ pub struct Posts {
 
 impl Model for Posts {
     ghost use Rattle.std.specs.Prelude.{List};
-    ghost use Rattle.core_model.specs.Vios.{Post};
+    ghost use Rattle.data_vio.specs.Vios.{Post};
 
     ghost Value = { List Post };
 

@@ -4,7 +4,7 @@ use Rattle.std.proofs.Common.{sym, ◌∙◌, ap, arith}
 use Rattle.vdo_model.specs.Scripts.{Script}
 use Rattle.stream_text.specs.StreamRows.{with_requests}
 use Rattle.stream_text.specs.Workloads.{drawn_request, state_before, workload_of}
-use Rattle.stream_text.specs.declared.drawing.Drawn.{Drawn}
+use Rattle.stream_text.specs.declared.random_requests.Drawn.{Drawn}
 
 pub next_state_before : (seed logical i state : ℕ) (drawn : Drawn) → state ≡ state_before logical seed i → drawn ≡ drawn_request logical i state
     → drawn.state ≡ state_before logical seed (i + 1)

@@ -10,8 +10,8 @@ use Rattle.stream_text.specs.declared.refusal.LineFault.{LineFault}
 use Rattle.stream_text.specs.declared.refusal.ScriptRefusal.{ScriptRefusal}
 use Rattle.stream_text.specs.declared.refusal.ReadScript.{ReadScript}
 use Rattle.stream_text.specs.declared.refusal.ReadScript.TheVariants as read
-use Rattle.stream_text.specs.declared.adding.LineStop.{LineStop}
-use Rattle.stream_text.specs.declared.adding.LineStop.TheVariants as stop
+use Rattle.stream_text.specs.declared.added_lines.LineError.{LineError}
+use Rattle.stream_text.specs.declared.added_lines.LineError.TheVariants as stop
 
 -- what the whole script is, if these bytes are the rest
 abbrev pub goes_on_from : ℕ → ℕ → Script → List ℕ → List ℕ → Result Script ScriptRefusal
@@ -46,7 +46,7 @@ RefusesScript read.Read script = Unit {0}
 RefusesScript read.Memory script = Unit {0}
 
 -- why a line adds nothing
-abbrev pub StopsLine : LineStop → Result Script LineFault → Type 0
+abbrev pub StopsLine : LineError → Result Script LineFault → Type 0
 StopsLine (stop.Fault fault) script = script ≡ Err fault
 StopsLine stop.Memory script = Unit {0}
 
@@ -57,7 +57,7 @@ pub record IsAdded (after : Result Script LineFault) (new : Script) (count : ℕ
   pub few : count ≤ 65536
 
 -- what is said of a line that adds nothing
-abbrev pub refusal_said : ℕ → LineStop → ReadScript
+abbrev pub refusal_said : ℕ → LineError → ReadScript
 refusal_said number (stop.Fault fault) = read.Script (record { line = number; fault = fault })
 refusal_said number stop.Memory = read.Memory
 

@@ -2,7 +2,7 @@
 use Rattle.std.specs.Prelude.{ℕ, ◌+◌, List, length, Result}
 use Rattle.vdo_model.specs.Scripts.{Script}
 use Rattle.stream_text.specs.ReadingBytes.{IsReadingBytes, goes_on_from}
-use Rattle.stream_text.specs.declared.reading.ReadingBytes.{ReadingBytes as Reading}
+use Rattle.stream_text.specs.declared.script_reader.ReadingBytes.{ReadingBytes as Reading}
 use Rattle.stream_text.specs.declared.refusal.ScriptRefusal.{ScriptRefusal}
 
 -- what is kept while a script is read

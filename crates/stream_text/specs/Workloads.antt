@@ -2,7 +2,7 @@
 use Rattle.std.specs.Prelude.{ℕ, zero, suc, ◌+◌, ◌*◌, ◌/◌, ◌%◌, ◌==◌, ◌&&◌, nat_lt, false, List, [], ◌∷◌, replicate, if◌then◌else◌}
 use Rattle.blk_base.specs.declared.request.Request.TheVariants.{Read, Write, Discard, Flush}
 use Rattle.vdo_model.specs.Scripts.{Script}
-use Rattle.stream_text.specs.declared.drawing.Drawn.{Drawn}
+use Rattle.stream_text.specs.declared.random_requests.Drawn.{Drawn}
 use Rattle.stream_text.specs.StreamRows.{no_requests, with_requests}
 
 -- the state behind this one

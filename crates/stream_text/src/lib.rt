@@ -5,22 +5,22 @@
 //! says; the instructions that this takes (docs/PERFORMANCE.md).
 #![tactic(auto)]
 
-mod adding;
+mod added_lines;
 mod answers;
 mod asked;
 mod blocks;
 mod cuts;
-mod drawing;
+mod random_requests;
 mod lines;
 mod numbers;
 mod puts;
-mod reading;
+mod script_reader;
 mod refusal;
 mod runs;
 mod streams;
 
 pub use answers::{AnswerRoom, put_answers};
-pub use drawing::workload;
-pub use reading::read_script;
+pub use random_requests::workload;
+pub use script_reader::read_script;
 pub use refusal::{LineFault, ReadScript, ScriptRefusal};
 pub use runs::put_runs;

@@ -6,7 +6,7 @@ use std::alloc::{AllocError, Global};
 use std::test::Fail;
 use stream_text::{AnswerRoom, put_answers, read_script};
 use test_images::first_other;
-use vdo_model::{DeskLine, Placed, Requests, Rows, RunReport};
+use vdo_model::{DeskLine, Placed, Requests, ReportList, RunReport};
 
 fn block(first: u8, rest: u8) -> Block {
     let mut block = Block {
@@ -48,7 +48,7 @@ fn name(number: u32) -> Writer {
 }
 
 /// Each request but the last begins and gets its answer.
-fn desk_lines(alloc: Global) -> Result<Rows<DeskLine>, AllocError> {
+fn desk_lines(alloc: Global) -> Result<ReportList<DeskLine>, AllocError> {
     let mut lines = Vec::new(alloc);
     for (number, answer) in [
         (0, Answer::Ok),
@@ -65,7 +65,7 @@ fn desk_lines(alloc: Global) -> Result<Rows<DeskLine>, AllocError> {
         lines.push(DeskLine::Begin { request })?;
         lines.push(DeskLine::Answer { request, answer })?;
     }
-    Ok(Rows::from_vec(lines))
+    Ok(ReportList::from_vec(lines))
 }
 
 /// The number of a request, and the zone and place in which it was served.
@@ -79,7 +79,7 @@ const PLACES: [(u32, u32, u64); 7] = [
     (8, 0, 8),
 ];
 
-fn places(alloc: Global) -> Result<Rows<Placed>, AllocError> {
+fn places(alloc: Global) -> Result<ReportList<Placed>, AllocError> {
     let mut places = Vec::new(alloc);
     for (number, zone, place) in PLACES {
         places.push(Placed {
@@ -88,7 +88,7 @@ fn places(alloc: Global) -> Result<Rows<Placed>, AllocError> {
             place,
         })?;
     }
-    Ok(Rows::from_vec(places))
+    Ok(ReportList::from_vec(places))
 }
 
 /// A report of ten requests, of which the last has no answer.
@@ -150,8 +150,8 @@ fn one_read(alloc: Global, block: Block) -> Result<RunReport, AllocError> {
     let answer = Answer::Bytes(block);
     lines.push(DeskLine::Begin { request })?;
     lines.push(DeskLine::Answer { request, answer })?;
-    let desk = Rows::from_vec(lines);
-    Ok(report_of(alloc, requests, desk, Rows::new(alloc)))
+    let desk = ReportList::from_vec(lines);
+    Ok(report_of(alloc, requests, desk, ReportList::new(alloc)))
 }
 
 // Runs of the same byte are put as one.

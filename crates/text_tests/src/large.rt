@@ -5,7 +5,7 @@ use disk_model::{Failed, MemSource, Sink};
 use std::alloc::{AllocError, Global};
 use std::test::Fail;
 use stream_text::{AnswerRoom, LineFault, ReadScript, put_answers, read_script};
-use vdo_model::{DeskLine, Placed, Requests, Rows, RunReport};
+use vdo_model::{DeskLine, Placed, Requests, ReportList, RunReport};
 
 /// A sink that keeps how often bytes were put, how many in all, and their sum, each times its place from 1 on.
 #[derive(Drop)]
@@ -67,7 +67,7 @@ fn answer(line: u32) -> Answer {
 }
 
 /// Each read is answered with bytes, and all others with ok.
-fn desk(alloc: Global, lines: u32) -> Result<Rows<DeskLine>, AllocError> {
+fn desk(alloc: Global, lines: u32) -> Result<ReportList<DeskLine>, AllocError> {
     let mut desk = Vec::with_capacity(alloc, lines as usize)?;
     for line in 0..lines {
         desk.push(DeskLine::Answer {
@@ -75,11 +75,11 @@ fn desk(alloc: Global, lines: u32) -> Result<Rows<DeskLine>, AllocError> {
             answer: answer(line),
         })?;
     }
-    Ok(Rows::from_vec(desk))
+    Ok(ReportList::from_vec(desk))
 }
 
 /// All but the flushes have a place, in three zones.
-fn places(alloc: Global, lines: u32) -> Result<Rows<Placed>, AllocError> {
+fn places(alloc: Global, lines: u32) -> Result<ReportList<Placed>, AllocError> {
     let mut places = Vec::new(alloc);
     for line in 0..lines {
         if line / 16 % 4 != 3 {
@@ -90,7 +90,7 @@ fn places(alloc: Global, lines: u32) -> Result<Rows<Placed>, AllocError> {
             })?;
         }
     }
-    Ok(Rows::from_vec(places))
+    Ok(ReportList::from_vec(places))
 }
 
 fn report(alloc: Global, lines: u32, requests: Requests) -> Result<RunReport, AllocError> {

@@ -1,6 +1,6 @@
 use disk_model::Failed;
 use std::alloc::Global;
-use vdo_model::{DeskLine, Placed, Requests, Rows, RunReport};
+use vdo_model::{DeskLine, Placed, Requests, ReportList, RunReport};
 
 /// What a put gives, and where the sink holds other bytes then.
 pub type Put = (Result<(), Failed>, Option<usize>);
@@ -9,14 +9,14 @@ pub type Put = (Result<(), Failed>, Option<usize>);
 pub fn report_of(
     alloc: Global,
     requests: Requests,
-    desk: Rows<DeskLine>,
-    places: Rows<Placed>,
+    desk: ReportList<DeskLine>,
+    places: ReportList<Placed>,
 ) -> RunReport {
     RunReport {
         requests,
         desk,
-        marks: Rows::new(alloc),
+        marks: ReportList::new(alloc),
         places,
-        histories: Rows::new(alloc),
+        histories: ReportList::new(alloc),
     }
 }

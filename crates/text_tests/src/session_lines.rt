@@ -12,7 +12,7 @@ use std::alloc::{AllocError, Global};
 use std::test::Fail;
 use stream_text::AnswerRoom;
 use test_images::first_other;
-use vdo_model::{DeskLine, Placed, Requests, Rows, RunReport};
+use vdo_model::{DeskLine, Placed, Requests, ReportList, RunReport};
 
 const SPACE: Space = Space { used: 2, total: 64 };
 
@@ -36,7 +36,7 @@ fn requests(alloc: Global) -> Result<Requests, AllocError> {
 }
 
 /// A desk log in which each answer follows its request's beginning.
-fn desk(alloc: Global, answers: Vec<Answer>) -> Result<Rows<DeskLine>, AllocError> {
+fn desk(alloc: Global, answers: Vec<Answer>) -> Result<ReportList<DeskLine>, AllocError> {
     let mut lines = Vec::new(alloc);
     let mut number = 0;
     for answer in answers {
@@ -45,17 +45,17 @@ fn desk(alloc: Global, answers: Vec<Answer>) -> Result<Rows<DeskLine>, AllocErro
         lines.push(DeskLine::Answer { request, answer })?;
         number = number.saturating_add(1);
     }
-    Ok(Rows::from_vec(lines))
+    Ok(ReportList::from_vec(lines))
 }
 
-fn places(alloc: Global) -> Result<Rows<Placed>, AllocError> {
+fn places(alloc: Global) -> Result<ReportList<Placed>, AllocError> {
     let mut places = Vec::new(alloc);
     places.push(Placed {
         request: name(0),
         zone: 0,
         place: 0,
     })?;
-    Ok(Rows::from_vec(places))
+    Ok(ReportList::from_vec(places))
 }
 
 /// The report of a run whose first read was answered with bytes, and after it nothing but stops.

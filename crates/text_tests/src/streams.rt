@@ -7,7 +7,7 @@ use std::alloc::{AllocError, Global};
 use std::test::Fail;
 use stream_text::{AnswerRoom, put_answers};
 use test_images::first_other;
-use vdo_model::{DeskLine, Placed, Requests, Rows, RunReport};
+use vdo_model::{DeskLine, Placed, Requests, ReportList, RunReport};
 
 /// Streams 0 and 15 have requests, and the streams between them have none.
 fn requests(alloc: Global) -> Result<Requests, AllocError> {
@@ -29,7 +29,7 @@ fn name(stream: u8, number: u32) -> Writer {
 }
 
 /// Request 0 of stream 0 is answered twice, the last of stream 0 not at all, and one that isn't there is answered.
-fn desk_lines(alloc: Global) -> Result<Rows<DeskLine>, AllocError> {
+fn desk_lines(alloc: Global) -> Result<ReportList<DeskLine>, AllocError> {
     let bytes = Block { bytes: [255; 4096] };
     let mut lines = Vec::new(alloc);
     for (request, answer) in [
@@ -44,7 +44,7 @@ fn desk_lines(alloc: Global) -> Result<Rows<DeskLine>, AllocError> {
         lines.push(DeskLine::Begin { request })?;
         lines.push(DeskLine::Answer { request, answer })?;
     }
-    Ok(Rows::from_vec(lines))
+    Ok(ReportList::from_vec(lines))
 }
 
 /// The stream and number of a request, and the zone and place in which it was served.
@@ -56,7 +56,7 @@ const PLACES: [(u8, u32, u32, u64); 5] = [
     (0, 1, 1, 3),
 ];
 
-fn places(alloc: Global) -> Result<Rows<Placed>, AllocError> {
+fn places(alloc: Global) -> Result<ReportList<Placed>, AllocError> {
     let mut places = Vec::new(alloc);
     for (stream, number, zone, place) in PLACES {
         places.push(Placed {
@@ -65,7 +65,7 @@ fn places(alloc: Global) -> Result<Rows<Placed>, AllocError> {
             place,
         })?;
     }
-    Ok(Rows::from_vec(places))
+    Ok(ReportList::from_vec(places))
 }
 
 fn report(alloc: Global) -> Result<RunReport, AllocError> {

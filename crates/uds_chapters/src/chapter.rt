@@ -4,7 +4,7 @@ ghost use Rattle.uds_chapters.specs.Chapters.{records_in};
 ghost use Rattle.uds_chapters.specs.Pages.{IsPage};
 
 use crate::Record;
-use crate::writing::put_page;
+use crate::page_writer::put_page;
 use arrayvec::ArrayVec;
 use blk_base::Block;
 use std::marker::Model;

@@ -26,9 +26,9 @@ mod found;
 mod laws;
 mod open_chapter;
 mod ordered;
-mod reading;
-mod searching;
-mod writing;
+mod page_reader;
+mod page_search;
+mod page_writer;
 
 pub use added::Added;
 pub use chapter::Chapter;
@@ -40,5 +40,5 @@ pub use laws::{
 };
 pub use open_chapter::OpenChapter;
 pub use ordered::{location, place_of};
-pub use reading::{PageRecords, read_page};
-pub use searching::page_find;
+pub use page_reader::{PageRecords, read_page};
+pub use page_search::page_find;

@@ -22,7 +22,7 @@ use Rattle.index_advice.specs.Orders.{IsNewer, IsChapter, IsOfKept}
 use Rattle.uds_index.specs.Rooms.{count_at, place_of_chapter}
 use Rattle.uds_index.specs.Places.{IsKept}
 use Rattle.uds_index.specs.Loads.{Loaded, Holds, ArePages, pages_with, loaded_location, has_page, has_chapter, IsLoaded, HasChapter, IsLoadedBook, ReadOne, ReadEach}
-use Rattle.uds_index.specs.declared.loading.LoadedPage.{LoadedPage}
+use Rattle.uds_index.specs.declared.loader.LoadedPage.{LoadedPage}
 use Rattle.uds_index.specs.Held.{loaded_page, IsPageRead, records_of, with_chapter, IsJoined, KeepsPage, IsSmall, IsLoading}
 use Rattle.uds_index.proofs.RoomLaws.{few_in_all, one_at_most}
 use Rattle.uds_index.proofs.AddLaws.{or_none, or_assoc}

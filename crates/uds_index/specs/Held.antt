@@ -11,7 +11,7 @@ use Rattle.uds_chapters.specs.Names.{AreRising}
 use Rattle.index_advice.specs.Books.{Book}
 use Rattle.index_advice.specs.Orders.{IsChapter}
 use Rattle.uds_index.specs.Rooms.{count_at, place_of_chapter}
-use Rattle.uds_index.specs.declared.loading.LoadedPage.{LoadedPage}
+use Rattle.uds_index.specs.declared.loader.LoadedPage.{LoadedPage}
 use Rattle.uds_index.specs.Loads.{Loaded, Holds, ReadEach, IsLoadedBook}
 
 abbrev pub loaded_page : LoadedPage → Loaded

@@ -8,9 +8,9 @@ ghost use Rattle.uds_index.specs.Rooms.{count_at, place_of_chapter};
 ghost use Rattle.uds_index.specs.Tags.{AreListed, IsListed};
 ghost use Rattle.index_advice.specs.Advices.{TakesDue, HasDuePage};
 
-use crate::keeping::{chapter_of, keep_page};
+use crate::kept_pages::{chapter_of, keep_page};
 use crate::page::Page;
-use crate::searching::{Region, find_kept};
+use crate::index_search::{Region, find_kept};
 use crate::tags::TagList;
 use blk_base::{Block, Pbn};
 use block_names::Name;

@@ -4,7 +4,7 @@ use std::{env, io};
 use vdo_cli::Words;
 
 /// Why the program can't begin.
-pub(crate) enum Obstacle {
+pub(crate) enum ArgumentsError {
     /// The words name no device and no command, or one isn't UTF-8.
     Usage,
     /// The file can't be opened.
@@ -13,9 +13,9 @@ pub(crate) enum Obstacle {
     Memory,
 }
 
-impl From<AllocError> for Obstacle {
-    fn from(_error: AllocError) -> Obstacle {
-        Obstacle::Memory
+impl From<AllocError> for ArgumentsError {
+    fn from(_error: AllocError) -> ArgumentsError {
+        ArgumentsError::Memory
     }
 }
 
@@ -94,7 +94,7 @@ fn device_of(
 
 // A word that isn't UTF-8 is a faulty command line.
 /// A command line is nothing, or `run` with its options, or `IMAGE BLOCKS` and a command, which isn't `run` yet.
-fn line_of(alloc: Global, texts: &[String]) -> Result<CommandLine, Obstacle> {
+fn line_of(alloc: Global, texts: &[String]) -> Result<CommandLine, ArgumentsError> {
     if texts.is_empty() || names_run(texts) {
         let words = words_of(alloc, texts)?;
         return Ok(CommandLine {
@@ -103,13 +103,13 @@ fn line_of(alloc: Global, texts: &[String]) -> Result<CommandLine, Obstacle> {
         });
     }
     let [image, blocks, command @ ..] = texts else {
-        return Err(Obstacle::Usage);
+        return Err(ArgumentsError::Usage);
     };
     let Some(blocks) = number_of(blocks.as_str()) else {
-        return Err(Obstacle::Usage);
+        return Err(ArgumentsError::Usage);
     };
     if command.is_empty() || names_run(command) {
-        return Err(Obstacle::Usage);
+        return Err(ArgumentsError::Usage);
     }
     let words = words_of(alloc, command)?;
     Ok(CommandLine {
@@ -119,16 +119,16 @@ fn line_of(alloc: Global, texts: &[String]) -> Result<CommandLine, Obstacle> {
 }
 
 /// What the words behind the program's name ask for.
-pub(crate) fn command_line(rt: &HostRuntime) -> Result<CommandLine, Obstacle> {
+pub(crate) fn command_line(rt: &HostRuntime) -> Result<CommandLine, ArgumentsError> {
     let arguments = match env::args(rt) {
         Ok(arguments) => arguments,
-        Err(error) if error.kind() == io::ErrorKind::OutOfMemory => return Err(Obstacle::Memory),
-        Err(_) => return Err(Obstacle::Usage),
+        Err(error) if error.kind() == io::ErrorKind::OutOfMemory => return Err(ArgumentsError::Memory),
+        Err(_) => return Err(ArgumentsError::Usage),
     };
     let mut texts = Vec::new(rt.alloc());
     for text in arguments.skip(1) {
         let Ok(()) = texts.push(text) else {
-            return Err(Obstacle::Memory);
+            return Err(ArgumentsError::Memory);
         };
     }
     line_of(rt.alloc(), &texts)

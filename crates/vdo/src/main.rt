@@ -11,7 +11,7 @@
 
 mod arguments;
 
-use arguments::{CommandLine, Device, Obstacle, command_line};
+use arguments::{CommandLine, Device, ArgumentsError, command_line};
 use blk_base::{Geometry, Layout};
 use disk_model::{Disk, MemDisk, OpenGate};
 use file_disk::open_disk;
@@ -30,10 +30,10 @@ struct Streams<'r> {
 }
 
 impl<'r> Streams<'r> {
-    fn open(rt: &'r HostRuntime) -> Result<Streams<'r>, Obstacle> {
+    fn open(rt: &'r HostRuntime) -> Result<Streams<'r>, ArgumentsError> {
         // The one thing that can fail is the memory in which output is collected.
         let Ok(sink) = StdSink::new(rt) else {
-            return Err(Obstacle::Memory);
+            return Err(ArgumentsError::Memory);
         };
         Ok(Streams {
             source: StdSource::new(rt.clone()?),
@@ -91,7 +91,7 @@ fn run_on<R: Threads + Wait + Sync>(
     rt: &HostRuntime,
     line: CommandLine,
     streams: &mut Streams<'_>,
-) -> Result<u8, Obstacle> {
+) -> Result<u8, ArgumentsError> {
     let CommandLine { device, words } = line;
     match device {
         Device::Fresh => {
@@ -107,7 +107,7 @@ fn run_on<R: Threads + Wait + Sync>(
             access,
         } => match open_disk(rt, path.as_str(), blocks, access) {
             Ok(file) => Ok(streams.run(threads, &words, file).status),
-            Err(_) => Err(Obstacle::Device),
+            Err(_) => Err(ArgumentsError::Device),
         },
     }
 }
@@ -120,7 +120,7 @@ fn status_at_end(status: u8, written: bool) -> u8 {
 }
 
 /// The command that the words ask for, and its status.
-fn serve<R: Threads + Wait + Sync>(threads: &R, rt: &HostRuntime) -> Result<u8, Obstacle> {
+fn serve<R: Threads + Wait + Sync>(threads: &R, rt: &HostRuntime) -> Result<u8, ArgumentsError> {
     let line = command_line(rt)?;
     let mut streams = Streams::open(rt)?;
     let status = run_on(threads, rt, line, &mut streams)?;
@@ -130,9 +130,9 @@ fn serve<R: Threads + Wait + Sync>(threads: &R, rt: &HostRuntime) -> Result<u8, 
 fn main(rt: HostRuntime) -> ExitCode {
     let (text, status) = match serve(&rt, &rt) {
         Ok(status) => return ExitCode::from(status),
-        Err(Obstacle::Usage) => ("usage", 2),
-        Err(Obstacle::Device) => ("device fault", 3),
-        Err(Obstacle::Memory) => ("no memory", 5),
+        Err(ArgumentsError::Usage) => ("usage", 2),
+        Err(ArgumentsError::Device) => ("device fault", 3),
+        Err(ArgumentsError::Memory) => ("no memory", 5),
     };
     let _printed = println!(rt; "{text}");
     ExitCode::from(status)

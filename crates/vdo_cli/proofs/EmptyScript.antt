@@ -6,7 +6,7 @@ use Rattle.std.specs.List.{AllByRecursion}
 use Rattle.blk_base.specs.declared.geometry.Super.{Super}
 use Rattle.blk_base.specs.declared.journal_entry.Entry.{Entry}
 use Rattle.blk_base.specs.declared.request.Request.{Request}
-use Rattle.core_model.specs.declared.sizes.Sizes.{Sizes}
+use Rattle.data_vio.specs.declared.sizes.Sizes.{Sizes}
 use Rattle.core_model.specs.declared.zones.Zone.{Zone}
 use Rattle.core_model.specs.declared.zones.ZoneData.{ZoneData}
 use Rattle.core_model.specs.declared.zones.ZoneData.TheVariants as at
@@ -27,7 +27,7 @@ use Rattle.vdo_core.specs.FreeBlocks.{free_of}
 use Rattle.vdo_core.specs.Plays.{core_with}
 use Rattle.vdo_model.specs.Scripts.{Script}
 use Rattle.vdo_model.specs.declared.report.RunReport.{RunReport}
-use Rattle.vdo_cli.specs.Endings.{Plays}
+use Rattle.vdo_cli.specs.Endings.{RunsSession}
 use Rattle.vdo_cli.specs.Openings.{IsOpened, opening_of, trust}
 use Rattle.vdo_cli.specs.Sessions.{IsDriven, IsOver, IsReported, run_sizes, task}
 use Rattle.vdo_cli.specs.Stops.{Happens}
@@ -139,7 +139,7 @@ module _ (tells honest : Bool) (schedule : ℕ) (head : Super) (window : List En
       (were_only_read tells honest 0 before opened _ is_opened.read.read)
 
   pub empty_plays : (source_tells : Bool) (source rest : SourceSeen) → (IsTrue source_tells → whole_script source.left ≡ Ok no_requests) → (IsTrue source_tells → rest.left ≡ [])
-      → Plays (input_setting tells honest source_tells) schedule empty_report (inputs before source) (inputs opened rest)
+      → RunsSession (input_setting tells honest source_tells) schedule empty_report (inputs before source) (inputs opened rest)
   empty_plays source_tells source rest script_is whole =
       plays tells honest head window used no_requests (first_zones head window used no_requests) (first_zones head window used no_requests) [] opened opened can
       (first_begins head window used no_requests) rests (first_done head window used) (not_called tells honest opened) before is_opened

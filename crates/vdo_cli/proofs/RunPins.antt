@@ -11,7 +11,7 @@ use Rattle.image_model.specs.declared.fault.ImageFault.TheVariants as image
 use Rattle.image_layout.specs.declared.fault.SuperFault.TheVariants.{NotAnImage}
 use Rattle.vdo_cli.specs.declared.fault.Fault.{Fault}
 use Rattle.vdo_cli.specs.declared.fault.Fault.TheVariants as fault
-use Rattle.vdo_cli.specs.Endings.{Plays}
+use Rattle.vdo_cli.specs.Endings.{RunsSession}
 use Rattle.vdo_cli.specs.Onward.{GoesOn}
 use Rattle.vdo_cli.specs.Outsides.{Setting, Outside, PutsOrFails, no_report, input_setting, inputs, outcome, outside, setting}
 use Rattle.vdo_cli.specs.Runs.{EndsSo}
@@ -148,7 +148,7 @@ faults-not_other_words : (after : Outside) (status : ℕ) (report : RunReport) (
 faults-not_other_words after status report why ends = let is = ends.fault_is in cc
 
 -- A session was served: its answers were put, with its status
-served-whole : (report : RunReport) (before after : Seen) (left rest : List ℕ) → Plays (input_setting true false true) 0 report (inputs before (source left 0)) (inputs after (source rest 0))
+served-whole : (report : RunReport) (before after : Seen) (left rest : List ℕ) → RunsSession (input_setting true false true) 0 report (inputs before (source left 0)) (inputs after (source rest 0))
     → Ends run_words (outside before (source left 0) (sink [] 0)) (outside after (source rest 0) (sink (answers_text report.requests report.desk report.places) 0)) (desk_status report.desk) report None
 served-whole report before after left rest played = record {
   session = played;

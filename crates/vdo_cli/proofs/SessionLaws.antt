@@ -22,7 +22,7 @@ use Rattle.disk_model.proofs.SinceLaws.{image_before}
 use Rattle.disk_model.proofs.LookedLaws.{one_in-since}
 use Rattle.image_layout.specs.Opened.{super_of_image}
 use Rattle.image_layout.specs.Values.{journal_of, value_of}
-use Rattle.core_model.specs.declared.sizes.Sizes.{Sizes}
+use Rattle.data_vio.specs.declared.sizes.Sizes.{Sizes}
 use Rattle.core_model.specs.declared.zones.Zone.{Zone}
 use Rattle.core_model.specs.Legal.{Legal}
 use Rattle.core_model.specs.Reports.{report_of}
@@ -60,7 +60,7 @@ use Rattle.vdo_cli.specs.Commands.{run_setup}
 use Rattle.vdo_cli.proofs.ScriptLaws.{can_begin}
 use Rattle.vdo_core.specs.declared.events.Event.{Event}
 use Rattle.stream_text.specs.WholeScript.{whole_script}
-use Rattle.vdo_cli.specs.Endings.{Plays}
+use Rattle.vdo_cli.specs.Endings.{RunsSession}
 use Rattle.vdo_cli.specs.Openings.{CanServe, IsOpened, opening_of, trust}
 use Rattle.vdo_cli.specs.Stops.{Happens, OpensWith}
 use Rattle.vdo_cli.specs.Outsides.{input_setting, inputs}
@@ -276,7 +276,7 @@ module _ (tells honest : Bool) (head : Super) (window : List Entry) (used : ℕ)
     pub plays : (source_tells : Bool) (schedule state : ℕ) (events : List Event) (source rest : SourceSeen) → Stays before after
         → Drives tells honest (run_sizes head used) schedule state events first last before after trace
         → (IsTrue source_tells → whole_script source.left ≡ Ok script) → (IsTrue source_tells → rest.left ≡ [])
-        → Plays (input_setting tells honest source_tells) schedule report (inputs start source) (inputs after rest)
+        → RunsSession (input_setting tells honest source_tells) schedule report (inputs start source) (inputs after rest)
     plays source_tells schedule state events source rest stays drives script_is whole = record {
       found = opening_of head window used;
       opened = before;
@@ -311,7 +311,7 @@ pub played : (tells honest source_tells : Bool) (number state : ℕ) (head : Sup
     → ((events : List Event) × (made : Trace) × Drives tells honest sizes number state events first last before after made) → IsDone last → Stays before after
     → (IsTrue source_tells → whole_script source.left ≡ Ok script) → (IsTrue source_tells → rest.left ≡ [])
     → ((s : Session) (t : Trace) → IsSession s → Legal s (core_with last t) → IsDone last → report ≡ report_of s t)
-    → Plays (input_setting tells honest source_tells) number report (inputs start source) (inputs after rest) × (report.requests ≡ script)
+    → RunsSession (input_setting tells honest source_tells) number report (inputs start source) (inputs after rest) × (report.requests ≡ script)
 played tells honest source_tells number state head entries used script sizes first last start before after source rest report opened untouched shape sizes_are begins driven done stays script_is whole says =
     let window = reverse entries in
     let sized : sizes ≡ run_sizes head used = sizes_are in
@@ -325,7 +325,7 @@ played tells honest source_tells number state head entries used script sizes fir
     let report_is = says (over tells honest head window used script first last made before after can begins_so leads done called) made
     (session tells honest head window used script first last made before after can begins_so leads done called)
     (legal tells honest head window used script first last made before after can begins_so leads done called) done in (
-      subst (λ (r : RunReport). Plays (input_setting tells honest source_tells) number r (inputs start source) (inputs after rest)) (sym report_is)
+      subst (λ (r : RunReport). RunsSession (input_setting tells honest source_tells) number r (inputs start source) (inputs after rest)) (sym report_is)
           (plays tells honest head window used script first last made before after can begins_so leads done called start opened untouched source_tells number state events source rest stays drives script_is whole),
       ap (λ (r : RunReport). r.requests) report_is,
     )

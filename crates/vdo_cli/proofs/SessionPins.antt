@@ -1,4 +1,4 @@
--- Rows that pin what a session is that was served to its end (`EndsSo`, its parts `Plays` and `Closes`): for each part some
+-- Rows that pin what a session is that was served to its end (`EndsSo`, its parts `RunsSession` and `Closes`): for each part some
 -- that it accepts, and some that break this part alone.
 use Rattle.std.proofs.Common.{ℕ, ◌≡◌, ◌<◌, true, false, List, [], ◌∷◌, length, reverse, replicate, take, Option, Some, None, Ok, codes, refl, ap, arith, length-append}
 use Rattle.std.proofs.lemmas.List.{length-reverse}
@@ -14,7 +14,7 @@ use Rattle.vdo_model.specs.declared.report.DeskLine.TheVariants.{Answer}
 use Rattle.vdo_model.specs.declared.report.RunReport.{RunReport}
 use Rattle.vdo_model.proofs.Example.{address, of_a}
 use Rattle.vdo_cli.specs.declared.fault.Fault.TheVariants as fault
-use Rattle.vdo_cli.specs.Endings.{Plays}
+use Rattle.vdo_cli.specs.Endings.{RunsSession}
 use Rattle.vdo_cli.specs.Outsides.{outside, input_setting, inputs}
 use Rattle.vdo_cli.specs.Texts.{some_lost}
 use Rattle.vdo_cli.proofs.CommandPins.{run_words}
@@ -31,7 +31,7 @@ abbrev lost_report : RunReport
 lost_report = record empty_report { desk = Answer (of_a 0) reply.Stopped ∷ [] }
 
 -- Over a session that was served: the sink failed, and holds a first part of the text
-sink-failed : (n : ℕ) (report : RunReport) (before after : Seen) (left rest : List ℕ) → Plays (input_setting true false true) 0 report (inputs before (source left 0)) (inputs after (source rest 0)) → some_lost report.desk ≡ false
+sink-failed : (n : ℕ) (report : RunReport) (before after : Seen) (left rest : List ℕ) → RunsSession (input_setting true false true) 0 report (inputs before (source left 0)) (inputs after (source rest 0)) → some_lost report.desk ≡ false
     → Ends run_words (outside before (source left 0) (sink [] 0)) (outside after (source rest 0) (sink (take n (text report)) 1)) 7 report (Some fault.Sink)
 sink-failed n report before after left rest played none = record { session = played; closes = (refl, none, omega arith, λ told. (n, refl)) }
 
@@ -72,7 +72,7 @@ length_reads : (from : ℕ) (blocks : List (List ℕ)) → length (reads_of from
 length_reads from [] = refl
 length_reads from (bytes ∷ older) = let rest = length_reads from older in omega (arith, rest)
 
-reads_first : (schedule : ℕ) (report : RunReport) (before after : Seen) (left rest : List ℕ) → Plays (input_setting true false true) schedule report (inputs before (source left 0)) (inputs after (source rest 0)) → length before.log < length after.log
+reads_first : (schedule : ℕ) (report : RunReport) (before after : Seen) (left rest : List ℕ) → RunsSession (input_setting true false true) schedule report (inputs before (source left 0)) (inputs after (source rest 0)) → length before.log < length after.log
 reads_first schedule report before after left rest played =
     let happens = played.happens refl in
     let read = played.is_opened.read in

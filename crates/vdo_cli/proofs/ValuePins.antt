@@ -1,4 +1,4 @@
--- Rows that pin what a session says of the image that it opened (`reads_right` of `Plays`, `stops` of `Happens`): a run that
+-- Rows that pin what a session says of the image that it opened (`reads_right` of `RunsSession`, `stops` of `Happens`): a run that
 -- is accepted, and for each one that isn't since it breaks this clause.
 use Rattle.std.proofs.Common.{ℕ, ◌≡◌, ◌<◌, ◌≤◌, ◌++◌, true, false, List, [], ◌∷◌, length, replicate, None, refl, sym, ◌∙◌, ap, subst, arith}
 use Rattle.blk_base.specs.declared.geometry.Super.{Super}

@@ -21,7 +21,7 @@ use Rattle.vdo_cli.specs.Stops.{Happens, OpensWith}
 use Rattle.image_model.specs.Looked.{HasOneImageButIndex}
 
 -- what a session did, from the superblock on
-pub record Plays (s : InputSetting) (schedule : ℕ) (report : RunReport) (before after : Inputs) : Type 0 where
+pub record RunsSession (s : InputSetting) (schedule : ℕ) (report : RunReport) (before after : Inputs) : Type 0 where
   -- what was read of the image, and what the device was then
   pub found : Opening
   pub opened : Seen

@@ -10,7 +10,7 @@ use Rattle.vdo_cli.specs.declared.fault.Fault.TheVariants as fault
 use Rattle.vdo_cli.specs.declared.words.Served.{Served}
 use Rattle.vdo_cli.specs.declared.words.Served.TheVariants as served
 use Rattle.vdo_cli.specs.Commands.{served_of}
-use Rattle.vdo_cli.specs.Endings.{Plays, PlayFails}
+use Rattle.vdo_cli.specs.Endings.{RunsSession, PlayFails}
 use Rattle.vdo_cli.specs.Inspections.{EndsAudit, EndsStatus}
 use Rattle.vdo_cli.specs.NewImages.{MakesImage}
 use Rattle.vdo_cli.specs.Recoveries.{EndsRecovery}
@@ -37,7 +37,7 @@ pub record NotBegun (s : Setting) (before after : Outside) (outcome : Outcome) (
 
 -- a session was served to its end by the schedule of this number, and its answers were put
 pub record PlayedOut (s : Setting) (schedule : ℕ) (before after : Outside) (outcome : Outcome) : Type 0 where
-  pub session : Plays (input_setting_of s) schedule outcome.report (inputs_of before) (inputs_of after)
+  pub session : RunsSession (input_setting_of s) schedule outcome.report (inputs_of before) (inputs_of after)
   pub closes : Closes s.sink_tells outcome.report outcome.status outcome.fault before.sink after.sink
 
 -- how the run of a script ends that has this fault, or none

@@ -19,19 +19,19 @@
 #![tactic(auto)]
 
 mod adapters;
-mod ending;
+mod endings;
 mod fault;
 mod laws;
-mod making;
+mod new_image;
 mod mapped;
-mod opening;
-mod playing;
-mod running;
+mod session_image;
+mod session;
+mod runner;
 mod words;
 
 pub use adapters::{StdSink, StdSource};
-pub use ending::put_fault;
+pub use endings::put_fault;
 pub use fault::Fault;
 pub use laws::{reads_show_the_image, runs_go_on, what_was_read_is_one};
-pub use running::{Ended, run};
+pub use runner::{Ended, run};
 pub use words::Words;

@@ -5,20 +5,20 @@ use Rattle.blk_base.specs.declared.geometry.Geometry.{Geometry}
 use Rattle.blk_base.specs.declared.place.ZoneId.TheVariants as id
 use Rattle.vdo_model.specs.Scripts.{Script}
 use Rattle.core_model.specs.DeskData.{Desk}
-use Rattle.core_model.specs.declared.items.Item.{Item}
-use Rattle.core_model.specs.declared.items.Item.TheVariants.{Request as Asked, StopNotice}
-use Rattle.core_model.specs.declared.items.Phase.TheVariants as phase
-use Rattle.core_model.specs.declared.items.Vio.{Vio}
-use Rattle.core_model.specs.declared.sizes.Sizes.{Sizes}
+use Rattle.data_vio.specs.declared.items.Item.{Item}
+use Rattle.data_vio.specs.declared.items.Item.TheVariants.{Request as Asked, StopNotice}
+use Rattle.data_vio.specs.declared.items.Phase.TheVariants as phase
+use Rattle.data_vio.specs.declared.items.Vio.{Vio}
+use Rattle.data_vio.specs.declared.sizes.Sizes.{Sizes}
 use Rattle.core_model.specs.declared.zones.Zone.{Zone}
 use Rattle.core_model.specs.declared.zones.ZoneData.{ZoneData}
 use Rattle.core_model.specs.declared.zones.ZoneData.TheVariants as at
-use Rattle.core_model.specs.JournalRows.PhysicalServes.{claims, is_full, aborts_claim, aborts_entered_claim}
+use Rattle.core_model.specs.PhysicalRules.PhysicalServes.{claims, is_full, aborts_claim, aborts_entered_claim}
 use Rattle.core_model.specs.Limits.{HasRoomToBegin}
 use Rattle.core_model.specs.Steps.{Act, HasAct, MayBegin, takes, takes_notice}
 use Rattle.core_model.specs.Trace.{Trace}
-use Rattle.core_model.specs.Vios.{Post}
-use Rattle.steps_desk.specs.Begins.{CanBegin}
+use Rattle.data_vio.specs.Vios.{Post}
+use Rattle.desk_zone.specs.Begins.{CanBegin}
 use Rattle.vdo_core.specs.Conditions.{AllCanStep, CanBeginAt, CanStep, HasLane}
 
 module _ (g : Geometry) where

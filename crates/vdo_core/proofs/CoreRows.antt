@@ -13,9 +13,9 @@ use Rattle.blk_base.specs.declared.request.Request.TheVariants as request
 use Rattle.vdo_model.specs.Scripts.{Script}
 use Rattle.vdo_model.specs.declared.report.DeskLine.{DeskLine}
 use Rattle.core_model.specs.DeskData.{Desk}
-use Rattle.core_model.specs.declared.items.Item.{Item}
-use Rattle.core_model.specs.declared.items.Item.TheVariants.{StopNotice}
-use Rattle.core_model.specs.declared.sizes.Sizes.{Sizes}
+use Rattle.data_vio.specs.declared.items.Item.{Item}
+use Rattle.data_vio.specs.declared.items.Item.TheVariants.{StopNotice}
+use Rattle.data_vio.specs.declared.sizes.Sizes.{Sizes}
 use Rattle.core_model.specs.declared.zones.Zone.{Zone}
 use Rattle.core_model.specs.declared.zones.ZoneData.{ZoneData}
 use Rattle.core_model.specs.declared.zones.ZoneData.TheVariants as at
@@ -68,23 +68,23 @@ page_elsewhere = refl
 
 -- IsDone: the desk stands first, and has two lines for each request
 module _ (lines : List DeskLine) (outboxes : List (List Item)) where
-  abbrev desk_zone : Script → List DeskLine → Zone
-  desk_zone script log = record {
+  abbrev desk_number : Script → List DeskLine → Zone
+  desk_number script log = record {
     number = 0;
     steps = 0;
     keeps = at.Desk (record { requests = script; log = log; marks = []; notices = 0; parked = [] });
     ports = record { inbox = []; outboxes = outboxes };
   }
 
-  done-of_no_request : IsDone (desk_zone [] [] ∷ [])
-  done-of_no_request = record { zone = desk_zone [] []; desk = _; had = refl; keeps = refl; full = refl }
+  done-of_no_request : IsDone (desk_number [] [] ∷ [])
+  done-of_no_request = record { zone = desk_number [] []; desk = _; had = refl; keeps = refl; full = refl }
 
-  done-with_two_lines : length lines ≡ 2 → IsDone (desk_zone ((request.Flush ∷ []) ∷ []) lines ∷ [])
-  done-with_two_lines two = record { zone = desk_zone ((request.Flush ∷ []) ∷ []) lines; desk = _; had = refl; keeps = refl; full = two }
+  done-with_two_lines : length lines ≡ 2 → IsDone (desk_number ((request.Flush ∷ []) ∷ []) lines ∷ [])
+  done-with_two_lines two = record { zone = desk_number ((request.Flush ∷ []) ∷ []) lines; desk = _; had = refl; keeps = refl; full = two }
 
-  done-not_with_fewer : IsDone (desk_zone ((request.Flush ∷ []) ∷ []) [] ∷ []) → ⊥
+  done-not_with_fewer : IsDone (desk_number ((request.Flush ∷ []) ∷ []) [] ∷ []) → ⊥
   done-not_with_fewer done =
-      let zone : desk_zone ((request.Flush ∷ []) ∷ []) [] ≡ done.zone = let had = done.had in cc in
+      let zone : desk_number ((request.Flush ∷ []) ∷ []) [] ≡ done.zone = let had = done.had in cc in
       let desk : at.Desk (record { requests = (request.Flush ∷ []) ∷ []; log = []; marks = []; notices = 0; parked = [] }) ≡ at.Desk done.desk = ap (λ (z : Zone). z.keeps) zone ∙ done.keeps in
       let kept : record { requests = (request.Flush ∷ []) ∷ []; log = []; marks = []; notices = 0; parked = [] } ≡ done.desk = cc in
       let full = done.full in

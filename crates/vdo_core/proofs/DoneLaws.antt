@@ -1,7 +1,7 @@
 -- A legal core is done where each request is answered, and only there.
 use Rattle.std.proofs.Common.{◌≡◌, Some, List, length, slice_get, ap, subst, arith}
 use Rattle.core_limits.proofs.FullLogs.{answered_when_full, full_when_answered}
-use Rattle.core_laws.proofs.Common.{AllAnswered, DataOk, DeskLine, Script, Session, Zone, ZoneData, desk_zone, lines}
+use Rattle.core_laws.proofs.Common.{AllAnswered, DataOk, DeskLine, Script, Session, Zone, ZoneData, desk_number, lines}
 use Rattle.core_laws.proofs.kept.ZoneKinds.{desk_sits}
 use Rattle.core_laws.proofs.trace.DeskOfTrace.{desk_log_right}
 use Rattle.core_model.specs.DeskData.{Desk}
@@ -13,11 +13,11 @@ use Rattle.vdo_core.specs.Done.{IsDone}
 
 module _ (s : Session) (core : Core) (legal : Legal s core) where
   -- what the desk of the core says of itself
-  desk_is : (zone : Zone) (desk : Desk) → slice_get core.zones desk_zone ≡ Some zone → zone.keeps ≡ at.Desk desk → DataOk s core.trace desk_zone (at.Desk desk)
-  desk_is zone desk had keeps = subst (λ (d : ZoneData). DataOk s core.trace desk_zone d) keeps (legal.each desk_zone zone had).own
+  desk_is : (zone : Zone) (desk : Desk) → slice_get core.zones desk_number ≡ Some zone → zone.keeps ≡ at.Desk desk → DataOk s core.trace desk_number (at.Desk desk)
+  desk_is zone desk had keeps = subst (λ (d : ZoneData). DataOk s core.trace desk_number d) keeps (legal.each desk_number zone had).own
 
   -- its log is full where the lines are, over the requests of the session
-  same_full : (zone : Zone) (desk : Desk) → slice_get core.zones desk_zone ≡ Some zone → zone.keeps ≡ at.Desk desk
+  same_full : (zone : Zone) (desk : Desk) → slice_get core.zones desk_number ≡ Some zone → zone.keeps ≡ at.Desk desk
       → (length desk.log ≡ length (lines core.trace)) × (requests_in desk.requests ≡ requests_in s.script)
   same_full zone desk had keeps =
       let k = desk_is zone desk had keeps in

@@ -6,7 +6,7 @@ use Rattle.disk_model.specs.Memory.{fresh, seen_of}
 use Rattle.disk_model.specs.Seen.{Seen}
 use Rattle.image_layout.specs.FirstImage.{first_blocks}
 use Rattle.vdo_model.specs.Scripts.{Script}
-use Rattle.core_model.specs.declared.sizes.Sizes.{Sizes}
+use Rattle.data_vio.specs.declared.sizes.Sizes.{Sizes}
 use Rattle.core_model.specs.Sessions.{IsFair, Session}
 use Rattle.core_model.specs.Trace.{Trace}
 use Rattle.core_laws.proofs.kept.NewImages.{new_opened}

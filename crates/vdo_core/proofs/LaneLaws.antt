@@ -1,15 +1,15 @@
 -- Room in the lanes of a zone, before and after a post.
 use Rattle.std.proofs.Common.{ℕ, ◌<◌, ◌≤◌, Some, slice_get, zero, suc, Bool, true, false, List, [], ◌∷◌, length, length-append, refl, sym, subst, ◌≡◌, ◌∙◌, inl, inr, arith}
 use Rattle.std.specs.List.{AllByRecursion}
-use Rattle.core_model.specs.declared.items.Item.{Item}
-use Rattle.core_model.specs.declared.sizes.Sizes.{Sizes}
+use Rattle.data_vio.specs.declared.items.Item.{Item}
+use Rattle.data_vio.specs.declared.sizes.Sizes.{Sizes}
 use Rattle.core_model.specs.declared.zones.Zone.{Zone}
 use Rattle.core_model.specs.PortsData.{Ports}
 use Rattle.core_model.specs.declared.zones.ZoneData.{ZoneData}
 use Rattle.core_model.specs.Limits.{IsShort, IsWithin}
 use Rattle.core_model.specs.Steps.{posted, sent_to}
-use Rattle.core_model.specs.Vios.{Post}
-use Rattle.core_model.specs.Zones.{zone_number}
+use Rattle.data_vio.specs.Vios.{Post}
+use Rattle.data_vio.specs.Zones.{zone_number}
 use Rattle.plain_laws.proofs.ListLaws.{every-get}
 use Rattle.core_laws.proofs.lists.CoreLists.{length-posted}
 use Rattle.vdo_core.specs.Conditions.{HasLane}

@@ -2,7 +2,7 @@
 use Rattle.std.proofs.Common.{ℕ, ◌≡◌, ◌<◌, zero, suc, true, Some, List, [], ◌∷◌, length, slice_get, subst, arith}
 use Rattle.std.proofs.lemmas.Option.{same_Some}
 use Rattle.std.specs.List.{AllByRecursion}
-use Rattle.core_model.specs.declared.items.Item.{Item}
+use Rattle.data_vio.specs.declared.items.Item.{Item}
 use Rattle.core_model.specs.declared.zones.Zone.{Zone}
 use Rattle.core_model.specs.Limits.{IsShort}
 use Rattle.vdo_core.specs.Moves.{MovesNothing, MovesSome, has_items}

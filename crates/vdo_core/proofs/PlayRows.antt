@@ -11,19 +11,19 @@ use Rattle.vdo_model.specs.Scripts.{Script, request_at}
 use Rattle.vdo_model.specs.declared.report.DeskLine.{DeskLine}
 use Rattle.vdo_model.specs.declared.report.DeskLine.TheVariants.{Begin}
 use Rattle.core_model.specs.DeskData.{Desk}
-use Rattle.core_model.specs.DeskRows.{DeskBegins}
-use Rattle.core_model.specs.declared.items.Asks.TheVariants as asks
-use Rattle.core_model.specs.declared.items.Item.{Item}
-use Rattle.core_model.specs.declared.items.Item.TheVariants.{Request}
-use Rattle.core_model.specs.declared.items.Phase.TheVariants as phase
-use Rattle.core_model.specs.declared.items.Vio.{Vio}
+use Rattle.core_model.specs.DeskRules.{DeskBegins}
+use Rattle.data_vio.specs.declared.items.Asks.TheVariants as asks
+use Rattle.data_vio.specs.declared.items.Item.{Item}
+use Rattle.data_vio.specs.declared.items.Item.TheVariants.{Request}
+use Rattle.data_vio.specs.declared.items.Phase.TheVariants as phase
+use Rattle.data_vio.specs.declared.items.Vio.{Vio}
 use Rattle.core_model.specs.declared.zones.Zone.{Zone}
 use Rattle.core_model.specs.declared.zones.ZoneData.{ZoneData}
 use Rattle.core_model.specs.declared.zones.ZoneData.TheVariants as at
 use Rattle.core_model.specs.SessionLimits.{requests_in}
 use Rattle.core_model.specs.Steps.{Act, ZoneStep, begins, step_limit}
 use Rattle.core_model.specs.Trace.{Says, Seals, Trace}
-use Rattle.core_model.specs.Vios.{Post, begun_vio, turned}
+use Rattle.data_vio.specs.Vios.{Post, begun_vio, turned}
 use Rattle.core_model.proofs.rows.WorkedTraces.{sizes, writer}
 use Rattle.step_parts.specs.DeviceLog.{HasCalled}
 use Rattle.step_parts.proofs.SilentLaws.{none_called}
@@ -61,9 +61,9 @@ abbrev pub core_2 : List Zone
 core_2 = desk 2 (line_of 1 ∷ line_of 0 ∷ []) ∷ []
 
 -- a step of the desk, which calls no device
-steps_desk : (n steps : ℕ) (log : List DeskLine) → steps < step_limit → IsNextLine 2 flushes (line_of n) log → request_at flushes (writer 0 n) ≡ Some request.Flush
+desk_zone : (n steps : ℕ) (log : List DeskLine) → steps < step_limit → IsNextLine 2 flushes (line_of n) log → request_at flushes (writer 0 n) ≡ Some request.Flush
     → ZoneStep sizes (desk steps log) (desk (steps + 1) (line_of n ∷ log)) (Says (line_of n) ∷ [])
-steps_desk n steps log counts next asked = record {
+desk_zone n steps log counts next asked = record {
   front = [];
   rest = [];
   posts = (id.Device, Request (flush_of n)) ∷ [];
@@ -84,7 +84,7 @@ module _ (tells honest : Bool) (seen : Seen) where
     zone = desk 0 [];
     zone' = desk 1 (line_of 0 ∷ []);
     had = refl;
-    step = steps_desk 0 0 [] (omega arith) (refl, refl, omega arith) refl;
+    step = desk_zone 0 0 [] (omega arith) (refl, refl, omega arith) refl;
     called = says_alone tells honest seen (line_of 0);
     has = refl;
   }
@@ -94,7 +94,7 @@ module _ (tells honest : Bool) (seen : Seen) where
     zone = desk 1 (line_of 0 ∷ []);
     zone' = desk 2 (line_of 1 ∷ line_of 0 ∷ []);
     had = refl;
-    step = steps_desk 1 1 (line_of 0 ∷ []) (omega arith) (refl, refl, omega arith) refl;
+    step = desk_zone 1 1 (line_of 0 ∷ []) (omega arith) (refl, refl, omega arith) refl;
     called = says_alone tells honest seen (line_of 1);
     has = refl;
   }

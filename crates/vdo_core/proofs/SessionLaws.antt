@@ -6,7 +6,7 @@ use Rattle.blk_base.specs.declared.place.Pbn.{Pbn}
 use Rattle.disk_model.specs.Seen.{Seen}
 use Rattle.disk_model.specs.declared.call.Call.TheVariants.{Read}
 use Rattle.vdo_model.specs.Scripts.{Script}
-use Rattle.core_model.specs.declared.sizes.Sizes.{Sizes}
+use Rattle.data_vio.specs.declared.sizes.Sizes.{Sizes}
 use Rattle.core_model.specs.declared.zones.Zone.{Zone}
 use Rattle.core_model.specs.declared.zones.ZoneData.{ZoneData}
 use Rattle.core_model.specs.Facts.{DataOk}
@@ -15,7 +15,7 @@ use Rattle.core_model.specs.Sessions.{AreDistinct, HasHonestReads, IsFresh, IsSe
 use Rattle.core_model.specs.Start.{IsFirst}
 use Rattle.core_model.specs.Steps.Leads.{rests}
 use Rattle.core_model.specs.Trace.{Calls, Trace}
-use Rattle.core_model.specs.Zones.{desk_zone}
+use Rattle.data_vio.specs.Zones.{desk_number}
 use Rattle.core_laws.proofs.kept.FirstState.{legal_first}
 use Rattle.core_laws.proofs.kept.LegalMoves.{legal_leads}
 use Rattle.core_laws.proofs.kept.ZoneKinds.{desk_sits}
@@ -104,6 +104,6 @@ module _ (sizes : Sizes) (zones : List Zone) (reached : IsReached sizes zones) w
 pub one_script : (s s' : Session) (zones : List Zone) (t t' : Trace) → Legal s (core_with zones t) → Legal s' (core_with zones t') → s.script ≡ s'.script
 one_script s s' zones t t' legal legal' =
     let sits = desk_sits s t zones legal.each legal.count in
-    let own = subst (λ (d : ZoneData). DataOk s t desk_zone d) sits.keeps (legal.each desk_zone sits.zone sits.had).own in
-    let own' = subst (λ (d : ZoneData). DataOk s' t' desk_zone d) sits.keeps (legal'.each desk_zone sits.zone sits.had).own in
+    let own = subst (λ (d : ZoneData). DataOk s t desk_number d) sits.keeps (legal.each desk_number sits.zone sits.had).own in
+    let own' = subst (λ (d : ZoneData). DataOk s' t' desk_number d) sits.keeps (legal'.each desk_number sits.zone sits.had).own in
     sym own.sound.requests ∙ own'.sound.requests

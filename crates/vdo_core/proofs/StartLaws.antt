@@ -2,15 +2,15 @@
 use Rattle.std.proofs.Common.{◌≡◌, ℕ, zero, suc, ◌+◌, replicate, List, [], ◌∷◌, ◌++◌, length, sym, ap, subst, ◌∙◌, length-append, refl}
 use Rattle.std.proofs.lemmas.List.{length-replicate}
 use Rattle.std.specs.List.{AllByRecursion}
-use Rattle.core_model.specs.declared.items.Item.{Item}
-use Rattle.core_model.specs.declared.sizes.Sizes.{Sizes}
+use Rattle.data_vio.specs.declared.items.Item.{Item}
+use Rattle.data_vio.specs.declared.sizes.Sizes.{Sizes}
 use Rattle.core_model.specs.declared.zones.ZoneData.{ZoneData}
 use Rattle.core_model.specs.declared.zones.Zone.{Zone}
 use Rattle.core_model.specs.PortsData.{Ports}
 use Rattle.core_model.specs.Sessions.{Session}
 use Rattle.vdo_model.specs.Scripts.{Script}
 use Rattle.core_model.specs.DeskData.{Desk}
-use Rattle.core_model.specs.Zones.{desk_zone, zone_count}
+use Rattle.data_vio.specs.Zones.{desk_number, zone_count}
 use Rattle.core_model.specs.Start.{IsFirstData, IsFirstDesk, IsFirstZone}
 use Rattle.plain_laws.specs.Sums.{Each}
 use Rattle.plain_laws.proofs.ListLaws.{Each-append}
@@ -50,7 +50,7 @@ pub numbered : (s : Session) (number other : ℕ) (keeps : ZoneData) → other �
 numbered s number other keeps is first = subst (λ (n : ℕ). IsFirstData s n keeps) (sym is) first
 
 -- the desk that has the requests, and began none
-pub first_desk : (s : Session) (desk : Desk) (requests : Script) → desk ≡ record { requests = requests; log = []; marks = []; notices = 0; parked = [] } → s.script ≡ requests → IsFirstDesk s desk_zone desk
+pub first_desk : (s : Session) (desk : Desk) (requests : Script) → desk ≡ record { requests = requests; log = []; marks = []; notices = 0; parked = [] } → s.script ≡ requests → IsFirstDesk s desk_number desk
 first_desk s desk requests is script = record {
   number_is = refl;
   requests = ap (λ (d : Desk). d.requests) is ∙ sym script;

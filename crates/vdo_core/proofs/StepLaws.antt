@@ -7,8 +7,8 @@ use Rattle.vdo_model.specs.DeskLog.{IsDeskLog}
 use Rattle.vdo_model.specs.declared.report.DeskLine.{DeskLine}
 use Rattle.core_model.specs.DeskData.{Desk}
 use Rattle.core_model.specs.DeskLines.{AreBegunFirst}
-use Rattle.core_model.specs.declared.items.Item.{Item}
-use Rattle.core_model.specs.declared.sizes.Sizes.{Sizes}
+use Rattle.data_vio.specs.declared.items.Item.{Item}
+use Rattle.data_vio.specs.declared.sizes.Sizes.{Sizes}
 use Rattle.core_model.specs.declared.zones.Zone.{Zone}
 use Rattle.core_model.specs.declared.zones.ZoneData.{ZoneData}
 use Rattle.core_model.specs.declared.zones.ZoneData.TheVariants as at
@@ -20,14 +20,14 @@ use Rattle.core_model.specs.Sessions.{IsServed, IsSession, Session}
 use Rattle.core_model.specs.Steps.{Core, MayBegin}
 use Rattle.core_model.specs.Trace.{Trace, lines}
 use Rattle.core_model.specs.Views.{behind, core_of, with_batches}
-use Rattle.core_model.specs.Vios.{Post}
-use Rattle.core_model.specs.Zones.{zone_number}
+use Rattle.data_vio.specs.Vios.{Post}
+use Rattle.data_vio.specs.Zones.{zone_number}
 use Rattle.core_laws.proofs.kept.Rules.{has_lanes, has_rule}
 use Rattle.core_laws.proofs.kept.Views.{batches_of, view_get}
 use Rattle.core_laws.proofs.trace.DeskOfTrace.{desk_log_right}
 use Rattle.core_limits.proofs.DeskLimits.{answers_few, log_before, under_way_before}
 use Rattle.core_limits.proofs.WholeZones.{zone_within}
-use Rattle.steps_desk.specs.Begins.{CanBegin}
+use Rattle.desk_zone.specs.Begins.{CanBegin}
 use Rattle.vdo_core.specs.Conditions.{CanBeginAt, CanStep, HasLane}
 
 -- a list is its first item and the others

@@ -1,7 +1,7 @@
 -- Items on their way, and what a step of a zone is.
 use Rattle.std.proofs.Common.{◌≡◌, ◌<◌, ◌+◌, Bool, List, [], ◌∷◌, ◌++◌, refl, sym, ap, subst, ◌∙◌, arith, inl, inr}
-use Rattle.core_model.specs.declared.items.Item.{Item}
-use Rattle.core_model.specs.declared.sizes.Sizes.{Sizes}
+use Rattle.data_vio.specs.declared.items.Item.{Item}
+use Rattle.data_vio.specs.declared.sizes.Sizes.{Sizes}
 use Rattle.core_model.specs.declared.zones.ZoneData.{ZoneData}
 use Rattle.core_model.specs.declared.zones.ZoneData.TheVariants as at
 use Rattle.core_model.specs.declared.zones.Zone.{Zone}
@@ -10,7 +10,7 @@ use Rattle.core_laws.proofs.tokens.Lift.{delivered_same}
 use Rattle.core_model.specs.Steps.{delivered, step_limit, Act, CallsDevice, IsIdle, MayBegin, ZoneStep}
 use Rattle.disk_model.specs.Seen.{Seen}
 use Rattle.core_model.specs.Trace.{Trace}
-use Rattle.core_model.specs.Vios.{Post}
+use Rattle.data_vio.specs.Vios.{Post}
 use Rattle.step_parts.specs.Acts.{Acts, ActsAlone}
 use Rattle.vdo_core.specs.Plays.{ComesTo, ZoneSteps}
 use Rattle.vdo_core.specs.declared.stepped.Stepped.{Stepped}

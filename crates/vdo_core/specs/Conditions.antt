@@ -1,8 +1,8 @@
 -- What a step of a zone needs. It is said of the zone alone, whatever the others do.
 use Rattle.std.specs.Prelude.{ℕ, ⊤, ◌≡◌, ◌<◌, ◌≤◌, ◌⊎◌, List, [], ◌∷◌, length, take}
 use Rattle.std.specs.List.{AllByRecursion}
-use Rattle.core_model.specs.declared.items.Item.{Item}
-use Rattle.core_model.specs.declared.sizes.Sizes.{Sizes}
+use Rattle.data_vio.specs.declared.items.Item.{Item}
+use Rattle.data_vio.specs.declared.sizes.Sizes.{Sizes}
 use Rattle.core_model.specs.declared.zones.Zone.{Zone}
 use Rattle.core_model.specs.declared.zones.ZoneData.{ZoneData}
 use Rattle.core_model.specs.declared.zones.ZoneData.TheVariants as at
@@ -10,10 +10,10 @@ use Rattle.core_model.specs.Limits.{IsWithin}
 use Rattle.core_model.specs.SessionLimits.{most_zones}
 use Rattle.core_model.specs.Steps.{Act, HasAct}
 use Rattle.core_model.specs.Trace.{Trace}
-use Rattle.core_model.specs.Vios.{Post}
-use Rattle.core_model.specs.Zones.{zone_number}
+use Rattle.data_vio.specs.Vios.{Post}
+use Rattle.data_vio.specs.Zones.{zone_number}
 use Rattle.plain_laws.specs.Sums.{Each}
-use Rattle.steps_desk.specs.Begins.{CanBegin}
+use Rattle.desk_zone.specs.Begins.{CanBegin}
 
 -- a zone has a lane for a post
 abbrev pub HasLane : Sizes → Zone → Post → Type 0

@@ -6,7 +6,7 @@ use Rattle.blk_base.specs.declared.geometry.Super.{Super}
 use Rattle.blk_base.specs.declared.journal_entry.Entry.{Entry}
 use Rattle.image_model.specs.Windows.{IsOfImage}
 use Rattle.vdo_model.specs.Scripts.{Script}
-use Rattle.core_model.specs.declared.sizes.Sizes.{Sizes}
+use Rattle.data_vio.specs.declared.sizes.Sizes.{Sizes}
 use Rattle.core_model.specs.declared.zones.Zone.{Zone}
 use Rattle.core_model.specs.SessionLimits.{IsLimited}
 use Rattle.core_model.specs.Sessions.{Session, IsSession, IsServed}

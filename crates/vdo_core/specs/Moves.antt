@@ -1,6 +1,6 @@
 -- What there is to move between zones.
 use Rattle.std.specs.Prelude.{ℕ, ◌≡◌, ◌≢◌, Bool, true, false, Option, None, Some, List, [], ◌∷◌, slice_get}
-use Rattle.core_model.specs.declared.items.Item.{Item}
+use Rattle.data_vio.specs.declared.items.Item.{Item}
 use Rattle.core_model.specs.declared.zones.Zone.{Zone}
 
 -- a list is there, and has items

@@ -1,8 +1,8 @@
 -- What becomes of a core by an event, by a list of them, and with the trace that they make, whatever happened before.
 use Rattle.std.specs.Prelude.{ℕ, ◌≡◌, ◌≢◌, ◌<◌, ◌⊎◌, Bool, Some, List, [], ◌∷◌, ◌++◌, slice_get, slice_set}
 use Rattle.disk_model.specs.Seen.{Seen}
-use Rattle.core_model.specs.declared.items.Item.{Item}
-use Rattle.core_model.specs.declared.sizes.Sizes.{Sizes}
+use Rattle.data_vio.specs.declared.items.Item.{Item}
+use Rattle.data_vio.specs.declared.sizes.Sizes.{Sizes}
 use Rattle.core_model.specs.declared.zones.Zone.{Zone}
 use Rattle.core_model.specs.Steps.{Core, IsIdle, ZoneStep, Leads, step_limit, with_inbox, with_outboxes}
 use Rattle.core_model.specs.Trace.{Trace}

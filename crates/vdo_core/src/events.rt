@@ -1,16 +1,16 @@
 ghost use Rattle.std.specs.Prelude.{◌≡◌, Some, slice_get};
 ghost use Rattle.disk_model.specs.Seen.{Stays};
 ghost use Rattle.core_model.specs.Trace.{Trace};
-ghost use Rattle.steps_device.specs.DeviceCalls.{Fits};
+ghost use Rattle.device_zone.specs.DeviceCalls.{Fits};
 ghost use Rattle.vdo_core.specs.Conditions.{AllCanStep};
 ghost use Rattle.vdo_core.specs.declared.events.Event.TheVariants as event;
 ghost use Rattle.vdo_core.specs.Plays.{ComesTo, StepsAt, HasNoWork, PlaysOne, LeadsTo};
 
-use crate::moving::move_items;
+use crate::moves::move_items;
 use crate::stepped::Stepped;
-use crate::stepping::step_with;
+use crate::steps::step_with;
 use crate::zones::Zones;
-use core_model::Sizes;
+use data_vio::Sizes;
 use disk_model::Disk;
 
 /// What may happen next.

@@ -6,7 +6,8 @@ ghost use Rattle.vdo_core.specs.Lanes.{HasRoomFor, most_posts};
 
 use crate::numbers::zone_number;
 use blk_base::ZoneId;
-use core_model::{Item, Sizes, Zone};
+use core_model::Zone;
+use data_vio::{Item, Sizes};
 use step_parts::Posts;
 
 // What a zone posts to itself goes to its own inbox, and else behind the items of an outbox.

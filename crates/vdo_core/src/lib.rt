@@ -1,5 +1,5 @@
 //! The core: its zones, and each event of it. A zone steps, or what it posted moves to another.
-//! Each function does what the relation of `core_model` says; what a zone does itself stands in the crates `steps_..`.
+//! Each function does what the relation of `core_model` says; what a zone does itself stands in its crate.
 //!
 //! Only tested: answers of one stream, with discards and zeros, for which no data block is written, with a full journal
 //! and with calls that fail; two streams over two zones by events in three orders; for what there is work before the
@@ -7,17 +7,17 @@
 //! within a run.
 #![tactic(auto)]
 
-mod acting;
+mod dispatch;
 mod cores;
 mod events;
 mod free_blocks;
 mod lanes;
 mod laws;
-mod moving;
+mod moves;
 mod numbers;
-mod starting;
+mod start;
 mod stepped;
-mod stepping;
+mod steps;
 mod tools;
 mod work;
 mod zones;
@@ -29,6 +29,6 @@ pub use laws::{
     a_legal_core_without_work_is_done, a_view_can_step_as_its_zone,
 };
 pub use stepped::Stepped;
-pub use stepping::step_zone;
+pub use steps::step_zone;
 pub use tools::Tools;
 pub use zones::Zones;

@@ -1,36 +1,36 @@
 ghost use Rattle.std.specs.Prelude.{◌≡◌};
-ghost use Rattle.core_model.specs.Zones as zones;
+ghost use Rattle.data_vio.specs.Zones as zones;
 
 use blk_base::ZoneId;
-use core_model::Sizes;
+use data_vio::Sizes;
 
 /// The number of the desk.
 pub(crate) const DESK: u32 = 0;
 
 /// The number of a logical zone among all zones.
-pub(crate) fn logical_zone(zone: u8) -> u32
-    ensures { result ≡ zones.logical_zone zone }
+pub(crate) fn logical_number(zone: u8) -> u32
+    ensures { result ≡ zones.logical_number zone }
 {
     1 + u32::from(zone)
 }
 
 /// The number of the physical zone.
-pub(crate) fn physical_zone(sizes: &Sizes) -> u32
-    ensures { result ≡ zones.physical_zone sizes.now }
+pub(crate) fn physical_number(sizes: &Sizes) -> u32
+    ensures { result ≡ zones.physical_number sizes.now }
 {
     1 + u32::from(sizes.zones)
 }
 
 /// The number of the journal's zone.
-pub(crate) fn journal_zone(sizes: &Sizes) -> u32
-    ensures { result ≡ zones.journal_zone sizes.now }
+pub(crate) fn journal_number(sizes: &Sizes) -> u32
+    ensures { result ≡ zones.journal_number sizes.now }
 {
     2 + u32::from(sizes.zones)
 }
 
 /// The number of the device's zone.
-pub(crate) fn device_zone(sizes: &Sizes) -> u32
-    ensures { result ≡ zones.device_zone sizes.now }
+pub(crate) fn device_number(sizes: &Sizes) -> u32
+    ensures { result ≡ zones.device_number sizes.now }
 {
     3 + u32::from(sizes.zones)
 }

@@ -6,11 +6,12 @@ ghost use Rattle.vdo_core.specs.Done.{IsDone};
 ghost use Rattle.vdo_core.specs.Plays.{HasNoWork};
 
 use crate::events::Event;
-use crate::moving::can_move;
-use crate::stepping::has_steps_left;
+use crate::moves::can_move;
+use crate::steps::has_steps_left;
 use crate::zones::Zones;
-use core_model::{Desk, Sizes, Zone, ZoneData};
-use steps_desk::may_begin;
+use core_model::{Desk, Zone, ZoneData};
+use data_vio::Sizes;
+use desk_zone::may_begin;
 
 // Whether the zone is a desk that may begin a request.
 fn begins(sizes: &Sizes, keeps: &ZoneData) -> bool

@@ -1,6 +1,7 @@
 ghost use Rattle.std.specs.Prelude.{◌≡◌, IfOk};
 
-use core_model::{Fifo, Lane, Zone};
+use core_model::{Lane, Zone};
+use data_vio::Fifo;
 use std::alloc::{AllocError, Global};
 use std::marker::Model;
 use step_parts::Posts;

@@ -10,10 +10,10 @@
 
 mod report;
 mod requests;
-mod rows;
+mod report_list;
 mod zone_order;
 
 pub use report::{DeskLine, FlushMark, HistoryEntry, Mark, Placed, RunReport};
 pub use requests::Requests;
-pub use rows::Rows;
+pub use report_list::ReportList;
 pub use zone_order::zones_may_be_listed_in_any_order;

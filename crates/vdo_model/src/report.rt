@@ -1,4 +1,4 @@
-use crate::{Requests, Rows};
+use crate::{Requests, ReportList};
 use blk_base::{Answer, Lba, Writer};
 
 /// A line of the desk log: a request is begun, or answered.
@@ -48,11 +48,11 @@ pub struct FlushMark {
 pub struct RunReport {
     pub requests: Requests,
     /// The desk log, in the desk's order.
-    pub desk: Rows<DeskLine>,
+    pub desk: ReportList<DeskLine>,
     /// The marks of the flushes that were answered Ok.
-    pub marks: Rows<FlushMark>,
+    pub marks: ReportList<FlushMark>,
     /// The place of each request that has one, in the order of each zone's numbers.
-    pub places: Rows<Placed>,
+    pub places: ReportList<Placed>,
     /// The writes and discards that have a place. Those of one address are its history, in the order of their places.
-    pub histories: Rows<HistoryEntry>,
+    pub histories: ReportList<HistoryEntry>,
 }

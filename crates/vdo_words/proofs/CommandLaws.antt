@@ -11,7 +11,7 @@ use Rattle.clap.specs.Walk.{Row, Rule, arg_by_id, arg_by_long, has_row, is_early
 use Rattle.vdo_words.specs.Given.{Given}
 use Rattle.vdo_words.specs.Matching.{app, long, rule}
 use Rattle.vdo_words.specs.Options.{accepts, is_right, spelling}
-use Rattle.vdo_words.specs.declared.naming.OptionName.{OptionName}
+use Rattle.vdo_words.specs.declared.option_names.OptionName.{OptionName}
 use Rattle.vdo_words.proofs.RowLaws.{same_text, told}
 use Rattle.vdo_words.proofs.WordLaws.{spelled}
 

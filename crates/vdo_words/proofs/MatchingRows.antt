@@ -4,8 +4,8 @@ use Rattle.clap.proofs.OnLiterals.{clap_on_literals}
 use Rattle.clap.specs.Words.{Text, first_of, matches_of, takes}
 use Rattle.vdo_words.specs.Given.{given, find}
 use Rattle.vdo_words.specs.Matching.{app, long, text_in}
-use Rattle.vdo_words.specs.declared.naming.OptionName.{OptionName}
-use Rattle.vdo_words.specs.declared.naming.OptionName.TheVariants.{Depth, SlabBlocks, Threads}
+use Rattle.vdo_words.specs.declared.option_names.OptionName.{OptionName}
+use Rattle.vdo_words.specs.declared.option_names.OptionName.TheVariants.{Depth, SlabBlocks, Threads}
 
 abbrev names : List OptionName
 names = Depth ∷ Threads ∷ []

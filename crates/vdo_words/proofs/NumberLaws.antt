@@ -4,8 +4,8 @@ use Rattle.std.specs.Str.Parse.{digits_value}
 use Rattle.std.proofs.Common.{arith}
 use Rattle.std.proofs.lemmas.Bool.Decides.{nat_tests}
 use Rattle.vdo_words.specs.Options.{greatest, least, is_decimal, number_of}
-use Rattle.vdo_words.specs.declared.naming.OptionName.{OptionName}
-use Rattle.vdo_words.specs.declared.naming.OptionName.TheVariants.{LogicalZones, PhysicalZones, HashZones, Depth, Streams, Cache, Requests, Nonce, Schedule, Seed, After, Image, Logical, Slabs, SlabBlocks, Journal, Index, SlabJournal, Height, Threads}
+use Rattle.vdo_words.specs.declared.option_names.OptionName.{OptionName}
+use Rattle.vdo_words.specs.declared.option_names.OptionName.TheVariants.{LogicalZones, PhysicalZones, HashZones, Depth, Streams, Cache, Requests, Nonce, Schedule, Seed, After, Image, Logical, Slabs, SlabBlocks, Journal, Index, SlabJournal, Height, Threads}
 
 -- every range ends within 64 bits
 pub greatest-fits : (name : OptionName) → greatest name ≤ 18446744073709551615

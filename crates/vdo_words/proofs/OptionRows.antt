@@ -2,7 +2,7 @@
 use Rattle.std.specs.Prelude.{◌≡◌, true, false, [], ◌∷◌, codes, Some, None, refl}
 use Rattle.vdo_words.specs.Given.{awaits, cut, given}
 use Rattle.vdo_words.specs.Options.{accepts, are_right, is_given, is_right, number_of, number_or}
-use Rattle.vdo_words.specs.declared.naming.OptionName.TheVariants.{Nonce, Height, Threads, Depth, LogicalZones, PhysicalZones, HashZones, Cache, Requests, Streams, Schedule}
+use Rattle.vdo_words.specs.declared.option_names.OptionName.TheVariants.{Nonce, Height, Threads, Depth, LogicalZones, PhysicalZones, HashZones, Cache, Requests, Streams, Schedule}
 
 -- a value behind the first equals sign
 value-behind : cut (codes "--depth=2") ≡ (codes "--depth", Some (codes "2"))

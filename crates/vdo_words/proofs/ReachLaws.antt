@@ -12,7 +12,7 @@ use Rattle.clap.specs.declared.parser.matches.ValueSource.TheVariants.{CommandLi
 use Rattle.vdo_words.specs.Given.{Given, awaits, cut, find, given}
 use Rattle.vdo_words.specs.Matching.{long, rule, rule_by, text_in}
 use Rattle.vdo_words.specs.Options.{are_right, is_right}
-use Rattle.vdo_words.specs.declared.naming.OptionName.{OptionName}
+use Rattle.vdo_words.specs.declared.option_names.OptionName.{OptionName}
 use Rattle.vdo_words.proofs.CommandLaws.{known, rules}
 use Rattle.vdo_words.proofs.RowLaws.{first-other, first-own, first_some, first_some-none, told}
 use Rattle.vdo_words.proofs.WalkLaws.{IsPending, between, flag, passes-flag, passes-option, passes-value, passes-valued, rows_of, shape, valued, walks-flag, walks-option, walks-value, walks-valued}

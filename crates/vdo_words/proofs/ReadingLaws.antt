@@ -11,8 +11,8 @@ use Rattle.vdo_words.specs.Ranges.{IsWithin, IsCoreWithin, IsCommandWithin}
 use Rattle.vdo_words.specs.declared.commands.Command.{Command}
 use Rattle.vdo_words.specs.declared.commands.Command.TheVariants.{Format, Run, Recover, Audit, Status, Crash, Workload}
 use Rattle.vdo_words.specs.declared.commands.Usage.{Usage}
-use Rattle.vdo_words.specs.declared.naming.OptionName.{OptionName}
-use Rattle.vdo_words.specs.declared.naming.OptionName.TheVariants.{Depth, LogicalZones, PhysicalZones, HashZones, Cache, Requests, Streams}
+use Rattle.vdo_words.specs.declared.option_names.OptionName.{OptionName}
+use Rattle.vdo_words.specs.declared.option_names.OptionName.TheVariants.{Depth, LogicalZones, PhysicalZones, HashZones, Cache, Requests, Streams}
 
 pub read-once : (words : List (List ℕ)) → (one other : Result Command Usage) → one ≡ read words → other ≡ read words → one ≡ other
 read-once words one other first second = first ∙ sym second

@@ -10,8 +10,8 @@ use Rattle.clap.specs.Lexer.{has_byte, long_of, name_and_value}
 use Rattle.vdo_words.specs.Given.{Given, cut}
 use Rattle.vdo_words.specs.Matching.{is_flag, long}
 use Rattle.vdo_words.specs.Options.{accepts, number_of, spelling}
-use Rattle.vdo_words.specs.declared.naming.OptionName.{OptionName}
-use Rattle.vdo_words.specs.declared.naming.OptionName.TheVariants.{Logical, Slabs, Threads}
+use Rattle.vdo_words.specs.declared.option_names.OptionName.{OptionName}
+use Rattle.vdo_words.specs.declared.option_names.OptionName.TheVariants.{Logical, Slabs, Threads}
 
 abbrev sign : List ℕ → ℕ
 sign text = position_or_len (λ byte. byte == 61) text

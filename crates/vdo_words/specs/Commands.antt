@@ -3,8 +3,8 @@ use Rattle.std.specs.Prelude.{ℕ, not, ◌&&◌, List, [], ◌∷◌, ◌++◌,
 use Rattle.std.specs.Option.{ok_or}
 use Rattle.vdo_words.specs.Given.{Given, given}
 use Rattle.vdo_words.specs.Options.{are_right, is_given, number_or}
-use Rattle.vdo_words.specs.declared.naming.OptionName.{OptionName}
-use Rattle.vdo_words.specs.declared.naming.OptionName.TheVariants.{Logical, Slabs, SlabBlocks, Journal, Index, SlabJournal, Height, Nonce, Schedule, Threads, Depth, LogicalZones, PhysicalZones, HashZones, Cache, After, Image, Seed, Requests, Streams}
+use Rattle.vdo_words.specs.declared.option_names.OptionName.{OptionName}
+use Rattle.vdo_words.specs.declared.option_names.OptionName.TheVariants.{Logical, Slabs, SlabBlocks, Journal, Index, SlabJournal, Height, Nonce, Schedule, Threads, Depth, LogicalZones, PhysicalZones, HashZones, Cache, After, Image, Seed, Requests, Streams}
 use Rattle.vdo_words.specs.declared.commands.FormatOptions.{FormatOptions}
 use Rattle.vdo_words.specs.declared.commands.CoreOptions.{CoreOptions}
 use Rattle.vdo_words.specs.declared.commands.RunOptions.{RunOptions}

@@ -5,8 +5,8 @@ use Rattle.clap.specs.declared.builder.action.ArgAction.TheVariants.{Append}
 use Rattle.clap.specs.declared.parser.matches.ArgMatches.{ArgMatches}
 use Rattle.vdo_words.specs.Given.{Given, find}
 use Rattle.vdo_words.specs.Options.{spelling}
-use Rattle.vdo_words.specs.declared.naming.OptionName.{OptionName}
-use Rattle.vdo_words.specs.declared.naming.OptionName.TheVariants.{Threads}
+use Rattle.vdo_words.specs.declared.option_names.OptionName.{OptionName}
+use Rattle.vdo_words.specs.declared.option_names.OptionName.TheVariants.{Threads}
 
 -- what clap calls an option: its word without the two hyphens
 abbrev pub long : OptionName → List ℕ

@@ -4,8 +4,8 @@ use Rattle.std.specs.Option.{is_some, is_none, unwrap_or}
 use Rattle.std.specs.Str.{all_ascii_digits}
 use Rattle.std.specs.Str.Parse.{digits_value}
 use Rattle.vdo_words.specs.Given.{Given, find}
-use Rattle.vdo_words.specs.declared.naming.OptionName.{OptionName}
-use Rattle.vdo_words.specs.declared.naming.OptionName.TheVariants.{Logical, Slabs, SlabBlocks, Journal, Index, SlabJournal, Height, Nonce, Schedule, Threads, Depth, LogicalZones, PhysicalZones, HashZones, Cache, After, Image, Seed, Requests, Streams}
+use Rattle.vdo_words.specs.declared.option_names.OptionName.{OptionName}
+use Rattle.vdo_words.specs.declared.option_names.OptionName.TheVariants.{Logical, Slabs, SlabBlocks, Journal, Index, SlabJournal, Height, Nonce, Schedule, Threads, Depth, LogicalZones, PhysicalZones, HashZones, Cache, After, Image, Seed, Requests, Streams}
 
 -- the word that names an option
 abbrev pub spelling : OptionName → List ℕ

@@ -1,8 +1,8 @@
 -- The ranges within which the options of a command are.
 use Rattle.std.specs.Prelude.{ℕ, ◌≤◌}
 use Rattle.vdo_words.specs.Options.{greatest, least}
-use Rattle.vdo_words.specs.declared.naming.OptionName.{OptionName}
-use Rattle.vdo_words.specs.declared.naming.OptionName.TheVariants.{Depth, LogicalZones, PhysicalZones, HashZones, Cache, Requests, Streams}
+use Rattle.vdo_words.specs.declared.option_names.OptionName.{OptionName}
+use Rattle.vdo_words.specs.declared.option_names.OptionName.TheVariants.{Depth, LogicalZones, PhysicalZones, HashZones, Cache, Requests, Streams}
 use Rattle.vdo_words.specs.declared.commands.CoreOptions.{CoreOptions}
 use Rattle.vdo_words.specs.declared.commands.Command.{Command}
 use Rattle.vdo_words.specs.declared.commands.Command.TheVariants.{Run, Crash, Workload}

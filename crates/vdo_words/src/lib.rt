@@ -12,13 +12,13 @@
 mod commands;
 mod given;
 mod line;
-mod matching;
-mod naming;
+mod clap_matches;
+mod option_names;
 mod options;
-mod reading;
+mod command_reader;
 mod rules;
 
 pub use commands::{
     Command, CoreOptions, CrashOptions, Drive, FormatOptions, RunOptions, Usage, WorkloadOptions,
 };
-pub use reading::read_command;
+pub use command_reader::read_command;

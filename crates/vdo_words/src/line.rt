@@ -4,8 +4,8 @@ ghost use Rattle.vdo_words.specs.Matching.{text_in, FindsValues};
 ghost use Rattle.vdo_words.specs.Options.{are_right, spelling};
 
 use crate::given::find;
-use crate::matching::{long, matches};
-use crate::naming::OptionName;
+use crate::clap_matches::{long, matches};
+use crate::option_names::OptionName;
 use clap::ArgMatches;
 use std::alloc::Global;
 use std::marker::Model;

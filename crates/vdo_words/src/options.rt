@@ -5,7 +5,7 @@ ghost use Rattle.vdo_words.specs.Options.{spelling, greatest, is_given, number_o
 
 use crate::given::find;
 use crate::line::Line;
-use crate::naming::OptionName;
+use crate::option_names::OptionName;
 
 fn is_digits(text: &str) -> bool
     ensures { result ≡ all_ascii_digits text.now }

@@ -3,7 +3,7 @@ ghost use Rattle.vdo_words.specs.Given.{given};
 ghost use Rattle.vdo_words.specs.Options.{accepts, is_right, are_right};
 
 use crate::given::{Given, find, first_given};
-use crate::naming::OptionName;
+use crate::option_names::OptionName;
 use crate::options::number_of;
 
 // Whether an option may have this value: the flag has none, and each other a number within its range.

@@ -3,12 +3,12 @@
 //! Only tested: two blocks that differ in their last byte, with claims of a slab.
 #![tactic(auto)]
 
-mod deciding;
+mod decision;
 mod judged;
 mod laws;
 mod verdict;
 
-pub use deciding::{decide, judge};
+pub use decision::{decide, judge};
 pub use judged::Judged;
 pub use laws::what_is_decided_is_one;
 pub use verdict::Verdict;

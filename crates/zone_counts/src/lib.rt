@@ -10,7 +10,7 @@
 
 mod forms;
 mod laws;
-mod opening;
+mod opened_slabs;
 mod places;
 mod search;
 mod used;

@@ -9,7 +9,7 @@ ghost use Rattle.zone_counts.specs.Zone.{IsZone, IsOfZone, IsClaimedIn, IsOpenin
 ghost use Rattle.zone_counts.specs.Asking.{Asks, WithdrawsFrom, SharesIn, IsRefusedIn};
 
 use crate::Asked;
-use crate::opening::opening_slabs;
+use crate::opened_slabs::opening_slabs;
 use crate::places::{find_slab, place_of};
 use crate::search::{claim_lowest, has_free, serve};
 use crate::used::used_in;

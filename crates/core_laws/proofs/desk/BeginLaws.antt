@@ -2,7 +2,7 @@
 use Rattle.std.proofs.Common.{ℕ, zero, suc, ◌≡◌, ◌<◌, ◌+◌, ◌⊎◌, IsSome, inl, inr, refl, subst, ap, ◌∙◌, sym, arith}
 use Rattle.core_laws.proofs.Common.{Desk, IsNextLine, Writer, answered, begun, cases_lt, option_cases, request_at, some_is}
 use Rattle.vdo_model.specs.declared.report.DeskLine.TheVariants as line
-use Rattle.core_model.specs.DeskRows.{BeginsNext}
+use Rattle.core_model.specs.DeskRules.{BeginsNext}
 
 same_name : (i n j m : ℕ) → i ≡ j → n ≡ m → ◌≡◌ {A = Writer} (record { stream = i; number = n }) (record { stream = j; number = m })
 same_name i n j m streams numbers = rw (streams, numbers) refl

@@ -1,17 +1,17 @@
 -- What the acts of the desk owe.
 use Rattle.std.proofs.Common.{◌≡◌, ℕ, ◌+◌, ◌<◌, ◌≤◌, if◌then◌else◌, Bool, true, false, nat_lt, Option, None, Some, IsNone, List, [], ◌∷◌, refl, ap, sym, ◌∙◌, subst, inl, inr, arith}
-use Rattle.core_laws.proofs.Common.{AllByRecursion, Answer as Reply, Asks, Desk, DeskLine, Flushes, FlushMark, HasAddress, HasCause, IsEarned, IsNextLine, IsOpen, IsSession, KeptOk, Lba, MayAnswer, MayReply, Phase, Post, Request, RightTrace, Says, Session, Sizes, Trace, Vio, Writer, answer_of, asked, begun, begun_vio, cases_Bool, desk_zone, done, eqb_tells, every-append, fair_before, has_stopped, lines, logged_of, ltb-false, ltb-true, moments, none_is, notified_zones, option_cases, request_at, request_of, same_Some, same_tells, zone_at, zone_of, IsForBlock}
+use Rattle.core_laws.proofs.Common.{AllByRecursion, Answer as Reply, Asks, Desk, DeskLine, Flushes, FlushMark, HasAddress, HasCause, IsEarned, IsNextLine, IsOpen, IsSession, KeptOk, Lba, MayAnswer, MayReply, Phase, Post, Request, RightTrace, Says, Session, Sizes, Trace, Vio, Writer, answer_of, asked, begun, begun_vio, cases_Bool, desk_number, done, eqb_tells, every-append, fair_before, has_stopped, lines, logged_of, ltb-false, ltb-true, moments, none_is, notified_zones, option_cases, request_at, request_of, same_Some, same_tells, zone_at, zone_of, IsForBlock}
 use Rattle.blk_base.specs.Sectors.{zero_block}
 use Rattle.blk_base.specs.declared.place.ZoneId.TheVariants as id
 use Rattle.blk_base.specs.declared.request.Answer.TheVariants as reply
 use Rattle.blk_base.specs.declared.request.Request.TheVariants as request
 use Rattle.vdo_model.specs.FlushMarks.{IsMark}
 use Rattle.vdo_model.specs.declared.report.DeskLine.TheVariants as line
-use Rattle.core_model.specs.declared.items.Asks.TheVariants.{Read, Write, Discard, Flush}
-use Rattle.core_model.specs.declared.items.Item.TheVariants as item
-use Rattle.core_model.specs.declared.items.Phase.TheVariants as phase
+use Rattle.data_vio.specs.declared.items.Asks.TheVariants.{Read, Write, Discard, Flush}
+use Rattle.data_vio.specs.declared.items.Item.TheVariants as item
+use Rattle.data_vio.specs.declared.items.Phase.TheVariants as phase
 use Rattle.core_model.specs.declared.zones.ZoneData.TheVariants as at
-use Rattle.core_model.specs.DeskRows.{DeskBegins, DeskServes, is_notified, at_once, vio_of, first_zone, is_marked, is_stopped, mark_of_vio, with_notice, woken}
+use Rattle.core_model.specs.DeskRules.{DeskBegins, DeskServes, is_notified, at_once, vio_of, first_zone, is_marked, is_stopped, mark_of_vio, with_notice, woken}
 use Rattle.core_laws.proofs.kept.ActKept.{Known, unborn, ActKept, PostOk, act_none, act_one, own_request, plain_clears, reaches, line_kept, shown_plain, carries_at, unborn_place, unborn_entry, unborn_take, unborn_slot, vio_ok}
 use Rattle.core_laws.proofs.trace.DeskOfTrace.{desk_log_right, answered_begun, shown_of}
 use Rattle.core_laws.proofs.physical.PhysicalFacts.{zone_below}
@@ -291,7 +291,7 @@ module _ {s : Session} {t : Trace} {n : ℕ} {old : Desk} {v : Vio} (known : Kno
 -- those that wait go to the desk itself
 woken_ok : (s : Session) (t : Trace) (vs : List Vio) → AllByRecursion (KeptOk s t phase.Reply) vs → AllByRecursion (PostOk s t) (woken vs)
 woken_ok s t [] all = tt
-woken_ok s t (v ∷ vs) all = ((omega arith, (all.0.0, all.0.1, subst (λ (q : Phase). desk_zone ≡ zone_at s.sizes v.home q) (sym all.0.2) refl)), woken_ok s t vs all.1)
+woken_ok s t (v ∷ vs) all = ((omega arith, (all.0.0, all.0.1, subst (λ (q : Phase). desk_number ≡ zone_at s.sizes v.home q) (sym all.0.2) refl)), woken_ok s t vs all.1)
 
 -- The desk gets the stop notice of a zone.
 pub desk_hears : {s : Session} {t : Trace} {n : ℕ} {old : Desk} → Known s t n (at.Desk old) (item.StopNotice ∷ []) → ActKept s t n (at.Desk old) (item.StopNotice ∷ []) (at.Desk (with_notice old)) [] (woken old.parked)

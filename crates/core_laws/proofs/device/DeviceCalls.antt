@@ -1,6 +1,6 @@
 -- The device's calls: what they write, what reads give, and which data blocks they are of.
 use Rattle.std.proofs.Common.{◌≡◌, ◌≢◌, ℕ, zero, suc, ◌*◌, ◌<◌, ◌≤◌, ◌^◌, Bool, Some, List, [], ◌∷◌, ◌++◌, length, length-append, get_or, subst, inl, inr, arith, ◌⊎◌, false, Option, None, ap, sym, ◌∙◌, ◌+◌, true, refl}
-use Rattle.core_laws.proofs.Common.{all_of, AllByRecursion, AreAllThere, asked, Asks, AtRest, Call, Calls, ComesLast, committed, device_zone, done, entered, entries_of, Entry, entry_of, eqb_tells, every-front, every-get, every-map, filled, Geometry, Happening, HasBlocks, HasWholeBlocks, IsAsOpened, IsFair, IsFresh, IsServed, IsSession, IsWrite, Lba, log, Logged, Mapping, MayFollow, newest, NewStands, of_address, OnBlock, OnItsWay, Pbn, Quiet, ReadsAs, ReadsBlock, Request, request_at, RightTrace, sealed, Session, Shown, Stands, Trace, value_from, value_written, Writer}
+use Rattle.core_laws.proofs.Common.{all_of, AllByRecursion, AreAllThere, asked, Asks, AtRest, Call, Calls, ComesLast, committed, device_number, done, entered, entries_of, Entry, entry_of, eqb_tells, every-front, every-get, every-map, filled, Geometry, Happening, HasBlocks, HasWholeBlocks, IsAsOpened, IsFair, IsFresh, IsServed, IsSession, IsWrite, Lba, log, Logged, Mapping, MayFollow, newest, NewStands, of_address, OnBlock, OnItsWay, Pbn, Quiet, ReadsAs, ReadsBlock, Request, request_at, RightTrace, sealed, Session, Shown, Stands, Trace, value_from, value_written, Writer}
 use Rattle.std.proofs.Math.Nat.{mod-lt, mul-le-mul_left}
 use Rattle.std.proofs.lemmas.List.Elements.{All-from_recursion}
 use Rattle.blk_base.specs.Limits.{IsGeometry, logical_limit}
@@ -14,7 +14,7 @@ use Rattle.image_layout.specs.Values.{mapping_of, value_in, value_of}
 use Rattle.stop_laws.specs.Journals.{MissesJournal, block_of_slot}
 use Rattle.disk_model.specs.Images.{IsMixOf}
 use Rattle.disk_model.proofs.ImageLaws.{settled_are_contents, block_of_mix, settled-write}
-use Rattle.core_model.specs.LogicalRows.{mapped_by}
+use Rattle.core_model.specs.LogicalRules.{mapped_by}
 use Rattle.core_laws.proofs.lists.Zeros.{zeros_length}
 use Rattle.core_laws.proofs.trace.DeskOfTrace.{AreData, HasData, done_writes, each_of_address, entered_data, of_address_append, shown_of}
 use Rattle.byte_fields.specs.Mappings.{HoldsMapping}
@@ -24,7 +24,7 @@ use Rattle.core_laws.proofs.kept.Keys.{Key, OfBlock, OfJournal, Spares, Clears}
 use Rattle.core_laws.proofs.kept.StandsOn.{AreElsewhere, IsCallOf, SparesBlocks, block_spared, call_sealed, entered_parts, failed, journal_spared, map_kept, new_kept, new_reads_kept, on_each, spares_all, stands_kept, succeeded, write_spares}
 use Rattle.blk_base.specs.declared.request.Request.TheVariants as request
 use Rattle.disk_model.specs.Log as device
-use Rattle.core_model.specs.declared.items.Asks.TheVariants as asks
+use Rattle.data_vio.specs.declared.items.Asks.TheVariants as asks
 use Rattle.core_laws.proofs.journal.SealedBlocks.{block_has, block_length, blocks_length, heads_start}
 use Rattle.core_laws.proofs.lists.CoreLists.{newest_has}
 use Rattle.core_laws.proofs.kept.Spared.{mapping_by, mapping_same}
@@ -170,7 +170,7 @@ module _ (s : Session) (t : Trace) (session : IsSession s) (right : RightTrace s
 -- Calls that write nothing, and writes of data.
 
 -- what a call is about: no request, no address
-pub call_clears : {s : Session} {t : Trace} {n : ℕ} {mine : Key → Type 0} {h : Happening} {c : Call} → IsCallOf h c → n ≡ device_zone s.sizes → ((x : ℕ) → mine (OfBlock x) ⊎ Spares s t h (OfBlock x)) → mine OfJournal ⊎ Spares s t h OfJournal
+pub call_clears : {s : Session} {t : Trace} {n : ℕ} {mine : Key → Type 0} {h : Happening} {c : Call} → IsCallOf h c → n ≡ device_number s.sizes → ((x : ℕ) → mine (OfBlock x) ⊎ Spares s t h (OfBlock x)) → mine OfJournal ⊎ Spares s t h OfJournal
     → Clears s n mine h t
 call_clears succeeded here block journal = record { zone = here; request = tt; address = tt; block = block; journal = journal }
 call_clears failed here block journal = record { zone = here; request = tt; address = tt; block = block; journal = journal }

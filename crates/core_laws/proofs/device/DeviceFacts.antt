@@ -3,10 +3,10 @@ use Rattle.std.proofs.Common.{◌≡◌, ℕ, zero, suc, ◌+◌, ◌<◌, ◌�
 use Rattle.core_laws.proofs.Common.{all_logged, all_of, AllByRecursion, asked, Asks, AtRest, Call, calls, Calls, DataOk, DeviceZone, done, each_at, ended, entered, Entry, entry_of, eqb_tells, every-map, Fails, FailureMayFollow, fair_before, Happening, has_read_fault, has_stopped, HasAddress, HasCause, HasWholeBlocks, is_ok, is_read, IsAsOpened, IsChange, IsEarned, IsFair, IsFresh, IsMadeFor, IsOpen, IsSealed, IsSession, IsToFresh, KeptOk, Lba, log, logged, Logged, logical_zones, Mapping, MapsTo, moments, NewReads, NewStands, notified, OnBlock, OnItsWay, Pbn, place_of, places, Post, ReadsAs, ReadsBlock, request_of, RightTrace, same_self, same_Some, SealedBlock, Session, Shown, Sizes, some_is, Stage, StandsAt, Trace, value_at, value_from, Vio, VioOk, Writer, zone_count, zone_number}
 use Rattle.image_layout.specs.Values.{mapping_of}
 use Rattle.vdo_model.specs.FlushMarks.{IsMark, successes}
-use Rattle.core_model.specs.declared.items.Asks.TheVariants.{Read, Write, Discard, Flush}
-use Rattle.core_model.specs.DeskRows.{is_marked, mark_of_vio}
-use Rattle.core_model.specs.DeviceRows.{DeviceServes, counted, stop_notices, DeviceWorks, journal_bytes, IsItsSlot, call_of, next_stage, next_zone}
-use Rattle.core_model.specs.LogicalRows.{mapped_by}
+use Rattle.data_vio.specs.declared.items.Asks.TheVariants.{Read, Write, Discard, Flush}
+use Rattle.core_model.specs.DeskRules.{is_marked, mark_of_vio}
+use Rattle.core_model.specs.DeviceRules.{DeviceServes, counted, stop_notices, DeviceWorks, journal_bytes, IsItsSlot, call_of, next_stage, next_zone}
+use Rattle.core_model.specs.LogicalRules.{mapped_by}
 use Rattle.core_laws.proofs.kept.ActKept.{Known, Mine, weighed, PostOk, ActKept, act_none, act_one, vio_ok, in_phase, carries_at}
 use Rattle.core_laws.proofs.kept.Keys.{OfBlock, Clears, claim_one}
 use Rattle.core_laws.proofs.device.DeviceCalls.{IsSpelled, call_clears, data_misses, old_data, quiet_call, quiet_journal, read_value, slot_misses, slot_reads, slot_shown, slot_way, spelled_sealed, store_call, store_reads, whole_opening}
@@ -24,11 +24,11 @@ use Rattle.blk_base.specs.declared.place.Mapping.TheVariants.{At}
 use Rattle.blk_base.specs.declared.place.ZoneId.TheVariants as id
 use Rattle.blk_base.specs.declared.request.Answer.TheVariants as reply
 use Rattle.disk_model.specs.declared.call.Call.TheVariants as call
-use Rattle.core_model.specs.declared.items.Item.TheVariants as item
-use Rattle.core_model.specs.declared.items.Phase.TheVariants as phase
+use Rattle.data_vio.specs.declared.items.Item.TheVariants as item
+use Rattle.data_vio.specs.declared.items.Phase.TheVariants as phase
 use Rattle.core_model.specs.declared.zones.ZoneData.TheVariants as at
-use Rattle.core_model.specs.DeviceRows as device
-use Rattle.core_model.specs.declared.items.Stage.TheVariants as stage
+use Rattle.core_model.specs.DeviceRules as device
+use Rattle.data_vio.specs.declared.items.Stage.TheVariants as stage
 use Rattle.journal_stops.specs.Rings.{IsWhole, place_of as slot_place}
 use Rattle.journal_stops.specs.Sealed.{next_of}
 use Rattle.journal_stops.proofs.StepLaws.{spelled_whole, ends}

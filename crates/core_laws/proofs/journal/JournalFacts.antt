@@ -3,8 +3,8 @@
 use Rattle.std.proofs.Common.{◌≡◌, ◌≢◌, ◌++◌, ◌≤◌, suc, Option, append_assoc, length-append, ℕ, ◌<◌, true, Some, IsNone, IsSome, List, [], ◌∷◌, refl, ap, arith, ◌+◌, Bool, false, length, sym, ◌∙◌, inl, inr, subst}
 use Rattle.core_laws.proofs.Common.{all_logged, all_of, AllByRecursion, asked, Asks, AtRest, bit, BlockOk, Carries, Commits, committed, DataOk, done, each_at, entered, Enters, entry_of, every-append, fair_before, filled, Happening, has_stopped, HasCause, HasFullJournal, HasPendingEntry, HasPlace, holder_weight, Holds, IsChange, IsFair, IsFull, IsPlaced, IsSession, JournalLists, JournalZone, KeptEach, KeptOk, Lba, Logged, logged, logged_of, ltb-false, ltb-true, Mapping, MapsTo, MayReply, NewReads, OnBlock, or_parts, place_of, places, Post, ReadsAs, Request, RestsAt, RightTrace, same_self, same_tells, same_writer, sealed, SealedBlock, Seals, Session, Shown, some_is, Stage, StandsAt, total, Trace, turned, value_written, Vio, VioOk, Writer, zone_count, zone_number, zone_of, zone_of_stage}
 use Rattle.std.proofs.Math.Nat.{mod-lt}
-use Rattle.core_model.specs.declared.items.Asks.TheVariants.{Read, Write, Discard, Flush}
-use Rattle.core_model.specs.JournalRows.{JournalEnds, JournalServes, all_again, all_dropped, all_refused, entered_by, hands_out, has_block, has_room, is_closed, next_block, refused}
+use Rattle.data_vio.specs.declared.items.Asks.TheVariants.{Read, Write, Discard, Flush}
+use Rattle.core_model.specs.JournalRules.{JournalEnds, JournalServes, all_again, all_dropped, all_refused, entered_by, hands_out, has_block, has_room, is_closed, next_block, refused}
 use Rattle.core_laws.proofs.kept.ActKept.{PostOk, carries_at, unentered_slot, Known, Mine, weighed, ActKept, act_none, act_one, own_request, own_address, line_kept, vio_over, vio_ok, in_phase}
 use Rattle.core_laws.proofs.lists.Changes.{maps_change}
 use Rattle.core_laws.proofs.trace.DeskOfTrace.{shown_of}
@@ -17,12 +17,12 @@ use Rattle.core_laws.proofs.kept.StandsOn.{SparesBlock, SparesMap, journal_kept,
 use Rattle.core_laws.proofs.kept.Carried.{pending_over}
 use Rattle.blk_base.specs.declared.place.Mapping.TheVariants.{At, Unmapped, Zero}
 use Rattle.blk_base.specs.declared.request.Answer.TheVariants as reply
-use Rattle.core_model.specs.declared.items.Phase.TheVariants as phase
+use Rattle.data_vio.specs.declared.items.Phase.TheVariants as phase
 use Rattle.blk_base.specs.declared.place.ZoneId.TheVariants as id
-use Rattle.core_model.specs.declared.items.Item.TheVariants as item
-use Rattle.core_model.specs.declared.items.Stage.TheVariants as stage
+use Rattle.data_vio.specs.declared.items.Item.TheVariants as item
+use Rattle.data_vio.specs.declared.items.Stage.TheVariants as stage
 use Rattle.core_model.specs.declared.zones.ZoneData.TheVariants as at
-use Rattle.core_model.specs.JournalRows as journal
+use Rattle.core_model.specs.JournalRules as journal
 use Rattle.recovery_journal.specs.Log.{head_of}
 
 -- once the session is stopped, a write or a discard whose slot isn't set may be answered so; where no block is left for it, one

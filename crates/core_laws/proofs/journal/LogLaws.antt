@@ -6,7 +6,7 @@ use Rattle.blk_base.specs.declared.journal_entry.CommittedEntry.{CommittedEntry}
 use Rattle.core_laws.proofs.Common.{Commits, Enters, Entry, IsLogOf, Logged, RightTrace, Seals, Session, Trace, Vio, all_logged, all_of, committed, entry_of, filled, sealed}
 use Rattle.core_laws.proofs.trace.DeskOfTrace.{committed_sealed}
 use Rattle.core_laws.proofs.journal.SealedBlocks.{block_length, logged_length, map_both, map_length, reverse_more}
-use Rattle.core_model.specs.JournalRows.{HasNext, IsSealable, appended, handed_out, sealed_log}
+use Rattle.core_model.specs.JournalRules.{HasNext, IsSealable, appended, handed_out, sealed_log}
 use Rattle.core_model.specs.Sessions.{said_by}
 use Rattle.core_model.specs.Start.{earlier_from, first_log}
 use Rattle.recovery_journal.specs.Log.{Log, first_needed, first_sequence, head_of, placed}

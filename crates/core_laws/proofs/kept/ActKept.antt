@@ -2,8 +2,8 @@
 use Rattle.std.proofs.Common.{◌≡◌, ℕ, ◌+◌, ◌<◌, ◌≤◌, true, Some, IsNone, List, [], ◌∷◌, ◌++◌, refl, subst, inl, inr, arith, false}
 use Rattle.core_laws.proofs.Common.{all_of, AllByRecursion, begun, Calls, Carries, claims, Commits, DataOk, DeviceZone, done, entered, Enters, Fails, fair_before, filled, GivesRight, Happening, holds, IsFair, IsSession, IsWrite, Item, ItemOk, kept_by, KeptEach, KeptOk, lines, logged_of, LogicalZone, none_is, not_both, option_cases, Pbn, Phase, place_of, Placed, places, Post, RightTrace, same_Some, same_tells, sealed, Seals, Session, Shown, total, Trace, Vio, VioOk, Writer, zone_count, zone_number, ZoneData, cases_Bool, has_taken, Says, Flushes, Takes}
 use Rattle.blk_base.specs.declared.place.Mapping.TheVariants.{At}
-use Rattle.core_model.specs.declared.items.Item.TheVariants as item
-use Rattle.core_model.specs.declared.items.Phase.TheVariants as phase
+use Rattle.data_vio.specs.declared.items.Item.TheVariants as item
+use Rattle.data_vio.specs.declared.items.Phase.TheVariants as phase
 use Rattle.core_model.specs.declared.zones.ZoneData.TheVariants as at
 use Rattle.core_model.specs.Legal.{ComesAfter}
 use Rattle.core_laws.proofs.trace.DeskOfTrace.{logged_has, entered_writes, done_is_entered}

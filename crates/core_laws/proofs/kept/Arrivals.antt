@@ -1,23 +1,25 @@
 -- What each act owes of the arrivals: the desk alone sends requests that have yet to draw a place, and their logical zone takes them.
 use Rattle.std.proofs.Common.{◌∙◌, ◌≡◌, ◌<◌, ◌≤◌, ℕ, ◌⊎◌, Bool, true, false, cond, Option, None, Some, IsSome, List, [], ◌∷◌, ◌++◌, nat_eq, refl, sym, subst, ap, inl, inr, arith}
-use Rattle.core_laws.proofs.Common.{AllByRecursion, Answer, Asks, Carries, DataOk, Desk, DeviceZone, Happening, HasAddress, HasCause, IsEarned, Item, ItemOk, JournalZone, LogicalZone, Mapping, MayFollow, MayReply, Phase, PhysicalZone, Placed, Post, Request, RightTrace, Says, SealedBlock, Session, Sizes, Trace, Vio, VioOk, Writer, ZoneData, ZoneId, append-nil, arrival, arriving, asked, begun, desk_zone, device_zone, eqb_tells, every-append, every-front, every-map, lines, logical_zone, none_of, notified, place_of, places, request_at, request_of, same_Some, same_tells, some_of, zone_number, zone_of}
+use Rattle.core_laws.proofs.Common.{AllByRecursion, Answer, Asks, Carries, DataOk, Desk, DeviceZone, Happening, HasAddress, HasCause, IsEarned, Item, ItemOk, JournalZone, LogicalZone, Mapping, MayFollow, MayReply, Phase, PhysicalZone, Placed, Post, Request, RightTrace, Says, SealedBlock, Session, Sizes, Trace, Vio, VioOk, Writer, ZoneData, ZoneId, append-nil, arrival, arriving, asked, begun, desk_number, device_number, eqb_tells, every-append, every-front, every-map, lines, logical_number, none_of, notified, place_of, places, request_at, request_of, same_Some, same_tells, some_of, zone_number, zone_of}
 use Rattle.blk_base.specs.declared.place.Mapping.TheVariants.{Unmapped, Zero, At}
 use Rattle.blk_base.specs.declared.place.ZoneId.TheVariants as id
 use Rattle.blk_base.specs.declared.request.Request.TheVariants as request
 use Rattle.vdo_model.specs.declared.report.DeskLine.TheVariants as line
-use Rattle.core_model.specs.declared.items.Asks.TheVariants.{Read, Write, Discard, Flush}
-use Rattle.core_model.specs.declared.items.Item.TheVariants as item
-use Rattle.core_model.specs.declared.items.Phase.TheVariants as phase
+use Rattle.data_vio.specs.declared.items.Asks.TheVariants.{Read, Write, Discard, Flush}
+use Rattle.data_vio.specs.declared.items.Item.TheVariants as item
+use Rattle.data_vio.specs.declared.items.Phase.TheVariants as phase
 use Rattle.core_model.specs.declared.zones.ZoneData.TheVariants as at
 use Rattle.core_model.specs.Arrivals.{arrivals_at, drew_in, only_of, sent_to_zone, zone_asked}
-use Rattle.core_model.specs.DeskRows as desk
-use Rattle.core_model.specs.DeskRows.{DeskBegins, DeskServes, first_zone, is_marked, vio_of, woken, mark_of_vio}
-use Rattle.core_model.specs.DeviceRows as device
-use Rattle.core_model.specs.DeviceRows.{DeviceServes, DeviceWorks, stop_notices}
-use Rattle.core_model.specs.JournalRows as journal
-use Rattle.core_model.specs.JournalRows.{PhysicalServes, JournalServes, JournalEnds, all_again, all_dropped, all_refused}
-use Rattle.core_model.specs.LogicalRows as logical
-use Rattle.core_model.specs.LogicalRows.{LogicalServes, goes_on, passes_on, read_next, looked, mapping_at, first_for, all_for, all_stopped, placed, place_of_vio}
+use Rattle.core_model.specs.DeskRules as desk
+use Rattle.core_model.specs.DeskRules.{DeskBegins, DeskServes, first_zone, is_marked, vio_of, woken, mark_of_vio}
+use Rattle.core_model.specs.DeviceRules as device
+use Rattle.core_model.specs.DeviceRules.{DeviceServes, DeviceWorks, stop_notices}
+use Rattle.core_model.specs.JournalRules as journal
+use Rattle.core_model.specs.PhysicalRules as physical
+use Rattle.core_model.specs.PhysicalRules.{PhysicalServes}
+use Rattle.core_model.specs.JournalRules.{JournalServes, JournalEnds, all_again, all_dropped, all_refused}
+use Rattle.core_model.specs.LogicalRules as logical
+use Rattle.core_model.specs.LogicalRules.{LogicalServes, goes_on, passes_on, read_next, looked, mapping_at, first_for, all_for, all_stopped, placed, place_of_vio}
 use Rattle.core_model.specs.Legal.{ComesAfter}
 use Rattle.core_model.specs.Steps.{Act}
 use Rattle.core_model.specs.Steps as steps
@@ -108,7 +110,7 @@ pub data Course (s : Session) (t : Trace) (old : ZoneData) (front : List Item) (
       → places (made ++ t) ≡ place_of_vio l v ∷ places t → ((zone : ℕ) → sent_to_zone s zone (made ++ t) ≡ sent_to_zone s zone t)
       → Course s t old front made posts
   sends : (d : Desk) → old ≡ at.Desk d → places (made ++ t) ≡ places t
-      → ((zone : ℕ) → sent_to_zone s zone (made ++ t) ≡ sent_to_zone s zone t ++ counted arrival (items_to s.sizes (logical_zone zone) posts))
+      → ((zone : ℕ) → sent_to_zone s zone (made ++ t) ≡ sent_to_zone s zone t ++ counted arrival (items_to s.sizes (logical_number zone) posts))
       → Course s t old front made posts
 
 module _ (s : Session) (t : Trace) where
@@ -123,10 +125,10 @@ module _ (s : Session) (t : Trace) where
   logical_course old v new made posts (logical.aborts_entered p n m q) = still (past v p) (rw q (refl, stopped_still (all_for v.at.0 old.waiting))) (rw m refl) (λ zone. rw m refl)
 
   physical_course : (old : PhysicalZone) (v : Vio) (new : PhysicalZone) (made : Trace) (posts : List Post) → PhysicalServes s.sizes old v new made posts → Course s t (at.Physical old) (item.Request v ∷ []) made posts
-  physical_course old v new made posts (journal.claims x xs p f n m q) = still (past v p) (rw q (refl, tt)) (rw m refl) (λ zone. rw m refl)
-  physical_course old v new made posts (journal.PhysicalServes.is_full p f n m q) = still (past v p) (rw q (refl, tt)) (rw m refl) (λ zone. rw m refl)
-  physical_course old v new made posts (journal.aborts_claim p n m q) = still (past v p) (rw q (refl, tt)) (rw m refl) (λ zone. rw m refl)
-  physical_course old v new made posts (journal.aborts_entered_claim p n m q) = still (past v p) (rw q (refl, tt)) (rw m refl) (λ zone. rw m refl)
+  physical_course old v new made posts (physical.claims x xs p f n m q) = still (past v p) (rw q (refl, tt)) (rw m refl) (λ zone. rw m refl)
+  physical_course old v new made posts (PhysicalServes.is_full p f n m q) = still (past v p) (rw q (refl, tt)) (rw m refl) (λ zone. rw m refl)
+  physical_course old v new made posts (physical.aborts_claim p n m q) = still (past v p) (rw q (refl, tt)) (rw m refl) (λ zone. rw m refl)
+  physical_course old v new made posts (physical.aborts_entered_claim p n m q) = still (past v p) (rw q (refl, tt)) (rw m refl) (λ zone. rw m refl)
 
   journal_course : (old : JournalZone) (v : Vio) (new : JournalZone) (made : Trace) (posts : List Post) → JournalServes s.sizes old v new made posts → Course s t (at.Journal old) (item.Request v ∷ []) made posts
   journal_course old v new made posts (journal.is_stopped p c n m q) = still (past v p) (rw q (refl, tt)) (rw m refl) (λ zone. rw m refl)
@@ -160,13 +162,13 @@ module _ (s : Session) (t : Trace) where
   work_course old b new made posts (device.unmade call slot v vs first c s n m q) = still refl (rw q (refl, tt)) (rw m refl) (λ zone. rw m refl)
 
 -- a request that goes to its home is posted to one logical zone
-at_home : (sizes : Sizes) (zone z : ℕ) (w : Writer) (x : Item) → arrival x ≡ w ∷ [] → only_of zone (Some z) w ≡ counted arrival (items_to sizes (logical_zone zone) ((id.Logical z, x) ∷ []))
+at_home : (sizes : Sizes) (zone z : ℕ) (w : Writer) (x : Item) → arrival x ≡ w ∷ [] → only_of zone (Some z) w ≡ counted arrival (items_to sizes (logical_number zone) ((id.Logical z, x) ∷ []))
 at_home sizes zone z w x is = elim (eqb_tells z zone) [
-  | inl same ↦ elim (eqb_tells (logical_zone z) (logical_zone zone)) [
+  | inl same ↦ elim (eqb_tells (logical_number z) (logical_number zone)) [
     | inl there ↦ rw (same.0, there.0) (sym (ap (λ (us : List Writer). us ++ []) is))
-    | inr apart ↦ absurd (apart.1 (ap logical_zone same.1))
+    | inr apart ↦ absurd (apart.1 (ap logical_number same.1))
   ]
-  | inr other ↦ elim (eqb_tells (logical_zone z) (logical_zone zone)) [
+  | inr other ↦ elim (eqb_tells (logical_number z) (logical_number zone)) [
     | inl there ↦ absurd (other.1 (omega (arith, there.1)))
     | inr apart ↦ rw (other.0, apart.0) refl
   ]
@@ -178,12 +180,12 @@ to_nobody false x is = refl
 
 -- a request that is begun is posted to the logical zone of its address, where it has one
 posted_begun : (sizes : Sizes) (zone : ℕ) (w : Writer) (r : Request) (v : Vio) → vio_of sizes w r ≡ Some v
-    → only_of zone (zone_asked sizes.zones (Some r)) w ≡ counted arrival (items_to sizes (logical_zone zone) ((first_zone v, item.Request v) ∷ []))
-posted_begun sizes zone w (request.Read at) v is = subst (λ (v : Vio). only_of zone (zone_asked sizes.zones (Some (request.Read at))) w ≡ counted arrival (items_to sizes (logical_zone zone) ((first_zone v, item.Request v) ∷ []))) (same_Some _ _ is) (at_home sizes zone (zone_of sizes.zones at.0) w _ refl)
-posted_begun sizes zone w (request.Write at bytes false) v is = subst (λ (v : Vio). only_of zone (zone_asked sizes.zones (Some (request.Write at bytes false))) w ≡ counted arrival (items_to sizes (logical_zone zone) ((first_zone v, item.Request v) ∷ []))) (same_Some _ _ is) (at_home sizes zone (zone_of sizes.zones at.0) w _ refl)
-posted_begun sizes zone w request.Flush v is = subst (λ (v : Vio). [] ≡ counted arrival (items_to sizes (logical_zone zone) ((first_zone v, item.Request v) ∷ []))) (same_Some _ _ is) (to_nobody (nat_eq (device_zone sizes) (logical_zone zone)) _ refl)
+    → only_of zone (zone_asked sizes.zones (Some r)) w ≡ counted arrival (items_to sizes (logical_number zone) ((first_zone v, item.Request v) ∷ []))
+posted_begun sizes zone w (request.Read at) v is = subst (λ (v : Vio). only_of zone (zone_asked sizes.zones (Some (request.Read at))) w ≡ counted arrival (items_to sizes (logical_number zone) ((first_zone v, item.Request v) ∷ []))) (same_Some _ _ is) (at_home sizes zone (zone_of sizes.zones at.0) w _ refl)
+posted_begun sizes zone w (request.Write at bytes false) v is = subst (λ (v : Vio). only_of zone (zone_asked sizes.zones (Some (request.Write at bytes false))) w ≡ counted arrival (items_to sizes (logical_number zone) ((first_zone v, item.Request v) ∷ []))) (same_Some _ _ is) (at_home sizes zone (zone_of sizes.zones at.0) w _ refl)
+posted_begun sizes zone w request.Flush v is = subst (λ (v : Vio). [] ≡ counted arrival (items_to sizes (logical_number zone) ((first_zone v, item.Request v) ∷ []))) (same_Some _ _ is) (to_nobody (nat_eq (device_number sizes) (logical_number zone)) _ refl)
 posted_begun sizes zone w (request.Write at bytes true) v is = absurd cc
-posted_begun sizes zone w (request.Discard at) v is = subst (λ (v : Vio). only_of zone (zone_asked sizes.zones (Some (request.Discard at))) w ≡ counted arrival (items_to sizes (logical_zone zone) ((first_zone v, item.Request v) ∷ []))) (same_Some _ _ is) (at_home sizes zone (zone_of sizes.zones at.0) w _ refl)
+posted_begun sizes zone w (request.Discard at) v is = subst (λ (v : Vio). only_of zone (zone_asked sizes.zones (Some (request.Discard at))) w ≡ counted arrival (items_to sizes (logical_number zone) ((first_zone v, item.Request v) ∷ []))) (same_Some _ _ is) (at_home sizes zone (zone_of sizes.zones at.0) w _ refl)
 
 -- a request that is answered by its vio has its place, or is a flush
 answer_placed : (s : Session) (t : Trace) (v : Vio) (a : Answer) → RightTrace s t → VioOk s t v → HasCause s t v.request (request_of v) a
@@ -206,7 +208,7 @@ module _ (s : Session) (t : Trace) (right : RightTrace s t) where
       let here : request_at s.script w ≡ Some r = subst (λ (script : _). request_at script w ≡ Some r) script h in
       rw (m, q) (ap (λ (us : List Writer). sent_to_zone s zone t ++ us) (ap (λ (o : Option Request). only_of zone (zone_asked s.sizes.zones o) w) here ∙ posted_begun s.sizes zone w r v served)))
 
-  desk_course : (old : Desk) (v : Vio) (new : Desk) (made : Trace) (posts : List Post) → ItemOk s t desk_zone (item.Request v) → DeskServes s.sizes old v new made posts
+  desk_course : (old : Desk) (v : Vio) (new : Desk) (made : Trace) (posts : List Post) → ItemOk s t desk_number (item.Request v) → DeskServes s.sizes old v new made posts
       → Course s t (at.Desk old) (item.Request v ∷ []) made posts
   desk_course old v new made posts ok (desk.parks reply p h stopped told n m q) = still (past v p) (rw q tt) (rw m refl) (λ zone. rw m refl)
   desk_course old v new made posts ok (desk.answers reply p h stopped k n m q) =
@@ -248,20 +250,20 @@ still_counted sizes n (p ∷ ps) h = one (nat_eq (zone_number sizes p.0) n) (sti
 module _ (s : Session) (t : Trace) (zone n : ℕ) (old : ZoneData) (front : List Item) (made : Trace) (posts : List Post) (ok : DataOk s t n old) where
   pub arrivals_kept : Course s t old front made posts → Keeps (arrivals_at s zone) s.sizes n t front made posts
   arrivals_kept (still f q p sent) = record {
-    sends = λ is. sent zone ∙ sym (ap (λ (us : List Writer). sent_to_zone s zone t ++ us) (still_counted s.sizes (logical_zone zone) posts q) ∙ append-nil (sent_to_zone s zone t));
+    sends = λ is. sent zone ∙ sym (ap (λ (us : List Writer). sent_to_zone s zone t ++ us) (still_counted s.sizes (logical_number zone) posts q) ∙ append-nil (sent_to_zone s zone t));
     sent_same = λ ne. sent zone;
-    nothing = λ ne. still_counted s.sizes (logical_zone zone) posts q;
+    nothing = λ ne. still_counted s.sizes (logical_number zone) posts q;
     takes = λ is. ap (drew_in zone) p ∙ sym (ap (λ (us : List Writer). drew_in zone (places t) ++ us) f ∙ append-nil (drew_in zone (places t)));
     taken_same = λ ne. ap (drew_in zone) p;
   }
   arrivals_kept (draws l v is fronts arrives q p sent) =
-      let number : n ≡ logical_zone l.zone = (subst (λ (d : ZoneData). DataOk s t n d) is ok).number_is in
+      let number : n ≡ logical_number l.zone = (subst (λ (d : ZoneData). DataOk s t n d) is ok).number_is in
       record {
         sends = λ from. absurd (omega (arith, from, number));
         sent_same = λ ne. sent zone;
-        nothing = λ ne. still_counted s.sizes (logical_zone zone) posts q;
+        nothing = λ ne. still_counted s.sizes (logical_number zone) posts q;
         takes = λ to. ap (drew_in zone) p ∙ at_own l v (elim (eqb_tells l.zone zone) [ inl same ↦ same.1 | inr other ↦ absurd (other.1 (omega (arith, number, to))) ]) fronts arrives;
-        taken_same = λ ne. ap (drew_in zone) p ∙ elsewhere l v (λ e. ne (number ∙ ap logical_zone e));
+        taken_same = λ ne. ap (drew_in zone) p ∙ elsewhere l v (λ e. ne (number ∙ ap logical_number e));
       }
     where
       at_own : (l : LogicalZone) (v : Vio) → l.zone ≡ zone → front ≡ item.Request v ∷ [] → v.phase ≡ phase.Arrive → drew_in zone (place_of_vio l v ∷ places t) ≡ drew_in zone (places t) ++ counted arrival front
@@ -273,7 +275,7 @@ module _ (s : Session) (t : Trace) (zone n : ℕ) (old : ZoneData) (front : List
       elsewhere : (l : LogicalZone) (v : Vio) → (l.zone ≡ zone → ⊥) → drew_in zone (place_of_vio l v ∷ places t) ≡ drew_in zone (places t)
       elsewhere l v ne = elim (eqb_tells l.zone zone) [ inl same ↦ absurd (ne same.1) | inr other ↦ rw other.0 refl ]
   arrivals_kept (sends d is p sent) =
-      let number : n ≡ desk_zone = (subst (λ (d : ZoneData). DataOk s t n d) is ok).number_is in
+      let number : n ≡ desk_number = (subst (λ (d : ZoneData). DataOk s t n d) is ok).number_is in
       record {
         sends = λ from. sent zone;
         sent_same = λ ne. absurd (ne number);

@@ -5,10 +5,10 @@ use Rattle.blk_base.specs.declared.place.Mapping.TheVariants.{At}
 use Rattle.blk_base.specs.declared.request.Answer.TheVariants as reply
 use Rattle.blk_base.specs.declared.request.Request.TheVariants as request
 use Rattle.image_layout.specs.Values.{mapping_of}
-use Rattle.core_model.specs.declared.items.Item.TheVariants as item
-use Rattle.core_model.specs.declared.items.Phase.TheVariants as phase
-use Rattle.core_model.specs.declared.items.Stage.TheVariants as stage
-use Rattle.core_model.specs.DeskRows.{is_marked, mark_of_vio}
+use Rattle.data_vio.specs.declared.items.Item.TheVariants as item
+use Rattle.data_vio.specs.declared.items.Phase.TheVariants as phase
+use Rattle.data_vio.specs.declared.items.Stage.TheVariants as stage
+use Rattle.core_model.specs.DeskRules.{is_marked, mark_of_vio}
 use Rattle.core_laws.proofs.kept.Keys.{Key, OfRequest, OfAddress, OfBlock, OfJournal, token_of, Spares, own_name, holder_one, claim_one}
 use Rattle.core_laws.proofs.kept.Spared.{SparesRequest, SparesAddress, open_kept, place_same, entry_same, slot_same, abort_same, gift_same, take_same, stop_kept, fault_kept, abort_kept, full_kept, needs_kept, journal_full_kept, mapping_same, quiet_kept, committed_kept, below_kept, pending_kept, mark_kept, value_same, done_at}
 use Rattle.core_laws.proofs.kept.StandsOn.{SparesBlock, SparesBlocks, SparesJournal, SparesMap, SparesSealed, block_reads_kept, comes_stands, new_kept, new_reads_kept, on_both, reads_kept, rests_kept, sealed_spared, spares_parts, way_kept}

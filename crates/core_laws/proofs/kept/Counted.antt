@@ -1,10 +1,10 @@
 -- A logical zone draws one place a step at most, and the device's zone makes one call.
 use Rattle.std.proofs.Common.{ℕ, ◌+◌, ◌≡◌, ◌≤◌, Option, None, Some, List, refl, arith}
 use Rattle.core_laws.proofs.Common.{DeviceZone, Item, LogicalZone, Post, SealedBlock, Sizes, Trace, Vio, ZoneData, made_by}
-use Rattle.core_model.specs.DeviceRows as device
-use Rattle.core_model.specs.DeviceRows.{DeviceServes, DeviceWorks}
-use Rattle.core_model.specs.LogicalRows as logical
-use Rattle.core_model.specs.LogicalRows.{LogicalServes, first_for, passed_to}
+use Rattle.core_model.specs.DeviceRules as device
+use Rattle.core_model.specs.DeviceRules.{DeviceServes, DeviceWorks}
+use Rattle.core_model.specs.LogicalRules as logical
+use Rattle.core_model.specs.LogicalRules.{LogicalServes, first_for, passed_to}
 use Rattle.core_model.specs.Steps as steps
 use Rattle.core_model.specs.Steps.{Act}
 

@@ -1,7 +1,7 @@
 -- A core at its start is legal, with an empty trace.
 use Rattle.std.proofs.Common.{◌≡◌, ℕ, suc, ◌⊎◌, ◌≤◌, Bool, false, not, List, [], ◌∷◌, ◌++◌, length, refl, sym, ◌∙◌, ap, subst, inl, inr, arith}
 use Rattle.core_laws.proofs.journal.LogLaws.{log_at_start}
-use Rattle.core_laws.proofs.Common.{all_logged, AllByRecursion, answers_of, arrival, as_items, AtMost, AtRest, Balanced, begins_of, bit, block_token, blocks_at, DataOk, desk_zone, DeskLine, Each, entry_token, every-get, given, HasBlocks, HasWholeBlocks, holder_token, in_log, is_answer, is_begin, is_block, is_entry, IsAsOpened, IsFresh, IsSession, Item, ItemOk, journal_token, KeptEach, KeptOk, Lba, lease_token, Lock, lock_weight, LocksOk, Logged, logical_zone, LogicalZone, made_by, MapOk, Mapping, newest, notice_token, notified_by, of_address, OnBlock, one_physical, Pbn, queued, request_token, RestsAt, room_token, Session, Shown, Stands, Token, total, Trace, Vio, weight, Zone, zone_count, ZoneData, ZoneOk}
+use Rattle.core_laws.proofs.Common.{all_logged, AllByRecursion, answers_of, arrival, as_items, AtMost, AtRest, Balanced, begins_of, bit, block_token, blocks_at, DataOk, desk_number, DeskLine, Each, entry_token, every-get, given, HasBlocks, HasWholeBlocks, holder_token, in_log, is_answer, is_begin, is_block, is_entry, IsAsOpened, IsFresh, IsSession, Item, ItemOk, journal_token, KeptEach, KeptOk, Lba, lease_token, Lock, lock_weight, LocksOk, Logged, logical_number, LogicalZone, made_by, MapOk, Mapping, newest, notice_token, notified_by, of_address, OnBlock, one_physical, Pbn, queued, request_token, RestsAt, room_token, Session, Shown, Stands, Token, total, Trace, Vio, weight, Zone, zone_count, ZoneData, ZoneOk}
 use Rattle.blk_base.specs.declared.place.Mapping.TheVariants.{Unmapped, Zero, At}
 use Rattle.image_layout.specs.Values.{mapping_of, value_in}
 use Rattle.journal_stops.proofs.StepLaws.{opened}
@@ -13,9 +13,9 @@ use Rattle.stop_laws.specs.Journals.{block_of_slot}
 use Rattle.core_model.specs.Streams.{Flows, counted}
 use Rattle.core_model.specs.Start.{IsFirstData, IsFirstZone, IsFirst}
 use Rattle.core_model.specs.Steps.{Core}
-use Rattle.core_model.specs.DeviceRows.{IsInside}
-use Rattle.core_model.specs.JournalRows.{is_closed}
-use Rattle.core_model.specs.LogicalRows.{is_among, mapped_by, mapping_at}
+use Rattle.core_model.specs.DeviceRules.{IsInside}
+use Rattle.core_model.specs.JournalRules.{is_closed}
+use Rattle.core_model.specs.LogicalRules.{is_among, mapped_by, mapping_at}
 use Rattle.byte_fields.specs.Mappings.{HoldsMapping}
 use Rattle.blk_base.proofs.RegionLaws.{data_block_high, data_block_inside}
 use Rattle.core_laws.proofs.device.DeviceCalls.{blocks_fit, window_data}
@@ -209,10 +209,10 @@ module _ (s : Session) (session : IsSession s) where
   flows_at_start : (zones : List Zone) (zone : ℕ) → Each (IsFirstZone s) zones → Flows (arrivals_at s zone) [] zones
   flows_at_start zones zone first = record {
     in_order = λ receiver sender lane hr hs hl.
-        let inbox = (first (logical_zone zone) receiver hr).inbox in
-        let empty = every-get (λ lane. lane ≡ []) sender.ports.outboxes (logical_zone zone) lane (first desk_zone sender hs).outboxes hl in
+        let inbox = (first (logical_number zone) receiver hr).inbox in
+        let empty = every-get (λ lane. lane ≡ []) sender.ports.outboxes (logical_number zone) lane (first desk_number sender hs).outboxes hl in
         sym (ap (λ (items : List Item). counted arrival items ++ counted arrival lane) inbox ∙ ap (counted arrival) empty);
-    alone = λ n z had ne lane hl. ap (counted arrival) (every-get (λ lane. lane ≡ []) z.ports.outboxes (logical_zone zone) lane (first n z had).outboxes hl);
+    alone = λ n z had ne lane hl. ap (counted arrival) (every-get (λ lane. lane ≡ []) z.ports.outboxes (logical_number zone) lane (first n z had).outboxes hl);
   }
 
   legal_zones : (zones : List Zone) → length zones ≡ zone_count s.sizes → Each (IsFirstZone s) zones → Legal s (record { zones = zones; trace = [] })

@@ -1,10 +1,10 @@
 -- A zone that weighs nothing for what a happening is about keeps all its facts. Paid once for all kinds of zone and item.
 use Rattle.std.proofs.Common.{◌≡◌, ◌≢◌, ◌⊎◌, ℕ, ◌≤◌, ◌==◌, Bool, true, false, Some, List, [], ◌∷◌, ◌++◌, slice_get, refl, ap, sym, ◌∙◌, subst, inl, inr, arith}
-use Rattle.core_laws.proofs.Common.{all_of, AllBelow, AllByRecursion, Answers, calls, Calls, Commits, committed, desk_zone, device_zone, done, drawn, Draws, Each, entered, Enters, eq-eqb, eqb_tells, every-front, Fails, fair_before, filled, Flushes, Gives, Happening, has_stopped, HasLists, Item, ItemOk, journal_zone, kept_by, KeptEach, KeptOk, lines, logical_zone, marks, name_of, of_address, Phase, physical_zone, places, RestsAt, Says, sealed, Seals, Session, Sets, Sizes, taken, Takes, Token, total, total-append, total-get, Trace, Vio, WasTold, weight, Zone, zone_number, zone_of, ZoneData, ZoneOk}
+use Rattle.core_laws.proofs.Common.{all_of, AllBelow, AllByRecursion, Answers, calls, Calls, Commits, committed, desk_number, device_number, done, drawn, Draws, Each, entered, Enters, eq-eqb, eqb_tells, every-front, Fails, fair_before, filled, Flushes, Gives, Happening, has_stopped, HasLists, Item, ItemOk, journal_number, kept_by, KeptEach, KeptOk, lines, logical_number, marks, name_of, of_address, Phase, physical_number, places, RestsAt, Says, sealed, Seals, Session, Sets, Sizes, taken, Takes, Token, total, total-append, total-get, Trace, Vio, WasTold, weight, Zone, zone_number, zone_of, ZoneData, ZoneOk}
 use Rattle.vdo_model.specs.FlushMarks.{successes}
 use Rattle.vdo_model.specs.ZoneOrder.{places_in}
-use Rattle.core_model.specs.declared.items.Item.TheVariants.{Request}
-use Rattle.core_model.specs.declared.items.Phase.TheVariants as phase
+use Rattle.data_vio.specs.declared.items.Item.TheVariants.{Request}
+use Rattle.data_vio.specs.declared.items.Phase.TheVariants as phase
 use Rattle.core_model.specs.declared.zones.ZoneData.TheVariants as at
 use Rattle.core_laws.proofs.journal.LogLaws.{log_over}
 use Rattle.core_laws.proofs.kept.Carried.{kept_kept, item_kept}
@@ -15,47 +15,47 @@ use Rattle.core_laws.proofs.tokens.Lift.{items_total}
 
 -- What its own lists are parts of stays over what happens in another zone.
 module _ (sizes : Sizes) where
-  lines_same : (h : Happening) (t : Trace) → desk_zone ≢ happens_in sizes h → lines (h ∷ t) ≡ lines t
+  lines_same : (h : Happening) (t : Trace) → desk_number ≢ happens_in sizes h → lines (h ∷ t) ≡ lines t
   lines_same (Says line) t off = absurd (off refl)
   lines_same (Flushes m) t off = absurd (off refl)
   lines_same (Fails w c true) t off = refl
   lines_same other t off = refl
 
-  marks_same : (h : Happening) (t : Trace) → desk_zone ≢ happens_in sizes h → marks (h ∷ t) ≡ marks t
+  marks_same : (h : Happening) (t : Trace) → desk_number ≢ happens_in sizes h → marks (h ∷ t) ≡ marks t
   marks_same (Flushes m) t off = absurd (off refl)
   marks_same other t off = refl
 
-  zone_apart : (a b : ℕ) → logical_zone b ≢ logical_zone a → (a == b) ≡ false
-  zone_apart a b off = elim (eqb_tells a b) [ inl same ↦ absurd (off (ap logical_zone (sym same.1))) | inr other ↦ other.0 ]
+  zone_apart : (a b : ℕ) → logical_number b ≢ logical_number a → (a == b) ≡ false
+  zone_apart a b off = elim (eqb_tells a b) [ inl same ↦ absurd (off (ap logical_number (sym same.1))) | inr other ↦ other.0 ]
 
-  places_same : (h : Happening) (t : Trace) (zone : ℕ) → logical_zone zone ≢ happens_in sizes h → (places_in zone (places (h ∷ t)) ≡ places_in zone (places t)) × (drawn zone (places (h ∷ t)) ≡ drawn zone (places t))
+  places_same : (h : Happening) (t : Trace) (zone : ℕ) → logical_number zone ≢ happens_in sizes h → (places_in zone (places (h ∷ t)) ≡ places_in zone (places t)) × (drawn zone (places (h ∷ t)) ≡ drawn zone (places t))
   places_same (Draws p) t zone off = rw (zone_apart p.zone zone off) (refl, refl)
   places_same other t zone off = (refl, refl)
 
-  slot_apart : (b a : ℕ) → logical_zone (zone_of sizes.zones a) ≢ logical_zone (zone_of sizes.zones b) → b ≢ a
-  slot_apart b a off same = off (ap (λ c. logical_zone (zone_of sizes.zones c)) (sym same))
+  slot_apart : (b a : ℕ) → logical_number (zone_of sizes.zones a) ≢ logical_number (zone_of sizes.zones b) → b ≢ a
+  slot_apart b a off same = off (ap (λ c. logical_number (zone_of sizes.zones c)) (sym same))
 
-  slots_same : (h : Happening) (t : Trace) (a : ℕ) → logical_zone (zone_of sizes.zones a) ≢ happens_in sizes h → of_address a (done (h ∷ t)) ≡ of_address a (done t)
+  slots_same : (h : Happening) (t : Trace) (a : ℕ) → logical_number (zone_of sizes.zones a) ≢ happens_in sizes h → of_address a (done (h ∷ t)) ≡ of_address a (done t)
   slots_same (Sets e) t a off = of_other e (done t) a (slot_apart e.at.0 a off)
   slots_same other t a off = refl
 
-  still_below : (h : Happening) (t : Trace) (a place : ℕ) → logical_zone (zone_of sizes.zones a) ≢ happens_in sizes h → AllBelow t a place → AllBelow (h ∷ t) a place
+  still_below : (h : Happening) (t : Trace) (a place : ℕ) → logical_number (zone_of sizes.zones a) ≢ happens_in sizes h → AllBelow t a place → AllBelow (h ∷ t) a place
   still_below (Sets e) t a place off b = record { writes = ((λ same. absurd (slot_apart e.at.0 a off same)), b.writes); reads = b.reads }
   still_below (Gives g) t a place off b = record { writes = b.writes; reads = ((λ same. absurd (slot_apart g.at.0 a off same)), b.reads) }
   still_below other t a place off b = record { writes = b.writes; reads = b.reads }
 
-  taken_same : (h : Happening) (t : Trace) → physical_zone sizes ≢ happens_in sizes h → taken (h ∷ t) ≡ taken t
+  taken_same : (h : Happening) (t : Trace) → physical_number sizes ≢ happens_in sizes h → taken (h ∷ t) ≡ taken t
   taken_same (Takes w x) t off = absurd (off refl)
   taken_same other t off = refl
 
-  entries_same : (h : Happening) (t : Trace) → journal_zone sizes ≢ happens_in sizes h
+  entries_same : (h : Happening) (t : Trace) → journal_number sizes ≢ happens_in sizes h
       → (entered (h ∷ t) ≡ entered t) × (committed (h ∷ t) ≡ committed t) × (filled (h ∷ t) ≡ filled t) × (sealed (h ∷ t) ≡ sealed t)
   entries_same (Enters e) t off = absurd (off refl)
   entries_same (Commits e) t off = absurd (off refl)
   entries_same Seals t off = absurd (off refl)
   entries_same other t off = (refl, refl, refl, refl)
 
-  device_same : (h : Happening) (t : Trace) → device_zone sizes ≢ happens_in sizes h → (calls (h ∷ t) ≡ calls t) × (has_stopped (h ∷ t) ≡ has_stopped t)
+  device_same : (h : Happening) (t : Trace) → device_number sizes ≢ happens_in sizes h → (calls (h ∷ t) ≡ calls t) × (has_stopped (h ∷ t) ≡ has_stopped t)
   device_same (Calls c) t off = absurd (off refl)
   device_same (Fails w c kept) t off = absurd (off refl)
   device_same other t off = (refl, refl)
@@ -70,8 +70,8 @@ module _ (s : Session) (h : Happening) (t : Trace) where
     below = λ a zone. still_below s.sizes h t a l.next (at_home a zone) (k.below a zone);
   }
     where
-      at_home : (a : ℕ) → zone_of s.sizes.zones a ≡ l.zone → logical_zone (zone_of s.sizes.zones a) ≢ happens_in s.sizes h
-      at_home a zone is = off (ap logical_zone (sym zone) ∙ is)
+      at_home : (a : ℕ) → zone_of s.sizes.zones a ≡ l.zone → logical_number (zone_of s.sizes.zones a) ≢ happens_in s.sizes h
+      at_home a zone is = off (ap logical_number (sym zone) ∙ is)
   lists_kept (at.Physical p) off k = record { left = rw (taken_same s.sizes h t off) k.left }
   lists_kept (at.Journal j) off k = let same = entries_same s.sizes h t off in record {
     entered_is = k.entered_is ∙ sym same.0;

@@ -1,11 +1,11 @@
 -- The keys that facts are on: a request, an address, a data block, the journal. Whoever weighs for a key has facts on it,
 -- and of each key at most one is held in the whole core. Each happening is about some keys, and spares the others.
 use Rattle.std.proofs.Common.{◌≡◌, ◌⊎◌, ℕ, ◌≤◌, ◌==◌, ◌&&◌, Bool, true, false, not, Option, None, Some, refl, ap, subst, inl, inr, arith}
-use Rattle.core_laws.proofs.Common.{Aborts, Calls, Commits, Draws, Enters, Fails, Flushes, Gives, Happening, Says, Seals, Session, Sets, Sizes, Takes, Token, Trace, Vio, Writer, ZoneData, bit, block_token, claims, desk_zone, device_zone, entered, eqb_tells, holder_weight, holds, journal_token, journal_zone, logical_zone, of_vio, physical_zone, request_token, same_self, same_tells, zone_of, Pbn}
+use Rattle.core_laws.proofs.Common.{Aborts, Calls, Commits, Draws, Enters, Fails, Flushes, Gives, Happening, Says, Seals, Session, Sets, Sizes, Takes, Token, Trace, Vio, Writer, ZoneData, bit, block_token, claims, desk_number, device_number, entered, eqb_tells, holder_weight, holds, journal_token, journal_number, logical_number, of_vio, physical_number, request_token, same_self, same_tells, zone_of, Pbn}
 use Rattle.blk_base.specs.Regions.{IsDataBlock}
-use Rattle.core_model.specs.declared.items.Item.TheVariants.{Request}
+use Rattle.data_vio.specs.declared.items.Item.TheVariants.{Request}
 use Rattle.core_model.specs.declared.zones.ZoneData.TheVariants as at
-use Rattle.core_model.specs.LogicalRows.{is_among, is_held}
+use Rattle.core_model.specs.LogicalRules.{is_among, is_held}
 use Rattle.core_laws.proofs.kept.Spared.{OffRequest, OffNumber, about, SparesRequest, SparesAddress}
 use Rattle.core_laws.proofs.kept.StandsOn.{SparesBlock, SparesMap, SparesJournal, SparesSealed}
 use Rattle.blk_base.specs.declared.place.Mapping.TheVariants.{At}
@@ -66,18 +66,18 @@ Spares s t h OfJournal = SparesSealed s h t × SparesJournal s h × SparesMap s 
 
 -- the zone where it happens
 abbrev pub happens_in : Sizes → Happening → ℕ
-happens_in sizes (Says line) = desk_zone
-happens_in sizes (Flushes m) = desk_zone
-happens_in sizes (Draws p) = logical_zone p.zone
-happens_in sizes (Enters e) = journal_zone sizes
-happens_in sizes (Commits e) = journal_zone sizes
-happens_in sizes Seals = journal_zone sizes
-happens_in sizes (Sets e) = logical_zone (zone_of sizes.zones e.at.0)
-happens_in sizes (Gives g) = logical_zone (zone_of sizes.zones g.at.0)
-happens_in sizes (Takes w x) = physical_zone sizes
-happens_in sizes (Aborts e) = logical_zone (zone_of sizes.zones e.at.0)
-happens_in sizes (Calls c) = device_zone sizes
-happens_in sizes (Fails w c kept) = device_zone sizes
+happens_in sizes (Says line) = desk_number
+happens_in sizes (Flushes m) = desk_number
+happens_in sizes (Draws p) = logical_number p.zone
+happens_in sizes (Enters e) = journal_number sizes
+happens_in sizes (Commits e) = journal_number sizes
+happens_in sizes Seals = journal_number sizes
+happens_in sizes (Sets e) = logical_number (zone_of sizes.zones e.at.0)
+happens_in sizes (Gives g) = logical_number (zone_of sizes.zones g.at.0)
+happens_in sizes (Takes w x) = physical_number sizes
+happens_in sizes (Aborts e) = logical_number (zone_of sizes.zones e.at.0)
+happens_in sizes (Calls c) = device_number sizes
+happens_in sizes (Fails w c kept) = device_number sizes
 
 -- What it is about is in the hands of the zone where it happens.
 abbrev pub IfAny : {X : Type 0} → (X → Type 0) → Option X → Type 0

@@ -1,10 +1,10 @@
 -- Of each key at most one is held in a legal core; so whoever has it in hand has it alone.
 use Rattle.std.proofs.Common.{◌≡◌, ◌≢◌, ℕ, zero, suc, ◌+◌, ◌≤◌, ◌==◌, ◌&&◌, ◌++◌, Bool, true, false, not, List, [], ◌∷◌, Some, slice_get, refl, sym, ◌∙◌, ap, subst, inl, inr, arith}
-use Rattle.core_laws.proofs.Common.{DataOk, Item, Logged, Session, Trace, Writer, Zone, ZoneData, begins_of, begun, bit, block_token, blocks_at, cases_Bool, entered, eqb_tells, given, in_log, is_entry, journal_zone, kept_by, lease_token, lines, lock_weight, locks_at, nobody_else, request_token, total, total-append, total-get, total_zero, weight, zone_of, Mapping, names, OnBlock}
+use Rattle.core_laws.proofs.Common.{DataOk, Item, Logged, Session, Trace, Writer, Zone, ZoneData, begins_of, begun, bit, block_token, blocks_at, cases_Bool, entered, eqb_tells, given, in_log, is_entry, journal_number, kept_by, lease_token, lines, lock_weight, locks_at, nobody_else, request_token, total, total-append, total-get, total_zero, weight, zone_of, Mapping, names, OnBlock}
 use Rattle.blk_base.specs.declared.place.Mapping.TheVariants.{Unmapped, Zero, At}
 use Rattle.core_model.specs.declared.zones.ZoneData.TheVariants as at
 use Rattle.core_model.specs.Legal.{Legal}
-use Rattle.core_model.specs.LogicalRows.{is_among, is_held}
+use Rattle.core_model.specs.LogicalRules.{is_among, is_held}
 use Rattle.core_model.specs.Steps.{Core}
 use Rattle.core_laws.proofs.kept.ActKept.{weighed, unborn, Reached, in_hand, in_line, line_of}
 use Rattle.core_laws.proofs.kept.Frame.{HasNoneBeside}
@@ -108,10 +108,10 @@ module _ (s : Session) (core : Core) (legal : Legal s core) where
   entries_apart x (e ∷ es) none = (named_none x e.new (omega (arith, none)), entries_apart x es (omega (arith, none)))
 
   -- no entry names a block of which nobody beside another zone than the journal has anything
-  pub block_unnamed : (n : ℕ) (z : Zone) (x : ℕ) → HasNoneBeside core.zones n z (block_token x) → (journal_zone s.sizes ≡ n → ⊥) → AreElsewhere x (entered core.trace)
+  pub block_unnamed : (n : ℕ) (z : Zone) (x : ℕ) → HasNoneBeside core.zones n z (block_token x) → (journal_number s.sizes ≡ n → ⊥) → AreElsewhere x (entered core.trace)
   block_unnamed n z x none apart =
       let journal = journal_sits s core.trace core.zones legal.each legal.count in
-      let nothing = none.others (journal_zone s.sizes) journal.zone journal.had apart in
+      let nothing = none.others (journal_number s.sizes) journal.zone journal.had apart in
       let own : blocks_at x journal.zone.keeps ≡ 0 = omega (arith, nothing) in
-      let ok : DataOk s core.trace (journal_zone s.sizes) (at.Journal journal.it) = subst (λ d. DataOk s core.trace (journal_zone s.sizes) d) journal.keeps (legal.each (journal_zone s.sizes) journal.zone journal.had).own in
+      let ok : DataOk s core.trace (journal_number s.sizes) (at.Journal journal.it) = subst (λ d. DataOk s core.trace (journal_number s.sizes) d) journal.keeps (legal.each (journal_number s.sizes) journal.zone journal.had).own in
       entries_apart x (entered core.trace) (ap (total (is_entry x)) (sym ok.lists.entered_is) ∙ sym (ap (blocks_at x) journal.keeps) ∙ own)

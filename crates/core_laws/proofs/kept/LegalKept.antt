@@ -13,7 +13,7 @@ use Rattle.core_laws.proofs.kept.Streams.{flows_step}
 use Rattle.core_laws.proofs.kept.Counted.{made_once}
 use Rattle.core_laws.proofs.tokens.ActSums.{IsRow, act_row}
 use Rattle.core_laws.proofs.tokens.Known.{KeptIn, kept_in, phases}
-use Rattle.core_model.specs.declared.items.Phase.TheVariants as phase
+use Rattle.data_vio.specs.declared.items.Phase.TheVariants as phase
 use Rattle.core_laws.proofs.tokens.Known as tokens
 use Rattle.core_laws.proofs.tokens.Lift.{Within, Conserves, balance_step, at_most_step}
 use Rattle.core_laws.proofs.tokens.TokenLaws.{requests_law, room_law, notices_law, journal_law, blocks_law, leases_law, holders_law, entries_law}

@@ -6,14 +6,15 @@ use Rattle.blk_base.specs.declared.place.ZoneId.TheVariants as id
 use Rattle.blk_base.specs.declared.request.Answer.TheVariants as reply
 use Rattle.disk_model.specs.declared.call.Call.TheVariants.{Read}
 use Rattle.vdo_model.specs.declared.report.DeskLine.TheVariants as line
-use Rattle.core_model.specs.declared.items.Item.TheVariants as item
-use Rattle.core_model.specs.declared.items.Phase.TheVariants as phase
-use Rattle.core_model.specs.declared.items.Stage.TheVariants as stage
+use Rattle.data_vio.specs.declared.items.Item.TheVariants as item
+use Rattle.data_vio.specs.declared.items.Phase.TheVariants as phase
+use Rattle.data_vio.specs.declared.items.Stage.TheVariants as stage
 use Rattle.core_model.specs.declared.zones.ZoneData.TheVariants as at
-use Rattle.core_model.specs.DeskRows.{BeginsNext, DeskBegins, DeskServes, parks, answers, marks, at_once, first_zone, vio_of, is_notified, is_stopped, is_marked, mark_of_vio}
-use Rattle.core_model.specs.DeviceRows.{DeviceServes, DeviceWorks, counted, halted, stop_notices, next_stage, next_zone}
-use Rattle.core_model.specs.JournalRows.{PhysicalServes, JournalServes, JournalEnds, is_closed, has_block, has_room, next_block, refused, all_refused, all_again, all_dropped, entered_by, committed_by, sealed_by, hands_out}
-use Rattle.core_model.specs.LogicalRows.{LogicalServes, is_among, is_held, lock_of, all_for, placed, place_of_vio, drawn_by, goes_on, granted, looks_up, released, retire, all_stopped, with_slot}
+use Rattle.core_model.specs.DeskRules.{BeginsNext, DeskBegins, DeskServes, parks, answers, marks, at_once, first_zone, vio_of, is_notified, is_stopped, is_marked, mark_of_vio}
+use Rattle.core_model.specs.DeviceRules.{DeviceServes, DeviceWorks, counted, halted, stop_notices, next_stage, next_zone}
+use Rattle.core_model.specs.PhysicalRules.{PhysicalServes}
+use Rattle.core_model.specs.JournalRules.{JournalServes, JournalEnds, is_closed, has_block, has_room, next_block, refused, all_refused, all_again, all_dropped, entered_by, committed_by, sealed_by, hands_out}
+use Rattle.core_model.specs.LogicalRules.{LogicalServes, is_among, is_held, lock_of, all_for, placed, place_of_vio, drawn_by, goes_on, granted, looks_up, released, retire, all_stopped, with_slot}
 use Rattle.core_model.specs.Steps.{Act, CallsDevice}
 use Rattle.core_laws.proofs.desk.BeginLaws.{begins_one}
 use Rattle.core_model.specs.Steps as steps

@@ -2,22 +2,23 @@
 use Rattle.std.proofs.Common.{◌≡◌, ℕ, ◌<◌, ◌≤◌, true, false, None, Some, Option, List, [], ◌∷◌, ◌++◌, length, slice_get, refl, ap, sym, ◌∙◌, subst, inl, inr, arith}
 use Rattle.std.proofs.lemmas.Option.{slice_get_within}
 use Rattle.core_laws.proofs.journal.LogLaws.{has_next, is_sealable}
-use Rattle.core_laws.proofs.Common.{all_logged, all_of, AllByRecursion, Answer, Asks, Call, Carries, cases_Bool, committed, DataOk, Desk, desk_zone, device_zone, DeviceZone, IsForBlock, IsServed, IsSession, IsToFresh, IsToInside, Item, ItemOk, journal_zone, JournalLists, JournalZone, logical_zone, LogicalZone, Mapping, MayReply, notified_zones, option_cases, Pbn, Phase, physical_zone, PhysicalZone, Post, Request, request_at, Script, sealed, SealedBlock, Session, some_of, Stage, StandsAt, Trace, Vio, VioOk, Writer, Zone, zone_at, zone_count, zone_number, zone_of, zone_of_stage, ZoneData}
+use Rattle.core_laws.proofs.Common.{all_logged, all_of, AllByRecursion, Answer, Asks, Call, Carries, cases_Bool, committed, DataOk, Desk, desk_number, device_number, DeviceZone, IsForBlock, IsServed, IsSession, IsToFresh, IsToInside, Item, ItemOk, journal_number, JournalLists, JournalZone, logical_number, LogicalZone, Mapping, MayReply, notified_zones, option_cases, Pbn, Phase, physical_number, PhysicalZone, Post, Request, request_at, Script, sealed, SealedBlock, Session, some_of, Stage, StandsAt, Trace, Vio, VioOk, Writer, Zone, zone_at, zone_count, zone_number, zone_of, zone_of_stage, ZoneData}
 use Rattle.blk_base.specs.Regions.{journal_slot_of}
 use Rattle.blk_base.specs.declared.request.Answer.TheVariants as reply
 use Rattle.blk_base.specs.declared.request.Request.TheVariants as request
 use Rattle.disk_model.specs.declared.call.Call.TheVariants as call
 use Rattle.stop_laws.specs.Journals.{block_of_slot}
-use Rattle.core_model.specs.declared.items.Asks.TheVariants.{Read, Write, Discard, Flush}
-use Rattle.core_model.specs.declared.items.Item.TheVariants as item
-use Rattle.core_model.specs.declared.items.Phase.TheVariants as phase
-use Rattle.core_model.specs.declared.items.Stage.TheVariants as stage
+use Rattle.data_vio.specs.declared.items.Asks.TheVariants.{Read, Write, Discard, Flush}
+use Rattle.data_vio.specs.declared.items.Item.TheVariants as item
+use Rattle.data_vio.specs.declared.items.Phase.TheVariants as phase
+use Rattle.data_vio.specs.declared.items.Stage.TheVariants as stage
 use Rattle.core_model.specs.declared.zones.ZoneData.TheVariants as at
-use Rattle.core_model.specs.DeskRows.{DeskBegins, DeskServes, at_once, vio_of, is_marked, is_stopped, is_notified}
-use Rattle.core_model.specs.DeviceRows.{DeviceServes, DeviceWorks, IsInside, call_of, journal_bytes}
-use Rattle.core_model.specs.JournalRows.{PhysicalServes, JournalServes, JournalEnds, is_closed, has_block, has_room}
+use Rattle.core_model.specs.DeskRules.{DeskBegins, DeskServes, at_once, vio_of, is_marked, is_stopped, is_notified}
+use Rattle.core_model.specs.DeviceRules.{DeviceServes, DeviceWorks, IsInside, call_of, journal_bytes}
+use Rattle.core_model.specs.PhysicalRules.{PhysicalServes}
+use Rattle.core_model.specs.JournalRules.{JournalServes, JournalEnds, is_closed, has_block, has_room}
 use Rattle.core_model.specs.Legal.{Legal}
-use Rattle.core_model.specs.LogicalRows.{LogicalServes, is_among, is_held, next_for, goes_on}
+use Rattle.core_model.specs.LogicalRules.{LogicalServes, is_among, is_held, next_for, goes_on}
 use Rattle.core_model.specs.Steps as steps
 use Rattle.core_model.specs.Steps.{Act, HasAct, MayBegin, Core}
 use Rattle.core_laws.proofs.desk.BeginLaws.{begins_some}
@@ -178,24 +179,24 @@ module _ (s : Session) (session : IsSession s) (t : Trace) where
         let kept = keeps d here in
         subst (λ (k : ZoneData). HasAct s.sizes k (it ∷ [])) (sym kept.is) (rule kept.it (subst (λ (k : ZoneData). DataOk s t m k) kept.is here))
 
-    in_desk : (it : Item) → n ≡ desk_zone → ((desk : Desk) → HasAct s.sizes (at.Desk desk) (it ∷ [])) → Has it
-    in_desk it is rule = in_kind at.Desk desk_zone it is (desk_keeps s t) (λ desk here. rule desk)
+    in_desk : (it : Item) → n ≡ desk_number → ((desk : Desk) → HasAct s.sizes (at.Desk desk) (it ∷ [])) → Has it
+    in_desk it is rule = in_kind at.Desk desk_number it is (desk_keeps s t) (λ desk here. rule desk)
 
-    in_physical : (it : Item) → n ≡ physical_zone s.sizes → ((p : PhysicalZone) → HasAct s.sizes (at.Physical p) (it ∷ [])) → Has it
-    in_physical it is rule = in_kind at.Physical (physical_zone s.sizes) it is (physical_keeps s t) (λ p here. rule p)
+    in_physical : (it : Item) → n ≡ physical_number s.sizes → ((p : PhysicalZone) → HasAct s.sizes (at.Physical p) (it ∷ [])) → Has it
+    in_physical it is rule = in_kind at.Physical (physical_number s.sizes) it is (physical_keeps s t) (λ p here. rule p)
 
-    in_journal : (it : Item) → n ≡ journal_zone s.sizes → ((j : JournalZone) → JournalLists s t j → HasAct s.sizes (at.Journal j) (it ∷ [])) → Has it
-    in_journal it is rule = in_kind at.Journal (journal_zone s.sizes) it is (journal_keeps s t) (λ j here. rule j here.lists)
+    in_journal : (it : Item) → n ≡ journal_number s.sizes → ((j : JournalZone) → JournalLists s t j → HasAct s.sizes (at.Journal j) (it ∷ [])) → Has it
+    in_journal it is rule = in_kind at.Journal (journal_number s.sizes) it is (journal_keeps s t) (λ j here. rule j here.lists)
 
-    in_device : (it : Item) → n ≡ device_zone s.sizes → ((dev : DeviceZone) → HasAct s.sizes (at.Device dev) (it ∷ [])) → Has it
-    in_device it is rule = in_kind at.Device (device_zone s.sizes) it is (device_keeps s t) (λ dev here. rule dev)
+    in_device : (it : Item) → n ≡ device_number s.sizes → ((dev : DeviceZone) → HasAct s.sizes (at.Device dev) (it ∷ [])) → Has it
+    in_device it is rule = in_kind at.Device (device_number s.sizes) it is (device_keeps s t) (λ dev here. rule dev)
 
     -- the home of a request
     in_home : (v : Vio) → VioOk s t v → n ≡ zone_number s.sizes v.home
-        → ((l : LogicalZone) → DataOk s t (logical_zone (zone_of s.sizes.zones v.at.0)) (at.Logical l) → HasAct s.sizes (at.Logical l) (item.Request v ∷ [])) → Has (item.Request v)
+        → ((l : LogicalZone) → DataOk s t (logical_number (zone_of s.sizes.zones v.at.0)) (at.Logical l) → HasAct s.sizes (at.Logical l) (item.Request v ∷ [])) → Has (item.Request v)
     in_home v ok is rule =
         let zone = zone_of s.sizes.zones v.at.0 in
-        in_kind at.Logical (logical_zone zone) (item.Request v) (is ∙ ap (zone_number s.sizes) ok.home) (logical_keeps s t zone (zone_below s.sizes.zones v.at.0 session.zones)) rule
+        in_kind at.Logical (logical_number zone) (item.Request v) (is ∙ ap (zone_number s.sizes) ok.home) (logical_keeps s t zone (zone_below s.sizes.zones v.at.0 session.zones)) rule
 
     -- a request, by its phase; one that waits is in no lane
     by_phase : (v : Vio) (q : Phase) → v.phase ≡ q → VioOk s t v → Carries s t v q → n ≡ zone_at s.sizes v.home q → Has (item.Request v)

@@ -5,7 +5,7 @@ use Rattle.blk_base.specs.declared.request.Answer.TheVariants as reply
 use Rattle.image_layout.specs.Values.{mapping_of}
 use Rattle.vdo_model.specs.FlushMarks.{Moment, Desk, Device, IsMark}
 use Rattle.vdo_model.specs.declared.report.DeskLine.TheVariants.{Begin, Answer}
-use Rattle.core_model.specs.LogicalRows.{mapped_by}
+use Rattle.core_model.specs.LogicalRules.{mapped_by}
 
 -- What a happening is about: a request, an address.
 pub record About : Type 0 where

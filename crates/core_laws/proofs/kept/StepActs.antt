@@ -1,8 +1,8 @@
 -- Over an act of a legal core: what its zone owes, and everything beside what is served stays as it was.
 use Rattle.std.proofs.Common.{◌≡◌, ℕ, true, Some, List, [], ◌∷◌, ◌++◌, slice_get, refl, ap, ◌∙◌, subst, arith}
-use Rattle.core_laws.proofs.Common.{AllByRecursion, DataOk, DeviceZone, IsSession, Item, ItemOk, LogicalZone, Phase, Post, Session, Trace, Vio, Writer, Zone, ZoneData, arrival, arriving, block_token, claims, desk_zone, entered, every-front, places, total, Pbn}
-use Rattle.core_model.specs.declared.items.Item.TheVariants as item
-use Rattle.core_model.specs.declared.items.Phase.TheVariants as phase
+use Rattle.core_laws.proofs.Common.{AllByRecursion, DataOk, DeviceZone, IsSession, Item, ItemOk, LogicalZone, Phase, Post, Session, Trace, Vio, Writer, Zone, ZoneData, arrival, arriving, block_token, claims, desk_number, entered, every-front, places, total, Pbn}
+use Rattle.data_vio.specs.declared.items.Item.TheVariants as item
+use Rattle.data_vio.specs.declared.items.Phase.TheVariants as phase
 use Rattle.core_model.specs.declared.zones.ZoneData.TheVariants as at
 use Rattle.core_model.specs.Arrivals.{drew_in}
 use Rattle.core_model.specs.Legal.{Legal, ComesAfter}
@@ -49,7 +49,7 @@ module _ (s : Session) (session : IsSession s) (core : Core) (legal : Legal s co
   in_turn : (old : LogicalZone) (v : Vio) → z.keeps ≡ at.Logical old → front ≡ item.Request v ∷ [] → v.phase ≡ phase.Arrive → AllByRecursion (ComesAfter old.zone v.request) (places core.trace)
   in_turn old v keeps is arrives =
       let desk = desk_sits s core.trace core.zones legal.each legal.count in
-      let lanes = (legal.each desk_zone desk.zone desk.had).lanes in
+      let lanes = (legal.each desk_number desk.zone desk.had).lanes in
       let k : DataOk s core.trace n (at.Logical old) = own_ok (at.Logical old) keeps in
       let place = k.number_is in let among = k.sound.among in
       let lane = stood desk.zone.ports.outboxes n (omega (arith, lanes, place, among)) in

@@ -1,6 +1,6 @@
 -- Each number has its kind of zone, and what is given out once is given out by one zone.
 use Rattle.std.proofs.Common.{◌≡◌, ℕ, zero, suc, ◌<◌, ◌≤◌, List, [], ◌∷◌, length, Some, slice_get, refl, arith}
-use Rattle.core_laws.proofs.Common.{DataOk, Each, Session, Trace, Zone, ZoneData, ZoneOk, block_token, desk_zone, device_zone, given, journal_token, journal_zone, logical_zone, notified_by, one_journal, one_physical, physical_zone, total, total_zero, zone_count}
+use Rattle.core_laws.proofs.Common.{DataOk, Each, Session, Trace, Zone, ZoneData, ZoneOk, block_token, desk_number, device_number, given, journal_token, journal_number, logical_number, notified_by, one_journal, one_physical, physical_number, total, total_zero, zone_count}
 use Rattle.core_model.specs.declared.zones.ZoneData.TheVariants as at
 
 -- what stands at a number below the length
@@ -31,50 +31,50 @@ pub record Keeps {X : Type 0} (make : X → ZoneData) (d : ZoneData) : Type 0 wh
   pub is : d ≡ make it
 
 module _ (s : Session) (t : Trace) where
-  pub desk_keeps : (d : ZoneData) → DataOk s t desk_zone d → Keeps at.Desk d
+  pub desk_keeps : (d : ZoneData) → DataOk s t desk_number d → Keeps at.Desk d
   desk_keeps (at.Desk desk) ok = record { it = desk; is = refl }
   desk_keeps other ok = absurd (omega (arith, ok.number_is))
 
-  pub logical_keeps : (zone : ℕ) → zone < s.sizes.zones → (d : ZoneData) → DataOk s t (logical_zone zone) d → Keeps at.Logical d
+  pub logical_keeps : (zone : ℕ) → zone < s.sizes.zones → (d : ZoneData) → DataOk s t (logical_number zone) d → Keeps at.Logical d
   logical_keeps zone below (at.Logical l) ok = record { it = l; is = refl }
   logical_keeps zone below other ok = absurd (omega (arith, ok.number_is, below))
 
-  pub physical_keeps : (d : ZoneData) → DataOk s t (physical_zone s.sizes) d → Keeps at.Physical d
+  pub physical_keeps : (d : ZoneData) → DataOk s t (physical_number s.sizes) d → Keeps at.Physical d
   physical_keeps (at.Physical p) ok = record { it = p; is = refl }
   physical_keeps (at.Logical l) ok = absurd (omega (arith, ok.number_is, ok.sound.among))
   physical_keeps other ok = absurd (omega (arith, ok.number_is))
 
-  pub journal_keeps : (d : ZoneData) → DataOk s t (journal_zone s.sizes) d → Keeps at.Journal d
+  pub journal_keeps : (d : ZoneData) → DataOk s t (journal_number s.sizes) d → Keeps at.Journal d
   journal_keeps (at.Journal j) ok = record { it = j; is = refl }
   journal_keeps (at.Logical l) ok = absurd (omega (arith, ok.number_is, ok.sound.among))
   journal_keeps other ok = absurd (omega (arith, ok.number_is))
 
-  pub device_keeps : (d : ZoneData) → DataOk s t (device_zone s.sizes) d → Keeps at.Device d
+  pub device_keeps : (d : ZoneData) → DataOk s t (device_number s.sizes) d → Keeps at.Device d
   device_keeps (at.Device d) ok = record { it = d; is = refl }
   device_keeps (at.Logical l) ok = absurd (omega (arith, ok.number_is, ok.sound.among))
   device_keeps other ok = absurd (omega (arith, ok.number_is))
 
   -- the one zone that gives out each of these
-  one_journal_at : (n : ℕ) (d : ZoneData) → DataOk s t n d → (one_journal d ≤ 1) × ((n ≡ journal_zone s.sizes → ⊥) → one_journal d ≡ 0)
+  one_journal_at : (n : ℕ) (d : ZoneData) → DataOk s t n d → (one_journal d ≤ 1) × ((n ≡ journal_number s.sizes → ⊥) → one_journal d ≡ 0)
   one_journal_at n (at.Journal j) ok = (omega arith, λ ne. absurd (ne ok.number_is))
   one_journal_at n other ok = (omega arith, λ ne. refl)
 
-  one_physical_at : (n : ℕ) (d : ZoneData) → DataOk s t n d → (one_physical d ≤ 1) × ((n ≡ physical_zone s.sizes → ⊥) → one_physical d ≡ 0)
+  one_physical_at : (n : ℕ) (d : ZoneData) → DataOk s t n d → (one_physical d ≤ 1) × ((n ≡ physical_number s.sizes → ⊥) → one_physical d ≡ 0)
   one_physical_at n (at.Physical p) ok = (omega arith, λ ne. absurd (ne ok.number_is))
   one_physical_at n other ok = (omega arith, λ ne. refl)
 
   -- the stop notices are given out at the device alone
-  pub no_words : (n : ℕ) (d : ZoneData) → (n ≡ device_zone s.sizes → ⊥) → DataOk s t n d → notified_by s.sizes d ≡ 0
+  pub no_words : (n : ℕ) (d : ZoneData) → (n ≡ device_number s.sizes → ⊥) → DataOk s t n d → notified_by s.sizes d ≡ 0
   no_words n (at.Device d) ne ok = absurd (ne ok.number_is)
   no_words n other ne ok = refl
 
   module _ (zones : List Zone) (each : Each (ZoneOk s t) zones) where
     -- of the journal and of each block at most one is given out
     pub journal_once : total (given journal_token) zones ≤ 1
-    journal_once = total_once (given journal_token) zones (journal_zone s.sizes) (λ n z had. one_journal_at n z.keeps (each n z had).own)
+    journal_once = total_once (given journal_token) zones (journal_number s.sizes) (λ n z had. one_journal_at n z.keeps (each n z had).own)
 
     pub block_once : (x : ℕ) → total (given (block_token x)) zones ≤ 1
-    block_once x = total_once (given (block_token x)) zones (physical_zone s.sizes) (λ n z had. one_physical_at n z.keeps (each n z had).own)
+    block_once x = total_once (given (block_token x)) zones (physical_number s.sizes) (λ n z had. one_physical_at n z.keeps (each n z had).own)
 
     -- a zone at a number that keeps data of a kind
     pub record Sits {X : Type 0} (make : X → ZoneData) (n : ℕ) : Type 0 where
@@ -90,11 +90,11 @@ module _ (s : Session) (t : Trace) where
           let kept = kind z.it.keeps (each n z.it z.is).own in
           record { zone = z.it; it = kept.it; had = z.is; keeps = kept.is }
 
-      pub desk_sits : Sits at.Desk desk_zone
-      desk_sits = sits at.Desk desk_zone (omega arith) desk_keeps
+      pub desk_sits : Sits at.Desk desk_number
+      desk_sits = sits at.Desk desk_number (omega arith) desk_keeps
 
-      pub journal_sits : Sits at.Journal (journal_zone s.sizes)
-      journal_sits = sits at.Journal (journal_zone s.sizes) (omega arith) journal_keeps
+      pub journal_sits : Sits at.Journal (journal_number s.sizes)
+      journal_sits = sits at.Journal (journal_number s.sizes) (omega arith) journal_keeps
 
-      pub device_sits : Sits at.Device (device_zone s.sizes)
-      device_sits = sits at.Device (device_zone s.sizes) (omega arith) device_keeps
+      pub device_sits : Sits at.Device (device_number s.sizes)
+      device_sits = sits at.Device (device_number s.sizes) (omega arith) device_keeps

@@ -2,7 +2,7 @@
 use Rattle.std.proofs.Common.{◌≡◌, ℕ, Some, List, refl}
 use Rattle.core_laws.proofs.Common.{Asks, IsChange, Lba, Mapping, MapsTo, Request, address_of, asked}
 use Rattle.blk_base.specs.declared.request.Request.TheVariants as request
-use Rattle.core_model.specs.declared.items.Asks.TheVariants.{Read, Write, Discard, Flush}
+use Rattle.data_vio.specs.declared.items.Asks.TheVariants.{Read, Write, Discard, Flush}
 
 -- a request of the script that changes its block
 abbrev pub Changes : Request → Type 0

@@ -9,7 +9,7 @@ use Rattle.core_laws.proofs.trace.Growth.{begun_more, answer_keeps, before_keeps
 use Rattle.core_model.specs.Reports.{is_there}
 use Rattle.core_laws.proofs.trace.AnswersOfTrace.{there_some}
 use Rattle.core_laws.proofs.trace.DeskOfTrace.{AreApart}
-use Rattle.core_model.specs.LogicalRows.{is_held, without, first_for, but_first_for, all_for, none_for}
+use Rattle.core_model.specs.LogicalRules.{is_held, without, first_for, but_first_for, all_for, none_for}
 
 -- a mapping names one block
 pub same_block : (x y : Pbn) → At x ≡ At y → x ≡ y

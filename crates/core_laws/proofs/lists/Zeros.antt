@@ -2,7 +2,7 @@
 use Rattle.std.proofs.Common.{◌≡◌, ◌≢◌, ◌==◌, ◌∙◌, ℕ, zero, suc, true, false, List, [], ◌∷◌, ap, length, refl, replicate, sym}
 use Rattle.core_laws.proofs.Common.{and_parts, eqb-true, length-replicate}
 use Rattle.blk_base.specs.Sectors.{zero_block}
-use Rattle.core_model.specs.LogicalRows.{are_zeros}
+use Rattle.core_model.specs.LogicalRules.{are_zeros}
 
 pub zeros_length : length zero_block ≡ 4096
 unfolding zero_block

@@ -1,7 +1,7 @@
 -- The locks of a logical zone and who waits for them, as locks are taken, passed on, released and retired.
 use Rattle.std.proofs.Common.{◌≡◌, ◌≢◌, ℕ, zero, suc, ◌+◌, ◌<◌, ◌≤◌, ◌==◌, ◌||◌, Bool, true, false, None, Some, List, [], ◌∷◌, ◌++◌, refl, ap, sym, ◌∙◌, subst, inl, inr, arith}
 use Rattle.core_laws.proofs.Common.{AllByRecursion, InLine, Lock, LockOk, LocksOk, Session, Vio, WaitsOk, bit, eq-eqb, eqb_tells, every-append, every-map, every_both, lock_weight, total, zone_of}
-use Rattle.core_model.specs.LogicalRows.{is_held, without, lock_of, first_for, but_first_for, none_for}
+use Rattle.core_model.specs.LogicalRules.{is_held, without, lock_of, first_for, but_first_for, none_for}
 use Rattle.blk_base.specs.declared.place.ZoneId.TheVariants as id
 use Rattle.core_laws.proofs.lists.CoreLists.{held_without, every_without, has_lock, counts_held, every_but_first, every_none_for, first_has, none_first, rises_but_first, rises_none_for, rises_more, first_below}
 use Rattle.core_laws.proofs.tokens.LeaseTokens.{without_same, without_other}

@@ -1,22 +1,22 @@
 -- What the acts of a logical zone owe: a request draws its place, and is done with its lock.
 use Rattle.std.proofs.Common.{◌≡◌, ℕ, ◌+◌, ◌==◌, Bool, true, false, if◌then◌else◌, Some, IsNone, List, [], ◌∷◌, ◌++◌, refl, ap, sym, ◌∙◌, inl, inr, arith, ◌<◌, IsSome, subst}
-use Rattle.core_laws.proofs.Common.{Aborts, AllBelow, AllByRecursion, Asks, DataOk, DeskLine, Draws, FlushMark, Follows, Gives, GivesRight, Happening, HasAddress, HasEarned, IsChange, IsCommitted, IsEntered, IsFair, IsForBlock, IsFresh, IsOfZone, IsPlaced, IsUndrawn, KeptOk, Lba, Lock, LocksOk, Logged, LogicalZone, Looks, MayReply, OnBlock, Pbn, Phase, Placed, PlaceMayFollow, Post, Quiet, RightTrace, Session, Sets, Trace, Vio, VioOk, Writer, aborted, answer_of, asked, before_begin, done, ended, eq-eqb, eqb_tells, every-append, every-map, fair_before, gift, gift_of, gifts, has_stopped, holds, lines, logged, logged_of, logical_zone, mapping_in, places, request_at, same_self, same_writer, some_is, turned, value_at, zone_number, zone_of}
-use Rattle.core_model.specs.declared.items.Asks.TheVariants.{Read, Write, Discard, Flush}
+use Rattle.core_laws.proofs.Common.{Aborts, AllBelow, AllByRecursion, Asks, DataOk, DeskLine, Draws, FlushMark, Follows, Gives, GivesRight, Happening, HasAddress, HasEarned, IsChange, IsCommitted, IsEntered, IsFair, IsForBlock, IsFresh, IsOfZone, IsPlaced, IsUndrawn, KeptOk, Lba, Lock, LocksOk, Logged, LogicalZone, Looks, MayReply, OnBlock, Pbn, Phase, Placed, PlaceMayFollow, Post, Quiet, RightTrace, Session, Sets, Trace, Vio, VioOk, Writer, aborted, answer_of, asked, before_begin, done, ended, eq-eqb, eqb_tells, every-append, every-map, fair_before, gift, gift_of, gifts, has_stopped, holds, lines, logged, logged_of, logical_number, mapping_in, places, request_at, same_self, same_writer, some_is, turned, value_at, zone_number, zone_of}
+use Rattle.data_vio.specs.declared.items.Asks.TheVariants.{Read, Write, Discard, Flush}
 use Rattle.core_model.specs.Legal.{ComesAfter}
-use Rattle.core_model.specs.LogicalRows.{is_among, is_held, lock_of, placed, place_of_vio, drawn_by, goes_on, LogicalServes, arrives_retired, arrives_free, arrives_held, looks, looks_up, settles, gives, aborts, aborts_entered, released, granted, retire, all_stopped, all_for, with_slot}
+use Rattle.core_model.specs.LogicalRules.{is_among, is_held, lock_of, placed, place_of_vio, drawn_by, goes_on, LogicalServes, arrives_retired, arrives_free, arrives_held, looks, looks_up, settles, gives, aborts, aborts_entered, released, granted, retire, all_stopped, all_for, with_slot}
 use Rattle.core_laws.proofs.trace.DeskOfTrace.{shown_of}
 use Rattle.core_laws.proofs.kept.ActKept.{Known, Mine, ActKept, act_one, own_request, plain_clears, line_kept, shown_plain, vio_over, carries_at, IsPlain, act_none, own_address, vio_ok, in_phase}
 use Rattle.core_laws.proofs.kept.Keys.{Clears, OfRequest, OfAddress, IfAny, happens_in}
 use Rattle.core_laws.proofs.kept.Spared.{quiet_kept, below_kept, about, of_same}
 use Rattle.core_laws.proofs.logical.LockLaws.{more_drawn, one_waits, one_takes}
 use Rattle.core_laws.proofs.tokens.Owners.{at_home}
-use Rattle.core_model.specs.Phases.{row}
+use Rattle.data_vio.specs.Phases.{row}
 use Rattle.core_laws.proofs.lists.CoreLists.{or_none}
 use Rattle.core_laws.proofs.logical.Releases.{below_more, has_below_more, goes_ok, looks_ok, stopped_ok, release_ok, retire_ok, drawn_before}
 use Rattle.blk_base.specs.declared.place.Mapping.TheVariants.{At}
 use Rattle.byte_fields.specs.Mappings.{HoldsMapping}
-use Rattle.core_model.specs.DeskRows.{mark_of_vio}
-use Rattle.core_model.specs.DeviceRows.{IsInside}
+use Rattle.core_model.specs.DeskRules.{mark_of_vio}
+use Rattle.core_model.specs.DeviceRules.{IsInside}
 use Rattle.core_laws.proofs.kept.Frame.{told_kept}
 use Rattle.core_laws.proofs.kept.Carried.{reply_said}
 use Rattle.core_laws.proofs.device.DeviceCalls.{fresh_held}
@@ -25,8 +25,8 @@ use Rattle.blk_base.specs.declared.place.ZoneId.TheVariants as id
 use Rattle.blk_base.specs.declared.request.Answer.TheVariants as reply
 use Rattle.blk_base.specs.declared.request.Request.TheVariants as request
 use Rattle.vdo_model.specs.declared.report.DeskLine.TheVariants as line
-use Rattle.core_model.specs.declared.items.Item.TheVariants as item
-use Rattle.core_model.specs.declared.items.Phase.TheVariants as phase
+use Rattle.data_vio.specs.declared.items.Item.TheVariants as item
+use Rattle.data_vio.specs.declared.items.Phase.TheVariants as phase
 use Rattle.core_model.specs.declared.zones.ZoneData.TheVariants as at
 
 -- an answer that isn't there stands in no older part either
@@ -174,9 +174,9 @@ module _ {s : Session} {t : Trace} {n : ℕ} {l : LogicalZone} {v : Vio} (known 
   leased q is held = known.leased l v refl refl (rw is held)
 
   -- what happens is its own, at its address
-  own_clears : (h : Happening) → IsPlain h → happens_in s.sizes h ≡ logical_zone (zone_of s.sizes.zones v.at.0) → IfAny (λ w. Mine s t (at.Logical l) (item.Request v ∷ []) (OfRequest w)) (about h).request
+  own_clears : (h : Happening) → IsPlain h → happens_in s.sizes h ≡ logical_number (zone_of s.sizes.zones v.at.0) → IfAny (λ w. Mine s t (at.Logical l) (item.Request v ∷ []) (OfRequest w)) (about h).request
       → IfAny (λ a. Mine s t (at.Logical l) (item.Request v ∷ []) (OfAddress a)) (about h).address → Clears s n (Mine s t (at.Logical l) (item.Request v ∷ [])) h t
-  own_clears h plain here request address = plain_clears known h t plain (known.own.number_is ∙ ap logical_zone (sym home) ∙ sym here) request address
+  own_clears h plain here request address = plain_clears known h t plain (known.own.number_is ∙ ap logical_number (sym home) ∙ sym here) request address
 
   -- whoever did what is done or given at its address had a place that was drawn
   drawn_here : (q : Phase) → v.phase ≡ q → holds q ≡ true → v.place < l.next

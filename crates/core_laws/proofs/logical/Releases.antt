@@ -7,11 +7,11 @@ use Rattle.blk_base.specs.declared.place.ZoneId.TheVariants as id
 use Rattle.blk_base.specs.declared.request.Answer.TheVariants as reply
 use Rattle.blk_base.specs.declared.request.Request.TheVariants as request
 use Rattle.image_layout.specs.Values.{mapping_of, value_in}
-use Rattle.core_model.specs.declared.items.Asks.TheVariants.{Read, Write, Discard, Flush}
-use Rattle.core_model.specs.declared.items.Item.TheVariants as item
-use Rattle.core_model.specs.declared.items.Phase.TheVariants as phase
+use Rattle.data_vio.specs.declared.items.Asks.TheVariants.{Read, Write, Discard, Flush}
+use Rattle.data_vio.specs.declared.items.Item.TheVariants as item
+use Rattle.data_vio.specs.declared.items.Phase.TheVariants as phase
 use Rattle.core_model.specs.declared.zones.ZoneData.TheVariants as at
-use Rattle.core_model.specs.LogicalRows.{are_zeros, is_among, is_held, without, first_for, all_for, none_for, latest_at, mapped_by, mapping_at, looked, looks_up, passes_on, read_next, goes_on, passed_to, released, granted, retire, all_stopped}
+use Rattle.core_model.specs.LogicalRules.{are_zeros, is_among, is_held, without, first_for, all_for, none_for, latest_at, mapped_by, mapping_at, looked, looks_up, passes_on, read_next, goes_on, passed_to, released, granted, retire, all_stopped}
 use Rattle.core_laws.proofs.kept.ActKept.{PostOk, carries_at, unentered_slot}
 use Rattle.core_laws.proofs.logical.LockLaws.{place_drawn, waits_behind, one_back, one_passed, one_retired}
 use Rattle.core_laws.proofs.tokens.Known.{Leased}

@@ -3,10 +3,10 @@ use Rattle.std.proofs.Common.{◌≡◌, ℕ, zero, suc, ◌<◌, ◌≤◌, ◌
 use Rattle.std.proofs.Math.Nat.{mod-lt}
 use Rattle.core_laws.proofs.Common.{AllByRecursion, Happening, Holds, IsFresh, IsFull, Pbn, PhysicalZone, Post, Session, TakeMayFollow, Takes, Trace, Vio, asked, fair_before, taken, zone_count, zone_number, zone_of}
 use Rattle.blk_base.specs.declared.place.ZoneId.TheVariants as id
-use Rattle.core_model.specs.declared.items.Item.TheVariants as item
-use Rattle.core_model.specs.declared.items.Phase.TheVariants as phase
+use Rattle.data_vio.specs.declared.items.Item.TheVariants as item
+use Rattle.data_vio.specs.declared.items.Phase.TheVariants as phase
 use Rattle.core_model.specs.declared.zones.ZoneData.TheVariants as at
-use Rattle.core_model.specs.JournalRows.{PhysicalServes}
+use Rattle.core_model.specs.PhysicalRules.{PhysicalServes}
 use Rattle.core_laws.proofs.kept.ActKept.{Known, ActKept, act_none, act_one, plain_clears, own_request, shown_plain, vio_over, vio_ok, in_phase}
 use Rattle.core_laws.proofs.kept.Spared.{below_kept, quiet_kept}
 use Rattle.core_laws.proofs.trace.DeskOfTrace.{shown_of}

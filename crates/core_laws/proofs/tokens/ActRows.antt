@@ -4,14 +4,14 @@ use Rattle.std.proofs.Common.{◌≡◌, ℕ, ◌+◌, ◌*◌, true, false, Opt
 use Rattle.core_laws.proofs.Common.{Answer, Desk, DeviceZone, FlushMark, Item, JournalZone, Logged, LogicalZone, Mapping, Pbn, Phase, PhysicalZone, SealedBlock, Sizes, Stage, Vio, Writer, ZoneData, bit, claims, ended, has_entry, holds, notified_zones, staged, total, turned, names}
 use Rattle.blk_base.specs.declared.request.Answer.TheVariants as reply
 use Rattle.vdo_model.specs.declared.report.DeskLine.TheVariants as line
-use Rattle.core_model.specs.declared.items.Item.TheVariants.{Request, Block, StopNotice}
-use Rattle.core_model.specs.declared.items.Phase.TheVariants as phase
-use Rattle.core_model.specs.declared.items.Stage.TheVariants as stage
+use Rattle.data_vio.specs.declared.items.Item.TheVariants.{Request, Block, StopNotice}
+use Rattle.data_vio.specs.declared.items.Phase.TheVariants as phase
+use Rattle.data_vio.specs.declared.items.Stage.TheVariants as stage
 use Rattle.core_model.specs.declared.zones.ZoneData.TheVariants as at
-use Rattle.core_model.specs.DeskRows.{with_notice}
-use Rattle.core_model.specs.DeviceRows.{counted, halted}
-use Rattle.core_model.specs.JournalRows.{committed_by, entered_by, next_block, sealed_by}
-use Rattle.core_model.specs.LogicalRows.{drawn_by, placed, lock_of, without, all_for, none_for, retire}
+use Rattle.core_model.specs.DeskRules.{with_notice}
+use Rattle.core_model.specs.DeviceRules.{counted, halted}
+use Rattle.core_model.specs.JournalRules.{committed_by, entered_by, next_block, sealed_by}
+use Rattle.core_model.specs.LogicalRules.{drawn_by, placed, lock_of, without, all_for, none_for, retire}
 use Rattle.core_laws.proofs.tokens.Known.{Leased}
 use Rattle.blk_base.specs.declared.place.Mapping.TheVariants.{At}
 

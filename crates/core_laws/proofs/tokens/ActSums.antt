@@ -5,18 +5,20 @@ use Rattle.blk_base.specs.Sectors.{zero_block}
 use Rattle.blk_base.specs.declared.place.Mapping.TheVariants.{Unmapped, Zero, At}
 use Rattle.blk_base.specs.declared.place.ZoneId.TheVariants as id
 use Rattle.blk_base.specs.declared.request.Answer.TheVariants as reply
-use Rattle.core_model.specs.declared.items.Item.TheVariants.{Request, Block, StopNotice}
-use Rattle.core_model.specs.declared.items.Phase.TheVariants as phase
-use Rattle.core_model.specs.declared.items.Stage.TheVariants as stage
+use Rattle.data_vio.specs.declared.items.Item.TheVariants.{Request, Block, StopNotice}
+use Rattle.data_vio.specs.declared.items.Phase.TheVariants as phase
+use Rattle.data_vio.specs.declared.items.Stage.TheVariants as stage
 use Rattle.core_model.specs.declared.zones.ZoneData.TheVariants as at
-use Rattle.core_model.specs.DeskRows as desk
-use Rattle.core_model.specs.DeskRows.{DeskBegins, DeskServes, woken}
-use Rattle.core_model.specs.DeviceRows as device
-use Rattle.core_model.specs.DeviceRows.{DeviceServes, DeviceWorks, stop_notices}
-use Rattle.core_model.specs.JournalRows as journal
-use Rattle.core_model.specs.JournalRows.{PhysicalServes, JournalServes, JournalEnds, all_again, all_dropped, all_refused}
-use Rattle.core_model.specs.LogicalRows as logical
-use Rattle.core_model.specs.LogicalRows.{LogicalServes, placed, with_slot, first_for, but_first_for, all_for, none_for, looked, read_next, latest_at, mapping_at, goes_on, granted, passed_to, passes_on, released, all_stopped}
+use Rattle.core_model.specs.DeskRules as desk
+use Rattle.core_model.specs.DeskRules.{DeskBegins, DeskServes, woken}
+use Rattle.core_model.specs.DeviceRules as device
+use Rattle.core_model.specs.DeviceRules.{DeviceServes, DeviceWorks, stop_notices}
+use Rattle.core_model.specs.JournalRules as journal
+use Rattle.core_model.specs.PhysicalRules as physical
+use Rattle.core_model.specs.PhysicalRules.{PhysicalServes}
+use Rattle.core_model.specs.JournalRules.{JournalServes, JournalEnds, all_again, all_dropped, all_refused}
+use Rattle.core_model.specs.LogicalRules as logical
+use Rattle.core_model.specs.LogicalRules.{LogicalServes, placed, with_slot, first_for, but_first_for, all_for, none_for, looked, read_next, latest_at, mapping_at, goes_on, granted, passed_to, passes_on, released, all_stopped}
 use Rattle.core_model.specs.Steps as steps
 use Rattle.core_model.specs.Steps.{Act}
 use Rattle.core_laws.proofs.lists.CoreLists.{every_but_first, every_none_for}
@@ -170,13 +172,13 @@ module _ (sizes : Sizes) where
 
   -- the physical zone
   physical_row : (old : PhysicalZone) (v : Vio) (new : PhysicalZone) (made : Trace) (posts : List Post) → PhysicalServes sizes old v new made posts → IsRow sizes (at.Physical old) (Request v ∷ []) (at.Physical new) posts
-  physical_row old v new made posts (journal.claims x others p free n m q) =
+  physical_row old v new made posts (physical.claims x others p free n m q) =
       let is : record old { free = x ∷ others } ≡ old = rw (← free) refl in
       subst (λ (o : PhysicalZone). IsRow sizes (at.Physical o) (Request v ∷ []) (at.Physical new) posts) is
       (rw (n, q) (is_row (row.claims_block old v x others) (λ f. omega (arith, in_phase f v phase.Claim p)) (λ f. omega arith)))
-  physical_row old v new made posts (journal.is_full p none n m q) = rw (n, q) (is_row (row.finds_none old v) (λ f. omega (arith, in_phase f v phase.Claim p)) (λ f. omega arith))
-  physical_row old v new made posts (journal.aborts_claim p n m q) = rw (n, q) (is_row (row.aborts_claim old v) (λ f. omega (arith, in_phase f v phase.AbortClaim p)) (λ f. omega arith))
-  physical_row old v new made posts (journal.aborts_entered_claim p n m q) = rw (n, q) (is_row (row.aborts_entered_claim old v) (λ f. omega (arith, in_phase f v phase.AbortEnteredClaim p)) (λ f. omega arith))
+  physical_row old v new made posts (physical.is_full p none n m q) = rw (n, q) (is_row (row.finds_none old v) (λ f. omega (arith, in_phase f v phase.Claim p)) (λ f. omega arith))
+  physical_row old v new made posts (physical.aborts_claim p n m q) = rw (n, q) (is_row (row.aborts_claim old v) (λ f. omega (arith, in_phase f v phase.AbortClaim p)) (λ f. omega arith))
+  physical_row old v new made posts (physical.aborts_entered_claim p n m q) = rw (n, q) (is_row (row.aborts_entered_claim old v) (λ f. omega (arith, in_phase f v phase.AbortEnteredClaim p)) (λ f. omega arith))
 
   -- the journal: what it keeps
   there_sum : (f : Item → ℕ) (vs ws : List Vio) → total f (as_items (vs ++ ws)) ≡ all_there vs f + all_there ws f

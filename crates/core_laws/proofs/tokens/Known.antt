@@ -2,8 +2,8 @@
 -- the front, that its lock is held and its block is under way.
 use Rattle.std.proofs.Common.{◌≡◌, ℕ, Bool, true, List, [], ◌∷◌}
 use Rattle.core_laws.proofs.Common.{AllByRecursion, Item, JournalZone, LogicalZone, Phase, SealedBlock, Vio, ZoneData, KeptEach, KeptOk, Session, Trace, bit, every-map, holds, lock_weight, total}
-use Rattle.core_model.specs.declared.items.Item.TheVariants as item
-use Rattle.core_model.specs.declared.items.Phase.TheVariants as phase
+use Rattle.data_vio.specs.declared.items.Item.TheVariants as item
+use Rattle.data_vio.specs.declared.items.Phase.TheVariants as phase
 use Rattle.core_model.specs.declared.zones.ZoneData.TheVariants as at
 
 -- a request in this phase

@@ -1,7 +1,7 @@
 -- The locks of a zone, without those of an address.
 use Rattle.std.proofs.Common.{◌≡◌, ℕ, ◌+◌, Bool, true, false, ◌&&◌, ◌==◌, List, [], ◌∷◌, length, refl, sym, ◌∙◌, ap, subst, inl, inr, arith}
 use Rattle.core_laws.proofs.Common.{Lock, LogicalZone, Vio, bit, eqb_tells, lock_weight, total}
-use Rattle.core_model.specs.LogicalRows.{without}
+use Rattle.core_model.specs.LogicalRules.{without}
 use Rattle.core_laws.proofs.tokens.Known.{Leased}
 
 -- without the locks of an address, it has none, and all others have theirs

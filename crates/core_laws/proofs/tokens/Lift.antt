@@ -1,7 +1,7 @@
 -- A step and a move change the sums of one zone or two: what each kind of token owes is a law on the data of that zone.
 use Rattle.std.proofs.Common.{◌≡◌, ℕ, ◌+◌, ◌<◌, ◌≤◌, Bool, true, false, List, [], ◌∷◌, ◌++◌, length, Some, slice_get, slice_set, nat_eq, refl, ap, sym, ◌∙◌, arith}
 use Rattle.core_laws.proofs.Common.{AllByRecursion, AtMost, Balanced, Item, Post, Sizes, Token, Vio, Zone, ZoneData, as_items, get-put_other, given, total, total-append, total-set, weight, zone_number}
-use Rattle.core_model.specs.declared.items.Item.TheVariants.{Request}
+use Rattle.data_vio.specs.declared.items.Item.TheVariants.{Request}
 use Rattle.core_model.specs.Steps.{sent_to, sent, delivered, Core, StepOf, MoveOf}
 use Rattle.core_laws.proofs.lists.CoreLists.{total-posted, length-posted}
 use Rattle.core_laws.proofs.tokens.ActRows.{Sum}

@@ -1,15 +1,15 @@
 -- Who holds a request, and the lock of an address, holds it alone.
 use Rattle.std.proofs.Common.{◌≡◌, ℕ, ◌+◌, ◌≤◌, List, [], ◌∷◌, refl, ap, inl, inr, arith, ◌<◌, Bool, true, false, not, ◌&&◌, ◌==◌, Some, slice_get, sym, ◌∙◌, subst}
-use Rattle.core_laws.proofs.Common.{AllByRecursion, Balanced, DataOk, DeskLine, Each, IsDeskLog, Item, ItemOk, Lock, LockOk, LogicalZone, RightTrace, Script, Session, Sizes, Trace, Vio, Writer, Zone, ZoneData, ZoneId, ZoneOk, begins_of, begun, bit, desk_zone, eqb_tells, every-map, given, holder_weight, holds, in_log, lease_token, lines, lock_weight, locks_at, logical_zone, of_vio, request_token, same_tells, total, total-get, total_alone, weight, zone_number, zone_of}
+use Rattle.core_laws.proofs.Common.{AllByRecursion, Balanced, DataOk, DeskLine, Each, IsDeskLog, Item, ItemOk, Lock, LockOk, LogicalZone, RightTrace, Script, Session, Sizes, Trace, Vio, Writer, Zone, ZoneData, ZoneId, ZoneOk, begins_of, begun, bit, desk_number, eqb_tells, every-map, given, holder_weight, holds, in_log, lease_token, lines, lock_weight, locks_at, logical_number, of_vio, request_token, same_tells, total, total-get, total_alone, weight, zone_number, zone_of}
 use Rattle.vdo_model.specs.declared.report.DeskLine.TheVariants.{Begin, Answer}
 use Rattle.core_laws.proofs.trace.DeskOfTrace.{desk_log_right}
 use Rattle.core_laws.proofs.trace.Growth.{begun_more}
 use Rattle.core_laws.proofs.kept.ZoneKinds.{total_once}
-use Rattle.core_model.specs.Phases.{Where, AtDesk, AtHome, AtPhysical, AtJournal, AtDevice, InNoLane, row, number_at}
+use Rattle.data_vio.specs.Phases.{Where, AtDesk, AtHome, AtPhysical, AtJournal, AtDevice, InNoLane, row, number_at}
 use Rattle.core_laws.proofs.kept.Keys.{any}
 use Rattle.core_laws.proofs.tokens.Known.{Leased}
 use Rattle.core_model.specs.declared.zones.ZoneData.TheVariants as at
-use Rattle.core_model.specs.declared.items.Item.TheVariants as item
+use Rattle.data_vio.specs.declared.items.Item.TheVariants as item
 
 -- A request is begun once, and under way in one place.
 
@@ -45,19 +45,19 @@ begun_once depth script (Begin v ∷ older) w log = elim (same_tells v w) [
 ]
 
 module _ (s : Session) (t : Trace) (right : RightTrace s t) (zones : List Zone) (each : Each (ZoneOk s t) zones) (w : Writer) where
-  one_begin_at : (n : ℕ) (d : ZoneData) → DataOk s t n d → (in_log (begins_of w) d ≤ 1) × ((n ≡ desk_zone → ⊥) → in_log (begins_of w) d ≡ 0)
+  one_begin_at : (n : ℕ) (d : ZoneData) → DataOk s t n d → (in_log (begins_of w) d ≤ 1) × ((n ≡ desk_number → ⊥) → in_log (begins_of w) d ≡ 0)
   one_begin_at n (at.Desk desk) ok = (rw ok.lists.log_is (begun_once s.sizes.depth s.script (lines t) w (desk_log_right s t right)), λ ne. absurd (ne ok.number_is))
   one_begin_at n other ok = (omega arith, λ ne. refl)
 
   -- it is given out once
   pub request_once : total (given (request_token w)) zones ≤ 1
-  request_once = total_once (given (request_token w)) zones desk_zone (λ n z had. one_begin_at n z.keeps (each n z had).own)
+  request_once = total_once (given (request_token w)) zones desk_number (λ n z had. one_begin_at n z.keeps (each n z had).own)
 
 -- Who holds the lock of an address has it at its home, and nobody else holds it.
 
 -- the number of the logical zone of an address
 abbrev pub home_of : Session → ℕ → ℕ
-home_of s a = logical_zone (zone_of s.sizes.zones a)
+home_of s a = logical_number (zone_of s.sizes.zones a)
 
 -- locks of other addresses weigh nothing
 no_locks : (a : ℕ) (test : ℕ → Bool) (locks : List Lock) → AllByRecursion (λ (lock : Lock). lock.at.0 ≡ a → ⊥) locks → total (lock_weight a test) locks ≡ 0
@@ -80,7 +80,7 @@ split_locks a test (lock ∷ locks) = let x = one (lock.at.0 == a) (test lock.pl
 module _ (s : Session) (t : Trace) (a : ℕ) where
   pub locks_elsewhere : (test : ℕ → Bool) (j : ℕ) (d : ZoneData) → DataOk s t j d → (j ≡ home_of s a → ⊥) → locks_at a test d ≡ 0
   locks_elsewhere test j (at.Logical l) own ne =
-      no_locks a test l.held (every-map {P = LockOk s l.zone l.next} (λ (lock : Lock) ok here. ne (own.number_is ∙ ap logical_zone (sym ok.0 ∙ ap (zone_of s.sizes.zones) here))) l.held own.sound.locks.locks_are)
+      no_locks a test l.held (every-map {P = LockOk s l.zone l.next} (λ (lock : Lock) ok here. ne (own.number_is ∙ ap logical_number (sym ok.0 ∙ ap (zone_of s.sizes.zones) here))) l.held own.sound.locks.locks_are)
   locks_elsewhere test j other own ne = refl
 
   module _ (zones : List Zone) (each : Each (ZoneOk s t) zones) where
@@ -89,7 +89,7 @@ module _ (s : Session) (t : Trace) (a : ℕ) where
     given_at_home test n z had home = total_alone (given (lease_token a test)) zones n z had (λ j y k ne. locks_elsewhere test j y.keeps (each j y k).own (λ q. ne (q ∙ sym home)))
 
 -- A request served at a logical zone is served at its home.
-pub at_home : (sizes : Sizes) (n zone : ℕ) (home : ZoneId) (q : Where) → n ≡ logical_zone zone → zone < sizes.zones → n ≡ number_at sizes home q → n ≡ zone_number sizes home
+pub at_home : (sizes : Sizes) (n zone : ℕ) (home : ZoneId) (q : Where) → n ≡ logical_number zone → zone < sizes.zones → n ≡ number_at sizes home q → n ≡ zone_number sizes home
 at_home sizes n zone home AtHome is below to = to
 at_home sizes n zone home AtDesk is below to = absurd (omega (arith, is, below, to))
 at_home sizes n zone home AtPhysical is below to = absurd (omega (arith, is, below, to))

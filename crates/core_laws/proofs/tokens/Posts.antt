@@ -4,11 +4,11 @@ use Rattle.core_laws.proofs.Common.{Asks, LogicalZone, Post, Request, Sizes, Vio
 use Rattle.blk_base.specs.declared.place.Mapping.TheVariants.{Unmapped, Zero}
 use Rattle.blk_base.specs.declared.place.ZoneId.TheVariants as id
 use Rattle.blk_base.specs.declared.request.Request.TheVariants as request
-use Rattle.core_model.specs.declared.items.Asks.TheVariants.{Read, Write, Discard, Flush}
-use Rattle.core_model.specs.declared.items.Item.TheVariants as item
-use Rattle.core_model.specs.declared.items.Phase.TheVariants as phase
-use Rattle.core_model.specs.DeskRows.{vio_of}
-use Rattle.core_model.specs.LogicalRows.{are_zeros, enters_with, looked, read_next, next_for, mapping_at, goes_on}
+use Rattle.data_vio.specs.declared.items.Asks.TheVariants.{Read, Write, Discard, Flush}
+use Rattle.data_vio.specs.declared.items.Item.TheVariants as item
+use Rattle.data_vio.specs.declared.items.Phase.TheVariants as phase
+use Rattle.core_model.specs.DeskRules.{vio_of}
+use Rattle.core_model.specs.LogicalRules.{are_zeros, enters_with, looked, read_next, next_for, mapping_at, goes_on}
 
 -- a request that is begun has its name, and arrives or flushes
 pub begun_request : (sizes : Sizes) (w : Writer) (r : Request) (v : Vio) → vio_of sizes w r ≡ Some v → v.request ≡ w

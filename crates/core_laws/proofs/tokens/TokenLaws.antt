@@ -2,8 +2,8 @@
 use Rattle.std.proofs.Common.{◌≡◌, ℕ, ◌==◌, Bool, ◌&&◌, List, [], ◌∷◌, map, refl, ap, arith}
 use Rattle.core_laws.proofs.Common.{Phase, Sizes, Vio, Writer, ZoneData, bit, block_token, entry_token, has_entry, holder_token, holder_weight, holds, journal_token, lease_token, notice_token, request_token, room_token, same_writer, total, turned}
 use Rattle.core_model.specs.Tokens.{claim_weight}
-use Rattle.core_model.specs.declared.items.Phase.TheVariants as phase
-use Rattle.core_model.specs.declared.items.Item.TheVariants.{Request}
+use Rattle.data_vio.specs.declared.items.Phase.TheVariants as phase
+use Rattle.data_vio.specs.declared.items.Item.TheVariants.{Request}
 use Rattle.core_laws.proofs.tokens.ActRows as row
 use Rattle.core_laws.proofs.tokens.ActRows.{Row, Sum, Onward}
 use Rattle.core_laws.proofs.tokens.LeaseTokens.{freed, one_freed}

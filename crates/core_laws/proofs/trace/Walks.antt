@@ -1,7 +1,7 @@
 -- The history of an address walks a list of entries.
 use Rattle.std.proofs.Common.{◌≡◌, ◌⊎◌, ◌++◌, Bool, true, false, List, [], ◌∷◌, refl, sym, ◌∙◌, ap, subst, inl, inr, ℕ, ◌≢◌, ◌+◌, ◌<◌, ◌≤◌, ◌==◌, Option, Some, None, IsNone, arith}
 use Rattle.core_laws.proofs.Common.{AllByRecursion, AreDrawn, Asks, DeskLine, HistoryEntry, IsChange, Logged, Mark, Placed, Request, Script, Writer, address_of, asked, cases_Bool, drawn, each_both, eqb_tells, every-map, logged_of, not_both, place_of, request_at, same_self, same_Some, same_tells}
-use Rattle.core_model.specs.declared.items.Asks.TheVariants.{Read, Write, Discard, Flush}
+use Rattle.data_vio.specs.declared.items.Asks.TheVariants.{Read, Write, Discard, Flush}
 use Rattle.core_model.specs.Reports.{is_there}
 use Rattle.vdo_model.specs.Histories.{Progress, mark_of, histories_of, history_of}
 use Rattle.core_laws.proofs.lists.Changes.{change_address}

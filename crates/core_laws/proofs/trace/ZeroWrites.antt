@@ -4,8 +4,8 @@ use Rattle.core_laws.proofs.Common.{AllByRecursion, Asks, IsWrite, Lba, Logged, 
 use Rattle.blk_base.specs.Sectors.{zero_block}
 use Rattle.blk_base.specs.declared.place.Mapping.TheVariants.{Unmapped, Zero, At}
 use Rattle.image_layout.specs.Values.{mapping_of, value_in}
-use Rattle.core_model.specs.LogicalRows.{mapped_by}
-use Rattle.core_model.specs.declared.items.Asks.TheVariants.{Read, Write, Discard, Flush}
+use Rattle.core_model.specs.LogicalRules.{mapped_by}
+use Rattle.data_vio.specs.declared.items.Asks.TheVariants.{Read, Write, Discard, Flush}
 use Rattle.core_laws.proofs.trace.DeskOfTrace.{each_of_address}
 use Rattle.core_laws.proofs.lists.CoreLists.{newest_has}
 

@@ -5,9 +5,9 @@ use Rattle.vdo_model.specs.DeskLog.{IsNextLine}
 use Rattle.vdo_model.specs.declared.report.DeskLine.{DeskLine}
 use Rattle.vdo_model.specs.declared.report.DeskLine.TheVariants.{Begin}
 use Rattle.core_model.specs.DeskData.{Desk}
-use Rattle.core_model.specs.DeskRows.{BeginsNext, DeskBegins}
+use Rattle.core_model.specs.DeskRules.{BeginsNext, DeskBegins}
 use Rattle.core_model.specs.Trace.{Says}
-use Rattle.core_model.specs.Vios.{Post}
+use Rattle.data_vio.specs.Vios.{Post}
 use Rattle.core_model.proofs.rows.WorkedTraces.{script, first, reader, second, other, sizes}
 
 -- a desk with this log

@@ -7,16 +7,16 @@ use Rattle.blk_base.specs.declared.journal_entry.Entry.{Entry}
 use Rattle.blk_base.specs.declared.place.Pbn.{Pbn}
 use Rattle.disk_model.specs.Log.{block_at}
 use Rattle.disk_model.specs.declared.call.Call.TheVariants.{Read, Write, Flush}
-use Rattle.core_model.specs.declared.items.Phase.TheVariants as phase
-use Rattle.core_model.specs.declared.items.Stage.TheVariants as stage
-use Rattle.core_model.specs.declared.items.Vio.{Vio}
+use Rattle.data_vio.specs.declared.items.Phase.TheVariants as phase
+use Rattle.data_vio.specs.declared.items.Stage.TheVariants as stage
+use Rattle.data_vio.specs.declared.items.Vio.{Vio}
 use Rattle.core_model.specs.Facts.{Carries, Holds, IsSealed, Looks, RestsAt, StandsAt}
 use Rattle.core_model.specs.Legal.{Legal}
 use Rattle.core_model.specs.RightTraces.{GivesRight, MapsTo, MayFollow, RightTrace}
 use Rattle.core_model.specs.Sessions.{AtRest, HasNoneLeft, HasWholeBlocks, IsAsOpened, IsFair, IsFresh, IsSession, NewReads, NewStands, OnBlock, OnItsWay, ReadsAs, ReadsBlock, Session, Shown, value_at}
 use Rattle.core_model.specs.Steps.{Core}
 use Rattle.core_model.specs.Trace.{Calls, Happening, Trace, all_of, committed, has_stopped, sealed}
-use Rattle.core_model.specs.Vios.{all_logged}
+use Rattle.data_vio.specs.Vios.{all_logged}
 use Rattle.core_model.proofs.FairLaws.{fair_before, fair_on}
 use Rattle.core_model.proofs.rows.WorkedTraces.{session}
 use Rattle.image_model.specs.Looked.{is_looked_at}

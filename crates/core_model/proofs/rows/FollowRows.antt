@@ -10,12 +10,12 @@ use Rattle.blk_base.specs.declared.request.Request.TheVariants as request
 use Rattle.disk_model.specs.declared.call.Call.TheVariants.{Read, Write, Flush}
 use Rattle.vdo_model.specs.FlushMarks.{Moment, Desk, Device}
 use Rattle.vdo_model.specs.declared.report.DeskLine.TheVariants.{Begin, Answer}
-use Rattle.core_model.specs.declared.items.Asks.{Asks}
-use Rattle.core_model.specs.declared.items.Asks.TheVariants as asks
+use Rattle.data_vio.specs.declared.items.Asks.{Asks}
+use Rattle.data_vio.specs.declared.items.Asks.TheVariants as asks
 use Rattle.core_model.specs.RightTraces.{MapsTo, MayAnswer, MayFollow, StopsAtFailure}
 use Rattle.core_model.specs.Sessions.{Session}
-use Rattle.core_model.specs.Vios.{asked}
-use Rattle.core_model.specs.declared.zones.Logged.{Logged}
+use Rattle.data_vio.specs.Vios.{asked}
+use Rattle.data_vio.specs.declared.logged.Logged.{Logged}
 use Rattle.core_model.specs.Trace.{filled, Says, Flushes, Draws, Enters, Seals, Commits, Sets, Gives, Takes, Aborts, Calls, Fails, Trace, Happening}
 use Rattle.core_model.proofs.rows.WorkedTraces.{address, block, writer, x, y, first, reader, second, other, late, flush, sizes, session, begun, drawn, took, handed_in, in_block, lasting, set, stopped, place, entry, of_first, of_second, of_other, given, one_not_zeros, two_not_zeros}
 

@@ -5,13 +5,13 @@ use Rattle.std.proofs.Common.{ap, arith}
 use Rattle.blk_base.specs.declared.request.Answer.TheVariants as reply
 use Rattle.blk_base.specs.declared.request.Writer.{Writer}
 use Rattle.vdo_model.specs.declared.report.DeskLine.TheVariants as line
-use Rattle.core_model.specs.declared.items.Asks.TheVariants as asks
-use Rattle.core_model.specs.declared.items.Item.{Item}
-use Rattle.core_model.specs.declared.items.Item.TheVariants.{Request}
-use Rattle.core_model.specs.declared.items.Phase.TheVariants as phase
+use Rattle.data_vio.specs.declared.items.Asks.TheVariants as asks
+use Rattle.data_vio.specs.declared.items.Item.{Item}
+use Rattle.data_vio.specs.declared.items.Item.TheVariants.{Request}
+use Rattle.data_vio.specs.declared.items.Phase.TheVariants as phase
 use Rattle.core_model.specs.declared.zones.Zone.{Zone}
 use Rattle.core_model.specs.declared.zones.ZoneData.{ZoneData}
-use Rattle.core_model.specs.JournalRows.{HasNext, IsSealable}
+use Rattle.core_model.specs.JournalRules.{HasNext, IsSealable}
 use Rattle.core_model.specs.Legal.{ComesAfter, Legal, share}
 use Rattle.core_model.specs.Steps.{Core}
 use Rattle.core_model.specs.Trace.{Says, Trace}

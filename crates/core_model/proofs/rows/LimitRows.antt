@@ -7,9 +7,9 @@ use Rattle.vdo_model.specs.Scripts.{Script}
 use Rattle.vdo_model.specs.declared.report.DeskLine.{DeskLine}
 use Rattle.vdo_model.specs.declared.report.DeskLine.TheVariants.{Begin}
 use Rattle.vdo_model.specs.declared.report.FlushMark.{FlushMark}
-use Rattle.core_model.specs.declared.items.Phase.TheVariants as phase
-use Rattle.core_model.specs.declared.items.Vio.{Vio}
-use Rattle.core_model.specs.declared.sizes.Sizes.{Sizes}
+use Rattle.data_vio.specs.declared.items.Phase.TheVariants as phase
+use Rattle.data_vio.specs.declared.items.Vio.{Vio}
+use Rattle.data_vio.specs.declared.sizes.Sizes.{Sizes}
 use Rattle.core_model.specs.DeskData.{Desk}
 use Rattle.core_model.specs.Limits.{IsDeskWithin, IsLimited, requests_in}
 use Rattle.core_model.proofs.rows.PhaseRows.{writes}

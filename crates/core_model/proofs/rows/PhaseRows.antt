@@ -17,27 +17,28 @@ use Rattle.vdo_model.specs.declared.report.DeskLine.TheVariants as line
 use Rattle.vdo_model.specs.declared.report.FlushMark.{FlushMark}
 use Rattle.vdo_model.specs.declared.report.Placed.{Placed}
 use Rattle.vdo_model.specs.Scripts.{Script}
-use Rattle.core_model.specs.declared.items.Asks.{Asks}
-use Rattle.core_model.specs.declared.items.Asks.TheVariants as asks
-use Rattle.core_model.specs.declared.items.Item.{Item}
-use Rattle.core_model.specs.declared.items.Item.TheVariants.{Request, Block, StopNotice}
-use Rattle.core_model.specs.declared.items.Phase.{Phase}
-use Rattle.core_model.specs.declared.items.Phase.TheVariants as phase
-use Rattle.core_model.specs.declared.items.SealedBlock.{SealedBlock}
-use Rattle.core_model.specs.declared.items.Stage.{Stage}
-use Rattle.core_model.specs.declared.items.Stage.TheVariants as stage
-use Rattle.core_model.specs.declared.items.Vio.{Vio}
+use Rattle.data_vio.specs.declared.items.Asks.{Asks}
+use Rattle.data_vio.specs.declared.items.Asks.TheVariants as asks
+use Rattle.data_vio.specs.declared.items.Item.{Item}
+use Rattle.data_vio.specs.declared.items.Item.TheVariants.{Request, Block, StopNotice}
+use Rattle.data_vio.specs.declared.items.Phase.{Phase}
+use Rattle.data_vio.specs.declared.items.Phase.TheVariants as phase
+use Rattle.data_vio.specs.declared.items.SealedBlock.{SealedBlock}
+use Rattle.data_vio.specs.declared.items.Stage.{Stage}
+use Rattle.data_vio.specs.declared.items.Stage.TheVariants as stage
+use Rattle.data_vio.specs.declared.items.Vio.{Vio}
 use Rattle.core_model.specs.LogicalData.{Lock}
-use Rattle.core_model.specs.declared.zones.Logged.{Logged}
+use Rattle.data_vio.specs.declared.logged.Logged.{Logged}
 use Rattle.core_model.specs.declared.zones.ZoneData.{ZoneData}
 use Rattle.core_model.specs.declared.zones.ZoneData.TheVariants as at
-use Rattle.core_model.specs.DeskRows.{BeginsNext, DeskBegins, DeskServes}
-use Rattle.core_model.specs.DeviceRows.{DeviceServes, DeviceWorks, journal_bytes}
-use Rattle.core_model.specs.JournalRows.{PhysicalServes, JournalServes, JournalEnds}
-use Rattle.core_model.specs.LogicalRows.{LogicalServes}
+use Rattle.core_model.specs.DeskRules.{BeginsNext, DeskBegins, DeskServes}
+use Rattle.core_model.specs.DeviceRules.{DeviceServes, DeviceWorks, journal_bytes}
+use Rattle.core_model.specs.PhysicalRules.{PhysicalServes}
+use Rattle.core_model.specs.JournalRules.{JournalServes, JournalEnds}
+use Rattle.core_model.specs.LogicalRules.{LogicalServes}
 use Rattle.core_model.specs.Steps.{Act, begins, answers, hears, serves, serves_notice, takes, takes_notice, enters, ends, enters_notice, calls, works}
 use Rattle.core_model.specs.Trace.{Says, Flushes, Draws, Enters, Seals, Commits, Sets, Gives, Takes, Aborts, Calls, Fails, Trace, entry_of}
-use Rattle.core_model.specs.Vios.{Post, logged}
+use Rattle.data_vio.specs.Vios.{Post, logged}
 use Rattle.recovery_journal.specs.Log.{Log, placed, point_at}
 use Rattle.core_model.proofs.rows.BeginRows.{one_busy, two_busy, past_one, past_two}
 use Rattle.core_model.proofs.rows.WorkedTraces.{address, block, x, y, script, first, reader, second, other, flush, sizes, place, of_first, of_second, given}

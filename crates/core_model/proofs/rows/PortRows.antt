@@ -3,8 +3,8 @@ use Rattle.std.proofs.Common.{◌≡◌, ℕ, List, [], ◌∷◌, length, repli
 use Rattle.std.proofs.lemmas.List.{length-replicate}
 use Rattle.zone_queues.specs.Queues.{Boxes, Queue}
 use Rattle.core_model.specs.PortsData.{AreLanes, IsLane, ports_of}
-use Rattle.core_model.specs.declared.items.Item.{Item}
-use Rattle.core_model.specs.declared.items.Item.TheVariants.{StopNotice}
+use Rattle.data_vio.specs.declared.items.Item.{Item}
+use Rattle.data_vio.specs.declared.items.Item.TheVariants.{StopNotice}
 
 -- a list with this room, and so many items
 abbrev queue : (room items : ℕ) → Queue Item

@@ -2,7 +2,7 @@
 -- one that it refuses.
 use Rattle.std.proofs.Common.{ℕ, zero, suc, ◌<◌, ◌+◌, List, [], ◌∷◌, get_or, refl, arith}
 use Rattle.core_model.specs.SlotOrder.{AreInOrder, IsGapFor, IsPlaceOf}
-use Rattle.core_model.specs.declared.zones.Logged.{Logged}
+use Rattle.data_vio.specs.declared.logged.Logged.{Logged}
 use Rattle.core_model.proofs.rows.WorkedTraces.{of_first, of_other, of_second}
 
 -- a write of address 0, and one of address 812

@@ -1,8 +1,8 @@
 -- When nothing is left to do in a core: each clause at a core of one zone that meets it, and at one that doesn't.
 use Rattle.std.proofs.Common.{ℕ, zero, suc, ◌≡◌, false, Some, List, [], ◌∷◌, slice_get, refl, sym, subst, arith}
 use Rattle.std.proofs.lemmas.Option.{same_Some}
-use Rattle.core_model.specs.declared.items.Item.{Item}
-use Rattle.core_model.specs.declared.items.Item.TheVariants.{StopNotice}
+use Rattle.data_vio.specs.declared.items.Item.{Item}
+use Rattle.data_vio.specs.declared.items.Item.TheVariants.{StopNotice}
 use Rattle.core_model.specs.declared.zones.Zone.{Zone}
 use Rattle.core_model.specs.declared.zones.ZoneData.{ZoneData}
 use Rattle.core_model.specs.Steps.{IsStill}

@@ -5,10 +5,10 @@ use Rattle.std.proofs.lemmas.Option.{same_Some}
 use Rattle.blk_base.specs.declared.request.Answer.TheVariants as reply
 use Rattle.blk_base.specs.declared.request.Writer.{Writer}
 use Rattle.vdo_model.specs.declared.report.DeskLine.TheVariants.{Begin, Answer}
-use Rattle.core_model.specs.declared.items.Asks.TheVariants as asks
-use Rattle.core_model.specs.declared.items.Item.{Item}
-use Rattle.core_model.specs.declared.items.Item.TheVariants.{Request, StopNotice}
-use Rattle.core_model.specs.declared.items.Phase.TheVariants as phase
+use Rattle.data_vio.specs.declared.items.Asks.TheVariants as asks
+use Rattle.data_vio.specs.declared.items.Item.{Item}
+use Rattle.data_vio.specs.declared.items.Item.TheVariants.{Request, StopNotice}
+use Rattle.data_vio.specs.declared.items.Phase.TheVariants as phase
 use Rattle.core_model.specs.declared.zones.Zone.{Zone}
 use Rattle.core_model.specs.declared.zones.ZoneData.{ZoneData}
 use Rattle.core_model.specs.Arrivals.{arrivals_at, drew_in, sent_to_zone}

@@ -1,8 +1,8 @@
 -- What threads do with batches: each clause with a case that it accepts and one that breaks it alone.
 use Rattle.std.proofs.Common.{ℕ, ◌≡◌, ◌++◌, Some, List, [], ◌∷◌, slice_get, slice_set, length, refl, ap, sym, subst}
 use Rattle.std.proofs.lemmas.Option.{same_Some}
-use Rattle.core_model.specs.declared.items.Item.{Item}
-use Rattle.core_model.specs.declared.items.Item.TheVariants.{StopNotice}
+use Rattle.data_vio.specs.declared.items.Item.{Item}
+use Rattle.data_vio.specs.declared.items.Item.TheVariants.{StopNotice}
 use Rattle.core_model.specs.Views.{AreEmptyLanes, LaneHolds, PostsBatch, ReceivesBatch, TakesBatch, View, zones_seen}
 use Rattle.core_model.proofs.rows.PhaseRows.{physical}
 

@@ -4,10 +4,10 @@ use Rattle.std.proofs.lemmas.Bool.Decides.{eqb_tells}
 use Rattle.blk_base.specs.declared.place.Lba.{Lba}
 use Rattle.logical_locks.specs.declared.waiter.Waiter.{Waiter}
 use Rattle.core_model.specs.LogicalData.{Lock}
-use Rattle.core_model.specs.LogicalRows.{is_among}
+use Rattle.core_model.specs.LogicalRules.{is_among}
 use Rattle.core_model.specs.Waiters.{AreFree, AreOwn, IsFree, vios}
-use Rattle.core_model.specs.declared.items.Phase.TheVariants as phase
-use Rattle.core_model.specs.declared.items.Vio.{Vio}
+use Rattle.data_vio.specs.declared.items.Phase.TheVariants as phase
+use Rattle.data_vio.specs.declared.items.Vio.{Vio}
 use Rattle.core_model.proofs.rows.PhaseRows.{writes}
 use Rattle.core_model.proofs.rows.WorkedTraces.{address}
 

@@ -2,10 +2,10 @@
 use Rattle.std.proofs.Common.{ℕ, ◌-◌, ◌^◌, false, List, [], ◌∷◌, replicate, arith}
 use Rattle.std.proofs.lemmas.List.{length-replicate}
 use Rattle.vdo_model.specs.declared.report.Placed.{Placed}
-use Rattle.core_model.specs.declared.items.Item.{Item}
-use Rattle.core_model.specs.declared.items.Item.TheVariants.{StopNotice}
-use Rattle.core_model.specs.declared.items.Phase.TheVariants as phase
-use Rattle.core_model.specs.declared.items.Vio.{Vio}
+use Rattle.data_vio.specs.declared.items.Item.{Item}
+use Rattle.data_vio.specs.declared.items.Item.TheVariants.{StopNotice}
+use Rattle.data_vio.specs.declared.items.Phase.TheVariants as phase
+use Rattle.data_vio.specs.declared.items.Vio.{Vio}
 use Rattle.core_model.specs.declared.zones.DeviceZone.{DeviceZone}
 use Rattle.core_model.specs.JournalData.{JournalZone}
 use Rattle.core_model.specs.LogicalData.{Lock, LogicalZone}

@@ -3,20 +3,20 @@ use Rattle.std.proofs.Common.{◌≡◌, ℕ, Bool, true, false, List, [], ◌�
 use Rattle.blk_base.specs.declared.place.ZoneId.{ZoneId}
 use Rattle.blk_base.specs.declared.place.ZoneId.TheVariants as id
 use Rattle.blk_base.specs.declared.request.Writer.{Writer}
-use Rattle.core_model.specs.declared.items.Item.{Item}
-use Rattle.core_model.specs.declared.items.Item.TheVariants.{Request, StopNotice}
-use Rattle.core_model.specs.declared.items.Phase.{Phase}
-use Rattle.core_model.specs.declared.items.Phase.TheVariants as phase
-use Rattle.core_model.specs.declared.items.Stage.{Stage}
-use Rattle.core_model.specs.declared.items.Stage.TheVariants as stage
+use Rattle.data_vio.specs.declared.items.Item.{Item}
+use Rattle.data_vio.specs.declared.items.Item.TheVariants.{Request, StopNotice}
+use Rattle.data_vio.specs.declared.items.Phase.{Phase}
+use Rattle.data_vio.specs.declared.items.Phase.TheVariants as phase
+use Rattle.data_vio.specs.declared.items.Stage.{Stage}
+use Rattle.data_vio.specs.declared.items.Stage.TheVariants as stage
 use Rattle.core_model.specs.declared.zones.Zone.{Zone}
 use Rattle.core_model.specs.declared.zones.ZoneData.{ZoneData}
 use Rattle.core_model.specs.declared.zones.ZoneData.TheVariants as at
 use Rattle.core_model.specs.Facts.{zone_at, zone_of_stage, arriving}
-use Rattle.core_model.specs.Phases.{stage_row}
+use Rattle.data_vio.specs.Phases.{stage_row}
 use Rattle.core_model.specs.Steps.{ZoneStep, IsIdle, takes_notice}
 use Rattle.core_model.specs.Tokens.{holds, claims, has_entry, kept_items}
-use Rattle.core_model.specs.Zones.{IsZone, zone_number, zone_count, notified, notified_zones}
+use Rattle.data_vio.specs.Zones.{IsZone, zone_number, zone_count, notified, notified_zones}
 use Rattle.core_model.proofs.rows.PhaseRows.{writes, reads, desk, empty_log, logical, physical, journal, device}
 use Rattle.core_model.proofs.rows.WorkedTraces.{block, first, sizes}
 

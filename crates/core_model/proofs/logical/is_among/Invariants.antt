@@ -1,5 +1,5 @@
 use Rattle.std.proofs.Common.{◌≡◌, take, reverse}
-use Rattle.core_model.specs.LogicalRows.{is_among}
+use Rattle.core_model.specs.LogicalRules.{is_among}
 use Rattle.core_model.proofs.logical.is_among.Given as goal
 
 abbrev pub invariant-loop-other : goal.invariant-loop-other

@@ -1,7 +1,7 @@
 use Rattle.std.proofs.Common.{List, ap, subst, sym, ◌∙◌}
 use Rattle.core_model.specs.SlotOrder.{AreInOrder, IsGapFor, IsPlaceOf}
 use Rattle.core_model.specs.Trace.{newest, of_address}
-use Rattle.core_model.specs.declared.zones.Logged.{Logged}
+use Rattle.data_vio.specs.declared.logged.Logged.{Logged}
 use Rattle.core_model.proofs.SlotLaws.{newest-insert, newest-set, order-insert}
 use Rattle.core_model.proofs.slots.put.Goals as goal
 

@@ -1,4 +1,4 @@
-use Rattle.steps_device.specs.DeviceCalls.{Fits}
+use Rattle.device_zone.specs.DeviceCalls.{Fits}
 use Rattle.core_tests.proofs.turns.count_differences.Given as goal
 
 abbrev pub invariant-loop-event : goal.invariant-loop-event

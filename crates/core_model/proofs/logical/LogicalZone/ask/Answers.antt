@@ -1,10 +1,10 @@
 use Rattle.std.proofs.Common.{◌∙◌, ◌∷◌, ap}
 use Rattle.vdo_model.specs.declared.report.Placed.{Placed}
 use Rattle.core_model.specs.LogicalData.{LogicalZone}
-use Rattle.core_model.specs.LogicalRows.{is_among}
-use Rattle.core_model.specs.Vios.{turned}
-use Rattle.core_model.specs.declared.items.Phase.TheVariants as phase
-use Rattle.core_model.specs.declared.items.Vio.{Vio}
+use Rattle.core_model.specs.LogicalRules.{is_among}
+use Rattle.data_vio.specs.Vios.{turned}
+use Rattle.data_vio.specs.declared.items.Phase.TheVariants as phase
+use Rattle.data_vio.specs.declared.items.Vio.{Vio}
 use Rattle.core_model.proofs.LockLaws.{asked, has_room}
 use Rattle.core_model.proofs.logical.LogicalZone.ask.Goals as goal
 

@@ -1,5 +1,5 @@
 use Rattle.std.proofs.Common.{◌∙◌, ap}
-use Rattle.core_model.specs.LogicalRows.{first_for, released}
+use Rattle.core_model.specs.LogicalRules.{first_for, released}
 use Rattle.core_model.specs.LogicalData.{LogicalZone}
 use Rattle.core_model.proofs.LockLaws.{releases}
 use Rattle.core_model.proofs.logical.LogicalZone.release.Goals as goal

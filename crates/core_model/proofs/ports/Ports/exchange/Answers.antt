@@ -1,7 +1,7 @@
 use Rattle.std.proofs.Common.{◌∙◌, ap, sym, Some, List, slice_set}
 use Rattle.zone_queues.specs.Queues.{Queue}
 use Rattle.core_model.specs.PortsData.{ports_of}
-use Rattle.core_model.specs.declared.items.Item.{Item}
+use Rattle.data_vio.specs.declared.items.Item.{Item}
 use Rattle.core_model.proofs.PortLaws.{seen_at, set_in}
 use Rattle.core_model.proofs.ports.Ports.exchange.Goals as goal
 

@@ -1,7 +1,7 @@
 use Rattle.std.proofs.Common.{List, Some, ap, subst, sym, ◌∙◌}
 use Rattle.core_model.specs.SlotOrder.{IsGapFor, IsPlaceOf}
 use Rattle.core_model.specs.Trace.{newest, of_address}
-use Rattle.core_model.specs.declared.zones.Logged.{Logged}
+use Rattle.data_vio.specs.declared.logged.Logged.{Logged}
 use Rattle.core_model.proofs.SlotLaws.{newest_in_place, none_in_gap}
 use Rattle.core_model.proofs.slots.Slots.latest.Goals as goal
 

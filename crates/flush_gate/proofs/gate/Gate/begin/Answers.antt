@@ -1,6 +1,6 @@
 use Rattle.std.proofs.Common.{◌+◌, List, length, arith, ap, sym, subst}
 use Rattle.flush_gate.specs.Flushes.{Flushes, AreFrom}
-use Rattle.flush_gate.specs.declared.waiting.Waiting.{Waiting}
+use Rattle.flush_gate.specs.declared.waiters.Waiting.{Waiting}
 use Rattle.flush_gate.proofs.GateLaws.{length-all_counts, AreFrom-push}
 use Rattle.flush_gate.proofs.gate.Gate.begin.Goals as goal
 

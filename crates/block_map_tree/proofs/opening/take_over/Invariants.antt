@@ -1,5 +1,0 @@
-use Rattle.block_map_tree.specs.Opening.{IsTakenOver}
-use Rattle.block_map_tree.proofs.opening.take_over.Given as goal
-
-abbrev pub invariant-loop-page : goal.invariant-loop-page
-invariant-loop-page l = IsTakenOver l.forest l.opened l.page-index l.fn.pages.items l.pages.items

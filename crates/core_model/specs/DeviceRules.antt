@@ -1,0 +1,106 @@
+-- What the device zone does: one call of the device. A failed read has any bytes.
+use Rattle.std.specs.Prelude.{ℕ, ◌+◌, ◌≡◌, ◌<◌, Bool, true, false, Option, Some, List, [], ◌∷◌, map}
+use Rattle.blk_base.specs.Regions.{journal_slot_of, needed_blocks}
+use Rattle.blk_base.specs.declared.place.Mapping.TheVariants.{At}
+use Rattle.blk_base.specs.declared.place.Pbn.{Pbn}
+use Rattle.blk_base.specs.declared.place.ZoneId.{ZoneId}
+use Rattle.blk_base.specs.declared.place.ZoneId.TheVariants as id
+use Rattle.blk_base.specs.declared.request.Answer.TheVariants as reply
+use Rattle.disk_model.specs.declared.call.Call.{Call}
+use Rattle.disk_model.specs.declared.call.Call.TheVariants.{Read, Write, Flush}
+use Rattle.journal_codec.specs.Spelling.{block_bytes}
+use Rattle.stop_laws.specs.Journals.{block_of_slot}
+use Rattle.data_vio.specs.declared.items.Item.TheVariants as item
+use Rattle.data_vio.specs.declared.items.Phase.TheVariants as phase
+use Rattle.data_vio.specs.declared.items.SealedBlock.{SealedBlock}
+use Rattle.data_vio.specs.declared.items.Stage.{Stage}
+use Rattle.data_vio.specs.declared.items.Stage.TheVariants as stage
+use Rattle.data_vio.specs.declared.items.Vio.{Vio}
+use Rattle.data_vio.specs.declared.sizes.Sizes.{Sizes}
+use Rattle.core_model.specs.declared.zones.DeviceZone.{DeviceZone}
+use Rattle.data_vio.specs.Phases.{stage_row}
+use Rattle.core_model.specs.Trace.{Trace, Calls, Fails, entry_of}
+use Rattle.data_vio.specs.Vios.{Post, turned, ended, logged, staged}
+use Rattle.data_vio.specs.Zones.{notified}
+
+-- one more call succeeded
+abbrev pub counted : DeviceZone → DeviceZone
+counted d = record d { calls = d.calls + 1 }
+
+-- the session is stopped
+abbrev pub halted : DeviceZone → DeviceZone
+halted d = record d { stopped = true }
+
+-- the notice of that, to these zones
+abbrev pub stop_notices : List ZoneId → List Post
+stop_notices [] = []
+stop_notices (to ∷ others) = (to, item.StopNotice) ∷ stop_notices others
+
+-- the block lies inside the image
+abbrev pub IsInside : Sizes → Pbn → Type 0
+IsInside sizes x = x.0 < needed_blocks sizes.geometry
+
+pub data DeviceServes (sizes : Sizes) (old : DeviceZone) (v : Vio) (new : DeviceZone) (made : Trace) (posts : List Post) : Type 0 where
+  -- the data of a write
+  stores : (x : Pbn) → v.phase ≡ phase.Store → v.new ≡ At x → old.stopped ≡ false → IsInside sizes x
+      → new ≡ counted old → made ≡ Calls (Write x v.bytes true) ∷ [] → posts ≡ (id.Journal, item.Request (turned phase.Enter v)) ∷ []
+      → DeviceServes sizes old v new made posts
+  store_fails : (x : Pbn) (kept : Bool) → v.phase ≡ phase.Store → v.new ≡ At x → old.stopped ≡ false → IsInside sizes x
+      → new ≡ halted old → made ≡ Fails v.request (Write x v.bytes false) kept ∷ []
+      → posts ≡ (id.Physical 0, item.Request (ended phase.AbortClaim reply.Stopped v)) ∷ stop_notices (notified sizes)
+      → DeviceServes sizes old v new made posts
+  store_unmade : v.phase ≡ phase.Store → old.stopped ≡ true
+      → new ≡ old → made ≡ [] → posts ≡ (id.Physical 0, item.Request (ended phase.AbortClaim reply.Stopped v)) ∷ []
+      → DeviceServes sizes old v new made posts
+  -- the block of a read
+  loads : (x : Pbn) (bytes : List ℕ) → v.phase ≡ phase.Load → v.old ≡ At x → IsInside sizes x
+      → new ≡ counted old → made ≡ Calls (Read x bytes true) ∷ [] → posts ≡ (v.home, item.Request (record v { phase = phase.Loaded; bytes = bytes })) ∷ []
+      → DeviceServes sizes old v new made posts
+  load_fails : (x : Pbn) (bytes : List ℕ) (kept : Bool) → v.phase ≡ phase.Load → v.old ≡ At x → IsInside sizes x
+      → new ≡ old → made ≡ Fails v.request (Read x bytes false) kept ∷ [] → posts ≡ (v.home, item.Request (ended phase.Abort reply.ReadFault v)) ∷ []
+      → DeviceServes sizes old v new made posts
+  -- a flush request
+  flushes : v.phase ≡ phase.Flush → old.stopped ≡ false
+      → new ≡ counted old → made ≡ Calls (Flush true) ∷ []
+      → posts ≡ (id.Desk, item.Request (record v { phase = phase.Reply; answer = Some reply.Ok; calls = old.calls + 1 })) ∷ []
+      → DeviceServes sizes old v new made posts
+  flush_fails : (kept : Bool) → v.phase ≡ phase.Flush → old.stopped ≡ false
+      → new ≡ halted old → made ≡ Fails v.request (Flush false) kept ∷ []
+      → posts ≡ (id.Desk, item.Request (ended phase.Reply reply.Stopped v)) ∷ stop_notices (notified sizes)
+      → DeviceServes sizes old v new made posts
+  flush_unmade : v.phase ≡ phase.Flush → old.stopped ≡ true
+      → new ≡ old → made ≡ [] → posts ≡ (id.Desk, item.Request (ended phase.Reply reply.Stopped v)) ∷ []
+      → DeviceServes sizes old v new made posts
+
+-- the bytes of a sealed block: its entries, the oldest first, with its head
+abbrev pub journal_bytes : Sizes → SealedBlock → List ℕ
+journal_bytes sizes b = block_bytes sizes.geometry.nonce b.sequence b.head (map (λ (v : Vio). entry_of (logged v)) b.vios)
+
+-- the block of the journal where it stands
+abbrev pub IsItsSlot : Sizes → SealedBlock → Pbn → Type 0
+IsItsSlot sizes b slot = slot.0 ≡ block_of_slot (journal_slot_of sizes.geometry b.sequence)
+
+-- what a sealed block needs of the device at a stage, and where it goes then
+abbrev pub call_of : Sizes → SealedBlock → Pbn → Bool → Stage → Option Call
+call_of sizes b slot ok stage.Cover = Some (Flush ok)
+call_of sizes b slot ok stage.Write = Some (Write slot (journal_bytes sizes b) ok)
+call_of sizes b slot ok stage.Harden = Some (Flush ok)
+call_of sizes b slot ok other = Option.None
+
+abbrev pub next_stage : Stage → Stage
+next_stage now = (stage_row now).next
+
+abbrev pub next_zone : Stage → ZoneId
+next_zone now = (stage_row (next_stage now)).zone
+
+-- A block without an entry is none of these. A failure is told to the oldest of its requests.
+pub data DeviceWorks (sizes : Sizes) (old : DeviceZone) (b : SealedBlock) (new : DeviceZone) (made : Trace) (posts : List Post) : Type 0 where
+  makes : (call : Call) (slot : Pbn) (v : Vio) (vs : List Vio) → b.vios ≡ v ∷ vs → IsItsSlot sizes b slot → call_of sizes b slot true b.stage ≡ Some call → old.stopped ≡ false
+      → new ≡ counted old → made ≡ Calls call ∷ [] → posts ≡ (next_zone b.stage, item.Block (staged (next_stage b.stage) b)) ∷ []
+      → DeviceWorks sizes old b new made posts
+  fails : (call : Call) (slot : Pbn) (kept : Bool) (v : Vio) (vs : List Vio) → b.vios ≡ v ∷ vs → IsItsSlot sizes b slot → call_of sizes b slot false b.stage ≡ Some call → old.stopped ≡ false
+      → new ≡ halted old → made ≡ Fails v.request call kept ∷ [] → posts ≡ (id.Journal, item.Block (staged stage.Fail b)) ∷ stop_notices (notified sizes)
+      → DeviceWorks sizes old b new made posts
+  unmade : (call : Call) (slot : Pbn) (v : Vio) (vs : List Vio) → b.vios ≡ v ∷ vs → call_of sizes b slot false b.stage ≡ Some call → old.stopped ≡ true
+      → new ≡ old → made ≡ [] → posts ≡ (id.Journal, item.Block (staged stage.Fail b)) ∷ []
+      → DeviceWorks sizes old b new made posts

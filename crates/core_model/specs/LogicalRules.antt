@@ -1,0 +1,181 @@
+-- What a logical zone does: places, locks, slots.
+use Rattle.std.specs.Prelude.{ℕ, ◌+◌, ◌≡◌, ◌==◌, Bool, true, false, ◌&&◌, ◌||◌, Option, None, Some, List, [], ◌∷◌, ◌++◌, if◌then◌else◌}
+use Rattle.blk_base.specs.Sectors.{zero_block}
+use Rattle.blk_base.specs.declared.place.Lba.{Lba}
+use Rattle.blk_base.specs.declared.place.Mapping.{Mapping}
+use Rattle.blk_base.specs.declared.place.Mapping.TheVariants.{Unmapped, Zero, At}
+use Rattle.blk_base.specs.declared.place.ZoneId.TheVariants as id
+use Rattle.blk_base.specs.declared.request.Answer.TheVariants as reply
+use Rattle.image_layout.specs.Values.{mapping_of}
+use Rattle.vdo_model.specs.declared.report.Placed.{Placed}
+use Rattle.data_vio.specs.declared.items.Asks.{Asks}
+use Rattle.data_vio.specs.declared.items.Asks.TheVariants.{Read, Write, Discard, Flush}
+use Rattle.data_vio.specs.declared.items.Item.TheVariants as item
+use Rattle.data_vio.specs.declared.items.Phase.TheVariants as phase
+use Rattle.data_vio.specs.declared.items.Vio.{Vio}
+use Rattle.data_vio.specs.declared.sizes.Sizes.{Sizes}
+use Rattle.core_model.specs.LogicalData.{Lock, LogicalZone}
+use Rattle.data_vio.specs.declared.logged.Logged.{Logged}
+use Rattle.core_model.specs.Trace.{Trace, Draws, Sets, Gives, Aborts, of_address, newest}
+use Rattle.data_vio.specs.Vios.{Post, turned, ended, logged, gift}
+
+-- whether an address is among these
+abbrev pub is_among : ℕ → List Lba → Bool
+is_among a [] = false
+is_among a (at ∷ others) = (at.0 == a) || is_among a others
+
+-- whether its lock is
+abbrev pub is_held : ℕ → List Lock → Bool
+is_held a [] = false
+is_held a (lock ∷ others) = (lock.at.0 == a) || is_held a others
+
+-- the locks but that of this address
+abbrev pub without : ℕ → List Lock → List Lock
+without a [] = []
+without a (lock ∷ others) = if lock.at.0 == a then without a others else lock ∷ without a others
+
+-- the lock that a request holds
+abbrev pub lock_of : Vio → Lock
+lock_of v = record { at = v.at; place = v.place }
+
+-- the first that waits for an address; those that wait but this first one; those that wait for it, and for others
+abbrev pub first_for : ℕ → List Vio → Option Vio
+first_for a [] = None
+first_for a (v ∷ others) = if v.at.0 == a then Some v else first_for a others
+
+abbrev pub but_first_for : ℕ → List Vio → List Vio
+but_first_for a [] = []
+but_first_for a (v ∷ others) = if v.at.0 == a then others else v ∷ but_first_for a others
+
+abbrev pub all_for : ℕ → List Vio → List Vio
+all_for a [] = []
+all_for a (v ∷ others) = if v.at.0 == a then v ∷ all_for a others else all_for a others
+
+abbrev pub none_for : ℕ → List Vio → List Vio
+none_for a [] = []
+none_for a (v ∷ others) = if v.at.0 == a then none_for a others else v ∷ none_for a others
+
+-- the request with the zone's next place
+abbrev pub placed : LogicalZone → Vio → Vio
+placed l v = record v { place = l.next }
+
+abbrev pub place_of_vio : LogicalZone → Vio → Placed
+place_of_vio l v = record { request = v.request; zone = l.zone; place = l.next }
+
+-- the zone after that place was drawn
+abbrev pub drawn_by : LogicalZone → Vio → LogicalZone
+drawn_by l v = record l { next = l.next + 1; places = place_of_vio l v ∷ l.places }
+
+-- the last write or discard that set an address in this session, and where the address is mapped
+abbrev pub latest_at : LogicalZone → ℕ → Option Logged
+latest_at l a = newest (of_address a l.slots)
+
+abbrev pub mapped_by : Option Logged → Mapping → Mapping
+mapped_by None opening = opening
+mapped_by (Some e) opening = e.new
+
+abbrev pub mapping_at : LogicalZone → ℕ → Mapping
+mapping_at l a = mapped_by (latest_at l a) (mapping_of l.window a)
+
+-- a request that has the lock of its address, and knows what is mapped there
+abbrev pub looked : LogicalZone → Vio → Vio
+looked l v = record v { old = mapping_at l v.at.0; latest = latest_at l v.at.0 }
+
+-- whether bytes are zeros
+abbrev pub are_zeros : List ℕ → Bool
+are_zeros [] = true
+are_zeros (b ∷ bytes) = (b == 0) && are_zeros bytes
+
+-- one that needs no block hands in its entry
+abbrev pub enters_with : Mapping → Vio → Post
+enters_with new v = (id.Journal, item.Request (record v { phase = phase.Enter; new = new }))
+
+-- a write takes a block, but for one of zeros
+abbrev pub write_next : Vio → Post
+write_next v = if are_zeros v.bytes then enters_with Zero v else (id.Physical 0, item.Request (turned phase.Claim v))
+
+-- where it goes: a read reads the mapped block, or is given zeros; a discard needs no block; a flush takes no lock
+abbrev pub read_next : Sizes → LogicalZone → Vio → Mapping → Post
+read_next sizes l v (At x) = (id.Device, item.Request (turned phase.Load v))
+read_next sizes l v Unmapped = (id.Logical l.zone, item.Request (record v { phase = phase.Loaded; bytes = zero_block }))
+read_next sizes l v Zero = (id.Logical l.zone, item.Request (record v { phase = phase.Loaded; bytes = zero_block }))
+
+abbrev pub next_for : Sizes → LogicalZone → Vio → Asks → Option Post
+next_for sizes l v Read = Some (read_next sizes l (looked l v) (mapping_at l v.at.0))
+next_for sizes l v Write = Some (write_next (looked l v))
+next_for sizes l v Discard = Some (enters_with Unmapped (looked l v))
+next_for sizes l v Flush = None
+
+abbrev pub goes_on : Sizes → LogicalZone → Vio → Option Post
+goes_on sizes l v = next_for sizes l v v.asks
+
+-- The lock of an address goes to the first that waits for it, or is released.
+abbrev pub passed_to : ℕ → LogicalZone → Option Vio → LogicalZone
+passed_to a l None = record l { held = without a l.held }
+passed_to a l (Some v) = record l { held = lock_of v ∷ without a l.held; waiting = but_first_for a l.waiting }
+
+abbrev pub released : ℕ → LogicalZone → LogicalZone
+released a l = passed_to a l (first_for a l.waiting)
+
+-- whoever gets the lock of an address looks up what is mapped there
+abbrev pub looks_up : Vio → Post
+looks_up v = (v.home, item.Request (turned phase.Look v))
+
+-- so does the one that it is passed on to, where somebody waits
+abbrev pub passes_on : Option Vio → List Post
+passes_on None = []
+passes_on (Some v) = looks_up v ∷ []
+
+abbrev pub granted : ℕ → LogicalZone → List Post
+granted a l = passes_on (first_for a l.waiting)
+
+-- The lock of an address is never released: nobody waits for it any more.
+abbrev pub retire : ℕ → LogicalZone → LogicalZone
+retire a l = record l { held = without a l.held; retired = record { 0 = a } ∷ l.retired; waiting = none_for a l.waiting }
+
+abbrev pub all_stopped : List Vio → List Post
+all_stopped [] = []
+all_stopped (v ∷ vs) = (id.Desk, item.Request (ended phase.Reply reply.Stopped v)) ∷ all_stopped vs
+
+-- with the slot that a write sets
+abbrev pub with_slot : LogicalZone → Vio → LogicalZone
+with_slot l v = record l { slots = logged v ∷ l.slots }
+
+pub data LogicalServes (sizes : Sizes) (old : LogicalZone) (v : Vio) (new : LogicalZone) (made : Trace) (posts : List Post) : Type 0 where
+  -- it draws its place: its address is never released, or free, or held
+  arrives_retired : v.phase ≡ phase.Arrive → is_among v.at.0 old.retired ≡ true
+      → new ≡ drawn_by old v → made ≡ Draws (place_of_vio old v) ∷ []
+      → posts ≡ (id.Desk, item.Request (ended phase.Reply reply.Stopped (placed old v))) ∷ []
+      → LogicalServes sizes old v new made posts
+  arrives_free : v.phase ≡ phase.Arrive → is_among v.at.0 old.retired ≡ false → is_held v.at.0 old.held ≡ false
+      → new ≡ record (drawn_by old v) { held = lock_of (placed old v) ∷ old.held } → made ≡ Draws (place_of_vio old v) ∷ []
+      → posts ≡ looks_up (placed old v) ∷ []
+      → LogicalServes sizes old v new made posts
+  arrives_held : v.phase ≡ phase.Arrive → is_among v.at.0 old.retired ≡ false → is_held v.at.0 old.held ≡ true
+      → new ≡ record (drawn_by old v) { waiting = old.waiting ++ turned phase.Wait (placed old v) ∷ [] } → made ≡ Draws (place_of_vio old v) ∷ []
+      → posts ≡ []
+      → LogicalServes sizes old v new made posts
+  -- it has the lock: what is mapped at its address says where it goes
+  looks : (post : Post) → v.phase ≡ phase.Look → goes_on sizes old v ≡ Some post
+      → new ≡ old → made ≡ [] → posts ≡ post ∷ []
+      → LogicalServes sizes old v new made posts
+  -- its slot is set
+  settles : v.phase ≡ phase.Settle
+      → new ≡ released v.at.0 (with_slot old v) → made ≡ Sets (logged v) ∷ []
+      → posts ≡ (id.Desk, item.Request (ended phase.Reply reply.Ok v)) ∷ granted v.at.0 old
+      → LogicalServes sizes old v new made posts
+  -- it is given its bytes
+  gives : v.phase ≡ phase.Loaded
+      → new ≡ released v.at.0 old → made ≡ Gives (gift v) ∷ []
+      → posts ≡ (id.Desk, item.Request (ended phase.Reply (reply.Bytes v.bytes) v)) ∷ granted v.at.0 old
+      → LogicalServes sizes old v new made posts
+  -- it is aborted
+  aborts : v.phase ≡ phase.Abort
+      → new ≡ released v.at.0 old → made ≡ []
+      → posts ≡ (id.Desk, item.Request (turned phase.Reply v)) ∷ granted v.at.0 old
+      → LogicalServes sizes old v new made posts
+  -- it is aborted with its entry handed in
+  aborts_entered : v.phase ≡ phase.AbortEntered
+      → new ≡ retire v.at.0 old → made ≡ Aborts (logged v) ∷ []
+      → posts ≡ (id.Desk, item.Request (turned phase.Reply v)) ∷ all_stopped (all_for v.at.0 old.waiting)
+      → LogicalServes sizes old v new made posts

@@ -1,8 +1,0 @@
-use Rattle.std.proofs.Common.{◌≡◌, ◌<◌, ℕ, Some, slice_get}
-use Rattle.core_model.specs.JournalData.{JournalZone}
-use Rattle.core_model.specs.declared.zones.Zone.{Zone}
-use Rattle.core_model.specs.declared.zones.ZoneData.TheVariants as at
-use Rattle.core_reports.proofs.listing.entries.Given as goal
-
-abbrev pub invariant-loop-zone : goal.invariant-loop-zone
-invariant-loop-zone l = (n : ℕ) (z : Zone) (j : JournalZone) → n < l.zone-index → slice_get l.zones n ≡ Some z → z.keeps ≡ at.Journal j → ⊥

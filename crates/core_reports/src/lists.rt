@@ -1,0 +1,69 @@
+ghost use Rattle.std.specs.Prelude.{◌≡◌, ◌+◌, ◌≤◌, ◌++◌, List, [], length, reverse};
+ghost use Rattle.core_model.specs.DeskData.{Desk as DeskData};
+ghost use Rattle.core_model.specs.SessionLimits.{most_requests};
+ghost use Rattle.data_vio.specs.declared.logged.Logged.{Logged as Entered};
+ghost use Rattle.core_reports.specs.Listed.{HasDesk, HasEntered, places_at, places_of_all};
+
+use core_model::{DeskReport, Zone, ZoneData};
+use data_vio::{Logged, REQUEST_ROOM, Register};
+use vdo_model::{Placed, Requests, ReportList};
+
+// Adds the places that a zone drew, the oldest first, while there is room for them.
+fn add_places(drawn: &[Placed], places: &mut Register<Placed, REQUEST_ROOM>)
+    ensures { length places.old + length drawn.now ≤ most_requests → places.new ≡ reverse drawn.now ++ places.old }
+{
+    for placed in drawn {
+        if places.len() < REQUEST_ROOM {
+            places.push(*placed);
+        }
+    }
+}
+
+// The places that a zone drew, the oldest first.
+fn drawn(zone: &Zone) -> &[Placed]
+    ensures { places_at zone.now.keeps ≡ reverse result.now }
+{
+    match &zone.keeps {
+        ZoneData::Logical(logical) => logical.places(),
+        _ => &[],
+    }
+}
+
+/// Lists the places of all zones, in their order.
+pub(crate) fn list_places(zones: &[Zone], places: &mut Register<Placed, REQUEST_ROOM>)
+    ensures { places.old ≡ [] → length (places_of_all zones.now) ≤ most_requests → places.new ≡ places_of_all zones.now }
+{
+    for zone in zones {
+        add_places(drawn(zone), places);
+    }
+}
+
+/// The entries that the journal handed in, the oldest first.
+pub(crate) fn entries(zones: &[Zone]) -> &[Logged]
+    ensures { (entries : List Entered) → HasEntered entries zones.now → reverse result.now ≡ entries }
+{
+    for zone in zones {
+        if let ZoneData::Journal(journal) = &zone.keeps {
+            return journal.entered();
+        }
+    }
+    &[]
+}
+
+/// What a report has of the desk.
+pub(crate) fn desk_report(mut zones: Vec<Zone>) -> DeskReport
+    ensures { (desk : DeskData) → HasDesk desk zones.items → result ≡ record { requests = desk.requests; log = desk.log; marks = desk.marks } }
+{
+    let alloc = *zones.allocator();
+    if !zones.is_empty() {
+        let Zone { keeps, .. } = zones.swap_remove(0);
+        if let ZoneData::Desk(desk) = keeps {
+            return desk.into_list();
+        }
+    }
+    DeskReport {
+        requests: Requests::new(alloc),
+        log: ReportList::new(alloc),
+        marks: ReportList::new(alloc),
+    }
+}

@@ -1,0 +1,38 @@
+ghost use Rattle.std.specs.Prelude.{◌≡◌};
+ghost use Rattle.vdo_model.specs.DeskLog.{AllAnswered};
+ghost use Rattle.core_model.specs.Legal.{Legal};
+ghost use Rattle.core_model.specs.Reports.{report_of};
+ghost use Rattle.core_model.specs.Sessions.{IsSession, Session};
+ghost use Rattle.core_model.specs.Trace.{Trace, lines};
+ghost use Rattle.core_reports.specs.Rooms.{IsRoomFor};
+
+use crate::histories::list_histories;
+use crate::lists::{desk_report, list_places};
+use crate::room::ReportRoom;
+use core_model::Zone;
+use vdo_model::RunReport;
+
+/// The report of a core that is done: its requests, desk log and marks are moved out of the desk, its places are those
+/// of the zones, one zone's behind the other's, and its histories have an entry for each write that has a place. It asks
+/// for no memory; its time is linear in the requests, for each of the 16 streams. Of a core that isn't legal, or isn't
+/// done, it gives some report.
+pub fn report(zones: Vec<Zone>, room: ReportRoom) -> RunReport
+    ensures { (s : Session) (t : Trace) → IsSession s → Legal s (record { zones = zones.items; trace = t }) → AllAnswered s.script (lines t)
+        → IsRoomFor room s.script → result ≡ report_of s t }
+{
+    let ReportRoom {
+        mut places,
+        mut histories,
+        mut notes,
+    } = room;
+    list_places(&zones, &mut places);
+    list_histories(&zones, places.as_slice(), &mut notes, &mut histories);
+    let desk = desk_report(zones);
+    RunReport {
+        requests: desk.requests,
+        desk: desk.log,
+        marks: desk.marks,
+        places: places.into_list(),
+        histories: histories.into_list(),
+    }
+}

@@ -1,0 +1,67 @@
+-- The phases of a request and the stages of a sealed block, with one line for each: the table of docs/DESIGN.md.
+use Rattle.std.specs.Prelude.{ℕ, Bool, true, false}
+use Rattle.blk_base.specs.declared.place.ZoneId.{ZoneId}
+use Rattle.blk_base.specs.declared.place.ZoneId.TheVariants as id
+use Rattle.data_vio.specs.declared.items.Phase.{Phase}
+use Rattle.data_vio.specs.declared.items.Phase.TheVariants as phase
+use Rattle.data_vio.specs.declared.items.Stage.{Stage}
+use Rattle.data_vio.specs.declared.items.Stage.TheVariants as stage
+use Rattle.data_vio.specs.declared.sizes.Sizes.{Sizes}
+use Rattle.data_vio.specs.Zones.{zone_number, zone_count}
+
+-- where a phase is done; a request that waits is in no lane
+pub data Where : Type 0 where
+  AtDesk : Where
+  AtHome : Where
+  AtPhysical : Where
+  AtJournal : Where
+  AtDevice : Where
+  InNoLane : Where
+
+-- Where a phase is done; whether the request holds the lock of its address, has a data block that no entry names, has yet to
+-- draw its place, and has an entry that was handed in and of which neither the slot is set nor the address retired.
+pub record PhaseRow : Type 0 where
+  pub zone : Where
+  pub locks : Bool
+  pub claims : Bool
+  pub arrives : Bool
+  pub entered : Bool
+
+abbrev pub row : Phase → PhaseRow
+row phase.Arrive = record { zone = AtHome; locks = false; claims = false; arrives = true; entered = false }
+row phase.Wait = record { zone = InNoLane; locks = false; claims = false; arrives = false; entered = false }
+row phase.Look = record { zone = AtHome; locks = true; claims = false; arrives = false; entered = false }
+row phase.Claim = record { zone = AtPhysical; locks = true; claims = false; arrives = false; entered = false }
+row phase.Store = record { zone = AtDevice; locks = true; claims = true; arrives = false; entered = false }
+row phase.Enter = record { zone = AtJournal; locks = true; claims = true; arrives = false; entered = false }
+row phase.Pending = record { zone = InNoLane; locks = true; claims = false; arrives = false; entered = true }
+row phase.Settle = record { zone = AtHome; locks = true; claims = false; arrives = false; entered = true }
+row phase.Load = record { zone = AtDevice; locks = true; claims = false; arrives = false; entered = false }
+row phase.Loaded = record { zone = AtHome; locks = true; claims = false; arrives = false; entered = false }
+row phase.AbortClaim = record { zone = AtPhysical; locks = true; claims = false; arrives = false; entered = false }
+row phase.Abort = record { zone = AtHome; locks = true; claims = false; arrives = false; entered = false }
+row phase.AbortEnteredClaim = record { zone = AtPhysical; locks = true; claims = false; arrives = false; entered = true }
+row phase.AbortEntered = record { zone = AtHome; locks = true; claims = false; arrives = false; entered = true }
+row phase.Flush = record { zone = AtDevice; locks = false; claims = false; arrives = false; entered = false }
+row phase.Reply = record { zone = AtDesk; locks = false; claims = false; arrives = false; entered = false }
+
+-- the number of the zone there, for a request of this home; where it is in no lane, none to a zone's number
+abbrev pub number_at : Sizes → ZoneId → Where → ℕ
+number_at sizes home AtDesk = zone_number sizes id.Desk
+number_at sizes home AtHome = zone_number sizes home
+number_at sizes home AtPhysical = zone_number sizes (id.Physical 0)
+number_at sizes home AtJournal = zone_number sizes id.Journal
+number_at sizes home AtDevice = zone_number sizes id.Device
+number_at sizes home InNoLane = zone_count sizes
+
+-- the zone where a stage is done, and the stage behind it; at Commit and at Fail the block's way ends
+pub record StageRow : Type 0 where
+  pub zone : ZoneId
+  pub next : Stage
+
+abbrev pub stage_row : Stage → StageRow
+stage_row stage.Cover = record { zone = id.Device; next = stage.Write }
+stage_row stage.Write = record { zone = id.Device; next = stage.Harden }
+stage_row stage.Harden = record { zone = id.Device; next = stage.Commit }
+stage_row stage.Commit = record { zone = id.Journal; next = stage.Commit }
+stage_row stage.Fail = record { zone = id.Journal; next = stage.Fail }

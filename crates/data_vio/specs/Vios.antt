@@ -1,0 +1,91 @@
+-- A request under way: what it asked, and what becomes of it.
+use Rattle.std.specs.Prelude.{ℕ, false, None, Some, List, [], ◌∷◌, ◌++◌}
+use Rattle.blk_base.specs.declared.place.Lba.{Lba}
+use Rattle.blk_base.specs.declared.place.Mapping.TheVariants.{Unmapped}
+use Rattle.blk_base.specs.declared.place.ZoneId.{ZoneId}
+use Rattle.blk_base.specs.declared.place.ZoneId.TheVariants as id
+use Rattle.blk_base.specs.declared.request.Answer.{Answer}
+use Rattle.blk_base.specs.declared.request.Request.{Request}
+use Rattle.blk_base.specs.declared.request.Request.TheVariants as request
+use Rattle.blk_base.specs.declared.request.Writer.{Writer}
+use Rattle.vdo_model.specs.Places.{zone_of}
+use Rattle.data_vio.specs.declared.items.Asks.{Asks}
+use Rattle.data_vio.specs.declared.items.Asks.TheVariants.{Read, Write, Discard, Flush}
+use Rattle.data_vio.specs.declared.items.Item.{Item}
+use Rattle.data_vio.specs.declared.items.Phase.{Phase}
+use Rattle.data_vio.specs.declared.items.Phase.TheVariants as phase
+use Rattle.data_vio.specs.declared.items.SealedBlock.{SealedBlock}
+use Rattle.data_vio.specs.declared.items.Stage.{Stage}
+use Rattle.data_vio.specs.declared.items.Vio.{Vio}
+use Rattle.data_vio.specs.declared.sizes.Sizes.{Sizes}
+use Rattle.data_vio.specs.declared.logged.Logged.{Logged}
+use Rattle.blk_base.specs.declared.journal_entry.Entry.{Entry}
+use Rattle.blk_base.specs.declared.journal_entry.Entry.TheVariants.{Remap}
+
+-- a read that was given the bytes of its address
+pub record Gift : Type 0 where
+  pub request : Writer
+  pub at : Lba
+  pub place : ℕ
+  pub bytes : List ℕ
+
+-- the entry of the journal, and those of the journal
+abbrev pub entry_of : Logged → Entry
+entry_of e = Remap e.at e.old e.new
+
+-- an item, with the zone that it goes to
+abbrev pub Post : Type 0
+Post = ZoneId × Item
+
+-- the request of the script that asks for this
+abbrev pub asked : Asks → Lba → List ℕ → Request
+asked Read at bytes = request.Read at
+asked Write at bytes = request.Write at bytes false
+asked Discard at bytes = request.Discard at
+asked Flush at bytes = request.Flush
+
+abbrev pub request_of : Vio → Request
+request_of v = asked v.asks v.at v.bytes
+
+-- a request for an address when it is begun
+abbrev pub begun_vio : Sizes → Writer → Asks → Lba → List ℕ → Vio
+begun_vio sizes w asks at bytes =
+    record {
+      request = w;
+      asks = asks;
+      at = at;
+      home = id.Logical (zone_of sizes.zones at.0);
+      phase = phase.Arrive;
+      bytes = bytes;
+      place = 0;
+      old = Unmapped;
+      latest = None;
+      new = Unmapped;
+      answer = None;
+      calls = 0;
+    }
+
+-- it goes on to another phase
+abbrev pub turned : Phase → Vio → Vio
+turned next v = record v { phase = next }
+
+-- it is to be answered so, and goes on to another phase
+abbrev pub ended : Phase → Answer → Vio → Vio
+ended next answer v = record v { phase = next; answer = Some answer }
+
+-- the entry that it hands in
+abbrev pub logged : Vio → Logged
+logged v = record { request = v.request; at = v.at; place = v.place; old = v.old; new = v.new }
+
+-- the entries that requests hand in, the oldest request first: the newest entry first
+abbrev pub all_logged : List Vio → List Logged
+all_logged [] = []
+all_logged (v ∷ vs) = all_logged vs ++ logged v ∷ []
+
+-- what it was given
+abbrev pub gift : Vio → Gift
+gift v = record { request = v.request; at = v.at; place = v.place; bytes = v.bytes }
+
+-- a sealed block that has come further
+abbrev pub staged : Stage → SealedBlock → SealedBlock
+staged next b = record b { stage = next }

@@ -1,0 +1,143 @@
+ghost use Rattle.std.specs.Prelude.{◌≡◌, None, Some, IfOk};
+ghost use Rattle.blk_base.specs.declared.request.Answer.TheVariants as reply;
+ghost use Rattle.data_vio.specs.declared.items.Phase.TheVariants as phase;
+ghost use Rattle.data_vio.specs.Vios.{ended, entry_of, logged, turned};
+
+use crate::{Logged, Phase, Vio};
+use blk_base::{Answer, Block, Entry, Mapping};
+use std::alloc::{AllocError, Global};
+use std::marker::Model;
+
+/// A request under way in its box, by which the zones pass it on. A contract sees the request.
+#[derive(Drop)]
+pub struct BoxedVio {
+    vio: Box<Vio>,
+}
+
+impl Model for BoxedVio {
+    ghost use Rattle.data_vio.specs.declared.items.Vio.{Vio};
+
+    ghost Value = { Vio };
+
+    ghost view = { λ b. b.vio.value };
+}
+
+impl BoxedVio {
+    /// A box with this request.
+    pub fn new(alloc: Global, vio: Vio) -> Result<BoxedVio, AllocError>
+        ensures { IfOk result (λ boxed. boxed ≡ vio) }
+    {
+        Ok(BoxedVio {
+            vio: Box::new(alloc, vio)?,
+        })
+    }
+
+    /// The request.
+    pub fn get(&self) -> &Vio
+        ensures { result.now ≡ self.now }
+    {
+        &self.vio
+    }
+
+    /// Another request in the same box.
+    pub fn put(&mut self, vio: Vio)
+        ensures { self.new ≡ vio }
+    {
+        *self.vio = vio;
+    }
+
+    /// It goes on to another phase.
+    pub fn turn(mut self, phase: Phase) -> BoxedVio
+        ensures { result ≡ turned phase self }
+    {
+        self.vio.phase = phase;
+        self
+    }
+
+    /// It is to be answered so, and goes on to another phase.
+    pub fn end(mut self, phase: Phase, answer: Answer) -> BoxedVio
+        ensures { result ≡ ended phase answer self }
+    {
+        self.vio.phase = phase;
+        self.vio.answer = Some(answer);
+        self
+    }
+
+    /// It has drawn its place.
+    pub fn draw(mut self, place: u64) -> BoxedVio
+        ensures { result ≡ record self { place = place } }
+    {
+        self.vio.place = place;
+        self
+    }
+
+    /// It knows what its address is mapped to, and the last write of it that was done in the session.
+    pub fn look(mut self, old: Mapping, latest: Option<Logged>) -> BoxedVio
+        ensures { result ≡ record self { old = old; latest = latest } }
+    {
+        self.vio.old = old;
+        self.vio.latest = latest;
+        self
+    }
+
+    /// It is known what it maps its address to, and it goes on to another phase.
+    pub fn map_to(mut self, phase: Phase, new: Mapping) -> BoxedVio
+        ensures { result ≡ record self { phase = phase; new = new } }
+    {
+        self.vio.phase = phase;
+        self.vio.new = new;
+        self
+    }
+
+    /// A read has got these bytes.
+    pub fn load(mut self, bytes: Block) -> BoxedVio
+        ensures { result ≡ record self { phase = phase.Loaded; bytes = bytes } }
+    {
+        self.vio.phase = Phase::Loaded;
+        self.vio.bytes = bytes;
+        self
+    }
+
+    /// A flush returned when so many calls of the device had succeeded.
+    pub fn mark(mut self, calls: u64) -> BoxedVio
+        ensures { result ≡ record self { phase = phase.Reply; answer = Some reply.Ok; calls = calls } }
+    {
+        self.vio.phase = Phase::Reply;
+        self.vio.answer = Some(Answer::Ok);
+        self.vio.calls = calls;
+        self
+    }
+
+    /// What it is to be answered with, which leaves it.
+    pub fn take_answer(&mut self) -> Option<Answer>
+        ensures answer { result ≡ self.old.answer }
+        ensures left { self.new ≡ record self.old { answer = None } }
+    {
+        self.vio.answer.take()
+    }
+
+    /// The entry that it hands in, as the journal has it.
+    pub fn entry(&self) -> Entry
+        ensures { result ≡ entry_of (logged self.now) }
+    {
+        let vio = self.get();
+        Entry::Remap {
+            at: vio.at,
+            old: vio.old,
+            new: vio.new,
+        }
+    }
+
+    /// The entry that it hands in, with its request and place.
+    pub fn logged(&self) -> Logged
+        ensures { result ≡ logged self.now }
+    {
+        Logged {
+            request: self.vio.request,
+            at: self.vio.at,
+            place: self.vio.place,
+            old: self.vio.old,
+            new: self.vio.new,
+        }
+    }
+}

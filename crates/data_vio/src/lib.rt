@@ -1,0 +1,27 @@
+//! A request under way, as the zones pass it on: what it asked, how far it has come, its box, and the lists with room in
+//! which zones keep such boxes.
+//!
+//! `specs/Phases` has a line for each phase, `specs/Zones` the zones by their names and numbers, `specs/Vios` what becomes
+//! of a request.
+//!
+//! Only tested: as part of the core.
+#![tactic(auto)]
+
+mod boxed;
+mod fifo;
+mod items;
+mod limits;
+mod logged;
+mod register;
+mod sizes;
+
+pub use boxed::BoxedVio;
+pub use fifo::Fifo;
+pub use items::{Asks, Item, Phase, SealedBlock, Stage, Vio};
+pub use limits::{
+    BLOCK_ENTRIES, LANE_ROOM, LOCK_ROOM, MOST_DEPTH, MOST_ITEMS, MOST_NOTICES, MOST_REQUESTS,
+    MOST_STREAMS, MOST_UNDER_WAY, MOST_ZONES, POST_ROOM, REQUEST_ROOM,
+};
+pub use logged::Logged;
+pub use register::Register;
+pub use sizes::Sizes;

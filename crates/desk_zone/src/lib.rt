@@ -1,0 +1,11 @@
+//! The desk: what it does with the item in front of its inbox, and with none. Requests are begun and answered here.
+//!
+//! Only tested: as part of the core.
+#![tactic(auto)]
+
+mod dispatch;
+mod replies;
+mod beginnings;
+
+pub use dispatch::act;
+pub use beginnings::{begin_next, may_begin};

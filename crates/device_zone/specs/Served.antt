@@ -1,0 +1,34 @@
+-- What the device's zone can serve.
+use Rattle.std.specs.Prelude.{⊤, ◌≡◌, ◌<◌, ◌≤◌, ◌-◌, ◌^◌, false, [], List}
+use Rattle.blk_base.specs.declared.place.Mapping.{Mapping}
+use Rattle.blk_base.specs.declared.place.Mapping.TheVariants.{At}
+use Rattle.disk_model.specs.Seen.{Seen}
+use Rattle.data_vio.specs.declared.items.Phase.{Phase}
+use Rattle.data_vio.specs.declared.items.Phase.TheVariants as phase
+use Rattle.data_vio.specs.declared.items.Vio.{Vio}
+use Rattle.data_vio.specs.declared.sizes.Sizes.{Sizes}
+use Rattle.core_model.specs.declared.zones.DeviceZone.{DeviceZone}
+use Rattle.core_model.specs.DeviceRules.{IsInside}
+use Rattle.core_model.specs.SessionLimits.{most_zones}
+use Rattle.data_vio.specs.Vios.{Post}
+use Rattle.device_zone.specs.DeviceCalls.{Fits}
+
+-- One more call can be counted, an image of these sizes fits on the device, each zone can be told of a stop, and nothing is
+-- posted yet.
+pub record MayServe (sizes : Sizes) (zone : DeviceZone) (seen : Seen) (posts : List Post) : Type 0 where
+  pub counts : zone.calls < 2 ^ 64 - 1
+  pub fits : Fits sizes seen
+  pub few : sizes.zones ≤ most_zones
+  pub none : posts ≡ []
+
+-- a block inside an image of these sizes
+abbrev pub IsAtInside : Sizes → Mapping → Type 0
+IsAtInside sizes (At x) = IsInside sizes x
+IsAtInside sizes other = ⊥
+
+-- a request in this phase can be served: where the device is called for its data, that lies inside the image
+abbrev pub CanServe : Sizes → DeviceZone → Vio → Phase → Type 0
+CanServe sizes d v phase.Store = d.stopped ≡ false → IsAtInside sizes v.new
+CanServe sizes d v phase.Load = IsAtInside sizes v.old
+CanServe sizes d v phase.Flush = ⊤
+CanServe sizes d v other = ⊥

@@ -1,0 +1,176 @@
+ghost use Rattle.std.specs.Prelude.{◌≡◌, false};
+ghost use Rattle.blk_base.specs.declared.place.Mapping.TheVariants.{At};
+ghost use Rattle.disk_model.specs.Seen.{Stays};
+ghost use Rattle.core_model.specs.DeviceRules as rows;
+ghost use Rattle.core_model.specs.DeviceRules.{DeviceServes};
+ghost use Rattle.core_model.specs.Trace.{Trace};
+ghost use Rattle.data_vio.specs.declared.items.Phase.TheVariants as phase;
+ghost use Rattle.step_parts.specs.DeviceLog.{HasCalled};
+ghost use Rattle.device_zone.specs.Served.{CanServe, MayServe};
+
+use crate::device_calls::{flush, read_block, write_block};
+use crate::stop_notices::halt;
+use blk_base::{Answer, Block, Mapping, Pbn, ZoneId};
+use core_model::DeviceZone;
+use data_vio::{BoxedVio, Item, Phase, Sizes};
+use disk_model::Disk;
+use step_parts::Posts;
+
+// The data of a write.
+fn store<D: Disk>(
+    sizes: &Sizes,
+    zone: &mut DeviceZone,
+    vio: BoxedVio,
+    block: Pbn,
+    disk: &mut D,
+    posts: &mut Posts,
+)
+    requires phase { vio.phase ≡ phase.Store }
+    requires block { vio.new ≡ At block }
+    requires inside { rows.IsInside sizes.now block }
+    requires runs { zone.old.stopped ≡ false }
+    requires may { MayServe sizes.now zone.old (D.seen disk.old) posts.old }
+    ensures stays { Stays (D.seen disk.old) (D.seen disk.new) }
+    ensures serves { (made : Trace) × DeviceServes sizes.now zone.old vio zone.new made posts.new
+        × HasCalled D.tells D.honest (D.seen disk.old) (D.seen disk.new) made }
+{
+    let Ok(()) = write_block(disk, block, &vio.get().bytes) else {
+        let failed = vio.end(Phase::AbortClaim, Answer::Stopped);
+        halt(
+            sizes,
+            zone,
+            ZoneId::Physical(0),
+            Item::Request(failed),
+            posts,
+        );
+        return;
+    };
+    zone.calls += 1;
+    posts.first(ZoneId::Journal, Item::Request(vio.turn(Phase::Enter)));
+}
+
+// The block of a read.
+fn load<D: Disk>(
+    sizes: &Sizes,
+    zone: &mut DeviceZone,
+    vio: BoxedVio,
+    block: Pbn,
+    disk: &mut D,
+    posts: &mut Posts,
+)
+    requires phase { vio.phase ≡ phase.Load }
+    requires block { vio.old ≡ At block }
+    requires inside { rows.IsInside sizes.now block }
+    requires may { MayServe sizes.now zone.old (D.seen disk.old) posts.old }
+    ensures stays { Stays (D.seen disk.old) (D.seen disk.new) }
+    ensures serves { (made : Trace) × DeviceServes sizes.now zone.old vio zone.new made posts.new
+        × HasCalled D.tells D.honest (D.seen disk.old) (D.seen disk.new) made }
+{
+    let home = vio.get().home;
+    let mut bytes = Block::zero();
+    let Ok(()) = read_block(disk, block, &mut bytes) else {
+        let failed = vio.end(Phase::Abort, Answer::ReadFault);
+        posts.first(home, Item::Request(failed));
+        return;
+    };
+    zone.calls += 1;
+    posts.first(home, Item::Request(vio.load(bytes)));
+}
+
+// A flush request.
+fn flush_for<D: Disk>(
+    sizes: &Sizes,
+    zone: &mut DeviceZone,
+    vio: BoxedVio,
+    disk: &mut D,
+    posts: &mut Posts,
+)
+    requires phase { vio.phase ≡ phase.Flush }
+    requires may { MayServe sizes.now zone.old (D.seen disk.old) posts.old }
+    ensures stays { Stays (D.seen disk.old) (D.seen disk.new) }
+    ensures serves { (made : Trace) × DeviceServes sizes.now zone.old vio zone.new made posts.new
+        × HasCalled D.tells D.honest (D.seen disk.old) (D.seen disk.new) made }
+{
+    if zone.stopped {
+        let unmade = vio.end(Phase::Reply, Answer::Stopped);
+        posts.first(ZoneId::Desk, Item::Request(unmade));
+        return;
+    }
+    let Ok(()) = flush(disk) else {
+        let failed = vio.end(Phase::Reply, Answer::Stopped);
+        halt(sizes, zone, ZoneId::Desk, Item::Request(failed), posts);
+        return;
+    };
+    zone.calls += 1;
+    posts.first(ZoneId::Desk, Item::Request(vio.mark(zone.calls)));
+}
+
+// The data of a write, which isn't written once the session is stopped.
+fn serve_store<D: Disk>(
+    sizes: &Sizes,
+    zone: &mut DeviceZone,
+    vio: BoxedVio,
+    disk: &mut D,
+    posts: &mut Posts,
+)
+    requires phase { vio.phase ≡ phase.Store }
+    requires can { CanServe sizes.now zone.old vio phase.Store }
+    requires may { MayServe sizes.now zone.old (D.seen disk.old) posts.old }
+    ensures stays { Stays (D.seen disk.old) (D.seen disk.new) }
+    ensures serves { (made : Trace) × DeviceServes sizes.now zone.old vio zone.new made posts.new
+        × HasCalled D.tells D.honest (D.seen disk.old) (D.seen disk.new) made }
+{
+    if zone.stopped {
+        let unmade = vio.end(Phase::AbortClaim, Answer::Stopped);
+        posts.first(ZoneId::Physical(0), Item::Request(unmade));
+        return;
+    }
+    let Mapping::At(block) = vio.get().new else {
+        unreachable!();
+    };
+    store(sizes, zone, vio, block, disk, posts);
+}
+
+// The block of a read.
+fn serve_load<D: Disk>(
+    sizes: &Sizes,
+    zone: &mut DeviceZone,
+    vio: BoxedVio,
+    disk: &mut D,
+    posts: &mut Posts,
+)
+    requires phase { vio.phase ≡ phase.Load }
+    requires can { CanServe sizes.now zone.old vio phase.Load }
+    requires may { MayServe sizes.now zone.old (D.seen disk.old) posts.old }
+    ensures stays { Stays (D.seen disk.old) (D.seen disk.new) }
+    ensures serves { (made : Trace) × DeviceServes sizes.now zone.old vio zone.new made posts.new
+        × HasCalled D.tells D.honest (D.seen disk.old) (D.seen disk.new) made }
+{
+    let Mapping::At(block) = vio.get().old else {
+        unreachable!();
+    };
+    load(sizes, zone, vio, block, disk, posts);
+}
+
+/// What the device's zone does with a request in front of its inbox. It makes one call of the device, or none.
+pub(crate) fn call_device<D: Disk>(
+    sizes: &Sizes,
+    zone: &mut DeviceZone,
+    vio: BoxedVio,
+    disk: &mut D,
+    posts: &mut Posts,
+)
+    requires can { CanServe sizes.now zone.old vio vio.phase }
+    requires may { MayServe sizes.now zone.old (D.seen disk.old) posts.old }
+    ensures stays { Stays (D.seen disk.old) (D.seen disk.new) }
+    ensures serves { (made : Trace) × DeviceServes sizes.now zone.old vio zone.new made posts.new
+        × HasCalled D.tells D.honest (D.seen disk.old) (D.seen disk.new) made }
+{
+    let phase = vio.get().phase;
+    match phase {
+        Phase::Store => serve_store(sizes, zone, vio, disk, posts),
+        Phase::Load => serve_load(sizes, zone, vio, disk, posts),
+        Phase::Flush => flush_for(sizes, zone, vio, disk, posts),
+        _ => unreachable!(),
+    }
+}

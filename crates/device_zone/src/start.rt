@@ -1,0 +1,16 @@
+ghost use Rattle.core_model.specs.declared.zones.ZoneData.TheVariants as at;
+ghost use Rattle.data_vio.specs.Zones.{device_number};
+ghost use Rattle.core_model.specs.Sessions.{Session};
+ghost use Rattle.core_model.specs.Start.{IsFirstData};
+
+use core_model::DeviceZone;
+
+/// The device's zone at the start of a session: it made no call.
+pub fn first() -> DeviceZone
+    ensures { (s : Session) → IsFirstData s (device_number s.sizes) (at.Device result) }
+{
+    DeviceZone {
+        stopped: false,
+        calls: 0,
+    }
+}

@@ -1,0 +1,35 @@
+ghost use Rattle.std.specs.Prelude.{◌≡◌, ◌+◌, ◌≤◌, [], ◌∷◌, ◌++◌, length};
+ghost use Rattle.core_model.specs.DeviceRules as rows;
+ghost use Rattle.core_model.specs.SessionLimits.{most_zones};
+ghost use Rattle.data_vio.specs.Zones.{logical_zones, notified};
+
+use blk_base::ZoneId;
+use core_model::DeviceZone;
+use data_vio::{Item, POST_ROOM, Sizes};
+use step_parts::Posts;
+
+// The stop notice, to the logical zones, the last of them first.
+fn notify_logical(sizes: &Sizes, posts: &mut Posts)
+    requires { length posts.old + sizes.now.zones ≤ POST_ROOM }
+    ensures { posts.new ≡ posts.old ++ rows.stop_notices (logical_zones sizes.now.zones) }
+{
+    let mut left = sizes.zones;
+    while left > 0 {
+        left -= 1;
+        posts.push(ZoneId::Logical(u32::from(left)), Item::StopNotice);
+    }
+}
+
+/// A call failed: the session is stopped. This item goes on, and the stop notice to every zone that passes it on.
+pub(crate) fn halt(sizes: &Sizes, zone: &mut DeviceZone, to: ZoneId, item: Item, posts: &mut Posts)
+    requires few { sizes.now.zones ≤ most_zones }
+    requires none { posts.old ≡ [] }
+    ensures zone { zone.new ≡ rows.halted zone.old }
+    ensures posts { posts.new ≡ (to, item) ∷ rows.stop_notices (notified sizes.now) }
+{
+    zone.stopped = true;
+    posts.first(to, item);
+    posts.push(ZoneId::Journal, Item::StopNotice);
+    posts.push(ZoneId::Physical(0), Item::StopNotice);
+    notify_logical(sizes, posts);
+}

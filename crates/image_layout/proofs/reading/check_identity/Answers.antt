@@ -1,5 +1,0 @@
-use Rattle.std.proofs.Common.{rules}
-use Rattle.image_layout.proofs.reading.check_identity.Goals as goal
-
-pub returns : goal.returns
-returns c = search rules

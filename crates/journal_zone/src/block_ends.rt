@@ -1,0 +1,122 @@
+ghost use Rattle.std.specs.Prelude.{◌≡◌, [], ◌∷◌, false, true};
+ghost use Rattle.blk_base.specs.declared.place.ZoneId.TheVariants as id;
+ghost use Rattle.blk_base.specs.declared.request.Answer.TheVariants.{Stopped};
+ghost use Rattle.core_model.specs.JournalRules as rows;
+ghost use Rattle.core_model.specs.JournalRules.{HasNext, IsSealable, JournalEnds};
+ghost use Rattle.core_model.specs.Limits.{IsJournalWithin};
+ghost use Rattle.core_model.specs.Trace.{Trace};
+ghost use Rattle.data_vio.specs.declared.items.Item.TheVariants.{Block, Request, StopNotice};
+ghost use Rattle.data_vio.specs.declared.items.Phase.TheVariants.{Settle};
+ghost use Rattle.data_vio.specs.declared.items.Stage.TheVariants.{Commit, Cover, Fail};
+ghost use Rattle.step_parts.specs.Rules.{Applies};
+
+use crate::dropped::{drop_block, drop_filling};
+use crate::refusals::{refuse_waiting, send_again};
+use blk_base::ZoneId;
+use core_model::JournalZone;
+use data_vio::{BoxedVio, Item, Phase, SealedBlock, Sizes, Stage};
+use step_parts::Posts;
+
+// The oldest entry of a block is committed, and the block goes round with the others.
+// One entry a step: so what a step posts is bounded, and the entries go to their slots in the order of their points.
+fn commit(zone: &mut JournalZone, vio: BoxedVio, block: SealedBlock, posts: &mut Posts)
+    requires next { HasNext zone.old.log }
+    requires within { IsJournalWithin zone.old }
+    requires none { posts.old ≡ [] }
+    ensures zone { zone.new ≡ rows.committed_by vio zone.old }
+    ensures posts { posts.new ≡ rows.hands_out vio ∷ (id.Journal, Block block) ∷ [] }
+{
+    zone.commit(&vio);
+    let home = vio.get().home;
+    posts.first(home, Item::Request(vio.turn(Phase::Settle)));
+    posts.push(ZoneId::Journal, Item::Block(block));
+}
+
+// No block is filled: none goes round any more.
+fn come_to_rest(zone: &mut JournalZone, block: SealedBlock, posts: &mut Posts)
+    requires done { block.vios ≡ [] }
+    requires within { IsJournalWithin zone.old }
+    requires none { posts.old ≡ [] }
+    ensures zone { zone.new ≡ record zone.old { busy = false; waiting = [] } }
+    ensures posts { posts.new ≡ rows.all_again zone.old.waiting }
+{
+    zone.rest(block);
+    send_again(zone, posts);
+}
+
+// The next block is sealed, and those that waited for it come again.
+fn seal_next(zone: &mut JournalZone, block: SealedBlock, posts: &mut Posts)
+    requires done { block.vios ≡ [] }
+    requires due { IsSealable zone.old.log }
+    requires within { IsJournalWithin zone.old }
+    requires none { posts.old ≡ [] }
+    ensures zone { zone.new ≡ rows.sealed_by zone.old }
+    ensures posts { posts.new ≡ (id.Device, Block (rows.next_block zone.old Cover zone.old.filling)) ∷ rows.all_again zone.old.waiting }
+{
+    let sealed = zone.seal(block);
+    posts.first(ZoneId::Device, Item::Block(sealed));
+    send_again(zone, posts);
+}
+
+// The entries of a block are all committed: the next one is sealed, or there is none.
+fn go_on(sizes: &Sizes, zone: &mut JournalZone, block: SealedBlock, posts: &mut Posts)
+    requires stage { block.stage ≡ Commit }
+    requires done { block.vios ≡ [] }
+    requires rule { Applies (JournalEnds sizes.now zone.old block) }
+    requires within { IsJournalWithin zone.old }
+    requires none { posts.old ≡ [] }
+    ensures { (made : Trace) × JournalEnds sizes.now zone.old block zone.new made posts.new }
+{
+    if zone.is_unfilled() {
+        come_to_rest(zone, block, posts);
+    } else {
+        seal_next(zone, block, posts);
+    }
+}
+
+// A block failed: no entry is handed in any more.
+fn end_failed(sizes: &Sizes, zone: &mut JournalZone, mut block: SealedBlock, posts: &mut Posts)
+    requires stage { block.stage ≡ Fail }
+    requires within { IsJournalWithin zone.old }
+    requires none { posts.old ≡ [] }
+    ensures { JournalEnds sizes.now zone.old block zone.new [] posts.new }
+{
+    drop_block(&mut block.vios, posts);
+    drop_filling(zone, posts);
+    refuse_waiting(sizes, zone, posts);
+    zone.fail(block);
+}
+
+/// What the journal does with a block in front of its inbox, to which a rule applies.
+pub(crate) fn end_block(
+    sizes: &Sizes,
+    zone: &mut JournalZone,
+    mut block: SealedBlock,
+    posts: &mut Posts,
+)
+    requires rule { Applies (JournalEnds sizes.now zone.old block) }
+    requires within { IsJournalWithin zone.old }
+    requires none { posts.old ≡ [] }
+    ensures { (made : Trace) × JournalEnds sizes.now zone.old block zone.new made posts.new }
+{
+    match block.stage {
+        Stage::Commit => match block.vios.pop() {
+            Some(vio) => commit(zone, vio, block, posts),
+            None => go_on(sizes, zone, block, posts),
+        },
+        Stage::Fail => end_failed(sizes, zone, block, posts),
+        _ => unreachable!(),
+    }
+}
+
+/// The stop notice comes to the journal, which passes it on. Those that wait are aborted.
+pub(crate) fn hear_stop(sizes: &Sizes, zone: &mut JournalZone, posts: &mut Posts)
+    requires within { IsJournalWithin zone.old }
+    requires none { posts.old ≡ [] }
+    ensures zone { zone.new ≡ record zone.old { notified = true; waiting = [] } }
+    ensures posts { posts.new ≡ (id.Desk, StopNotice) ∷ rows.all_refused sizes.now Stopped zone.old.waiting }
+{
+    zone.hear_stop();
+    posts.first(ZoneId::Desk, Item::StopNotice);
+    refuse_waiting(sizes, zone, posts);
+}

@@ -1,0 +1,34 @@
+-- What a logical zone did is an act, and it doesn't call the device.
+use Rattle.std.proofs.Common.{◌≡◌, List, [], ◌∷◌, true, refl}
+use Rattle.blk_base.specs.declared.place.ZoneId.TheVariants as id
+use Rattle.data_vio.specs.declared.items.Item.TheVariants as item
+use Rattle.data_vio.specs.declared.items.Vio.{Vio}
+use Rattle.data_vio.specs.declared.sizes.Sizes.{Sizes}
+use Rattle.core_model.specs.declared.zones.ZoneData.TheVariants as at
+use Rattle.core_model.specs.LogicalData.{LogicalZone}
+use Rattle.core_model.specs.LogicalRules.{LogicalServes}
+use Rattle.core_model.specs.LogicalRules.LogicalServes.{arrives_retired, arrives_free, arrives_held, looks, settles, gives, aborts, aborts_entered}
+use Rattle.core_model.specs.Steps.Act.{serves, serves_notice}
+use Rattle.core_model.specs.Trace.{Trace}
+use Rattle.data_vio.specs.Vios.{Post}
+use Rattle.step_parts.specs.Acts.{ActsAlone}
+use Rattle.step_parts.proofs.SilentLaws.{Silent, none_called, silent}
+
+makes_no_call : (sizes : Sizes) (old new : LogicalZone) (v : Vio) (made : Trace) (posts : List Post) → LogicalServes sizes old v new made posts → Silent made
+makes_no_call sizes old new v made posts (arrives_retired h1 h2 h3 is h5) = silent _ _ is refl refl refl
+makes_no_call sizes old new v made posts (arrives_free h1 h2 h3 h4 is h6) = silent _ _ is refl refl refl
+makes_no_call sizes old new v made posts (arrives_held h1 h2 h3 h4 is h6) = silent _ _ is refl refl refl
+makes_no_call sizes old new v made posts (looks post h1 h2 h3 is h5) = silent _ _ is refl refl refl
+makes_no_call sizes old new v made posts (settles h1 h2 is h4) = silent _ _ is refl refl refl
+makes_no_call sizes old new v made posts (gives h1 h2 is h4) = silent _ _ is refl refl refl
+makes_no_call sizes old new v made posts (aborts h1 h2 is h4) = silent _ _ is refl refl refl
+makes_no_call sizes old new v made posts (aborts_entered h1 h2 is h4) = silent _ _ is refl refl refl
+
+pub acts : (sizes : Sizes) (old new : LogicalZone) (v : Vio) (posts : List Post)
+    → ((made : Trace) × LogicalServes sizes old v new made posts) → ActsAlone sizes (at.Logical old) (item.Request v ∷ []) (at.Logical new) posts
+acts sizes old new v posts (made, row) = (made, serves row, makes_no_call sizes old new v made posts row)
+
+-- it passes the stop notice on
+pub hears : (sizes : Sizes) (old new : LogicalZone) (posts : List Post)
+    → new ≡ record old { notified = true } → posts ≡ (id.Desk, item.StopNotice) ∷ [] → ActsAlone sizes (at.Logical old) (item.StopNotice ∷ []) (at.Logical new) posts
+hears sizes old new posts new_is posts_is = rw (new_is, posts_is) ([], serves_notice, none_called [] refl refl refl)

@@ -1,0 +1,27 @@
+-- What a rule of a logical zone serves, the zone can serve.
+use Rattle.std.proofs.Common.{List, [], ◌∷◌, sym, subst}
+use Rattle.data_vio.specs.declared.items.Item.TheVariants as item
+use Rattle.data_vio.specs.declared.items.Vio.{Vio}
+use Rattle.data_vio.specs.declared.sizes.Sizes.{Sizes}
+use Rattle.core_model.specs.declared.zones.ZoneData.TheVariants as at
+use Rattle.core_model.specs.LogicalData.{LogicalZone}
+use Rattle.core_model.specs.LogicalRules.{LogicalServes}
+use Rattle.core_model.specs.LogicalRules as logical
+use Rattle.core_model.specs.Steps as steps
+use Rattle.core_model.specs.Steps.{HasAct}
+use Rattle.core_model.specs.Trace.{Trace}
+use Rattle.data_vio.specs.Vios.{Post}
+use Rattle.logical_zone.specs.Served.{CanServe}
+
+serves : (sizes : Sizes) (old : LogicalZone) (v : Vio) (new : LogicalZone) (made : Trace) (posts : List Post) → LogicalServes sizes old v new made posts → CanServe sizes old v v.phase
+serves sizes old v new made posts (logical.arrives_retired p d h1 h2 h3) = subst (CanServe sizes old v) (sym p) tt
+serves sizes old v new made posts (logical.arrives_free p d f h1 h2 h3) = subst (CanServe sizes old v) (sym p) tt
+serves sizes old v new made posts (logical.arrives_held p d f h1 h2 h3) = subst (CanServe sizes old v) (sym p) tt
+serves sizes old v new made posts (logical.looks post p goes h1 h2 h3) = subst (CanServe sizes old v) (sym p) (post, goes)
+serves sizes old v new made posts (logical.settles p h1 h2 h3) = subst (CanServe sizes old v) (sym p) tt
+serves sizes old v new made posts (logical.gives p h1 h2 h3) = subst (CanServe sizes old v) (sym p) tt
+serves sizes old v new made posts (logical.aborts p h1 h2 h3) = subst (CanServe sizes old v) (sym p) tt
+serves sizes old v new made posts (logical.aborts_entered p h1 h2 h3) = subst (CanServe sizes old v) (sym p) tt
+
+pub can_serve : (sizes : Sizes) (old : LogicalZone) (v : Vio) → HasAct sizes (at.Logical old) (item.Request v ∷ []) → CanServe sizes old v v.phase
+can_serve sizes old v (new, made, posts, steps.serves row) = serves sizes old v _ _ _ row

@@ -1,0 +1,24 @@
+ghost use Rattle.std.specs.Prelude.{◌≡◌, ◌-◌, ◌^◌, [], ◌∷◌};
+ghost use Rattle.core_model.specs.declared.zones.ZoneData.TheVariants as at;
+ghost use Rattle.core_model.specs.Limits.{IsLogicalWithin};
+ghost use Rattle.core_model.specs.Steps.{HasAct};
+ghost use Rattle.step_parts.specs.Acts.{ActsAlone};
+
+use crate::requests::{hear_stop, serve_logical};
+use core_model::LogicalZone;
+use data_vio::{Item, Sizes};
+use step_parts::Posts;
+
+/// What a logical zone does with the item in front of its inbox, to which a rule applies: it posts this.
+pub fn act(sizes: &Sizes, zone: &mut LogicalZone, item: Item, posts: &mut Posts)
+    requires within { IsLogicalWithin (2 ^ 64 - 2) zone.old }
+    requires rule { HasAct sizes.now (at.Logical zone.old) (item ∷ []) }
+    requires none { posts.old ≡ [] }
+    ensures { ActsAlone sizes.now (at.Logical zone.old) (item ∷ []) (at.Logical zone.new) posts.new }
+{
+    match item {
+        Item::Request(vio) => serve_logical(sizes, zone, vio, posts),
+        Item::StopNotice => hear_stop(zone, posts),
+        Item::Block(_) => unreachable!(),
+    }
+}

@@ -1,0 +1,13 @@
+//! A logical zone: what it does with the item in front of its inbox. Requests draw their places here, take the locks of
+//! their addresses, and set slots.
+//!
+//! Only tested: as part of the core.
+#![tactic(auto)]
+
+mod dispatch;
+mod requests;
+mod start;
+mod waiters;
+
+pub use dispatch::act;
+pub use start::first;

@@ -1,0 +1,236 @@
+ghost use Rattle.std.specs.Prelude.{◌≡◌, ◌-◌, ◌<◌, ◌≤◌, ◌^◌, List, [], ◌∷◌, ◌++◌, Some, true, length};
+ghost use Rattle.blk_base.specs.Sectors.{zero_block};
+ghost use Rattle.blk_base.specs.declared.place.ZoneId.TheVariants as id;
+ghost use Rattle.data_vio.specs.declared.items.Item.TheVariants as item;
+ghost use Rattle.data_vio.specs.declared.items.Phase.TheVariants as phase;
+ghost use Rattle.core_model.specs.Limits.{IsLogicalWithin};
+ghost use Rattle.core_model.specs.LogicalRules as rows;
+ghost use Rattle.core_model.specs.Trace.{Trace, Aborts, Draws, Gives, Sets};
+ghost use Rattle.data_vio.specs.Vios as vios;
+ghost use Rattle.logical_zone.specs.Served.{CanServe};
+
+use crate::waiters::stop_all;
+use blk_base::{Answer, Block, Lba, Mapping, ZoneId};
+use core_model::LogicalZone;
+use data_vio::{Asks, BoxedVio, Item, Phase, Sizes};
+use image_layout::mapping_at;
+use lane_kernels::is_zero;
+use step_parts::Posts;
+
+// The bytes of an address that is mapped to no block.
+fn zeros(vio: BoxedVio) -> BoxedVio
+    ensures { result ≡ record vio { phase = phase.Loaded; bytes = zero_block } }
+{
+    vio.load(Block::zero())
+}
+
+// Where a read goes that has the lock of its address: it reads the mapped block, or is given zeros.
+fn read_next(sizes: &Sizes, zone: &LogicalZone, vio: BoxedVio, mapping: Mapping) -> (ZoneId, Item)
+    ensures { result ≡ rows.read_next sizes.now zone.now vio mapping }
+{
+    match mapping {
+        Mapping::At(_) => {
+            let loads = vio.turn(Phase::Load);
+            (ZoneId::Device, Item::Request(loads))
+        }
+        Mapping::Unmapped | Mapping::Zero => {
+            let loaded = zeros(vio);
+            (
+                ZoneId::Logical(u32::from(zone.zone())),
+                Item::Request(loaded),
+            )
+        }
+    }
+}
+
+// One that needs no block hands in its entry.
+fn enter_with(vio: BoxedVio, new: Mapping) -> (ZoneId, Item)
+    ensures { result ≡ rows.enters_with new vio }
+{
+    let enters = vio.map_to(Phase::Enter, new);
+    (ZoneId::Journal, Item::Request(enters))
+}
+
+// Whether a block has zeros alone.
+fn are_zeros(bytes: &Block) -> bool
+    ensures { result ≡ rows.are_zeros bytes.now }
+{
+    is_zero(bytes)
+}
+
+// Where a write goes that has the lock of its address: it takes a block, but for one of zeros.
+fn write_next(vio: BoxedVio) -> (ZoneId, Item)
+    ensures { result ≡ rows.write_next vio }
+{
+    if are_zeros(&vio.get().bytes) {
+        enter_with(vio, Mapping::Zero)
+    } else {
+        let claims = vio.turn(Phase::Claim);
+        (ZoneId::Physical(0), Item::Request(claims))
+    }
+}
+
+// A request that has the lock of its address, and knows what is mapped there.
+fn look(zone: &LogicalZone, vio: BoxedVio) -> BoxedVio
+    ensures { result ≡ rows.looked zone.now vio }
+{
+    let at = vio.get().at;
+    let latest = zone.latest(at);
+    let old = match latest {
+        Some(write) => write.new,
+        None => mapping_at(zone.window(), at),
+    };
+    vio.look(old, latest)
+}
+
+// Where a request goes that has the lock of its address; a flush takes no lock.
+fn goes_on(sizes: &Sizes, zone: &LogicalZone, vio: BoxedVio) -> Option<(ZoneId, Item)>
+    ensures { result ≡ rows.goes_on sizes.now zone.now vio }
+{
+    let asks = vio.get().asks;
+    let looked = look(zone, vio);
+    let mapping = looked.get().old;
+    match asks {
+        Asks::Read => Some(read_next(sizes, zone, looked, mapping)),
+        Asks::Write => Some(write_next(looked)),
+        Asks::Discard => Some(enter_with(looked, Mapping::Unmapped)),
+        Asks::Flush => None,
+    }
+}
+
+// Whoever gets the lock of an address looks up what is mapped there.
+fn look_up(vio: BoxedVio) -> (ZoneId, Item)
+    ensures { result ≡ rows.looks_up vio }
+{
+    let home = vio.get().home;
+    let looks = vio.turn(Phase::Look);
+    (home, Item::Request(looks))
+}
+
+// The lock of an address goes to the first that waits for it, or is released.
+fn release(zone: &mut LogicalZone, at: Lba, posts: &mut Posts)
+    requires { length posts.old ≤ 1 }
+    ensures zone { zone.new ≡ rows.released at.0 zone.old }
+    ensures posts { posts.new ≡ posts.old ++ rows.granted at.0 zone.old }
+{
+    if let Some(vio) = zone.release(at) {
+        let (to, item) = look_up(vio);
+        posts.push(to, item);
+    }
+}
+
+// A request draws its place, and takes the lock of its address or waits for it.
+fn arrive(sizes: &Sizes, zone: &mut LogicalZone, vio: BoxedVio, posts: &mut Posts)
+    requires phase { vio.phase ≡ phase.Arrive }
+    requires within { IsLogicalWithin (2 ^ 64 - 2) zone.old }
+    requires none { posts.old ≡ [] }
+    ensures { rows.LogicalServes sizes.now zone.old vio zone.new (Draws (rows.place_of_vio zone.old vio) ∷ []) posts.new }
+{
+    if zone.is_retired(vio.get().at) {
+        let stopped = zone.draw(vio).end(Phase::Reply, Answer::Stopped);
+        posts.first(ZoneId::Desk, Item::Request(stopped));
+    } else if let Some(holder) = zone.ask(vio) {
+        let (to, item) = look_up(holder);
+        posts.first(to, item);
+    }
+}
+
+// It has the lock: what is mapped at its address says where it goes.
+fn go_on(sizes: &Sizes, zone: &LogicalZone, vio: BoxedVio, posts: &mut Posts)
+    requires phase { vio.phase ≡ phase.Look }
+    requires goes { CanServe sizes.now zone.now vio phase.Look }
+    requires none { posts.old ≡ [] }
+    ensures { rows.LogicalServes sizes.now zone.now vio zone.now [] posts.new }
+{
+    let Some((to, item)) = goes_on(sizes, zone, vio) else {
+        unreachable!();
+    };
+    posts.first(to, item);
+}
+
+// The entry of a write is committed: its slot is set, and the lock released.
+fn settle(sizes: &Sizes, zone: &mut LogicalZone, vio: BoxedVio, posts: &mut Posts)
+    requires phase { vio.phase ≡ phase.Settle }
+    requires within { IsLogicalWithin (2 ^ 64 - 2) zone.old }
+    requires none { posts.old ≡ [] }
+    ensures { rows.LogicalServes sizes.now zone.old vio zone.new (Sets (vios.logged vio) ∷ []) posts.new }
+{
+    let at = vio.get().at;
+    zone.set(vio.logged());
+    posts.first(
+        ZoneId::Desk,
+        Item::Request(vio.end(Phase::Reply, Answer::Ok)),
+    );
+    release(zone, at, posts);
+}
+
+// A read is given its bytes, and the lock is released.
+fn give(sizes: &Sizes, zone: &mut LogicalZone, vio: BoxedVio, posts: &mut Posts)
+    requires phase { vio.phase ≡ phase.Loaded }
+    requires within { IsLogicalWithin (2 ^ 64 - 2) zone.old }
+    requires none { posts.old ≡ [] }
+    ensures { rows.LogicalServes sizes.now zone.old vio zone.new (Gives (vios.gift vio) ∷ []) posts.new }
+{
+    let at = vio.get().at;
+    let mut bytes = Block::zero();
+    bytes.copy_from(&vio.get().bytes);
+    posts.first(
+        ZoneId::Desk,
+        Item::Request(vio.end(Phase::Reply, Answer::Bytes(bytes))),
+    );
+    release(zone, at, posts);
+}
+
+// A request is aborted, and the lock is released.
+fn abort(sizes: &Sizes, zone: &mut LogicalZone, vio: BoxedVio, posts: &mut Posts)
+    requires phase { vio.phase ≡ phase.Abort }
+    requires within { IsLogicalWithin (2 ^ 64 - 2) zone.old }
+    requires none { posts.old ≡ [] }
+    ensures { rows.LogicalServes sizes.now zone.old vio zone.new [] posts.new }
+{
+    let at = vio.get().at;
+    posts.first(ZoneId::Desk, Item::Request(vio.turn(Phase::Reply)));
+    release(zone, at, posts);
+}
+
+// A write whose entry was handed in is aborted: the lock of its address is never released.
+fn abort_entered(sizes: &Sizes, zone: &mut LogicalZone, vio: BoxedVio, posts: &mut Posts)
+    requires phase { vio.phase ≡ phase.AbortEntered }
+    requires within { IsLogicalWithin (2 ^ 64 - 2) zone.old }
+    requires none { posts.old ≡ [] }
+    ensures { rows.LogicalServes sizes.now zone.old vio zone.new (Aborts (vios.logged vio) ∷ []) posts.new }
+{
+    let at = vio.get().at;
+    posts.first(ZoneId::Desk, Item::Request(vio.turn(Phase::Reply)));
+    stop_all(zone, at, posts);
+    zone.retire(at);
+}
+
+/// One phase of a request in a logical zone.
+pub(crate) fn serve_logical(sizes: &Sizes, zone: &mut LogicalZone, vio: BoxedVio, posts: &mut Posts)
+    requires within { IsLogicalWithin (2 ^ 64 - 2) zone.old }
+    requires can { CanServe sizes.now zone.old vio vio.phase }
+    requires none { posts.old ≡ [] }
+    ensures { (made : Trace) × rows.LogicalServes sizes.now zone.old vio zone.new made posts.new }
+{
+    let phase = vio.get().phase;
+    match phase {
+        Phase::Arrive => arrive(sizes, zone, vio, posts),
+        Phase::Look => go_on(sizes, zone, vio, posts),
+        Phase::Settle => settle(sizes, zone, vio, posts),
+        Phase::Loaded => give(sizes, zone, vio, posts),
+        Phase::Abort => abort(sizes, zone, vio, posts),
+        Phase::AbortEntered => abort_entered(sizes, zone, vio, posts),
+        _ => unreachable!(),
+    }
+}
+
+/// The session is stopped: a logical zone passes the notice on.
+pub(crate) fn hear_stop(zone: &mut LogicalZone, posts: &mut Posts)
+    requires { posts.old ≡ [] }
+    ensures zone { zone.new ≡ record zone.old { notified = true } }
+    ensures posts { posts.new ≡ (id.Desk, item.StopNotice) ∷ [] }
+{
+    zone.notify();
+    posts.first(ZoneId::Desk, Item::StopNotice);
+}

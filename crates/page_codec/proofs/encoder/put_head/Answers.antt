@@ -1,0 +1,7 @@
+use Rattle.page_codec.specs.Spelling.{head_bytes}
+use Rattle.std.proofs.Common.{rules}
+use Rattle.page_codec.proofs.encoder.put_head.Goals as goal
+
+pub returns : goal.returns
+unfolding head_bytes
+returns c = search rules

@@ -1,7 +1,0 @@
-use Rattle.page_codec.specs.Spelling.{head_bytes}
-use Rattle.std.proofs.Common.{rules}
-use Rattle.page_codec.proofs.writing.put_head.Goals as goal
-
-pub returns : goal.returns
-unfolding head_bytes
-returns c = search rules

@@ -1,0 +1,22 @@
+ghost use Rattle.std.specs.Prelude.{◌≡◌, [], ◌∷◌};
+ghost use Rattle.core_model.specs.declared.zones.ZoneData.TheVariants as at;
+ghost use Rattle.core_model.specs.Steps.{HasAct};
+ghost use Rattle.step_parts.specs.Acts.{ActsAlone};
+
+use crate::requests::{hear_stop, serve_physical};
+use core_model::PhysicalZone;
+use data_vio::{Item, Sizes};
+use step_parts::Posts;
+
+/// What the physical zone does with the item in front of its inbox, to which a rule applies: it posts this.
+pub fn act(sizes: &Sizes, zone: &mut PhysicalZone, item: Item, posts: &mut Posts)
+    requires rule { HasAct sizes.now (at.Physical zone.old) (item ∷ []) }
+    requires none { posts.old ≡ [] }
+    ensures { ActsAlone sizes.now (at.Physical zone.old) (item ∷ []) (at.Physical zone.new) posts.new }
+{
+    match item {
+        Item::Request(vio) => serve_physical(sizes, zone, vio, posts),
+        Item::StopNotice => hear_stop(zone, posts),
+        Item::Block(_) => unreachable!(),
+    }
+}

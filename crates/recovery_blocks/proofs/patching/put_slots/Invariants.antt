@@ -1,5 +1,0 @@
-use Rattle.recovery_blocks.specs.Patches.{IsPatched}
-use Rattle.recovery_blocks.proofs.patching.put_slots.Given as goal
-
-abbrev pub invariant-loop-slot : goal.invariant-loop-slot
-invariant-loop-slot l = IsPatched l.changes l.page l.slot l.fn.block l.block

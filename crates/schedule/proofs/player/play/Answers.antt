@@ -1,0 +1,26 @@
+use Rattle.std.proofs.Common.{◌∙◌, drop}
+use Rattle.disk_model.proofs.SeenLaws.{stays_on}
+use Rattle.schedule.proofs.TurnLaws.{done_until, next_until, none_until}
+use Rattle.schedule.proofs.player.play.Goals as goal
+
+pub loop-event-preserved : goal.loop-event-preserved
+loop-event-preserved g c =
+    let before = c.loop-event.invariant in
+    let after = c.step.ensures in
+    record {
+      stays = stays_on _ _ _ before.stays after.stays;
+      sizes = after.sizes ∙ before.sizes;
+      plays = λ later seen rest.
+          before.plays later seen (next_until g.D.Disk.tells g.D.Disk.honest c.args.core.now.sizes c.args.events.now c.loop-event.event-index _ c.loop-event.core.zones c.step.new.self.zones later _ _ seen
+          c.loop-event-test.true (c.done.ensures.no c.if-done.false) (rw before.sizes at after.plays) rest);
+    }
+
+pub returns-then-done-clause-plays : goal.returns-then-done-clause-plays
+returns-then-done-clause-plays g c =
+    c.loop-event.invariant.plays c.loop-event.core.zones _
+    (done_until g.D.Disk.tells g.D.Disk.honest c.args.core.now.sizes (drop c.loop-event.event-index c.args.events.now) c.loop-event.core.zones _ (c.done.ensures.yes c.if-done.true))
+
+pub returns-clause-plays : goal.returns-clause-plays
+returns-clause-plays g c =
+    c.loop-event.invariant.plays c.loop-event.core.zones _
+    (none_until g.D.Disk.tells g.D.Disk.honest c.args.core.now.sizes c.args.events.now c.loop-event.event-index c.loop-event.core.zones _ c.loop-event-test.false)

@@ -1,5 +1,0 @@
-use Rattle.slab_zone.proofs.LowLaws.{IsLeastBefore}
-use Rattle.slab_zone.proofs.writing.least_low_point.Given as goal
-
-abbrev pub invariant-loop-place : goal.invariant-loop-place
-invariant-loop-place l = IsLeastBefore l.writes l.place l.least

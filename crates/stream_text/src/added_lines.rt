@@ -1,0 +1,70 @@
+ghost use Rattle.std.specs.Prelude.{◌≡◌, ◌<◌, ◌≤◌, Ok, IfOk, IfErr, length};
+ghost use Rattle.stream_text.specs.LineGrammar.{stream_asked};
+ghost use Rattle.stream_text.specs.StreamRows.{count_of, requests_of, with_asked};
+ghost use Rattle.stream_text.specs.WholeScript.{after_text};
+ghost use Rattle.stream_text.specs.ReadingBytes.{StopsLine, IsAdded};
+
+use crate::asked::{Asked, asked_of};
+use crate::refusal::LineFault;
+use crate::streams::Streams;
+
+/// How many requests a script may have.
+const MOST_REQUESTS: u64 = 65536;
+
+/// Why a line adds nothing.
+#[derive(Clone, Copy, Debug, PartialEq, Eq)]
+pub enum LineError {
+    /// The line has this fault.
+    Fault(LineFault),
+    /// Memory ran out.
+    Memory,
+}
+
+// How many requests a line asks for.
+fn requests_asked(asked: &Asked) -> u64
+    ensures count { result ≡ length (requests_of asked.now) }
+    ensures few { result ≤ 4294967296 }
+{
+    match asked {
+        Asked::One { .. } => 1,
+        Asked::Discards { at, last, .. } => u64::from(last.saturating_sub(*at)) + 1,
+    }
+}
+
+/// Adds what a line asks for to its stream. The count, before and in the result, is that of all requests so far.
+fn add_asked(streams: &mut Streams, count: u64, asked: Asked) -> Result<u64, LineError>
+    requires rows { length streams.old ≡ 16 }
+    requires counted { count ≡ count_of streams.old }
+    requires few { count ≤ 65536 }
+    requires stream { stream_asked asked < 16 }
+    ensures rows { length streams.new ≡ 16 }
+    ensures ok { IfOk result (IsAdded (with_asked streams.old (Ok asked)) streams.new) }
+    ensures stopped { IfErr result (λ stop. StopsLine stop (with_asked streams.old (Ok asked))) }
+{
+    let count = count + requests_asked(&asked);
+    if count > MOST_REQUESTS {
+        return Err(LineError::Fault(LineFault::TooMany));
+    }
+    match streams.push_asked(asked) {
+        Ok(()) => Ok(count),
+        Err(_) => Err(LineError::Memory),
+    }
+}
+
+/// Adds what the text of a line asks for. The count, before and in the result, is that of all requests so far.
+pub(crate) fn add_line(streams: &mut Streams, count: u64, text: &[u8]) -> Result<u64, LineError>
+    requires rows { length streams.old ≡ 16 }
+    requires counted { count ≡ count_of streams.old }
+    requires few { count ≤ 65536 }
+    ensures rows { length streams.new ≡ 16 }
+    ensures ok { IfOk result (IsAdded (after_text streams.old text.now) streams.new) }
+    ensures stopped { IfErr result (λ stop. StopsLine stop (after_text streams.old text.now)) }
+{
+    if text.is_empty() || text[0] == b'#' {
+        return Ok(count);
+    }
+    match asked_of(text) {
+        Ok(asked) => add_asked(streams, count, asked),
+        Err(fault) => Err(LineError::Fault(fault)),
+    }
+}

@@ -1,0 +1,280 @@
+ghost use Rattle.std.specs.Prelude.{◌≡◌, ◌<◌, ◌^◌, Some, None, IsTrue, length};
+ghost use Rattle.stream_text.specs.AnswerRooms.{HasRoomFor};
+ghost use Rattle.vdo_cli.specs.Inspections.{EndsAudit, EndsStatus, TellsReport};
+ghost use Rattle.vdo_cli.specs.NewImages.{MakesImage};
+ghost use Rattle.vdo_cli.specs.Outsides.{Refuses, Tells, no_report, outcome, outside, setting};
+ghost use Rattle.vdo_cli.specs.Recoveries.{EndsRecovery};
+ghost use Rattle.vdo_cli.specs.Runs.{EndsSo, Closes, RunsScript};
+
+use crate::endings::{fault_of, has_full, has_lost, put_fault, status_of};
+use crate::new_image::make_image;
+use crate::session::{Played, play};
+use crate::words::Served;
+use crate::{Fault, Words};
+use audit::{Report, audit};
+use blk_base::Geometry;
+use command_text::{Line, put_audit};
+use disk_model::{Disk, Sink, Source, ZoneGate};
+use image_status::read_status;
+use rebuild::recover;
+use std::alloc::Global;
+use std::sync::Wait;
+use std::thread::Threads;
+use stream_text::{AnswerRoom, put_answers};
+use vdo_model::{Requests, ReportList, RunReport};
+
+/// A run that ended: its status, why no other one, what became of the requests (nothing where no session was begun), and
+/// the device.
+#[derive(Drop)]
+pub struct Ended<D> {
+    pub status: u8,
+    pub fault: Option<Fault>,
+    pub report: RunReport,
+    pub device: D,
+}
+
+// The report where no session was begun.
+fn empty_report(alloc: Global) -> RunReport
+    ensures { result ≡ no_report }
+{
+    RunReport {
+        requests: Requests::new(alloc),
+        desk: ReportList::new(alloc),
+        marks: ReportList::new(alloc),
+        places: ReportList::new(alloc),
+        histories: ReportList::new(alloc),
+    }
+}
+
+// A command that ended so, without a session.
+fn end_with<D: Disk>(alloc: Global, status: u8, fault: Option<Fault>, device: D) -> Ended<D>
+    ensures status { result.status ≡ status }
+    ensures fault { result.fault ≡ fault }
+    ensures report { result.report ≡ no_report }
+    ensures device { result.device ≡ device }
+{
+    Ended {
+        status,
+        fault,
+        report: empty_report(alloc),
+        device,
+    }
+}
+
+// Puts a fault's line.
+fn refuse<D: Disk, K: Sink>(alloc: Global, fault: Fault, device: D, out: &mut K) -> Ended<D>
+    ensures device { result.device ≡ device }
+    ensures fault { result.fault ≡ Some fault }
+    ensures refuses { Refuses K.tells fault result.status result.report
+        (K.seen out.old) (K.seen out.new) }
+{
+    // The status is the fault's, whatever becomes of its line.
+    let _put = put_fault(&fault, out);
+    end_with(alloc, status_of(&fault), Some(fault), device)
+}
+
+// Puts the answers of a session.
+fn close<D: Disk, K: Sink>(report: RunReport, room: AnswerRoom, device: D, out: &mut K) -> Ended<D>
+    requires { HasRoomFor room report.requests }
+    ensures device { result.device ≡ device }
+    ensures report { result.report ≡ report }
+    ensures closes { Closes K.tells report result.status result.fault
+        (K.seen out.old) (K.seen out.new) }
+{
+    let lost = has_lost(report.desk.as_slice());
+    let full = has_full(report.desk.as_slice());
+    let mut room = room;
+    let put = put_answers(&report.requests, &report, &mut room, out);
+    let (status, fault) = match put {
+        _ if lost => (3, None),
+        Err(_) => (7, Some(Fault::Sink)),
+        Ok(()) => (if full { 1 } else { 0 }, None),
+    };
+    Ended {
+        status,
+        fault,
+        report,
+        device,
+    }
+}
+
+// Puts what was found.
+fn tell<L: Line, D: Disk, K: Sink>(alloc: Global, found: &L, device: D, out: &mut K) -> Ended<D>
+    ensures device { result.device ≡ device }
+    ensures report { result.report ≡ no_report }
+    ensures tells { Tells K.tells (L.text found.now) result.status result.fault
+        (K.seen out.old) (K.seen out.new) }
+{
+    match found.put_to(out) {
+        Ok(()) => end_with(alloc, 0, None, device),
+        Err(_) => end_with(alloc, 7, Some(Fault::Sink), device),
+    }
+}
+
+// Puts the report of an audit. Where blocks differ the status is theirs, whatever becomes of the text.
+fn tell_report<D: Disk, K: Sink>(alloc: Global, report: &Report, device: D, out: &mut K) -> Ended<D>
+    requires { length report.now.differs.items < 2 ^ 32 }
+    ensures device { result.device ≡ device }
+    ensures report { result.report ≡ no_report }
+    ensures tells { TellsReport K.tells report.now result.status result.fault
+        (K.seen out.old) (K.seen out.new) }
+{
+    let differ = report.differs.len() as u32;
+    if differ == 0 {
+        return tell(alloc, report, device, out);
+    }
+    let _put = put_audit(report, out);
+    end_with(alloc, 6, Some(Fault::Differs(differ)), device)
+}
+
+// Serves a script by the schedule of this number.
+fn run_script<R: Wait, D: Disk, S: Source, K: Sink>(
+    rt: &R,
+    alloc: Global,
+    schedule: u64,
+    device: D,
+    script: &mut S,
+    out: &mut K,
+) -> Ended<D>
+    ensures { RunsScript (setting D.tells D.honest S.tells K.tells) schedule
+        (outside (D.seen device) (S.seen script.old) (K.seen out.old))
+        (outside (D.seen result.device) (S.seen script.new) (K.seen out.new))
+        (outcome result.status result.report result.fault) }
+{
+    let mut device = device;
+    match play(rt, alloc, schedule, &mut device, script) {
+        Ok(Played { report, room }) => close(report, room, device, out),
+        Err(fault) => refuse(alloc, fault, device, out),
+    }
+}
+
+// Makes an empty image of these sizes.
+fn format<D: Disk, S: Source, K: Sink>(
+    alloc: Global,
+    sizes: &Geometry,
+    device: D,
+    script: &S,
+    out: &mut K,
+) -> Ended<D>
+    ensures { MakesImage (setting D.tells D.honest S.tells K.tells) sizes.now
+        (outside (D.seen device) (S.seen script.now) (K.seen out.old))
+        (outside (D.seen result.device) (S.seen script.now) (K.seen out.new))
+        (outcome result.status result.report result.fault) }
+{
+    let mut device = device;
+    match make_image(sizes, &mut device) {
+        Ok(layout) => tell(alloc, &layout, device, out),
+        Err(fault) => refuse(alloc, fault, device, out),
+    }
+}
+
+// Closes the image, if its last session wasn't closed.
+fn recover_device<D: Disk, S: Source, K: Sink>(
+    alloc: Global,
+    device: D,
+    script: &S,
+    out: &mut K,
+) -> Ended<D>
+    ensures { EndsRecovery (setting D.tells D.honest S.tells K.tells)
+        (outside (D.seen device) (S.seen script.now) (K.seen out.old))
+        (outside (D.seen result.device) (S.seen script.now) (K.seen out.new))
+        (outcome result.status result.report result.fault) }
+{
+    let mut device = device;
+    match recover(alloc, &mut device) {
+        Ok(recovered) => tell(alloc, &recovered, device, out),
+        Err(why) => refuse(alloc, fault_of(why), device, out),
+    }
+}
+
+// Compares the stored counts of the image with its mappings.
+fn audit_device<D: Disk, S: Source, K: Sink>(
+    alloc: Global,
+    device: D,
+    script: &S,
+    out: &mut K,
+) -> Ended<D>
+    ensures { EndsAudit (setting D.tells D.honest S.tells K.tells)
+        (outside (D.seen device) (S.seen script.now) (K.seen out.old))
+        (outside (D.seen result.device) (S.seen script.now) (K.seen out.new))
+        (outcome result.status result.report result.fault) }
+{
+    let mut device = device;
+    match audit(alloc, &mut device) {
+        Ok(report) => tell_report(alloc, &report, device, out),
+        Err(why) => refuse(alloc, fault_of(why), device, out),
+    }
+}
+
+// Asks the image what it says of itself.
+fn status_of_device<D: Disk, S: Source, K: Sink>(
+    alloc: Global,
+    device: D,
+    script: &S,
+    out: &mut K,
+) -> Ended<D>
+    ensures { EndsStatus (setting D.tells D.honest S.tells K.tells)
+        (outside (D.seen device) (S.seen script.now) (K.seen out.old))
+        (outside (D.seen result.device) (S.seen script.now) (K.seen out.new))
+        (outcome result.status result.report result.fault) }
+{
+    let mut device = device;
+    match read_status(alloc, &mut device) {
+        Ok(status) => tell(alloc, &status, device, out),
+        Err(why) => refuse(alloc, fault_of(why), device, out),
+    }
+}
+
+/// Does what the words say. `run`, or `run --schedule N`: the requests of the script, each stream's in its order, are
+/// served on the device's image by the zones of a core, whose steps and moves come in the order of the schedule N (0
+/// where none is given). Their answers are put to `out`, one line for each. What earlier runs wrote is there again: it
+/// is read from the window of the recovery journal. `format`, with the sizes of an image as its options: an empty image
+/// is made on the device, and a line says so. `recover`: an image whose last session wasn't closed is closed, and how many
+/// entries of its journal were used is told; a sound one says the same then; nothing is written where it was closed.
+/// `audit`: each data block whose stored count isn't the number of its mappings is told, or how many are used where
+/// none differs; nothing is written. `status`: what the image says of itself is told, and nothing is written.
+///
+/// On an honest device on which nothing was pending, a stop before or within any call leaves an image with the superblock
+/// that it had and a journal with a window. By that window each address has the value of one of its writes: of none older
+/// than the last one that was answered before a flush was begun which was answered too (docs/DESIGN.md, "A stop"). That a
+/// later run opens this image isn't claimed: a run refuses one whose sequences are used up, and one with a new page of the
+/// block map in its window. The report's marks say which calls of the device made the flushes last. A stop while an image is
+/// made leaves what the old image said, or no image, or an empty one. One while a sound image is recovered leaves a sound one
+/// that says the same.
+///
+/// | Status | Comes where |
+/// |---|---|
+/// | 0 | each request was answered Ok, or with bytes; or the image was made; or recovered, or was closed; or no block differs, or the status was told |
+/// | 1 | a request was answered Full: no journal block was left for its entry, or no data block |
+/// | 2 | the words are no command that is served (`Usage`) or a line of the script has a fault (`Script`) |
+/// | 3 | the device failed: before the script was read, or while an image was made, recovered or looked at (`Device`), or a request was answered Stopped or with a read fault |
+/// | 4 | the device has no image, or a block of its window can't be replayed or has a new page, or a recovery, an audit or a status met a page or a count that can't be (`Image`) |
+/// | 5 | memory ran out before the first request was served, or while an image was looked at, or before the first write of a recovery (`Memory`) |
+/// | 6 | an audit found blocks that differ (`Differs`) |
+/// | 7 | the source or the sink failed (`Read`, `Sink`) |
+/// | 8 | an image of these sizes can't be had on the device (`Layout`) |
+///
+/// The first that applies is taken in this order: words, superblock, window, script; and of a session 3, 7, 1, 0.
+pub fn run<R: Threads + Wait + Sync, D: Disk + Send + Drop, S: Source, K: Sink, G: ZoneGate + Sync>(
+    rt: &R,
+    words: &Words,
+    device: D,
+    script: &mut S,
+    out: &mut K,
+    gate: &G,
+) -> Ended<D>
+    ensures { EndsSo (setting D.tells D.honest S.tells K.tells) words.now
+        (outside (D.seen device) (S.seen script.old) (K.seen out.old))
+        (outside (D.seen result.device) (S.seen script.new) (K.seen out.new))
+        (outcome result.status result.report result.fault) }
+{
+    let alloc = words.allocator();
+    match words.served() {
+        Some(Served::Script(schedule)) => run_script(rt, alloc, schedule, device, script, out),
+        Some(Served::Format(sizes)) => format(alloc, &sizes, device, script, out),
+        Some(Served::Recover) => recover_device(alloc, device, script, out),
+        Some(Served::Audit) => audit_device(alloc, device, script, out),
+        Some(Served::Status) => status_of_device(alloc, device, script, out),
+        None => refuse(alloc, Fault::Usage, device, out),
+    }
+}

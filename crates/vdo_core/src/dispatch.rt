@@ -1,0 +1,68 @@
+ghost use Rattle.std.specs.Prelude.{◌≡◌, ◌<◌, ◌≤◌, ◌-◌, ◌^◌, IsTrue, false, [], ◌∷◌};
+ghost use Rattle.disk_model.specs.Seen.{Stays};
+ghost use Rattle.core_model.specs.Limits.{IsDataWithin};
+ghost use Rattle.core_model.specs.SessionLimits.{most_zones};
+ghost use Rattle.core_model.specs.Steps.{CallsDevice, HasAct, MayBegin};
+ghost use Rattle.step_parts.specs.Acts.{Acts, ActsAlone};
+ghost use Rattle.device_zone.specs.DeviceCalls.{Fits};
+ghost use Rattle.vdo_core.specs.Conditions.{CanBeginAt};
+
+use core_model::ZoneData;
+use data_vio::{Item, Sizes};
+use disk_model::Disk;
+use step_parts::Posts;
+
+/// What a zone that isn't the device's does with the item in front of its inbox, by what it keeps.
+pub(crate) fn act_alone(sizes: &Sizes, keeps: &mut ZoneData, item: Item, posts: &mut Posts)
+    requires other { CallsDevice keeps.old → ⊥ }
+    requires within { IsDataWithin (2 ^ 64 - 2) keeps.old }
+    requires rule { HasAct sizes.now keeps.old (item ∷ []) }
+    requires none { posts.old ≡ [] }
+    ensures { ActsAlone sizes.now keeps.old (item ∷ []) keeps.new posts.new }
+{
+    match keeps {
+        ZoneData::Desk(desk) => desk_zone::act(sizes, desk, item, posts),
+        ZoneData::Logical(zone) => logical_zone::act(sizes, zone, item, posts),
+        ZoneData::Physical(zone) => physical_zone::act(sizes, zone, item, posts),
+        ZoneData::Journal(zone) => journal_zone::act(sizes, zone, item, posts),
+        ZoneData::Device(_) => unreachable!(),
+    }
+}
+
+/// What the device's zone does with the item in front of its inbox.
+pub(crate) fn act_at_device<D: Disk>(
+    sizes: &Sizes,
+    keeps: &mut ZoneData,
+    item: Item,
+    disk: &mut D,
+    posts: &mut Posts,
+)
+    requires own { CallsDevice keeps.old }
+    requires few { sizes.now.zones ≤ most_zones }
+    requires within { IsDataWithin (2 ^ 64 - 2) keeps.old }
+    requires rule { HasAct sizes.now keeps.old (item ∷ []) }
+    requires fits { Fits sizes.now (D.seen disk.old) }
+    requires none { posts.old ≡ [] }
+    ensures stays { Stays (D.seen disk.old) (D.seen disk.new) }
+    ensures acts { Acts D.tells D.honest sizes.now keeps.old (item ∷ []) keeps.new posts.new (D.seen disk.old) (D.seen disk.new) }
+{
+    match keeps {
+        ZoneData::Device(zone) => device_zone::act(sizes, zone, item, disk, posts),
+        _ => unreachable!(),
+    }
+}
+
+/// With no item the desk begins a request, where one may begin; it says whether one may.
+pub(crate) fn begin(sizes: &Sizes, keeps: &mut ZoneData, posts: &mut Posts) -> bool
+    requires can { CanBeginAt sizes.now keeps.old }
+    requires none { posts.old ≡ [] }
+    ensures begun { IsTrue result → ActsAlone sizes.now keeps.old [] keeps.new posts.new }
+    ensures might { IsTrue result → MayBegin sizes.now keeps.old }
+    ensures same { (result ≡ false) → (keeps.new ≡ keeps.old) × (posts.new ≡ []) }
+    ensures none { (result ≡ false) → MayBegin sizes.now keeps.old → ⊥ }
+{
+    match keeps {
+        ZoneData::Desk(desk) => desk_zone::begin_next(sizes, desk, posts),
+        _ => false,
+    }
+}

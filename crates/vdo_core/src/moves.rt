@@ -1,0 +1,61 @@
+ghost use Rattle.std.specs.Prelude.{◌≡◌, ◌≢◌, ◌<◌, [], Some, IsTrue, List, false, length, slice_get};
+ghost use Rattle.data_vio.specs.declared.items.Item.{Item};
+ghost use Rattle.core_model.specs.declared.zones.Zone.{Zone};
+ghost use Rattle.core_model.specs.Limits.{IsShort, IsWithin};
+ghost use Rattle.plain_laws.specs.Sums.{Each};
+ghost use Rattle.vdo_core.specs.Moves.{MovesNothing, MovesSome, has_items};
+ghost use Rattle.vdo_core.specs.Plays.{ComesTo, MovesAll};
+
+use crate::stepped::Stepped;
+use crate::zones::Zones;
+use core_model::{Lane, Zone};
+
+// Whether an outbox has items.
+fn has_posted(zone: &Zone, to: u32) -> bool
+    ensures { result ≡ has_items (slice_get zone.now.ports.outboxes to) }
+{
+    to < zone.ports.count() && zone.ports.has_posts(to)
+}
+
+// The whole outbox of one zone becomes the tail of the inbox of another, by way of an empty batch.
+fn carry(zones: &mut Vec<Zone>, batch: &mut Lane, from: u32, to: u32)
+    requires apart { from ≢ to }
+    requires source { from < length zones.old.items }
+    requires target { to < length zones.old.items }
+    requires outbox { (source : Zone) → slice_get zones.old.items from ≡ Some source → to < length source.ports.outboxes }
+    requires sent { (source : Zone) (lane : List Item) → slice_get zones.old.items from ≡ Some source → slice_get source.ports.outboxes to ≡ Some lane → IsShort lane }
+    requires there { (target : Zone) → slice_get zones.old.items to ≡ Some target → IsShort target.ports.inbox }
+    requires none { batch.old ≡ [] }
+    ensures { MovesAll from to zones.old.items zones.new.items }
+{
+    let source = &mut zones[from as usize];
+    source.ports.exchange(to, batch);
+    let target = &mut zones[to as usize];
+    target.ports.receive(batch);
+}
+
+/// Whether one zone has posted something to another.
+pub(crate) fn can_move(zones: &Zones, from: u32, to: u32) -> bool
+    ensures yes { IsTrue result → MovesSome zones.now from to }
+    ensures no { (result ≡ false) → MovesNothing zones.now from to }
+{
+    let (source, target) = (from as usize, to as usize);
+    let count = zones.zones.len();
+    if source == target || source >= count || target >= count {
+        return false;
+    }
+    has_posted(&zones.zones[source], to)
+}
+
+/// What one zone posted to another moves from the outbox to the tail of the inbox, all of it. It asks for no memory.
+pub(crate) fn move_items(zones: &mut Zones, from: u32, to: u32) -> Stepped
+    requires { Each (λ n z. IsWithin z) zones.old }
+    ensures { ComesTo (MovesAll from to zones.old zones.new) (MovesNothing zones.old from to) (zones.new ≡ zones.old) result }
+{
+    if !can_move(zones, from, to) {
+        return Stepped::Idle;
+    }
+    zones.batch.clear();
+    carry(&mut zones.zones, &mut zones.batch, from, to);
+    Stepped::Did
+}

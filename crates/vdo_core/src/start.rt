@@ -1,0 +1,136 @@
+ghost use Rattle.std.specs.Prelude.{◌≡◌, ◌+◌, ◌<◌, ◌≤◌, ◌^◌, [], ◌∷◌, ◌++◌, IfOk, OnOk, length, reverse};
+ghost use Rattle.std.specs.List.{AllByRecursion};
+ghost use Rattle.blk_base.specs.Limits.{IsGeometry};
+ghost use Rattle.data_vio.specs.Zones as numbers;
+ghost use Rattle.core_model.specs.Sessions.{Session, IsServed};
+ghost use Rattle.core_model.specs.SessionLimits.{most_requests, most_streams, requests_in};
+ghost use Rattle.core_model.specs.Start.{IsFirst, IsFirstZone, IsFirstData};
+ghost use Rattle.plain_laws.specs.Sums.{Each};
+ghost use Rattle.vdo_core.specs.Plays.{core_with};
+ghost use Rattle.vdo_core.specs.Starts.{IsOf};
+
+use crate::numbers::{DESK, device_number, journal_number, logical_number, physical_number, zone_count};
+use crate::zones::Zones;
+use blk_base::{Entry, Pbn};
+use core_model::{Desk, Ports, Zone, ZoneData};
+use data_vio::Sizes;
+use std::alloc::{AllocError, Global};
+use vdo_model::{Requests, ReportList};
+
+// A copy of the entries, the oldest first.
+fn copied(alloc: Global, window: &[Entry]) -> Result<ReportList<Entry>, AllocError>
+    ensures { IfOk result (λ rows. rows ≡ reverse window.now) }
+{
+    let mut rows = ReportList::new(alloc);
+    for entry in window {
+        rows.push(*entry)?;
+    }
+    Ok(rows)
+}
+
+// An item more, behind the others.
+fn push<T: Drop>(items: &mut Vec<T>, item: T) -> Result<(), AllocError>
+    ensures { OnOk result (items.new.items ≡ items.old.items ++ item ∷ []) }
+{
+    items.push(item)?;
+    Ok(())
+}
+
+// A zone with nothing in its lanes, behind the others.
+fn add(
+    alloc: Global,
+    sizes: &Sizes,
+    number: u32,
+    keeps: ZoneData,
+    zones: &mut Vec<Zone>,
+) -> Result<(), AllocError>
+    requires { length zones.old.items ≡ number }
+    ensures count { OnOk result (length zones.new.items ≡ length zones.old.items + 1) }
+    ensures first { OnOk result ((s : Session) → s.sizes ≡ sizes.now → IsFirstData s number keeps
+        → Each (IsFirstZone s) zones.old.items → Each (IsFirstZone s) zones.new.items) }
+{
+    let ports = Ports::new(alloc, zone_count(sizes))?;
+    let zone = Zone {
+        number,
+        steps: 0,
+        keeps,
+        ports,
+    };
+    push(zones, zone)?;
+    Ok(())
+}
+
+// The logical zones, behind the desk.
+fn add_logical(
+    alloc: Global,
+    sizes: &Sizes,
+    window: &[Entry],
+    zones: &mut Vec<Zone>,
+) -> Result<(), AllocError>
+    requires { length zones.old.items ≡ 1 }
+    ensures count { OnOk result (length zones.new.items ≡ 1 + sizes.now.zones) }
+    ensures first { OnOk result ((s : Session) → s.sizes ≡ sizes.now → s.window ≡ reverse window.now → Each (IsFirstZone s) zones.old.items → Each (IsFirstZone s) zones.new.items) }
+{
+    for zone in 0..sizes.zones {
+        let number = logical_number(zone);
+        let window = copied(alloc, window)?;
+        let logical = logical_zone::first(alloc, zone, window)?;
+        add(alloc, sizes, number, ZoneData::Logical(logical), zones)?;
+    }
+    Ok(())
+}
+
+// The zones behind the logical ones.
+fn add_others(
+    alloc: Global,
+    sizes: &Sizes,
+    free: Vec<Pbn>,
+    zones: &mut Vec<Zone>,
+) -> Result<(), AllocError>
+    requires count { length zones.old.items ≡ numbers.physical_number sizes.now }
+    requires geometry { IsGeometry sizes.now.geometry }
+    requires start { (1 ≤ sizes.now.start) × (sizes.now.start < 2 ^ 54) }
+    requires room { sizes.now.opened + 1 ≤ sizes.now.geometry.journal }
+    ensures count { OnOk result (length zones.new.items ≡ numbers.zone_count sizes.now) }
+    ensures first { OnOk result ((s : Session) → s.sizes ≡ sizes.now → s.free ≡ free.items → Each (IsFirstZone s) zones.old.items → Each (IsFirstZone s) zones.new.items) }
+{
+    let physical = ZoneData::Physical(physical_zone::first(free));
+    add(alloc, sizes, physical_number(sizes), physical, zones)?;
+    let journal = journal_zone::first(alloc, sizes)?;
+    add(
+        alloc,
+        sizes,
+        journal_number(sizes),
+        ZoneData::Journal(journal),
+        zones,
+    )?;
+    let device = ZoneData::Device(device_zone::first());
+    add(alloc, sizes, device_number(sizes), device, zones)?;
+    Ok(())
+}
+
+/// The core at the start of a session: it has the requests, no one of which is begun, the entries of the window, the
+/// oldest first, and the free data blocks. Each request must be one that is served, and there may be 16 streams and 65,536
+/// requests in all. It takes all the room that the session will need, and fails where no memory is found for it.
+pub fn begin(
+    alloc: Global,
+    sizes: &Sizes,
+    requests: Requests,
+    window: &[Entry],
+    free: Vec<Pbn>,
+) -> Result<Zones, AllocError>
+    requires geometry { IsGeometry sizes.now.geometry }
+    requires start { (1 ≤ sizes.now.start) × (sizes.now.start < 2 ^ 54) }
+    requires room { sizes.now.opened + 1 ≤ sizes.now.geometry.journal }
+    requires served { AllByRecursion (AllByRecursion IsServed) requests }
+    requires streams { length requests ≤ most_streams }
+    requires few { requests_in requests ≤ most_requests }
+    ensures { IfOk result (λ zones. (s : Session) → IsOf s sizes.now requests (reverse window.now) free.items → IsFirst s (core_with zones [])) }
+{
+    let mut zones = Vec::new(alloc);
+    let desk = Desk::new(alloc, requests)?;
+    add(alloc, sizes, DESK, ZoneData::Desk(desk), &mut zones)?;
+    add_logical(alloc, sizes, window, &mut zones)?;
+    add_others(alloc, sizes, free, &mut zones)?;
+    Zones::from_vec(alloc, zones)
+}

@@ -1,5 +1,0 @@
-use Rattle.std.proofs.Common.{rules}
-use Rattle.vdo_model.proofs.rows.Rows.as_slice.Goals as goal
-
-pub returns : goal.returns
-returns g c = search rules

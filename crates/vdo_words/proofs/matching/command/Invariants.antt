@@ -1,7 +1,0 @@
-use Rattle.std.proofs.Common.{◌≡◌, take}
-use Rattle.clap.specs.Words.{app_of}
-use Rattle.vdo_words.specs.Matching.{app}
-use Rattle.vdo_words.proofs.matching.command.Given as goal
-
-abbrev pub invariant-loop-name : goal.invariant-loop-name
-invariant-loop-name l = app_of l.command ≡ app (take l.name-index l.names)
