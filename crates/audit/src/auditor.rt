@@ -30,9 +30,11 @@ use std::alloc::{AllocError, Global};
 /// The image is refused with its first fault, over the whole image, in this order: `Super`, `Window`, `Page`, `Counter`,
 /// `SharedPage`. `Device` comes only where a read failed, and `Memory` only for want of memory.
 pub fn audit<D: Disk>(alloc: Global, device: &mut D) -> Result<Report, ImageFault>
-    ensures report { IfOk result (IsAudited D.tells D.honest (D.seen device.old) (D.seen device.new)) }
+    ensures report { IfOk result
+        (IsAudited D.tells D.honest (D.seen device.old) (D.seen device.new)) }
     ensures few { IfOk result (λ report. length report.differs.items < 2 ^ 32) }
-    ensures fault { IfErr result (AuditFails D.tells D.honest (D.seen device.old) (D.seen device.new)) }
+    ensures fault { IfErr result
+        (AuditFails D.tells D.honest (D.seen device.old) (D.seen device.new)) }
     ensures untouched { IsUntouched D.tells (D.seen device.old) (D.seen device.new) }
 {
     let head = read_head(device)?;
@@ -54,9 +56,13 @@ pub fn audit_with<D: Disk>(
     requires sizes { IsGeometry head.now.geometry }
     requires room { needed_blocks head.now.geometry ≤ (D.seen device.old).size }
     requires window { (journal : Blocks) × IsWindowOf head.now journal window.now }
-    ensures report { IfOk result (IsAuditedWith D.tells D.honest head.now window.now (D.seen device.old) (D.seen device.new)) }
+    ensures report { IfOk result
+        (IsAuditedWith D.tells D.honest head.now window.now (D.seen device.old)
+        (D.seen device.new)) }
     ensures few { IfOk result (λ report. length report.differs.items < 2 ^ 32) }
-    ensures fault { IfErr result (AuditWithFails D.tells D.honest head.now window.now (D.seen device.old) (D.seen device.new)) }
+    ensures fault { IfErr result
+        (AuditWithFails D.tells D.honest head.now window.now (D.seen device.old)
+        (D.seen device.new)) }
     ensures untouched { IsUntouched D.tells (D.seen device.old) (D.seen device.new) }
 {
     let contents = read_contents(alloc, head, window, device)?;
@@ -76,8 +82,10 @@ pub fn report_of(
     counts: &RecoveredCounts,
 ) -> Result<Report, AllocError>
     requires { length counts.now.counts.items ≡ all_blocks layout.now.geometry }
-    ensures report { IfOk result (λ report. (image : Image) → image.geometry ≡ layout.now.geometry → HasMap image map.now
-        → HasCounts image counts.now.counts.items counts.now.sectors.items → IsReport image report) }
+    ensures report { IfOk result (λ report.
+        (image : Image) → image.geometry ≡ layout.now.geometry → HasMap image map.now
+        → HasCounts image counts.now.counts.items counts.now.sectors.items →
+        IsReport image report) }
     ensures few { IfOk result (λ report. length report.differs.items < 2 ^ 32) }
 {
     let mapped = tally(alloc, layout, &map.links, &map.mapped)?;

@@ -15,7 +15,10 @@ pub(crate) fn compare(
 ) -> Result<Report, AllocError>
     requires stored { length stored.now ≡ all_blocks layout.now.geometry }
     requires mapped { length mapped.now ≡ all_blocks layout.now.geometry }
-    ensures differs { IfOk result (λ report. report.differs.items ≡ differences_below layout.now.geometry stored.now mapped.now (all_blocks layout.now.geometry)) }
+    ensures differs { IfOk result (λ report.
+        report.differs.items
+        ≡ differences_below layout.now.geometry stored.now mapped.now
+        (all_blocks layout.now.geometry)) }
     ensures used { IfOk result (λ report. report.used ≡ used_in stored.now) }
     ensures total { IfOk result (λ report. report.total ≡ all_blocks layout.now.geometry) }
     ensures few { IfOk result (λ report. length report.differs.items < 2 ^ 32) }
@@ -44,7 +47,9 @@ fn push_difference(
     requires inside { n < all_blocks layout.now.geometry }
     requires stored { length stored.now ≡ all_blocks layout.now.geometry }
     requires mapped { length mapped.now ≡ all_blocks layout.now.geometry }
-    ensures { OnOk result (differs.new.items ≡ differs.old.items ++ difference_in layout.now.geometry stored.now mapped.now n) }
+    ensures { OnOk result
+        (differs.new.items
+        ≡ differs.old.items ++ difference_in layout.now.geometry stored.now mapped.now n) }
 {
     let at = layout.numbered_block(n);
     let count = u32::from(stored[n as usize]);

@@ -35,9 +35,13 @@ pub fn read_contents<D: Disk>(
     requires sizes { IsGeometry head.now.geometry }
     requires room { needed_blocks head.now.geometry ≤ (D.seen device.old).size }
     requires window { (journal : Blocks) × IsWindowOf head.now journal window.now }
-    ensures form { IfOk result (λ contents. HasForm head.now.geometry contents.map.links.items contents.map.slots.items) }
-    ensures contents { IfOk result (AreContents D.tells D.honest head.now window.now (D.seen device.old) (D.seen device.new)) }
-    ensures fault { IfErr result (AuditWithFails D.tells D.honest head.now window.now (D.seen device.old) (D.seen device.new)) }
+    ensures form { IfOk result (λ contents.
+        HasForm head.now.geometry contents.map.links.items contents.map.slots.items) }
+    ensures contents { IfOk result
+        (AreContents D.tells D.honest head.now window.now (D.seen device.old) (D.seen device.new)) }
+    ensures fault { IfErr result
+        (AuditWithFails D.tells D.honest head.now window.now (D.seen device.old)
+        (D.seen device.new)) }
     ensures untouched { IsUntouched D.tells (D.seen device.old) (D.seen device.new) }
 {
     let map = match replay_with(alloc, head, window, device) {
@@ -59,7 +63,8 @@ fn first_fault<D: Disk>(
     requires sizes { IsGeometry head.now.geometry }
     requires room { needed_blocks head.now.geometry ≤ (D.seen device.old).size }
     requires window { (journal : Blocks) × IsWindowOf head.now journal window.now }
-    ensures fault { LaterFails D.tells D.honest head.now window.now fault (D.seen device.old) (D.seen device.new) result }
+    ensures fault { LaterFails D.tells D.honest head.now window.now fault (D.seen device.old)
+        (D.seen device.new) result }
     ensures untouched { IsUntouched D.tells (D.seen device.old) (D.seen device.new) }
 {
     let ImageFault::SharedPage { .. } = fault else {

@@ -17,10 +17,10 @@
 
 mod auditor;
 mod comparison;
-mod forms;
 mod contents;
+mod forms;
 mod tallies;
 
 pub use auditor::{audit, audit_with, report_of};
-pub use forms::{Contents, Difference, Report};
 pub use contents::read_contents;
+pub use forms::{Contents, Difference, Report};

@@ -20,7 +20,8 @@ pub(crate) fn tally(
     mapped: &[Pbn],
 ) -> Result<Vec<u64>, AllocError>
     requires { length mapped.now < 2 ^ 63 }
-    ensures { IfOk result (λ counts. AreTallied layout.now.geometry links.now mapped.now counts.items) }
+    ensures { IfOk result (λ counts.
+        AreTallied layout.now.geometry links.now mapped.now counts.items) }
 {
     let mut counts = zeros(alloc, layout.data_blocks())?;
     mark_all(&mut counts, layout, links);
@@ -53,7 +54,8 @@ fn mark_all(counts: &mut [u64], layout: &Layout, links: &[Link])
 fn count_all(counts: &mut [u64], layout: &Layout, mapped: &[Pbn])
     requires few { length mapped.now < 2 ^ 63 }
     requires tallied { (pages : List Page) × AreTallied layout.now.geometry pages [] counts.old }
-    ensures { (pages : List Page) → AreTallied layout.now.geometry pages [] counts.old → AreTallied layout.now.geometry pages mapped.now counts.new }
+    ensures { (pages : List Page) → AreTallied layout.now.geometry pages [] counts.old →
+        AreTallied layout.now.geometry pages mapped.now counts.new }
 {
     for at in mapped {
         count(counts, layout, *at);
@@ -73,7 +75,8 @@ fn mark(counts: &mut [u64], layout: &Layout, at: Pbn)
 // Adds one for this block.
 fn count(counts: &mut [u64], layout: &Layout, at: Pbn)
     requires size { length counts.old ≡ all_blocks layout.now.geometry }
-    requires room { (place : Place) → IsDataPlace layout.now.geometry place → slice_index counts.old (block_number layout.now.geometry place) < 2 ^ 64 - 1 }
+    requires room { (place : Place) → IsDataPlace layout.now.geometry place →
+        slice_index counts.old (block_number layout.now.geometry place) < 2 ^ 64 - 1 }
     ensures { IsChanged layout.now.geometry at (λ n. n + 1) counts.old counts.new }
 {
     if let Some(n) = number_of(layout, at) {
@@ -83,7 +86,9 @@ fn count(counts: &mut [u64], layout: &Layout, at: Pbn)
 
 // The number of the data block at this block, if one stands there.
 fn number_of(layout: &Layout, at: Pbn) -> Option<usize>
-    ensures some { IfSome result (λ n. (place : Place) × IsDataPlace layout.now.geometry place × (block_of_data layout.now.geometry place ≡ at)
+    ensures some { IfSome result (λ n.
+        (place : Place) × IsDataPlace layout.now.geometry place
+        × (block_of_data layout.now.geometry place ≡ at)
         × (n ≡ block_number layout.now.geometry place)) }
     ensures none { IfNone result (IsDataBlock layout.now.geometry at.0 → ⊥) }
 {

@@ -1,7 +1,7 @@
 use blk_base::{Lba, Request, Writer};
 use std::alloc::{AllocError, Global};
 use std::test::Fail;
-use vdo_model::{Placed, Requests, ReportList};
+use vdo_model::{Placed, ReportList, Requests};
 
 #[test]
 fn lists_are_kept(rt: HostRuntime) -> Result<(), Fail> {

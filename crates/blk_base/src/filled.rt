@@ -20,7 +20,9 @@ pub fn repeated_with<T: Drop, F: FnMut() -> T + Drop>(
     count: usize,
 ) -> Result<Vec<T>, AllocError>
     requires { F.IsAlwaysCallable make }
-    ensures { IfOk result (λ list. (value : T) → ((f g : F) (made : T) → F.step f made g → made ≡ value) → list.items ≡ replicate count value) }
+    ensures { IfOk result (λ list.
+        (value : T) → ((f g : F) (made : T) → F.step f made g → made ≡ value) →
+        list.items ≡ replicate count value) }
 {
     let mut list = Vec::with_capacity(alloc, count)?;
     list.resize_with(count, make)?;

@@ -106,7 +106,9 @@ impl Layout {
     /// is below the number of slabs.
     pub fn slab_journal_slot(&self, slab: u32, sequence: u64) -> Pbn
         requires { slab < self.now.geometry.slabs }
-        ensures block { result.0 ≡ block_of self.now.geometry (SlabJournalSlot slab (slab_slot_of self.now.geometry sequence)) }
+        ensures block { result.0
+            ≡ block_of self.now.geometry
+            (SlabJournalSlot slab (slab_slot_of self.now.geometry sequence)) }
         ensures inside { result.0 < needed_blocks self.now.geometry }
     {
         let slot = sequence % u64::from(self.geometry.slab_journal);
@@ -175,9 +177,13 @@ impl Layout {
 
     /// Where the counter of the data block with this offset in its slab stands.
     pub fn counter_place(&self, offset: u32) -> CounterPlace
-        ensures sector { result.block * 8 + result.sector ≡ sector_of_offset self.now.geometry offset }
-        ensures counter { offset ≡ (result.block * 8 + result.sector) * counters_per_sector self.now.geometry + result.counter }
-        ensures within { (result.sector < 8) × (result.counter < counters_per_sector self.now.geometry) }
+        ensures sector { result.block * 8 + result.sector
+            ≡ sector_of_offset self.now.geometry offset }
+        ensures counter { offset
+            ≡ (result.block * 8 + result.sector) * counters_per_sector self.now.geometry
+            + result.counter }
+        ensures within { (result.sector < 8)
+            × (result.counter < counters_per_sector self.now.geometry) }
     {
         let sector = self.sector_of_offset(offset);
         CounterPlace {
@@ -207,7 +213,8 @@ impl Layout {
     pub fn numbered_block(&self, number: u32) -> Pbn
         requires { number < self.now.geometry.slabs * self.now.geometry.slab_blocks }
         ensures block { result.0 ≡ block_of self.now.geometry
-            (DataBlock (number / self.now.geometry.slab_blocks) (number % self.now.geometry.slab_blocks)) }
+            (DataBlock (number / self.now.geometry.slab_blocks)
+            (number % self.now.geometry.slab_blocks)) }
         ensures inside { result.0 < needed_blocks self.now.geometry }
     {
         let slab_blocks = self.geometry.slab_blocks;
@@ -262,7 +269,8 @@ impl Layout {
     fn slab_start(&self, slab: u32) -> u32
         requires { slab < self.now.geometry.slabs }
         ensures start { result ≡ slab_start_of self.now.geometry slab }
-        ensures inside { result + slab_stride_of self.now.geometry ≤ needed_blocks self.now.geometry }
+        ensures inside { result + slab_stride_of self.now.geometry
+            ≤ needed_blocks self.now.geometry }
         ensures small { result ≤ 33631293 }
     {
         self.first_slab() + slab * self.slab_stride()
@@ -271,7 +279,9 @@ impl Layout {
 
 /// The regions don't overlap, and end at the needed size: each block of an image is one place in one region.
 pub fn regions_are_apart()
-    ensures apart { (g : Geometry) (p q : Place) → IsPlace g p → IsPlace g q → block_of g p ≡ block_of g q → p ≡ q }
+    ensures apart { (g : Geometry) (p q : Place) → IsPlace g p → IsPlace g q →
+        block_of g p ≡ block_of g q → p ≡ q }
     ensures inside { (g : Geometry) (p : Place) → IsPlace g p → block_of g p < needed_blocks g }
-    ensures filled { (g : Geometry) (b : ℕ) → b < needed_blocks g → (p : Place) × IsPlace g p × (block_of g p ≡ b) }
+    ensures filled { (g : Geometry) (b : ℕ) → b < needed_blocks g →
+        (p : Place) × IsPlace g p × (block_of g p ≡ b) }
 {}

@@ -22,8 +22,10 @@ impl Point {
         ensures number { result.0 ≡ point_of sequence entry half }
 
         // Points are ordered as their triples.
-        ensures rises { (s e : ℕ) (h : Half) → e < 192 → IsBefore sequence entry half s e h → result.0 < point_of s e h }
-        ensures falls { (s e : ℕ) (h : Half) → e < 192 → result.0 < point_of s e h → IsBefore sequence entry half s e h }
+        ensures rises { (s e : ℕ) (h : Half) → e < 192 → IsBefore sequence entry half s e h →
+            result.0 < point_of s e h }
+        ensures falls { (s e : ℕ) (h : Half) → e < 192 → result.0 < point_of s e h →
+            IsBefore sequence entry half s e h }
     {
         let half_number = match half {
             Half::Increment => 0,

@@ -12,10 +12,13 @@ use blk_base::{Mappings, OpenedPage};
 /// the logical size or is there.
 pub(crate) fn count_pages(forest: &Forest, opened: &[OpenedPage]) -> usize
     requires forest { IsForest forest.now }
-    requires inner { All (λ o. IsTreeOf forest.now o.page.tree → IsInner forest.now o.page) opened.now }
+    requires inner { All (λ o.
+        IsTreeOf forest.now o.page.tree → IsInner forest.now o.page) opened.now }
     ensures most { result ≤ most_rows forest.now.geometry.height * trees_of forest.now }
-    ensures paths { (page : PageId) → IsOnPath forest.now page → 1 ≤ page.level → number_of forest.now page < result }
-    ensures opened { All (λ o. IsTreeOf forest.now o.page.tree → number_of forest.now o.page < result) opened.now }
+    ensures paths { (page : PageId) → IsOnPath forest.now page → 1 ≤ page.level →
+        number_of forest.now page < result }
+    ensures opened { All (λ o.
+        IsTreeOf forest.now o.page.tree → number_of forest.now o.page < result) opened.now }
 {
     count_rows(forest, opened) as usize * count_trees(forest)
 }
@@ -23,7 +26,8 @@ pub(crate) fn count_pages(forest: &Forest, opened: &[OpenedPage]) -> usize
 // How many rows of pages, the roots among them.
 fn count_rows(forest: &Forest, opened: &[OpenedPage]) -> u32
     requires forest { IsForest forest.now }
-    requires inner { All (λ o. IsTreeOf forest.now o.page.tree → IsInner forest.now o.page) opened.now }
+    requires inner { All (λ o.
+        IsTreeOf forest.now o.page.tree → IsInner forest.now o.page) opened.now }
     ensures { AreEnough forest.now opened.now result }
 {
     if forest.geometry.height == 2 {
@@ -42,8 +46,11 @@ fn count_rows(forest: &Forest, opened: &[OpenedPage]) -> u32
 pub(crate) fn take_over(pages: &mut Vec<Mappings>, opened: &[OpenedPage], forest: &Forest)
     requires forest { IsForest forest.now }
     requires opened { IsOpened forest.now opened.now }
-    requires inside { All (λ o. IsTreeOf forest.now o.page.tree → number_of forest.now o.page < length pages.old.items) opened.now }
-    ensures { IsTakenOver forest.now opened.now (length opened.now) pages.old.items pages.new.items }
+    requires inside { All (λ o.
+        IsTreeOf forest.now o.page.tree → number_of forest.now o.page < length pages.old.items)
+        opened.now }
+    ensures { IsTakenOver forest.now opened.now
+        (length opened.now) pages.old.items pages.new.items }
 {
     for page in opened {
         if has_tree(forest, page.page.tree) {

@@ -13,7 +13,8 @@ pub fn path(at: Lba, height: u32) -> Path
     requires inside { at.0 < logical_limit height }
     ensures path { result ≡ path_of height at.0 }
     ensures form { IsPath height result }
-    ensures leads { (level : ℕ) → level < height → page_on result height level ≡ page_at level at.0 }
+    ensures leads { (level : ℕ) → level < height →
+        page_on result height level ≡ page_at level at.0 }
 {
     let leaf = at.0 / SLOTS;
     let tree = (leaf % TREES) as u8;

@@ -39,7 +39,8 @@ fn target_of(mapping: Mapping) -> u32
 /// The mapping that the 5 bytes at a place spell, if they spell one.
 pub fn read_mapping(bytes: &[u8], at: usize) -> Mapping
     requires { at + 5 ≤ length bytes.now }
-    ensures { (mapping : Mapping) → HoldsMapping mapping → take 5 (drop at bytes.now) ≡ mapping_bytes mapping → result ≡ mapping }
+    ensures { (mapping : Mapping) → HoldsMapping mapping →
+        take 5 (drop at bytes.now) ≡ mapping_bytes mapping → result ≡ mapping }
 {
     let block = read_u32(bytes, at + 1);
     if read_u8(bytes, at) == 0 {

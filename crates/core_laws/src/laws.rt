@@ -41,43 +41,63 @@ ghost use Rattle.recovery_journal.specs.Log.{head_of};
 /// A core is legal when a session begins, and every list of events keeps it so.
 pub fn every_event_keeps_a_core_legal()
     ensures first { (s : Session) (core : Core) → IsSession s → IsFirst s core → Legal s core }
-    ensures step { (s : Session) (old new : Core) → IsSession s → StepOf s.sizes old new → Legal s old → Legal s new }
+    ensures step { (s : Session) (old new : Core) → IsSession s → StepOf s.sizes old new →
+        Legal s old → Legal s new }
     ensures moved { (s : Session) (old new : Core) → MoveOf old new → Legal s old → Legal s new }
-    ensures leads { (s : Session) (first core : Core) → IsSession s → Leads s.sizes first core → Legal s first → Legal s core }
+    ensures leads { (s : Session) (first core : Core) → IsSession s → Leads s.sizes first core →
+        Legal s first → Legal s core }
 {}
 
 /// In a legal core a rule applies to the item in front of each inbox, and to a stream that may begin its next request; and
 /// what a rule posts goes to a zone: so nothing is ever stray.
 pub fn a_legal_core_goes_on()
-    ensures rule { (s : Session) (core : Core) (n : ℕ) (z : Zone) (front : Item) (rest : List Item) → IsSession s → Legal s core
-        → slice_get core.zones n ≡ Some z → z.ports.inbox ≡ front ∷ rest → HasAct s.sizes z.keeps (front ∷ []) }
+    ensures rule { (s : Session) (core : Core) (n : ℕ) (z : Zone) (front : Item)
+        (rest : List Item) → IsSession s → Legal s core
+        → slice_get core.zones n ≡ Some z → z.ports.inbox ≡ front ∷ rest →
+        HasAct s.sizes z.keeps (front ∷ []) }
     ensures begins { (s : Session) (core : Core) (n : ℕ) (z : Zone) → IsSession s → Legal s core
         → slice_get core.zones n ≡ Some z → MayBegin s.sizes z.keeps → HasAct s.sizes z.keeps [] }
-    ensures lanes { (s : Session) (core : Core) (n : ℕ) (z : Zone) (front rest : List Item) (new : ZoneData) (made : Trace) (posts : List Post) → IsSession s → Legal s core
-        → slice_get core.zones n ≡ Some z → z.ports.inbox ≡ front ++ rest → (front ≡ [] → rest ≡ []) → Act s.sizes z.keeps front new made posts
-        → AllByRecursion (λ (post : Post). zone_number s.sizes post.0 < length z.ports.outboxes) posts }
+    ensures lanes { (s : Session) (core : Core) (n : ℕ) (z : Zone) (front rest : List Item)
+        (new : ZoneData) (made : Trace) (posts : List Post) → IsSession s → Legal s core
+        → slice_get core.zones n ≡ Some z → z.ports.inbox ≡ front ++ rest →
+        (front ≡ [] → rest ≡ []) → Act s.sizes z.keeps front new made posts
+        →
+        AllByRecursion
+        (λ (post : Post). zone_number s.sizes post.0 < length z.ports.outboxes) posts }
 {}
 
 /// What was begun and answered in a legal core is in order, and so are the places; the desk and the logical zones have
 /// them. A block request is answered `Range` exactly where its address isn't below the logical size. A request is answered as stopped only where the device's zone has stopped the session, since a write or flush
 /// failed. Where each request of the script is answered, that is a right run.
 pub fn a_legal_core_is_in_order()
-    ensures desk_log { (s : Session) (core : Core) → Legal s core → IsDeskLog s.sizes.depth s.script (lines core.trace) }
+    ensures desk_log { (s : Session) (core : Core) → Legal s core →
+        IsDeskLog s.sizes.depth s.script (lines core.trace) }
     ensures drawn { (s : Session) (core : Core) → Legal s core
-        → AreDrawn s.sizes.zones s.sizes.geometry.logical s.script (lines core.trace) (places core.trace) }
-    ensures placed { (s : Session) (core : Core) (w : Writer) (r : Request) (a : ℕ) → Legal s core → request_at s.script w ≡ Some r → address_of r ≡ Some a
+        →
+        AreDrawn s.sizes.zones s.sizes.geometry.logical s.script (lines core.trace)
+        (places core.trace) }
+    ensures placed { (s : Session) (core : Core) (w : Writer) (r : Request) (a : ℕ) → Legal s core →
+        request_at s.script w ≡ Some r → address_of r ≡ Some a
         → a < s.sizes.geometry.logical → IsSome (answer_of (lines core.trace) w)
         → IsSome (place_of (places core.trace) w) ⊎ IsAnsweredAtOnce (lines core.trace) w Stopped }
-    ensures at_desk { (s : Session) (core : Core) (n : ℕ) (z : Zone) (desk : DeskData) → Legal s core → slice_get core.zones n ≡ Some z → z.keeps ≡ Desk desk
+    ensures at_desk { (s : Session) (core : Core) (n : ℕ) (z : Zone) (desk : DeskData) →
+        Legal s core → slice_get core.zones n ≡ Some z → z.keeps ≡ Desk desk
         → (desk.log ≡ lines core.trace) × (desk.marks ≡ marks core.trace) }
-    ensures at_zone { (s : Session) (core : Core) (n : ℕ) (z : Zone) (l : LogicalZone) → Legal s core → slice_get core.zones n ≡ Some z → z.keeps ≡ Logical l
+    ensures at_zone { (s : Session) (core : Core) (n : ℕ) (z : Zone) (l : LogicalZone) →
+        Legal s core → slice_get core.zones n ≡ Some z → z.keeps ≡ Logical l
         → l.places ≡ places_in l.zone (places core.trace) }
-    ensures range { (s : Session) (core : Core) (w : Writer) (r : Request) (a : ℕ) (answer : Answer) → Legal s core → request_at s.script w ≡ Some r → address_of r ≡ Some a
-        → answer_of (lines core.trace) w ≡ Some answer → (answer ≡ Range) ↔ (s.sizes.geometry.logical ≤ a) }
-    ensures stopped { (s : Session) (core : Core) (w : Writer) (n : ℕ) (z : Zone) (d : DeviceZone) → Legal s core → answer_of (lines core.trace) w ≡ Some Stopped
+    ensures range { (s : Session) (core : Core) (w : Writer) (r : Request) (a : ℕ)
+        (answer : Answer) → Legal s core → request_at s.script w ≡ Some r → address_of r ≡ Some a
+        → answer_of (lines core.trace) w ≡ Some answer →
+        (answer ≡ Range) ↔ (s.sizes.geometry.logical ≤ a) }
+    ensures stopped { (s : Session) (core : Core) (w : Writer) (n : ℕ) (z : Zone) (d : DeviceZone) →
+        Legal s core → answer_of (lines core.trace) w ≡ Some Stopped
         → slice_get core.zones n ≡ Some z → z.keeps ≡ Device d → d.stopped ≡ true }
-    ensures run { (s : Session) (core : Core) → IsSession s → Legal s core → AllAnswered s.script (lines core.trace)
-        → RunRight s.sizes.zones s.sizes.depth s.sizes.geometry.logical (progress_of core.trace) s.script (lines core.trace)
+    ensures run { (s : Session) (core : Core) → IsSession s → Legal s core →
+        AllAnswered s.script (lines core.trace)
+        →
+        RunRight s.sizes.zones s.sizes.depth s.sizes.geometry.logical
+        (progress_of core.trace) s.script (lines core.trace)
         (report_of s core.trace).places (report_of s core.trace).histories }
 {}
 
@@ -86,67 +106,91 @@ pub fn a_legal_core_is_in_order()
 /// never set.
 pub fn a_legal_core_stops_at_a_failure()
     ensures happened { (s : Session) (core : Core) → Legal s core → StopsAtFailure core.trace }
-    ensures logged { (s : Session) (core : Core) (newer older : List Call) (call : Call) → Legal s core → calls core.trace ≡ newer ++ call ∷ older
-        → is_read call ≡ false → AllByRecursion (λ (c : Call). is_read c ≡ false → is_ok c ≡ true) older }
-    ensures aborted { (s : Session) (core : Core) → Legal s core → AllByRecursion (IsHeldBack core.trace) (aborted core.trace) }
+    ensures logged { (s : Session) (core : Core) (newer older : List Call) (call : Call) →
+        Legal s core → calls core.trace ≡ newer ++ call ∷ older
+        → is_read call ≡ false →
+        AllByRecursion (λ (c : Call). is_read c ≡ false → is_ok c ≡ true) older }
+    ensures aborted { (s : Session) (core : Core) → Legal s core →
+        AllByRecursion (IsHeldBack core.trace) (aborted core.trace) }
 {}
 
 /// An entry that is handed in to the journal says what it replaces: what its address is mapped to by the committed entries on
 /// top of the window; and it maps the address to what the request of the script asks: a write's to a block, or to zeros where
 /// its bytes are zeros, a discard's to nothing.
 pub fn an_entry_says_what_it_replaces()
-    ensures old { (s : Session) (core : Core) (newer older : Trace) (e : Logged) → Legal s core → core.trace ≡ newer ++ Enters e ∷ older
+    ensures old { (s : Session) (core : Core) (newer older : Trace) (e : Logged) → Legal s core →
+        core.trace ≡ newer ++ Enters e ∷ older
         → e.old ≡ mapping_of (entries_of s.window (committed older)) e.at.0 }
-    ensures new { (s : Session) (core : Core) (newer older : Trace) (e : Logged) → Legal s core → core.trace ≡ newer ++ Enters e ∷ older
+    ensures new { (s : Session) (core : Core) (newer older : Trace) (e : Logged) → Legal s core →
+        core.trace ≡ newer ++ Enters e ∷ older
         → IsWrite s older e }
 {}
 
 /// In a legal core the log of the journal has handed out the entries that are committed, in the order in which they stand
 /// in its blocks. Its head is the first sequence of the window, as no zone lets go of an entry.
 pub fn the_log_hands_out_what_is_committed()
-    ensures handed { (s : Session) (core : Core) (n : ℕ) (z : Zone) (j : JournalZone) → Legal s core → slice_get core.zones n ≡ Some z → z.keeps ≡ Journal j
-        → take j.log.handed (said_by j.log.entries) ≡ reverse (map entry_of (committed core.trace)) }
-    ensures head { (s : Session) (core : Core) (n : ℕ) (z : Zone) (j : JournalZone) → Legal s core → slice_get core.zones n ≡ Some z → z.keeps ≡ Journal j
+    ensures handed { (s : Session) (core : Core) (n : ℕ) (z : Zone) (j : JournalZone) →
+        Legal s core → slice_get core.zones n ≡ Some z → z.keeps ≡ Journal j
+        →
+        take j.log.handed (said_by j.log.entries) ≡ reverse (map entry_of (committed core.trace)) }
+    ensures head { (s : Session) (core : Core) (n : ℕ) (z : Zone) (j : JournalZone) → Legal s core →
+        slice_get core.zones n ≡ Some z → z.keeps ≡ Journal j
         → head_of j.log ≡ s.sizes.start }
 {}
 
 /// Where the session is fair, each read that a legal core answered gave the last settled write before its place.
 pub fn a_legal_core_reads_right()
     ensures { (s : Session) (core : Core) → IsSession s → Legal s core → IsFair s core.trace
-        → ReadsRight (opening_values s) s.script (lines core.trace) (report_of s core.trace).places (report_of s core.trace).histories }
+        →
+        ReadsRight (opening_values s) s.script (lines core.trace) (report_of s core.trace).places
+        (report_of s core.trace).histories }
 {}
 
 /// Each flush that a legal core answered Ok has its mark, whatever the device does; and where the session is fair, a stop before
 /// or within any call of the device leaves each address a value no older than its last flushed one.
 pub fn a_legal_core_is_right_after_a_stop()
-    ensures marked { (s : Session) (core : Core) → IsSession s → Legal s core → AreFlushMarks s.script (moments core.trace) (marks core.trace) }
+    ensures marked { (s : Session) (core : Core) → IsSession s → Legal s core →
+        AreFlushMarks s.script (moments core.trace) (marks core.trace) }
     ensures stops { (s : Session) (core : Core) → IsSession s → Legal s core → IsFair s core.trace
-        → RightAfterStops (ShowsValues s) s.blocks s.before s.sizes.geometry.logical (opening_values s) (report_of s core.trace) (calls core.trace) }
+        →
+        RightAfterStops (ShowsValues s) s.blocks s.before s.sizes.geometry.logical
+        (opening_values s) (report_of s core.trace) (calls core.trace) }
 {}
 
 /// What a zone does with an item, and the desk with none, is fixed, and in the device's zone by how the device answered: two
 /// acts on the same keep, make and post the same. So all freedom lies in the order of the events, and in the device.
 pub fn an_act_has_one_result()
-    ensures { (sizes : Sizes) (keeps : ZoneData) (front : List Item) (new new' : ZoneData) (made made' : Trace) (posts posts' : List Post)
-        → Act sizes keeps front new made posts → Act sizes keeps front new' made' posts' → (CallsDevice keeps → made ≡ made')
+    ensures { (sizes : Sizes) (keeps : ZoneData) (front : List Item) (new new' : ZoneData)
+        (made made' : Trace) (posts posts' : List Post)
+        → Act sizes keeps front new made posts → Act sizes keeps front new' made' posts' →
+        (CallsDevice keeps → made ≡ made')
         → (new ≡ new') × (made ≡ made') × (posts ≡ posts') }
 {}
 
 /// A step of one zone's view is a step of the core that the views and the lanes stand for, whatever the others are by then.
 pub fn a_view_steps_as_its_zone()
-    ensures { (sizes : Sizes) (views : List Zone) (lanes : List (List (List Item))) (n : ℕ) (old new : Zone) (made t : Trace) → slice_get views n ≡ Some old
-        → ZoneStep sizes old new made → StepOf sizes (core_of views lanes t) (core_of (slice_set views n new) lanes (made ++ t)) }
+    ensures { (sizes : Sizes) (views : List Zone) (lanes : List (List (List Item))) (n : ℕ)
+        (old new : Zone) (made t : Trace) → slice_get views n ≡ Some old
+        → ZoneStep sizes old new made →
+        StepOf sizes (core_of views lanes t) (core_of (slice_set views n new) lanes (made ++ t)) }
 {}
 
 /// The views of threads and the lanes between them stand for one core. Posting a batch to a lane and receiving it leave that
 /// core as it is, and taking it is a move; where every lane is empty at the start, they stand for the first core.
 pub fn the_views_stand_for_a_core()
-    ensures posts { (from to : ℕ) (views views' : List View) (lanes lanes' : List (List (List Item))) (t : Trace) → PostsBatch from to views views' lanes lanes'
+    ensures posts { (from to : ℕ) (views views' : List View)
+        (lanes lanes' : List (List (List Item))) (t : Trace) →
+        PostsBatch from to views views' lanes lanes'
         → core_of (zones_seen views') lanes' t ≡ core_of (zones_seen views) lanes t }
-    ensures receives { (from to : ℕ) (views views' : List View) (lanes : List (List (List Item))) (t : Trace) → ReceivesBatch from to views views' lanes
+    ensures receives { (from to : ℕ) (views views' : List View) (lanes : List (List (List Item)))
+        (t : Trace) → ReceivesBatch from to views views' lanes
         → core_of (zones_seen views') lanes t ≡ core_of (zones_seen views) lanes t }
-    ensures takes { (from to : ℕ) (views views' : List View) (lanes lanes' : List (List (List Item))) (t : Trace) → TakesBatch from to views views' lanes lanes'
+    ensures takes { (from to : ℕ) (views views' : List View)
+        (lanes lanes' : List (List (List Item))) (t : Trace) →
+        TakesBatch from to views views' lanes lanes'
         → MoveOf (core_of (zones_seen views) lanes t) (core_of (zones_seen views') lanes' t) }
-    ensures first { (s : Session) (core : Core) (views : List View) (lanes : List (List (List Item))) → IsFirst s core → zones_seen views ≡ core.zones → AreEmptyLanes lanes
+    ensures first { (s : Session) (core : Core) (views : List View)
+        (lanes : List (List (List Item))) → IsFirst s core → zones_seen views ≡ core.zones →
+        AreEmptyLanes lanes
         → core_of (zones_seen views) lanes [] ≡ core }
 {}

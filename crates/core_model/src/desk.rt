@@ -9,11 +9,11 @@ ghost use Rattle.plain_laws.specs.Sums.{total};
 
 use crate::counts::StreamCounts;
 use crate::scripts::count_requests;
-use data_vio::{Asks, BoxedVio, Fifo, LANE_ROOM, MOST_UNDER_WAY, Phase, Vio};
 use blk_base::{Answer, Block, Lba, Mapping, Writer, ZoneId};
+use data_vio::{Asks, BoxedVio, Fifo, LANE_ROOM, MOST_UNDER_WAY, Phase, Vio};
 use std::alloc::{AllocError, Global};
 use std::marker::Model;
-use vdo_model::{DeskLine, FlushMark, Requests, ReportList};
+use vdo_model::{DeskLine, FlushMark, ReportList, Requests};
 
 /// Where requests begin and are answered. It has the boxes of all requests that aren't under way.
 #[derive(Drop)]
@@ -109,7 +109,8 @@ impl Desk {
     pub fn new(alloc: Global, requests: Requests) -> Result<Desk, AllocError>
         requires streams { length requests ≤ most_streams }
         requires few { requests_in requests ≤ most_requests }
-        ensures { IfOk result (λ desk. desk ≡ record { requests = requests; log = []; marks = []; notices = 0; parked = [] }) }
+        ensures { IfOk result (λ desk.
+            desk ≡ record { requests = requests; log = []; marks = []; notices = 0; parked = [] }) }
     {
         let count = count_requests(&requests);
         let lines = Vec::with_capacity(alloc, 2 * count + 2)?;
@@ -192,7 +193,8 @@ impl Desk {
     /// A request is begun, and answered at once.
     pub fn answer_at_once(&mut self, request: Writer, answer: Answer)
         requires { length self.old.log ≤ 2 * requests_in self.old.requests }
-        ensures { self.new ≡ record self.old { log = Answered request answer ∷ Begin request ∷ self.old.log } }
+        ensures { self.new
+            ≡ record self.old { log = Answered request answer ∷ Begin request ∷ self.old.log } }
     {
         self.begun.raise(request.stream);
         self.answered.raise(request.stream);
@@ -219,7 +221,12 @@ impl Desk {
     pub fn mark(&mut self, vio: BoxedVio)
         requires lines { length self.old.log ≤ 2 * requests_in self.old.requests }
         requires marks { length self.old.marks ≤ requests_in self.old.requests }
-        ensures { self.new ≡ record self.old { log = Answered vio.request Done ∷ self.old.log; marks = mark_of_vio vio ∷ self.old.marks } }
+        ensures { self.new
+            ≡ record self.old {
+              log = Answered vio.request Done ∷ self.old.log;
+              marks = mark_of_vio vio
+                  ∷ self.old.marks;
+            } }
     {
         let request = vio.get().request;
         let calls = vio.get().calls;
@@ -237,7 +244,8 @@ impl Desk {
 
     /// The first of those that wait for it.
     pub fn unpark(&mut self) -> Option<BoxedVio>
-        ensures some { IfSome result (λ vio. self.old ≡ record self.new { parked = vio ∷ self.new.parked }) }
+        ensures some { IfSome result (λ vio.
+            self.old ≡ record self.new { parked = vio ∷ self.new.parked }) }
         ensures none { IfNone result ((self.old.parked ≡ []) × (self.new ≡ self.old)) }
     {
         self.parked.pop()

@@ -6,7 +6,10 @@ ghost use Rattle.core_model.specs.SessionLimits.{most_items, most_requests};
 ghost use Rattle.core_model.specs.Start.{first_log};
 ghost use Rattle.data_vio.specs.declared.items.Stage.TheVariants.{Commit, Cover};
 
-use data_vio::{BLOCK_ENTRIES, BoxedVio, Fifo, LANE_ROOM, Logged, Phase, REQUEST_ROOM, Register, SealedBlock, Sizes, Stage};
+use data_vio::{
+    BLOCK_ENTRIES, BoxedVio, Fifo, LANE_ROOM, Logged, Phase, REQUEST_ROOM, Register, SealedBlock,
+    Sizes, Stage,
+};
 use recovery_journal::Journal;
 use std::alloc::{AllocError, Global};
 use std::marker::Model;
@@ -167,9 +170,11 @@ impl JournalZone {
         requires sequence { self.old.log.sequence < 2 ^ 55 }
         requires few { length self.old.entered ≤ most_requests }
         ensures entered { OnOk result (self.new ≡ rows.entered_by vio self.old) }
-        ensures room { OnOk result ((rows.has_block self.old ≡ true) × (rows.has_room self.old ≡ true)) }
+        ensures room { OnOk result
+            ((rows.has_block self.old ≡ true) × (rows.has_room self.old ≡ true)) }
         ensures back { IfErr result (λ back. (back ≡ vio) × (self.new ≡ self.old)) }
-        ensures full { OnErr result (rows.has_block self.old ≡ true → rows.has_room self.old ≡ false) }
+        ensures full { OnErr result
+            (rows.has_block self.old ≡ true → rows.has_room self.old ≡ false) }
     {
         if self.log.append(vio.entry()).is_err() {
             return Err(vio);
@@ -215,7 +220,8 @@ impl JournalZone {
         requires done { block.vios ≡ [] }
         requires due { IsSealable self.old.log }
         ensures block { result ≡ rows.next_block self.old Cover self.old.filling }
-        ensures zone { self.new ≡ record self.old { log = rows.sealed_log self.old.log; filling = [] } }
+        ensures zone { self.new
+            ≡ record self.old { log = rows.sealed_log self.old.log; filling = [] } }
     {
         let Some(sealed) = self.log.seal() else {
             unreachable!();
@@ -255,7 +261,8 @@ impl JournalZone {
 
     /// The oldest request of the block being filled, which leaves it.
     pub fn pop_filling(&mut self) -> Option<BoxedVio>
-        ensures some { IfSome result (λ vio. self.old ≡ record self.new { filling = vio ∷ self.new.filling }) }
+        ensures some { IfSome result (λ vio.
+            self.old ≡ record self.new { filling = vio ∷ self.new.filling }) }
         ensures none { IfNone result ((self.old.filling ≡ []) × (self.new ≡ self.old)) }
     {
         self.filling.pop()
@@ -263,7 +270,8 @@ impl JournalZone {
 
     /// The oldest that waits, which waits no longer.
     pub fn pop_waiting(&mut self) -> Option<BoxedVio>
-        ensures some { IfSome result (λ vio. self.old ≡ record self.new { waiting = vio ∷ self.new.waiting }) }
+        ensures some { IfSome result (λ vio.
+            self.old ≡ record self.new { waiting = vio ∷ self.new.waiting }) }
         ensures none { IfNone result ((self.old.waiting ≡ []) × (self.new ≡ self.old)) }
     {
         self.waiting.pop()

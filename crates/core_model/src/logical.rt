@@ -8,8 +8,8 @@ ghost use Rattle.data_vio.specs.Vios.{turned};
 ghost use Rattle.data_vio.specs.declared.items.Phase.TheVariants as phase;
 
 use crate::Slots;
-use data_vio::{BoxedVio, LOCK_ROOM, Logged, Phase, REQUEST_ROOM, Register};
 use blk_base::{Entry, Lba};
+use data_vio::{BoxedVio, LOCK_ROOM, Logged, Phase, REQUEST_ROOM, Register};
 use logical_locks::Locks;
 use std::alloc::{AllocError, Global};
 use std::marker::Model;
@@ -61,7 +61,11 @@ impl Model for LogicalZone {
 impl LogicalZone {
     /// A logical zone at the start of a session, by its number among the logical ones: it drew nothing and has set nothing,
     /// and knows these entries of the window. All its room is taken here.
-    pub fn new(alloc: Global, zone: u8, window: ReportList<Entry>) -> Result<LogicalZone, AllocError>
+    pub fn new(
+        alloc: Global,
+        zone: u8,
+        window: ReportList<Entry>,
+    ) -> Result<LogicalZone, AllocError>
         ensures { IfOk result (λ logical. logical ≡ record {
           zone = zone;
           notified = false;
@@ -158,10 +162,20 @@ impl LogicalZone {
     pub fn ask(&mut self, vio: BoxedVio) -> Option<BoxedVio>
         requires within { IsLogicalWithin (2 ^ 64 - 2) self.old }
         requires alive { rows.is_among vio.at.0 self.old.retired ≡ false }
-        ensures taken { IfSome result (λ back. (back ≡ turned phase.Wait (rows.placed self.old vio)) × (rows.is_held vio.at.0 self.old.held ≡ false)
-            × (self.new ≡ record (rows.drawn_by self.old vio) { held = rows.lock_of (rows.placed self.old vio) ∷ self.old.held })) }
+        ensures taken { IfSome result (λ back.
+            (back ≡ turned phase.Wait (rows.placed self.old vio))
+            × (rows.is_held vio.at.0 self.old.held ≡ false)
+            ×
+            (self.new
+            ≡ record
+            (rows.drawn_by self.old vio)
+            { held = rows.lock_of (rows.placed self.old vio) ∷ self.old.held })) }
         ensures waits { IfNone result ((rows.is_held vio.at.0 self.old.held ≡ true)
-            × (self.new ≡ record (rows.drawn_by self.old vio) { waiting = self.old.waiting ++ turned phase.Wait (rows.placed self.old vio) ∷ [] })) }
+            ×
+            (self.new
+            ≡ record
+            (rows.drawn_by self.old vio)
+            { waiting = self.old.waiting ++ turned phase.Wait (rows.placed self.old vio) ∷ [] })) }
     {
         let at = vio.get().at;
         let place = self.locks.next();

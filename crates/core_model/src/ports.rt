@@ -34,7 +34,8 @@ impl Model for Ports {
 impl Ports {
     /// An inbox, and as many outboxes, with nothing in them.
     pub fn new(alloc: Global, count: u32) -> Result<Ports, AllocError>
-        ensures { IfOk result (λ ports. ports ≡ record { inbox = []; outboxes = replicate count [] }) }
+        ensures { IfOk result (λ ports.
+            ports ≡ record { inbox = []; outboxes = replicate count [] }) }
     {
         let rooms = rooms(alloc, count)?;
         let boxes = zone_queues::Ports::new(alloc, LANE_ROOM, &rooms)?;
@@ -51,7 +52,8 @@ impl Ports {
     /// Adds an item behind those of the outbox to a zone.
     pub fn post(&mut self, to: u32, item: Item)
         requires there { to < length self.old.outboxes }
-        requires room { (lane : List Item) → slice_get self.old.outboxes to ≡ Some lane → length lane < LANE_ROOM }
+        requires room { (lane : List Item) → slice_get self.old.outboxes to ≡ Some lane →
+            length lane < LANE_ROOM }
         ensures { self.new ≡ record self.old { outboxes = posted to item self.old.outboxes } }
     {
         self.boxes.post(to, item);
@@ -67,7 +69,8 @@ impl Ports {
 
     /// The item in front of the inbox, which leaves it; `None` exactly where there is none.
     pub fn take(&mut self) -> Option<Item>
-        ensures some { IfSome result (λ item. self.old ≡ record self.new { inbox = item ∷ self.new.inbox }) }
+        ensures some { IfSome result (λ item.
+            self.old ≡ record self.new { inbox = item ∷ self.new.inbox }) }
         ensures none { IfNone result ((self.old.inbox ≡ []) × (self.new ≡ self.old)) }
     {
         self.boxes.take()
@@ -92,7 +95,8 @@ impl Ports {
     pub fn exchange(&mut self, to: u32, batch: &mut Lane)
         requires { to < length self.old.outboxes }
         ensures out { slice_get self.old.outboxes to ≡ Some batch.new }
-        ensures kept { self.new ≡ record self.old { outboxes = slice_set self.old.outboxes to batch.old } }
+        ensures kept { self.new
+            ≡ record self.old { outboxes = slice_set self.old.outboxes to batch.old } }
     {
         let none = zone_queues::Lane::without_room(self.alloc);
         let lane = replace(&mut batch.items, none);

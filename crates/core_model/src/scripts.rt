@@ -19,7 +19,8 @@ pub(crate) fn count_requests(requests: &Requests) -> usize
 
 /// Whether a script is no larger than it may be: it has at most 16 streams, and at most 65,536 requests in all.
 pub fn is_limited(requests: &Requests) -> bool
-    ensures { IsTrue result ↔ (length requests.now ≤ most_streams) × (requests_in requests.now ≤ most_requests) }
+    ensures { IsTrue result ↔ (length requests.now ≤ most_streams)
+        × (requests_in requests.now ≤ most_requests) }
 {
     if requests.count() > MOST_STREAMS {
         return false;

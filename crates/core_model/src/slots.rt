@@ -2,8 +2,8 @@ ghost use Rattle.std.specs.Prelude.{ℕ, ◌≡◌, ◌+◌, ◌<◌, ◌≤◌,
 ghost use Rattle.core_model.specs.SlotOrder.{AreInOrder, IsGapFor, IsPlaceOf};
 ghost use Rattle.core_model.specs.Trace.{newest, of_address};
 
-use data_vio::{Logged, REQUEST_ROOM, Register};
 use blk_base::Lba;
+use data_vio::{Logged, REQUEST_ROOM, Register};
 use std::alloc::{AllocError, Global};
 use std::marker::Model;
 
@@ -77,7 +77,8 @@ fn put(writes: &mut Vec<Logged>, write: Logged)
     requires order { AreInOrder writes.old.items }
     requires room { vec_len writes.old < vec_capacity writes.old }
     ensures order { AreInOrder writes.new.items }
-    ensures newest { (a : ℕ) → newest (of_address a writes.new.items) ≡ newest (of_address a (write ∷ writes.old.items)) }
+    ensures newest { (a : ℕ) →
+        newest (of_address a writes.new.items) ≡ newest (of_address a (write ∷ writes.old.items)) }
     ensures len { vec_len writes.new ≤ vec_len writes.old + 1 }
     ensures capacity { vec_capacity writes.new ≡ vec_capacity writes.old }
 {

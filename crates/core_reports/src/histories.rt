@@ -20,8 +20,12 @@ use vdo_model::{DeskLine, HistoryEntry, Placed, Requests};
 
 // The address that a request changes, where it is a write or a discard.
 fn changed(requests: &Requests, request: Writer) -> Option<Lba>
-    ensures some { IfSome result (λ at. (mark : Marked) → entry_of (request_at requests.now request) request mark ≡ record { at = at; request = request; mark = mark } ∷ []) }
-    ensures none { IfNone result ((mark : Marked) → entry_of (request_at requests.now request) request mark ≡ []) }
+    ensures some { IfSome result (λ at.
+        (mark : Marked) →
+        entry_of (request_at requests.now request) request mark
+        ≡ record { at = at; request = request; mark = mark } ∷ []) }
+    ensures none { IfNone result
+        ((mark : Marked) → entry_of (request_at requests.now request) request mark ≡ []) }
 {
     match requests.stream(request.stream).get(request.number as usize) {
         Some(Request::Write { at, .. } | Request::Discard(at)) => Some(*at),
@@ -38,9 +42,16 @@ fn add_entry(
     request: Writer,
     histories: &mut Register<HistoryEntry, REQUEST_ROOM>,
 )
-    ensures { (progress : Progress) → progress.is_handed request ≡ is_there (logged_of (reverse entries.now) request) → AreNoted desk.now notes.now
-        → IsFound (reverse desk.now) (map length notes.now) request → length histories.old < REQUEST_ROOM
-        → histories.new ≡ entry_of (request_at requests.now request) request (mark_of (answer_of (reverse desk.now) request) (progress.is_set request) (progress.is_handed request)) ++ histories.old }
+    ensures { (progress : Progress) →
+        progress.is_handed request ≡ is_there (logged_of (reverse entries.now) request) →
+        AreNoted desk.now notes.now
+        → IsFound (reverse desk.now) (map length notes.now) request →
+        length histories.old < REQUEST_ROOM
+        →
+        histories.new
+        ≡ entry_of (request_at requests.now request) request
+        (mark_of (answer_of (reverse desk.now) request) (progress.is_set request)
+        (progress.is_handed request)) ++ histories.old }
 {
     let Some(at) = changed(requests, request) else {
         return;
@@ -61,8 +72,11 @@ fn add_entries(
     histories: &mut Register<HistoryEntry, REQUEST_ROOM>,
 )
     ensures { (progress : Progress) → histories.old ≡ [] → AreNoted desk.now notes.now
-        → AreFound (reverse desk.now) (map length notes.now) (reverse entries.now) progress (reverse places.now)
-        → histories.new ≡ histories_of requests.now (reverse desk.now) progress (reverse places.now) }
+        →
+        AreFound (reverse desk.now) (map length notes.now) (reverse entries.now) progress
+        (reverse places.now)
+        →
+        histories.new ≡ histories_of requests.now (reverse desk.now) progress (reverse places.now) }
 {
     for placed in places {
         add_entry(requests, desk, notes, entries, placed.request, histories);
@@ -76,7 +90,8 @@ pub(crate) fn list_histories(
     notes: &mut [StreamNotes],
     histories: &mut Register<HistoryEntry, REQUEST_ROOM>,
 )
-    ensures { (desk : DeskData) (entries : List Entered) (progress : Progress) → HasDesk desk zones.now → HasEntered entries zones.now → histories.old ≡ []
+    ensures { (desk : DeskData) (entries : List Entered) (progress : Progress) →
+        HasDesk desk zones.now → HasEntered entries zones.now → histories.old ≡ []
         → AreFound desk.log (map length notes.old) entries progress (reverse places.now)
         → histories.new ≡ histories_of desk.requests desk.log progress (reverse places.now) }
 {

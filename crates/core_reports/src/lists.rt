@@ -6,11 +6,12 @@ ghost use Rattle.core_reports.specs.Listed.{HasDesk, HasEntered, places_at, plac
 
 use core_model::{DeskReport, Zone, ZoneData};
 use data_vio::{Logged, REQUEST_ROOM, Register};
-use vdo_model::{Placed, Requests, ReportList};
+use vdo_model::{Placed, ReportList, Requests};
 
 // Adds the places that a zone drew, the oldest first, while there is room for them.
 fn add_places(drawn: &[Placed], places: &mut Register<Placed, REQUEST_ROOM>)
-    ensures { length places.old + length drawn.now ≤ most_requests → places.new ≡ reverse drawn.now ++ places.old }
+    ensures { length places.old + length drawn.now ≤ most_requests →
+        places.new ≡ reverse drawn.now ++ places.old }
 {
     for placed in drawn {
         if places.len() < REQUEST_ROOM {
@@ -31,7 +32,8 @@ fn drawn(zone: &Zone) -> &[Placed]
 
 /// Lists the places of all zones, in their order.
 pub(crate) fn list_places(zones: &[Zone], places: &mut Register<Placed, REQUEST_ROOM>)
-    ensures { places.old ≡ [] → length (places_of_all zones.now) ≤ most_requests → places.new ≡ places_of_all zones.now }
+    ensures { places.old ≡ [] → length (places_of_all zones.now) ≤ most_requests →
+        places.new ≡ places_of_all zones.now }
 {
     for zone in zones {
         add_places(drawn(zone), places);
@@ -40,7 +42,8 @@ pub(crate) fn list_places(zones: &[Zone], places: &mut Register<Placed, REQUEST_
 
 /// The entries that the journal handed in, the oldest first.
 pub(crate) fn entries(zones: &[Zone]) -> &[Logged]
-    ensures { (entries : List Entered) → HasEntered entries zones.now → reverse result.now ≡ entries }
+    ensures { (entries : List Entered) → HasEntered entries zones.now →
+        reverse result.now ≡ entries }
 {
     for zone in zones {
         if let ZoneData::Journal(journal) = &zone.keeps {
@@ -52,7 +55,8 @@ pub(crate) fn entries(zones: &[Zone]) -> &[Logged]
 
 /// What a report has of the desk.
 pub(crate) fn desk_report(mut zones: Vec<Zone>) -> DeskReport
-    ensures { (desk : DeskData) → HasDesk desk zones.items → result ≡ record { requests = desk.requests; log = desk.log; marks = desk.marks } }
+    ensures { (desk : DeskData) → HasDesk desk zones.items →
+        result ≡ record { requests = desk.requests; log = desk.log; marks = desk.marks } }
 {
     let alloc = *zones.allocator();
     if !zones.is_empty() {

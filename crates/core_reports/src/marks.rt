@@ -26,7 +26,9 @@ fn has_entry(entries: &[Logged], request: Writer) -> bool
 // The mark of a write by its answer.
 // A stopped write whose entry was handed in is unsettled, whether or not that reached the device.
 fn mark_by(answer: &Answer, entries: &[Logged], request: Writer) -> Mark
-    ensures { (is_set : Bool) → result ≡ mark_of (Some answer.now) is_set (is_there (logged_of (reverse entries.now) request)) }
+    ensures { (is_set : Bool) →
+        result
+        ≡ mark_of (Some answer.now) is_set (is_there (logged_of (reverse entries.now) request)) }
 {
     match answer {
         Answer::Ok => Mark::Settled,
@@ -53,8 +55,11 @@ pub(crate) fn mark(
     entries: &[Logged],
     request: Writer,
 ) -> Mark
-    ensures { (is_set : Bool) (answer : Reply) → NotesAnswer desk.now (reverse desk.now) request noted → answer_of (reverse desk.now) request ≡ Some answer
-        → result ≡ mark_of (Some answer) is_set (is_there (logged_of (reverse entries.now) request)) }
+    ensures { (is_set : Bool) (answer : Reply) →
+        NotesAnswer desk.now (reverse desk.now) request noted →
+        answer_of (reverse desk.now) request ≡ Some answer
+        →
+        result ≡ mark_of (Some answer) is_set (is_there (logged_of (reverse entries.now) request)) }
 {
     let Some(at) = noted else {
         return Mark::Refused;

@@ -55,7 +55,8 @@ impl StreamNotes {
 fn note_stream(desk: &[DeskLine], stream: u8, notes: &mut [StreamNotes])
     ensures room { map length notes.new ≡ map length notes.old }
     ensures noted { NotesAnswers desk.now (reverse desk.now) stream (get_or notes.new stream []) }
-    ensures others { (other : ℕ) → other ≢ stream → get_or notes.new other [] ≡ get_or notes.old other [] }
+    ensures others { (other : ℕ) → other ≢ stream →
+        get_or notes.new other [] ≡ get_or notes.old other [] }
 {
     let at = usize::from(stream);
     if at < notes.len() {

@@ -17,7 +17,8 @@ use vdo_model::RunReport;
 /// for no memory; its time is linear in the requests, for each of the 16 streams. Of a core that isn't legal, or isn't
 /// done, it gives some report.
 pub fn report(zones: Vec<Zone>, room: ReportRoom) -> RunReport
-    ensures { (s : Session) (t : Trace) → IsSession s → Legal s (record { zones = zones.items; trace = t }) → AllAnswered s.script (lines t)
+    ensures { (s : Session) (t : Trace) → IsSession s →
+        Legal s (record { zones = zones.items; trace = t }) → AllAnswered s.script (lines t)
         → IsRoomFor room s.script → result ≡ report_of s t }
 {
     let ReportRoom {

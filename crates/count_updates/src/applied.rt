@@ -14,7 +14,9 @@ pub fn applied_points(
     found: &Found,
 ) -> Result<Vec<Point>, AllocError>
     requires { length found.now.commits.items ≡ all_sectors layout.now.geometry }
-    ensures { IfOk result (λ applied. AreApplied layout.now.geometry found.now.updates.items found.now.commits.items applied.items) }
+    ensures { IfOk result (λ applied.
+        AreApplied layout.now.geometry found.now.updates.items found.now.commits.items
+        applied.items) }
 {
     let mut applied = Vec::from_slice(alloc, found.commits.as_slice())?;
     for update in &found.updates {

@@ -17,8 +17,12 @@ pub fn counts_of(alloc: Global, layout: &Layout, found: &Found) -> Result<Vec<u1
     requires counters { length found.now.counters.items ≡ all_blocks layout.now.geometry }
     requires commits { length found.now.commits.items ≡ all_sectors layout.now.geometry }
     requires order { AreInOrder found.now.updates.items }
-    ensures counts { IfOk result (λ counts. AreCounted layout.now.geometry found.now.counters.items found.now.commits.items found.now.updates.items counts.items) }
-    ensures refused { IfErr result (IsCountRefusal layout.now.geometry found.now.counters.items found.now.commits.items found.now.updates.items) }
+    ensures counts { IfOk result (λ counts.
+        AreCounted layout.now.geometry found.now.counters.items found.now.commits.items
+        found.now.updates.items counts.items) }
+    ensures refused { IfErr result
+        (IsCountRefusal layout.now.geometry found.now.counters.items found.now.commits.items
+        found.now.updates.items) }
 {
     let Ok(mut counts) = Vec::with_capacity(alloc, found.counters.len()) else {
         return Err(CountFault::Memory);
@@ -43,12 +47,21 @@ fn count_slab(
     requires counters { length found.now.counters.items ≡ all_blocks layout.now.geometry }
     requires commits { length found.now.commits.items ≡ all_sectors layout.now.geometry }
     requires order { AreInOrder found.now.updates.items }
-    requires before { IsPassed found.now.updates.items passed (block_of_data layout.now.geometry (record { slab = slab; offset = 0 })).0 }
-    requires counted { AreCountedUpTo layout.now.geometry found.now.counters.items found.now.commits.items found.now.updates.items slab 0 counts.old.items }
-    ensures passed { IfOk result (λ after. (block : ℕ) → (block_of_data layout.now.geometry (record { slab = slab; offset = layout.now.geometry.slab_blocks })).0 ≤ block
+    requires before { IsPassed found.now.updates.items passed
+        (block_of_data layout.now.geometry (record { slab = slab; offset = 0 })).0 }
+    requires counted { AreCountedUpTo layout.now.geometry found.now.counters.items
+        found.now.commits.items found.now.updates.items slab 0 counts.old.items }
+    ensures passed { IfOk result (λ after.
+        (block : ℕ) →
+        (block_of_data layout.now.geometry
+        (record { slab = slab; offset = layout.now.geometry.slab_blocks })).0 ≤ block
         → IsPassed found.now.updates.items after block) }
-    ensures counted { OnOk result (AreCountedUpTo layout.now.geometry found.now.counters.items found.now.commits.items found.now.updates.items (slab + 1) 0 counts.new.items) }
-    ensures refused { IfErr result (IsCountRefusal layout.now.geometry found.now.counters.items found.now.commits.items found.now.updates.items) }
+    ensures counted { OnOk result
+        (AreCountedUpTo layout.now.geometry found.now.counters.items found.now.commits.items
+        found.now.updates.items (slab + 1) 0 counts.new.items) }
+    ensures refused { IfErr result
+        (IsCountRefusal layout.now.geometry found.now.counters.items found.now.commits.items
+        found.now.updates.items) }
 {
     let all = found.updates.as_slice();
     let mut next = passed;
@@ -73,8 +86,10 @@ fn count_slab(
 fn end_of_block(updates: &[Update], from: usize, at: Pbn) -> usize
     requires { from ≤ length updates.now }
     ensures within { (from ≤ result) × (result ≤ length updates.now) }
-    ensures passed { (k : ℕ) (d : Update) → from ≤ k → k < result → (get_or updates.now k d).at.0 ≤ at.0 }
-    ensures ended { (d : Update) → result < length updates.now → at.0 < (get_or updates.now result d).at.0 }
+    ensures passed { (k : ℕ) (d : Update) → from ≤ k → k < result →
+        (get_or updates.now k d).at.0 ≤ at.0 }
+    ensures ended { (d : Update) → result < length updates.now →
+        at.0 < (get_or updates.now result d).at.0 }
 {
     for i in from..updates.len() {
         if updates[i].at.0 > at.0 {
@@ -95,8 +110,12 @@ fn count_of(
     requires counters { length found.now.counters.items ≡ all_blocks layout.now.geometry }
     requires commits { length found.now.commits.items ≡ all_sectors layout.now.geometry }
     requires order { AreInOrder updates.now }
-    ensures counted { IfOk result (λ count. IsCountedAt layout.now.geometry found.now.counters.items found.now.commits.items updates.now place (Ok count)) }
-    ensures left { IfErr result (λ point. IsCountedAt layout.now.geometry found.now.counters.items found.now.commits.items updates.now place (Err point.0)) }
+    ensures counted { IfOk result (λ count.
+        IsCountedAt layout.now.geometry found.now.counters.items found.now.commits.items updates.now
+        place (Ok count)) }
+    ensures left { IfErr result (λ point.
+        IsCountedAt layout.now.geometry found.now.counters.items found.now.commits.items updates.now
+        place (Err point.0)) }
 {
     let at = layout.data_block(place.slab, place.offset);
     let sector = layout.sector_number(place.slab, layout.sector_of_offset(place.offset));
@@ -116,8 +135,10 @@ fn count_from(
 ) -> Result<u16, Point>
     requires small { limit < 1000 }
     requires order { AreInOrder updates.now }
-    ensures counted { IfOk result (λ count. IsCounted limit updates.now at.0 commit.0 counter (Ok count)) }
-    ensures left { IfErr result (λ point. IsCounted limit updates.now at.0 commit.0 counter (Err point.0)) }
+    ensures counted { IfOk result (λ count.
+        IsCounted limit updates.now at.0 commit.0 counter (Ok count)) }
+    ensures left { IfErr result (λ point.
+        IsCounted limit updates.now at.0 commit.0 counter (Err point.0)) }
 {
     let mut count = u16::from(counter);
     if count > limit {
@@ -139,8 +160,11 @@ fn count_from(
 // The count with one update more; none where it leaves its range.
 fn count_with(limit: u16, count: u16, point: Point) -> Option<u16>
     requires small { limit < 1000 }
-    ensures some { IfSome result (λ next. (later : List ℕ) → count_after limit count (point.0 ∷ later) ≡ count_after limit next later) }
-    ensures none { IfNone result ((later : List ℕ) → count_after limit count (point.0 ∷ later) ≡ Err point.0) }
+    ensures some { IfSome result (λ next.
+        (later : List ℕ) →
+        count_after limit count (point.0 ∷ later) ≡ count_after limit next later) }
+    ensures none { IfNone result
+        ((later : List ℕ) → count_after limit count (point.0 ∷ later) ≡ Err point.0) }
 {
     match point.half() {
         Half::Increment if count < limit => Some(count + 1),

@@ -16,7 +16,9 @@ pub fn updates_of_window(
 ) -> Result<Vec<Update>, AllocError>
     requires { All (λ committed. committed.point.0 % 2 ≡ 0) window.now }
     ensures { IfOk result (λ updates. (at point : ℕ) → Lists updates.items at point
-        ↔ ((committed : CommittedEntry) × Contains window.now committed × Updates committed (record { 0 = at }) point)) }
+        ↔
+        ((committed : CommittedEntry) × Contains window.now committed
+        × Updates committed (record { 0 = at }) point)) }
 {
     let mut updates = Vec::new(alloc);
     for committed in window {

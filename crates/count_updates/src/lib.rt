@@ -5,11 +5,11 @@
 #![tactic(auto)]
 
 mod applied;
-mod collection;
 mod block_counts;
+mod collection;
 mod forms;
 
 pub use applied::applied_points;
-pub use collection::{put_in_order, updates_of_window};
 pub use block_counts::counts_of;
+pub use collection::{put_in_order, updates_of_window};
 pub use forms::{CountFault, Found};

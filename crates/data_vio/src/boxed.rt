@@ -100,7 +100,8 @@ impl BoxedVio {
 
     /// A flush returned when so many calls of the device had succeeded.
     pub fn mark(mut self, calls: u64) -> BoxedVio
-        ensures { result ≡ record self { phase = phase.Reply; answer = Some reply.Ok; calls = calls } }
+        ensures { result
+            ≡ record self { phase = phase.Reply; answer = Some reply.Ok; calls = calls } }
     {
         self.vio.phase = Phase::Reply;
         self.vio.answer = Some(Answer::Ok);

@@ -121,9 +121,12 @@ fn next_of(sizes: &Sizes, desk: &Desk, stream: u8) -> Option<u32>
     requires can { CanBegin sizes.now desk.now }
     requires stream { stream < length desk.now.requests }
     ensures may { IfSome result (λ number.
-        IsNextLine sizes.now.depth desk.now.requests (line.Begin (record { stream = stream; number = number })) desk.now.log) }
+        IsNextLine sizes.now.depth desk.now.requests
+        (line.Begin (record { stream = stream; number = number })) desk.now.log) }
     ensures none { IfNone result (
-        (number : ℕ) → IsNextLine sizes.now.depth desk.now.requests (line.Begin (record { stream = stream; number = number })) desk.now.log → ⊥) }
+        (number : ℕ) →
+        IsNextLine sizes.now.depth desk.now.requests
+        (line.Begin (record { stream = stream; number = number })) desk.now.log → ⊥) }
 {
     let next = desk.begun(stream);
     let done = desk.answered(stream);
@@ -198,7 +201,8 @@ fn begin_one(sizes: &Sizes, desk: &mut Desk, request: Writer, posts: &mut Posts)
 pub fn begin_next(sizes: &Sizes, desk: &mut Desk, posts: &mut Posts) -> bool
     requires can { CanBegin sizes.now desk.old }
     requires none { posts.old ≡ [] }
-    ensures begun { IsTrue result → ActsAlone sizes.now (at.Desk desk.old) [] (at.Desk desk.new) posts.new }
+    ensures begun { IsTrue result →
+        ActsAlone sizes.now (at.Desk desk.old) [] (at.Desk desk.new) posts.new }
     ensures might { IsTrue result → MayBegin sizes.now (at.Desk desk.old) }
     ensures same { (result ≡ false) → (desk.new ≡ desk.old) × (posts.new ≡ []) }
     ensures none { (result ≡ false) → MayBegin sizes.now (at.Desk desk.old) → ⊥ }

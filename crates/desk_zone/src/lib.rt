@@ -3,9 +3,9 @@
 //! Only tested: as part of the core.
 #![tactic(auto)]
 
+mod beginnings;
 mod dispatch;
 mod replies;
-mod beginnings;
 
-pub use dispatch::act;
 pub use beginnings::{begin_next, may_begin};
+pub use dispatch::act;

@@ -39,7 +39,8 @@ fn reply(sizes: &Sizes, desk: &mut Desk, mut vio: BoxedVio)
     requires phase { vio.phase ≡ Reply }
     requires answered { IsSome vio.answer }
     requires within { IsDeskWithin desk.old }
-    requires notified { (given : Answer) → vio.answer ≡ Some given → rows.is_stopped given ≡ true → rows.is_notified sizes.now desk.old ≡ true }
+    requires notified { (given : Answer) → vio.answer ≡ Some given → rows.is_stopped given ≡ true →
+        rows.is_notified sizes.now desk.old ≡ true }
     ensures { (made : Trace) × rows.DeskServes sizes.now desk.old vio desk.new made [] }
 {
     let asks = vio.get().asks;

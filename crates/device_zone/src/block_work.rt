@@ -83,9 +83,11 @@ fn make_call<D: Disk>(
     requires needed { log.needs_call block.now.stage ≡ true }
     requires inside { slot.0 < (D.seen disk.old).size }
     ensures stays { Stays (D.seen disk.old) (D.seen disk.new) }
-    ensures ok { OnOk result ((made : Call) × (call_of sizes.now block.now slot true block.now.stage ≡ Some made)
+    ensures ok { OnOk result
+        ((made : Call) × (call_of sizes.now block.now slot true block.now.stage ≡ Some made)
         × HasCalled D.tells D.honest (D.seen disk.old) (D.seen disk.new) (Calls made ∷ [])) }
-    ensures err { OnErr result ((failed : Call) × (call_of sizes.now block.now slot false block.now.stage ≡ Some failed)
+    ensures err { OnErr result
+        ((failed : Call) × (call_of sizes.now block.now slot false block.now.stage ≡ Some failed)
         × HasFailed D.tells D.honest (D.seen disk.old) (D.seen disk.new) failed) }
 {
     match block.stage {

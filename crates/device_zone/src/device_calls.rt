@@ -12,8 +12,12 @@ use disk_model::{Disk, Failed};
 pub(crate) fn read_block<D: Disk>(disk: &mut D, at: Pbn, into: &mut Block) -> Result<(), Failed>
     requires { at.0 < (D.seen disk.old).size }
     ensures stays { Stays (D.seen disk.old) (D.seen disk.new) }
-    ensures ok { OnOk result (HasCalled D.tells D.honest (D.seen disk.old) (D.seen disk.new) (Calls (call.Read at into.new true) ∷ [])) }
-    ensures err { OnErr result (HasFailed D.tells D.honest (D.seen disk.old) (D.seen disk.new) (call.Read at into.new false)) }
+    ensures ok { OnOk result
+        (HasCalled D.tells D.honest (D.seen disk.old) (D.seen disk.new)
+        (Calls (call.Read at into.new true) ∷ [])) }
+    ensures err { OnErr result
+        (HasFailed D.tells D.honest (D.seen disk.old) (D.seen disk.new)
+        (call.Read at into.new false)) }
 {
     disk.read(at, into)
 }
@@ -22,8 +26,12 @@ pub(crate) fn read_block<D: Disk>(disk: &mut D, at: Pbn, into: &mut Block) -> Re
 pub(crate) fn write_block<D: Disk>(disk: &mut D, at: Pbn, from: &Block) -> Result<(), Failed>
     requires { at.0 < (D.seen disk.old).size }
     ensures stays { Stays (D.seen disk.old) (D.seen disk.new) }
-    ensures ok { OnOk result (HasCalled D.tells D.honest (D.seen disk.old) (D.seen disk.new) (Calls (call.Write at from.now true) ∷ [])) }
-    ensures err { OnErr result (HasFailed D.tells D.honest (D.seen disk.old) (D.seen disk.new) (call.Write at from.now false)) }
+    ensures ok { OnOk result
+        (HasCalled D.tells D.honest (D.seen disk.old) (D.seen disk.new)
+        (Calls (call.Write at from.now true) ∷ [])) }
+    ensures err { OnErr result
+        (HasFailed D.tells D.honest (D.seen disk.old) (D.seen disk.new)
+        (call.Write at from.now false)) }
 {
     disk.write(at, from)
 }
@@ -31,8 +39,11 @@ pub(crate) fn write_block<D: Disk>(disk: &mut D, at: Pbn, from: &Block) -> Resul
 /// Makes the writes so far last.
 pub(crate) fn flush<D: Disk>(disk: &mut D) -> Result<(), Failed>
     ensures stays { Stays (D.seen disk.old) (D.seen disk.new) }
-    ensures ok { OnOk result (HasCalled D.tells D.honest (D.seen disk.old) (D.seen disk.new) (Calls (call.Flush true) ∷ [])) }
-    ensures err { OnErr result (HasFailed D.tells D.honest (D.seen disk.old) (D.seen disk.new) (call.Flush false)) }
+    ensures ok { OnOk result
+        (HasCalled D.tells D.honest (D.seen disk.old) (D.seen disk.new)
+        (Calls (call.Flush true) ∷ [])) }
+    ensures err { OnErr result
+        (HasFailed D.tells D.honest (D.seen disk.old) (D.seen disk.new) (call.Flush false)) }
 {
     disk.flush()
 }

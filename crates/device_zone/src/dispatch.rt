@@ -5,8 +5,8 @@ ghost use Rattle.core_model.specs.Steps.{HasAct};
 ghost use Rattle.step_parts.specs.Acts.{Acts};
 ghost use Rattle.device_zone.specs.Served.{MayServe};
 
-use crate::requests::call_device;
 use crate::block_work::work_block;
+use crate::requests::call_device;
 use core_model::DeviceZone;
 use data_vio::{Item, Sizes};
 use disk_model::Disk;
@@ -25,7 +25,8 @@ pub fn act<D: Disk>(
     requires may { MayServe sizes.now zone.old (D.seen disk.old) posts.old }
     requires rule { HasAct sizes.now (at.Device zone.old) (item ∷ []) }
     ensures stays { Stays (D.seen disk.old) (D.seen disk.new) }
-    ensures acts { Acts D.tells D.honest sizes.now (at.Device zone.old) (item ∷ []) (at.Device zone.new) posts.new (D.seen disk.old) (D.seen disk.new) }
+    ensures acts { Acts D.tells D.honest sizes.now (at.Device zone.old) (item ∷ [])
+        (at.Device zone.new) posts.new (D.seen disk.old) (D.seen disk.new) }
 {
     match item {
         Item::Request(vio) => call_device(sizes, zone, vio, disk, posts),

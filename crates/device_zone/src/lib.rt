@@ -3,12 +3,12 @@
 //! Only tested: as part of the core.
 #![tactic(auto)]
 
-mod dispatch;
+mod block_work;
 mod device_calls;
+mod dispatch;
 mod requests;
 mod start;
 mod stop_notices;
-mod block_work;
 
 pub use dispatch::act;
 pub use start::first;

@@ -9,29 +9,38 @@ ghost use Rattle.dirty_pages.specs.History.{Event, IsWaiting, IsUnwritten, IsUnr
 /// and isn't written since the page was handed out isn't below the least point of its marks. One that wasn't handed out
 /// isn't below its dirty point, so the page will be handed out again.
 pub fn no_change_is_lost()
-    ensures point { (old new : Marks) (events : List Event) (page : PageId) (point : Point) → IsAfter old events page new
+    ensures point { (old new : Marks) (events : List Event) (page : PageId) (point : Point) →
+        IsAfter old events page new
         → IsUnwritten events page point → (low : Point) × HasPoint new low × (low.0 ≤ point.0) }
-    ensures some { (old new : Marks) (events : List Event) (page : PageId) (point : Point) → IsAfter old events page new
+    ensures some { (old new : Marks) (events : List Event) (page : PageId) (point : Point) →
+        IsAfter old events page new
         → IsUnwritten events page point → new ≡ clean → ⊥ }
-    ensures waits { (old new : Marks) (events : List Event) (page : PageId) (point : Point) → IsAfter old events page new
+    ensures waits { (old new : Marks) (events : List Event) (page : PageId) (point : Point) →
+        IsAfter old events page new
         → IsWaiting events page point → AtMost new.dirty point }
 {}
 
 /// A page that was handed out is being written, with the same point, until it is reported as written.
 #[tactic(auto, using(crate::proofs::HistoryLaws::still_out))]
 pub fn a_page_is_being_written_until_it_is_written()
-    ensures { (old new : Marks) (events : List Event) (page : PageId) (first : Point) → IsAfter old events page new
+    ensures { (old new : Marks) (events : List Event) (page : PageId) (first : Point) →
+        IsAfter old events page new
         → IsUnreported events page → old.writing ≡ Some first → new.writing ≡ Some first }
 {}
 
 /// Of all pages one is the next to be written, or none is; and so it is with the first point that is due, and with the low
 /// point.
 pub fn the_next_page_to_write_is_one()
-    ensures out { (old new other : List Marks) (point : Point) (number page : ℕ) → HandsOut old new point number → HandsOut old other point page
+    ensures out { (old new other : List Marks) (point : Point) (number page : ℕ) →
+        HandsOut old new point number → HandsOut old other point page
         → (number ≡ page) × (new ≡ other) }
-    ensures none { (old new : List Marks) (point : Point) (number : ℕ) → HandsOut old new point number → NoneIsDue old point → ⊥ }
-    ensures due { (pages : List Marks) (first other : Point) → IsFirstDue pages first → IsFirstDue pages other → first ≡ other }
-    ensures never { (pages : List Marks) (first : Point) → IsFirstDue pages first → NoneIsEverDue pages → ⊥ }
-    ensures low { (pages : List Marks) (low other : Point) → IsLowPoint pages low → IsLowPoint pages other → low ≡ other }
+    ensures none { (old new : List Marks) (point : Point) (number : ℕ) →
+        HandsOut old new point number → NoneIsDue old point → ⊥ }
+    ensures due { (pages : List Marks) (first other : Point) → IsFirstDue pages first →
+        IsFirstDue pages other → first ≡ other }
+    ensures never { (pages : List Marks) (first : Point) → IsFirstDue pages first →
+        NoneIsEverDue pages → ⊥ }
+    ensures low { (pages : List Marks) (low other : Point) → IsLowPoint pages low →
+        IsLowPoint pages other → low ≡ other }
     ensures clean { (pages : List Marks) (low : Point) → IsLowPoint pages low → AreClean pages → ⊥ }
 {}

@@ -31,10 +31,15 @@ pub trait Disk {
         requires { at.0 < (seen self.old).size }
         ensures stays { Stays (seen self.old) (seen self.new) }
         ensures given { IsTrue tells → IsTrue honest
-            → OnOk result (IsMixOf (settled (seen self.old).opening (seen self.old).log at.0) into.new) }
+            →
+            OnOk result
+            (IsMixOf (settled (seen self.old).opening (seen self.old).log at.0) into.new) }
         ensures whole { OnOk result (length into.new ≡ 4096) }
-        ensures ok { IsTrue tells → OnOk result ((seen self.new).log ≡ Read at into.new true ∷ (seen self.old).log) }
-        ensures err { IsTrue tells → OnErr result (FailedInLog (seen self.old).log (seen self.new).log (Read at into.new false)
+        ensures ok { IsTrue tells →
+            OnOk result ((seen self.new).log ≡ Read at into.new true ∷ (seen self.old).log) }
+        ensures err { IsTrue tells →
+            OnErr result
+            (FailedInLog (seen self.old).log (seen self.new).log (Read at into.new false)
             (Rose (seen self.old).unkept (seen self.new).unkept)) }
         ensures cause { HasCause (seen self.old).faults (seen self.new).faults result }
         ensures unkept { (seen self.old).unkept ≤ (seen self.new).unkept }
@@ -45,8 +50,11 @@ pub trait Disk {
     fn write(&mut self, at: Pbn, from: &Block) -> Result<(), Failed>
         requires { at.0 < (seen self.old).size }
         ensures stays { Stays (seen self.old) (seen self.new) }
-        ensures ok { IsTrue tells → OnOk result ((seen self.new).log ≡ Write at from.now true ∷ (seen self.old).log) }
-        ensures err { IsTrue tells → OnErr result (FailedInLog (seen self.old).log (seen self.new).log (Write at from.now false)
+        ensures ok { IsTrue tells →
+            OnOk result ((seen self.new).log ≡ Write at from.now true ∷ (seen self.old).log) }
+        ensures err { IsTrue tells →
+            OnErr result
+            (FailedInLog (seen self.old).log (seen self.new).log (Write at from.now false)
             (Rose (seen self.old).unkept (seen self.new).unkept)) }
         ensures cause { HasCause (seen self.old).faults (seen self.new).faults result }
         ensures unkept { (seen self.old).unkept ≤ (seen self.new).unkept }
@@ -56,8 +64,10 @@ pub trait Disk {
     /// need last than before.
     fn flush(&mut self) -> Result<(), Failed>
         ensures stays { Stays (seen self.old) (seen self.new) }
-        ensures ok { IsTrue tells → OnOk result ((seen self.new).log ≡ Flush true ∷ (seen self.old).log) }
-        ensures err { IsTrue tells → OnErr result (FailedInLog (seen self.old).log (seen self.new).log (Flush false)
+        ensures ok { IsTrue tells →
+            OnOk result ((seen self.new).log ≡ Flush true ∷ (seen self.old).log) }
+        ensures err { IsTrue tells →
+            OnErr result (FailedInLog (seen self.old).log (seen self.new).log (Flush false)
             (Rose (seen self.old).unkept (seen self.new).unkept)) }
         ensures cause { HasCause (seen self.old).faults (seen self.new).faults result }
         ensures unkept { (seen self.old).unkept ≤ (seen self.new).unkept }

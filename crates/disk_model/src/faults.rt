@@ -118,7 +118,9 @@ fn count(plan: &mut Vec<FaultAt>, kind: CallKind, at: Pbn)
 /// calls that it counts. It does nothing.
 pub fn faults_of_a_plan()
     ensures names { (plan : List FaultAt) (calls : List (CallKind × ℕ)) (kind : CallKind) (at : ℕ)
-        → named (counted_all plan calls) kind at ≡ list_any (λ fault. is_nth calls kind at fault) plan }
+        →
+        named (counted_all plan calls) kind at
+        ≡ list_any (λ fault. is_nth calls kind at fault) plan }
     ensures effect { (plan : List FaultAt) (calls : List (CallKind × ℕ)) (kind : CallKind) (at : ℕ)
         → takes_effect (counted_all plan calls) kind at
         ≡ list_any (λ fault. is_nth calls kind at fault && fault.effect) plan }

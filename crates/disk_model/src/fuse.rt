@@ -42,7 +42,8 @@ impl Fuse {
 /// After any calls, given by the logs that they left, the newest first: exactly those behind the first `passes` fail by the
 /// fuse, and it keeps how long the log was with the first of them. It does nothing.
 pub fn calls_that_a_fuse_cuts()
-    ensures cut { (passes : ℕ) (logs : List (List Call)) → is_cut (burnt_all (Fuse.Passes passes) logs) ≡ nat_le passes (length logs) }
+    ensures cut { (passes : ℕ) (logs : List (List Call)) →
+        is_cut (burnt_all (Fuse.Passes passes) logs) ≡ nat_le passes (length logs) }
     ensures kept { (later : List (List Call)) (log : List Call) (older : List (List Call))
         → burnt_all (Fuse.Passes (length older)) (later ++ log ∷ older) ≡ Fuse.Spent (length log) }
 {}

@@ -12,11 +12,13 @@ pub fn images_of_a_log()
     // A write, failed or not, adds its content to those of its block, and changes those of no other block.
     ensures write { (opening : Blocks) (log : List Call) (at : Pbn) (bytes : List ℕ) (ok : Bool)
         → contents opening (Write at bytes ok ∷ log) at.0 ≡ bytes ∷ contents opening log at.0 }
-    ensures write_elsewhere { (opening : Blocks) (log : List Call) (at : Pbn) (bytes : List ℕ) (ok : Bool) (b : ℕ)
+    ensures write_elsewhere { (opening : Blocks) (log : List Call) (at : Pbn) (bytes : List ℕ)
+        (ok : Bool) (b : ℕ)
         → at.0 ≢ b → contents opening (Write at bytes ok ∷ log) b ≡ contents opening log b }
 
     // A read and a flush that failed change none.
-    ensures read { (opening : Blocks) (log : List Call) (at : Pbn) (bytes : List ℕ) (ok : Bool) (b : ℕ)
+    ensures read { (opening : Blocks) (log : List Call) (at : Pbn) (bytes : List ℕ) (ok : Bool)
+        (b : ℕ)
         → contents opening (Read at bytes ok ∷ log) b ≡ contents opening log b }
     ensures failed_flush { (opening : Blocks) (log : List Call) (b : ℕ)
         → contents opening (Flush false ∷ log) b ≡ contents opening log b }
@@ -28,7 +30,8 @@ pub fn images_of_a_log()
         → settled opening (Write at bytes true ∷ log) at.0 ≡ bytes ∷ [] }
     ensures unsettled { (opening : Blocks) (log : List Call) (at : Pbn) (bytes : List ℕ)
         → settled opening (Write at bytes false ∷ log) at.0 ≡ bytes ∷ settled opening log at.0 }
-    ensures settled_elsewhere { (opening : Blocks) (log : List Call) (at : Pbn) (bytes : List ℕ) (ok : Bool) (b : ℕ)
+    ensures settled_elsewhere { (opening : Blocks) (log : List Call) (at : Pbn) (bytes : List ℕ)
+        (ok : Bool) (b : ℕ)
         → at.0 ≢ b → settled opening (Write at bytes ok ∷ log) b ≡ settled opening log b }
 
     // A block all of whose contents are the same is that content in each image.
@@ -43,7 +46,8 @@ pub fn images_of_a_log()
     ensures is_image { (opening : Blocks) (log : List Call) (image : Blocks)
         → HasOneImage opening log image → IsImage opening log image }
     ensures later { (opening : Blocks) (log later : List Call) (image other : Blocks)
-        → HasOneImage opening log image → IsImage opening (later ++ log) other → IsImage image later other }
+        → HasOneImage opening log image → IsImage opening (later ++ log) other →
+        IsImage image later other }
 {}
 
 /// The same of the blocks that are looked at, where others are pending: the device has one image there, whatever was written
@@ -51,17 +55,23 @@ pub fn images_of_a_log()
 pub fn images_of_what_is_looked_at()
     ensures all { (looked : ℕ → Bool) (opening : Blocks) (log : List Call) (image : Blocks)
         → HasOneImage opening log image → HasOneImageIn looked opening log image }
-    ensures every { (opening : Blocks) (log : List Call) (image : Blocks) → HasOneImageIn (λ b. true) opening log image → HasOneImage opening log image }
+    ensures every { (opening : Blocks) (log : List Call) (image : Blocks) →
+        HasOneImageIn (λ b. true) opening log image → HasOneImage opening log image }
 
-    ensures part { (looked : ℕ → Bool) (opening : Blocks) (log : List Call) (image : Blocks) → IsImage opening log image → IsImageIn looked opening log image }
+    ensures part { (looked : ℕ → Bool) (opening : Blocks) (log : List Call) (image : Blocks) →
+        IsImage opening log image → IsImageIn looked opening log image }
 
     // A call that writes none of the blocks that are looked at leaves them as they are.
-    ensures aside { (looked : ℕ → Bool) (opening : Blocks) (log : List Call) (image : Blocks) (call : Call) → ((b : ℕ) → IsTrue (looked b) → Misses call b)
+    ensures aside { (looked : ℕ → Bool) (opening : Blocks) (log : List Call) (image : Blocks)
+        (call : Call) → ((b : ℕ) → IsTrue (looked b) → Misses call b)
         → HasOneImageIn looked opening log image → HasOneImageIn looked opening (call ∷ log) image }
 
     // A stop leaves them, and later images are there those of a device that opened with them.
     ensures alike { (looked : ℕ → Bool) (opening : Blocks) (log : List Call) (image other : Blocks)
-        → HasOneImageIn looked opening log image → IsImage opening log other → AreAlikeIn looked image other }
-    ensures later { (looked : ℕ → Bool) (opening : Blocks) (log later : List Call) (image other : Blocks)
-        → HasOneImageIn looked opening log image → IsImageIn looked opening (later ++ log) other → IsImageIn looked image later other }
+        → HasOneImageIn looked opening log image → IsImage opening log other →
+        AreAlikeIn looked image other }
+    ensures later { (looked : ℕ → Bool) (opening : Blocks) (log later : List Call)
+        (image other : Blocks)
+        → HasOneImageIn looked opening log image → IsImageIn looked opening (later ++ log) other →
+        IsImageIn looked image later other }
 {}

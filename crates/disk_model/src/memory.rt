@@ -199,7 +199,8 @@ impl Disk for MemDisk {
     fn read(&mut self, at: Pbn, into: &mut Block) -> Result<(), Failed>
         requires { at.0 < length self.old.opening }
         ensures stays { Stays (seen_of self.old) (seen_of self.new) }
-        ensures given { OnOk result (IsMixOf (settled self.old.opening self.old.log at.0) into.new) }
+        ensures given { OnOk result
+            (IsMixOf (settled self.old.opening self.old.log at.0) into.new) }
         ensures whole { OnOk result (length into.new ≡ 4096) }
         ensures ok { OnOk result (self.new.log ≡ Read at into.new true ∷ self.old.log) }
         ensures err { OnErr result (FailedInLog self.old.log self.new.log (Read at into.new false)
@@ -211,8 +212,10 @@ impl Disk for MemDisk {
         // The exact effect. A read that failed leaves `into` as it was.
         ensures into { OnErr result (into.new ≡ into.old) }
         ensures bytes { OnOk result (into.new ≡ block_at self.old.blocks at.0) }
-        ensures exact_ok { OnOk result (Succeeds self.old self.new (Read at into.new true) self.old.blocks) }
-        ensures exact_err { OnErr result (Fails self.old self.new (Read at into.new false) self.old.blocks) }
+        ensures exact_ok { OnOk result
+            (Succeeds self.old self.new (Read at into.new true) self.old.blocks) }
+        ensures exact_err { OnErr result
+            (Fails self.old self.new (Read at into.new false) self.old.blocks) }
     {
         let course = take_course(&mut self.plan, self.fuse, CallKind::Read, at);
         let ok = !course.fails;

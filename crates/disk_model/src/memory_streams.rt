@@ -87,7 +87,8 @@ impl Source for MemSource {
               faults = self.old.faults;
             })) }
         ensures exact_err { OnErr result (self.new
-            ≡ record { bytes = self.old.bytes; fails_in = None; faults = one_more self.old.faults }) }
+            ≡ record
+            { bytes = self.old.bytes; fails_in = None; faults = one_more self.old.faults }) }
         ensures rest { IfOk result (λ n. drop n into.new ≡ drop n into.old) }
         ensures untouched { OnErr result (into.new ≡ into.old) }
     {

@@ -49,7 +49,8 @@ fn whole(block: &Block)
 // Makes one call more.
 fn make(call: &Call, at: u32, k: u64, count: u64, content: &mut Block, given: &mut Block) -> u64
     requires room { count < 2 ^ 64 - 1 }
-    ensures reached { (before : List ℕ) (log : List Call) → Reached before log at k content.old given.old count
+    ensures reached { (before : List ℕ) (log : List Call) →
+        Reached before log at k content.old given.old count
         → Reached before (call.now ∷ log) at k content.new given.new result }
     ensures few { result ≤ count + 1 }
 {
@@ -127,8 +128,11 @@ fn remainder(x: u64, writes: u64) -> u64
 fn pick_block(calls: &[Call], before: &Block, at: u32, number: u64, state: &mut u64) -> Block
     ensures size { length result ≡ 4096 }
     ensures sectors { (i : ℕ) → i < 8 → sector i result
-        ≡ sector i (content_of before.now (reverse calls.now) at (choice number (pending (reverse calls.now) at) (state_after state.old (suc i)))) }
-    ensures state { state.new ≡ (if pending (reverse calls.now) at == 0 then state.old else state_after state.old 8) }
+        ≡ sector i
+        (content_of before.now (reverse calls.now) at
+        (choice number (pending (reverse calls.now) at) (state_after state.old (suc i)))) }
+    ensures state { state.new
+        ≡ (if pending (reverse calls.now) at == 0 then state.old else state_after state.old 8) }
 {
     let (mut block, writes) = content(calls, before, at, 0);
     if writes > 0 {
@@ -161,5 +165,6 @@ pub(crate) fn pick_blocks(
 
 /// The image that a number picks is one that a stop may leave. It does nothing.
 pub fn a_picked_image_may_stand()
-    ensures { (opening : Blocks) (log : List Call) (number : ℕ) (image : Blocks) → IsPicked opening log number image → IsImage opening log image }
+    ensures { (opening : Blocks) (log : List Call) (number : ℕ) (image : Blocks) →
+        IsPicked opening log number image → IsImage opening log image }
 {}

@@ -17,8 +17,10 @@ pub enum ReadError {
 /// Reads one block, by one call. `Failed` where that fails.
 pub fn read_block<D: Disk>(device: &mut D, at: Pbn) -> Result<Block, Failed>
     requires { at.0 < (D.seen device.old).size }
-    ensures read { IfOk result (λ block. WereRead D.tells D.honest at.0 (D.seen device.old) (D.seen device.new) (block ∷ [])) }
-    ensures failed { OnErr result (NextFailed D.tells D.honest at.0 (D.seen device.old) (D.seen device.new) []) }
+    ensures read { IfOk result (λ block.
+        WereRead D.tells D.honest at.0 (D.seen device.old) (D.seen device.new) (block ∷ [])) }
+    ensures failed { OnErr result
+        (NextFailed D.tells D.honest at.0 (D.seen device.old) (D.seen device.new) []) }
     ensures untouched { IsUntouched D.tells (D.seen device.old) (D.seen device.new) }
 {
     let mut block = Block::zero();
@@ -40,8 +42,12 @@ pub fn read_blocks<D: Disk>(
 ) -> Result<Vec<Block>, ReadError>
     requires { first.0 + count ≤ (D.seen device.old).size }
     ensures count { IfOk result (λ blocks. length blocks.items ≡ count) }
-    ensures read { IfOk result (λ blocks. WereRead D.tells D.honest first.0 (D.seen device.old) (D.seen device.new) (reverse blocks.items)) }
-    ensures fault { IfErr result (OfDevice (StopsBefore D.tells D.honest first.0 count (D.seen device.old) (D.seen device.new))) }
+    ensures read { IfOk result (λ blocks.
+        WereRead D.tells D.honest first.0 (D.seen device.old) (D.seen device.new)
+        (reverse blocks.items)) }
+    ensures fault { IfErr result
+        (OfDevice
+        (StopsBefore D.tells D.honest first.0 count (D.seen device.old) (D.seen device.new))) }
     ensures untouched { IsUntouched D.tells (D.seen device.old) (D.seen device.new) }
 {
     // Asked for the proof alone: the numbers of the blocks fit their type.

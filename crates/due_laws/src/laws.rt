@@ -16,24 +16,31 @@ ghost use Rattle.due_laws.specs.Still.{AreSpelled, NoneOut, NonePageOut};
 
 /// Where no page is due at a point and none is being written, each change that isn't durable is above the point.
 pub fn no_page_is_dirty_when_none_is_due()
-    ensures { (pages : List Marks) (point : Point) (number : ℕ) (low : Point) → NoneIsDue pages point → NonePageOut pages
+    ensures { (pages : List Marks) (point : Point) (number : ℕ) (low : Point) →
+        NoneIsDue pages point → NonePageOut pages
         → HasPoint (marks_at pages number) low → point.0 < low.0 }
 {}
 
 /// Where no block of a slab is due for the head of the recovery journal and none is being written, each update is durable:
 /// over every list of calls from an opened image on, where the points of the updates rise.
 pub fn no_update_is_dirty_when_none_is_due()
-    ensures { (g : Geometry) (slab : ℕ) (commits : List Point) (calls : List Call) (w : Writes) → IsGeometry g
-        → length (points_of g slab commits) ≡ sectors_per_slab g → LeadTo (opening g slab commits) calls w
-        → AreRising g (points_of g slab commits) (updates_of calls) → AreSpelled (updates_of calls) → NoneOut w → NoneDue Head w
+    ensures { (g : Geometry) (slab : ℕ) (commits : List Point) (calls : List Call) (w : Writes) →
+        IsGeometry g
+        → length (points_of g slab commits) ≡ sectors_per_slab g →
+        LeadTo (opening g slab commits) calls w
+        → AreRising g (points_of g slab commits) (updates_of calls) →
+        AreSpelled (updates_of calls) → NoneOut w → NoneDue Head w
         → NoneUnsettled w.journal }
 {}
 
 /// So no update waits for room for ever: where no block of a slab is due because the journal block being filled is full, and none
 /// is being written, that block isn't full.
 pub fn no_block_is_full_when_none_is_due()
-    ensures { (g : Geometry) (slab : ℕ) (commits : List Point) (calls : List Call) (w : Writes) → IsGeometry g
-        → length (points_of g slab commits) ≡ sectors_per_slab g → LeadTo (opening g slab commits) calls w
-        → AreRising g (points_of g slab commits) (updates_of calls) → AreSpelled (updates_of calls) → NoneOut w → NoneDue Full w
+    ensures { (g : Geometry) (slab : ℕ) (commits : List Point) (calls : List Call) (w : Writes) →
+        IsGeometry g
+        → length (points_of g slab commits) ≡ sectors_per_slab g →
+        LeadTo (opening g slab commits) calls w
+        → AreRising g (points_of g slab commits) (updates_of calls) →
+        AreSpelled (updates_of calls) → NoneOut w → NoneDue Full w
         → length w.journal.filling ≢ 320 }
 {}

@@ -15,9 +15,14 @@ ghost use Rattle.due_laws.specs.StillZones.{NoneOutIn};
 /// The same of each slab of a zone, over every list of calls from an opened zone on, where the opening commit points of the slab
 /// are below the updates taken.
 pub fn no_slab_is_dirty_when_none_is_due()
-    ensures { (g : Geometry) (zone zones room : ℕ) (all : List ℕ) (commits : List Point) (tree_pages : List Pbn) (first z : WholeZone) (calls : List Call)
-        (slab : ℕ) → IsOpeningWhole g zone zones room all commits tree_pages first → IsWhole first → length commits ≡ g.slabs * sectors_per_slab g
-        → LeadTo first calls z → slab < g.slabs → slab % zones ≡ zone → slab / zones < length z.writes
-        → AreAbove g (points_of g slab commits) (updates_in g slab calls) → AreSpelled (updates_in g slab calls)
-        → NoneOutIn z → NoneDueIn Head z → NoneUnsettled (writes_at z.writes (slab / zones)).journal }
+    ensures { (g : Geometry) (zone zones room : ℕ) (all : List ℕ) (commits : List Point)
+        (tree_pages : List Pbn) (first z : WholeZone) (calls : List Call)
+        (slab : ℕ) → IsOpeningWhole g zone zones room all commits tree_pages first → IsWhole first →
+        length commits ≡ g.slabs * sectors_per_slab g
+        → LeadTo first calls z → slab < g.slabs → slab % zones ≡ zone →
+        slab / zones < length z.writes
+        → AreAbove g (points_of g slab commits) (updates_in g slab calls) →
+        AreSpelled (updates_in g slab calls)
+        → NoneOutIn z → NoneDueIn Head z →
+        NoneUnsettled (writes_at z.writes (slab / zones)).journal }
 {}

@@ -94,7 +94,8 @@ impl Gate {
         requires { slice_index self.old.under_way (length self.old.under_way - 1) < 2 ^ 64 - 1 }
         ensures generation { result + 1 ≡ length self.old.under_way }
         ensures counted { self.new ≡ record self.old {
-          under_way = slice_set self.old.under_way result (slice_index self.old.under_way result + 1);
+          under_way = slice_set self.old.under_way result
+              (slice_index self.old.under_way result + 1);
         } }
     {
         let newest = self.counts.len() - 1;
@@ -118,7 +119,8 @@ impl Gate {
     pub fn done(&mut self, generation: u64)
         requires { 0 < slice_index self.old.under_way generation }
         ensures { self.new ≡ record self.old {
-          under_way = slice_set self.old.under_way generation (slice_index self.old.under_way generation - 1);
+          under_way = slice_set self.old.under_way generation
+              (slice_index self.old.under_way generation - 1);
         } }
     {
         let place = (generation - self.oldest) as usize;
@@ -140,7 +142,9 @@ impl Gate {
     /// The oldest flush, if it is complete. It waits no longer. `None` exactly where the oldest flush still waits for an
     /// older write, or there is none.
     pub fn complete(&mut self) -> Option<Writer>
-        ensures some { IfSome result (λ request. (generation : ℕ) × Leaves self.old self.new (record { request = request; generation = generation })) }
+        ensures some { IfSome result (λ request.
+            (generation : ℕ)
+            × Leaves self.old self.new (record { request = request; generation = generation })) }
         ensures none { IfNone result (OldestWaits self.old × (self.new ≡ self.old)) }
     {
         let older = self.counts[0];

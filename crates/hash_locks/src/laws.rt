@@ -6,6 +6,7 @@ ghost use Rattle.hash_locks.specs.Calls.{Call, LeadTo};
 /// and whoever waits has the bytes of the lock for which it waits.
 pub fn locks_stay_in_order<V>()
     ensures opening { (bytes_of : V → List ℕ) (room : ℕ) → AreInOrder bytes_of (nothing V room) }
-    ensures calls { (bytes_of : V → List ℕ) (old new : Sharing V) (calls : List (Call V)) → AreInOrder bytes_of old
+    ensures calls { (bytes_of : V → List ℕ) (old new : Sharing V) (calls : List (Call V)) →
+        AreInOrder bytes_of old
         → LeadTo bytes_of old calls new → AreInOrder bytes_of new }
 {}

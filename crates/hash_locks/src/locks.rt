@@ -64,7 +64,8 @@ impl<V: HasBlock + Drop> HashLocks<V> {
         ensures role { Arrives V.bytes_of self.old self.new name.now vio result }
 
         // At most one more is kept.
-        ensures grows { length self.new.held + length self.new.waiting ≤ length self.old.held + length self.old.waiting + 1 }
+        ensures grows { length self.new.held + length self.new.waiting
+            ≤ length self.old.held + length self.old.waiting + 1 }
         ensures room { self.new.room ≡ self.old.room }
     {
         match has_lock(&self.held, name, vio.block()) {
@@ -83,8 +84,10 @@ impl<V: HasBlock + Drop> HashLocks<V> {
     /// The agent's block is settled. It gives the next that waits for the name, which shares that block; `None` exactly
     /// where nobody waits, and then nothing changes.
     pub fn settle(&mut self, name: &Name) -> Option<V>
-        ensures some { IfSome result (λ vio. Leaves V.bytes_of self.old self.new (record { name = name.now; vio = vio })) }
-        ensures none { IfNone result ((first_for name.now self.old.waiting ≡ None) × (self.new ≡ self.old)) }
+        ensures some { IfSome result (λ vio.
+            Leaves V.bytes_of self.old self.new (record { name = name.now; vio = vio })) }
+        ensures none { IfNone result
+            ((first_for name.now self.old.waiting ≡ None) × (self.new ≡ self.old)) }
     {
         let first = first_for(&self.waiting, name)?;
         let Waiter { name: _, vio } = self.waiting.remove(first);
@@ -110,7 +113,8 @@ impl<V: HasBlock + Drop> HashLocks<V> {
     /// The agent lets the lock go. It gives the next that waits for the name, which is its agent now; `None` exactly where
     /// nobody waits, and the lock is gone.
     pub fn roll_over(&mut self, name: &Name) -> Option<V>
-        ensures some { IfSome result (λ vio. Leaves V.bytes_of self.old self.new (record { name = name.now; vio = vio })) }
+        ensures some { IfSome result (λ vio.
+            Leaves V.bytes_of self.old self.new (record { name = name.now; vio = vio })) }
         ensures none { IfNone result (Frees self.old self.new name.now) }
     {
         match self.settle(name) {
@@ -148,7 +152,8 @@ fn blocks(alloc: Global, count: u32) -> Result<Vec<Box<Block>>, AllocError>
 
 // Whether the lock of a name has these bytes; `None` where no lock of the name is held.
 fn has_lock(held: &[Held], name: &Name, block: &Block) -> Option<bool>
-    ensures { result ≡ option_map (λ lock. bytes_eq lock.bytes block.now) (lock_of name.now held.now) }
+    ensures { result
+        ≡ option_map (λ lock. bytes_eq lock.bytes block.now) (lock_of name.now held.now) }
 {
     let lock = held.iter().find(|lock| lock.is_of(name))?;
     Some(lock.has(block))
@@ -172,7 +177,8 @@ fn first_for<V>(waiting: &[Waiter<V>], name: &Name) -> Option<usize>
 fn hold(held: &mut Vec<Held>, spare: &mut Vec<Box<Block>>, name: &Name, block: &Block)
     requires block { 0 < vec_len spare.old }
     requires room { vec_len held.old < vec_capacity held.old }
-    ensures items { held.new.items ≡ held.old.items ++ record { name = name.now; bytes = block.now } ∷ [] }
+    ensures items { held.new.items
+        ≡ held.old.items ++ record { name = name.now; bytes = block.now } ∷ [] }
     ensures len { vec_len held.new ≡ vec_len held.old + 1 }
     ensures capacity { vec_capacity held.new ≡ vec_capacity held.old }
     ensures spare { vec_len spare.new + 1 ≡ vec_len spare.old }

@@ -13,7 +13,8 @@ use page_codec::{MapPage, PageHead, encode};
 // Writes a block.
 fn put<D: Disk>(device: &mut D, at: Pbn, block: &Block) -> Result<(), Failed>
     requires { at.0 < (D.seen device.old).size }
-    ensures { Makes D.tells (D.seen device.old) (D.seen device.new) (put at.0 block.now ∷ []) result }
+    ensures { Makes D.tells (D.seen device.old) (D.seen device.new)
+        (put at.0 block.now ∷ []) result }
 {
     device.write(at, block)
 }
@@ -28,7 +29,8 @@ fn flush<D: Disk>(device: &mut D) -> Result<(), Failed>
 // Writes zeros into so many blocks from this one on.
 fn put_zeros<D: Disk>(device: &mut D, first: Pbn, count: u32) -> Result<(), Failed>
     requires { first.0 + count ≤ (D.seen device.old).size }
-    ensures { Makes D.tells (D.seen device.old) (D.seen device.new) (zeros_from first.0 count) result }
+    ensures { Makes D.tells (D.seen device.old) (D.seen device.new)
+        (zeros_from first.0 count) result }
 {
     // Asked for the proof alone: the numbers of the blocks fit their type.
     let _blocks = device.blocks();
@@ -56,7 +58,8 @@ fn root_page(layout: &Layout, tree: u8, into: &mut Block)
 // Writes the roots.
 fn put_roots<D: Disk>(device: &mut D, layout: &Layout) -> Result<(), Failed>
     requires { needed_blocks layout.now.geometry ≤ (D.seen device.old).size }
-    ensures { Makes D.tells (D.seen device.old) (D.seen device.new) (roots_below layout.now.geometry TREES) result }
+    ensures { Makes D.tells (D.seen device.old) (D.seen device.new)
+        (roots_below layout.now.geometry TREES) result }
 {
     let mut page = Block::zero();
     for tree in 0..TREES {
@@ -70,7 +73,8 @@ fn put_roots<D: Disk>(device: &mut D, layout: &Layout) -> Result<(), Failed>
 fn put_slab<D: Disk>(device: &mut D, layout: &Layout, slab: u32) -> Result<(), Failed>
     requires room { needed_blocks layout.now.geometry ≤ (D.seen device.old).size }
     requires there { slab < layout.now.geometry.slabs }
-    ensures { Makes D.tells (D.seen device.old) (D.seen device.new) (slab_calls layout.now.geometry slab) result }
+    ensures { Makes D.tells (D.seen device.old) (D.seen device.new)
+        (slab_calls layout.now.geometry slab) result }
 {
     let counters = layout.reference_block(slab, 0);
     let journal = layout.slab_journal_slot(slab, 0);
@@ -80,7 +84,8 @@ fn put_slab<D: Disk>(device: &mut D, layout: &Layout, slab: u32) -> Result<(), F
 
 fn put_slabs<D: Disk>(device: &mut D, layout: &Layout) -> Result<(), Failed>
     requires { needed_blocks layout.now.geometry ≤ (D.seen device.old).size }
-    ensures { Makes D.tells (D.seen device.old) (D.seen device.new) (slabs_below layout.now.geometry layout.now.geometry.slabs) result }
+    ensures { Makes D.tells (D.seen device.old) (D.seen device.new)
+        (slabs_below layout.now.geometry layout.now.geometry.slabs) result }
 {
     for slab in 0..layout.geometry.slabs {
         put_slab(device, layout, slab)?;
@@ -92,7 +97,8 @@ fn put_slabs<D: Disk>(device: &mut D, layout: &Layout) -> Result<(), Failed>
 #[tactic(auto, unfolding(crate::specs::Calls::region_calls))]
 fn put_regions<D: Disk>(device: &mut D, layout: &Layout) -> Result<(), Failed>
     requires { needed_blocks layout.now.geometry ≤ (D.seen device.old).size }
-    ensures { Makes D.tells (D.seen device.old) (D.seen device.new) (region_calls layout.now.geometry) result }
+    ensures { Makes D.tells (D.seen device.old) (D.seen device.new)
+        (region_calls layout.now.geometry) result }
 {
     put_zeros(device, layout.journal_slot(0), layout.geometry.journal)?;
     put_roots(device, layout)?;
@@ -112,7 +118,8 @@ fn clear<D: Disk>(device: &mut D) -> Result<(), Failed>
 // Writes the superblock of an image to which nothing was written.
 fn put_head<D: Disk>(device: &mut D, layout: &Layout) -> Result<(), Failed>
     requires { 0 < (D.seen device.old).size }
-    ensures { Makes D.tells (D.seen device.old) (D.seen device.new) (super_calls layout.now.geometry) result }
+    ensures { Makes D.tells (D.seen device.old) (D.seen device.new)
+        (super_calls layout.now.geometry) result }
 {
     let head = Super {
         geometry: layout.geometry,
@@ -128,7 +135,8 @@ fn put_head<D: Disk>(device: &mut D, layout: &Layout) -> Result<(), Failed>
 // Makes the image: there is none before its last block is written, and all others are on the device by then.
 pub(crate) fn make<D: Disk>(device: &mut D, layout: &Layout) -> Result<(), Failed>
     requires { needed_blocks layout.now.geometry ≤ (D.seen device.old).size }
-    ensures { Makes D.tells (D.seen device.old) (D.seen device.new) (format_calls layout.now.geometry) result }
+    ensures { Makes D.tells (D.seen device.old) (D.seen device.new)
+        (format_calls layout.now.geometry) result }
 {
     clear(device)?;
     put_regions(device, layout)?;

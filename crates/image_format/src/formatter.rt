@@ -25,16 +25,20 @@ use image_layout::plan;
 /// A stop at any moment leaves the device as it was, but for bytes 512 to 4095 of block 0, or no image, or a sound one
 /// in which every address is unmapped and every count is 0.
 pub fn format<D: Disk>(wanted: &Geometry, device: &mut D) -> Result<Layout, FormatFault>
-    ensures planned { IfOk result (λ layout. (layout.geometry ≡ wanted.now) × (plan_of wanted.now (D.seen device.old).size ≡ Ok tt)) }
-    ensures fault { IfErr result (FormatFails D.tells wanted.now (D.seen device.old) (D.seen device.new)) }
+    ensures planned { IfOk result (λ layout.
+        (layout.geometry ≡ wanted.now) × (plan_of wanted.now (D.seen device.old).size ≡ Ok tt)) }
+    ensures fault { IfErr result
+        (FormatFails D.tells wanted.now (D.seen device.old) (D.seen device.new)) }
     ensures stays { Stays (D.seen device.old) (D.seen device.new) }
     ensures later { Later (D.seen device.old) (D.seen device.new) }
 
     // Whatever a stop leaves, at each moment since.
-    ensures stops { IsTrue D.tells → StopsAreRight wanted.now (D.seen device.old) (D.seen device.new) }
+    ensures stops { IsTrue D.tells →
+        StopsAreRight wanted.now (D.seen device.old) (D.seen device.new) }
 
     // And afterwards nothing is pending.
-    ensures made { IfOk result (λ layout. IsTrue D.tells → LeavesEmpty wanted.now (D.seen device.old) (D.seen device.new)) }
+    ensures made { IfOk result (λ layout.
+        IsTrue D.tells → LeavesEmpty wanted.now (D.seen device.old) (D.seen device.new)) }
 {
     // That it fits 64 bits, so that it is read back.
     let _nonce = wanted.nonce;

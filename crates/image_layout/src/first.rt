@@ -20,7 +20,8 @@ pub fn first_image(
     requires { layout.now.geometry ≡ geometry.now }
     ensures blocks { IfOk result (λ image. image.items ≡ first_blocks geometry.now) }
     ensures size { IfOk result (λ image. vec_len image ≡ needed_blocks geometry.now) }
-    ensures head { IfOk result (λ image. slice_get image.items 0 ≡ Some (super_block (first_head geometry.now))) }
+    ensures head { IfOk result (λ image.
+        slice_get image.items 0 ≡ Some (super_block (first_head geometry.now))) }
     ensures others { IfOk result (λ image. (b : ℕ) → 1 ≤ b → b < needed_blocks geometry.now
         → slice_get image.items b ≡ Some zero_block) }
 

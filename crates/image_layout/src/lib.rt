@@ -8,12 +8,12 @@ mod fault;
 mod first;
 mod planner;
 mod superblock_reader;
-mod values;
 mod superblock_writer;
+mod values;
 
 pub use fault::{Field, LayoutFault, SuperFault};
 pub use first::first_image;
 pub use planner::plan;
 pub use superblock_reader::read_super;
-pub use values::mapping_at;
 pub use superblock_writer::write_super;
+pub use values::mapping_at;

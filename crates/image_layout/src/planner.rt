@@ -23,7 +23,8 @@ use blk_base::{Geometry, Layout};
 /// | logical | to 39,560,640 at height 2, to 4,000,000,000 at height 3 | `LogicalTooLarge` |
 /// | the blocks that these sizes need | to `blocks` | `TooSmall` |
 pub fn plan(wanted: &Geometry, blocks: u32) -> Result<Layout, LayoutFault>
-    ensures planned { IfOk result (λ layout. (layout.geometry ≡ wanted.now) × (plan_of wanted.now blocks ≡ Ok tt)) }
+    ensures planned { IfOk result (λ layout.
+        (layout.geometry ≡ wanted.now) × (plan_of wanted.now blocks ≡ Ok tt)) }
     ensures fault { IfErr result (λ fault. plan_of wanted.now blocks ≡ Err fault) }
 
     // What is planned is within its limits, and the device has the blocks.

@@ -37,7 +37,8 @@ pub fn write_super(head: &Super, into: &mut Block)
     ensures spelled { into.new ≡ super_block head.now }
 
     // Within its limits, and on a device that has the blocks, it is read back.
-    ensures written_again { (blocks : ℕ) → IsGeometry head.now.geometry → 1 ≤ head.now.start → head.now.start < 2 ^ 54
+    ensures written_again { (blocks : ℕ) → IsGeometry head.now.geometry → 1 ≤ head.now.start →
+        head.now.start < 2 ^ 54
         → needed_blocks head.now.geometry ≤ blocks → super_of into.new blocks ≡ Ok head.now }
 {
     // That it fits 64 bits, as `written_again` needs.

@@ -11,8 +11,11 @@ ghost use Rattle.image_opening.specs.Heads.{HeadFails, IsHeadRead};
 /// Where a device is honest and nothing is pending on it but in the index, what was read of its block 0 is the superblock of
 /// its one image, or its fault. It does nothing.
 pub fn a_read_shows_the_superblock()
-    ensures head { (tells honest : Bool) (before now : Seen) (image : Blocks) (head : Super) → IsTrue tells → IsTrue honest → HasOneImageButIndex before.opening before.log image
+    ensures head { (tells honest : Bool) (before now : Seen) (image : Blocks) (head : Super) →
+        IsTrue tells → IsTrue honest → HasOneImageButIndex before.opening before.log image
         → IsHeadRead tells honest before now head → super_of_image image ≡ Ok head }
-    ensures fault { (tells honest : Bool) (before now : Seen) (image : Blocks) (why : ImageFault) → IsTrue tells → IsTrue honest → length before.opening ≡ before.size
-        → HasOneImageButIndex before.opening before.log image → HeadFails tells honest before now why → IsImageFault image why }
+    ensures fault { (tells honest : Bool) (before now : Seen) (image : Blocks) (why : ImageFault) →
+        IsTrue tells → IsTrue honest → length before.opening ≡ before.size
+        → HasOneImageButIndex before.opening before.log image →
+        HeadFails tells honest before now why → IsImageFault image why }
 {}

@@ -12,8 +12,10 @@ use image_model::ImageFault;
 /// Refused with `Super` where [`read_super`](image_layout::read_super) refuses it, and with `NotAnImage`, without a read,
 /// where the device has no block; and with `Device` where the read failed.
 pub fn read_head<D: Disk>(device: &mut D) -> Result<Super, ImageFault>
-    ensures head { IfOk result (IsHeadRead D.tells D.honest (D.seen device.old) (D.seen device.new)) }
-    ensures fault { IfErr result (HeadFails D.tells D.honest (D.seen device.old) (D.seen device.new)) }
+    ensures head { IfOk result
+        (IsHeadRead D.tells D.honest (D.seen device.old) (D.seen device.new)) }
+    ensures fault { IfErr result
+        (HeadFails D.tells D.honest (D.seen device.old) (D.seen device.new)) }
     ensures untouched { IsUntouched D.tells (D.seen device.old) (D.seen device.new) }
 {
     let blocks = device.blocks();

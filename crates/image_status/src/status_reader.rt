@@ -25,8 +25,10 @@ use uds_index::Uds;
 /// `SharedPage`. `Device` comes only where a read failed, but for those of the index: an index block that can't be read
 /// holds no page. `Memory` comes only for want of memory.
 pub fn read_status<D: Disk>(alloc: Global, device: &mut D) -> Result<ImageStatus, ImageFault>
-    ensures status { IfOk result (IsStatusRead D.tells D.honest (D.seen device.old) (D.seen device.new)) }
-    ensures fault { IfErr result (AuditFails D.tells D.honest (D.seen device.old) (D.seen device.new)) }
+    ensures status { IfOk result
+        (IsStatusRead D.tells D.honest (D.seen device.old) (D.seen device.new)) }
+    ensures fault { IfErr result
+        (AuditFails D.tells D.honest (D.seen device.old) (D.seen device.new)) }
     ensures untouched { IsUntouched D.tells (D.seen device.old) (D.seen device.new) }
 {
     let head = read_head(device)?;
@@ -47,8 +49,12 @@ fn status_with<D: Disk>(
     requires sizes { IsGeometry head.now.geometry }
     requires room { needed_blocks head.now.geometry ≤ (D.seen device.old).size }
     requires window { (journal : Blocks) × IsWindowOf head.now journal window.now }
-    ensures status { IfOk result (IsStatusWith D.tells D.honest head.now window.now (D.seen device.old) (D.seen device.new)) }
-    ensures fault { IfErr result (AuditWithFails D.tells D.honest head.now window.now (D.seen device.old) (D.seen device.new)) }
+    ensures status { IfOk result
+        (IsStatusWith D.tells D.honest head.now window.now (D.seen device.old)
+        (D.seen device.new)) }
+    ensures fault { IfErr result
+        (AuditWithFails D.tells D.honest head.now window.now (D.seen device.old)
+        (D.seen device.new)) }
     ensures untouched { IsUntouched D.tells (D.seen device.old) (D.seen device.new) }
 {
     let (used, total) = match audit_with(alloc, head, window, device) {
@@ -76,7 +82,8 @@ fn count_chapters<D: Disk>(
 ) -> Result<u32, AllocError>
     requires sizes { IsGeometry geometry.now }
     requires room { needed_blocks geometry.now ≤ (D.seen device.old).size }
-    ensures chapters { IfOk result (HasChapters D.tells D.honest geometry.now (D.seen device.old) (D.seen device.new)) }
+    ensures chapters { IfOk result
+        (HasChapters D.tells D.honest geometry.now (D.seen device.old) (D.seen device.new)) }
     ensures untouched { IsUntouched D.tells (D.seen device.old) (D.seen device.new) }
 {
     let index = Uds::load(alloc, geometry, device, 0)?;

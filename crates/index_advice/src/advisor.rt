@@ -23,12 +23,14 @@ pub trait Advisor {
     /// Looks a name up. After `Read` it is given that page, and asked again.
     fn look(&mut self, name: &Name) -> Look
         ensures book { IsTrue tells → book self.new ≡ book self.old }
-        ensures answer { IsTrue tells → Looks name.now (book self.old) (unread self.old) (unread self.new) result };
+        ensures answer { IsTrue tells →
+            Looks name.now (book self.old) (unread self.old) (unread self.new) result };
 
     /// Gives the index block that a look asked for; `None` where it couldn't be read.
     fn page(&mut self, at: Pbn, read: Option<&Block>)
         ensures book { IsTrue tells → book self.new ≡ book self.old }
-        ensures unread { IsTrue tells → Reads (is_none read.entry) (unread self.old) (unread self.new) };
+        ensures unread { IsTrue tells →
+            Reads (is_none read.entry) (unread self.old) (unread self.new) };
 
     /// Learns that a block with this name is stored here.
     fn learn(&mut self, name: &Name, at: Pbn)
@@ -36,9 +38,11 @@ pub trait Advisor {
 
     /// The next page that is to be written, and its block; `None` where there is none.
     fn write_due(&mut self, into: &mut Block) -> Option<Pbn>
-        ensures some { IsTrue tells → IfSome result (λ at. Leads (book self.old) (Due at) (book self.new)) }
+        ensures some { IsTrue tells →
+            IfSome result (λ at. Leads (book self.old) (Due at) (book self.new)) }
         ensures filled { IsTrue tells → IfSome result (λ at. HasDuePage (book self.old) into.new) }
-        ensures none { IsTrue tells → IfNone result (((book self.old).due ≡ []) × (book self.new ≡ book self.old)) };
+        ensures none { IsTrue tells →
+            IfNone result (((book self.old).due ≡ []) × (book self.new ≡ book self.old)) };
 
     /// Closes the open chapter, if it has a record, so that its pages are to be written.
     fn finish(&mut self)

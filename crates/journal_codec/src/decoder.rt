@@ -15,16 +15,22 @@ const SEQUENCES: u64 = 1 << 55;
 
 /// What sector `i` of the block says; `None` exactly where it is no valid sector of this nonce.
 pub fn sector(block: &Block, i: u16, nonce: u64) -> Option<Sector>
-    ensures some { IfSome result (λ found. IsSector nonce i (sector i block.now) found.sequence found.head found.entries) }
-    ensures none { IfNone result ((sequence head : ℕ) (entries : List Entry) → IsSector nonce i (sector i block.now) sequence head entries → ⊥) }
+    ensures some { IfSome result (λ found.
+        IsSector nonce i (sector i block.now) found.sequence found.head found.entries) }
+    ensures none { IfNone result
+        ((sequence head : ℕ) (entries : List Entry) →
+        IsSector nonce i (sector i block.now) sequence head entries → ⊥) }
 {
     read_sector(bytes_of_sector(block, i)?, i, nonce)
 }
 
 fn read_sector(bytes: &[u8], number: u16, nonce: u64) -> Option<Sector>
     requires { length bytes.now ≡ 512 }
-    ensures some { IfSome result (λ found. IsSector nonce number bytes.now found.sequence found.head found.entries) }
-    ensures none { IfNone result ((sequence head : ℕ) (entries : List Entry) → IsSector nonce number bytes.now sequence head entries → ⊥) }
+    ensures some { IfSome result (λ found.
+        IsSector nonce number bytes.now found.sequence found.head found.entries) }
+    ensures none { IfNone result
+        ((sequence head : ℕ) (entries : List Entry) →
+        IsSector nonce number bytes.now sequence head entries → ⊥) }
 {
     let sequence = read_u64(bytes, 8);
     let oldest = read_u64(bytes, 16);
@@ -51,7 +57,8 @@ fn read_sector(bytes: &[u8], number: u16, nonce: u64) -> Option<Sector>
 
 // Whether a valid sector can have these numbers in its head.
 fn is_head(sequence: u64, head: u64, count: u16) -> bool
-    ensures { IsTrue result ↔ ((1 ≤ sequence) × (sequence < 2 ^ 55) × (head ≤ sequence) × (count ≤ 24)) }
+    ensures { IsTrue result
+        ↔ ((1 ≤ sequence) × (sequence < 2 ^ 55) × (head ≤ sequence) × (count ≤ 24)) }
 {
     sequence != 0 && sequence < SEQUENCES && head <= sequence && usize::from(count) <= PER_SECTOR
 }
@@ -85,8 +92,11 @@ fn is_held_mapping(mapping: Mapping) -> bool
 /// The prefix of the block: its first sectors that are valid, have the sequence and the head of sector 0, and whose
 /// entries follow on one another. `None` exactly where sector 0 isn't valid.
 pub fn block_prefix(block: &Block, nonce: u64) -> Option<Prefix>
-    ensures some { IfSome result (λ p. IsPrefix nonce block.now p.sequence p.head p.entries p.whole) }
-    ensures none { IfNone result ((sequence head : ℕ) (entries : List Entry) → IsSector nonce 0 (sector 0 block.now) sequence head entries → ⊥) }
+    ensures some { IfSome result (λ p.
+        IsPrefix nonce block.now p.sequence p.head p.entries p.whole) }
+    ensures none { IfNone result
+        ((sequence head : ℕ) (entries : List Entry) →
+        IsSector nonce 0 (sector 0 block.now) sequence head entries → ⊥) }
 {
     match sector(block, 0, nonce) {
         None => None,
@@ -96,7 +106,8 @@ pub fn block_prefix(block: &Block, nonce: u64) -> Option<Prefix>
 
 // The prefix behind a valid sector 0.
 fn prefix_from(block: &Block, nonce: u64, first: &Sector) -> Prefix
-    requires { IsSector nonce 0 (sector 0 block.now) first.now.sequence first.now.head first.now.entries }
+    requires { IsSector nonce 0
+        (sector 0 block.now) first.now.sequence first.now.head first.now.entries }
     ensures { IsPrefix nonce block.now result.sequence result.head result.entries result.whole }
 {
     let mut entries = Entries::new();
@@ -138,7 +149,9 @@ fn add_next(
     requires place { count < 8 }
     requires run { IsRun nonce block.now sequence head count entries.old }
     ensures longer { IsTrue result → IsRun nonce block.now sequence head (count + 1) entries.new }
-    ensures ended { result ≡ false → (entries.new ≡ entries.old) × ((more : List Entry) → IsRun nonce block.now sequence head (count + 1) more → ⊥) }
+    ensures ended { result ≡ false →
+        (entries.new ≡ entries.old)
+        × ((more : List Entry) → IsRun nonce block.now sequence head (count + 1) more → ⊥) }
 {
     match sector(block, count, nonce) {
         None => false,
@@ -154,7 +167,10 @@ fn add_next(
 
 // Whether a sector goes on with a run of this many sectors and entries.
 fn goes_on(next: &Sector, sequence: u64, head: u64, count: u16, entries: usize) -> bool
-    ensures { IsTrue result ↔ ((next.now.sequence ≡ sequence) × (next.now.head ≡ head) × ((entries ≡ 24 * count) ⊎ (length next.now.entries ≡ 0))) }
+    ensures { IsTrue result
+        ↔
+        ((next.now.sequence ≡ sequence) × (next.now.head ≡ head)
+        × ((entries ≡ 24 * count) ⊎ (length next.now.entries ≡ 0))) }
 {
     let size = next.entries.len();
     next.sequence == sequence

@@ -9,7 +9,8 @@ use sector_records::put_block;
 /// Writes the block's bytes, as the tables of this crate say.
 #[tactic(auto, unfolding(crate::specs::Spelling::block_bytes))]
 pub fn encode(block: &JournalBlock, into: &mut Block)
-    ensures { into.new ≡ block_bytes block.now.nonce block.now.sequence block.now.head block.now.entries }
+    ensures { into.new
+        ≡ block_bytes block.now.nonce block.now.sequence block.now.head block.now.entries }
 {
     let head = JournalHead {
         nonce: block.nonce,

@@ -33,16 +33,16 @@
 //! Only tested: vectors that another program computed.
 #![tactic(auto)]
 
+mod decoder;
+mod encoder;
 mod format;
 mod forms;
 mod laws;
-mod decoder;
-mod encoder;
 
+pub use decoder::{block_prefix, sector};
+pub use encoder::encode;
 pub use forms::{Entries, JournalBlock, Prefix, Sector};
 pub use laws::{
     a_run_is_its_sectors, a_torn_write_leaves_a_prefix, bytes_have_one_reading,
     what_is_written_is_read,
 };
-pub use decoder::{block_prefix, sector};
-pub use encoder::encode;

@@ -76,8 +76,10 @@ fn ends_whole(head: &Super, journal: &[Block], last: u64) -> bool
 
 // Whether a prefix is that of the block of this sequence, names this head, and is all of the block.
 fn is_whole(prefix: &Prefix, start: u64, sequence: u64) -> bool
-    ensures yes { OnTrue result ((prefix.now.sequence ≡ sequence) × (prefix.now.head ≡ start) × IsTrue prefix.now.whole) }
-    ensures no { OnFalse result (prefix.now.sequence ≡ sequence → prefix.now.head ≡ start → IsTrue prefix.now.whole → ⊥) }
+    ensures yes { OnTrue result
+        ((prefix.now.sequence ≡ sequence) × (prefix.now.head ≡ start) × IsTrue prefix.now.whole) }
+    ensures no { OnFalse result
+        (prefix.now.sequence ≡ sequence → prefix.now.head ≡ start → IsTrue prefix.now.whole → ⊥) }
 {
     prefix.sequence == sequence && prefix.head == start && prefix.whole
 }

@@ -24,8 +24,10 @@ pub fn read_window<D: Disk>(
     requires some { 1 ≤ head.now.start }
     requires below { head.now.start < 2 ^ 54 }
     requires room { needed_blocks head.now.geometry ≤ (D.seen device.old).size }
-    ensures window { IfOk result (IsWindowRead D.tells D.honest (D.seen device.old) (D.seen device.new) head.now) }
-    ensures fault { IfErr result (Fails D.tells D.honest (D.seen device.old) (D.seen device.new) head.now) }
+    ensures window { IfOk result
+        (IsWindowRead D.tells D.honest (D.seen device.old) (D.seen device.new) head.now) }
+    ensures fault { IfErr result
+        (Fails D.tells D.honest (D.seen device.old) (D.seen device.new) head.now) }
     ensures untouched { IsUntouched D.tells (D.seen device.old) (D.seen device.new) }
 {
     let layout = Layout::of(&head.geometry);
@@ -42,8 +44,12 @@ fn read_journal<D: Disk>(
     layout: &Layout,
 ) -> Result<Vec<Block>, ImageFault>
     requires room { needed_blocks layout.now.geometry ≤ (D.seen device.old).size }
-    ensures read { IfOk result (λ journal. IsJournalRead D.tells D.honest (D.seen device.old) (D.seen device.new) layout.now.geometry journal.items) }
-    ensures fault { IfErr result (JournalFails D.tells D.honest (D.seen device.old) (D.seen device.new) layout.now.geometry) }
+    ensures read { IfOk result (λ journal.
+        IsJournalRead D.tells D.honest (D.seen device.old)
+        (D.seen device.new) layout.now.geometry journal.items) }
+    ensures fault { IfErr result
+        (JournalFails D.tells D.honest (D.seen device.old)
+        (D.seen device.new) layout.now.geometry) }
     ensures untouched { IsUntouched D.tells (D.seen device.old) (D.seen device.new) }
 {
     let first = layout.journal_slot(0);

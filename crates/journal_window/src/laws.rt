@@ -18,7 +18,8 @@ pub fn a_journal_has_one_answer()
     ensures windows { (head : Super) (journal : Blocks) (window window' : WindowState)
         → IsWindowOf head journal window → IsWindowOf head journal window' → window ≡ window' }
     ensures refusals { (head : Super) (journal : Blocks) (why why' : ImageFault)
-        → IsRefused head journal why → IsRefused head journal why' → (why ≡ why') ⊎ (why ≡ Memory) ⊎ (why' ≡ Memory) }
+        → IsRefused head journal why → IsRefused head journal why' →
+        (why ≡ why') ⊎ (why ≡ Memory) ⊎ (why' ≡ Memory) }
     ensures apart { (head : Super) (journal : Blocks) (window : WindowState) (why : ImageFault)
         → IsWindowOf head journal window → IsRefused head journal why → why ≡ Memory }
 {}
@@ -26,12 +27,16 @@ pub fn a_journal_has_one_answer()
 /// Where a device is honest and nothing is pending on it but in the index, what was read of its journal is what its one
 /// image has: the window with which it is opened, or its fault. It does nothing.
 pub fn reads_show_the_window()
-    ensures window { (tells honest : Bool) (before now : Seen) (image : Blocks) (head : Super) (window : WindowState)
-        → IsTrue tells → IsTrue honest → HasOneImageButIndex before.opening before.log image → needed_blocks head.geometry ≤ before.size
+    ensures window { (tells honest : Bool) (before now : Seen) (image : Blocks) (head : Super)
+        (window : WindowState)
+        → IsTrue tells → IsTrue honest → HasOneImageButIndex before.opening before.log image →
+        needed_blocks head.geometry ≤ before.size
         → super_of_image image ≡ Ok head → IsWindowRead tells honest before now head window
         → Opens image head window.last window.entries }
-    ensures fault { (tells honest : Bool) (before now : Seen) (image : Blocks) (head : Super) (why : ImageFault)
-        → IsTrue tells → IsTrue honest → HasOneImageButIndex before.opening before.log image → needed_blocks head.geometry ≤ before.size
+    ensures fault { (tells honest : Bool) (before now : Seen) (image : Blocks) (head : Super)
+        (why : ImageFault)
+        → IsTrue tells → IsTrue honest → HasOneImageButIndex before.opening before.log image →
+        needed_blocks head.geometry ≤ before.size
         → super_of_image image ≡ Ok head → Fails tells honest before now head why
         → IsImageFault image why }
 {}

@@ -13,13 +13,13 @@
 
 mod entries;
 mod finder;
+mod journal_reader;
 mod laws;
 mod newest;
-mod journal_reader;
 mod replayed_blocks;
 mod window;
 
 pub use finder::window_of;
-pub use laws::{a_journal_has_one_answer, reads_show_the_window};
 pub use journal_reader::read_window;
+pub use laws::{a_journal_has_one_answer, reads_show_the_window};
 pub use window::JournalWindow;

@@ -51,7 +51,8 @@ pub(crate) fn find_span(journal: &[Block], head: &Super) -> Span
 fn find_newest(journal: &[Block], head: &Super) -> Option<Newest>
     requires sizes { IsGeometry head.now.geometry }
     requires slots { length journal.now ≡ head.now.geometry.journal }
-    ensures { IsNewest head.now.geometry head.now.start journal.now head.now.geometry.journal result }
+    ensures { IsNewest head.now.geometry head.now.start journal.now head.now.geometry.journal
+        result }
 {
     let mut newest = None;
     for slot in 0..u64::from(head.geometry.journal) {
@@ -86,8 +87,12 @@ fn with_slot(journal: &[Block], head: &Super, slot: u64, newest: Option<Newest>)
 // Whether a sequence belongs in the slot, and is in reach.
 fn belongs(head: &Super, slot: u64, sequence: u64) -> bool
     requires { IsGeometry head.now.geometry }
-    ensures yes { OnTrue result ((sequence % head.now.geometry.journal ≡ slot) × (head.now.start ≤ sequence) × (sequence < head.now.start + 2 ^ 32)) }
-    ensures no { OnFalse result (sequence % head.now.geometry.journal ≡ slot → head.now.start ≤ sequence → sequence < head.now.start + 2 ^ 32 → ⊥) }
+    ensures yes { OnTrue result
+        ((sequence % head.now.geometry.journal ≡ slot) × (head.now.start ≤ sequence)
+        × (sequence < head.now.start + 2 ^ 32)) }
+    ensures no { OnFalse result
+        (sequence % head.now.geometry.journal ≡ slot → head.now.start ≤ sequence →
+        sequence < head.now.start + 2 ^ 32 → ⊥) }
 {
     sequence % u64::from(head.geometry.journal) == slot
         && sequence >= head.start

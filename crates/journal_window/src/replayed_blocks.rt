@@ -24,7 +24,9 @@ pub(crate) fn replay(
     requires slots { length journal.now ≡ layout.now.geometry.journal }
     requires order { span.first ≤ span.last + 1 }
     requires small { span.last < 2 ^ 54 + 2 ^ 32 }
-    ensures entries { IfOk result (λ entries. AreReplayed layout.now.geometry journal.now span.last span.first (span.last + 1) (reverse entries.items)) }
+    ensures entries { IfOk result (λ entries.
+        AreReplayed layout.now.geometry journal.now span.last span.first (span.last + 1)
+        (reverse entries.items)) }
     ensures fault { IfErr result (IsStopped layout.now.geometry journal.now span.last span.first) }
 {
     let mut entries = Vec::new(alloc);
@@ -44,7 +46,8 @@ fn add_block(
 ) -> Result<(), ImageFault>
     requires slots { length journal.now ≡ layout.now.geometry.journal }
     requires small { sequence < 2 ^ 55 }
-    ensures ok { OnOk result ((es : List Entry) × IsReplayable layout.now.geometry journal.now last sequence es
+    ensures ok { OnOk result
+        ((es : List Entry) × IsReplayable layout.now.geometry journal.now last sequence es
         × (entries.new.items ≡ entries.old.items ++ with_points sequence 0 es)) }
     ensures err { IfErr result (CantReplay layout.now.geometry journal.now last sequence) }
 {
@@ -60,8 +63,10 @@ fn add_block(
 // The prefix of the block of a sequence, if the block can be replayed.
 fn replayable(journal: &[Block], layout: &Layout, last: u64, sequence: u64) -> Option<Prefix>
     requires { length journal.now ≡ layout.now.geometry.journal }
-    ensures some { IfSome result (λ p. IsReplayable layout.now.geometry journal.now last sequence p.entries) }
-    ensures none { IfNone result ((es : List Entry) → IsReplayable layout.now.geometry journal.now last sequence es → ⊥) }
+    ensures some { IfSome result (λ p.
+        IsReplayable layout.now.geometry journal.now last sequence p.entries) }
+    ensures none { IfNone result
+        ((es : List Entry) → IsReplayable layout.now.geometry journal.now last sequence es → ⊥) }
 {
     let slot = sequence % u64::from(layout.geometry.journal);
     match block_prefix(&journal[slot as usize], layout.geometry.nonce) {
@@ -80,8 +85,10 @@ fn replayable(journal: &[Block], layout: &Layout, last: u64, sequence: u64) -> O
 
 // Whether a prefix is that of the block of a sequence, and all of the block where another one follows.
 fn is_whole(prefix: &Prefix, last: u64, sequence: u64) -> bool
-    ensures yes { OnTrue result ((prefix.now.sequence ≡ sequence) × (sequence < last → IsTrue prefix.now.whole)) }
-    ensures no { OnFalse result (prefix.now.sequence ≡ sequence → (sequence < last → IsTrue prefix.now.whole) → ⊥) }
+    ensures yes { OnTrue result
+        ((prefix.now.sequence ≡ sequence) × (sequence < last → IsTrue prefix.now.whole)) }
+    ensures no { OnFalse result
+        (prefix.now.sequence ≡ sequence → (sequence < last → IsTrue prefix.now.whole) → ⊥) }
 {
     prefix.sequence == sequence && (sequence >= last || prefix.whole)
 }
@@ -101,7 +108,8 @@ fn push_with_points(
 ) -> Result<(), AllocError>
     requires sequence { sequence < 2 ^ 55 }
     requires few { length block.now ≤ 192 }
-    ensures { OnOk result (entries.new.items ≡ entries.old.items ++ with_points sequence 0 block.now) }
+    ensures { OnOk result
+        (entries.new.items ≡ entries.old.items ++ with_points sequence 0 block.now) }
 {
     for (number, entry) in block.iter().enumerate() {
         entries.push(CommittedEntry {

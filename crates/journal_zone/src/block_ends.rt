@@ -51,7 +51,9 @@ fn seal_next(zone: &mut JournalZone, block: SealedBlock, posts: &mut Posts)
     requires within { IsJournalWithin zone.old }
     requires none { posts.old ≡ [] }
     ensures zone { zone.new ≡ rows.sealed_by zone.old }
-    ensures posts { posts.new ≡ (id.Device, Block (rows.next_block zone.old Cover zone.old.filling)) ∷ rows.all_again zone.old.waiting }
+    ensures posts { posts.new
+        ≡ (id.Device, Block (rows.next_block zone.old Cover zone.old.filling))
+        ∷ rows.all_again zone.old.waiting }
 {
     let sealed = zone.seal(block);
     posts.first(ZoneId::Device, Item::Block(sealed));
@@ -114,7 +116,8 @@ pub(crate) fn hear_stop(sizes: &Sizes, zone: &mut JournalZone, posts: &mut Posts
     requires within { IsJournalWithin zone.old }
     requires none { posts.old ≡ [] }
     ensures zone { zone.new ≡ record zone.old { notified = true; waiting = [] } }
-    ensures posts { posts.new ≡ (id.Desk, StopNotice) ∷ rows.all_refused sizes.now Stopped zone.old.waiting }
+    ensures posts { posts.new
+        ≡ (id.Desk, StopNotice) ∷ rows.all_refused sizes.now Stopped zone.old.waiting }
 {
     zone.hear_stop();
     posts.first(ZoneId::Desk, Item::StopNotice);

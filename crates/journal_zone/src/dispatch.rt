@@ -15,7 +15,8 @@ pub fn act(sizes: &Sizes, zone: &mut JournalZone, item: Item, posts: &mut Posts)
     requires within { IsJournalWithin zone.old }
     requires rule { HasAct sizes.now (at.Journal zone.old) (item ∷ []) }
     requires none { posts.old ≡ [] }
-    ensures { ActsAlone sizes.now (at.Journal zone.old) (item ∷ []) (at.Journal zone.new) posts.new }
+    ensures { ActsAlone sizes.now (at.Journal zone.old) (item ∷ [])
+        (at.Journal zone.new) posts.new }
 {
     match item {
         Item::Request(vio) => enter(sizes, zone, vio, posts),

@@ -3,9 +3,9 @@
 //! Only tested: as part of the core.
 #![tactic(auto)]
 
+mod block_ends;
 mod dispatch;
 mod dropped;
-mod block_ends;
 mod entries;
 mod refusals;
 mod start;

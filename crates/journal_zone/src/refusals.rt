@@ -37,7 +37,8 @@ pub(crate) fn refuse(sizes: &Sizes, refusal: Refusal, vio: BoxedVio, posts: &mut
 pub(crate) fn refuse_waiting(sizes: &Sizes, zone: &mut JournalZone, posts: &mut Posts)
     requires { length posts.old + length zone.old.waiting ≤ POST_ROOM }
     ensures zone { zone.new ≡ record zone.old { waiting = [] } }
-    ensures posts { posts.new ≡ posts.old ++ rows.all_refused sizes.now (answer_for Refusal.Stopped) zone.old.waiting }
+    ensures posts { posts.new
+        ≡ posts.old ++ rows.all_refused sizes.now (answer_for Refusal.Stopped) zone.old.waiting }
 {
     while let Some(vio) = zone.pop_waiting() {
         refuse(sizes, Refusal::Stopped, vio, posts);

@@ -57,7 +57,8 @@ fn are_all_same(left: &[u8; 4096], right: &[u8; 4096]) -> bool
 pub fn first_free(counters: &[u8], claims: &[u8]) -> Option<usize>
     requires { length counters.now ≡ length claims.now }
     ensures some { IfSome result (IsLeastFree counters.now claims.now) }
-    ensures none { IfNone result ((k : ℕ) → k < length counters.now → ¬ IsFreeAt counters.now claims.now k) }
+    ensures none { IfNone result
+        ((k : ℕ) → k < length counters.now → ¬ IsFreeAt counters.now claims.now k) }
 {
     let loads = counters.len() / LANES;
     for load in 0..loads {

@@ -18,7 +18,8 @@ pub(crate) const SUM_LANES: usize = 16;
 #[inline(always)]
 pub(crate) fn are_same(left: &[u8], right: &[u8], at: usize) -> bool
     requires { (at + LANES ≤ length left.now) × (at + LANES ≤ length right.now) }
-    ensures { IsTrue result ↔ ((k : ℕ) → at ≤ k → k < at + LANES → slice_index left.now k ≡ slice_index right.now k) }
+    ensures { IsTrue result
+        ↔ ((k : ℕ) → at ≤ k → k < at + LANES → slice_index left.now k ≡ slice_index right.now k) }
 {
     let left = u8x64::from_slice(&left[at..]);
     let right = u8x64::from_slice(&right[at..]);
@@ -37,7 +38,8 @@ fn either(left: u8x64, right: u8x64) -> u8x64
 #[inline(always)]
 pub(crate) fn are_zeros(bytes: &[u8], at: usize) -> bool
     requires { at + FOUR_LOADS ≤ length bytes.now }
-    ensures { IsTrue result ↔ ((k : ℕ) → at ≤ k → k < at + FOUR_LOADS → slice_index bytes.now k ≡ 0) }
+    ensures { IsTrue result
+        ↔ ((k : ℕ) → at ≤ k → k < at + FOUR_LOADS → slice_index bytes.now k ≡ 0) }
 {
     let front = either(
         u8x64::from_slice(&bytes[at..]),
@@ -77,7 +79,8 @@ fn free_bits(counters: &[u8], claims: &[u8], at: usize) -> u64
 pub(crate) fn least_free(counters: &[u8], claims: &[u8], at: usize) -> Option<usize>
     requires { (at + LANES ≤ length counters.now) × (at + LANES ≤ length claims.now) }
     ensures some { IfSome result (IsLeastFreeWithin at (at + LANES) counters.now claims.now) }
-    ensures none { IfNone result ((k : ℕ) → at ≤ k → k < at + LANES → ¬ IsFreeAt counters.now claims.now k) }
+    ensures none { IfNone result
+        ((k : ℕ) → at ≤ k → k < at + LANES → ¬ IsFreeAt counters.now claims.now k) }
 {
     let free = free_bits(counters, claims, at);
     if free == 0 {

@@ -6,5 +6,6 @@ ghost use Rattle.logical_locks.specs.Calls.{Call, LeadTo, AreInOrder};
 /// waits waits for an address that is held.
 pub fn locks_stay_in_order<V>()
     ensures opening { (room : ℕ) → AreInOrder (nobody V room) }
-    ensures calls { (old new : Holders V) (calls : List (Call V)) → AreInOrder old → LeadTo old calls new → AreInOrder new }
+    ensures calls { (old new : Holders V) (calls : List (Call V)) → AreInOrder old →
+        LeadTo old calls new → AreInOrder new }
 {}

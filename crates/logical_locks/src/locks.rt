@@ -78,8 +78,10 @@ impl<V: Drop> Locks<V> {
     pub fn ask(&mut self, at: Lba, vio: V) -> (u64, Option<V>)
         requires { HasRoom self.old }
         ensures place { result.0 ≡ self.old.next }
-        ensures taken { IfSome result.1 (λ back. (back ≡ vio) × Takes self.old self.new (record { at = at; place = result.0 })) }
-        ensures waits { IfNone result.1 (Waits self.old self.new (record { at = at; place = result.0; vio = vio })) }
+        ensures taken { IfSome result.1 (λ back.
+            (back ≡ vio) × Takes self.old self.new (record { at = at; place = result.0 })) }
+        ensures waits { IfNone result.1
+            (Waits self.old self.new (record { at = at; place = result.0; vio = vio })) }
     {
         let place = self.next;
         self.next += 1;
@@ -95,7 +97,9 @@ impl<V: Drop> Locks<V> {
     /// The holder of an address lets it go. It gives the next that waits for it, who now holds it with its own place;
     /// `None` exactly where nobody waits, and the address is free.
     pub fn release(&mut self, at: Lba) -> Option<V>
-        ensures next { IfSome result (λ vio. (place : ℕ) × HoldsNext self.old self.new (record { at = at; place = place; vio = vio })) }
+        ensures next { IfSome result (λ vio.
+            (place : ℕ)
+            × HoldsNext self.old self.new (record { at = at; place = place; vio = vio })) }
         ensures none { IfNone result (Frees self.old self.new at) }
     {
         leave_out(&mut self.held, at);

@@ -14,7 +14,8 @@ pub fn act(sizes: &Sizes, zone: &mut LogicalZone, item: Item, posts: &mut Posts)
     requires within { IsLogicalWithin (2 ^ 64 - 2) zone.old }
     requires rule { HasAct sizes.now (at.Logical zone.old) (item ∷ []) }
     requires none { posts.old ≡ [] }
-    ensures { ActsAlone sizes.now (at.Logical zone.old) (item ∷ []) (at.Logical zone.new) posts.new }
+    ensures { ActsAlone sizes.now (at.Logical zone.old) (item ∷ [])
+        (at.Logical zone.new) posts.new }
 {
     match item {
         Item::Request(vio) => serve_logical(sizes, zone, vio, posts),

@@ -124,7 +124,8 @@ fn arrive(sizes: &Sizes, zone: &mut LogicalZone, vio: BoxedVio, posts: &mut Post
     requires phase { vio.phase ≡ phase.Arrive }
     requires within { IsLogicalWithin (2 ^ 64 - 2) zone.old }
     requires none { posts.old ≡ [] }
-    ensures { rows.LogicalServes sizes.now zone.old vio zone.new (Draws (rows.place_of_vio zone.old vio) ∷ []) posts.new }
+    ensures { rows.LogicalServes sizes.now zone.old vio zone.new
+        (Draws (rows.place_of_vio zone.old vio) ∷ []) posts.new }
 {
     if zone.is_retired(vio.get().at) {
         let stopped = zone.draw(vio).end(Phase::Reply, Answer::Stopped);
@@ -153,7 +154,8 @@ fn settle(sizes: &Sizes, zone: &mut LogicalZone, vio: BoxedVio, posts: &mut Post
     requires phase { vio.phase ≡ phase.Settle }
     requires within { IsLogicalWithin (2 ^ 64 - 2) zone.old }
     requires none { posts.old ≡ [] }
-    ensures { rows.LogicalServes sizes.now zone.old vio zone.new (Sets (vios.logged vio) ∷ []) posts.new }
+    ensures { rows.LogicalServes sizes.now zone.old vio zone.new
+        (Sets (vios.logged vio) ∷ []) posts.new }
 {
     let at = vio.get().at;
     zone.set(vio.logged());
@@ -169,7 +171,8 @@ fn give(sizes: &Sizes, zone: &mut LogicalZone, vio: BoxedVio, posts: &mut Posts)
     requires phase { vio.phase ≡ phase.Loaded }
     requires within { IsLogicalWithin (2 ^ 64 - 2) zone.old }
     requires none { posts.old ≡ [] }
-    ensures { rows.LogicalServes sizes.now zone.old vio zone.new (Gives (vios.gift vio) ∷ []) posts.new }
+    ensures { rows.LogicalServes sizes.now zone.old vio zone.new
+        (Gives (vios.gift vio) ∷ []) posts.new }
 {
     let at = vio.get().at;
     let mut bytes = Block::zero();
@@ -198,7 +201,8 @@ fn abort_entered(sizes: &Sizes, zone: &mut LogicalZone, vio: BoxedVio, posts: &m
     requires phase { vio.phase ≡ phase.AbortEntered }
     requires within { IsLogicalWithin (2 ^ 64 - 2) zone.old }
     requires none { posts.old ≡ [] }
-    ensures { rows.LogicalServes sizes.now zone.old vio zone.new (Aborts (vios.logged vio) ∷ []) posts.new }
+    ensures { rows.LogicalServes sizes.now zone.old vio zone.new
+        (Aborts (vios.logged vio) ∷ []) posts.new }
 {
     let at = vio.get().at;
     posts.first(ZoneId::Desk, Item::Request(vio.turn(Phase::Reply)));

@@ -12,7 +12,9 @@ use vdo_model::ReportList;
 /// A logical zone at the start of a session, by its number among the logical ones: it drew nothing and has set nothing,
 /// and knows these entries of the window. All its room is taken here.
 pub fn first(alloc: Global, zone: u8, window: ReportList<Entry>) -> Result<LogicalZone, AllocError>
-    ensures { IfOk result (λ first. (s : Session) → s.window ≡ window → zone < s.sizes.zones → IsFirstData s (logical_number zone) (at.Logical first)) }
+    ensures { IfOk result (λ first.
+        (s : Session) → s.window ≡ window → zone < s.sizes.zones →
+        IsFirstData s (logical_number zone) (at.Logical first)) }
 {
     LogicalZone::new(alloc, zone, window)
 }

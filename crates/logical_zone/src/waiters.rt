@@ -9,7 +9,9 @@ use step_parts::Posts;
 /// All that wait for an address are answered as stopped: posts behind those that are there. Nobody holds its lock then.
 pub(crate) fn stop_all(zone: &mut LogicalZone, at: Lba, posts: &mut Posts)
     requires { length posts.old + length zone.old.waiting ≤ POST_ROOM }
-    ensures zone { zone.new ≡ record zone.old { held = rows.without at.0 zone.old.held; waiting = rows.none_for at.0 zone.old.waiting } }
+    ensures zone { zone.new
+        ≡ record zone.old
+        { held = rows.without at.0 zone.old.held; waiting = rows.none_for at.0 zone.old.waiting } }
     ensures posts { posts.new ≡ posts.old ++ rows.all_stopped (rows.all_for at.0 zone.old.waiting) }
 {
     while let Some(vio) = zone.release(at) {

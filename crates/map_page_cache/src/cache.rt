@@ -87,7 +87,8 @@ impl Cache {
         requires absent { IsAbsent self.old page }
         requires named { from.now.head.page ≡ page }
         requires held { IsPageOf self.old.geometry from.now }
-        ensures ok { OnOk result (Fills self.old self.new from.now ⊎ GivesUp self.old self.new from.now) }
+        ensures ok { OnOk result
+            (Fills self.old self.new from.now ⊎ GivesUp self.old self.new from.now) }
         ensures refused { OnErr result (HasNoFrame self.old) }
         ensures same { OnErr result (self.new ≡ self.old) }
     {

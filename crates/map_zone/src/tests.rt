@@ -41,7 +41,8 @@ fn blank_root() -> OpenedPage
 
 // An image with this root, as the zone of the first of 60 trees sees it.
 fn root_alone(alloc: Global) -> Result<Opened, AllocError>
-    ensures { IfOk result (λ opened. (opened.head.geometry ≡ GEOMETRY) × IsOpened (forest_of opened 0 60) opened.pages.items) }
+    ensures { IfOk result (λ opened.
+        (opened.head.geometry ≡ GEOMETRY) × IsOpened (forest_of opened 0 60) opened.pages.items) }
 {
     let mut pages = Vec::with_capacity(alloc, 1)?;
     pages.push_reserved(blank_root());

@@ -190,7 +190,8 @@ impl MapZone {
     fn remap(&mut self, at: Lba, mapping: Mapping, point: Point) -> Applied
         requires { MayRemap self.old at.0 mapping }
         ensures done { result ≡ Done → Remaps self.old self.new at.0 mapping point }
-        ensures needs { (page : PageId) (block : Pbn) → result ≡ NeedLeaf page block → NeedsLeaf self.old at.0 page block × (self.new ≡ self.old) }
+        ensures needs { (page : PageId) (block : Pbn) → result ≡ NeedLeaf page block →
+            NeedsLeaf self.old at.0 page block × (self.new ≡ self.old) }
     {
         let page = leaf_of(at);
         if self.is_cached(page) {
@@ -275,7 +276,8 @@ impl MapZone {
     ///
     /// `None` exactly where no page that isn't being written has a first dirty point at or below this one.
     pub fn take_expired(&mut self, point: Point, into: &mut Block) -> Option<(PageId, Pbn)>
-        ensures some { IfSome result (λ (page, at). Takes self.old self.new point page at into.new) }
+        ensures some { IfSome result
+            (λ (page, at). Takes self.old self.new point page at into.new) }
         ensures none { IfNone result (NoneDue self.old point) }
         ensures same { IfNone result ((self.new ≡ self.old) × (into.new ≡ into.old)) }
     {
@@ -297,7 +299,8 @@ impl MapZone {
     // Hands out a leaf to be written.
     fn take_leaf(&mut self, point: Point, into: &mut Block) -> Option<(PageId, Pbn)>
         requires { IsLeafFirst self.old }
-        ensures some { IfSome result (λ (page, at). TakesLeaf self.old self.new point page at into.new) }
+        ensures some { IfSome result
+            (λ (page, at). TakesLeaf self.old self.new point page at into.new) }
         ensures none { IfNone result (NoneDue self.old point) }
         ensures same { IfNone result ((self.new ≡ self.old) × (into.new ≡ into.old)) }
     {
@@ -309,7 +312,8 @@ impl MapZone {
     // Hands out a page that is no leaf to be written.
     fn take_node(&mut self, point: Point, into: &mut Block) -> Option<(PageId, Pbn)>
         requires { IsNodeFirst self.old }
-        ensures some { IfSome result (λ (page, at). TakesNode self.old self.new point page at into.new) }
+        ensures some { IfSome result
+            (λ (page, at). TakesNode self.old self.new point page at into.new) }
         ensures none { IfNone result (NoneDue self.old point) }
         ensures same { IfNone result ((self.new ≡ self.old) × (into.new ≡ into.old)) }
     {

@@ -18,7 +18,8 @@ pub fn decode(block: &Block, want: &PageHead, into: &mut MapPage) -> Result<(), 
     ensures head { into.new.head ≡ want.now }
     ensures ok { OnOk result (IsPage want.now block.now into.new.mappings) }
     ensures fault { IfErr result (λ fault. IsPageFault want.now block.now fault) }
-    ensures outside { OnErr result ((mappings : List Mapping) → IsPage want.now block.now mappings → ⊥) }
+    ensures outside { OnErr result
+        ((mappings : List Mapping) → IsPage want.now block.now mappings → ⊥) }
     ensures emptied { OnErr result (into.new.mappings ≡ replicate PAGE_SLOTS Unmapped) }
 {
     into.head = *want;
@@ -38,7 +39,8 @@ pub fn slot(block: &Block, want: &PageHead, slot: u16) -> Result<Mapping, PageFa
     requires slot { slot < PAGE_SLOTS }
     ensures ok { IfOk result (λ mapping. IsSlot want.now block.now slot mapping) }
     ensures fault { IfErr result (λ fault. IsSlotFault want.now block.now slot fault) }
-    ensures outside { OnErr result ((mapping : Mapping) → IsSlot want.now block.now slot mapping → ⊥) }
+    ensures outside { OnErr result
+        ((mapping : Mapping) → IsSlot want.now block.now slot mapping → ⊥) }
 {
     if !has_head(&block.bytes, want) {
         return Err(PageFault::Header);
@@ -97,8 +99,12 @@ fn read_slot(bytes: &[u8], want: &PageHead, slot: u16) -> Result<Mapping, PageFa
 // The mapping that has this first byte and this block, if the page can hold it.
 fn mapping_of(first: u8, block: u32, want: &PageHead) -> Option<Mapping>
     requires { IsGeometry want.now.geometry }
-    ensures some { IfSome result (λ m. (state_of m ≡ first) × (target_of m ≡ block) × HoldsMapping want.now.geometry want.now.page.level m) }
-    ensures none { IfNone result ((m : Mapping) → state_of m ≡ first → target_of m ≡ block → HoldsMapping want.now.geometry want.now.page.level m → ⊥) }
+    ensures some { IfSome result (λ m.
+        (state_of m ≡ first) × (target_of m ≡ block)
+        × HoldsMapping want.now.geometry want.now.page.level m) }
+    ensures none { IfNone result
+        ((m : Mapping) → state_of m ≡ first → target_of m ≡ block →
+        HoldsMapping want.now.geometry want.now.page.level m → ⊥) }
 {
     if first == 0 && block == 0 {
         Some(Mapping::Unmapped)

@@ -38,7 +38,8 @@ pub(crate) fn put_head(page: &mut [u8], head: &PageHead)
 
 fn put_slots(page: &mut [u8], mappings: &[Mapping])
     requires { 36 + 5 * length mappings.now ≤ length page.old }
-    ensures { take (36 + 5 * length mappings.now) page.new ≡ take 36 page.old ++ flat_map mapping_bytes mappings.now }
+    ensures { take (36 + 5 * length mappings.now) page.new
+        ≡ take 36 page.old ++ flat_map mapping_bytes mappings.now }
 {
     for (slot, mapping) in mappings.iter().enumerate() {
         put_mapping(page, HEAD + WIDTH * slot, *mapping);

@@ -32,17 +32,17 @@
 //! Only tested: vectors that another program computed; a page for each fault.
 #![tactic(auto)]
 
+mod decoder;
+mod encoder;
 mod fault;
 mod forms;
 mod laws;
-mod decoder;
-mod encoder;
 
+pub use decoder::{decode, slot};
+pub use encoder::encode;
 pub use fault::PageFault;
 pub use forms::{MapPage, PageHead};
 pub use laws::{
     a_page_is_its_slots, a_torn_page_keeps_whole_slots, bytes_have_one_reading,
     what_is_written_is_read,
 };
-pub use decoder::{decode, slot};
-pub use encoder::encode;

@@ -12,7 +12,8 @@ use step_parts::Posts;
 pub fn act(sizes: &Sizes, zone: &mut PhysicalZone, item: Item, posts: &mut Posts)
     requires rule { HasAct sizes.now (at.Physical zone.old) (item ∷ []) }
     requires none { posts.old ≡ [] }
-    ensures { ActsAlone sizes.now (at.Physical zone.old) (item ∷ []) (at.Physical zone.new) posts.new }
+    ensures { ActsAlone sizes.now (at.Physical zone.old) (item ∷ [])
+        (at.Physical zone.new) posts.new }
 {
     match item {
         Item::Request(vio) => serve_physical(sizes, zone, vio, posts),

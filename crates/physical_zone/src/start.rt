@@ -9,7 +9,8 @@ use core_model::{PhysicalZone, Supply};
 
 /// The physical zone at the start of a session, with these free blocks.
 pub fn first(free: Vec<Pbn>) -> PhysicalZone
-    ensures { (s : Session) → s.free ≡ free.items → IsFirstData s (physical_number s.sizes) (at.Physical result) }
+    ensures { (s : Session) → s.free ≡ free.items →
+        IsFirstData s (physical_number s.sizes) (at.Physical result) }
 {
     PhysicalZone {
         notified: false,

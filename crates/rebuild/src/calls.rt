@@ -12,7 +12,8 @@ use image_layout::write_super;
 // Writes a block.
 pub(crate) fn put<D: Disk>(device: &mut D, at: Pbn, block: &Block) -> Result<(), Failed>
     requires { at.0 < (D.seen device.old).size }
-    ensures { Makes D.tells (D.seen device.old) (D.seen device.new) (put at.0 block.now ∷ []) result }
+    ensures { Makes D.tells (D.seen device.old) (D.seen device.new)
+        (put at.0 block.now ∷ []) result }
 {
     device.write(at, block)
 }
@@ -29,7 +30,8 @@ pub(crate) fn close<D: Disk>(device: &mut D, sizes: &Geometry, last: u64) -> Res
     requires some { 0 < (D.seen device.old).size }
     requires few { last < 2 ^ 55 }
     ensures { Makes D.tells (D.seen device.old) (D.seen device.new)
-        (Flush true ∷ put 0 (super_block (recovered_super sizes.now last)) ∷ Flush true ∷ []) result }
+        (Flush true ∷ put 0 (super_block (recovered_super sizes.now last)) ∷ Flush true ∷ [])
+        result }
 {
     let head = Super {
         geometry: *sizes,

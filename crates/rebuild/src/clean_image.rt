@@ -62,9 +62,13 @@ fn open_with<D: Disk>(
     requires sizes { IsGeometry head.now.geometry }
     requires room { needed_blocks head.now.geometry ≤ (D.seen device.old).size }
     requires window { (journal : Blocks) × IsWindowOf head.now journal window.now }
-    ensures opened { IfOk result (IsOpenedWith D.tells D.honest head.now window.now (D.seen device.old) (D.seen device.new)) }
+    ensures opened { IfOk result
+        (IsOpenedWith D.tells D.honest head.now window.now (D.seen device.old)
+        (D.seen device.new)) }
     ensures fits { IfOk result Fits }
-    ensures fault { IfErr result (OpenWithFails D.tells D.honest head.now window.now (D.seen device.old) (D.seen device.new)) }
+    ensures fault { IfErr result
+        (OpenWithFails D.tells D.honest head.now window.now (D.seen device.old)
+        (D.seen device.new)) }
     ensures untouched { IsUntouched D.tells (D.seen device.old) (D.seen device.new) }
 {
     let contents = read_contents(alloc, head, window, device)?;
@@ -78,8 +82,10 @@ fn open_with<D: Disk>(
 // Refuses the least data block whose stored count isn't the number of its mappings.
 fn check_counts(alloc: Global, layout: &Layout, contents: &Contents) -> Result<(), ImageFault>
     requires { length contents.now.counts.counts.items ≡ all_blocks layout.now.geometry }
-    ensures all { OnOk result ((image : Image) → image.geometry ≡ layout.now.geometry → HasMap image contents.now.map
-        → HasCounts image contents.now.counts.counts.items contents.now.counts.sectors.items → AreTrue image) }
+    ensures all { OnOk result
+        ((image : Image) → image.geometry ≡ layout.now.geometry → HasMap image contents.now.map
+        → HasCounts image contents.now.counts.counts.items contents.now.counts.sectors.items →
+        AreTrue image) }
     ensures fault { IfErr result (CheckFails layout.now.geometry contents.now) }
 {
     let Ok(report) = report_of(alloc, layout, &contents.map, &contents.counts) else {

@@ -19,8 +19,10 @@ pub(crate) fn put_slabs<D: Disk>(
     requires room { needed_blocks layout.now.geometry ≤ (D.seen device.old).size }
     requires counts { length counts.now.counts.items ≡ all_blocks layout.now.geometry }
     requires sectors { length counts.now.sectors.items ≡ all_sectors layout.now.geometry }
-    ensures { Acts D.tells D.honest (D.seen device.old) (D.seen device.new) (HasTheseCounts layout.now.geometry counts.now.counts.items counts.now.sectors.items)
-        (AreSlabsDone layout.now.geometry counts.now.sectors.items layout.now.geometry.slabs) result }
+    ensures { Acts D.tells D.honest (D.seen device.old) (D.seen device.new)
+        (HasTheseCounts layout.now.geometry counts.now.counts.items counts.now.sectors.items)
+        (AreSlabsDone layout.now.geometry counts.now.sectors.items layout.now.geometry.slabs)
+        result }
 {
     for slab in 0..layout.geometry.slabs {
         put_slab(device, layout, slab, counts)?;
@@ -39,8 +41,10 @@ fn put_slab<D: Disk>(
     requires inside { slab < layout.now.geometry.slabs }
     requires counts { length counts.now.counts.items ≡ all_blocks layout.now.geometry }
     requires sectors { length counts.now.sectors.items ≡ all_sectors layout.now.geometry }
-    ensures { Acts D.tells D.honest (D.seen device.old) (D.seen device.new) (HasTheseCounts layout.now.geometry counts.now.counts.items counts.now.sectors.items)
-        (IsSlabDone layout.now.geometry counts.now.sectors.items slab (references_of layout.now.geometry)) result }
+    ensures { Acts D.tells D.honest (D.seen device.old) (D.seen device.new)
+        (HasTheseCounts layout.now.geometry counts.now.counts.items counts.now.sectors.items)
+        (IsSlabDone layout.now.geometry counts.now.sectors.items slab
+        (references_of layout.now.geometry)) result }
 {
     for i in 0..layout.references() {
         put_block(device, layout, slab, i, counts)?;
@@ -60,7 +64,8 @@ fn put_block<D: Disk>(
     requires inside { IsPlace layout.now.geometry (ReferenceBlock slab i) }
     requires counts { length counts.now.counts.items ≡ all_blocks layout.now.geometry }
     requires sectors { length counts.now.sectors.items ≡ all_sectors layout.now.geometry }
-    ensures { Acts D.tells D.honest (D.seen device.old) (D.seen device.new) (HasTheseCounts layout.now.geometry counts.now.counts.items counts.now.sectors.items)
+    ensures { Acts D.tells D.honest (D.seen device.old) (D.seen device.new)
+        (HasTheseCounts layout.now.geometry counts.now.counts.items counts.now.sectors.items)
         (IsBlockDone layout.now.geometry counts.now.sectors.items slab i) result }
 {
     if has_updates(layout, slab, i, &counts.sectors) {
@@ -82,7 +87,8 @@ fn write_block<D: Disk>(
     requires inside { IsPlace layout.now.geometry (ReferenceBlock slab i) }
     requires counts { length counts.now.counts.items ≡ all_blocks layout.now.geometry }
     requires sectors { length counts.now.sectors.items ≡ all_sectors layout.now.geometry }
-    ensures { Acts D.tells D.honest (D.seen device.old) (D.seen device.new) (HasTheseCounts layout.now.geometry counts.now.counts.items counts.now.sectors.items)
+    ensures { Acts D.tells D.honest (D.seen device.old) (D.seen device.new)
+        (HasTheseCounts layout.now.geometry counts.now.counts.items counts.now.sectors.items)
         (IsBlockDone layout.now.geometry counts.now.sectors.items slab i) result }
 {
     let at = layout.reference_block(slab, i);

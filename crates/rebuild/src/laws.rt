@@ -11,9 +11,13 @@ ghost use Rattle.rebuild.specs.declared.forms.Recovered.{Recovered};
 /// pending, and its one image is sound and closed. A second recovery answers `Clean` and writes nothing; or it answers
 /// `Device`, and the last call failed.
 pub fn recovered_once_for_all()
-    ensures closed { (tells honest : Bool) (before now : Seen) (blocks : Blocks) (recovered : Recovered) → IsTold tells honest before blocks → IsSound blocks
+    ensures closed { (tells honest : Bool) (before now : Seen) (blocks : Blocks)
+        (recovered : Recovered) → IsTold tells honest before blocks → IsSound blocks
         → IsRecovery tells honest before now (Ok recovered) → HasClosedImage tells honest now }
-    ensures again { (tells honest : Bool) (before middle now : Seen) (blocks : Blocks) (recovered : Recovered) (result : Result Recovered ImageFault)
-        → IsTold tells honest before blocks → IsSound blocks → IsRecovery tells honest before middle (Ok recovered) → IsRecovery tells honest middle now result
+    ensures again { (tells honest : Bool) (before middle now : Seen) (blocks : Blocks)
+        (recovered : Recovered) (result : Result Recovered ImageFault)
+        → IsTold tells honest before blocks → IsSound blocks →
+        IsRecovery tells honest before middle (Ok recovered) →
+        IsRecovery tells honest middle now result
         → FindsClosed tells middle now result }
 {}

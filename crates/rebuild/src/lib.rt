@@ -25,15 +25,15 @@
 #![tactic(auto)]
 
 mod calls;
+mod clean_image;
 mod counters;
 mod forms;
 mod laws;
-mod clean_image;
 mod pages;
 mod recovery;
 mod unclean;
 
+pub use clean_image::open_clean;
 pub use forms::Recovered;
 pub use laws::recovered_once_for_all;
-pub use clean_image::open_clean;
 pub use recovery::recover;

@@ -29,7 +29,8 @@ pub(crate) fn recover_unclean<D: Disk>(
     requires below { head.now.start < 2 ^ 54 }
     requires room { needed_blocks head.now.geometry ≤ (D.seen device.old).size }
     requires unclean { head.now.clean ≡ false }
-    ensures { RecoversUnclean D.tells D.honest head.now (D.seen device.old) (D.seen device.new) result }
+    ensures { RecoversUnclean D.tells D.honest head.now (D.seen device.old)
+        (D.seen device.new) result }
 {
     let window = read_window(alloc, head, device)?;
     let Ok(changes) = Changes::of(alloc, window.entries()) else {
@@ -55,9 +56,11 @@ fn write_contents<D: Disk>(
     requires few { last < 2 ^ 55 }
     requires counts { length contents.now.counts.counts.items ≡ all_blocks layout.now.geometry }
     requires sectors { length contents.now.counts.sectors.items ≡ all_sectors layout.now.geometry }
-    requires form { HasForm layout.now.geometry contents.now.map.links.items contents.now.map.slots.items }
+    requires form { HasForm layout.now.geometry contents.now.map.links.items
+        contents.now.map.slots.items }
     ensures { WritesAll D.tells D.honest (D.seen device.old) (D.seen device.new)
-        (HasContents layout.now.geometry changes.now contents.now.map.links.items contents.now.counts.counts.items contents.now.counts.sectors.items) last result }
+        (HasContents layout.now.geometry changes.now contents.now.map.links.items
+        contents.now.counts.counts.items contents.now.counts.sectors.items) last result }
 {
     write_blocks(device, layout, changes, contents)?;
     close(device, &layout.geometry, last)
@@ -73,9 +76,11 @@ fn write_blocks<D: Disk>(
     requires room { needed_blocks layout.now.geometry ≤ (D.seen device.old).size }
     requires counts { length contents.now.counts.counts.items ≡ all_blocks layout.now.geometry }
     requires sectors { length contents.now.counts.sectors.items ≡ all_sectors layout.now.geometry }
-    requires form { HasForm layout.now.geometry contents.now.map.links.items contents.now.map.slots.items }
+    requires form { HasForm layout.now.geometry contents.now.map.links.items
+        contents.now.map.slots.items }
     ensures { Acts D.tells D.honest (D.seen device.old) (D.seen device.new)
-        (HasContents layout.now.geometry changes.now contents.now.map.links.items contents.now.counts.counts.items contents.now.counts.sectors.items)
+        (HasContents layout.now.geometry changes.now contents.now.map.links.items
+        contents.now.counts.counts.items contents.now.counts.sectors.items)
         AreBothDone result }
 {
     put_pages(device, layout, changes, &contents.map.links)?;

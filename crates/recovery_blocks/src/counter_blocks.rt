@@ -22,7 +22,8 @@ pub fn put_counts(block: &mut Block, layout: &Layout, slab: u32, i: u32, counts:
     requires inside { IsPlace layout.now.geometry (Reference slab i) }
     requires counts { length counts.now.counts.items ≡ all_blocks layout.now.geometry }
     requires sectors { length counts.now.sectors.items ≡ all_sectors layout.now.geometry }
-    ensures { AreCountsPut layout.now.geometry slab i counts.now.counts.items counts.now.sectors.items block.old block.new }
+    ensures { AreCountsPut layout.now.geometry slab i counts.now.counts.items
+        counts.now.sectors.items block.old block.new }
 {
     let sectors = sectors_of(block, layout, slab, i, counts);
     encode_reference(&ReferenceBlock { sectors }, block);
@@ -39,7 +40,8 @@ fn sectors_of(
     requires inside { IsPlace layout.now.geometry (Reference slab i) }
     requires counts { length counts.now.counts.items ≡ all_blocks layout.now.geometry }
     requires sectors { length counts.now.sectors.items ≡ all_sectors layout.now.geometry }
-    ensures { AreSpelled layout.now.geometry slab i counts.now.counts.items counts.now.sectors.items block.now 8 result }
+    ensures { AreSpelled layout.now.geometry slab i counts.now.counts.items counts.now.sectors.items
+        block.now 8 result }
 {
     let mut sectors = [ReferenceSector {
         commit: Point(0),
@@ -64,7 +66,8 @@ fn sector_at(
     requires small { j < 8 }
     requires counts { length counts.now.counts.items ≡ all_blocks layout.now.geometry }
     requires sectors { length counts.now.sectors.items ≡ all_sectors layout.now.geometry }
-    ensures { IsSpelled layout.now.geometry slab (i * 8 + j) counts.now.counts.items counts.now.sectors.items (sector j block.now) result }
+    ensures { IsSpelled layout.now.geometry slab
+        (i * 8 + j) counts.now.counts.items counts.now.sectors.items (sector j block.now) result }
 {
     let n = i * SECTORS + u32::from(j);
     if n < layout.sectors_per_slab() {
@@ -80,8 +83,10 @@ fn counted_sector(layout: &Layout, slab: u32, n: u32, counts: &RecoveredCounts) 
     requires inside { n < sectors_per_slab layout.now.geometry }
     requires counts { length counts.now.counts.items ≡ all_blocks layout.now.geometry }
     requires sectors { length counts.now.sectors.items ≡ all_sectors layout.now.geometry }
-    ensures commit { result.commit ≡ (points_of layout.now.geometry counts.now.sectors.items slab n).applied }
-    ensures counters { IsCounted layout.now.geometry slab n counts.now.counts.items (layout.now.geometry.slab_blocks) result.counters }
+    ensures commit { result.commit
+        ≡ (points_of layout.now.geometry counts.now.sectors.items slab n).applied }
+    ensures counters { IsCounted layout.now.geometry slab n counts.now.counts.items
+        (layout.now.geometry.slab_blocks) result.counters }
 {
     let points = points_at(layout, slab, n, &counts.sectors);
     ReferenceSector {
@@ -105,7 +110,8 @@ fn counters_of(layout: &Layout, slab: u32, n: u32, counts: &[u16]) -> [u8; SECTO
     requires slab { slab < layout.now.geometry.slabs }
     requires inside { n < sectors_per_slab layout.now.geometry }
     requires all { length counts.now ≡ all_blocks layout.now.geometry }
-    ensures { IsCounted layout.now.geometry slab n counts.now (layout.now.geometry.slab_blocks) result }
+    ensures { IsCounted layout.now.geometry slab n counts.now
+        (layout.now.geometry.slab_blocks) result }
 {
     let width = layout.counters_per_sector();
     let first = n * width;

@@ -101,7 +101,8 @@ impl Journal {
         zones: u32,
     ) -> Result<Journal, AllocError>
         requires geometry { IsGeometry geometry.now }
-        requires room { IfSome earlier (λ first. (1 ≤ first) × (first ≤ start) × (start + 1 ≤ first + geometry.now.journal)) }
+        requires room { IfSome earlier (λ first.
+            (1 ≤ first) × (first ≤ start) × (start + 1 ≤ first + geometry.now.journal)) }
         requires start { (1 ≤ start) × (start < 2 ^ 55) }
         requires zones { 0 < zones }
         ensures { IfOk result (λ journal. journal ≡ opening geometry.now earlier start zones) }
@@ -132,7 +133,8 @@ impl Journal {
     /// The sequence of the sealed block that isn't committed yet, which is the one before the block being filled; `None`
     /// exactly where there is none.
     pub fn writing(&self) -> Option<u64>
-        ensures some { IfSome result (λ sequence. (sequence ≡ self.now.committed) × (sequence + 1 ≡ self.now.sequence)) }
+        ensures some { IfSome result (λ sequence.
+            (sequence ≡ self.now.committed) × (sequence + 1 ≡ self.now.sequence)) }
         ensures none { IfNone result (self.now.committed ≡ self.now.sequence) }
     {
         if self.committed < self.sequence {
@@ -155,8 +157,10 @@ impl Journal {
     /// back exactly where that block holds 192 or has no slot (`has_slot`).
     pub fn append(&mut self, entry: Entry) -> Result<Place, Entry>
         requires sequence { self.old.sequence < 2 ^ 55 }
-        ensures place { IfOk result (λ place. place ≡ record { sequence = self.old.sequence; entry = length self.old.filling }) }
-        ensures added { OnOk result (self.new ≡ record self.old { filling = self.old.filling ++ entry ∷ [] }) }
+        ensures place { IfOk result (λ place.
+            place ≡ record { sequence = self.old.sequence; entry = length self.old.filling }) }
+        ensures added { OnOk result
+            (self.new ≡ record self.old { filling = self.old.filling ++ entry ∷ [] }) }
         ensures room { OnOk result (HasRoom self.old) }
         ensures back { IfErr result (λ back. (back ≡ entry) × (self.new ≡ self.old)) }
         ensures full { OnErr result (HasNoRoom self.old) }
@@ -178,9 +182,11 @@ impl Journal {
     pub fn seal(&mut self) -> Option<JournalBlock>
         ensures some { IfSome result (Seals self.old self.new) }
         ensures ring { IfSome result (λ block. block.sequence + 2 ≤ block.head + self.old.size) }
-        ensures held { All HoldsEntry self.old.filling → IfSome result (λ block. HoldsBlock block.sequence block.head block.entries) }
+        ensures held { All HoldsEntry self.old.filling →
+            IfSome result (λ block. HoldsBlock block.sequence block.head block.entries) }
         ensures head { head_of self.new ≡ head_of self.old }
-        ensures none { IfNone result (((self.old.filling ≡ []) ⊎ IsWriting self.old) × (self.new ≡ self.old)) }
+        ensures none { IfNone result
+            (((self.old.filling ≡ []) ⊎ IsWriting self.old) × (self.new ≡ self.old)) }
     {
         if self.filling.is_empty() || self.committed < self.sequence {
             return None;
@@ -214,7 +220,8 @@ impl Journal {
         ensures some { IfSome result (HandsOut self.old self.new) }
         ensures named { IfSome result IsNamed }
         ensures none { IfNone result (NoneCommitted self.old × (self.new ≡ self.old)) }
-        ensures all { IfNone result (self.old.committed ≡ self.old.sequence → self.old.handed ≡ length self.old.entries) }
+        ensures all { IfNone result
+            (self.old.committed ≡ self.old.sequence → self.old.handed ≡ length self.old.entries) }
     {
         if self.handed == self.entries.len() {
             return None;

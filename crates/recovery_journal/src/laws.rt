@@ -4,8 +4,10 @@ ghost use Rattle.std.specs.Prelude.{◌≡◌, ◌≢◌, ◌+◌, ◌<◌, ◌�
 /// than the blocks from its head on before it; and while the next block is written, the slot of that one has neither this
 /// block nor any from its head on.
 pub fn no_needed_block_is_overwritten()
-    ensures own { (size sequence head needed : ℕ) → sequence + 2 ≤ head + size → head ≤ needed → needed < sequence
+    ensures own { (size sequence head needed : ℕ) → sequence + 2 ≤ head + size → head ≤ needed →
+        needed < sequence
         → needed % size ≢ sequence % size }
-    ensures next { (size sequence head needed : ℕ) → sequence + 2 ≤ head + size → head ≤ needed → needed ≤ sequence
+    ensures next { (size sequence head needed : ℕ) → sequence + 2 ≤ head + size → head ≤ needed →
+        needed ≤ sequence
         → needed % size ≢ (sequence + 1) % size }
 {}

@@ -14,10 +14,10 @@
 //! Only tested: a full ring that waits for its head; one behind an earlier session, whose head stays.
 #![tactic(auto)]
 
-mod new_entry;
 mod forms;
 mod journal;
 mod laws;
+mod new_entry;
 mod watermarks;
 
 pub use forms::Place;

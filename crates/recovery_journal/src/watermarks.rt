@@ -39,8 +39,10 @@ pub(crate) fn first_needed(earlier: Option<u64>, sequence: u64) -> u64
 /// How many entries stand before the first that some zone still needs.
 pub(crate) fn count_durable(entries: &VecDeque<CommittedEntry>, marks: &[Point]) -> usize
     ensures inside { result ≤ deque_len entries.now }
-    ensures durable { All (λ entry. IsDurable marks.now entry.point) (take result entries.now.items) }
-    ensures next { All (λ entry. IsNeeded marks.now entry.point) (take 1 (drop result entries.now.items)) }
+    ensures durable { All (λ entry. IsDurable marks.now entry.point)
+        (take result entries.now.items) }
+    ensures next { All (λ entry. IsNeeded marks.now entry.point)
+        (take 1 (drop result entries.now.items)) }
 {
     match entries
         .iter()

@@ -16,22 +16,28 @@ ghost use Rattle.recovery_laws.specs.Written.{AreFull, AreUnderway};
 /// While a sound image is recovered it is sound and says the same, with its other blocks as they were, and afterwards it is
 /// closed too: of each of these, whatever way it came there. It does nothing.
 pub fn blocks_underway_say_the_same()
-    ensures underway { (blocks now : Blocks) (sound : IsSound blocks) → sound.head.clean ≡ false → AreUnderway (image_in blocks sound) now
+    ensures underway { (blocks now : Blocks) (sound : IsSound blocks) → sound.head.clean ≡ false →
+        AreUnderway (image_in blocks sound) now
         → AreKept (image_in blocks sound) now }
-    ensures full { (blocks now : Blocks) (sound : IsSound blocks) → AreFull (image_in blocks sound) now
-        → super_of_image now ≡ Ok (recovered_super sound.head.geometry sound.last) → IsRecovered (image_in blocks sound) sound.last now }
+    ensures full { (blocks now : Blocks) (sound : IsSound blocks) →
+        AreFull (image_in blocks sound) now
+        → super_of_image now ≡ Ok (recovered_super sound.head.geometry sound.last) →
+        IsRecovered (image_in blocks sound) sound.last now }
 
     // What says the same as what says the same does too, and what keeps what was kept: so a second recovery after a stop
     // gives the same.
-    ensures again { (old middle new : Image) → SayTheSame old middle → SayTheSame middle new → SayTheSame old new }
-    ensures kept_again { (old : Image) (middle now : Blocks) (first : AreKept old middle) → length middle ≡ length old.blocks
+    ensures again { (old middle new : Image) → SayTheSame old middle → SayTheSame middle new →
+        SayTheSame old new }
+    ensures kept_again { (old : Image) (middle now : Blocks) (first : AreKept old middle) →
+        length middle ≡ length old.blocks
         → AreKept (image_in middle first.sound) now → AreKept old now }
 {}
 
 /// Nothing rests on the blocks of the index: images that are alike in all others are sound alike, and say the same. It does
 /// nothing.
 pub fn the_index_says_nothing()
-    ensures { (blocks now : Blocks) (sound : IsSound blocks) → AreAlikeIn (looked_in blocks) blocks now → AreKept (image_in blocks sound) now }
+    ensures { (blocks now : Blocks) (sound : IsSound blocks) →
+        AreAlikeIn (looked_in blocks) blocks now → AreKept (image_in blocks sound) now }
 {}
 
 /// Recovery makes its writes in any order, with reads among them; then a flush, the superblock, and a flush. Of a sound image
@@ -41,19 +47,32 @@ pub fn the_index_says_nothing()
 /// closed. It does nothing.
 pub fn recovery_keeps_what_an_image_says()
     // While not all writes are made.
-    ensures parts { (opening blocks : Blocks) (first calls : List Call) (to : IsToRecover opening first blocks) → AllByRecursion (IsPut (image_in blocks to.sound)) calls
+    ensures parts { (opening blocks : Blocks) (first calls : List Call)
+        (to : IsToRecover opening first blocks) →
+        AllByRecursion (IsPut (image_in blocks to.sound)) calls
         → AreStopsKept (image_in blocks to.sound) opening first calls }
-    ensures cut { (opening blocks : Blocks) (first calls : List Call) (call : Call) (to : IsToRecover opening first blocks)
-        → AllByRecursion (IsPut (image_in blocks to.sound)) calls → IsPut (image_in blocks to.sound) call ⊎ (call ≡ Flush true)
+    ensures cut { (opening blocks : Blocks) (first calls : List Call) (call : Call)
+        (to : IsToRecover opening first blocks)
+        → AllByRecursion (IsPut (image_in blocks to.sound)) calls →
+        IsPut (image_in blocks to.sound) call ⊎ (call ≡ Flush true)
         → AreStopsKept (image_in blocks to.sound) opening first (as_failed call ∷ calls) }
 
     // And where all are.
-    ensures stops { (opening blocks : Blocks) (first puts : List Call) (to : IsToRecover opening first blocks) → ArePuts (image_in blocks to.sound) puts
-        → AreStopsKept (image_in blocks to.sound) opening first (recovery_calls (image_in blocks to.sound) to.sound.last puts) }
-    ensures failures { (opening blocks : Blocks) (first puts newer done : List Call) (call : Call) (to : IsToRecover opening first blocks)
-        → ArePuts (image_in blocks to.sound) puts → recovery_calls (image_in blocks to.sound) to.sound.last puts ≡ newer ++ (call ∷ done)
+    ensures stops { (opening blocks : Blocks) (first puts : List Call)
+        (to : IsToRecover opening first blocks) → ArePuts (image_in blocks to.sound) puts
+        →
+        AreStopsKept (image_in blocks to.sound) opening first
+        (recovery_calls (image_in blocks to.sound) to.sound.last puts) }
+    ensures failures { (opening blocks : Blocks) (first puts newer done : List Call) (call : Call)
+        (to : IsToRecover opening first blocks)
+        → ArePuts (image_in blocks to.sound) puts →
+        recovery_calls (image_in blocks to.sound) to.sound.last puts ≡ newer ++ (call ∷ done)
         → AreStopsKept (image_in blocks to.sound) opening first (as_failed call ∷ done) }
-    ensures recovered { (opening blocks : Blocks) (first puts : List Call) (to : IsToRecover opening first blocks) → ArePuts (image_in blocks to.sound) puts
-        → (now : Blocks) × HasOneImageButIndex opening (recovery_calls (image_in blocks to.sound) to.sound.last puts ++ first) now
+    ensures recovered { (opening blocks : Blocks) (first puts : List Call)
+        (to : IsToRecover opening first blocks) → ArePuts (image_in blocks to.sound) puts
+        →
+        (now : Blocks)
+        × HasOneImageButIndex opening
+        (recovery_calls (image_in blocks to.sound) to.sound.last puts ++ first) now
         × IsRecovered (image_in blocks to.sound) to.sound.last now }
 {}

@@ -50,8 +50,10 @@ impl ReferenceBlocks {
     ) -> Result<ReferenceBlocks, AllocError>
         requires geometry { IsGeometry geometry.now }
         requires slab { slab < geometry.now.slabs }
-        requires commits { length opened.now.commits.items ≡ geometry.now.slabs * sectors_per_slab geometry.now }
-        ensures { IfOk result (λ blocks. blocks ≡ opening geometry.now (points_of geometry.now slab opened.now.commits.items)) }
+        requires commits { length opened.now.commits.items
+            ≡ geometry.now.slabs * sectors_per_slab geometry.now }
+        ensures { IfOk result (λ blocks.
+            blocks ≡ opening geometry.now (points_of geometry.now slab opened.now.commits.items)) }
     {
         let layout = Layout::of(geometry);
         let count = layout.sectors_per_slab();

@@ -10,15 +10,24 @@ ghost use Rattle.reference_blocks.specs.Updates.{Call, LeadTo, AreRising, update
 /// the counters as the updates made them has in each sector the opening counters with exactly the updates that aren't above
 /// its commit point.
 pub fn a_block_has_its_updates()
-    ensures { (g : Geometry) (points : List Point) (first : List ℕ) (calls : List Call) (old new : References) (bytes : List ℕ) (block : ℕ)
-        → length points ≡ sectors_per_slab g → LeadTo (opening g points) calls old → AreRising g points (updates_of calls)
+    ensures { (g : Geometry) (points : List Point) (first : List ℕ) (calls : List Call)
+        (old new : References) (bytes : List ℕ) (block : ℕ)
+        → length points ≡ sectors_per_slab g → LeadTo (opening g points) calls old →
+        AreRising g points (updates_of calls)
         → HandsOutBlock old new (counters_after first (updates_of calls)) bytes block
-        → bytes ≡ reference_bytes (sectors_of g old.applied (counters_after first (up_to g old.applied (updates_of calls))) block) }
+        →
+        bytes
+        ≡ reference_bytes
+        (sectors_of g old.applied
+        (counters_after first (up_to g old.applied (updates_of calls))) block) }
 {}
 
 /// Over every list of calls the commit point of a sector is the point of its newest update, or else the one with which it
 /// was opened.
 pub fn commit_points_are_of_updates()
-    ensures { (g : Geometry) (points : List Point) (calls : List Call) (new : References) (sector : ℕ) → length points ≡ sectors_per_slab g
-        → LeadTo (opening g points) calls new → point_at new.applied sector ≡ newest_of g sector (updates_of calls) (point_at points sector) }
+    ensures { (g : Geometry) (points : List Point) (calls : List Call) (new : References)
+        (sector : ℕ) → length points ≡ sectors_per_slab g
+        → LeadTo (opening g points) calls new →
+        point_at new.applied sector
+        ≡ newest_of g sector (updates_of calls) (point_at points sector) }
 {}

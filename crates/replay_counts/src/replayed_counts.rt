@@ -33,10 +33,14 @@ pub fn counts_with<D: Disk>(
     requires sizes { IsGeometry head.now.geometry }
     requires room { needed_blocks head.now.geometry ≤ (D.seen device.old).size }
     requires halves { All (λ committed. committed.point.0 % 2 ≡ 0) window.now }
-    ensures counts { IfOk result (λ counts. AreCountsRead D.tells D.honest head.now.geometry (reverse window.now)
+    ensures counts { IfOk result (λ counts.
+        AreCountsRead D.tells D.honest head.now.geometry (reverse window.now)
         (D.seen device.old) (D.seen device.new) counts.counts.items counts.sectors.items) }
-    ensures limit { IfOk result (λ counts. All (λ count. count ≤ limit_of head.now.geometry) counts.counts.items) }
-    ensures fault { IfErr result (CountsFail D.tells D.honest head.now.geometry (reverse window.now) (D.seen device.old) (D.seen device.new)) }
+    ensures limit { IfOk result (λ counts.
+        All (λ count. count ≤ limit_of head.now.geometry) counts.counts.items) }
+    ensures fault { IfErr result
+        (CountsFail D.tells D.honest head.now.geometry (reverse window.now) (D.seen device.old)
+        (D.seen device.new)) }
     ensures untouched { IsUntouched D.tells (D.seen device.old) (D.seen device.new) }
 {
     let layout = Layout::of(&head.geometry);
@@ -64,9 +68,13 @@ fn counted(alloc: Global, layout: &Layout, found: &Found) -> Result<RecoveredCou
     requires counters { length found.now.counters.items ≡ all_blocks layout.now.geometry }
     requires commits { length found.now.commits.items ≡ all_sectors layout.now.geometry }
     requires order { AreInOrder found.now.updates.items }
-    ensures counts { IfOk result (λ counts. IsCountedFrom layout.now.geometry found.now.counters.items found.now.commits.items found.now.updates.items
+    ensures counts { IfOk result (λ counts.
+        IsCountedFrom layout.now.geometry found.now.counters.items found.now.commits.items
+        found.now.updates.items
         counts.counts.items counts.sectors.items) }
-    ensures refused { IfErr result (IsCountRefusal layout.now.geometry found.now.counters.items found.now.commits.items found.now.updates.items) }
+    ensures refused { IfErr result
+        (IsCountRefusal layout.now.geometry found.now.counters.items found.now.commits.items
+        found.now.updates.items) }
 {
     let counts = counts_of(alloc, layout, found)?;
     let Ok(applied) = applied_points(alloc, layout, found) else {

@@ -24,9 +24,11 @@ pub fn counts<D: Disk>(
     requires some { 1 ≤ head.now.start }
     requires below { head.now.start < 2 ^ 54 }
     requires room { needed_blocks head.now.geometry ≤ (D.seen device.old).size }
-    ensures counts { IfOk result (λ counts. AreCountsOf D.tells D.honest head.now (D.seen device.old) (D.seen device.new)
+    ensures counts { IfOk result (λ counts.
+        AreCountsOf D.tells D.honest head.now (D.seen device.old) (D.seen device.new)
         counts.counts.items counts.sectors.items) }
-    ensures fault { IfErr result (CountingFails D.tells D.honest head.now (D.seen device.old) (D.seen device.new)) }
+    ensures fault { IfErr result
+        (CountingFails D.tells D.honest head.now (D.seen device.old) (D.seen device.new)) }
     ensures untouched { IsUntouched D.tells (D.seen device.old) (D.seen device.new) }
 {
     let window = read_window(alloc, head, device)?;

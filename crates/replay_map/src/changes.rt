@@ -60,7 +60,9 @@ impl Changes {
 // Puts into a slot what an entry does.
 fn put(newest: &mut BTreeMap<SlotId, Mapping>, entry: Entry) -> Result<(), AllocError>
     ensures { OnOk result ((page : PageId) (slot : ℕ) → page.level < 2 ^ 8
-        → changed newest.new.entries page slot ≡ or_else (put_by entry page slot) (changed newest.old.entries page slot)) }
+        →
+        changed newest.new.entries page slot
+        ≡ or_else (put_by entry page slot) (changed newest.old.entries page slot)) }
 {
     let Some((id, mapping)) = change(entry) else {
         return Ok(());
@@ -71,8 +73,11 @@ fn put(newest: &mut BTreeMap<SlotId, Mapping>, entry: Entry) -> Result<(), Alloc
 
 // The slot into which an entry puts a mapping, and that. There is none for a new page with no level above it.
 fn change(entry: Entry) -> Option<(SlotId, Mapping)>
-    ensures some { IfSome result (λ to. (page : PageId) (slot : ℕ) → put_by entry page slot ≡ (if is_slot to.0 page slot then Some to.1 else None)) }
-    ensures none { IfNone result ((page : PageId) (slot : ℕ) → page.level < 2 ^ 8 → put_by entry page slot ≡ None) }
+    ensures some { IfSome result (λ to.
+        (page : PageId) (slot : ℕ) →
+        put_by entry page slot ≡ (if is_slot to.0 page slot then Some to.1 else None)) }
+    ensures none { IfNone result
+        ((page : PageId) (slot : ℕ) → page.level < 2 ^ 8 → put_by entry page slot ≡ None) }
 {
     match entry {
         Entry::Remap { at, old: _, new } => Some((slot_of_address(at), new)),

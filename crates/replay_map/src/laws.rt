@@ -12,12 +12,16 @@ ghost use Rattle.replay_map.specs.declared.recovered.RecoveredMap.{RecoveredMap}
 /// Where a device is honest and nothing is pending on it but in the index, what was replayed is what its one image has: the
 /// map with which it is opened, or its fault. It does nothing.
 pub fn reads_show_the_map()
-    ensures map { (tells honest : Bool) (before now : Seen) (image : Blocks) (head : Super) (map : RecoveredMap)
-        → IsTrue tells → IsTrue honest → HasOneImageButIndex before.opening before.log image → needed_blocks head.geometry ≤ before.size
+    ensures map { (tells honest : Bool) (before now : Seen) (image : Blocks) (head : Super)
+        (map : RecoveredMap)
+        → IsTrue tells → IsTrue honest → HasOneImageButIndex before.opening before.log image →
+        needed_blocks head.geometry ≤ before.size
         → super_of_image image ≡ Ok head → IsReplayed tells honest head before now map
         → HasMapOf image head map }
-    ensures fault { (tells honest : Bool) (before now : Seen) (image : Blocks) (head : Super) (why : ImageFault)
-        → IsTrue tells → IsTrue honest → HasOneImageButIndex before.opening before.log image → needed_blocks head.geometry ≤ before.size
+    ensures fault { (tells honest : Bool) (before now : Seen) (image : Blocks) (head : Super)
+        (why : ImageFault)
+        → IsTrue tells → IsTrue honest → HasOneImageButIndex before.opening before.log image →
+        needed_blocks head.geometry ≤ before.size
         → super_of_image image ≡ Ok head → ReplayFails tells honest head before now why
         → IsMapFault image why }
 {}

@@ -14,8 +14,8 @@
 #![tactic(auto)]
 
 mod changes;
-mod found_map;
 mod found;
+mod found_map;
 mod laws;
 mod links;
 mod pages;

@@ -45,10 +45,13 @@ pub fn links_of(
     mappings: &Mappings,
 ) -> Result<Vec<Link>, AllocError>
     requires { page.now.page.index < PAGE_SLOTS }
-    ensures links { IfOk result (λ links. (image : Image) → page_at image page.now.page ≡ Some page.now.at → IsReadAs image page.now mappings.now
+    ensures links { IfOk result (λ links.
+        (image : Image) → page_at image page.now.page ≡ Some page.now.at →
+        IsReadAs image page.now mappings.now
         → AreLinks image page.now.page links.items) }
     ensures leaf { IfOk result (λ links. page.now.page.level ≡ 0 → links.items ≡ []) }
-    ensures slots { IfOk result (λ links. 0 < page.now.page.level → links.items ≡ links_in page.now.page mappings.now PAGE_SLOTS) }
+    ensures slots { IfOk result (λ links.
+        0 < page.now.page.level → links.items ≡ links_in page.now.page mappings.now PAGE_SLOTS) }
 {
     if page.page.level == 0 {
         return Ok(Vec::new(alloc));

@@ -25,9 +25,13 @@ pub fn read_page(
     into: &mut Mappings,
 ) -> Result<(), PageFault>
     requires geometry { IsGeometry want.now.geometry }
-    ensures ok { OnOk result ((image : Image) → Stands image want.now block.now changes.now → IsReadAs image want.now into.new) }
-    ensures data { OnOk result (LeadToData want.now.geometry changes.now → AreLeading want.now.geometry into.new) }
-    ensures fault { IfErr result (λ fault. (image : Image) → Stands image want.now block.now changes.now
+    ensures ok { OnOk result
+        ((image : Image) → Stands image want.now block.now changes.now →
+        IsReadAs image want.now into.new) }
+    ensures data { OnOk result
+        (LeadToData want.now.geometry changes.now → AreLeading want.now.geometry into.new) }
+    ensures fault { IfErr result (λ fault.
+        (image : Image) → Stands image want.now block.now changes.now
         → HasFault image want.now.page want.now.at fault) }
 {
     // Looked at for the proof alone: its level is a number of one byte.

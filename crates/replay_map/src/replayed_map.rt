@@ -7,8 +7,8 @@ ghost use Rattle.journal_window.specs.Windows.{IsWindowOf};
 ghost use Rattle.replay_map.specs.Forms.{HasForm};
 ghost use Rattle.replay_map.specs.Replayed.{IsMapRead, IsReplayed, MapFails, ReplayFails};
 
-use crate::found_map::find_map;
 use crate::found::Found;
+use crate::found_map::find_map;
 use crate::{Changes, RecoveredMap};
 use blk_base::{Layout, Super};
 use disk_model::Disk;
@@ -30,9 +30,11 @@ pub fn replay<D: Disk>(
     requires some { 1 ≤ head.now.start }
     requires below { head.now.start < 2 ^ 54 }
     requires room { needed_blocks head.now.geometry ≤ (D.seen device.old).size }
-    ensures map { IfOk result (IsReplayed D.tells D.honest head.now (D.seen device.old) (D.seen device.new)) }
+    ensures map { IfOk result
+        (IsReplayed D.tells D.honest head.now (D.seen device.old) (D.seen device.new)) }
     ensures form { IfOk result (λ map. HasForm head.now.geometry map.links.items map.slots.items) }
-    ensures fault { IfErr result (ReplayFails D.tells D.honest head.now (D.seen device.old) (D.seen device.new)) }
+    ensures fault { IfErr result
+        (ReplayFails D.tells D.honest head.now (D.seen device.old) (D.seen device.new)) }
     ensures untouched { IsUntouched D.tells (D.seen device.old) (D.seen device.new) }
 {
     let window = read_window(alloc, head, device)?;
@@ -58,9 +60,13 @@ pub fn replay_with<D: Disk>(
     requires sizes { IsGeometry head.now.geometry }
     requires room { needed_blocks head.now.geometry ≤ (D.seen device.old).size }
     requires window { (journal : Blocks) × IsWindowOf head.now journal window.now }
-    ensures map { IfOk result (IsMapRead D.tells D.honest head.now.geometry window.now (D.seen device.old) (D.seen device.new)) }
+    ensures map { IfOk result
+        (IsMapRead D.tells D.honest head.now.geometry window.now (D.seen device.old)
+        (D.seen device.new)) }
     ensures form { IfOk result (λ map. HasForm head.now.geometry map.links.items map.slots.items) }
-    ensures fault { IfErr result (MapFails D.tells D.honest head.now.geometry window.now.entries (D.seen device.old) (D.seen device.new)) }
+    ensures fault { IfErr result
+        (MapFails D.tells D.honest head.now.geometry window.now.entries (D.seen device.old)
+        (D.seen device.new)) }
     ensures untouched { IsUntouched D.tells (D.seen device.old) (D.seen device.new) }
 {
     let Ok(changes) = Changes::of(alloc, window.entries()) else {

@@ -24,7 +24,8 @@ pub(crate) fn least_shared(
 
 // The blocks of the linked pages.
 fn blocks_of(alloc: Global, links: &[Link]) -> Result<BTreeSet<u32>, AllocError>
-    ensures { IfOk result (λ pages. (block : ℕ) → contains nat_cmp pages block ≡ has_page links.now block) }
+    ensures { IfOk result (λ pages.
+        (block : ℕ) → contains nat_cmp pages block ≡ has_page links.now block) }
 {
     let mut pages = BTreeSet::new(alloc);
     for link in links {

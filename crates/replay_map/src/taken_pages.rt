@@ -22,7 +22,9 @@ pub(crate) fn take_page(
     found: &mut Found,
 ) -> Result<(), AllocError>
     requires { 0 < page.now.page.level → page.now.page.index < PAGE_SLOTS }
-    ensures taken { OnOk result ((image : Image) → page_at image page.now.page ≡ Some page.now.at → AreNewest image.window changes.now
+    ensures taken { OnOk result
+        ((image : Image) → page_at image page.now.page ≡ Some page.now.at →
+        AreNewest image.window changes.now
         → IsReadAs image page.now mappings.now → HasTaken image page.now.page found.old found.new) }
     ensures exact { OnOk result (Takes page.now.page mappings.now changes.now found.old found.new) }
 {
@@ -41,7 +43,9 @@ fn take_leaf(
     found: &mut Found,
 ) -> Result<(), AllocError>
     requires { page.now.page.level ≡ 0 }
-    ensures taken { OnOk result ((image : Image) → page_at image page.now.page ≡ Some page.now.at → AreNewest image.window changes.now
+    ensures taken { OnOk result
+        ((image : Image) → page_at image page.now.page ≡ Some page.now.at →
+        AreNewest image.window changes.now
         → IsReadAs image page.now mappings.now → HasTaken image page.now.page found.old found.new) }
     ensures exact { OnOk result (Takes page.now.page mappings.now changes.now found.old found.new) }
 {
@@ -60,7 +64,9 @@ fn take_inner(
     requires inner { 0 < page.now.page.level }
     requires low { page.now.page.level < 2 ^ 8 }
     requires few { page.now.page.index < PAGE_SLOTS }
-    ensures taken { OnOk result ((image : Image) → page_at image page.now.page ≡ Some page.now.at → AreNewest image.window changes.now
+    ensures taken { OnOk result
+        ((image : Image) → page_at image page.now.page ≡ Some page.now.at →
+        AreNewest image.window changes.now
         → IsReadAs image page.now mappings.now → HasTaken image page.now.page found.old found.new) }
     ensures exact { OnOk result (Takes page.now.page mappings.now changes.now found.old found.new) }
 {
@@ -76,9 +82,13 @@ fn push_links(
     links: &mut Vec<Link>,
 ) -> Result<(), AllocError>
     requires { page.now.page.index < PAGE_SLOTS }
-    ensures gained { OnOk result ((image : Image) → page_at image page.now.page ≡ Some page.now.at → IsReadAs image page.now mappings.now
+    ensures gained { OnOk result
+        ((image : Image) → page_at image page.now.page ≡ Some page.now.at →
+        IsReadAs image page.now mappings.now
         → Gained links.old.items links.new.items (AreBelow image page.now.page)) }
-    ensures exact { OnOk result (0 < page.now.page.level → links.new.items ≡ links.old.items ++ links_in page.now.page mappings.now PAGE_SLOTS) }
+    ensures exact { OnOk result
+        (0 < page.now.page.level →
+        links.new.items ≡ links.old.items ++ links_in page.now.page mappings.now PAGE_SLOTS) }
 {
     let below = links_of(alloc, page, mappings)?;
     links.extend_from_slice(below.as_slice())?;
@@ -111,8 +121,10 @@ fn push_changes(
     changes: &Changes,
     slots: &mut Vec<SlotChange>,
 ) -> Result<(), AllocError>
-    ensures gained { OnOk result (Gained slots.old.items slots.new.items (AreChanges changes.now page PAGE_SLOTS)) }
-    ensures exact { OnOk result (slots.new.items ≡ slots.old.items ++ changes_in changes.now page PAGE_SLOTS) }
+    ensures gained { OnOk result
+        (Gained slots.old.items slots.new.items (AreChanges changes.now page PAGE_SLOTS)) }
+    ensures exact { OnOk result
+        (slots.new.items ≡ slots.old.items ++ changes_in changes.now page PAGE_SLOTS) }
 {
     for slot in 0..PAGE_SLOTS {
         push_change(page, slot, changes, slots)?;
@@ -127,7 +139,8 @@ fn push_change(
     changes: &Changes,
     slots: &mut Vec<SlotChange>,
 ) -> Result<(), AllocError>
-    ensures { OnOk result (slots.new.items ≡ slots.old.items ++ change_in page slot (changed changes.now page slot)) }
+    ensures { OnOk result
+        (slots.new.items ≡ slots.old.items ++ change_in page slot (changed changes.now page slot)) }
 {
     if let Some(mapping) = changes.get(page, slot) {
         slots.push(SlotChange {

@@ -33,10 +33,16 @@ pub(crate) fn walk_trees<D: Disk>(
 ) -> Result<(), ImageFault>
     requires room { needed_blocks layout.now.geometry ≤ (D.seen device.old).size }
     requires data { LeadToData layout.now.geometry changes.now }
-    ensures walked { OnOk result (IsShown D.tells D.honest layout.now.geometry changes.now (D.seen device.old) (D.seen device.new)
+    ensures walked { OnOk result
+        (IsShown D.tells D.honest layout.now.geometry changes.now (D.seen device.old)
+        (D.seen device.new)
         (λ image. WalkedTrees image TREES found.old found.new)) }
-    ensures form { OnOk result (AddsForm layout.now.geometry (IsRootPage layout.now.geometry) (IsInTrees TREES) found.old found.new) }
-    ensures fault { IfErr result (WalkFails D.tells D.honest layout.now.geometry changes.now (D.seen device.old) (D.seen device.new)
+    ensures form { OnOk result
+        (AddsForm layout.now.geometry (IsRootPage layout.now.geometry)
+        (IsInTrees TREES) found.old found.new) }
+    ensures fault { IfErr result
+        (WalkFails D.tells D.honest layout.now.geometry changes.now (D.seen device.old)
+        (D.seen device.new)
         (λ image. Unit {0}) (IsInTrees TREES)) }
     ensures untouched { IsUntouched D.tells (D.seen device.old) (D.seen device.new) }
 {
@@ -65,10 +71,16 @@ fn walk<D: Disk>(
     requires first { 1 < top.page.level → top.page.index ≡ 0 }
     requires low { top.page.level ≤ 2 }
     requires place { IsInTree layout.now.geometry top.page }
-    ensures walked { OnOk result (IsShown D.tells D.honest layout.now.geometry changes.now (D.seen device.old) (D.seen device.new)
+    ensures walked { OnOk result
+        (IsShown D.tells D.honest layout.now.geometry changes.now (D.seen device.old)
+        (D.seen device.new)
         (λ image. IsLinked image top → WalkedUnder image top.page found.old found.new)) }
-    ensures form { OnOk result (AddsForm layout.now.geometry (λ page. page ≡ top.page) (IsUnder top.page) found.old found.new) }
-    ensures fault { IfErr result (WalkFails D.tells D.honest layout.now.geometry changes.now (D.seen device.old) (D.seen device.new)
+    ensures form { OnOk result
+        (AddsForm layout.now.geometry (λ page. page ≡ top.page)
+        (IsUnder top.page) found.old found.new) }
+    ensures fault { IfErr result
+        (WalkFails D.tells D.honest layout.now.geometry changes.now (D.seen device.old)
+        (D.seen device.new)
         (λ image. IsLinked image top) (IsUnder top.page)) }
     ensures untouched { IsUntouched D.tells (D.seen device.old) (D.seen device.new) }
 {
@@ -127,11 +139,19 @@ fn visit<D: Disk>(
     requires stands { IsPageBlock layout.now.geometry top.at }
     requires few { 0 < top.page.level → top.page.index < PAGE_SLOTS }
     requires place { IsInTree layout.now.geometry top.page }
-    ensures walked { OnOk result (IsShown D.tells D.honest layout.now.geometry changes.now (D.seen device.old) (D.seen device.new)
-        (λ image. IsLinked image top → WalkedUpTo image top.page 0 found.old found.new × IsReadAs image (head_at layout.now.geometry top) into.new)) }
+    ensures walked { OnOk result
+        (IsShown D.tells D.honest layout.now.geometry changes.now (D.seen device.old)
+        (D.seen device.new)
+        (λ image.
+        IsLinked image top →
+        WalkedUpTo image top.page 0 found.old found.new
+        × IsReadAs image (head_at layout.now.geometry top) into.new)) }
     ensures data { OnOk result (AreLeading layout.now.geometry into.new) }
-    ensures form { OnOk result (HasVisited layout.now.geometry top.page into.new 0 found.old found.new) }
-    ensures fault { IfErr result (WalkFails D.tells D.honest layout.now.geometry changes.now (D.seen device.old) (D.seen device.new)
+    ensures form { OnOk result
+        (HasVisited layout.now.geometry top.page into.new 0 found.old found.new) }
+    ensures fault { IfErr result
+        (WalkFails D.tells D.honest layout.now.geometry changes.now (D.seen device.old)
+        (D.seen device.new)
         (λ image. IsLinked image top) (IsUpTo top.page 0)) }
     ensures untouched { IsUntouched D.tells (D.seen device.old) (D.seen device.new) }
 {
@@ -158,10 +178,14 @@ fn read_linked<D: Disk>(
     requires room { needed_blocks page.now.geometry ≤ (D.seen device.old).size }
     requires stands { IsPageBlock page.now.geometry page.now.at }
     requires data { LeadToData page.now.geometry changes.now }
-    ensures read { OnOk result (IsShown D.tells D.honest page.now.geometry changes.now (D.seen device.old) (D.seen device.new)
+    ensures read { OnOk result
+        (IsShown D.tells D.honest page.now.geometry changes.now (D.seen device.old)
+        (D.seen device.new)
         (λ image. IsReadAs image page.now into.new)) }
     ensures data { OnOk result (AreLeading page.now.geometry into.new) }
-    ensures fault { IfErr result (WalkFails D.tells D.honest page.now.geometry changes.now (D.seen device.old) (D.seen device.new)
+    ensures fault { IfErr result
+        (WalkFails D.tells D.honest page.now.geometry changes.now (D.seen device.old)
+        (D.seen device.new)
         (λ image. IsLinked image (link_to page.now)) (IsUpTo page.now.page 0)) }
     ensures untouched { IsUntouched D.tells (D.seen device.old) (D.seen device.new) }
 {

@@ -18,7 +18,8 @@ pub fn drive<R: Wait, D: Disk>(rt: &R, core: &mut Core, schedule: &mut Schedule,
     ensures stays { Stays (D.seen device.old) (D.seen device.new) }
     ensures sizes { core.new.sizes ≡ core.old.sizes }
     ensures drives { (events : List Event) × (made : Trace)
-        × Drives D.tells D.honest core.old.sizes schedule.old schedule.new events core.old.zones core.new.zones (D.seen device.old) (D.seen device.new) made }
+        × Drives D.tells D.honest core.old.sizes schedule.old schedule.new events core.old.zones
+        core.new.zones (D.seen device.old) (D.seen device.new) made }
     ensures done { IsDone core.new.zones }
 {
     for _ in rt.forever() {

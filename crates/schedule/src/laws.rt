@@ -12,24 +12,36 @@ ghost use Rattle.schedule.specs.Turns.{Drives, IsTurn, PlaysUntilDone};
 /// What the turns of a schedule make of a core, their events do, one after another, and what happens is the same; and it
 /// leads there, whatever happened before, with the calls of the device that it has.
 pub fn a_schedule_plays_events()
-    ensures plays { (tells honest : Bool) (sizes : Sizes) (state state' : ℕ) (events : List Event) (old new : List Zone) (before after : Seen) (made : Trace)
-        → Drives tells honest sizes state state' events old new before after made → Plays tells honest sizes events old new before after made }
-    ensures leads { (tells honest : Bool) (sizes : Sizes) (state state' : ℕ) (events : List Event) (old new : List Zone) (before after : Seen) (made : Trace)
+    ensures plays { (tells honest : Bool) (sizes : Sizes) (state state' : ℕ) (events : List Event)
+        (old new : List Zone) (before after : Seen) (made : Trace)
+        → Drives tells honest sizes state state' events old new before after made →
+        Plays tells honest sizes events old new before after made }
+    ensures leads { (tells honest : Bool) (sizes : Sizes) (state state' : ℕ) (events : List Event)
+        (old new : List Zone) (before after : Seen) (made : Trace)
         → Drives tells honest sizes state state' events old new before after made
-        → ((t : Trace) → Leads sizes (core_with old t) (core_with new (made ++ t))) × HasCalled tells honest before after made }
+        →
+        ((t : Trace) → Leads sizes (core_with old t) (core_with new (made ++ t)))
+        × HasCalled tells honest before after made }
 {}
 
 /// What is played until a core is done is a first part of the events, and what happens is the same; and it leads there.
 pub fn a_played_list_is_a_first_part()
-    ensures plays { (tells honest : Bool) (sizes : Sizes) (events : List Event) (old new : List Zone) (before after : Seen) (made : Trace)
+    ensures plays { (tells honest : Bool) (sizes : Sizes) (events : List Event)
+        (old new : List Zone) (before after : Seen) (made : Trace)
         → PlaysUntilDone tells honest sizes events old new before after made
-        → (played left : List Event) × (events ≡ played ++ left) × Plays tells honest sizes played old new before after made }
-    ensures leads { (tells honest : Bool) (sizes : Sizes) (events : List Event) (old new : List Zone) (before after : Seen) (made : Trace)
+        →
+        (played left : List Event) × (events ≡ played ++ left)
+        × Plays tells honest sizes played old new before after made }
+    ensures leads { (tells honest : Bool) (sizes : Sizes) (events : List Event)
+        (old new : List Zone) (before after : Seen) (made : Trace)
         → PlaysUntilDone tells honest sizes events old new before after made
-        → ((t : Trace) → Leads sizes (core_with old t) (core_with new (made ++ t))) × HasCalled tells honest before after made }
+        →
+        ((t : Trace) → Leads sizes (core_with old t) (core_with new (made ++ t)))
+        × HasCalled tells honest before after made }
 {}
 
 /// A turn of a core at a state of the row takes one event, and no other.
 pub fn a_turn_takes_one_event()
-    ensures { (sizes : Sizes) (zones : List Zone) (state : ℕ) (e e' : Event) → IsTurn sizes zones state e → IsTurn sizes zones state e' → e ≡ e' }
+    ensures { (sizes : Sizes) (zones : List Zone) (state : ℕ) (e e' : Event) →
+        IsTurn sizes zones state e → IsTurn sizes zones state e' → e ≡ e' }
 {}

@@ -13,7 +13,9 @@ pub fn play<D: Disk>(core: &mut Core, events: &[Event], device: &mut D)
     requires { Fits core.old.sizes (D.seen device.old) }
     ensures stays { Stays (D.seen device.old) (D.seen device.new) }
     ensures sizes { core.new.sizes ≡ core.old.sizes }
-    ensures plays { (made : Trace) × PlaysUntilDone D.tells D.honest core.old.sizes events.now core.old.zones core.new.zones (D.seen device.old) (D.seen device.new) made }
+    ensures plays { (made : Trace)
+        × PlaysUntilDone D.tells D.honest core.old.sizes events.now core.old.zones core.new.zones
+        (D.seen device.old) (D.seen device.new) made }
 {
     for event in events {
         if core.done() {

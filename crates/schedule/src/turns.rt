@@ -47,7 +47,8 @@ impl Schedule {
         ensures sizes { core.new.sizes ≡ core.old.sizes }
         ensures drives { (IsDone core.old.zones → ⊥)
             → (events : List Event) × (made : Trace)
-            × Drives D.tells D.honest core.old.sizes self.old self.new events core.old.zones core.new.zones (D.seen device.old) (D.seen device.new) made }
+            × Drives D.tells D.honest core.old.sizes self.old self.new events core.old.zones
+            core.new.zones (D.seen device.old) (D.seen device.new) made }
     {
         let Some(event) = choose(core, self.state) else {
             return;
@@ -100,7 +101,8 @@ fn event_count(zones: u32) -> u32
 // Listed anew each turn, so that no list has to follow what steps and moves change. A core of eight zones has 72
 // events.
 fn list_ready(core: &Core) -> ArrayVec<u32, MOST_EVENTS>
-    ensures { AreReady core.now.sizes core.now.zones (event_count (length core.now.zones)) (map (event_of (length core.now.zones)) result.items) }
+    ensures { AreReady core.now.sizes core.now.zones (event_count (length core.now.zones))
+        (map (event_of (length core.now.zones)) result.items) }
 {
     let mut ready = ArrayVec::new();
     let zones = core.zone_count();
@@ -114,7 +116,9 @@ fn list_ready(core: &Core) -> ArrayVec<u32, MOST_EVENTS>
 
 // The event that a turn takes, if there is work for any.
 fn choose(core: &Core, state: u64) -> Option<Event>
-    ensures { MatchOption result (AreReady core.now.sizes core.now.zones (event_count (length core.now.zones)) []) (λ event. IsTurn core.now.sizes core.now.zones state event) }
+    ensures { MatchOption result
+        (AreReady core.now.sizes core.now.zones (event_count (length core.now.zones)) []) (λ event.
+        IsTurn core.now.sizes core.now.zones state event) }
 {
     let ready = list_ready(core);
     let count = ready.len() as u64;

@@ -37,7 +37,8 @@ pub trait Format {
     /// The record that these bytes spell, if they spell one.
     fn read_record(from: &[u8]) -> Self::Record
         requires { length from.now ≡ WIDTH }
-        ensures { (item : Self.Record) → is_spelled item → from.now ≡ record_bytes item → result ≡ item };
+        ensures { (item : Self.Record) → is_spelled item → from.now ≡ record_bytes item →
+            result ≡ item };
 
     ghost head_width: { (head : Self) (number count : ℕ) → length (head_bytes head number count) ≡ 32 };
 

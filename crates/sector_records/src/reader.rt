@@ -21,7 +21,8 @@ pub fn read_records<F: Format, const N: usize>(sector: &[u8], count: u16) -> Rec
     requires few { count ≤ F.PER_SECTOR }
     requires room { count ≤ N }
     ensures count { length result ≡ count }
-    ensures read { (records : List F.Record) (rest : List ℕ) → All F.is_spelled records → length records ≡ count
+    ensures read { (records : List F.Record) (rest : List ℕ) → All F.is_spelled records →
+        length records ≡ count
         → drop 32 sector.now ≡ flat_map F.record_bytes records ++ rest → result ≡ records }
 {
     let mut records = Records::new();
@@ -36,7 +37,11 @@ pub fn read_records<F: Format, const N: usize>(sector: &[u8], count: u16) -> Rec
 pub fn is_sector<F: Format>(bytes: &[u8], head: &F, number: u16, records: &[F::Record]) -> bool
     requires size { length bytes.now ≡ 512 }
     requires few { length records.now ≤ F.PER_SECTOR }
-    ensures { IsTrue result ↔ (bytes.now ≡ sector_form F.record_bytes (F.head_bytes head.now number (length records.now)) records.now) }
+    ensures { IsTrue result
+        ↔
+        (bytes.now
+        ≡ sector_form F.record_bytes
+        (F.head_bytes head.now number (length records.now)) records.now) }
 {
     let mut spelled = [0; 512];
     put_sector(&mut spelled, head, number, records);

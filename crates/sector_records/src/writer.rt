@@ -8,14 +8,18 @@ use std::cmp;
 
 /// Writes a block: these records in its eight sectors.
 pub fn put_block<F: Format>(block: &mut Block, head: &F, records: &[F::Record])
-    ensures { block.new ≡ eight_sectors (sector_of F.record_bytes (F.head_bytes head.now) F.PER_SECTOR records.now) }
+    ensures { block.new
+        ≡ eight_sectors
+        (sector_of F.record_bytes (F.head_bytes head.now) F.PER_SECTOR records.now) }
 {
     put_sectors(&mut block.bytes, head, records);
 }
 
 fn put_sectors<F: Format>(bytes: &mut [u8], head: &F, records: &[F::Record])
     requires { length bytes.old ≡ 4096 }
-    ensures { bytes.new ≡ eight_sectors (sector_of F.record_bytes (F.head_bytes head.now) F.PER_SECTOR records.now) }
+    ensures { bytes.new
+        ≡ eight_sectors
+        (sector_of F.record_bytes (F.head_bytes head.now) F.PER_SECTOR records.now) }
 {
     for number in 0..8 {
         let start = 512 * number as usize;
@@ -42,7 +46,9 @@ fn part<F: Format>(records: &[F::Record], number: u16) -> &[F::Record]
 pub fn put_sector<F: Format>(sector: &mut [u8], head: &F, number: u16, records: &[F::Record])
     requires size { length sector.old ≡ 512 }
     requires few { length records.now ≤ F.PER_SECTOR }
-    ensures { sector.new ≡ sector_form F.record_bytes (F.head_bytes head.now number (length records.now)) records.now }
+    ensures { sector.new
+        ≡ sector_form F.record_bytes
+        (F.head_bytes head.now number (length records.now)) records.now }
 {
     head.put_head(number, records.len() as u16, sector);
     put_records::<F>(sector, records);

@@ -54,7 +54,9 @@ fn push_inner(pages: &mut Vec<OpenedPage>, places: &Places) -> Result<(), AllocE
 // Adds a page that is no leaf.
 fn push_page(pages: &mut Vec<OpenedPage>, places: &Places, link: Link) -> Result<(), AllocError>
     requires { 0 < link.page.level }
-    ensures { OnOk result ((links : List Linked) → ArePlaces links places.now → AreAdded links (link ∷ []) pages.old.items pages.new.items) }
+    ensures { OnOk result
+        ((links : List Linked) → ArePlaces links places.now →
+        AreAdded links (link ∷ []) pages.old.items pages.new.items) }
 {
     pages.push(OpenedPage {
         page: link.page,
@@ -67,7 +69,8 @@ fn push_page(pages: &mut Vec<OpenedPage>, places: &Places, link: Link) -> Result
 // The mappings of a page that is no leaf.
 fn mappings_of(places: &Places, page: PageId) -> Mappings
     requires { 0 < page.level }
-    ensures { (links : List Linked) → ArePlaces links places.now → AreLeading links page PAGE_SLOTS result }
+    ensures { (links : List Linked) → ArePlaces links places.now →
+        AreLeading links page PAGE_SLOTS result }
 {
     let mut mappings = Mappings::new();
     for slot in 0..PAGE_SLOTS {

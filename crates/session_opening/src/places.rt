@@ -33,7 +33,8 @@ pub(crate) fn places_of(alloc: Global, links: &[Link]) -> Result<Places, AllocEr
 
 // Adds one more.
 fn add(places: &mut Places, link: Link) -> Result<(), AllocError>
-    ensures { OnOk result ((older : List Page) → ArePlaces older places.old → ArePlaces (link ∷ older) places.new) }
+    ensures { OnOk result
+        ((older : List Page) → ArePlaces older places.old → ArePlaces (link ∷ older) places.new) }
 {
     let is_new = places.blocks.insert(link.page, link.at)?.is_none();
     if is_new && link.page.level > 0 {

@@ -26,12 +26,16 @@ pub fn opened_of(
     requires sizes { IsGeometry head.now.geometry }
     requires limit { All (λ count. count < 2 ^ 8) counts.now.counts.items }
     requires form { HasForm head.now.geometry map.now.links.items map.now.slots.items }
-    ensures start { IfOk result (λ opened. (image : Image) → image.geometry ≡ head.now.geometry → HasMap image map.now
-        → HasCounts image counts.now.counts.items counts.now.sectors.items → IsStart image head.now opened) }
-    ensures pages { IfOk result (λ opened. IsOpened (all_trees head.now.geometry) opened.pages.items) }
+    ensures start { IfOk result (λ opened.
+        (image : Image) → image.geometry ≡ head.now.geometry → HasMap image map.now
+        → HasCounts image counts.now.counts.items counts.now.sectors.items →
+        IsStart image head.now opened) }
+    ensures pages { IfOk result (λ opened.
+        IsOpened (all_trees head.now.geometry) opened.pages.items) }
     ensures head { IfOk result (λ opened. opened.head ≡ head.now) }
     ensures counters { IfOk result (λ opened. opened.counters.items ≡ counts.now.counts.items) }
-    ensures commits { IfOk result (λ opened. length opened.commits.items ≡ length counts.now.sectors.items) }
+    ensures commits { IfOk result (λ opened.
+        length opened.commits.items ≡ length counts.now.sectors.items) }
 {
     let layout = Layout::of(&head.geometry);
     let pages = pages_of(alloc, &layout, &map.links)?;

@@ -13,15 +13,23 @@ ghost use Rattle.image_model.specs.Looked.{HasOneImageButIndex};
 /// as the one that was opened. Once the session's superblock was written and a flush returned, it
 /// stands. It does nothing.
 pub fn a_session_begins_on_a_sound_image()
-    ensures begins { (base : Blocks) (to : IsToServe base) (opening : Blocks) (log : List Call) → HasOneImageButIndex opening log base → IsBeginning opening log base to }
-    ensures goes_on { (base : Blocks) (to : IsToServe base) (opening : Blocks) (log : List Call) (call : Call) → PutsOnly 0 (IsHeadOf base to) call
-        → ((b : ℕ) → 1 ≤ b → Misses call b) → IsBeginning opening log base to → IsBeginning opening (call ∷ log) base to }
-    ensures image { (base : Blocks) (to : IsToServe base) (opening : Blocks) (log : List Call) → IsBeginning opening log base to → (image : Blocks) → IsImage opening log image
+    ensures begins { (base : Blocks) (to : IsToServe base) (opening : Blocks) (log : List Call) →
+        HasOneImageButIndex opening log base → IsBeginning opening log base to }
+    ensures goes_on { (base : Blocks) (to : IsToServe base) (opening : Blocks) (log : List Call)
+        (call : Call) → PutsOnly 0 (IsHeadOf base to) call
+        → ((b : ℕ) → 1 ≤ b → Misses call b) → IsBeginning opening log base to →
+        IsBeginning opening (call ∷ log) base to }
+    ensures image { (base : Blocks) (to : IsToServe base) (opening : Blocks) (log : List Call) →
+        IsBeginning opening log base to → (image : Blocks) → IsImage opening log image
         → IsAsOpened base to image }
 
     // The superblock of the session.
-    ensures read { (base : Blocks) (to : IsToServe base) → super_of (super_block (head_in base to)) (length base) ≡ Ok (head_in base to) }
-    ensures stands { (base : Blocks) (to : IsToServe base) (opening : Blocks) (log : List Call) → HeadStands opening (Flush true ∷ Write (record { 0 = 0 }) (super_block (head_in base to)) true ∷ log) base to }
-    ensures head { (base : Blocks) (to : IsToServe base) (opening : Blocks) (log : List Call) (image : Blocks) → length opening ≡ length base → HeadStands opening log base to
+    ensures read { (base : Blocks) (to : IsToServe base) →
+        super_of (super_block (head_in base to)) (length base) ≡ Ok (head_in base to) }
+    ensures stands { (base : Blocks) (to : IsToServe base) (opening : Blocks) (log : List Call) →
+        HeadStands opening
+        (Flush true ∷ Write (record { 0 = 0 }) (super_block (head_in base to)) true ∷ log) base to }
+    ensures head { (base : Blocks) (to : IsToServe base) (opening : Blocks) (log : List Call)
+        (image : Blocks) → length opening ≡ length base → HeadStands opening log base to
         → IsImage opening log image → super_of_image image ≡ Ok (head_in base to) }
 {}

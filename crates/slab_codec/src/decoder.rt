@@ -18,7 +18,8 @@ pub fn slab_sector(
     slab: u32,
     slab_blocks: u32,
 ) -> Option<SlabSector>
-    ensures some { IfSome result (λ found. IsSlabSector nonce slab slab_blocks i (sector i block.now) found.sequence found.entries) }
+    ensures some { IfSome result (λ found.
+        IsSlabSector nonce slab slab_blocks i (sector i block.now) found.sequence found.entries) }
     ensures none { IfNone result ((sequence : ℕ) (entries : List SlabEntry)
         → IsSlabSector nonce slab slab_blocks i (sector i block.now) sequence entries → ⊥) }
 {
@@ -33,7 +34,8 @@ fn read_sector(
     slab_blocks: u32,
 ) -> Option<SlabSector>
     requires { length bytes.now ≡ 512 }
-    ensures some { IfSome result (λ found. IsSlabSector nonce slab slab_blocks number bytes.now found.sequence found.entries) }
+    ensures some { IfSome result (λ found.
+        IsSlabSector nonce slab slab_blocks number bytes.now found.sequence found.entries) }
     ensures none { IfNone result ((sequence : ℕ) (entries : List SlabEntry)
         → IsSlabSector nonce slab slab_blocks number bytes.now sequence entries → ⊥) }
 {

@@ -9,7 +9,8 @@ use sector_records::put_block;
 /// Writes the block's bytes, as the tables of this crate say.
 #[tactic(auto, unfolding(crate::specs::Spelling::block_bytes))]
 pub fn encode_slab(block: &SlabJournalBlock, into: &mut Block)
-    ensures { into.new ≡ block_bytes block.now.nonce block.now.sequence block.now.slab block.now.entries }
+    ensures { into.new
+        ≡ block_bytes block.now.nonce block.now.sequence block.now.slab block.now.entries }
 {
     let head = SlabHead {
         nonce: block.nonce,

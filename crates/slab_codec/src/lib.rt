@@ -35,16 +35,16 @@
 #![tactic(auto)]
 
 mod counters;
+mod decoder;
+mod encoder;
 mod format;
 mod forms;
 mod laws;
-mod decoder;
-mod encoder;
 
 pub use counters::{encode_reference, reference_sector, sector_counters};
+pub use decoder::slab_sector;
+pub use encoder::encode_slab;
 pub use forms::{
     ReferenceBlock, ReferenceSector, SlabEntries, SlabEntry, SlabJournalBlock, SlabSector,
 };
 pub use laws::{a_counter_stands_at_its_place, bytes_have_one_reading, what_is_written_is_read};
-pub use decoder::slab_sector;
-pub use encoder::encode_slab;

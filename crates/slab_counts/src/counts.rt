@@ -53,9 +53,12 @@ impl SlabCounts {
     ) -> Result<SlabCounts, AllocError>
         requires geometry { IsGeometry geometry.now }
         requires slab { slab < geometry.now.slabs }
-        requires counters { length opened.now.counters.items ≡ geometry.now.slabs * geometry.now.slab_blocks }
-        requires limit { All (λ counter. counter ≤ limit_of geometry.now) opened.now.counters.items }
-        ensures opening { IfOk result (IsOpening geometry.now slab opened.now.counters.items opened.now.tree_pages.items) }
+        requires counters { length opened.now.counters.items
+            ≡ geometry.now.slabs * geometry.now.slab_blocks }
+        requires limit { All (λ counter.
+            counter ≤ limit_of geometry.now) opened.now.counters.items }
+        ensures opening { IfOk result
+            (IsOpening geometry.now slab opened.now.counters.items opened.now.tree_pages.items) }
         ensures within { IfOk result IsWithin }
     {
         let layout = Layout::of(geometry);
@@ -133,7 +136,8 @@ impl SlabCounts {
         ensures room { OnOk result (HasRoom self.old claim.now) }
         ensures extended { OnOk result (self.new ≡ claimed self.old claim.now) }
         ensures claim { IfOk result (λ more. more ≡ claim.now) }
-        ensures refused { IfErr result (λ refusal. (refusal ≡ Full) × (¬ HasRoom self.old claim.now)) }
+        ensures refused { IfErr result (λ refusal.
+            (refusal ≡ Full) × (¬ HasRoom self.old claim.now)) }
         ensures same { OnErr result (self.new ≡ self.old) }
     {
         self.claim_one_more(claim.block())
@@ -174,7 +178,8 @@ impl SlabCounts {
     /// increment finds the limit or no claim.
     pub fn apply(&mut self, update: &Update) -> Result<(), Stray>
         requires { IsOfSlab self.old update.now.at }
-        ensures taken { OnOk result (Takes (half_of update.now.point.0) self.old self.new update.now.at) }
+        ensures taken { OnOk result
+            (Takes (half_of update.now.point.0) self.old self.new update.now.at) }
         ensures stray { OnErr result (IsStray (half_of update.now.point.0) self.old update.now.at) }
         ensures count { IfErr result (λ stray. stray.count ≡ counter_of self.old update.now.at) }
         ensures same { OnErr result (self.new ≡ self.old) }
@@ -287,7 +292,8 @@ impl SlabCounts {
     // Where a block that is no tree page stands among those of the slab; `None` exactly where it isn't of the slab, or has
     // a tree page.
     fn data_place(&self, at: Pbn) -> Option<usize>
-        ensures some { IfSome result (λ offset. IsOfSlab self.now at × (¬ IsPage self.now at) × (offset ≡ offset_of self.now at)) }
+        ensures some { IfSome result (λ offset.
+            IsOfSlab self.now at × (¬ IsPage self.now at) × (offset ≡ offset_of self.now at)) }
         ensures none { IfNone result ((¬ IsOfSlab self.now at) ⊎ IsPage self.now at) }
     {
         if at.0 < self.start {
@@ -319,7 +325,8 @@ fn mark_with(counters: &[u8], claims: &[u8], offset: usize, mark: usize) -> usiz
     requires counters { offset < length counters.now }
     requires claims { offset < length claims.now }
     ensures least { result ≤ mark }
-    ensures before { result ≤ offset ⊎ ((result ≡ mark) × (¬ IsFreeAt counters.now claims.now offset)) }
+    ensures before { result ≤ offset
+        ⊎ ((result ≡ mark) × (¬ IsFreeAt counters.now claims.now offset)) }
 {
     if counters[offset] == 0 && claims[offset] == 0 {
         mark.min(offset)

@@ -8,12 +8,14 @@ ghost use Rattle.slab_counts.specs.Calls.{Call, LeadTo, total, makes, drops, spe
 
 /// Over every list of calls the counters and claims of each block are together within the limit.
 pub fn counts_stay_within()
-    ensures { (old new : Counts) (calls : List Call) → IsWithin old → LeadTo old calls new → IsWithin new }
+    ensures { (old new : Counts) (calls : List Call) → IsWithin old → LeadTo old calls new →
+        IsWithin new }
 {}
 
 /// Over every list of calls a counter is the one before, with the updates that were taken.
 pub fn counters_have_the_updates()
-    ensures { (old new : Counts) (calls : List Call) (at : Pbn) → IsWithin old → LeadTo old calls new → IsOfSlab old at
+    ensures { (old new : Counts) (calls : List Call) (at : Pbn) → IsWithin old →
+        LeadTo old calls new → IsOfSlab old at
         → counter_of new at + total unmaps calls at ≡ counter_of old at + total maps calls at }
 {}
 
@@ -21,19 +23,29 @@ pub fn counters_have_the_updates()
 /// became a mapping. So they are those that exist, made and neither dropped nor spent, and the spent ones whose increment
 /// isn't taken yet.
 pub fn claims_are_those_that_exist()
-    ensures balance { (old new : Counts) (calls : List Call) (at : Pbn) → IsWithin old → LeadTo old calls new → IsOfSlab old at
-        → claims_of new at + total drops calls at + total maps calls at ≡ claims_of old at + total makes calls at }
-    ensures exist { (old new : Counts) (calls : List Call) (at : Pbn) (exist owed : ℕ) → IsWithin old → LeadTo old calls new → IsOfSlab old at
-        → exist + total drops calls at + total spends calls at ≡ claims_of old at + total makes calls at
+    ensures balance { (old new : Counts) (calls : List Call) (at : Pbn) → IsWithin old →
+        LeadTo old calls new → IsOfSlab old at
+        →
+        claims_of new at + total drops calls at + total maps calls at
+        ≡ claims_of old at + total makes calls at }
+    ensures exist { (old new : Counts) (calls : List Call) (at : Pbn) (exist owed : ℕ) →
+        IsWithin old → LeadTo old calls new → IsOfSlab old at
+        →
+        exist + total drops calls at + total spends calls at
+        ≡ claims_of old at + total makes calls at
         → owed + total maps calls at ≡ total spends calls at
         → claims_of new at ≡ exist + owed }
 {}
 
 /// A call has one answer: the claimed block is one and the same, and what is refused, for one cause, isn't taken.
 pub fn calls_have_one_answer()
-    ensures free { (old new : Counts) (at : Pbn) (new' : Counts) (at' : Pbn) → ClaimsFree old new at → ClaimsFree old new' at' → (at ≡ at') × (new ≡ new') }
+    ensures free { (old new : Counts) (at : Pbn) (new' : Counts) (at' : Pbn) →
+        ClaimsFree old new at → ClaimsFree old new' at' → (at ≡ at') × (new ≡ new') }
     ensures none { (old new : Counts) (at : Pbn) → ClaimsFree old new at → HasNoFree old → ⊥ }
-    ensures share { (old new : Counts) (at : Pbn) (refusal : Refusal) → Shares old new at → IsRefused refusal old at → ⊥ }
-    ensures refusal { (old : Counts) (at : Pbn) (one other : Refusal) → IsRefused one old at → IsRefused other old at → one ≡ other }
-    ensures update { (half : Half) (old new : Counts) (at : Pbn) → Takes half old new at → IsStray half old at → ⊥ }
+    ensures share { (old new : Counts) (at : Pbn) (refusal : Refusal) → Shares old new at →
+        IsRefused refusal old at → ⊥ }
+    ensures refusal { (old : Counts) (at : Pbn) (one other : Refusal) → IsRefused one old at →
+        IsRefused other old at → one ≡ other }
+    ensures update { (half : Half) (old new : Counts) (at : Pbn) → Takes half old new at →
+        IsStray half old at → ⊥ }
 {}

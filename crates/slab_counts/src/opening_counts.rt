@@ -38,8 +38,10 @@ pub(crate) fn opening_pages(
 
 // Marks a block, if it is one of those from this one on.
 fn mark_page(pages: &mut Vec<bool>, start: u32, at: Pbn)
-    ensures inside { start ≤ at.0 → at.0 - start < length pages.old.items → pages.new.items ≡ slice_set pages.old.items (at.0 - start) true }
-    ensures outside { (start ≤ at.0 → at.0 - start < length pages.old.items → ⊥) → pages.new.items ≡ pages.old.items }
+    ensures inside { start ≤ at.0 → at.0 - start < length pages.old.items →
+        pages.new.items ≡ slice_set pages.old.items (at.0 - start) true }
+    ensures outside { (start ≤ at.0 → at.0 - start < length pages.old.items → ⊥) →
+        pages.new.items ≡ pages.old.items }
 {
     if at.0 >= start && ((at.0 - start) as usize) < pages.len() {
         pages[(at.0 - start) as usize] = true;

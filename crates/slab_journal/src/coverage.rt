@@ -31,7 +31,9 @@ pub(crate) fn first_uncovered(
 
 // Where that update stands.
 fn place_of_uncovered(layout: &Layout, entries: &[SlabEntry], commits: &[Point]) -> Option<usize>
-    ensures { result ≡ position (λ entry. nat_lt (commit_of layout.now.geometry commits.now entry).0 entry.point.0) entries.now }
+    ensures { result
+        ≡ position (λ entry.
+        nat_lt (commit_of layout.now.geometry commits.now entry).0 entry.point.0) entries.now }
 {
     entries.iter().position(|entry| commit_of(layout, *entry, commits).0 < entry.point.0)
 }

@@ -75,7 +75,13 @@ impl SlabJournal {
     pub fn add(&mut self, update: &Update) -> Result<(), Full>
         requires place { IsOfSlab self.old update.now.at }
         requires rises { self.old.last.0 < update.now.point.0 }
-        ensures added { OnOk result (self.new ≡ record self.old { filling = self.old.filling ++ entry_of self.old update.now ∷ []; last = update.now.point }) }
+        ensures added { OnOk result
+            (self.new
+            ≡ record self.old {
+              filling = self.old.filling ++ entry_of self.old update.now
+                  ∷ [];
+              last = update.now.point;
+            }) }
         ensures fewer { OnOk result (length self.old.filling < 320) }
         ensures full { OnErr result ((length self.old.filling ≡ 320) × (self.new ≡ self.old)) }
         ensures kept { Keeps self.old self.new }
@@ -119,8 +125,11 @@ impl SlabJournal {
     /// waits, a sealed block isn't durable yet, or its slot can't be overwritten.
     pub fn seal(&mut self) -> Option<SlabJournalBlock>
         ensures some { IfSome result (Seals self.old self.new) }
-        ensures held { IfSome result (λ block. HoldsBlock self.old.geometry.slab_blocks block.sequence block.entries) }
-        ensures none { IfNone result (((self.old.filling ≡ []) ⊎ (IsWriting self.old ⊎ (¬ MayOverwrite self.old))) × (self.new ≡ self.old)) }
+        ensures held { IfSome result (λ block.
+            HoldsBlock self.old.geometry.slab_blocks block.sequence block.entries) }
+        ensures none { IfNone result
+            (((self.old.filling ≡ []) ⊎ (IsWriting self.old ⊎ (¬ MayOverwrite self.old)))
+            × (self.new ≡ self.old)) }
         ensures kept { Keeps self.old self.new }
     {
         if self.filling.is_empty() || self.durable < self.sequence || !self.may_overwrite() {
@@ -171,7 +180,8 @@ impl SlabJournal {
     /// less than an earlier one changes nothing.
     pub fn reference_durable(&mut self, sector: u32, point: Point)
         requires { sector < length self.old.commits }
-        ensures commits { self.new ≡ record self.old { commits = raised self.old.commits sector point } }
+        ensures commits { self.new
+            ≡ record self.old { commits = raised self.old.commits sector point } }
         ensures kept { Keeps self.old self.new }
     {
         raise(&mut self.commits, sector as usize, point);

@@ -5,8 +5,8 @@
 //! slab; of a journal's block each valid sector counts, whatever its sequence.
 #![tactic(auto)]
 
+mod slab_parts;
 mod slab_reader;
 mod slabs;
-mod slab_parts;
 
 pub use slabs::read_slabs;

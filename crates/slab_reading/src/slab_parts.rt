@@ -18,8 +18,10 @@ pub(crate) fn take_slab(
 ) -> Result<(), AllocError>
     requires inside { slab < layout.now.geometry.slabs }
     requires all { length read.now ≡ blocks_per_slab layout.now.geometry }
-    ensures { OnOk result (Took layout.now.geometry slab read.now found.old.counters.items found.new.counters.items
-        found.old.commits.items found.new.commits.items found.old.updates.items found.new.updates.items) }
+    ensures { OnOk result
+        (Took layout.now.geometry slab read.now found.old.counters.items found.new.counters.items
+        found.old.commits.items found.new.commits.items found.old.updates.items
+        found.new.updates.items) }
 {
     push_counters(layout, read, &mut found.counters)?;
     push_points(layout, read, &mut found.commits)?;
@@ -29,7 +31,9 @@ pub(crate) fn take_slab(
 // Adds the counters.
 fn push_counters(layout: &Layout, read: &[Block], counters: &mut Vec<u8>) -> Result<(), AllocError>
     requires { length read.now ≡ blocks_per_slab layout.now.geometry }
-    ensures { OnOk result (AddsCounters layout.now.geometry read.now layout.now.geometry.slab_blocks counters.old.items counters.new.items) }
+    ensures { OnOk result
+        (AddsCounters layout.now.geometry read.now layout.now.geometry.slab_blocks
+        counters.old.items counters.new.items) }
 {
     let mut left = layout.geometry.slab_blocks as usize;
     for n in 0..layout.sectors_per_slab() {
@@ -44,7 +48,9 @@ fn push_counters(layout: &Layout, read: &[Block], counters: &mut Vec<u8>) -> Res
 // Adds the commit points.
 fn push_points(layout: &Layout, read: &[Block], commits: &mut Vec<Point>) -> Result<(), AllocError>
     requires { length read.now ≡ blocks_per_slab layout.now.geometry }
-    ensures { OnOk result (AddsPoints read.now (sectors_per_slab layout.now.geometry) commits.old.items commits.new.items) }
+    ensures { OnOk result
+        (AddsPoints read.now
+        (sectors_per_slab layout.now.geometry) commits.old.items commits.new.items) }
 {
     for n in 0..layout.sectors_per_slab() {
         let sector = reference_sector(&read[(n / 8) as usize], (n % 8) as u16);
@@ -62,7 +68,10 @@ fn push_updates(
 ) -> Result<(), AllocError>
     requires inside { slab < layout.now.geometry.slabs }
     requires all { length read.now ≡ blocks_per_slab layout.now.geometry }
-    ensures { OnOk result (Grew layout.now.geometry slab (SlabKeeps layout.now.geometry slab read.now layout.now.geometry.slab_journal) updates.old.items updates.new.items) }
+    ensures { OnOk result
+        (Grew layout.now.geometry slab
+        (SlabKeeps layout.now.geometry slab read.now layout.now.geometry.slab_journal)
+        updates.old.items updates.new.items) }
 {
     let references = layout.references();
     for slot in 0..layout.geometry.slab_journal {
@@ -79,7 +88,9 @@ fn push_block(
     updates: &mut Vec<Update>,
 ) -> Result<(), AllocError>
     requires inside { slab < layout.now.geometry.slabs }
-    ensures { OnOk result (Grew layout.now.geometry slab (BlockKeeps layout.now.geometry slab block.now 8) updates.old.items updates.new.items) }
+    ensures { OnOk result
+        (Grew layout.now.geometry slab
+        (BlockKeeps layout.now.geometry slab block.now 8) updates.old.items updates.new.items) }
 {
     for number in 0..8_u16 {
         push_sector(layout, slab, block, number, updates)?;
@@ -96,7 +107,10 @@ fn push_sector(
     updates: &mut Vec<Update>,
 ) -> Result<(), AllocError>
     requires inside { slab < layout.now.geometry.slabs }
-    ensures { OnOk result (Grew layout.now.geometry slab (SectorKeeps layout.now.geometry slab block.now number) updates.old.items updates.new.items) }
+    ensures { OnOk result
+        (Grew layout.now.geometry slab
+        (SectorKeeps layout.now.geometry slab block.now number) updates.old.items
+        updates.new.items) }
 {
     let sizes = &layout.geometry;
     match slab_sector(block, number, sizes.nonce, slab, sizes.slab_blocks) {
@@ -117,7 +131,8 @@ fn push_entries(
 ) -> Result<(), AllocError>
     requires inside { slab < layout.now.geometry.slabs }
     requires held { All (HoldsEntry layout.now.geometry.slab_blocks) entries.now }
-    ensures { OnOk result (Grew layout.now.geometry slab (Contains entries.now) updates.old.items updates.new.items) }
+    ensures { OnOk result
+        (Grew layout.now.geometry slab (Contains entries.now) updates.old.items updates.new.items) }
 {
     for entry in entries {
         let at = layout.data_block(slab, u32::from(entry.offset));

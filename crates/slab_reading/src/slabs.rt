@@ -5,8 +5,8 @@ ghost use Rattle.disk_model.specs.Since.{IsUntouched};
 ghost use Rattle.slab_reading.specs.Found.{IsFound, Took};
 ghost use Rattle.slab_reading.specs.Reads.{IsSlabRead, SlabFails, SlabsRead, SlabsFail};
 
-use crate::slab_reader::read_slab;
 use crate::slab_parts::take_slab;
+use crate::slab_reader::read_slab;
 use blk_base::Layout;
 use count_updates::Found;
 use disk_model::Disk;
@@ -30,9 +30,12 @@ pub fn read_slabs<D: Disk>(
     requires no_counters { found.old.counters.items ≡ [] }
     requires no_commits { found.old.commits.items ≡ [] }
     ensures found { OnOk result ((reads : List Blocks) × (length reads ≡ layout.now.geometry.slabs)
-        × SlabsRead D.tells D.honest layout.now.geometry (D.seen device.old) (D.seen device.new) reads
-        × IsFound layout.now.geometry reads found.old.updates.items found.new.counters.items found.new.commits.items found.new.updates.items) }
-    ensures fault { IfErr result (SlabsFail D.tells D.honest layout.now.geometry (D.seen device.old) (D.seen device.new)) }
+        × SlabsRead D.tells D.honest layout.now.geometry (D.seen device.old)
+        (D.seen device.new) reads
+        × IsFound layout.now.geometry reads found.old.updates.items found.new.counters.items
+        found.new.commits.items found.new.updates.items) }
+    ensures fault { IfErr result
+        (SlabsFail D.tells D.honest layout.now.geometry (D.seen device.old) (D.seen device.new)) }
     ensures untouched { IsUntouched D.tells (D.seen device.old) (D.seen device.new) }
 {
     for slab in 0..layout.geometry.slabs {
@@ -51,10 +54,16 @@ fn add_slab<D: Disk>(
 ) -> Result<(), ImageFault>
     requires inside { slab < layout.now.geometry.slabs }
     requires room { needed_blocks layout.now.geometry ≤ (D.seen device.old).size }
-    ensures taken { OnOk result ((read : Blocks) × IsSlabRead D.tells D.honest layout.now.geometry slab (D.seen device.old) (D.seen device.new) read
+    ensures taken { OnOk result
+        ((read : Blocks)
+        × IsSlabRead D.tells D.honest layout.now.geometry slab (D.seen device.old)
+        (D.seen device.new) read
         × Took layout.now.geometry slab read found.old.counters.items found.new.counters.items
-        found.old.commits.items found.new.commits.items found.old.updates.items found.new.updates.items) }
-    ensures fault { IfErr result (SlabFails D.tells D.honest layout.now.geometry slab (D.seen device.old) (D.seen device.new)) }
+        found.old.commits.items found.new.commits.items found.old.updates.items
+        found.new.updates.items) }
+    ensures fault { IfErr result
+        (SlabFails D.tells D.honest layout.now.geometry slab (D.seen device.old)
+        (D.seen device.new)) }
     ensures untouched { IsUntouched D.tells (D.seen device.old) (D.seen device.new) }
 {
     let read = read_slab(alloc, device, layout, slab)?;

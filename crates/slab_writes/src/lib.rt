@@ -7,9 +7,9 @@
 //! All room is taken in the constructor: no later call can be refused for memory.
 #![tactic(auto)]
 
+mod commit_points;
 mod forms;
 mod laws;
-mod commit_points;
 mod writes;
 
 pub use forms::{Need, SlabPart, SlabWork};

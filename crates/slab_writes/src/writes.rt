@@ -52,8 +52,10 @@ impl SlabWrites {
     ) -> Result<SlabWrites, AllocError>
         requires geometry { IsGeometry geometry.now }
         requires slab { slab < geometry.now.slabs }
-        requires commits { length opened.now.commits.items ≡ geometry.now.slabs * sectors_per_slab geometry.now }
-        ensures opening { IfOk result (λ writes. writes ≡ opening geometry.now slab opened.now.commits.items) }
+        requires commits { length opened.now.commits.items
+            ≡ geometry.now.slabs * sectors_per_slab geometry.now }
+        ensures opening { IfOk result (λ writes.
+            writes ≡ opening geometry.now slab opened.now.commits.items) }
         ensures kept { IfOk result (IsKept geometry.now slab) }
     {
         let layout = Layout::of(geometry);
@@ -140,7 +142,8 @@ impl SlabWrites {
     // Which part of the slab is wanted.
     fn wanted(&self, need: Need) -> Option<SlabPart>
         ensures some { IfSome result (λ part. Wants part need self.now.journal) }
-        ensures none { IfNone result ((¬ Wants Journal need self.now.journal) × (¬ Wants References need self.now.journal)) }
+        ensures none { IfNone result
+            ((¬ Wants Journal need self.now.journal) × (¬ Wants References need self.now.journal)) }
     {
         if !self.wants_journal(need) {
             match need {

@@ -14,7 +14,8 @@ pub(crate) fn first_due(
     into: &mut Block,
 ) -> Option<SlabWork>
     requires { length writes.old.items ≤ length counts.now.slabs }
-    ensures some { IfSome result (IsDueAmong need counts.now.slabs writes.old.items writes.new.items into.new) }
+    ensures some { IfSome result
+        (IsDueAmong need counts.now.slabs writes.old.items writes.new.items into.new) }
     ensures none { IfNone result (NoneDueBefore need writes.old.items (length writes.old.items)) }
     ensures same { IfNone result (writes.new.items ≡ writes.old.items) }
 {

@@ -18,9 +18,9 @@
 //! and `NoneUnsettledIn`, of which the laws over every list of calls speak.
 #![tactic(auto)]
 
+mod due_writes;
 mod laws;
 mod opened_zone;
-mod due_writes;
 mod zone;
 
 pub use laws::{

@@ -18,8 +18,10 @@ pub(crate) fn opening_writes(
     requires sizes { IsGeometry opened.now.head.geometry }
     requires zones { zones ≤ 4 }
     requires zone { zone < zones }
-    requires commits { length opened.now.commits.items ≡ opened.now.head.geometry.slabs * sectors_per_slab opened.now.head.geometry }
-    ensures { IfOk result (λ writes. AreOpenedWrites opened.now.head.geometry zone zones opened.now.commits.items
+    requires commits { length opened.now.commits.items
+        ≡ opened.now.head.geometry.slabs * sectors_per_slab opened.now.head.geometry }
+    ensures { IfOk result (λ writes.
+        AreOpenedWrites opened.now.head.geometry zone zones opened.now.commits.items
         (slabs_of_zone opened.now.head.geometry zone zones) writes.items) }
 {
     let geometry = opened.head.geometry;

@@ -10,8 +10,8 @@ ghost use Rattle.zone_counts.specs.Asking.{Asks, WithdrawsFrom, SharesIn, IsRefu
 ghost use Rattle.slab_zone.specs.Whole.{IsOpeningWhole, IsWhole};
 ghost use Rattle.slab_zone.specs.Writing.{HasRoomAt, MayTake, RisesIn, TakesUpdate, IsDueIn, NoneDueIn, IsOutIn, SettlesIn, IsLowPointIn, NoneUnsettledIn};
 
-use crate::opened_zone::opening_writes;
 use crate::due_writes::{first_due, least_low_point};
+use crate::opened_zone::opening_writes;
 use blk_base::{Block, Opened, Pbn, Point, Update, Writer};
 use slab_counts::{Claim, Refusal, Stray, Ticket};
 use slab_tickets::Withdrawn;
@@ -57,10 +57,16 @@ impl SlabZone {
         requires zones { zones ≤ 4 }
         requires zone { zone < zones }
         requires depth { depth ≤ 16 }
-        requires counters { length opened.now.counters.items ≡ opened.now.head.geometry.slabs * opened.now.head.geometry.slab_blocks }
-        requires limit { All (λ counter. counter ≤ limit_of opened.now.head.geometry) opened.now.counters.items }
-        requires commits { length opened.now.commits.items ≡ opened.now.head.geometry.slabs * sectors_per_slab opened.now.head.geometry }
-        ensures opening { IfOk result (IsOpeningWhole opened.now.head.geometry zone zones (32 * depth) opened.now.counters.items opened.now.commits.items opened.now.tree_pages.items) }
+        requires counters { length opened.now.counters.items
+            ≡ opened.now.head.geometry.slabs * opened.now.head.geometry.slab_blocks }
+        requires limit { All (λ counter.
+            counter ≤ limit_of opened.now.head.geometry) opened.now.counters.items }
+        requires commits { length opened.now.commits.items
+            ≡ opened.now.head.geometry.slabs * sectors_per_slab opened.now.head.geometry }
+        ensures opening { IfOk result
+            (IsOpeningWhole opened.now.head.geometry zone zones
+            (32 * depth) opened.now.counters.items opened.now.commits.items
+            opened.now.tree_pages.items) }
         ensures right { IfOk result IsWhole }
     {
         let counts = ZoneCounts::new(alloc, zone, zones, depth, opened)?;
@@ -94,7 +100,8 @@ impl SlabZone {
     /// Whether the ticket is out.
     pub fn is_out(&self, ticket: &Ticket) -> bool
         ensures yes { IsTrue result → (place : ℕ) × IsOutAt self.now.counts.desk ticket.now place }
-        ensures no { (result ≡ false) → ¬ ((place : ℕ) × IsOutAt self.now.counts.desk ticket.now place) }
+        ensures no { (result ≡ false) →
+            ¬ ((place : ℕ) × IsOutAt self.now.counts.desk ticket.now place) }
     {
         self.counts.is_out(ticket)
     }
@@ -152,9 +159,13 @@ impl SlabZone {
     pub fn extend(&mut self, claim: &Claim) -> Result<Claim, Refusal>
         requires { IsClaimedIn self.old.counts claim.now }
         ensures room { OnOk result (HasRoom (slab_of self.old.counts claim.now) claim.now) }
-        ensures extended { OnOk result (self.new.counts ≡ with_slab self.old.counts claim.now (claimed (slab_of self.old.counts claim.now) claim.now)) }
+        ensures extended { OnOk result
+            (self.new.counts
+            ≡ with_slab self.old.counts claim.now
+            (claimed (slab_of self.old.counts claim.now) claim.now)) }
         ensures claim { IfOk result (λ more. more ≡ claim.now) }
-        ensures refused { IfErr result (λ refusal. (refusal ≡ Full) × (¬ HasRoom (slab_of self.old.counts claim.now) claim.now)) }
+        ensures refused { IfErr result (λ refusal.
+            (refusal ≡ Full) × (¬ HasRoom (slab_of self.old.counts claim.now) claim.now)) }
         ensures same { OnErr result (self.new ≡ self.old) }
         ensures writes { self.new.writes ≡ self.old.writes }
     {
@@ -165,7 +176,8 @@ impl SlabZone {
     /// without one.
     pub fn drop_claim(&mut self, claim: Claim)
         requires { IsClaimedIn self.old.counts claim }
-        ensures drops { Changes self.old.counts self.new.counts claim (unclaimed (slab_of self.old.counts claim) claim) }
+        ensures drops { Changes self.old.counts self.new.counts claim
+            (unclaimed (slab_of self.old.counts claim) claim) }
         ensures writes { self.new.writes ≡ self.old.writes }
     {
         self.counts.drop_claim(claim);
@@ -184,7 +196,8 @@ impl SlabZone {
     pub fn spend_page(&mut self, claim: Claim) -> Pbn
         requires { IsClaimedIn self.old.counts claim }
         ensures block { result ≡ claim }
-        ensures page { self.new.counts ≡ with_slab self.old.counts claim (with_page (slab_of self.old.counts claim) claim) }
+        ensures page { self.new.counts
+            ≡ with_slab self.old.counts claim (with_page (slab_of self.old.counts claim) claim) }
         ensures writes { self.new.writes ≡ self.old.writes }
     {
         self.counts.spend_page(claim)
@@ -222,9 +235,13 @@ impl SlabZone {
         requires own { IsOfZone self.old.counts update.now.at }
         requires room { HasRoomAt self.old update.now.at }
         requires rises { RisesIn self.old update.now }
-        ensures taken { OnOk result ((slab : Counts) × TakesUpdate self.old self.new update.now slab) }
-        ensures stray { OnErr result (IsStray (half_of update.now.point.0) (slab_of self.old.counts update.now.at) update.now.at) }
-        ensures count { IfErr result (λ stray. stray.count ≡ counter_of (slab_of self.old.counts update.now.at) update.now.at) }
+        ensures taken { OnOk result
+            ((slab : Counts) × TakesUpdate self.old self.new update.now slab) }
+        ensures stray { OnErr result
+            (IsStray (half_of update.now.point.0)
+            (slab_of self.old.counts update.now.at) update.now.at) }
+        ensures count { IfErr result (λ stray.
+            stray.count ≡ counter_of (slab_of self.old.counts update.now.at) update.now.at) }
         ensures same { OnErr result (self.new ≡ self.old) }
     {
         let place = self.counts.place(update.at);

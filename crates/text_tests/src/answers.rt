@@ -6,7 +6,7 @@ use std::alloc::{AllocError, Global};
 use std::test::Fail;
 use stream_text::{AnswerRoom, put_answers, read_script};
 use test_images::first_other;
-use vdo_model::{DeskLine, Placed, Requests, ReportList, RunReport};
+use vdo_model::{DeskLine, Placed, ReportList, Requests, RunReport};
 
 fn block(first: u8, rest: u8) -> Block {
     let mut block = Block {

@@ -5,7 +5,7 @@ use disk_model::{Failed, MemSource, Sink};
 use std::alloc::{AllocError, Global};
 use std::test::Fail;
 use stream_text::{AnswerRoom, LineFault, ReadScript, put_answers, read_script};
-use vdo_model::{DeskLine, Placed, Requests, ReportList, RunReport};
+use vdo_model::{DeskLine, Placed, ReportList, Requests, RunReport};
 
 /// A sink that keeps how often bytes were put, how many in all, and their sum, each times its place from 1 on.
 #[derive(Drop)]

@@ -1,6 +1,6 @@
 use disk_model::Failed;
 use std::alloc::Global;
-use vdo_model::{DeskLine, Placed, Requests, ReportList, RunReport};
+use vdo_model::{DeskLine, Placed, ReportList, Requests, RunReport};
 
 /// What a put gives, and where the sink holds other bytes then.
 pub type Put = (Result<(), Failed>, Option<usize>);

@@ -12,7 +12,7 @@ use std::alloc::{AllocError, Global};
 use std::test::Fail;
 use stream_text::AnswerRoom;
 use test_images::first_other;
-use vdo_model::{DeskLine, Placed, Requests, ReportList, RunReport};
+use vdo_model::{DeskLine, Placed, ReportList, Requests, RunReport};
 
 const SPACE: Space = Space { used: 2, total: 64 };
 

@@ -7,7 +7,7 @@ use std::alloc::{AllocError, Global};
 use std::test::Fail;
 use stream_text::{AnswerRoom, put_answers};
 use test_images::first_other;
-use vdo_model::{DeskLine, Placed, Requests, ReportList, RunReport};
+use vdo_model::{DeskLine, Placed, ReportList, Requests, RunReport};
 
 /// Streams 0 and 15 have requests, and the streams between them have none.
 fn requests(alloc: Global) -> Result<Requests, AllocError> {

@@ -17,7 +17,8 @@ pub type PageRecords = Records<Record, 170>;
 /// The records of a block that is this page of this chapter, of the image with this nonce; `None` exactly where it isn't.
 pub fn read_page(block: &Block, nonce: u64, number: u32, i: u8) -> Option<PageRecords>
     ensures some { IfSome result (λ records. IsPage nonce number i block.now records) }
-    ensures none { IfNone result ((records : List Record) → IsPage nonce number i block.now records → ⊥) }
+    ensures none { IfNone result
+        ((records : List Record) → IsPage nonce number i block.now records → ⊥) }
 {
     read_bytes(&block.bytes, nonce, number, i)
 }
@@ -25,7 +26,8 @@ pub fn read_page(block: &Block, nonce: u64, number: u32, i: u8) -> Option<PageRe
 fn read_bytes(bytes: &[u8], nonce: u64, number: u32, i: u8) -> Option<PageRecords>
     requires { length bytes.now ≡ 4096 }
     ensures some { IfSome result (λ records. IsPage nonce number i bytes.now records) }
-    ensures none { IfNone result ((records : List Record) → IsPage nonce number i bytes.now records → ⊥) }
+    ensures none { IfNone result
+        ((records : List Record) → IsPage nonce number i bytes.now records → ⊥) }
 {
     let count = read_u8(bytes, 13);
     if i > 3 || count > 170 {
@@ -44,7 +46,8 @@ fn read_records(bytes: &[u8], count: u8) -> PageRecords
     requires size { length bytes.now ≡ 4096 }
     requires few { count ≤ 170 }
     ensures count { length result ≡ count }
-    ensures read { (records : List Record) (rest : List ℕ) → All HoldsRecord records → length records ≡ count
+    ensures read { (records : List Record) (rest : List ℕ) → All HoldsRecord records →
+        length records ≡ count
         → drop 16 bytes.now ≡ flat_map record_bytes records ++ rest → result ≡ records }
 {
     let mut records = Records::new();
@@ -57,7 +60,8 @@ fn read_records(bytes: &[u8], count: u8) -> PageRecords
 // The record that the bytes at a place spell, if they spell one.
 fn read_record(bytes: &[u8], at: usize) -> Record
     requires { at + 24 ≤ length bytes.now }
-    ensures { (one : Record) → HoldsRecord one → take 24 (drop at bytes.now) ≡ record_bytes one → result ≡ one }
+    ensures { (one : Record) → HoldsRecord one → take 24 (drop at bytes.now) ≡ record_bytes one →
+        result ≡ one }
 {
     Record {
         name: read_name(bytes, at),

@@ -37,7 +37,8 @@ fn put_head(page: &mut [u8], nonce: u64, number: u32, i: u8, count: u8)
 
 fn put_records(page: &mut [u8], records: &[Record])
     requires { 16 + 24 * length records.now ≤ length page.old }
-    ensures written { take (16 + 24 * length records.now) page.new ≡ take 16 page.old ++ flat_map record_bytes records.now }
+    ensures written { take (16 + 24 * length records.now) page.new
+        ≡ take 16 page.old ++ flat_map record_bytes records.now }
     ensures held { All HoldsRecord records.now }
 {
     for (place, one) in records.iter().enumerate() {

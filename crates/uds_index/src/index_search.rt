@@ -50,8 +50,12 @@ pub(crate) fn find_kept(
     requires chapters { All IsChapter kept.now }
     requires order { AllPairs IsNewer kept.now }
     requires listed { AreListed kept.now tags.now.tags }
-    ensures finds { FindsKept region.first region.places (take 4 (filter (has_tag (tag_of name.now)) kept.now)) (keys_of cache.now.entries) given.now name.now result }
-    ensures asks { AsksInOrder region.first region.places (take 4 (filter (has_tag (tag_of name.now)) kept.now)) (keys_of cache.now.entries) given.now name.now result }
+    ensures finds { FindsKept region.first region.places
+        (take 4 (filter (has_tag (tag_of name.now)) kept.now))
+        (keys_of cache.now.entries) given.now name.now result }
+    ensures asks { AsksInOrder region.first region.places
+        (take 4 (filter (has_tag (tag_of name.now)) kept.now))
+        (keys_of cache.now.entries) given.now name.now result }
 {
     let tagged = tags.with_tag(tag(name));
     let newest = &tagged[..tagged.len().min(SEARCHED)];

@@ -14,7 +14,8 @@ pub(crate) fn keep_page(kept: &mut Vec<Chapter>, number: u32, page: &[Record])
     requires order { AllPairs IsNewer kept.old.items }
     requires rising { AreRising page.now }
     requires few { length (records_of number kept.old.items) + length page.now ≤ 680 }
-    requires room { (chapter : Numbered) → chapter.number ≡ number → length (with_chapter chapter kept.old.items) ≤ vec_capacity kept.old }
+    requires room { (chapter : Numbered) → chapter.number ≡ number →
+        length (with_chapter chapter kept.old.items) ≤ vec_capacity kept.old }
     ensures kept { KeepsPage number page.now kept.old.items kept.new.items }
     ensures capacity { vec_capacity kept.old ≤ vec_capacity kept.new }
 {
@@ -57,7 +58,9 @@ fn place_among(kept: &[Chapter], number: u32) -> usize
 // The records of the chapter at a place, if it has this number.
 fn records_at(kept: &[Chapter], place: usize, number: u32) -> Option<&[Record]>
     ensures some { IfSome result (λ records. HasRecordsAt number kept.now place records.now) }
-    ensures none { IfNone result (place < length kept.now → (d : Numbered) → (slice_index_or kept.now place d).number ≢ number) }
+    ensures none { IfNone result
+        (place < length kept.now → (d : Numbered) →
+        (slice_index_or kept.now place d).number ≢ number) }
 {
     let chapter = kept.get(place)?;
     if chapter.number() == number {
@@ -85,7 +88,9 @@ fn add_all(chapter: &mut OpenChapter, records: &[Record])
     requires rising { AreRising records.now }
     requires few { length chapter.old + length records.now ≤ 680 }
     ensures few { length chapter.new ≤ length chapter.old + length records.now }
-    ensures found { (name : List ℕ) → location_of name chapter.new ≡ option_or (location_of name records.now) (location_of name chapter.old) }
+    ensures found { (name : List ℕ) →
+        location_of name chapter.new
+        ≡ option_or (location_of name records.now) (location_of name chapter.old) }
 {
     for record in records {
         chapter.add(&record.name, record.at);

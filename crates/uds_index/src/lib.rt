@@ -22,10 +22,10 @@
 //! Not there: how long it takes to find a chapter or a record, which is by halving.
 #![tactic(auto)]
 
+mod index_search;
 mod kept_pages;
 mod loader;
 mod page;
-mod index_search;
 mod tags;
 mod uds;
 mod volume;

@@ -42,10 +42,14 @@ impl Uds {
     ) -> Result<Uds, AllocError>
         requires sizes { IsGeometry geometry.now }
         requires room { needed_blocks geometry.now ≤ (D.seen device.old).size }
-        ensures book { IfOk result (λ uds. (reads : List (Option (List ℕ))) × (length reads ≡ geometry.now.index)
-            × ReadEach D.tells D.honest (first_index_of geometry.now) (D.seen device.old) (D.seen device.new) reads
+        ensures book { IfOk result (λ uds.
+            (reads : List (Option (List ℕ))) × (length reads ≡ geometry.now.index)
+            × ReadEach D.tells D.honest (first_index_of geometry.now) (D.seen device.old)
+            (D.seen device.new) reads
             × IsLoadedBook geometry.now reads uds.book) }
-        ensures rests { IfOk result (λ uds. uds ≡ record { book = uds.book; cached = []; asked = None; given = []; unread = false }) }
+        ensures rests { IfOk result (λ uds.
+            uds
+            ≡ record { book = uds.book; cached = []; asked = None; given = []; unread = false }) }
         ensures err { OnErr result (D.seen device.new ≡ D.seen device.old) }
         ensures untouched { IsUntouched D.tells (D.seen device.old) (D.seen device.new) }
     {
@@ -67,8 +71,10 @@ fn load_volume<D: Disk>(
     device: &mut D,
 ) -> Result<Volume, AllocError>
     requires room { needed_blocks layout.now.geometry ≤ (D.seen device.old).size }
-    ensures book { IfOk result (λ book. (reads : List (Option (List ℕ))) × (length reads ≡ layout.now.geometry.index)
-        × ReadEach D.tells D.honest (first_index_of layout.now.geometry) (D.seen device.old) (D.seen device.new) reads
+    ensures book { IfOk result (λ book.
+        (reads : List (Option (List ℕ))) × (length reads ≡ layout.now.geometry.index)
+        × ReadEach D.tells D.honest (first_index_of layout.now.geometry) (D.seen device.old)
+        (D.seen device.new) reads
         × IsLoadedBook layout.now.geometry reads book) }
     ensures err { OnErr result (D.seen device.new ≡ D.seen device.old) }
     ensures untouched { IsUntouched D.tells (D.seen device.old) (D.seen device.new) }
@@ -88,7 +94,9 @@ fn load_volume<D: Disk>(
 fn load_page<D: Disk>(device: &mut D, layout: &Layout, number: u32) -> Option<LoadedPage>
     requires inside { number < layout.now.geometry.index }
     requires room { needed_blocks layout.now.geometry ≤ (D.seen device.old).size }
-    ensures read { (read : Option (List ℕ)) × ReadOne D.tells D.honest (first_index_of layout.now.geometry + number) (D.seen device.old) (D.seen device.new) read
+    ensures read { (read : Option (List ℕ))
+        × ReadOne D.tells D.honest (first_index_of layout.now.geometry + number) (D.seen device.old)
+        (D.seen device.new) read
         × IsPageRead layout.now.geometry number read (option_map loaded_page result) }
     ensures untouched { IsUntouched D.tells (D.seen device.old) (D.seen device.new) }
 {

@@ -76,7 +76,8 @@ impl TagList {
     /// Leaves out the chapters that stand where this one does.
     pub(crate) fn leave_out(&mut self, places: u32, number: u32)
         requires { 0 < places }
-        ensures listed { (kept : List Numbered) → AreListed kept self.old.tags → AreListed (chapters_elsewhere places number kept) self.new.tags }
+        ensures listed { (kept : List Numbered) → AreListed kept self.old.tags →
+            AreListed (chapters_elsewhere places number kept) self.new.tags }
         ensures room { self.new.room ≡ self.old.room }
     {
         self.tags
@@ -87,7 +88,8 @@ impl TagList {
     pub(crate) fn add(&mut self, chapter: &Chapter)
         requires rising { AreTagsRising self.old.tags }
         requires room { length self.old.tags + 680 ≤ self.old.room }
-        ensures listed { (kept : List Numbered) → AreListed kept self.old.tags → AreListed (chapter.now ∷ kept) self.new.tags }
+        ensures listed { (kept : List Numbered) → AreListed kept self.old.tags →
+            AreListed (chapter.now ∷ kept) self.new.tags }
         ensures room { self.new.room ≡ self.old.room }
     {
         fill_tags(&mut self.own, chapter);

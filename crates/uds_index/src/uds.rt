@@ -47,7 +47,8 @@ impl Uds {
     pub(crate) fn over(volume: Volume, tags: TagList, cache: LruCache<u32, ()>) -> Uds
         requires listed { IsListed volume tags }
         requires empty { cache.entries ≡ [] }
-        ensures { result ≡ record { book = volume; cached = []; asked = None; given = []; unread = false } }
+        ensures { result
+            ≡ record { book = volume; cached = []; asked = None; given = []; unread = false } }
     {
         Uds {
             volume,

@@ -8,9 +8,9 @@ ghost use Rattle.uds_index.specs.Rooms.{count_at, place_of_chapter};
 ghost use Rattle.uds_index.specs.Tags.{AreListed, IsListed};
 ghost use Rattle.index_advice.specs.Advices.{TakesDue, HasDuePage};
 
+use crate::index_search::{Region, find_kept};
 use crate::kept_pages::{chapter_of, keep_page};
 use crate::page::Page;
-use crate::index_search::{Region, find_kept};
 use crate::tags::TagList;
 use blk_base::{Block, Pbn};
 use block_names::Name;
@@ -61,7 +61,10 @@ impl Volume {
     ) -> Result<Volume, AllocError>
         requires some { 0 < places }
         requires blocks { first + 4 * places < 2 ^ 32 }
-        ensures { IfOk result (λ volume. volume ≡ record { nonce = nonce; first = first; places = places; kept = []; unclosed = []; due = [] }) }
+        ensures { IfOk result (λ volume.
+            volume
+            ≡ record
+            { nonce = nonce; first = first; places = places; kept = []; unclosed = []; due = [] }) }
     {
         let room = 4 * places as usize;
         let kept = Vec::with_capacity(alloc, room)?;
@@ -135,7 +138,8 @@ impl Volume {
         requires written { self.old.due ≡ [] }
         requires rising { AreRising page.now }
         requires few { length (records_of number self.old.kept) + length page.now ≤ 680 }
-        requires room { count_at (place_of_chapter self.old.places) (number % self.old.places) self.old.kept < 4 }
+        requires room { count_at (place_of_chapter self.old.places)
+            (number % self.old.places) self.old.kept < 4 }
         ensures kept { KeepsPage number page.now self.old.kept self.new.kept }
         ensures same { self.new ≡ record self.old { kept = self.new.kept } }
     {
@@ -216,7 +220,8 @@ impl Volume {
 
 // The number of the chapter that is closed next, if there is one.
 fn next_number(kept: &[Chapter]) -> Option<u32>
-    ensures some { IfSome result (λ number. (number ≡ number_after kept.now) × (number ≤ 4294967294)) }
+    ensures some { IfSome result (λ number.
+        (number ≡ number_after kept.now) × (number ≤ 4294967294)) }
     ensures none { IfNone result (4294967294 < number_after kept.now) }
 {
     let Some(newest) = kept.first() else {

@@ -122,7 +122,9 @@ fn line_of(alloc: Global, texts: &[String]) -> Result<CommandLine, ArgumentsErro
 pub(crate) fn command_line(rt: &HostRuntime) -> Result<CommandLine, ArgumentsError> {
     let arguments = match env::args(rt) {
         Ok(arguments) => arguments,
-        Err(error) if error.kind() == io::ErrorKind::OutOfMemory => return Err(ArgumentsError::Memory),
+        Err(error) if error.kind() == io::ErrorKind::OutOfMemory => return Err(
+            ArgumentsError::Memory,
+        ),
         Err(_) => return Err(ArgumentsError::Usage),
     };
     let mut texts = Vec::new(rt.alloc());

@@ -11,7 +11,7 @@
 
 mod arguments;
 
-use arguments::{CommandLine, Device, ArgumentsError, command_line};
+use arguments::{ArgumentsError, CommandLine, Device, command_line};
 use blk_base::{Geometry, Layout};
 use disk_model::{Disk, MemDisk, OpenGate};
 use file_disk::open_disk;

@@ -22,11 +22,11 @@ mod adapters;
 mod endings;
 mod fault;
 mod laws;
-mod new_image;
 mod mapped;
-mod session_image;
-mod session;
+mod new_image;
 mod runner;
+mod session;
+mod session_image;
 mod words;
 
 pub use adapters::{StdSink, StdSource};

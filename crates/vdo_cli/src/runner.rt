@@ -21,7 +21,7 @@ use std::alloc::Global;
 use std::sync::Wait;
 use std::thread::Threads;
 use stream_text::{AnswerRoom, put_answers};
-use vdo_model::{Requests, ReportList, RunReport};
+use vdo_model::{ReportList, Requests, RunReport};
 
 /// A run that ended: its status, why no other one, what became of the requests (nothing where no session was begun), and
 /// the device.

@@ -20,8 +20,8 @@ use crate::stepped::Stepped;
 use crate::work::{is_done, ready};
 use crate::zones::Zones;
 use blk_base::{Entry, Layout, Super};
-use data_vio::Sizes;
 use core_reports::{ReportRoom, report};
+use data_vio::Sizes;
 use disk_model::Disk;
 use std::alloc::{AllocError, Global};
 use std::marker::Model;
@@ -80,7 +80,10 @@ impl Core {
     ) -> Result<Core, AllocError>
         requires { CanBegin (sizes_of setup.now head.now used) requests (reverse window.now) }
         ensures sizes { IfOk result (λ core. core.sizes ≡ sizes_of setup.now head.now used) }
-        ensures first { IfOk result (λ core. (s : Session) → IsOf s core.sizes requests (reverse window.now) (free_of head.now.geometry (reverse window.now))
+        ensures first { IfOk result (λ core.
+            (s : Session) →
+            IsOf s core.sizes requests (reverse window.now)
+            (free_of head.now.geometry (reverse window.now))
             → IsFirst s (core_with core.zones [])) }
     {
         let sizes = Sizes {
@@ -103,7 +106,9 @@ impl Core {
         requires { Fits self.old.sizes (D.seen device.old) }
         ensures stays { Stays (D.seen device.old) (D.seen device.new) }
         ensures sizes { self.new.sizes ≡ self.old.sizes }
-        ensures plays { (made : Trace) × PlaysOne D.tells D.honest self.old.sizes event self.old.zones self.new.zones (D.seen device.old) (D.seen device.new) made }
+        ensures plays { (made : Trace)
+            × PlaysOne D.tells D.honest self.old.sizes event self.old.zones self.new.zones
+            (D.seen device.old) (D.seen device.new) made }
         ensures did { result ≡ Did → HasNoWork self.old.sizes self.old.zones event → ⊥ }
         ensures idle { result ≡ Idle → HasNoWork self.old.sizes self.old.zones event }
         ensures same { result ≡ Idle → self.new ≡ self.old }
@@ -145,7 +150,8 @@ impl Core {
     /// The report of the session, where each request is answered. It asks for no memory, and its time is linear in the
     /// requests. The places of the logical zones stand one zone's behind the other's, in the order of their numbers.
     pub fn report(self) -> RunReport
-        ensures { (s : Session) (t : Trace) → IsSession s → Legal s (core_with self.zones t) → IsDone self.zones → result ≡ report_of s t }
+        ensures { (s : Session) (t : Trace) → IsSession s → Legal s (core_with self.zones t) →
+            IsDone self.zones → result ≡ report_of s t }
     {
         report(self.zones.into_vec(), self.room)
     }

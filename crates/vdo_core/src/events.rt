@@ -27,8 +27,12 @@ fn step<D: Disk>(sizes: &Sizes, zones: &mut Zones, number: u32, disk: &mut D) ->
     requires can { AllCanStep sizes.now zones.old }
     requires fits { Fits sizes.now (D.seen disk.old) }
     ensures stays { Stays (D.seen disk.old) (D.seen disk.new) }
-    ensures steps { ComesTo ((made : Trace) × StepsAt D.tells D.honest sizes.now number zones.old zones.new (D.seen disk.old) (D.seen disk.new) made)
-        (HasNoWork sizes.now zones.old (event.Step number)) ((zones.new ≡ zones.old) × (D.seen disk.new ≡ D.seen disk.old)) result }
+    ensures steps { ComesTo
+        ((made : Trace)
+        × StepsAt D.tells D.honest sizes.now number zones.old zones.new (D.seen disk.old)
+        (D.seen disk.new) made)
+        (HasNoWork sizes.now zones.old (event.Step number))
+        ((zones.new ≡ zones.old) × (D.seen disk.new ≡ D.seen disk.old)) result }
 {
     zones.posts.clear();
     match zones.zones.get_mut(number as usize) {
@@ -47,9 +51,13 @@ pub(crate) fn play_one<D: Disk>(
     requires can { AllCanStep sizes.now zones.old }
     requires fits { Fits sizes.now (D.seen disk.old) }
     ensures stays { Stays (D.seen disk.old) (D.seen disk.new) }
-    ensures plays { (made : Trace) × PlaysOne D.tells D.honest sizes.now event zones.old zones.new (D.seen disk.old) (D.seen disk.new) made }
-    ensures leads { LeadsTo D.tells D.honest sizes.now zones.old zones.new (D.seen disk.old) (D.seen disk.new) }
-    ensures work { ComesTo (Unit {0}) (HasNoWork sizes.now zones.old event) (zones.new ≡ zones.old) result }
+    ensures plays { (made : Trace)
+        × PlaysOne D.tells D.honest sizes.now event zones.old zones.new (D.seen disk.old)
+        (D.seen disk.new) made }
+    ensures leads { LeadsTo D.tells D.honest sizes.now zones.old zones.new (D.seen disk.old)
+        (D.seen disk.new) }
+    ensures work { ComesTo (Unit {0}) (HasNoWork sizes.now zones.old event)
+        (zones.new ≡ zones.old) result }
 {
     match event {
         Event::Step(number) => step(sizes, zones, number, disk),

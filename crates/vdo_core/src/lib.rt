@@ -7,8 +7,8 @@
 //! within a run.
 #![tactic(auto)]
 
-mod dispatch;
 mod cores;
+mod dispatch;
 mod events;
 mod free_blocks;
 mod lanes;

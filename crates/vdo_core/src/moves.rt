@@ -22,9 +22,13 @@ fn carry(zones: &mut Vec<Zone>, batch: &mut Lane, from: u32, to: u32)
     requires apart { from ≢ to }
     requires source { from < length zones.old.items }
     requires target { to < length zones.old.items }
-    requires outbox { (source : Zone) → slice_get zones.old.items from ≡ Some source → to < length source.ports.outboxes }
-    requires sent { (source : Zone) (lane : List Item) → slice_get zones.old.items from ≡ Some source → slice_get source.ports.outboxes to ≡ Some lane → IsShort lane }
-    requires there { (target : Zone) → slice_get zones.old.items to ≡ Some target → IsShort target.ports.inbox }
+    requires outbox { (source : Zone) → slice_get zones.old.items from ≡ Some source →
+        to < length source.ports.outboxes }
+    requires sent { (source : Zone) (lane : List Item) →
+        slice_get zones.old.items from ≡ Some source →
+        slice_get source.ports.outboxes to ≡ Some lane → IsShort lane }
+    requires there { (target : Zone) → slice_get zones.old.items to ≡ Some target →
+        IsShort target.ports.inbox }
     requires none { batch.old ≡ [] }
     ensures { MovesAll from to zones.old.items zones.new.items }
 {
@@ -50,7 +54,8 @@ pub(crate) fn can_move(zones: &Zones, from: u32, to: u32) -> bool
 /// What one zone posted to another moves from the outbox to the tail of the inbox, all of it. It asks for no memory.
 pub(crate) fn move_items(zones: &mut Zones, from: u32, to: u32) -> Stepped
     requires { Each (λ n z. IsWithin z) zones.old }
-    ensures { ComesTo (MovesAll from to zones.old zones.new) (MovesNothing zones.old from to) (zones.new ≡ zones.old) result }
+    ensures { ComesTo (MovesAll from to zones.old zones.new) (MovesNothing zones.old from to)
+        (zones.new ≡ zones.old) result }
 {
     if !can_move(zones, from, to) {
         return Stepped::Idle;

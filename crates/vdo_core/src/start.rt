@@ -9,13 +9,15 @@ ghost use Rattle.plain_laws.specs.Sums.{Each};
 ghost use Rattle.vdo_core.specs.Plays.{core_with};
 ghost use Rattle.vdo_core.specs.Starts.{IsOf};
 
-use crate::numbers::{DESK, device_number, journal_number, logical_number, physical_number, zone_count};
+use crate::numbers::{
+    DESK, device_number, journal_number, logical_number, physical_number, zone_count,
+};
 use crate::zones::Zones;
 use blk_base::{Entry, Pbn};
 use core_model::{Desk, Ports, Zone, ZoneData};
 use data_vio::Sizes;
 use std::alloc::{AllocError, Global};
-use vdo_model::{Requests, ReportList};
+use vdo_model::{ReportList, Requests};
 
 // A copy of the entries, the oldest first.
 fn copied(alloc: Global, window: &[Entry]) -> Result<ReportList<Entry>, AllocError>
@@ -69,7 +71,9 @@ fn add_logical(
 ) -> Result<(), AllocError>
     requires { length zones.old.items ≡ 1 }
     ensures count { OnOk result (length zones.new.items ≡ 1 + sizes.now.zones) }
-    ensures first { OnOk result ((s : Session) → s.sizes ≡ sizes.now → s.window ≡ reverse window.now → Each (IsFirstZone s) zones.old.items → Each (IsFirstZone s) zones.new.items) }
+    ensures first { OnOk result
+        ((s : Session) → s.sizes ≡ sizes.now → s.window ≡ reverse window.now →
+        Each (IsFirstZone s) zones.old.items → Each (IsFirstZone s) zones.new.items) }
 {
     for zone in 0..sizes.zones {
         let number = logical_number(zone);
@@ -92,7 +96,9 @@ fn add_others(
     requires start { (1 ≤ sizes.now.start) × (sizes.now.start < 2 ^ 54) }
     requires room { sizes.now.opened + 1 ≤ sizes.now.geometry.journal }
     ensures count { OnOk result (length zones.new.items ≡ numbers.zone_count sizes.now) }
-    ensures first { OnOk result ((s : Session) → s.sizes ≡ sizes.now → s.free ≡ free.items → Each (IsFirstZone s) zones.old.items → Each (IsFirstZone s) zones.new.items) }
+    ensures first { OnOk result
+        ((s : Session) → s.sizes ≡ sizes.now → s.free ≡ free.items →
+        Each (IsFirstZone s) zones.old.items → Each (IsFirstZone s) zones.new.items) }
 {
     let physical = ZoneData::Physical(physical_zone::first(free));
     add(alloc, sizes, physical_number(sizes), physical, zones)?;
@@ -125,7 +131,9 @@ pub fn begin(
     requires served { AllByRecursion (AllByRecursion IsServed) requests }
     requires streams { length requests ≤ most_streams }
     requires few { requests_in requests ≤ most_requests }
-    ensures { IfOk result (λ zones. (s : Session) → IsOf s sizes.now requests (reverse window.now) free.items → IsFirst s (core_with zones [])) }
+    ensures { IfOk result (λ zones.
+        (s : Session) → IsOf s sizes.now requests (reverse window.now) free.items →
+        IsFirst s (core_with zones [])) }
 {
     let mut zones = Vec::new(alloc);
     let desk = Desk::new(alloc, requests)?;

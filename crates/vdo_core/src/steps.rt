@@ -31,7 +31,8 @@ fn end(sizes: &Sizes, zone: &mut Zone, posts: &mut Posts) -> Stepped
     requires counts { zone.old.steps < step_limit }
     requires room { HasRoomFor most_posts zone.old }
     requires lanes { AllByRecursion (HasLane sizes.now zone.old) posts.old }
-    ensures zone { zone.new ≡ delivered sizes.now posts.old (record zone.old { steps = zone.old.steps + 1 }) }
+    ensures zone { zone.new
+        ≡ delivered sizes.now posts.old (record zone.old { steps = zone.old.steps + 1 }) }
     ensures did { result ≡ Did }
 {
     zone.steps += 1;
@@ -44,7 +45,10 @@ fn step_alone(sizes: &Sizes, zone: &mut Zone, posts: &mut Posts) -> Stepped
     requires can { CanStep sizes.now zone.old }
     requires other { CallsDevice zone.old.keeps → ⊥ }
     requires none { posts.old ≡ [] }
-    ensures { ComesTo ((tells honest : Bool) (seen : Seen) → ZoneSteps tells honest sizes.now zone.old zone.new seen seen) (IsIdle sizes.now zone.old) (zone.new ≡ zone.old) result }
+    ensures { ComesTo
+        ((tells honest : Bool) (seen : Seen) →
+        ZoneSteps tells honest sizes.now zone.old zone.new seen seen) (IsIdle sizes.now zone.old)
+        (zone.new ≡ zone.old) result }
 {
     if !has_steps_left(zone) {
         return Stepped::Idle;
@@ -70,7 +74,9 @@ fn step_device<D: Disk>(sizes: &Sizes, zone: &mut Zone, posts: &mut Posts, disk:
     requires fits { Fits sizes.now (D.seen disk.old) }
     requires none { posts.old ≡ [] }
     ensures stays { Stays (D.seen disk.old) (D.seen disk.new) }
-    ensures steps { ComesTo (ZoneSteps D.tells D.honest sizes.now zone.old zone.new (D.seen disk.old) (D.seen disk.new)) (IsIdle sizes.now zone.old)
+    ensures steps { ComesTo
+        (ZoneSteps D.tells D.honest sizes.now zone.old zone.new (D.seen disk.old) (D.seen disk.new))
+        (IsIdle sizes.now zone.old)
         ((zone.new ≡ zone.old) × (D.seen disk.new ≡ D.seen disk.old)) result }
 {
     if !has_steps_left(zone) {
@@ -102,8 +108,12 @@ pub fn step_zone<D: Disk>(
     requires fits { OnDevice (λ disk. Fits sizes.now (D.seen disk)) tools }
     requires none { posts.old ≡ [] }
     ensures stays { Uses D.seen Stays tools.entry tools.exit }
-    ensures steps { ComesTo (Uses D.seen (ZoneSteps D.tells D.honest sizes.now zone.old zone.new) tools.entry tools.exit) (IsIdle sizes.now zone.old)
-        ((zone.new ≡ zone.old) × Uses D.seen (λ before after. after ≡ before) tools.entry tools.exit) result }
+    ensures steps { ComesTo
+        (Uses D.seen
+        (ZoneSteps D.tells D.honest sizes.now zone.old zone.new) tools.entry tools.exit)
+        (IsIdle sizes.now zone.old)
+        ((zone.new ≡ zone.old)
+        × Uses D.seen (λ before after. after ≡ before) tools.entry tools.exit) result }
 {
     match tools {
         Tools::Device(disk) => step_device(sizes, zone, posts, disk),
@@ -132,7 +142,9 @@ pub(crate) fn step_with<'a, D: Disk>(
     requires fits { Fits sizes.now (D.seen disk.old) }
     requires none { posts.old ≡ [] }
     ensures stays { Stays (D.seen disk.old) (D.seen disk.new) }
-    ensures steps { ComesTo (ZoneSteps D.tells D.honest sizes.now zone.old zone.new (D.seen disk.old) (D.seen disk.new)) (IsIdle sizes.now zone.old)
+    ensures steps { ComesTo
+        (ZoneSteps D.tells D.honest sizes.now zone.old zone.new (D.seen disk.old) (D.seen disk.new))
+        (IsIdle sizes.now zone.old)
         ((zone.new ≡ zone.old) × (D.seen disk.new ≡ D.seen disk.old)) result }
 {
     if is_device(zone) {

@@ -9,11 +9,11 @@
 #![tactic(auto)]
 
 mod report;
-mod requests;
 mod report_list;
+mod requests;
 mod zone_order;
 
 pub use report::{DeskLine, FlushMark, HistoryEntry, Mark, Placed, RunReport};
-pub use requests::Requests;
 pub use report_list::ReportList;
+pub use requests::Requests;
 pub use zone_order::zones_may_be_listed_in_any_order;

@@ -1,4 +1,4 @@
-use crate::{Requests, ReportList};
+use crate::{ReportList, Requests};
 use blk_base::{Answer, Lba, Writer};
 
 /// A line of the desk log: a request is begun, or answered.

@@ -9,16 +9,16 @@
 //! `audit` and `status`.
 #![tactic(auto)]
 
+mod clap_matches;
+mod command_reader;
 mod commands;
 mod given;
 mod line;
-mod clap_matches;
 mod option_names;
 mod options;
-mod command_reader;
 mod rules;
 
+pub use command_reader::read_command;
 pub use commands::{
     Command, CoreOptions, CrashOptions, Drive, FormatOptions, RunOptions, Usage, WorkloadOptions,
 };
-pub use command_reader::read_command;

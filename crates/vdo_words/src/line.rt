@@ -3,8 +3,8 @@ ghost use Rattle.vdo_words.specs.Given.{find as first_of, given};
 ghost use Rattle.vdo_words.specs.Matching.{text_in, FindsValues};
 ghost use Rattle.vdo_words.specs.Options.{are_right, spelling};
 
-use crate::given::find;
 use crate::clap_matches::{long, matches};
+use crate::given::find;
 use crate::option_names::OptionName;
 use clap::ArgMatches;
 use std::alloc::Global;
@@ -43,7 +43,8 @@ impl<'a> Line<'a> {
 
     /// The value of this option, as clap finds it, else as the words have it.
     pub(crate) fn value(&self, name: OptionName) -> Option<&'a str>
-        ensures { option_map (λ text. text.now) result ≡ text_in (first_of (spelling name) self.now) }
+        ensures { option_map (λ text. text.now) result
+            ≡ text_in (first_of (spelling name) self.now) }
     {
         match &self.matches {
             Some(found) => found.get_str(long(name)),

@@ -6,7 +6,9 @@ ghost use Rattle.verify_share.specs.Sharing.{IsVerdict, Decides};
 
 /// Two blocks have one verdict, and what is decided from a read and two claims is one.
 pub fn what_is_decided_is_one()
-    ensures verdicts { (read wanted : List ℕ) (v v' : Verdict) → IsVerdict read wanted v → IsVerdict read wanted v' → v ≡ v' }
-    ensures decisions { (read : Option (List ℕ)) (wanted : List ℕ) (own : Option Pbn) (share : Pbn) (j j' : Judged)
+    ensures verdicts { (read wanted : List ℕ) (v v' : Verdict) → IsVerdict read wanted v →
+        IsVerdict read wanted v' → v ≡ v' }
+    ensures decisions { (read : Option (List ℕ)) (wanted : List ℕ) (own : Option Pbn) (share : Pbn)
+        (j j' : Judged)
         → Decides read wanted own share j → Decides read wanted own share j' → j ≡ j' }
 {}

@@ -15,20 +15,28 @@ ghost use Rattle.watermark_laws.specs.Reaping.{HasPoint, IsOther, Reaps, mark_in
 /// trace's may rise. It stays such a journal over each happening, where it seals the same entries, and as a zone's mark rises.
 pub fn the_journal_reaps_what_is_handled()
     ensures opening { (s : Setup) (g : Geometry) → Reaps s (opening g None s.start s.zones) [] }
-    ensures head { (s : Setup) (log : Log) (t : Trace) → RightTrace s t → IsKept log → log.earlier ≡ None → Reaps s log t → risen s.start t ≤ head_of log
+    ensures head { (s : Setup) (log : Log) (t : Trace) → RightTrace s t → IsKept log →
+        log.earlier ≡ None → Reaps s log t → risen s.start t ≤ head_of log
         → RiseMayFollow s (head_of log) t }
-    ensures happens { (s : Setup) (log : Log) (h : Happening) (t : Trace) → IsOther h → RightTrace s (h ∷ t) → Reaps s log t → Reaps s log (h ∷ t) }
-    ensures seals { (s : Setup) (old new : Log) (block : JournalBlock) (es : List Logged) (t : Trace) → RightTrace s (Seals es ∷ t) → SealsBlock old new block
-        → ((e : Logged) → HasEntry e es → HasPoint e.at (placed old.sequence 0 old.filling)) → Reaps s old t → Reaps s new (Seals es ∷ t) }
-    ensures advances { (s : Setup) (old new : Log) (z : ℕ) (point : Point) (t : Trace) → z < s.zones → Advances old new z point → point.0 ≤ mark s z t
+    ensures happens { (s : Setup) (log : Log) (h : Happening) (t : Trace) → IsOther h →
+        RightTrace s (h ∷ t) → Reaps s log t → Reaps s log (h ∷ t) }
+    ensures seals { (s : Setup) (old new : Log) (block : JournalBlock) (es : List Logged)
+        (t : Trace) → RightTrace s (Seals es ∷ t) → SealsBlock old new block
+        → ((e : Logged) → HasEntry e es → HasPoint e.at (placed old.sequence 0 old.filling)) →
+        Reaps s old t → Reaps s new (Seals es ∷ t) }
+    ensures advances { (s : Setup) (old new : Log) (z : ℕ) (point : Point) (t : Trace) →
+        z < s.zones → Advances old new z point → point.0 ≤ mark s z t
         → Reaps s old t → Reaps s new t }
-    ensures behind { (log : Log) (point lower : Point) → lower.0 ≤ point.0 → IsBehind log point → IsBehind log lower }
+    ensures behind { (log : Log) (point lower : Point) → lower.0 ≤ point.0 → IsBehind log point →
+        IsBehind log lower }
 {}
 
 /// Once all is still, a journal that has the marks of the trace has passed the need: the block being filled has its slot, if the
 /// need was for that.
 pub fn the_journal_goes_on_when_all_is_still()
-    ensures { (s : Setup) (log : Log) (t : Trace) → RightTrace s t → IsStill s t → IsKept log → log.earlier ≡ None → Reaps s log t
-        → ((z : ℕ) → z < s.zones → mark s z t ≤ mark_in log.marks z) → 2 ≤ log.size → HasAsked s log.size t
+    ensures { (s : Setup) (log : Log) (t : Trace) → RightTrace s t → IsStill s t → IsKept log →
+        log.earlier ≡ None → Reaps s log t
+        → ((z : ℕ) → z < s.zones → mark s z t ≤ mark_in log.marks z) → 2 ≤ log.size →
+        HasAsked s log.size t
         → log.sequence + 2 ≤ head_of log + log.size }
 {}

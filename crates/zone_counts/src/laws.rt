@@ -20,35 +20,46 @@ ghost use Rattle.zone_counts.specs.Calls.{Call, Does, LeadTo, IsRight};
 /// Over every list of calls a zone stays as it must be: each slab has the numbers of its blocks, within the limit, and where a
 /// ticket waits no block is free.
 pub fn zones_stay_settled()
-    ensures { (old new : Zone) (calls : List Call) → IsZone old → LeadTo old calls new → IsZone new }
+    ensures { (old new : Zone) (calls : List Call) → IsZone old → LeadTo old calls new →
+        IsZone new }
 {}
 
 /// A ticket that is out without a block means that no block of the zone is free.
 pub fn a_ticket_waits_where_no_block_is_free()
-    ensures slabs { (zone : Zone) (k : ℕ) → IsZone zone → ticket_of zone.desk.out k ≡ Some None → NoneFree zone.slabs }
-    ensures blocks { (zone : Zone) (k : ℕ) (at : Pbn) → IsZone zone → ticket_of zone.desk.out k ≡ Some None → IsOfZone zone at → ¬ IsFree (slab_of zone at) at }
+    ensures slabs { (zone : Zone) (k : ℕ) → IsZone zone → ticket_of zone.desk.out k ≡ Some None →
+        NoneFree zone.slabs }
+    ensures blocks { (zone : Zone) (k : ℕ) (at : Pbn) → IsZone zone →
+        ticket_of zone.desk.out k ≡ Some None → IsOfZone zone at → ¬ IsFree (slab_of zone at) at }
 {}
 
 /// Over every list of calls from an opened zone on, every receipt that a withdrawal gives is right: no step from the one that
 /// asked on ended with a free block in this zone.
 pub fn every_receipt_is_right()
-    ensures { (first old new : Zone) (room : ℕ) (calls : List Call) (ticket : Ticket) (receipt : Receipt) → IsZone first
-        → first.desk ≡ empty_desk first.zone room → LeadTo first calls old → WithdrawsFrom old new ticket (Nothing receipt) → IsRight calls receipt }
+    ensures { (first old new : Zone) (room : ℕ) (calls : List Call) (ticket : Ticket)
+        (receipt : Receipt) → IsZone first
+        → first.desk ≡ empty_desk first.zone room → LeadTo first calls old →
+        WithdrawsFrom old new ticket (Nothing receipt) → IsRight calls receipt }
 {}
 
 /// A claim that a zone gives, asked for, shared or extended, is on a block of the zone, and is counted there.
 pub fn a_claim_is_of_its_zone()
-    ensures given { (old new : Zone) (block : Pbn) → IsZone old → GivesBlock old new block → IsClaimedIn new block }
-    ensures shared { (old new : Zone) (at : Pbn) → IsZone old → SharesIn old new at → IsClaimedIn new at }
-    ensures extended { (old new : Zone) (at : Pbn) → IsZone old → IsClaimedIn old at → new ≡ with_slab old at (claimed (slab_of old at) at) → IsClaimedIn new at }
+    ensures given { (old new : Zone) (block : Pbn) → IsZone old → GivesBlock old new block →
+        IsClaimedIn new block }
+    ensures shared { (old new : Zone) (at : Pbn) → IsZone old → SharesIn old new at →
+        IsClaimedIn new at }
+    ensures extended { (old new : Zone) (at : Pbn) → IsZone old → IsClaimedIn old at →
+        new ≡ with_slab old at (claimed (slab_of old at) at) → IsClaimedIn new at }
 {}
 
 /// The counter of a block and the claims on it, as sums over the slabs of a zone, are those in its slab, and 0 in every other
 /// zone.
 pub fn a_block_has_one_home()
     ensures home { (zone : Zone) (at : Pbn) → IsZone zone → IsOfZone zone at
-        → (counter_in at zone.slabs ≡ counter_of (slab_of zone at) at) × (claims_in at zone.slabs ≡ claims_of (slab_of zone at) at) }
-    ensures elsewhere { (zone : Zone) (at : Pbn) → IsZone zone → ¬ IsOfZone zone at → (counter_in at zone.slabs ≡ 0) × (claims_in at zone.slabs ≡ 0) }
+        →
+        (counter_in at zone.slabs ≡ counter_of (slab_of zone at) at)
+        × (claims_in at zone.slabs ≡ claims_of (slab_of zone at) at) }
+    ensures elsewhere { (zone : Zone) (at : Pbn) → IsZone zone → ¬ IsOfZone zone at →
+        (counter_in at zone.slabs ≡ 0) × (claims_in at zone.slabs ≡ 0) }
 {}
 
 /// What each call makes of the counter of each block, of the claims on it, and of the tickets that have it: a block that goes
@@ -56,34 +67,54 @@ pub fn a_block_has_one_home()
 pub fn calls_move_claims_and_counters()
     ensures counters { (call : Call) (old new : Zone) (at : Pbn) → IsZone old → Does call old new
         → counter_in at new.slabs + unmaps call at ≡ counter_in at old.slabs + maps call at }
-    ensures claims { (call : Call) (old new : Zone) (at : Pbn) → IsZone old → (does : Does call old new)
-        → claims_in at new.slabs + (drops call at + maps call at) ≡ claims_in at old.slabs + makes call at + is_at at (served_in call old new does) }
-    ensures tickets { (call : Call) (old new : Zone) (at : Pbn) → IsZone old → (does : Does call old new)
-        → out_with at new.desk + withdraws call at ≡ out_with at old.desk + is_at at (served_in call old new does) }
+    ensures claims { (call : Call) (old new : Zone) (at : Pbn) → IsZone old →
+        (does : Does call old new)
+        →
+        claims_in at new.slabs + (drops call at + maps call at)
+        ≡ claims_in at old.slabs + makes call at + is_at at (served_in call old new does) }
+    ensures tickets { (call : Call) (old new : Zone) (at : Pbn) → IsZone old →
+        (does : Does call old new)
+        →
+        out_with at new.desk + withdraws call at
+        ≡ out_with at old.desk + is_at at (served_in call old new does) }
 {}
 
 /// What goes to a ticket is the block that became free by the call, which then has no mapping and one claim; an increment
 /// frees none.
 pub fn what_is_served_is_what_became_free()
-    ensures dropped { (old new : Zone) (at block : Pbn) → IsZone old → IsClaimedIn old at → (change : Changes old new at (unclaimed (slab_of old at) at))
-        → served_block change.serves ≡ Some block → (block ≡ at) × (counter_in at new.slabs ≡ 0) × (claims_in at new.slabs ≡ 1) }
-    ensures removed { (old new : Zone) (at block : Pbn) (slab : Counts) → IsZone old → IsOfZone old at → Takes Decrement (slab_of old at) slab at
-        → (change : Changes old new at slab) → served_block change.serves ≡ Some block → (block ≡ at) × (counter_in at new.slabs ≡ 0) × (claims_in at new.slabs ≡ 1) }
-    ensures added { (old new : Zone) (at : Pbn) (slab : Counts) → IsZone old → IsOfZone old at → Takes Increment (slab_of old at) slab at
-        → (change : Changes old new at slab) → (served_block change.serves ≡ None) × (new ≡ with_slab old at slab) }
+    ensures dropped { (old new : Zone) (at block : Pbn) → IsZone old → IsClaimedIn old at →
+        (change : Changes old new at (unclaimed (slab_of old at) at))
+        → served_block change.serves ≡ Some block →
+        (block ≡ at) × (counter_in at new.slabs ≡ 0) × (claims_in at new.slabs ≡ 1) }
+    ensures removed { (old new : Zone) (at block : Pbn) (slab : Counts) → IsZone old →
+        IsOfZone old at → Takes Decrement (slab_of old at) slab at
+        → (change : Changes old new at slab) → served_block change.serves ≡ Some block →
+        (block ≡ at) × (counter_in at new.slabs ≡ 0) × (claims_in at new.slabs ≡ 1) }
+    ensures added { (old new : Zone) (at : Pbn) (slab : Counts) → IsZone old → IsOfZone old at →
+        Takes Increment (slab_of old at) slab at
+        → (change : Changes old new at slab) →
+        (served_block change.serves ≡ None) × (new ≡ with_slab old at slab) }
 {}
 
 /// A call has one result, and what is refused, for one cause, isn't done.
 pub fn a_call_has_one_result()
-    ensures begun { (old new new' : Zone) (step : ℕ) → BeginsStep old new step → BeginsStep old new' step → new ≡ new' }
-    ensures asked { (old new new' : Zone) (writer : Writer) (answer answer' : Asked) → Asks old new writer answer → Asks old new' writer answer'
+    ensures begun { (old new new' : Zone) (step : ℕ) → BeginsStep old new step →
+        BeginsStep old new' step → new ≡ new' }
+    ensures asked { (old new new' : Zone) (writer : Writer) (answer answer' : Asked) →
+        Asks old new writer answer → Asks old new' writer answer'
         → (new ≡ new') × (answer ≡ answer') }
-    ensures withdrawn { (old new new' : Zone) (ticket : Ticket) (result result' : Withdrawn) → WithdrawsFrom old new ticket result
+    ensures withdrawn { (old new new' : Zone) (ticket : Ticket) (result result' : Withdrawn) →
+        WithdrawsFrom old new ticket result
         → WithdrawsFrom old new' ticket result' → (new ≡ new') × (result ≡ result') }
-    ensures shared { (old new new' : Zone) (at : Pbn) → SharesIn old new at → SharesIn old new' at → new ≡ new' }
-    ensures refused { (old new : Zone) (at : Pbn) (refusal : Refusal) → SharesIn old new at → ¬ IsRefusedIn refusal old at }
-    ensures refusal { (old : Zone) (at : Pbn) (one other : Refusal) → IsRefusedIn one old at → IsRefusedIn other old at → one ≡ other }
-    ensures changed { (old new new' : Zone) (at : Pbn) (slab : Counts) → Changes old new at slab → Changes old new' at slab → new ≡ new' }
-    ensures applied { (half : Half) (old new new' : Zone) (at : Pbn) (slab slab' : Counts) → Takes half (slab_of old at) slab at → Changes old new at slab
+    ensures shared { (old new new' : Zone) (at : Pbn) → SharesIn old new at → SharesIn old new' at →
+        new ≡ new' }
+    ensures refused { (old new : Zone) (at : Pbn) (refusal : Refusal) → SharesIn old new at →
+        ¬ IsRefusedIn refusal old at }
+    ensures refusal { (old : Zone) (at : Pbn) (one other : Refusal) → IsRefusedIn one old at →
+        IsRefusedIn other old at → one ≡ other }
+    ensures changed { (old new new' : Zone) (at : Pbn) (slab : Counts) → Changes old new at slab →
+        Changes old new' at slab → new ≡ new' }
+    ensures applied { (half : Half) (old new new' : Zone) (at : Pbn) (slab slab' : Counts) →
+        Takes half (slab_of old at) slab at → Changes old new at slab
         → Takes half (slab_of old at) slab' at → Changes old new' at slab' → new ≡ new' }
 {}

@@ -17,9 +17,13 @@ pub(crate) fn opening_slabs(
     requires sizes { IsGeometry opened.now.head.geometry }
     requires zones { zones ≤ 4 }
     requires zone { zone < zones }
-    requires counters { length opened.now.counters.items ≡ opened.now.head.geometry.slabs * opened.now.head.geometry.slab_blocks }
-    requires limit { All (λ counter. counter ≤ limit_of opened.now.head.geometry) opened.now.counters.items }
-    ensures { IfOk result (λ slabs. AreOpened opened.now.head.geometry zone zones opened.now.counters.items opened.now.tree_pages.items
+    requires counters { length opened.now.counters.items
+        ≡ opened.now.head.geometry.slabs * opened.now.head.geometry.slab_blocks }
+    requires limit { All (λ counter.
+        counter ≤ limit_of opened.now.head.geometry) opened.now.counters.items }
+    ensures { IfOk result (λ slabs.
+        AreOpened opened.now.head.geometry zone zones opened.now.counters.items
+        opened.now.tree_pages.items
         (slabs_of_zone opened.now.head.geometry zone zones) slabs.items) }
 {
     let geometry = opened.head.geometry;

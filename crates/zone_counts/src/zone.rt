@@ -60,9 +60,13 @@ impl ZoneCounts {
         requires zones { zones ≤ 4 }
         requires zone { zone < zones }
         requires depth { depth ≤ 16 }
-        requires counters { length opened.now.counters.items ≡ opened.now.head.geometry.slabs * opened.now.head.geometry.slab_blocks }
-        requires limit { All (λ counter. counter ≤ limit_of opened.now.head.geometry) opened.now.counters.items }
-        ensures opening { IfOk result (IsOpeningZone opened.now.head.geometry zone zones (32 * depth) opened.now.counters.items opened.now.tree_pages.items) }
+        requires counters { length opened.now.counters.items
+            ≡ opened.now.head.geometry.slabs * opened.now.head.geometry.slab_blocks }
+        requires limit { All (λ counter.
+            counter ≤ limit_of opened.now.head.geometry) opened.now.counters.items }
+        ensures opening { IfOk result
+            (IsOpeningZone opened.now.head.geometry zone zones
+            (32 * depth) opened.now.counters.items opened.now.tree_pages.items) }
         ensures right { IfOk result IsZone }
     {
         let layout = Layout::of(&opened.head.geometry);
@@ -169,9 +173,12 @@ impl ZoneCounts {
     pub fn extend(&mut self, claim: &Claim) -> Result<Claim, Refusal>
         requires { IsClaimedIn self.old claim.now }
         ensures room { OnOk result (HasRoom (slab_of self.old claim.now) claim.now) }
-        ensures extended { OnOk result (self.new ≡ with_slab self.old claim.now (claimed (slab_of self.old claim.now) claim.now)) }
+        ensures extended { OnOk result
+            (self.new
+            ≡ with_slab self.old claim.now (claimed (slab_of self.old claim.now) claim.now)) }
         ensures claim { IfOk result (λ more. more ≡ claim.now) }
-        ensures refused { IfErr result (λ refusal. (refusal ≡ Full) × (¬ HasRoom (slab_of self.old claim.now) claim.now)) }
+        ensures refused { IfErr result (λ refusal.
+            (refusal ≡ Full) × (¬ HasRoom (slab_of self.old claim.now) claim.now)) }
         ensures same { OnErr result (self.new ≡ self.old) }
     {
         let place = place_of(
@@ -217,7 +224,8 @@ impl ZoneCounts {
     pub fn spend_page(&mut self, claim: Claim) -> Pbn
         requires { IsClaimedIn self.old claim }
         ensures block { result ≡ claim }
-        ensures page { self.new ≡ with_slab self.old claim (with_page (slab_of self.old claim) claim) }
+        ensures page { self.new
+            ≡ with_slab self.old claim (with_page (slab_of self.old claim) claim) }
     {
         let place = place_of(
             &self.layout,
@@ -234,10 +242,14 @@ impl ZoneCounts {
     /// increment finds the limit or no claim. If the block becomes free, it goes to the oldest ticket without one.
     pub fn apply(&mut self, update: &Update) -> Result<(), Stray>
         requires { IsOfZone self.old update.now.at }
-        ensures taken { OnOk result ((slab : Counts) × Takes (half_of update.now.point.0) (slab_of self.old update.now.at) slab update.now.at
+        ensures taken { OnOk result
+            ((slab : Counts)
+            × Takes (half_of update.now.point.0) (slab_of self.old update.now.at) slab update.now.at
             × Changes self.old self.new update.now.at slab) }
-        ensures stray { OnErr result (IsStray (half_of update.now.point.0) (slab_of self.old update.now.at) update.now.at) }
-        ensures count { IfErr result (λ stray. stray.count ≡ counter_of (slab_of self.old update.now.at) update.now.at) }
+        ensures stray { OnErr result
+            (IsStray (half_of update.now.point.0) (slab_of self.old update.now.at) update.now.at) }
+        ensures count { IfErr result (λ stray.
+            stray.count ≡ counter_of (slab_of self.old update.now.at) update.now.at) }
         ensures same { OnErr result (self.new ≡ self.old) }
     {
         let place = place_of(&self.layout, self.zone, self.zones, &self.slabs, update.at);
@@ -279,7 +291,8 @@ impl ZoneCounts {
 
     /// Whether the slab with this number in the image is one of this zone.
     pub fn owns_slab(&self, slab: u32) -> bool
-        ensures { IsTrue result ↔ ((slab < self.now.geometry.slabs) × (slab % self.now.zones ≡ self.now.zone)) }
+        ensures { IsTrue result
+            ↔ ((slab < self.now.geometry.slabs) × (slab % self.now.zones ≡ self.now.zone)) }
     {
         slab < self.layout.geometry.slabs && slab % self.zones == self.zone
     }

@@ -69,7 +69,8 @@ impl<V: Drop> Lane<V> {
 
     /// Takes the oldest item; `None` exactly where there is none.
     pub fn take(&mut self) -> Option<V>
-        ensures some { IfSome result (λ item. self.old ≡ record self.new { items = item ∷ self.new.items }) }
+        ensures some { IfSome result (λ item.
+            self.old ≡ record self.new { items = item ∷ self.new.items }) }
         ensures none { IfNone result ((self.old.items ≡ []) × (self.new ≡ self.old)) }
     {
         self.items.pop_front()

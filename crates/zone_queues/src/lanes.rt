@@ -42,7 +42,8 @@ impl<V: Drop> Lanes<V> {
         requires receiver { to < length self.old.inboxes }
         requires room { HasRoomTo self.old to }
         ensures { self.new ≡ record self.old {
-          outboxes = set_outbox self.old.outboxes from to (with_more (outbox_at self.old from to) (item ∷ []));
+          outboxes = set_outbox self.old.outboxes from to
+              (with_more (outbox_at self.old from to) (item ∷ []));
         } }
     {
         post_at(&mut self.ports, from, to, item);
@@ -68,7 +69,8 @@ impl<V: Drop> Lanes<V> {
     pub fn take(&mut self, zone: u32) -> Option<V>
         requires { zone < length self.old.inboxes }
         ensures some { IfSome result (Takes self.old self.new zone) }
-        ensures none { IfNone result (((inbox_at self.old zone).items ≡ []) × (self.new ≡ self.old)) }
+        ensures none { IfNone result
+            (((inbox_at self.old zone).items ≡ []) × (self.new ≡ self.old)) }
     {
         take_at(&mut self.ports, zone)
     }
@@ -81,7 +83,8 @@ fn post_at<V: Drop>(ports: &mut Vec<Ports<V>>, from: u32, to: u32, item: V)
     requires receiver { to < length (slice_index_or (network_of ports.old.items).outboxes from []) }
     requires room { HasRoom (outbox_at (network_of ports.old.items) from to) }
     ensures { network_of ports.new.items ≡ record (network_of ports.old.items) {
-      outboxes = set_outbox (network_of ports.old.items).outboxes from to (with_more (outbox_at (network_of ports.old.items) from to) (item ∷ []));
+      outboxes = set_outbox (network_of ports.old.items).outboxes from to
+          (with_more (outbox_at (network_of ports.old.items) from to) (item ∷ []));
     } }
 {
     ports[from as usize].post(to, item);
@@ -91,7 +94,8 @@ fn post_at<V: Drop>(ports: &mut Vec<Ports<V>>, from: u32, to: u32, item: V)
 #[tactic(auto, using(crate::proofs::NetworkLaws::zones_network))]
 fn take_at<V: Drop>(ports: &mut Vec<Ports<V>>, zone: u32) -> Option<V>
     requires { zone < length (network_of ports.old.items).inboxes }
-    ensures some { IfSome result (Takes (network_of ports.old.items) (network_of ports.new.items) zone) }
+    ensures some { IfSome result
+        (Takes (network_of ports.old.items) (network_of ports.new.items) zone) }
     ensures none { IfNone result (((inbox_at (network_of ports.old.items) zone).items ≡ [])
         × (network_of ports.new.items ≡ network_of ports.old.items)) }
 {
@@ -117,7 +121,8 @@ fn receive_at<V: Drop>(ports: &mut Vec<Ports<V>>, to: u32, batch: &mut Lane<V>)
     requires receiver { to < length (network_of ports.old.items).inboxes }
     requires room { HasRoomFor (inbox_at (network_of ports.old.items) to) batch.old.items }
     ensures added { network_of ports.new.items ≡ record (network_of ports.old.items) {
-      inboxes = slice_set (network_of ports.old.items).inboxes to (with_more (inbox_at (network_of ports.old.items) to) batch.old.items);
+      inboxes = slice_set (network_of ports.old.items).inboxes to
+          (with_more (inbox_at (network_of ports.old.items) to) batch.old.items);
     } }
     ensures emptied { batch.new ≡ empty V batch.old.room }
 {

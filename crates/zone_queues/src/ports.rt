@@ -54,7 +54,8 @@ impl<V: Drop> Ports<V> {
     pub fn post(&mut self, to: u32, item: V)
         requires zone { to < length self.old.outboxes }
         requires room { HasRoom (outbox_to self.old to) }
-        ensures { self.new ≡ with_outbox self.old to (with_more (outbox_to self.old to) (item ∷ [])) }
+        ensures { self.new
+            ≡ with_outbox self.old to (with_more (outbox_to self.old to) (item ∷ [])) }
     {
         self.outboxes[to as usize].post(item);
     }
@@ -104,7 +105,8 @@ impl<V: Drop> Ports<V> {
     /// Adds all items of a batch to the inbox, in their order. The batch is empty then, and keeps its room.
     pub fn receive(&mut self, batch: &mut Lane<V>)
         requires { HasRoomFor self.old.inbox batch.old.items }
-        ensures added { self.new ≡ record self.old { inbox = with_more self.old.inbox batch.old.items } }
+        ensures added { self.new
+            ≡ record self.old { inbox = with_more self.old.inbox batch.old.items } }
         ensures emptied { batch.new ≡ empty V batch.old.room }
     {
         self.inbox.append(batch);
