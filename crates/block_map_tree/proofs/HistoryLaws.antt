@@ -9,6 +9,7 @@ use Rattle.blk_base.specs.declared.place.Mapping.TheVariants.{Unmapped, At}
 use Rattle.blk_base.specs.declared.point.Point.{Point}
 use Rattle.blk_base.specs.Regions.{Root, block_of}
 use Rattle.blk_base.specs.Pages.{above, slot_of}
+use Rattle.plain_laws.proofs.LeadLaws.{leads_keep}
 use Rattle.page_codec.specs.declared.forms.MapPage.{MapPage}
 use Rattle.dirty_pages.specs.declared.marks.Marks.{Marks}
 use Rattle.dirty_pages.specs.Marks.{HasPoint, IsLowPoint, AreClean, marks_at, with_marks, changed_at, handed_out, settled}
@@ -119,10 +120,9 @@ call_keeps old new (HandOut page) leads = (leads.2.form, ap (λ (t : Tree). t.fo
 call_keeps old new (Write page) leads = (leads.1.form, ap (λ (t : Tree). t.forest) leads.1.set)
 
 pub calls_keep : (old new : Tree) (calls : List Call) → IsTree old → LeadTo old calls new → IsTree new × (new.forest ≡ old.forest)
-calls_keep old new [] form same = (subst (λ (t : Tree). IsTree t) (sym same) form, ap (λ (t : Tree). t.forest) same)
-calls_keep old new (call ∷ calls) form lead =
-    let last = call_keeps lead.0 new call lead.2 in
-    (last.0, last.1 ∙ (calls_keep old lead.0 calls form lead.1).1)
+calls_keep old new calls form lead = leads_keep (λ call before after. Leads before call after) (λ tree. IsTree tree × (tree.forest ≡ old.forest)) (λ call before after kept leads.
+    let last = call_keeps before after call leads in
+    (last.0, last.1 ∙ kept.1)) old new calls (form, refl) lead
 
 -- the marks of a page follow from what the calls do to it
 after : (old new : Tree) (calls : List Call) (page : PageId) → IsTree old → LeadTo old calls new → IsInner old.forest page

@@ -1,11 +1,12 @@
 -- Runs of a tree: its calls from the newest back to the oldest.
-use Rattle.std.specs.Prelude.{◌≡◌, List, [], ◌∷◌}
+use Rattle.std.specs.Prelude.{List, [], ◌∷◌}
 use Rattle.blk_base.specs.declared.place.PageId.{PageId}
 use Rattle.blk_base.specs.declared.place.Pbn.{Pbn}
 use Rattle.blk_base.specs.declared.point.Point.{Point}
 use Rattle.page_codec.specs.declared.forms.MapPage.{MapPage}
 use Rattle.dirty_pages.specs.History.{Event, Changed, HandedOut, Written}
 use Rattle.blk_base.specs.Pages.{above}
+use Rattle.plain_laws.specs.Leads.{LeadsBy}
 use Rattle.block_map_tree.specs.Tree.{Tree, IsLinkable, Links, Expires, IsWriting, Writes}
 
 -- a page is linked, a page is handed out to be written, a page is reported as written
@@ -22,8 +23,7 @@ Leads old (Write page) new = IsWriting old page × Writes old new page
 
 -- calls lead from one tree to another
 abbrev pub LeadTo : Tree → List Call → Tree → Type 0
-LeadTo old [] new = new ≡ old
-LeadTo old (call ∷ calls) new = (between : Tree) × LeadTo old calls between × Leads between call new
+LeadTo old calls new = LeadsBy (λ call before after. Leads before call after) old calls new
 
 -- what a call does to pages; a link changes the page above
 abbrev pub event_of : Call → Event

@@ -2,6 +2,7 @@
 use Rattle.std.specs.Prelude.{◌≡◌, ◌≢◌, ◌≤◌, ◌⊎◌, List, [], ◌∷◌, Option, None, Some}
 use Rattle.blk_base.specs.declared.place.PageId.{PageId}
 use Rattle.blk_base.specs.declared.point.Point.{Point}
+use Rattle.plain_laws.specs.Leads.{LeadsBy}
 use Rattle.dirty_pages.specs.declared.marks.Marks.{Marks}
 use Rattle.dirty_pages.specs.Marks.{changed_at, handed_out, settled}
 
@@ -44,8 +45,7 @@ Becomes (Written other) page old new = ((other ≡ page) × (new ≡ settled old
 
 -- the marks of a page after these events
 abbrev pub IsAfter : Marks → List Event → PageId → Marks → Type 0
-IsAfter old [] page new = new ≡ old
-IsAfter old (event ∷ events) page new = (between : Marks) × IsAfter old events page between × Becomes event page between new
+IsAfter old events page new = LeadsBy (λ event before after. Becomes event page before after) old events new
 
 -- the point is there and is at most this one
 pub record AtMost (least : Option Point) (point : Point) : Type 0 where

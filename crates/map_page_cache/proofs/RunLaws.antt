@@ -7,6 +7,7 @@ use Rattle.std.proofs.lemmas.List.Elements.{Contains-push_cases}
 use Rattle.blk_base.specs.declared.place.PageId.{PageId}
 use Rattle.blk_base.specs.declared.point.Point.{Point}
 use Rattle.blk_base.proofs.PageIdLaws.{same_or_not}
+use Rattle.plain_laws.proofs.LeadLaws.{leads_keep}
 use Rattle.page_codec.specs.declared.forms.MapPage.{MapPage}
 use Rattle.dirty_pages.specs.declared.marks.Marks.{Marks}
 use Rattle.dirty_pages.specs.Marks.{HasPoint, IsLowPoint, AreClean, clean, marks_at, with_marks, changed_at, handed_out, settled}
@@ -123,8 +124,7 @@ call_keeps old new (HandOut page) leads = leads.2.form
 call_keeps old new (Write page) leads = leads.1.form
 
 pub calls_keep : (old new : CachedPages) (calls : List Call) → IsCache old → LeadTo old calls new → IsCache new
-calls_keep old new [] form same = subst (λ (c : CachedPages). IsCache c) (sym same) form
-calls_keep old new (call ∷ calls) form lead = call_keeps lead.0 new call lead.2
+calls_keep = leads_keep (λ call before after. Leads before call after) IsCache (λ call before after kept leads. call_keeps before after call leads)
 
 -- the marks of a page follow from what the calls do to it
 marks_more : (start : Marks) (old new : CachedPages) (call : Call) (calls : List Call) (page : PageId) → IsCache old → Leads old call new

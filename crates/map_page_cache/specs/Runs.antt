@@ -3,6 +3,7 @@ use Rattle.std.specs.Prelude.{ℕ, ◌≡◌, ◌≢◌, ◌⊎◌, List, [], �
 use Rattle.blk_base.specs.declared.place.PageId.{PageId}
 use Rattle.blk_base.specs.declared.place.Mapping.{Mapping}
 use Rattle.blk_base.specs.declared.point.Point.{Point}
+use Rattle.plain_laws.specs.Leads.{LeadsBy}
 use Rattle.page_codec.specs.declared.forms.MapPage.{MapPage}
 use Rattle.dirty_pages.specs.History.{Event, Changed, HandedOut, Written}
 use Rattle.map_page_cache.specs.CachedPages.{CachedPages, IsThere, IsAbsent, Fills, GivesUp, with_mapping, Sets, Expires, IsWriting, Writes}
@@ -23,8 +24,7 @@ Leads old (Write page) new = IsWriting old page × Writes old new page
 
 -- calls lead from one cache to another
 abbrev pub LeadTo : CachedPages → List Call → CachedPages → Type 0
-LeadTo old [] new = new ≡ old
-LeadTo old (call ∷ calls) new = (between : CachedPages) × LeadTo old calls between × Leads between call new
+LeadTo old calls new = LeadsBy (λ call before after. Leads before call after) old calls new
 
 -- what the calls do to pages; a page is installed as it is on the device
 abbrev pub events_of : List Call → List Event

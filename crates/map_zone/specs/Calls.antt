@@ -13,6 +13,7 @@ use Rattle.dirty_pages.specs.History.{Changed, Event, HandedOut, Written}
 use Rattle.page_codec.specs.Grammar.{IsPage}
 use Rattle.page_codec.specs.declared.forms.MapPage.{MapPage}
 use Rattle.blk_base.specs.Pages.{above}
+use Rattle.plain_laws.specs.Leads.{LeadsBy}
 use Rattle.map_page_cache.specs.CachedPages.{IsThere}
 use Rattle.map_zone.specs.declared.forms.Applied.TheVariants.{Done}
 use Rattle.map_zone.specs.Serving.{Applies, Installs, MayApply, MayInstall}
@@ -40,8 +41,7 @@ Leads old (Write page) new = IsOut old page × Settles old new page
 
 -- calls lead from one map to another
 abbrev pub LeadTo : ZoneMap → List Call → ZoneMap → Type 0
-LeadTo old [] new = new ≡ old
-LeadTo old (call ∷ calls) new = (between : ZoneMap) × LeadTo old calls between × Leads between call new
+LeadTo old calls new = LeadsBy (λ call before after. Leads before call after) old calls new
 
 -- the page that an entry changes: the leaf of its address, or the page above the new one
 abbrev pub changed_by : Entry → PageId

@@ -6,6 +6,7 @@ use Rattle.blk_base.specs.declared.geometry.Geometry.{Geometry}
 use Rattle.blk_base.specs.declared.point.Half.{Half}
 use Rattle.blk_base.specs.declared.point.Half.TheVariants.{Increment, Decrement}
 use Rattle.blk_base.specs.declared.point.Point.{Point}
+use Rattle.plain_laws.specs.Leads.{LeadsBy}
 use Rattle.slab_codec.specs.declared.forms.SlabEntry.{SlabEntry}
 use Rattle.dirty_pages.specs.Marks.{IsBeingWritten, marks_at}
 use Rattle.reference_blocks.specs.References.{References, HandsOutBlock, point_at, updated, written}
@@ -24,8 +25,7 @@ Does (Written block) old new = IsBeingWritten (marks_at old.blocks block) × (ne
 
 -- these calls, the newest first, lead from the one to the other
 abbrev pub LeadTo : References → List Call → References → Type 0
-LeadTo old [] new = new ≡ old
-LeadTo old (call ∷ calls) new = (before : References) × LeadTo old calls before × Does call before new
+LeadTo old calls new = LeadsBy Does old calls new
 
 -- the updates of these calls
 abbrev pub updates_of : List Call → List SlabEntry

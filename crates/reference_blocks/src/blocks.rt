@@ -104,7 +104,7 @@ impl ReferenceBlocks {
     pub fn is_being_written(&self, block: u64) -> bool
         ensures { IsTrue result ↔ IsBeingWritten (marks_at self.now.blocks block) }
     {
-        let count = self.layout.sectors_per_slab().div_ceil(8);
+        let count = self.layout.references();
         block < u64::from(count) && self.dirty.marks(block as usize).writing.is_some()
     }
 

@@ -6,6 +6,7 @@ use Rattle.std.proofs.lemmas.List.{length-set, set-get_or}
 use Rattle.blk_base.specs.Counters.{limit_of}
 use Rattle.blk_base.specs.declared.place.Pbn.{Pbn}
 use Rattle.blk_base.specs.declared.point.Half.TheVariants.{Increment, Decrement}
+use Rattle.plain_laws.proofs.LeadLaws.{leads_keep}
 use Rattle.slab_counts.specs.Counts.{Counts, IsOfSlab, HasRoom, offset_of, counter_of, claims_of, claimed, unclaimed, mapped, unmapped, with_page}
 use Rattle.slab_counts.specs.Kept.{IsWithin}
 use Rattle.slab_counts.specs.Calls.{Call, FreeClaimed, Shared, Extended, Dropped, Spent, PageSpent, Applied, Refused, Does, LeadTo, one_of, makes, drops, spends, maps, unmaps, total}
@@ -192,15 +193,12 @@ call_claims Refused old new block within here did = claimed_as old new old block
 -- lists of calls
 
 pub calls_same : (old new : Counts) (calls : List Call) → LeadTo old calls new → Same old new
-calls_same old new [] same = same_as old new old same (refl, refl)
-calls_same old new (call ∷ calls) (before, lead, did) =
-    let one = call_same call before new did in
-    let rest = calls_same old before calls lead in
-    (one.0 ∙ rest.0, one.1 ∙ rest.1)
+calls_same old new calls lead = leads_keep Does (Same old) (λ call before after rest did.
+    let one = call_same call before after did in
+    (one.0 ∙ rest.0, one.1 ∙ rest.1)) old new calls (refl, refl) lead
 
 pub calls_within : (old new : Counts) (calls : List Call) → IsWithin old → LeadTo old calls new → IsWithin new
-calls_within old new [] within same = within_as new old same within
-calls_within old new (call ∷ calls) within (before, lead, did) = call_within call before new (calls_within old before calls within lead) did
+calls_within = leads_keep Does IsWithin call_within
 
 pub calls_count : (old new : Counts) (calls : List Call) (block : Pbn) → IsWithin old → LeadTo old calls new → IsOfSlab old block
     → counter_of new block + total unmaps calls block ≡ counter_of old block + total maps calls block

@@ -3,6 +3,7 @@ use Rattle.std.specs.Prelude.{ℕ, ◌≡◌, ◌+◌, ◌==◌, if◌then◌els
 use Rattle.blk_base.specs.declared.place.Pbn.{Pbn}
 use Rattle.blk_base.specs.declared.point.Half.{Half}
 use Rattle.blk_base.specs.declared.point.Half.TheVariants.{Increment, Decrement}
+use Rattle.plain_laws.specs.Leads.{LeadsBy}
 use Rattle.slab_counts.specs.Counts.{Counts, IsOfSlab, IsClaimed, HasRoom, ClaimsFree, Shares, Takes, claimed, unclaimed, with_page}
 
 -- a call by what it answered: each that gave a claim has its block
@@ -29,8 +30,7 @@ Does Refused old new = new ≡ old
 
 -- these calls, the newest first, lead from the ones to the others
 abbrev pub LeadTo : Counts → List Call → Counts → Type 0
-LeadTo old [] new = new ≡ old
-LeadTo old (call ∷ calls) new = (before : Counts) × LeadTo old calls before × Does call before new
+LeadTo old calls new = LeadsBy Does old calls new
 
 -- 1 where the block is this one
 abbrev pub one_of : Pbn → Pbn → ℕ

@@ -18,6 +18,7 @@ use Rattle.std.proofs.lemmas.List.Elements.{All-nil, All-push, All-set, All-weak
 use Rattle.std.proofs.lemmas.List.Quantifiers.{position-Some}
 use Rattle.plain_laws.proofs.FirstLaws.{find-nowhere, find-none, remove-position, All-but_first}
 use Rattle.blk_base.specs.declared.place.Pbn.{Pbn}
+use Rattle.plain_laws.proofs.LeadLaws.{leads_keep}
 use Rattle.slab_counts.specs.declared.tickets.Ticket.{Ticket}
 use Rattle.slab_counts.specs.declared.tickets.Receipt.{Receipt}
 use Rattle.slab_tickets.specs.declared.forms.Waiting.{Waiting}
@@ -111,8 +112,7 @@ pub opened_behind : (zone room : ℕ) → IsBehind (empty_desk zone room)
 opened_behind zone room = record { strict = λ s now. cc; never = λ is. refl; waiting = All-nil (AskedBehind None) }
 
 calls_keep : (zone room : ℕ) (calls : List Call) (desk : Desk) → LeadTo (empty_desk zone room) calls desk → IsBehind desk
-calls_keep zone room [] desk same = behind_as desk (empty_desk zone room) same (opened_behind zone room)
-calls_keep zone room (call ∷ calls) desk (before, lead, did) = call_keeps call before desk (calls_keep zone room calls before lead) did
+calls_keep zone room calls desk lead = leads_keep Does IsBehind call_keeps (empty_desk zone room) desk calls (opened_behind zone room) lead
 
 -- a receipt is that of a ticket to which no block went
 receipt_of : (block : Option Pbn) (given receipt : Receipt) → Nothing receipt ≡ worth_of block given → (is_some block ≡ false) × (receipt.asked ≡ given.asked)

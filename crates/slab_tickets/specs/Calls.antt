@@ -2,6 +2,7 @@
 use Rattle.std.specs.Prelude.{ℕ, ◌≡◌, Bool, true, false, List, [], ◌∷◌, Option, None, Some}
 use Rattle.blk_base.specs.declared.place.Pbn.{Pbn}
 use Rattle.blk_base.specs.declared.request.Writer.{Writer}
+use Rattle.plain_laws.specs.Leads.{LeadsBy}
 use Rattle.slab_counts.specs.declared.tickets.Ticket.{Ticket}
 use Rattle.slab_counts.specs.declared.tickets.Receipt.{Receipt}
 use Rattle.slab_tickets.specs.declared.forms.Withdrawn.{Withdrawn}
@@ -24,8 +25,7 @@ Does (Withdrawn' ticket result) old new = Withdraws old new ticket result
 
 -- these calls, the newest first, lead from the one to the other
 abbrev pub LeadTo : Desk → List Call → Desk → Type 0
-LeadTo old [] new = new ≡ old
-LeadTo old (call ∷ calls) new = (before : Desk) × LeadTo old calls before × Does call before new
+LeadTo old calls new = LeadsBy Does old calls new
 
 -- the step under way after these calls
 abbrev pub step_of : List Call → Option ℕ

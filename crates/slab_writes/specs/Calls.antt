@@ -2,6 +2,7 @@
 use Rattle.std.specs.Prelude.{ℕ, ◌≡◌, ◌+◌, ◌/◌, ◌<◌, ◌⊎◌, List, [], ◌∷◌, ◌++◌, Contains}
 use Rattle.blk_base.specs.Counters.{sector_of_offset}
 use Rattle.blk_base.specs.declared.geometry.Geometry.{Geometry}
+use Rattle.plain_laws.specs.Leads.{LeadsBy}
 use Rattle.dirty_pages.specs.Marks.{IsBeingWritten, marks_at}
 use Rattle.reference_blocks.specs.References.{HandsOutBlock, updated}
 use Rattle.slab_codec.specs.declared.forms.SlabEntry.{SlabEntry}
@@ -32,8 +33,7 @@ Does (ReferenceDurable block) old new = IsBeingWritten (marks_at old.blocks.bloc
 
 -- these calls, the newest first, lead from the one to the other
 abbrev pub LeadTo : Writes → List Call → Writes → Type 0
-LeadTo old [] new = new ≡ old
-LeadTo old (call ∷ calls) new = (before : Writes) × LeadTo old calls before × Does call before new
+LeadTo old calls new = LeadsBy Does old calls new
 
 -- the updates of these calls
 abbrev pub updates_of : List Call → List SlabEntry

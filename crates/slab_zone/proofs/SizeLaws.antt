@@ -6,6 +6,7 @@ use Rattle.std.proofs.lemmas.Nat.{div-add-mod'}
 use Rattle.blk_base.specs.Points.{half_of}
 use Rattle.blk_base.specs.declared.geometry.Geometry.{Geometry}
 use Rattle.blk_base.specs.declared.place.Pbn.{Pbn}
+use Rattle.plain_laws.proofs.LeadLaws.{leads_keep}
 use Rattle.reference_blocks.specs.References.{References}
 use Rattle.slab_counts.specs.Counts.{Counts}
 use Rattle.slab_journal.specs.Slab.{Slab}
@@ -86,8 +87,7 @@ call_whole (Written n call) old new is did =
     subst (λ (z : WholeZone). IsWhole z) (sym did.after) (set_keeps old k did.slab is below (does_still call (writes_at old.writes k) did.slab did.does))
 
 pub calls_whole : (old new : WholeZone) (calls : List Call) → IsWhole old → LeadTo old calls new → IsWhole new
-calls_whole old new [] is same = subst (λ (z : WholeZone). IsWhole z) (sym same) is
-calls_whole old new (call ∷ calls) is (before, lead, did) = call_whole call before new (calls_whole old before calls is lead) did
+calls_whole = leads_keep Does IsWhole call_whole
 
 -- the calls as those on the counts
 pub counted_lead : (first z : WholeZone) (calls : List Call) → LeadTo first calls z → counts.LeadTo first.counts (counted_of calls) z.counts
@@ -104,11 +104,9 @@ pub record HasSizes (g : Geometry) (number many : ℕ) (z : Zone) : Type 0 where
   pub zones : z.zones ≡ many
 
 pub sizes_kept : (g : Geometry) (zone zones : ℕ) (old new : Zone) (calls : List counts.Call) → HasSizes g zone zones old → counts.LeadTo old calls new → HasSizes g zone zones new
-sizes_kept g zone zones old new [] has same = subst (λ (z : Zone). HasSizes g zone zones z) (sym same) has
-sizes_kept g zone zones old new (call ∷ calls) has (before, lead, did) =
-    let kept = sizes_kept g zone zones old before calls has lead in
-    let shape = call_shape call before new did in
-    record { geometry = shape.geometry ∙ kept.geometry; zone = shape.zone ∙ kept.zone; zones = shape.zones ∙ kept.zones }
+sizes_kept g zone zones = leads_keep counts.Does (HasSizes g zone zones) (λ call before after kept did.
+    let shape = call_shape call before after did in
+    record { geometry = shape.geometry ∙ kept.geometry; zone = shape.zone ∙ kept.zone; zones = shape.zones ∙ kept.zones })
 
 pub sizes_after : (g : Geometry) (zone zones : ℕ) (first z : WholeZone) (calls : List Call) → HasSizes g zone zones first.counts → LeadTo first calls z → HasSizes g zone zones z.counts
 sizes_after g zone zones first z calls has lead = sizes_kept g zone zones first.counts z.counts (counted_of calls) has (counted_lead first z calls lead)

@@ -6,6 +6,7 @@ use Rattle.blk_base.specs.Regions.{slab_start_of}
 use Rattle.blk_base.specs.declared.geometry.Geometry.{Geometry}
 use Rattle.blk_base.specs.declared.journal_entry.Update.{Update}
 use Rattle.blk_base.specs.declared.point.Point.{Point}
+use Rattle.plain_laws.specs.Leads.{LeadsBy}
 use Rattle.reference_blocks.specs.References.{point_at}
 use Rattle.slab_codec.specs.Spelling.{block_bytes}
 use Rattle.slab_codec.specs.declared.forms.SlabEntry.{SlabEntry}
@@ -54,8 +55,7 @@ Does (Written number call) old new = WritesSlab old new number call
 
 -- these calls, the newest first, lead from the one to the other
 abbrev pub LeadTo : WholeZone → List Call → WholeZone → Type 0
-LeadTo old [] new = new ≡ old
-LeadTo old (call ∷ calls) new = (before : WholeZone) × LeadTo old calls before × Does call before new
+LeadTo old calls new = LeadsBy Does old calls new
 
 -- those on the counts
 abbrev pub counted_of : List Call → List counts.Call

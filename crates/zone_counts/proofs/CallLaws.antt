@@ -6,6 +6,7 @@ use Rattle.std.proofs.lemmas.Nat.{div-add-mod'}
 use Rattle.blk_base.specs.Regions.{IsDataBlock, slab_start_of}
 use Rattle.blk_base.specs.declared.geometry.Geometry.{Geometry}
 use Rattle.blk_base.specs.declared.place.Pbn.{Pbn}
+use Rattle.plain_laws.proofs.LeadLaws.{leads_keep}
 use Rattle.slab_counts.specs.Counts.{Counts, IsOfSlab, IsClaimed, IsFree, HasNoFree, unclaimed, claimed, with_page}
 use Rattle.slab_counts.specs.Kept.{IsWithin}
 use Rattle.slab_counts.specs.Calls.{Shared, Extended, Dropped, Applied}
@@ -105,8 +106,7 @@ call_keeps (Applies half at counts) old new is did =
 call_keeps Refused old new is did = as_zone new old did is
 
 pub calls_keep : (old new : Zone) (calls : List Call) → IsZone old → LeadTo old calls new → IsZone new
-calls_keep old new [] is same = as_zone new old same is
-calls_keep old new (call ∷ calls) is (before, lead, did) = call_keeps call before new (calls_keep old before calls is lead) did
+calls_keep = leads_keep Does IsZone call_keeps
 
 -- the calls as those on the tickets
 record OnTickets (first : Desk) (desk : Desk) (last step : Option ℕ) : Type 0 where

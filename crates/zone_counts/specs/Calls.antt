@@ -3,6 +3,7 @@ use Rattle.std.specs.Prelude.{ℕ, ◌≡◌, Bool, true, List, [], ◌∷◌, O
 use Rattle.blk_base.specs.declared.place.Pbn.{Pbn}
 use Rattle.blk_base.specs.declared.point.Half.{Half}
 use Rattle.blk_base.specs.declared.request.Writer.{Writer}
+use Rattle.plain_laws.specs.Leads.{LeadsBy}
 use Rattle.slab_counts.specs.Counts.{Counts, HasRoom, Takes, claimed, unclaimed, with_page}
 use Rattle.slab_counts.specs.declared.tickets.Ticket.{Ticket}
 use Rattle.slab_counts.specs.declared.tickets.Receipt.{Receipt}
@@ -38,8 +39,7 @@ Does Refused old new = new ≡ old
 
 -- these calls, the newest first, lead from the one to the other
 abbrev pub LeadTo : Zone → List Call → Zone → Type 0
-LeadTo old [] new = new ≡ old
-LeadTo old (call ∷ calls) new = (before : Zone) × LeadTo old calls before × Does call before new
+LeadTo old calls new = LeadsBy Does old calls new
 
 -- the step under way after these calls
 abbrev pub step_of : List Call → Option ℕ
