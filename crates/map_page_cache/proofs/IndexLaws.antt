@@ -20,6 +20,13 @@ use Rattle.map_page_cache.specs.Index.{Index, HasSlot, Adds, Removes, AreInOrder
 page_total : IsTotalOrder page_order
 page_total = then_total (on_total (λ (p : PageId). p.tree) nat_cmp_total) (then_total (on_total (λ (p : PageId). p.level) nat_cmp_total) (on_total (λ (p : PageId). p.index) nat_cmp_total))
 
+-- what is before a page is behind none that it is before
+greater_less : (p q : PageId) → page_order p q ≡ Greater → page_order q p ≡ Less
+greater_less p q greater = page_total.antisymm q p ∙ ap ordering_reverse greater
+
+less_greater : (p q : PageId) → page_order p q ≡ Less → page_order q p ≡ Greater
+less_greater p q less = page_total.antisymm q p ∙ ap ordering_reverse less
+
 -- no page is before itself
 apart : (p q : PageId) → page_order p q ≡ Less → p ≡ q → ⊥
 apart p q less same =
@@ -49,8 +56,7 @@ searched entries page (Err place) order inside parted =
       found = tt;
       gap = record {
         inside = inside;
-        before = λ k d below. (parted sorted).0 k d (omega arith) below;
-        behind = λ k d from within. page_total.antisymm page _ ∙ ap ordering_reverse ((parted sorted).1 k d from within);
+        parted = parted sorted;
       };
     }
 
@@ -72,8 +78,8 @@ no_slot index page place gap = λ slot has.
     let entry : IndexEntry = record { page = page; slot = slot } in
     let same : (get_or index.entries has.0 entry).page ≡ page = ap (λ (e : IndexEntry). e.page) has.2 in
     elim (cases_lt has.0 place) [
-      | inl first ↦ apart _ _ (gap.before has.0 entry first) same
-      | inr last ↦ apart _ _ (gap.behind has.0 entry last has.1) (sym same)
+      | inl first ↦ apart _ _ (gap.parted.0 has.0 entry (omega arith) first) same
+      | inr last ↦ apart _ _ (greater_less (get_or index.entries has.0 entry).page page (gap.parted.1 has.0 entry last has.1)) (sym same)
     ]
 
 -- an element of a list with one more in it is that one, or an element without it
@@ -118,11 +124,11 @@ order-insert entries place entry order gap = λ i j d rising inside.
     elim (cases_lt j place) [
       | inl first ↦ moved _ _ _ _ (below i (omega arith)) (below j first) (order i j d rising (omega arith))
       | inr from ↦ elim (cases_eq j place) [
-        | inl at ↦ moved _ _ _ _ (below i (omega arith)) (here j at) (gap.before i d (omega arith))
+        | inl at ↦ moved _ _ _ _ (below i (omega arith)) (here j at) (gap.parted.0 i d (omega arith) (omega arith))
         | inr past ↦ elim (cases_lt i place) [
           | inl first ↦ moved _ _ _ _ (below i first) (above j (omega arith)) (order i (j - 1) d (omega arith) (omega arith))
           | inr behind ↦ elim (cases_eq i place) [
-            | inl at ↦ moved _ _ _ _ (here i at) (above j (omega arith)) (gap.behind (j - 1) d (omega arith) (omega arith))
+            | inl at ↦ moved _ _ _ _ (here i at) (above j (omega arith)) (greater_less (get_or entries (j - 1) d).page entry.page (gap.parted.1 (j - 1) d (omega arith) (omega arith)))
             | inr beyond ↦ moved _ _ _ _ (above i (omega arith)) (above j (omega arith)) (order (i - 1) (j - 1) d (omega arith) (omega arith))
           ]
         ]
@@ -175,10 +181,12 @@ removes room place entries page index is order found =
     let whole : before ++ get_or entries place d ∷ behind ≡ entries = ap (λ (es : List IndexEntry). before ++ es) (sym (drop-cons entries place d found.inside)) ∙ take-append-drop place entries in
     let gap : IsGapFor (remove entries place) page place = record {
       inside = let inside = found.inside in omega arith;
-      before = λ k e below. ap₂ (λ (i : IndexEntry) (p : PageId). page_order i.page p) (get_or-remove_below entries place e k below found.inside) (sym (found.named e))
-          ∙ order k place e below found.inside;
-      behind = λ k e from within. ap₂ (λ (p : PageId) (i : IndexEntry). page_order p i.page) (sym (found.named e)) (get_or-remove_above entries place e k from found.inside)
-          ∙ order place (k + 1) e (omega arith) (omega arith);
+      parted = (
+        (λ k e from below. ap₂ (λ (i : IndexEntry) (p : PageId). page_order i.page p) (get_or-remove_below entries place e k below found.inside) (sym (found.named e))
+            ∙ order k place e below found.inside),
+        (λ k e from within. ap₂ (λ (i : IndexEntry) (p : PageId). page_order i.page p) (get_or-remove_above entries place e k from found.inside) (sym (found.named e))
+            ∙ less_greater (get_or entries place e).page (get_or entries (k + 1) e).page (order place (k + 1) e (omega arith) (omega arith))),
+      );
     } in
     rw (← is) (record {
       room = refl;

@@ -1,6 +1,7 @@
 -- Which slot each page has.
-use Rattle.std.specs.Prelude.{ℕ, ◌≡◌, ◌≢◌, ◌<◌, ◌≤◌, ◌+◌, ◌⊎◌, List, [], length, Contains, slice_index_or}
-use Rattle.std.specs.declared.cmp.Ordering.TheVariants.{Less}
+use Rattle.std.specs.Prelude.{ℕ, ◌≡◌, ◌≢◌, ◌<◌, ◌≤◌, ◌+◌, ◌⊎◌, List, [], length, Contains, HoldsAt, AllPairs}
+use Rattle.std.specs.List.Sorted.{IsPartitionPoint}
+use Rattle.std.specs.declared.cmp.Ordering.TheVariants.{Less, Greater}
 use Rattle.blk_base.specs.declared.place.PageId.{PageId}
 use Rattle.blk_base.specs.Pages.{page_order}
 use Rattle.map_page_cache.specs.declared.index.IndexEntry.{IndexEntry}
@@ -36,16 +37,14 @@ pub record Removes (old new : Index) (page : PageId) : Type 0 where
 
 -- the entries are in the order of their pages, no two of which are equal
 abbrev pub AreInOrder : List IndexEntry → Type 0
-AreInOrder entries =
-    (i j : ℕ) (d : IndexEntry) → i < j → j < length entries → page_order (slice_index_or entries i d).page (slice_index_or entries j d).page ≡ Less
+AreInOrder entries = AllPairs (λ one other. page_order one.page other.page ≡ Less) entries
 
 -- the entry of the page stands here
 pub record IsPlaceOf (entries : List IndexEntry) (page : PageId) (place : ℕ) : Type 0 where
   pub inside : place < length entries
-  pub named : (d : IndexEntry) → (slice_index_or entries place d).page ≡ page
+  pub named : HoldsAt (λ entry. entry.page ≡ page) entries place
 
 -- an entry of the page would stand here, and there is none
 pub record IsGapFor (entries : List IndexEntry) (page : PageId) (place : ℕ) : Type 0 where
   pub inside : place ≤ length entries
-  pub before : (k : ℕ) (d : IndexEntry) → k < place → page_order (slice_index_or entries k d).page page ≡ Less
-  pub behind : (k : ℕ) (d : IndexEntry) → place ≤ k → k < length entries → page_order page (slice_index_or entries k d).page ≡ Less
+  pub parted : IsPartitionPoint (λ entry. page_order entry.page page ≡ Less) (λ entry. page_order entry.page page ≡ Greater) entries place

@@ -6,15 +6,12 @@ ghost use Rattle.recovery_journal.specs.Log.{opening, head_of, first_point, unha
 use crate::Place;
 use crate::new_entry::enter;
 use crate::watermarks::{count_durable, first_needed, first_sequence, leave_out, sequence_of};
-use blk_base::{CommittedEntry, Entry, Geometry, Half, Point, raise, repeated};
+use blk_base::{CommittedEntry, Entry, Geometry, Half, JOURNAL_ENTRIES, Point, raise, repeated};
 use journal_codec::{Entries, JournalBlock};
 use std::alloc::{AllocError, Global};
 use std::collections::VecDeque;
 use std::marker::Model;
 use std::mem::replace;
-
-/// How many entries a block has at most.
-const PER_BLOCK: usize = 192;
 
 /// The recovery journal of a session, and what each zone still needs of it.
 #[derive(Drop)]
@@ -24,7 +21,7 @@ pub struct Journal {
     size: u64,
     // The sequence of the block being filled, and its entries.
     sequence: u64,
-    filling: Entries<PER_BLOCK>,
+    filling: Entries<JOURNAL_ENTRIES>,
     // The entries of sealed blocks that some zone still needs, of which the first `handed` were handed out.
     entries: VecDeque<CommittedEntry>,
     handed: usize,
@@ -109,7 +106,7 @@ impl Journal {
     {
         let first = Point::of(start, 0, Half::Increment);
         let marks = repeated(alloc, first, zones as usize)?;
-        let entries = VecDeque::with_capacity(alloc, geometry.journal as usize * PER_BLOCK)?;
+        let entries = VecDeque::with_capacity(alloc, geometry.journal as usize * JOURNAL_ENTRIES)?;
         Ok(Journal {
             nonce: geometry.nonce,
             size: u64::from(geometry.journal),

@@ -194,11 +194,11 @@ not_its_place = λ is. let names = is.named (one 0 0) in by names
     by same = unequal 3 7 (ap first same) (omega arith)
 
 gap : IsGapFor two (5 ∷ []) 1
-gap = record { inside = omega arith; before = first; behind = last }
+gap = record { inside = omega arith; parted = (first, last) }
   where
-    first : (k : ℕ) (d : Record) → k < 1 → IsUnder (5 ∷ []) (get_or two k d)
-    first zero d below = refl
-    first (suc k) d below = absurd (omega arith)
+    first : (k : ℕ) (d : Record) → 0 ≤ k → k < 1 → IsUnder (5 ∷ []) (get_or two k d)
+    first zero d from below = refl
+    first (suc k) d from below = absurd (omega arith)
 
     last : (k : ℕ) (d : Record) → 1 ≤ k → k < 2 → IsOver (5 ∷ []) (get_or two k d)
     last zero d from within = absurd (omega arith)
@@ -206,10 +206,10 @@ gap = record { inside = omega arith; before = first; behind = last }
     last (suc (suc k)) d from within = absurd (omega arith)
 
 not_the_gap_in_front : ¬ IsGapFor two (5 ∷ []) 0
-not_the_gap_in_front = λ is. let over = is.behind 0 (one 0 0) (omega arith) (omega arith) in cc
+not_the_gap_in_front = λ is. let over = is.parted.1 0 (one 0 0) (omega arith) (omega arith) in cc
 
 not_the_gap_behind : ¬ IsGapFor two (5 ∷ []) 2
-not_the_gap_behind = λ is. let under = is.before 1 (one 0 0) (omega arith) in cc
+not_the_gap_behind = λ is. let under = is.parted.0 1 (one 0 0) (omega arith) (omega arith) in cc
 
 -- a name, and records with names that rise
 

@@ -56,8 +56,7 @@ searched records name (Err place) rising inside parted =
       found = tt;
       gap = record {
         inside = inside;
-        before = λ k d below. (parted sorted).0 k d (omega arith) below;
-        behind = λ k d from within. (parted sorted).1 k d from within;
+        parted = parted sorted;
       };
     }
 

@@ -104,8 +104,10 @@ named name bytes same size below = subst IsName same (record { size = size; byte
 gap-tail : (name : List ℕ) (one : Record) (records : List Record) (place : ℕ) → IsGapFor (one ∷ records) name (suc place) → IsGapFor records name place
 gap-tail name one records place gap = let inside = gap.inside in record {
   inside = omega arith;
-  before = λ k d below. gap.before (suc k) d (omega arith);
-  behind = λ k d from within. gap.behind (suc k) d (omega arith) (omega arith);
+  parted = (
+    (λ k d from below. gap.parted.0 (suc k) d (omega arith) (omega arith)),
+    (λ k d from within. gap.parted.1 (suc k) d (omega arith) (omega arith)),
+  );
 }
 
 place-tail : (name : List ℕ) (one : Record) (records : List Record) (place : ℕ) → IsPlaceOf (one ∷ records) name (suc place) → IsPlaceOf records name place
@@ -121,10 +123,10 @@ pub with_record-gap : (new : Record) (records : List Record) (place : ℕ) → I
 with_record-gap new [] zero gap = refl
 with_record-gap new [] (suc place) gap = let inside = gap.inside in absurd (omega arith)
 with_record-gap new (one ∷ records) zero gap =
-    let above = gap.behind 0 one (omega arith) (omega arith) in
+    let above = gap.parted.1 0 one (omega arith) (omega arith) in
     rw above refl
 with_record-gap new (one ∷ records) (suc place) gap =
-    let below = gap.before 0 one (omega arith) in
+    let below = gap.parted.0 0 one (omega arith) (omega arith) in
     rw below (ap (λ rest. one ∷ rest) (with_record-gap new records place (gap-tail new.name one records place gap)))
 
 pub with_record-place : (new : Record) (records : List Record) (place : ℕ) → AreRising records → IsPlaceOf records new.name place
@@ -148,9 +150,9 @@ location-place name (one ∷ records) (suc place) d rising at =
 pub location-gap : (name : List ℕ) (records : List Record) (place : ℕ) → IsGapFor records name place → location_of name records ≡ None
 location-gap name [] place gap = refl
 location-gap name (one ∷ records) zero gap =
-    no_location name (one ∷ records) (λ k d inside. above_apart _ name (gap.behind k d (omega arith) inside))
+    no_location name (one ∷ records) (λ k d inside. above_apart _ name (gap.parted.1 k d (omega arith) inside))
 location-gap name (one ∷ records) (suc place) gap =
-    further name one records (below_apart one.name name (gap.before 0 one (omega arith)))
+    further name one records (below_apart one.name name (gap.parted.0 0 one (omega arith) (omega arith)))
     ∙ location-gap name records place (gap-tail name one records place gap)
 
 -- the pages of a chapter

@@ -20,6 +20,6 @@ returns-in-Err-2 c =
     let first : 0 < c.in-Err.place = omega (arith, some) in
     let last : c.in-Err.place < length records = omega (arith, inside, c.if-place-records.false) in (
       location-gap name records c.in-Err.place gap,
-      any_at (IsUnder name) records 0 d (omega arith) (gap.before 0 d first),
-      any_at (IsOver name) records (length records - 1) d (omega arith) (gap.behind (length records - 1) d (omega arith) (omega arith)),
+      any_at (IsUnder name) records 0 d (omega arith) (gap.parted.0 0 d (omega arith) first),
+      any_at (IsOver name) records (length records - 1) d (omega arith) (gap.parted.1 (length records - 1) d (omega arith) (omega arith)),
     )
