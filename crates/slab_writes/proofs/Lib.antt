@@ -2,6 +2,7 @@ pub mod SectorLaws
 pub mod CallLaws
 pub mod DurableLaws
 pub mod OutLaws
+pub mod OneDue
 pub mod Rows
 pub mod CommitLaws
 pub mod HandedLaws

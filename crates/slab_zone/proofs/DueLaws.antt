@@ -11,9 +11,10 @@ use Rattle.slab_writes.specs.Writes.{Writes}
 use Rattle.slab_writes.specs.declared.forms.Need.{Need}
 use Rattle.slab_writes.specs.declared.forms.SlabWork.{SlabWork}
 use Rattle.slab_writes.proofs.OutLaws.{due_or_none}
+use Rattle.slab_writes.proofs.OneDue.{one_due}
 use Rattle.zone_counts.specs.Zone.{slab_at}
-use Rattle.slab_zone.specs.Whole.{nothing, writes_at}
-use Rattle.slab_zone.specs.Writing.{IsDueAmong, NoneDueBefore}
+use Rattle.slab_zone.specs.Whole.{nothing, writes_at, WholeZone}
+use Rattle.slab_zone.specs.Writing.{IsDueAmong, NoneDueBefore, IsDueIn}
 
 -- what is to be written of a slab, as it was read
 pub read_as : (writes : List Writes) (k : ℕ) (s : Writes) → k < length writes → s ≡ get_or writes k s → s ≡ writes_at writes k
@@ -58,3 +59,16 @@ one_slab need slabs old new new' bytes bytes' work work' one other = elim (cases
 
 pub due_or_none_in : (need : Need) (slabs : List Counts) (old new : List Writes) (bytes : List ℕ) (work : SlabWork) → IsDueAmong need slabs old new bytes work → NoneDueBefore need old (length old) → ⊥
 due_or_none_in need slabs old new bytes work due none = due_or_none need _ due.slab _ bytes work due.due (none due.place due.inside)
+
+-- and it is one block of it, with its bytes, and one zone behind it
+pub one_due_in : (need : Need) (old new new' : WholeZone) (bytes bytes' : List ℕ) (work work' : SlabWork) → IsDueIn need old new bytes work → IsDueIn need old new' bytes' work'
+    → (new ≡ new') × (bytes ≡ bytes') × (work ≡ work')
+one_due_in need old new new' bytes bytes' work work' one other =
+    let slabs = old.counts.slabs in
+    let place = one_slab need slabs old.writes new.writes new'.writes bytes bytes' work work' one.due other.due in
+    let there : IsDue need (writes_at old.writes one.due.place) other.due.slab (slab_at slabs one.due.place).counters bytes' work' =
+    subst (λ (k : ℕ). IsDue need (writes_at old.writes k) other.due.slab (slab_at slabs k).counters bytes' work') (sym place) other.due.due in
+    let both = one_due (writes_at old.writes one.due.place) one.due.slab other.due.slab (slab_at slabs one.due.place).counters bytes bytes' work work' need one.due.due there in
+    let writes : new.writes ≡ new'.writes =
+    one.due.after ∙ ap (λ (w : Writes). set old.writes one.due.place w) both.0 ∙ ap (λ (k : ℕ). set old.writes k other.due.slab) place ∙ sym other.due.after in
+    (one.same ∙ ap (λ (ws : List Writes). record old { writes = ws }) writes ∙ sym other.same, both.1, both.2)

@@ -121,12 +121,15 @@ pub fn every_update_below_the_low_point_is_durable()
         → NoneUnsettledIn new → IsDurableIn g slab calls entry }
 {}
 
-/// A block is handed out of the first slab that has one which isn't being written, so of one slab; and where it is, not each
-/// block that the need is for is being written.
+/// A block is handed out of the first slab that has one which isn't being written, so of one slab; and it is one block, with
+/// one content, and one zone behind it. Where one is, not each block that the need is for is being written.
 pub fn due_takes_the_first_slab()
     ensures slab { (need : Need) (old new new' : WholeZone) (bytes bytes' : List ℕ)
         (work work' : SlabWork) → (one : IsDueIn need old new bytes work)
         → (other : IsDueIn need old new' bytes' work') → one.due.place ≡ other.due.place }
+    ensures one { (need : Need) (old new new' : WholeZone) (bytes bytes' : List ℕ)
+        (work work' : SlabWork) → IsDueIn need old new bytes work →
+        IsDueIn need old new' bytes' work' → (new ≡ new') × (bytes ≡ bytes') × (work ≡ work') }
     ensures some { (need : Need) (old new : WholeZone) (bytes : List ℕ) (work : SlabWork) →
         IsDueIn need old new bytes work → ¬ NoneDueIn need old }
 {}

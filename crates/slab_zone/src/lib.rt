@@ -13,9 +13,6 @@
 //! of a call.
 //!
 //! Only tested: a block that goes to the older of two tickets, an update that is written twice, refusals.
-//!
-//! No rows yet: `IsWhole`, `IsOpeningWhole`, `Does`, `LeadTo`, `IsDurableIn`, `entry_in`, `IsLowPointIn`, `NoneDueIn`
-//! and `NoneUnsettledIn`, of which the laws over every list of calls speak.
 #![tactic(auto)]
 
 mod due_writes;
