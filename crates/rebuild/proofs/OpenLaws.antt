@@ -28,7 +28,7 @@ use Rattle.journal_window.specs.States.{WindowState}
 use Rattle.replay_counts.specs.Recovered.{HasCounts}
 use Rattle.replay_map.proofs.HonestLaws.{all_shown}
 use Rattle.replay_map.specs.Replayed.{HasMap}
-use Rattle.session_opening.specs.Starts.{IsStart}
+use Rattle.session_opening.specs.Starts.{IsStart, AreLedTo}
 use Rattle.rebuild.proofs.FailLaws.{failed_after, read_is_last}
 use Rattle.rebuild.proofs.ReadLaws.{both_shown}
 use Rattle.rebuild.proofs.ShownLaws.{accepted, audit_last, enough, enough_behind, head_refused, last_here, one_behind, one_there, opened, window_opens, window_untouched}
@@ -78,8 +78,8 @@ module _ (tells honest : Bool) (head : Superblock) (window : WindowState) (befor
 
   pub fits_with : (contents : Contents) (opened : Opened) → IsGeometry head.geometry → AreContents tells honest head window before now contents → opened.head ≡ head
       → opened.counters.items ≡ contents.counts.counts.items → length opened.commits.items ≡ length contents.counts.sectors.items
-      → AreTrees (all_trees head.geometry) opened.pages.items → Fits opened
-  fits_with contents opened sizes are same counters commits pages =
+      → AreTrees (all_trees head.geometry) opened.pages.items → AreLedTo head.geometry opened.pages.items opened.tree_pages.items → Fits opened
+  fits_with contents opened sizes are same counters commits pages tree_pages =
       let geometry : head.geometry ≡ opened.head.geometry = sym (ap (λ (h : Superblock). h.geometry) same) in
       let g = head.geometry in record {
         sizes = subst IsGeometry geometry sizes;
@@ -88,6 +88,7 @@ module _ (tells honest : Bool) (head : Superblock) (window : WindowState) (befor
             (subst (λ (ns : List ℕ). All (λ (n : ℕ). n ≤ limit_of g) ns) (sym counters) are.limit);
         commits = subst (λ (h : Geometry). length opened.commits.items ≡ all_sectors h) geometry (commits ∙ are.sectors);
         pages = subst (λ (h : Geometry). AreTrees (all_trees h) opened.pages.items) geometry pages;
+        tree_pages = subst (λ (h : Geometry). AreLedTo h opened.pages.items opened.tree_pages.items) geometry tree_pages;
       }
 
   -- the faults of an audit come here too

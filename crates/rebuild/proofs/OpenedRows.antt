@@ -1,6 +1,6 @@
 -- What is promised of opening an image: small cases that are accepted, and for each clause that `OpeningRows` hasn't one that
 -- breaks it and is refused.
-use Rattle.std.proofs.Common.{ℕ, ◌≡◌, ◌*◌, ◌≤◌, Bool, true, false, List, [], ◌∷◌, All, length, replicate, Ok, Err, refl, sym, ◌∙◌, ap, subst, inl, inr, arith}
+use Rattle.std.proofs.Common.{ℕ, ◌≡◌, ◌*◌, ◌≤◌, Bool, true, false, List, [], ◌∷◌, All, length, replicate, Ok, Err, refl, sym, ◌∙◌, ap, subst, inl, inr, arith, Contains}
 use Rattle.std.proofs.lemmas.List.Elements.{All-replicate}
 use Rattle.blk_base.specs.Counters.{limit_of}
 use Rattle.blk_base.specs.Limits.{IsGeometry}
@@ -29,7 +29,7 @@ use Rattle.replay_counts.specs.Recovered.{HasCounts, Holds}
 use Rattle.replay_map.specs.Reads.{Shows}
 use Rattle.replay_map.specs.Replayed.{HasMap}
 use Rattle.recovery_laws.specs.Kept.{image_in}
-use Rattle.session_opening.specs.Starts.{IsStart}
+use Rattle.session_opening.specs.Starts.{IsStart, AreLedTo}
 use Rattle.rebuild.proofs.ReadExample.{head_is_read, head_of, next_failed, no_entries, seen_failed, small_is, window_is_read}
 use Rattle.rebuild.proofs.RecoveryRows.{head_there, with_head}
 use Rattle.rebuild.proofs.Rows.{seen}
@@ -37,8 +37,10 @@ use Rattle.rebuild.proofs.ShownLaws.{audit_last}
 use Rattle.blk_base.specs.declared.opened.OpenedPage.{OpenedPage}
 use Rattle.block_map_tree.specs.Opening.{IsOpened, all_trees}
 use Rattle.replay_map.specs.Forms.{HasForm}
+use Rattle.replay_map.specs.declared.links.Link.{Link}
 use Rattle.session_opening.specs.Pages.{ArePages}
-use Rattle.session_opening.proofs.FormedLaws.{opened_all}
+use Rattle.session_opening.proofs.FormedLaws.{opened_all, led_to}
+use Rattle.session_opening.proofs.ListedLaws.{of_map}
 use Rattle.rebuild.specs.Openings.{CheckFails, Fits, HasWrongCount, IsCleanImage, IsOpenedFrom, IsOpenedWith, IsOpening, IsOpeningRefusal, IsOpeningResult, IsRight, OpenWithFails, OpeningFails, OpensRight}
 use Rattle.rebuild.specs.Recoveries.{IsTold}
 use Rattle.audit.specs.declared.forms.Contents.{Contents}
@@ -81,8 +83,8 @@ no_links = record {
 
 -- It fits its sizes: 64 counters, one commit point, and the roots of all trees.
 module _ (opened : Opened) (head : opened.head ≡ head_of true) where
-  fits_small : opened.counters.items ≡ replicate 64 0 → opened.commits.items ≡ record { 0 = 0 } ∷ [] → ArePages small [] opened.pages.items → Fits opened
-  fits_small counters commits pages =
+  fits_small : opened.counters.items ≡ replicate 64 0 → opened.commits.items ≡ record { 0 = 0 } ∷ [] → ArePages small [] opened.pages.items → opened.tree_pages.items ≡ [] → Fits opened
+  fits_small counters commits pages blocks =
       let within : All (λ (n : ℕ). n ≤ limit_of small) (replicate 64 0) = All-replicate (λ (n : ℕ). n ≤ limit_of small) 64 0 (omega arith) in
       record {
         sizes = subst (λ (h : Superblock). IsGeometry h.geometry) (sym head) small_is;
@@ -91,7 +93,18 @@ module _ (opened : Opened) (head : opened.head ≡ head_of true) where
             (subst (λ (ns : List ℕ). All (λ (n : ℕ). n ≤ limit_of small) ns) (sym counters) within);
         commits = ap length commits ∙ sym (ap (λ (h : Superblock). all_sectors h.geometry) head);
         pages = subst (λ (h : Superblock). IsOpened (all_trees h.geometry) opened.pages.items) (sym head) (opened_all small small_is [] [] no_links opened.pages.items pages);
+        tree_pages = subst (λ (h : Superblock). AreLedTo h.geometry opened.pages.items opened.tree_pages.items) (sym head)
+            (led_to small small_is [] [] no_links opened.pages.items pages opened.tree_pages.items blocks);
       }
+
+  -- tree_pages: no page leads to a block of the journal
+  a_block_of_the_journal : opened.tree_pages.items ≡ record { 0 = 1 } ∷ [] → Fits opened → ⊥
+  a_block_of_the_journal one fits =
+      let sizes = ap (λ (h : Superblock). h.geometry) head in
+      let link = of_map (λ (link : Link). link.at) fits.tree_pages.links (record { 0 = 1 })
+      (subst (λ (bs : List Pbn). Contains bs (record { 0 = 1 })) (sym one ∙ fits.tree_pages.listed) (0, omega arith, refl)) in
+      let block = (fits.tree_pages.each link.0 link.1).0.data_block in
+      omega (arith, block.stands, ap (λ (b : Pbn). b.0) link.2)
 
   -- pages
   no_roots : opened.pages.items ≡ [] → Fits opened → ⊥

@@ -25,7 +25,7 @@ use Rattle.journal_window.specs.Reads.{Fails}
 use Rattle.journal_window.specs.States.{WindowState}
 use Rattle.replay_counts.specs.Recovered.{HasCounts}
 use Rattle.replay_map.specs.Replayed.{HasMap}
-use Rattle.session_opening.specs.Starts.{IsStart}
+use Rattle.session_opening.specs.Starts.{IsStart, AreLedTo}
 use Rattle.rebuild.specs.Recoveries.{IsTold, IsUnclean}
 use Rattle.audit.specs.declared.forms.Contents.{Contents}
 
@@ -46,13 +46,15 @@ pub record HasWrongCount (image : Image) (at : Pbn) (stored mapped : ℕ) : Type
   pub wrong : IsCountsFault image at stored mapped
 
 -- What it has fits its sizes, on any device: its counters and commit points, and its pages, which are the roots of all trees
--- and each page that one of them leads to and that is no leaf, once and at its block.
+-- and each page that one of them leads to and that is no leaf, once and at its block; and the blocks to which these lead, of
+-- each page one.
 pub record Fits (opened : Opened) : Type 0 where
   pub sizes : IsGeometry opened.head.geometry
   pub counters : length opened.counters.items ≡ all_blocks opened.head.geometry
   pub limit : All (λ counter. counter ≤ limit_of opened.head.geometry) opened.counters.items
   pub commits : length opened.commits.items ≡ all_sectors opened.head.geometry
   pub pages : IsOpened (all_trees opened.head.geometry) opened.pages.items
+  pub tree_pages : AreLedTo opened.head.geometry opened.pages.items opened.tree_pages.items
 
 -- By the map and the counts that were read.
 

@@ -1,5 +1,5 @@
 -- The pages that are made of links of the form of a block map are those of all its trees, on any device.
-use Rattle.std.proofs.Common.{ℕ, zero, suc, ◌≡◌, ◌+◌, ◌-◌, ◌*◌, ◌/◌, ◌%◌, ◌^◌, ◌<◌, ◌≤◌, Option, Some, None, IsSome, List, ◌++◌, reverse, Contains, get_or, slice_index_or, refl, sym, ◌∙◌, ap, ap₂, subst, inl, inr, arith}
+use Rattle.std.proofs.Common.{ℕ, zero, suc, ◌≡◌, ◌+◌, ◌-◌, ◌*◌, ◌/◌, ◌%◌, ◌^◌, ◌<◌, ◌≤◌, Option, Some, None, IsSome, List, ◌++◌, reverse, Contains, get_or, slice_index_or, refl, sym, ◌∙◌, ap, ap₂, subst, inl, inr, arith, map}
 use Rattle.std.specs.List.{AllPairs}
 use Rattle.std.proofs.Math.Nat.{mul-le-mul_left, mul-le-mul_right}
 use Rattle.std.proofs.lemmas.Bool.{cases_lt}
@@ -28,6 +28,7 @@ use Rattle.session_opening.proofs.PlaceLaws.{block_linked, linked_has}
 use Rattle.replay_map.specs.Links.{root_link}
 use Rattle.session_opening.specs.Pages.{ArePages, roots_below}
 use Rattle.session_opening.specs.Places.{AreLeading, block_by, mapping_to}
+use Rattle.session_opening.specs.Starts.{AreLedTo}
 
 -- a page of the levels that there are has a small number
 few_pages : (levels : ℕ) → levels ≤ 2 → PAGE_SLOTS ^ levels ≤ 659344
@@ -224,6 +225,25 @@ module _ (g : Geometry) (sizes : IsGeometry g) (links : List Link) (slots : List
   at_block : (o : Option Pbn) (at : Pbn) → mapping_to o ≡ At at → IsSome o
   at_block None at is = absurd cc
   at_block (Some other) at is = refl
+
+  block_to : (o : Option Pbn) (at : Pbn) → mapping_to o ≡ At at → o ≡ Some at
+  block_to None at is = absurd cc
+  block_to (Some other) at is = cc
+
+  -- the blocks of the links are those to which the opened pages lead
+  pub led_to : (blocks : List Pbn) → blocks ≡ map (λ (link : Link). link.at) links → AreLedTo g pages blocks
+  led_to blocks are = record {
+    links = links;
+    each = λ link has. (form.each link has, led link has);
+    every = λ page at is.
+        let of = linked_of l named pages made.linked is.parent is.listed in
+        let few = few_of of.0 (of_named of.0 of.1) in
+        let index : page.index / PAGE_SLOTS ≡ of.0.page.index = ap (λ (p : PageId). p.index) (sym is.named ∙ of.2) in
+        let to : mapping_to (block_by l page) ≡ At at = sym (leads is.parent of.0 page is.named of.2 (omega (arith, few, index)) of.4) ∙ is.leads in
+        of_reverse links (record { page = page; at = at }) (block_linked l page at (block_to (block_by l page) at to));
+    once = form.once;
+    listed = are;
+  }
 
   pub opened_all : IsOpened (all_trees g) pages
   opened_all = record {

@@ -1,8 +1,9 @@
 -- For each clause of the definitions a small case that it accepts, and one that breaks it alone and is refused.
-use Rattle.std.proofs.Common.{ℕ, ◌≡◌, ◌+◌, ◌*◌, ◌^◌, List, [], ◌∷◌, length, replicate, Option, Some, None, Ok, refl, sym, ◌∙◌, ap, subst, inr, arith, length-append}
-use Rattle.std.proofs.lemmas.List.{get_or-replicate}
+use Rattle.std.proofs.Common.{ℕ, ◌≡◌, ◌+◌, ◌*◌, ◌^◌, List, [], ◌∷◌, length, replicate, Option, Some, None, Ok, refl, sym, ◌∙◌, ap, subst, inr, arith, length-append, zero, suc, ◌<◌, Contains, get_or, slice_index_or}
+use Rattle.std.proofs.lemmas.List.{get_or-replicate, length-map}
 use Rattle.std.specs.BTreeMap.{get}
 use Rattle.std.specs.declared.cmp.Ordering.TheVariants.{Less, Equal}
+use Rattle.std.proofs.lemmas.List.Elements.{Contains-get_or}
 use Rattle.blk_base.specs.declared.geometry.Super.{Super}
 use Rattle.blk_base.specs.declared.layout.DataPlace.{DataPlace}
 use Rattle.blk_base.specs.declared.opened.Opened.{Opened}
@@ -10,7 +11,9 @@ use Rattle.blk_base.specs.declared.opened.OpenedPage.{OpenedPage}
 use Rattle.blk_base.specs.declared.place.Mapping.{Mapping}
 use Rattle.blk_base.specs.declared.place.Mapping.TheVariants.{Unmapped, Zero, At}
 use Rattle.blk_base.specs.declared.place.Pbn.{Pbn}
-use Rattle.blk_base.specs.Pages.{page_order}
+use Rattle.blk_base.specs.Pages.{page_order, above, slot_of}
+use Rattle.blk_base.specs.declared.place.PageId.{PageId}
+use Rattle.blk_base.proofs.PageIdLaws.{same_page}
 use Rattle.image_model.proofs.CountLaws.{is_first, none_in_nothing, one_stored}
 use Rattle.image_model.proofs.Example.{pbn, small}
 use Rattle.image_model.proofs.MapRows.{page, root, with_root}
@@ -29,9 +32,12 @@ use Rattle.session_opening.proofs.PageLaws.{none_added}
 use Rattle.session_opening.proofs.PlaceLaws.{inner_more, none_placed}
 use Rattle.session_opening.specs.declared.places.Places.{Places}
 use Rattle.replay_map.specs.Links.{root_link}
+use Rattle.replay_map.specs.Forms.{IsLinkOf}
 use Rattle.session_opening.specs.Pages.{AreAdded, AreLinked, ArePages, roots_below}
 use Rattle.session_opening.specs.Places.{AreInner, AreLeading, ArePlaces, LeadsTo, block_by}
-use Rattle.session_opening.specs.Starts.{AreCommits, AreCounters, AreInnerPages, ArePageBlocks, IsInnerPage, IsStart}
+use Rattle.session_opening.specs.Starts.{AreCommits, AreCounters, AreInnerPages, ArePageBlocks, IsInnerPage, IsStart, AreLedTo}
+use Rattle.session_opening.proofs.ListedLaws.{in_map, of_map}
+use Rattle.block_map_tree.specs.Opening.{IsLed}
 
 -- An image whose root of tree 0 has a page without mappings.
 abbrev head_of_root : PageHead
@@ -256,6 +262,90 @@ module _ (blocks : List (List ℕ)) (nothing : HasNothing (record { geometry = s
 
   other_commit : commit_at small blocks 0 0 ≡ 7 → AreCommits unused (record { 0 = 8 } ∷ []) → ⊥
   other_commit is are = let same : 8 ≡ 7 = are.each 0 0 (omega arith) (omega arith) ∙ is in omega (arith, same)
+
+-- The blocks to which opened pages lead: the first slot of the root of tree 0 leads to a leaf at 90.
+abbrev leading : ℕ → OpenedPage
+leading block = record { page = page 0 1 0; at = pbn 9; mappings = At (pbn block) ∷ [] }
+
+leaf_led : IsLed (leading 90 ∷ []) (page 0 0 0) (pbn 90)
+leaf_led = record { parent = leading 90; listed = (0, omega arith, refl); named = refl; leads = refl }
+
+only_leaf : (p : PageId) (at : Pbn) → IsLed (leading 90 ∷ []) p at → (p ≡ page 0 0 0) × (at ≡ pbn 90)
+only_leaf p at is = from is.parent is.listed is.named is.leads
+  where
+    by : (slot : ℕ) → slot_of p ≡ slot → page 0 1 0 ≡ above p → slice_index_or (At (pbn 90) ∷ []) slot Unmapped ≡ At at → (p ≡ page 0 0 0) × (at ≡ pbn 90)
+    by zero first up there =
+        let tree = ap (λ (q : PageId). q.tree) up in
+        let level = ap (λ (q : PageId). q.level) up in
+        let index = ap (λ (q : PageId). q.index) up in
+        let block : At (pbn 90) ≡ At at = there in (
+          same_page p (page 0 0 0) (sym tree) (omega (arith, level)) (omega (arith, index, first)),
+          sym (ap (λ (n : ℕ). pbn n) (ap block_number block)),
+        )
+      where
+        block_number : Mapping → ℕ
+        block_number Unmapped = 0
+        block_number Zero = 0
+        block_number (At b) = b.0
+    by (suc k) other up there = absurd cc
+
+    from : (parent : OpenedPage) → Contains (leading 90 ∷ []) parent → parent.page ≡ above p → slice_index_or parent.mappings (slot_of p) Unmapped ≡ At at
+        → (p ≡ page 0 0 0) × (at ≡ pbn 90)
+    from parent (zero, inside, same) named leads =
+        by (slot_of p) refl (ap (λ (o : OpenedPage). o.page) same ∙ named) (ap (λ (o : OpenedPage). slice_index_or o.mappings (slot_of p) Unmapped) same ∙ leads)
+    from parent (suc k, inside, same) named leads = absurd (omega (arith, inside))
+
+leaf_link : IsLinkOf small (link 0 0 90)
+leaf_link = record {
+  page = record { tree = omega arith; level = omega arith; index = omega arith };
+  below = omega arith;
+  data_block = record { slab = 0; offset = 5; inside = (omega arith, omega arith); stands = refl };
+}
+
+one_block : AreLedTo small (leading 90 ∷ []) (pbn 90 ∷ [])
+one_block = record {
+  links = link 0 0 90 ∷ [];
+  each = each;
+  every = λ p at is.
+      let only = only_leaf p at is in
+      subst (λ (q : PageId). Contains (link 0 0 90 ∷ []) (record { page = q; at = at })) (sym only.0)
+      (subst (λ (b : Pbn). Contains (link 0 0 90 ∷ []) (record { page = page 0 0 0; at = b })) (sym only.1) (is_first (link 0 0 90) []));
+  once = λ i j d less inside. absurd (omega (arith, less, inside));
+  listed = refl;
+}
+  where
+    each : (l : Link) → Contains (link 0 0 90 ∷ []) l → IsLinkOf small l × IsLed (leading 90 ∷ []) l.page l.at
+    each l (zero, inside, same) = subst (λ (x : Link). IsLinkOf small x × IsLed (leading 90 ∷ []) x.page x.at) same (leaf_link, leaf_led)
+    each l (suc k, inside, same) = absurd (omega (arith, inside))
+
+-- every: one is left out
+left_out : AreLedTo small (leading 90 ∷ []) [] → ⊥
+left_out are =
+    let found = are.every (page 0 0 0) (pbn 90) leaf_led in
+    none_in_nothing (pbn 90) (subst (λ (blocks : List Pbn). Contains blocks (pbn 90)) (sym are.listed) (in_map (λ (l : Link). l.at) are.links (link 0 0 90) found))
+
+-- each: none leads there, or there is no data block
+led_elsewhere : AreLedTo small (leading 90 ∷ []) (pbn 91 ∷ []) → ⊥
+led_elsewhere are =
+    let found = of_map (λ (l : Link). l.at) are.links (pbn 91) (subst (λ (blocks : List Pbn). Contains blocks (pbn 91)) are.listed (is_first (pbn 91) [])) in
+    let only = only_leaf found.0.page found.0.at (are.each found.0 found.1).1 in
+    omega (arith, ap (λ (b : Pbn). b.0) (sym only.1 ∙ found.2))
+
+led_to_a_root : AreLedTo small (leading 10 ∷ []) (pbn 10 ∷ []) → ⊥
+led_to_a_root are =
+    let found = of_map (λ (l : Link). l.at) are.links (pbn 10) (subst (λ (blocks : List Pbn). Contains blocks (pbn 10)) are.listed (is_first (pbn 10) [])) in
+    let block = (are.each found.0 found.1).0.data_block in
+    omega (arith, block.stands, ap (λ (b : Pbn). b.0) found.2)
+
+-- once: the block of one page twice
+block_twice : AreLedTo small (leading 90 ∷ []) (pbn 90 ∷ pbn 90 ∷ []) → ⊥
+block_twice are =
+    let size : 2 ≡ length are.links = ap (λ (blocks : List Pbn). length blocks) are.listed ∙ length-map are.links (λ (l : Link). l.at) in
+    let d = link 0 0 90 in
+    let named : (k : ℕ) → k < 2 → (get_or are.links k d).page ≡ page 0 0 0 = λ k below.
+    let there = are.each (get_or are.links k d) (Contains-get_or are.links k d (omega (arith, size, below))) in
+    (only_leaf (get_or are.links k d).page (get_or are.links k d).at there.1).0 in
+    are.once 0 1 d (omega arith) (omega (arith, size)) (named 0 (omega arith) ∙ sym (named 1 (omega arith)))
 
 -- What a session starts with: another superblock, pages, counters, commit points or blocks of pages are refused.
 module _ (head : Super) (start : Opened) where

@@ -1,5 +1,5 @@
 -- What a session starts with, of an image.
-use Rattle.std.specs.Prelude.{ℕ, ◌≡◌, ◌+◌, ◌*◌, ◌<◌, ◌↔◌, List, length, Contains, Some, Ok, slice_index, slice_index_or}
+use Rattle.std.specs.Prelude.{ℕ, ◌≡◌, ◌+◌, ◌*◌, ◌<◌, ◌↔◌, List, length, map, Contains, Some, Ok, slice_index, slice_index_or}
 use Rattle.std.specs.List.{AllPairs}
 use Rattle.blk_base.specs.Counters.{sectors_per_slab}
 use Rattle.blk_base.specs.declared.geometry.Super.{Super}
@@ -11,11 +11,15 @@ use Rattle.blk_base.specs.declared.place.PageId.{PageId}
 use Rattle.blk_base.specs.declared.place.Pbn.{Pbn}
 use Rattle.blk_base.specs.declared.point.Point.{Point}
 use Rattle.blk_base.specs.declared.sizes.TheConstants.{PAGE_SLOTS}
+use Rattle.blk_base.specs.declared.geometry.Geometry.{Geometry}
+use Rattle.block_map_tree.specs.Opening.{IsLed}
 use Rattle.count_updates.specs.Counted.{commit_in}
 use Rattle.count_updates.specs.Numbers.{all_blocks, all_sectors, block_number}
 use Rattle.image_model.specs.Counts.{Stores, commit_at}
 use Rattle.image_model.specs.Maps.{Image, IsTreePage, page_at, says}
 use Rattle.image_model.specs.Sound.{IsDataPlace}
+use Rattle.replay_map.specs.Forms.{IsLinkOf}
+use Rattle.replay_map.specs.declared.links.Link.{Link}
 
 -- a page that is no leaf, at its block, with what its slots say
 pub record IsInnerPage (image : Image) (opened : OpenedPage) : Type 0 where
@@ -44,6 +48,14 @@ pub record AreCommits (image : Image) (commits : List Point) : Type 0 where
 -- the blocks of its linked pages that are no roots
 abbrev pub ArePageBlocks : Image → List Pbn → Type 0
 ArePageBlocks image blocks = (at : Pbn) → Contains blocks at ↔ IsTreePage image at
+
+-- Of any device: the blocks to which the slots of these pages lead, of each page below its tree's root one.
+pub record AreLedTo (g : Geometry) (pages : List OpenedPage) (blocks : List Pbn) : Type 0 where
+  pub links : List Link
+  pub each : (link : Link) → Contains links link → IsLinkOf g link × IsLed pages link.page link.at
+  pub every : (page : PageId) (at : Pbn) → IsLed pages page at → Contains links (record { page = page; at = at })
+  pub once : AllPairs (λ (first second : Link). first.page ≡ second.page → ⊥) links
+  pub listed : blocks ≡ map (λ link. link.at) links
 
 -- what a session starts with on an image with this superblock
 pub record IsStart (image : Image) (head : Super) (opened : Opened) : Type 0 where

@@ -5,7 +5,7 @@ ghost use Rattle.image_model.specs.Maps.{Image};
 ghost use Rattle.replay_counts.specs.Recovered.{HasCounts};
 ghost use Rattle.replay_map.specs.Forms.{HasForm};
 ghost use Rattle.replay_map.specs.Replayed.{HasMap};
-ghost use Rattle.session_opening.specs.Starts.{IsStart};
+ghost use Rattle.session_opening.specs.Starts.{AreLedTo, IsStart};
 
 use crate::counts::{blocks_of, commits_of, counters_of};
 use crate::pages::pages_of;
@@ -15,8 +15,8 @@ use replay_map::RecoveredMap;
 use std::alloc::{AllocError, Global};
 
 /// What a session starts with on the image with this superblock, this map and these counts. The map has the form of one, as
-/// replaying gives it of any device, and so have the opened pages. It takes the memory of it, and fails only where there is
-/// none.
+/// replaying gives it of any device, and so have the opened pages and the blocks to which they lead. It takes the memory of
+/// it, and fails only where there is none.
 pub fn opened_of(
     alloc: Global,
     head: &Super,
@@ -32,6 +32,8 @@ pub fn opened_of(
         IsStart image head.now opened) }
     ensures pages { IfOk result (λ opened.
         IsOpened (all_trees head.now.geometry) opened.pages.items) }
+    ensures tree_pages { IfOk result (λ opened.
+        AreLedTo head.now.geometry opened.pages.items opened.tree_pages.items) }
     ensures head { IfOk result (λ opened. opened.head ≡ head.now) }
     ensures counters { IfOk result (λ opened. opened.counters.items ≡ counts.now.counts.items) }
     ensures commits { IfOk result (λ opened.

@@ -21,4 +21,4 @@ returns-clause-opened g c =
 pub returns-clause-fits : goal.returns-clause-fits
 returns-clause-fits g c =
     fits_with _ _ c.args.head.now c.args.window.now _ _ c.in_ok-contents.contents c.in-Ok.opened c.requires.sizes c.in_ok-contents.ensures.contents c.in-Ok.ensures.head c.in-Ok.ensures.counters
-    c.in-Ok.ensures.commits c.in-Ok.ensures.pages
+    c.in-Ok.ensures.commits c.in-Ok.ensures.pages c.in-Ok.ensures.tree_pages

@@ -1,7 +1,7 @@
 use Rattle.std.proofs.Common.{reverse, refl, sym, subst}
 use Rattle.blk_base.specs.Limits.{IsGeometry}
 use Rattle.blk_base.specs.declared.geometry.Geometry.{Geometry}
-use Rattle.session_opening.proofs.FormedLaws.{opened_all}
+use Rattle.session_opening.proofs.FormedLaws.{led_to, opened_all}
 use Rattle.session_opening.proofs.StartLaws.{is_start}
 use Rattle.session_opening.specs.Pages.{ArePages}
 use Rattle.session_opening.proofs.session_start.opened_of.Goals as goal
@@ -17,3 +17,8 @@ pub returns-clause-pages : goal.returns-clause-pages
 returns-clause-pages c =
     opened_all c.args.head.now.geometry c.requires.sizes c.args.map.now.links.items c.args.map.now.slots.items c.requires.form c.in_ok-pages.pages.items
     (rw (c.of-layout.ensures, c.deref.ensures.value) at c.in_ok-pages.ensures)
+
+pub returns-clause-tree_pages : goal.returns-clause-tree_pages
+returns-clause-tree_pages c =
+    led_to c.args.head.now.geometry c.requires.sizes c.args.map.now.links.items c.args.map.now.slots.items c.requires.form c.in_ok-pages.pages.items
+    (rw (c.of-layout.ensures, c.deref.ensures.value) at c.in_ok-pages.ensures) _ (rw c.deref-4.ensures.value at c.in_ok-tree_pages.ensures)
