@@ -1,12 +1,13 @@
 -- What the map of an image is that shows a list of entries.
 use Rattle.std.proofs.Common.{ℕ, zero, suc, ◌≡◌, ◌+◌, ◌-◌, ◌<◌, ◌&&◌, nat_lt, Bool, true, false, Option, Some, None, List, [], ◌∷◌, ◌++◌, refl, sym, ◌∙◌, ap, inl, inr, arith}
 use Rattle.std.proofs.lemmas.Bool.{lt-ltb, ltb-true, cases_Bool}
+use Rattle.std.proofs.Math.Nat.{mod-lt}
 use Rattle.blk_base.specs.declared.journal_entry.CommittedEntry.{CommittedEntry}
 use Rattle.blk_base.specs.declared.place.Mapping.{Mapping}
 use Rattle.blk_base.specs.declared.place.Mapping.TheVariants.{Unmapped}
 use Rattle.blk_base.specs.declared.place.PageId.{PageId}
 use Rattle.blk_base.specs.declared.place.Pbn.{Pbn}
-use Rattle.blk_base.specs.declared.sizes.TheConstants.{TREES}
+use Rattle.blk_base.specs.declared.sizes.TheConstants.{TREES, PAGE_SLOTS}
 use Rattle.blk_base.specs.Pages.{above, slot_of}
 use Rattle.disk_model.specs.Log.{Blocks}
 use Rattle.image_model.specs.Maps.{Image, put_by, put_last, or_else, says, target_of, linked_at, page_at, mapping_of}
@@ -35,16 +36,16 @@ module _ (opened : Image) (entries : List CommittedEntry) (blocks : Blocks) (win
   abbrev image : Image
   image = record { geometry = opened.geometry; blocks = blocks; window = window }
 
-  says_with : (page : PageId) (at : Pbn) (slot : ℕ) (put : Option Mapping) → page_after opened entries page ≡ Some at → put_last window page slot ≡ put
+  says_with : (page : PageId) (at : Pbn) (slot : ℕ) (put : Option Mapping) → page_after opened entries page ≡ Some at → slot < PAGE_SLOTS → put_last window page slot ≡ put
       → says image page at slot ≡ slot_after opened entries page slot
-  says_with page at slot (Some m) linked put =
+  says_with page at slot (Some m) linked small put =
       let last : put_last entries page slot ≡ Some m =
       ap (λ (list : List CommittedEntry). put_last list page slot) all ∙ put_append window reaped page slot ∙ ap (λ (o : Option Mapping). or_else o (put_last reaped page slot)) put in
       rw (put, slot_after, last) refl
-  says_with page at slot None linked put = let here = pages page at slot linked put in rw put here
+  says_with page at slot None linked small put = let here = pages page at slot linked small put in rw put here
 
-  says_after : (page : PageId) (at : Pbn) (slot : ℕ) → page_after opened entries page ≡ Some at → says image page at slot ≡ slot_after opened entries page slot
-  says_after page at slot linked = says_with page at slot (put_last window page slot) linked refl
+  says_after : (page : PageId) (at : Pbn) (slot : ℕ) → page_after opened entries page ≡ Some at → slot < PAGE_SLOTS → says image page at slot ≡ slot_after opened entries page slot
+  says_after page at slot linked small = says_with page at slot (put_last window page slot) linked small refl
 
   linked_same : (links : ℕ) (page : PageId) → page.tree < TREES → page.level + links + 1 ≡ opened.geometry.height → linked_at image links page ≡ linked_after opened entries links page
   linked_same zero page tree level = refl
@@ -60,7 +61,7 @@ module _ (opened : Image) (entries : List CommittedEntry) (blocks : Blocks) (win
           let in_height : nat_lt (page.level + 1) opened.geometry.height ≡ true = lt-ltb (page.level + 1) opened.geometry.height (omega (arith, level)) in
           let count : opened.geometry.height - 1 - (page.level + 1) ≡ links = omega (arith, level) in
           let there : page_after opened entries (above page) ≡ Some at = rw (in_tree, in_height, count) is in
-          ap target_of (says_after (above page) at (slot_of page) there)
+          ap target_of (says_after (above page) at (slot_of page) there (mod-lt page.index (omega arith)))
       next None is = refl
 
   page_same : (page : PageId) → page_at image page ≡ page_after opened entries page
@@ -79,7 +80,7 @@ module _ (opened : Image) (entries : List CommittedEntry) (blocks : Blocks) (win
 
   by_page_same : (address : ℕ) (o : Option Pbn) → page_after opened entries (leaf_of address) ≡ o
       → by_page (λ at. says image (leaf_of address) at (slot_of_address address)) o ≡ by_page (λ at. slot_after opened entries (leaf_of address) (slot_of_address address)) o
-  by_page_same address (Some at) is = says_after (leaf_of address) at (slot_of_address address) is
+  by_page_same address (Some at) is = says_after (leaf_of address) at (slot_of_address address) is (mod-lt address (omega arith))
   by_page_same address None is = refl
 
   mapping_same : (address : ℕ) → mapping_of image address ≡ mapping_after opened entries address

@@ -1,6 +1,6 @@
 -- The map that entries give, and the images that show it: for each definition what it gives or accepts, and what it refuses.
 -- The image is the one of the rows of maps: leaves of the trees 0 and 1 at 85 and 87, and address 5 at 86.
-use Rattle.std.proofs.Common.{ℕ, zero, suc, ◌≡◌, ◌+◌, ◌-◌, ◌*◌, ◌%◌, List, [], ◌∷◌, ◌++◌, length, replicate, Some, None, refl, sym, ◌∙◌, ap, subst, get_or, inl, inr, arith}
+use Rattle.std.proofs.Common.{ℕ, zero, suc, ◌≡◌, ◌+◌, ◌-◌, ◌*◌, ◌%◌, ◌<◌, List, [], ◌∷◌, ◌++◌, length, replicate, Some, None, refl, sym, ◌∙◌, ap, subst, get_or, inl, inr, arith}
 use Rattle.std.proofs.Math.Nat.{mod-lt}
 use Rattle.std.proofs.lemmas.Bool.{cases_Bool}
 use Rattle.blk_base.specs.Sectors.{sector, zero_block}
@@ -10,6 +10,7 @@ use Rattle.blk_base.specs.declared.place.Mapping.{Mapping}
 use Rattle.blk_base.specs.declared.place.Mapping.TheVariants.{Unmapped, Zero, At}
 use Rattle.blk_base.specs.declared.place.PageId.{PageId}
 use Rattle.blk_base.specs.declared.place.Pbn.{Pbn}
+use Rattle.blk_base.specs.declared.sizes.TheConstants.{PAGE_SLOTS}
 use Rattle.byte_fields.specs.Fields.{number_at}
 use Rattle.byte_fields.proofs.FieldLaws.{number_at-drop}
 use Rattle.std.proofs.lemmas.List.{drop-replicate}
@@ -126,7 +127,7 @@ newest_page_of_none = refl
 
 -- The pages show the entries: those of the opened image none.
 pages_as_they_were : ArePagesShown (image []) [] blocks []
-pages_as_they_were p at slot linked left =
+pages_as_they_were p at slot linked small left =
     let there : page_at (image []) p ≡ Some at = sym (page_with_none (image []) p) ∙ linked in sym (slot_of_page (image []) p at slot there)
 
 -- .. and neither where a page has another mapping, nor where it lacks one that the window has no more
@@ -156,7 +157,7 @@ no_entry = refl
 
 pages_with_another : ArePagesShown (image []) [] other_blocks [] → ⊥
 pages_with_another shown =
-    let same : 87 ≡ 86 = ap number_of (sym another ∙ shown (page 0 0 0) (pbn 85) 5 linked_leaf refl ∙ no_entry) in omega (arith, same)
+    let same : 87 ≡ 86 = ap number_of (sym another ∙ shown (page 0 0 0) (pbn 85) 5 linked_leaf (omega arith) refl ∙ no_entry) in omega (arith, same)
 
 linked_still : page_after (image []) (remap 5 Zero ∷ []) (page 0 0 0) ≡ Some (pbn 85)
 unfolding number_at
@@ -164,7 +165,20 @@ linked_still = refl
 
 pages_without_reaped : ArePagesShown (image []) (remap 5 Zero ∷ []) blocks [] → ⊥
 pages_without_reaped shown =
-    let same : 86 ≡ 0 = ap number_of (sym as_it_was ∙ shown (page 0 0 0) (pbn 85) 5 linked_still refl) in omega (arith, same)
+    let same : 86 ≡ 0 = ap number_of (sym as_it_was ∙ shown (page 0 0 0) (pbn 85) 5 linked_still (omega arith) refl) in omega (arith, same)
+
+-- Of a slot behind the last one of a page nothing is said; the last one counts.
+others_behind_the_last : (other : Blocks) → ((b slot : ℕ) → slot < PAGE_SLOTS → mapping_in (block_at other b) slot ≡ mapping_in (block_at blocks b) slot)
+    → ArePagesShown (image []) [] other []
+others_behind_the_last other same p at slot linked small left = same at.0 slot small ∙ pages_as_they_were p at slot linked small left
+
+none_in_the_last : slot_after (image []) [] (page 0 0 0) 811 ≡ Unmapped
+unfolding number_at
+none_in_the_last = refl
+
+another_in_the_last : (other : Blocks) → mapping_in (block_at other 85) 811 ≡ At (pbn 87) → ArePagesShown (image []) [] other [] → ⊥
+another_in_the_last other is shown =
+    let same : 87 ≡ 0 = ap number_of (sym is ∙ shown (page 0 0 0) (pbn 85) 811 linked_leaf (omega arith) refl ∙ none_in_the_last) in omega (arith, same)
 
 -- The image shows no entries: its journal has no block.
 no_block : (s h : ℕ) → IsThere small (journal_of small blocks) s h → ⊥

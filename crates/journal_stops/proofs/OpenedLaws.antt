@@ -143,8 +143,8 @@ no_first None y is = (refl, is)
 -- what is left to the pages by a window is left by one that has less
 pub pages_keep : (opened : Image) (entries : List CommittedEntry) (blocks : Blocks) (window behind : List CommittedEntry)
     → ArePagesShown opened entries blocks window → ArePagesShown opened entries blocks (window ++ behind)
-pages_keep opened entries blocks window behind shown page at slot linked left =
-    shown page at slot linked (no_first (put_last window page slot) (put_last behind page slot) (sym (put_append window behind page slot) ∙ left)).0
+pages_keep opened entries blocks window behind shown page at slot linked small left =
+    shown page at slot linked small (no_first (put_last window page slot) (put_last behind page slot) (sym (put_append window behind page slot) ∙ left)).0
 
 -- a page that is linked below a root has a page above it
 above_linked : (opened : Image) (entries : List CommittedEntry) (page : PageId) (at : Pbn) → page.level + 1 < opened.geometry.height → page_after opened entries page ≡ Some at
@@ -167,13 +167,13 @@ same_block x y is = cc is
 -- the pages that show older entries show newer ones too that the window has, where those that these make say nothing yet
 pub pages_go_on : (opened : Image) (newer older : List CommittedEntry) (blocks : Blocks) (window : List CommittedEntry) → AreRooted opened older → ArePagesMade opened older newer blocks
     → ArePagesShown opened older blocks window → ArePagesShown opened (newer ++ older) blocks (newer ++ window)
-pages_go_on opened newer older blocks window rooted made shown page at slot linked left = by_newest (newest_page newer page) refl
+pages_go_on opened newer older blocks window rooted made shown page at slot linked small left = by_newest (newest_page newer page) refl
   where
     by_newest : (newest : Option Mapping) → newest_page newer page ≡ newest → mapping_in (block_at blocks at.0) slot ≡ slot_after opened (newer ++ older) page slot
     by_newest None newest =
         let parts = no_first (put_last newer page slot) (put_last window page slot) (sym (put_append newer window page slot) ∙ left) in
         let there : page_after opened older page ≡ Some at = sym (rooted_old_page opened newer older page rooted newest) ∙ linked in
-        shown page at slot there parts.1 ∙ sym (slot_left opened newer older page slot parts.0)
+        shown page at slot there small parts.1 ∙ sym (slot_left opened newer older page slot parts.0)
     by_newest (Some m) newest =
         let parts = no_first (put_last newer page slot) (put_last window page slot) (sym (put_append newer window page slot) ∙ left) in
         let block = newest_is_block newer page m newest in

@@ -8,7 +8,7 @@ use Rattle.blk_base.specs.declared.place.Mapping.{Mapping}
 use Rattle.blk_base.specs.declared.place.Mapping.TheVariants.{Unmapped, At}
 use Rattle.blk_base.specs.declared.place.PageId.{PageId}
 use Rattle.blk_base.specs.declared.place.Pbn.{Pbn}
-use Rattle.blk_base.specs.declared.sizes.TheConstants.{TREES}
+use Rattle.blk_base.specs.declared.sizes.TheConstants.{TREES, PAGE_SLOTS}
 use Rattle.blk_base.specs.Pages.{above, slot_of}
 use Rattle.disk_model.specs.Log.{Blocks, block_at}
 use Rattle.image_model.specs.Maps.{Image, put_last, or_else, mapping_in, target_of, page_at, mapping_of, slot_in}
@@ -81,7 +81,7 @@ AreRooted opened (committed ∷ older) = ((at : Pbn) × (page_after opened older
 -- each page that these entries leave linked says in its block, in each slot that the window leaves to it, what they give
 abbrev pub ArePagesShown : Image → List CommittedEntry → Blocks → List CommittedEntry → Type 0
 ArePagesShown opened entries blocks window =
-    (page : PageId) (at : Pbn) (slot : ℕ) → page_after opened entries page ≡ Some at → put_last window page slot ≡ None
+    (page : PageId) (at : Pbn) (slot : ℕ) → page_after opened entries page ≡ Some at → slot < PAGE_SLOTS → put_last window page slot ≡ None
     → mapping_in (block_at blocks at.0) slot ≡ slot_after opened entries page slot
 
 -- Newer entries make pages: each is one below a root that the older ones don't link, and says nothing yet.

@@ -85,7 +85,6 @@ module _ (base : Blocks) (to : IsToServe base) where
       → IsBehind opening log base to blocks head → IsBehind opening (call ∷ log) base to blocks head
   behind_after opening log blocks head call misses pages counts behind = record {
     size = behind.size;
-    whole = behind.whole;
     super = missed (λ content. content ≡ super_block (head_in base to)) opening log 0 call misses behind.super;
     reach = behind.reach;
     few = behind.few;
@@ -180,7 +179,6 @@ module _ (base : Blocks) (to : IsToServe base) where
       entries_since start head blocks low (omega (arith, between, high)) ∙ ap (λ (list : List CommittedEntry). list ++ older) over.1 ∙ append_assoc (window_from start later blocks) over.0 older in
       record {
         size = behind.size;
-        whole = behind.whole;
         super = behind.super;
         reach = behind.reach;
         few = behind.few;

@@ -107,7 +107,7 @@ module _ (base : Blocks) (to : IsToServe base) (opening : Blocks) (log : List Ca
         let sees = (rest_seen base to opening log blocks rest image is).0 in
         let on_it = pages_on_it opened to.sound.pages to.sound.last (known base base to.sound) entries (turns_made opened entries rest.behind.turns) (length opening) wide in
         subst (λ (list : List CommittedEntry). (page : PageId) (at : Pbn) → page_at (later_image opened image list) page ≡ Some at → IsFullPage (later_image opened image list) page at (block_at image at.0))
-        sees.1 (pages_are_full opening log opened start entries image sees.0.shown rest.behind.whole on_it all.pages is)
+        sees.1 (pages_are_full opening log opened start entries image sees.0.shown on_it all.pages is)
 
     pub image_is_full : AreFull now image
     image_is_full = record {

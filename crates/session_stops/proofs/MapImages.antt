@@ -29,7 +29,7 @@ use Rattle.journal_stops.proofs.StepLaws.{front_grows}
 use Rattle.recovery_laws.proofs.SoundLaws.{known, room}
 use Rattle.slab_codec.specs.declared.forms.SlabEntry.{SlabEntry}
 use Rattle.session_stops.specs.Beginnings.{HeadStands, IsToServe, head_in, opened_in}
-use Rattle.session_stops.specs.Pages.{ArePagesOnIt, EmptyPageStands, HasWholeBlocks, NewPagesStand, PagesStand}
+use Rattle.session_stops.specs.Pages.{ArePagesOnIt, EmptyPageStands, NewPagesStand, PagesStand}
 use Rattle.session_stops.specs.Sessions.{ShowsSoundly, StandsAtRest, StandsUnderWay, entries_next, window_from}
 use Rattle.count_laws.specs.Turns.{AreInTurn}
 use Rattle.count_laws.proofs.StepLaws.{in_turn_rooted}
@@ -63,7 +63,7 @@ module _ (base : Blocks) (to : IsToServe base) where
   opened = opened_in base to
 
   -- One image, with its window.
-  module _ (opening : Blocks) (log : List Call) (image : Blocks) (is : IsImage opening log image) (size : length opening ≡ length base) (whole : HasWholeBlocks opened)
+  module _ (opening : Blocks) (log : List Call) (image : Blocks) (is : IsImage opening log image) (size : length opening ≡ length base)
       (super : HeadStands opening log base to) (entries : List CommittedEntry) (turns : AreInTurn opened entries) (shown : HasInWindow g start image entries)
       (pages : PagesStand opening log opened entries shown.window) (early : shown.last + 2 < 2 ^ 54)
       (sectors : (slot number sequence head : ℕ) (list : List Entry) → slot < g.journal → number < 8
@@ -73,7 +73,7 @@ module _ (base : Blocks) (to : IsToServe base) where
         (let enough = room base base to.sound in omega (arith, enough, size))
 
     pub shows : ShowsEntries opened start image entries
-    shows = pages_show opened start image entries shown (pages_are_shown opening log opened entries shown.window image on_it pages is whole)
+    shows = pages_show opened start image entries shown (pages_are_shown opening log opened entries shown.window image on_it pages is)
 
     pub same_window : shows.shown.window ≡ shown.window
     same_window = (one_window g start (journal_of g image) shows.shown.last shown.last shows.shown.window shown.window shows.shown.is_window shown.is_window).1
@@ -97,7 +97,7 @@ module _ (base : Blocks) (to : IsToServe base) where
       last = shown.last;
       window = shown.window;
       opens = record { accepted = head_of_image base to opening log image size super is; sequences = λ unclean. early; is_window = shown.is_window };
-      pages = pages_are_good opening log opened start entries image shown whole on_it pages is;
+      pages = pages_are_good opening log opened start entries image shown on_it pages is;
       stored = λ place inside. let found = good.counts place inside in (found.0, found.1);
       unshared = unshared;
       counts = good.counts;
@@ -140,7 +140,7 @@ module _ (base : Blocks) (to : IsToServe base) where
     unfolding at_rest
     rest_seen =
         let reach = rest.behind.reach in let late = to.late in let last = last_is in
-        seen opening log image is rest.behind.size rest.behind.whole rest.behind.super (entries_of start blocks) rest.behind.turns at_rest rest.behind.pages
+        seen opening log image is rest.behind.size rest.behind.super (entries_of start blocks) rest.behind.turns at_rest rest.behind.pages
         (omega (arith, reach, late, last))
         (λ slot number sequence head list inside below valid.
         let early = rest_of_its_time opening log g start blocks image (journal_inside opening rest.behind.size) rest.journal is slot number sequence head list inside below valid in
@@ -188,7 +188,7 @@ module _ (base : Blocks) (to : IsToServe base) where
     unfolding before_window
     before_seen window =
         let reach = way.behind.reach in let late = to.late in let last = before_last_is in
-        seen opening log image is way.behind.size way.behind.whole way.behind.super (entries_of start blocks) way.behind.turns (before_window window) pages_before
+        seen opening log image is way.behind.size way.behind.super (entries_of start blocks) way.behind.turns (before_window window) pages_before
         (omega (arith, reach, late, last))
         (λ slot number sequence head list inside below valid. let early = sectors_early slot number sequence head list inside below valid in omega (arith, early, last))
 
@@ -235,7 +235,7 @@ module _ (base : Blocks) (to : IsToServe base) where
       unfolding front_window
       front_seen window =
           let reach = way.behind.reach in let late = to.late in let last = before_last_is in
-          seen opening log image is way.behind.size way.behind.whole way.behind.super (entries_of start (front ∷ blocks)) turns_front (front_window window) pages_front
+          seen opening log image is way.behind.size way.behind.super (entries_of start (front ∷ blocks)) turns_front (front_window window) pages_front
           (omega (arith, reach, late, last))
           (λ slot number sequence head list inside below valid. let early = sectors_early slot number sequence head list inside below valid in omega (arith, early, last))
 

@@ -38,7 +38,7 @@ use Rattle.journal_stops.specs.Mapped.{ArePagesShown, page_after, slot_after}
 use Rattle.journal_stops.proofs.NewestLaws.{page_equal}
 use Rattle.journal_stops.proofs.OpenedLaws.{page_with_none}
 use Rattle.count_laws.proofs.Example.{at_point, data_block, four, leaf, leaf_gone, one, opened, page, remap}
-use Rattle.session_stops.specs.Pages.{ArePagesOnIt, EmptyPageStands, HasWholeBlocks, MissesNew, NewPagesStand, PagesStand, PutsOnly, SaysTheRest, Settles, SlotStands}
+use Rattle.session_stops.specs.Pages.{ArePagesOnIt, EmptyPageStands, MissesNew, NewPagesStand, PagesStand, PutsOnly, SaysTheRest, Settles, SlotStands}
 use Rattle.session_stops.proofs.NewPages.{AreMadeNew}
 use Rattle.session_stops.proofs.PageHeads.{page_written}
 use Rattle.session_stops.proofs.PagePlaces.{pages_on_it, root_or_below}
@@ -243,9 +243,6 @@ module _ (blocks : Blocks) (empty : IsEmpty small blocks) (whole : (b : ℕ) →
   off_it : ArePagesOnIt image [] 9 → ⊥
   off_it on = let low = on root (pbn 9) root_linked in omega (arith, low)
 
-  has_whole : HasWholeBlocks image
-  has_whole = whole
-
   -- The leaf is written, and flushed: a new page that stands empty. It doesn't before, nor with a mapping.
   abbrev log_made : List Call
   log_made = Flush true ∷ Write (pbn 85) empty_leaf true ∷ []
@@ -426,7 +423,7 @@ module _ (blocks : Blocks) (empty : IsEmpty small blocks) (whole : (b : ℕ) →
   shown : (now : Blocks) → IsImage blocks log_linked now → ArePagesShown image four now []
   shown now is =
       pages_are_shown blocks log_linked image four [] now
-      (pages_on_it image good 0 known four all_new (length blocks) (room_of_image blocks (empty_super small) empty.accepted)) risen is whole
+      (pages_on_it image good 0 known four all_new (length blocks) (room_of_image blocks (empty_super small) empty.accepted)) risen is
 
   -- the root doesn't say so before it is written
   root_unwritten : IsSlot root_head (block_at blocks 9) 0 (At (pbn 85)) → ⊥
@@ -439,7 +436,3 @@ module _ (blocks : Blocks) (empty : IsEmpty small blocks) (whole : (b : ℕ) →
 
   not_risen : PagesStand blocks log_written image four [] → ⊥
   not_risen stand = root_unwritten ((stand root (pbn 9) refl).slots 0 (omega arith) refl).0
-
--- An image with a block that is too short.
-short_block : (image : Image) (b : ℕ) → b < length image.blocks → length (block_at image.blocks b) ≡ 512 → HasWholeBlocks image → ⊥
-short_block image b below short has = let long = has b below in omega (arith, long, short)

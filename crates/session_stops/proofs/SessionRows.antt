@@ -278,10 +278,6 @@ module _ (blocks : Blocks) (empty : IsEmpty small blocks) (whole : (b : ℕ) →
   other_size : IsBehind [] (log_opened blocks empty whole) blocks to [] start → ⊥
   other_size behind = let size = behind.size in let long = wide in omega (arith, size, long)
 
-  -- with a block of another length
-  short_block : (b : ℕ) → b < length blocks → length (block_at blocks b) ≡ 512 → IsBehind blocks (log_opened blocks empty whole) blocks to [] start → ⊥
-  short_block b below short behind = let long = behind.whole b below in omega (arith, long, short)
-
   -- where the superblock may be what it was
   no_super : IsBehind blocks [] blocks to [] start → ⊥
   no_super behind = not_yet blocks empty whole to behind.super

@@ -94,7 +94,6 @@ module _ (base : Blocks) (to : IsToServe base) where
             (journal.opened opening log g start base [] (omega (arith, enough, size)) sized (closed_at_rest base to.sound start to.clean (omega arith))));
         behind = record {
           size = size;
-          whole = λ b below. one.whole b (omega (arith, below, size));
           super = (refl, tt);
           reach = omega arith;
           few = tt;
@@ -159,7 +158,6 @@ module _ (base : Blocks) (to : IsToServe base) where
         journal = journal.ends opening log g start blocks block written way.journal;
         behind = behind_quiet base to opening log (block ∷ blocks) block.head (Flush true) (λ b. tt) (record {
           size = way.behind.size;
-          whole = way.behind.whole;
           super = way.behind.super;
           reach = omega (arith, reach);
           few = few;

@@ -1,5 +1,5 @@
 -- The pages of the block map while a session goes on, by what each of their blocks may hold after a stop.
-use Rattle.std.specs.Prelude.{ℕ, ◌≡◌, ◌<◌, List, length, replicate, Some, None}
+use Rattle.std.specs.Prelude.{ℕ, ◌≡◌, ◌<◌, List, replicate, Some, None}
 use Rattle.std.specs.List.{AllByRecursion}
 use Rattle.blk_base.specs.declared.journal_entry.CommittedEntry.{CommittedEntry}
 use Rattle.blk_base.specs.declared.journal_entry.Entry.{Entry}
@@ -11,7 +11,7 @@ use Rattle.blk_base.specs.declared.place.Pbn.{Pbn}
 use Rattle.blk_base.specs.declared.sizes.TheConstants.{PAGE_SLOTS}
 use Rattle.disk_model.specs.declared.call.Call.{Call}
 use Rattle.disk_model.specs.declared.call.Call.TheVariants.{Read, Write, Flush}
-use Rattle.disk_model.specs.Log.{Blocks, Misses, block_at, settled}
+use Rattle.disk_model.specs.Log.{Blocks, Misses, settled}
 use Rattle.image_model.specs.Maps.{Image, head_of, put_last}
 use Rattle.page_codec.specs.Grammar.{HasHead, IsPage, IsSlot}
 use Rattle.page_codec.specs.declared.forms.PageHead.{PageHead}
@@ -71,10 +71,6 @@ MissesNew call (Remap at old new) = Unit {0}
 MissesNew call (NewPage page at) = Misses call at.0
 
 -- The device.
-
--- each block of the image has 4096 bytes
-abbrev pub HasWholeBlocks : Image → Type 0
-HasWholeBlocks image = (b : ℕ) → b < length image.blocks → length (block_at image.blocks b) ≡ 4096
 
 -- each page that the entries leave linked is on a device of this size
 abbrev pub ArePagesOnIt : Image → List CommittedEntry → ℕ → Type 0

@@ -22,7 +22,7 @@ use Rattle.journal_stops.specs.Sealed.{Sealed, entries_of, head_of, next_of, sin
 use Rattle.count_laws.specs.Counters.{CountsStand, UpdateStands, points_at}
 use Rattle.count_laws.specs.Turns.{AreInTurn}
 use Rattle.session_stops.specs.Beginnings.{HeadStands, IsToServe, opened_in}
-use Rattle.session_stops.specs.Pages.{HasWholeBlocks, NewPagesStand, PagesStand, SlotStands}
+use Rattle.session_stops.specs.Pages.{NewPagesStand, PagesStand, SlotStands}
 
 -- Entries of sealed blocks.
 
@@ -44,7 +44,6 @@ AreFew blocks = AllByRecursion (λ (block : Sealed). length block.entries ≤ 19
 -- the pages but for what the window says, and the counts. The entries came in turn, and the session's blocks are in reach.
 pub record IsBehind (opening : Blocks) (log : List Call) (base : Blocks) (to : IsToServe base) (blocks : List Sealed) (head : ℕ) : Type 0 where
   pub size : length opening ≡ length base
-  pub whole : HasWholeBlocks (opened_in base to)
   pub super : HeadStands opening log base to
   pub reach : length blocks + 1 < 2 ^ 18
   pub few : AreFew blocks

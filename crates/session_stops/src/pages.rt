@@ -1,8 +1,7 @@
-ghost use Rattle.std.specs.Prelude.{◌≡◌, ◌<◌, ◌≤◌, ◌^◌, ◌++◌, ◌∷◌, [], ℕ, Bool, true, List, length, replicate, Some, None, IsTrue};
+ghost use Rattle.std.specs.Prelude.{◌≡◌, ◌<◌, ◌≤◌, ◌^◌, ◌++◌, ◌∷◌, [], ℕ, Bool, true, List, length, Some, None, IsTrue};
 ghost use Rattle.blk_base.specs.Regions.{needed_blocks};
 ghost use Rattle.blk_base.specs.declared.journal_entry.CommittedEntry.{CommittedEntry};
 ghost use Rattle.blk_base.specs.declared.place.Mapping.{Mapping};
-ghost use Rattle.blk_base.specs.declared.place.Mapping.TheVariants.{Unmapped};
 ghost use Rattle.blk_base.specs.declared.place.PageId.{PageId};
 ghost use Rattle.blk_base.specs.declared.place.Pbn.{Pbn};
 ghost use Rattle.blk_base.specs.declared.sizes.TheConstants.{PAGE_SLOTS};
@@ -13,15 +12,15 @@ ghost use Rattle.disk_model.specs.Log.{Blocks, Misses, block_at};
 ghost use Rattle.disk_model.specs.OneImages.{HasOneImageIn};
 ghost use Rattle.image_model.specs.Maps.{Image, ArePagesGood, head_of, mapping_in, page_at, put_last};
 ghost use Rattle.image_model.specs.Sound.{IsSound};
-ghost use Rattle.page_codec.specs.Grammar.{IsPage, IsSlot};
+ghost use Rattle.page_codec.specs.Grammar.{IsSlot};
 ghost use Rattle.page_codec.specs.declared.forms.PageHead.{PageHead};
 ghost use Rattle.stop_laws.specs.Journals.{Surely};
 ghost use Rattle.recovery_laws.specs.Kept.{image_in};
 ghost use Rattle.recovery_laws.specs.Written.{IsFullPage};
-ghost use Rattle.journal_stops.specs.Mapped.{ArePagesShown, later_image, page_after, slot_after};
+ghost use Rattle.journal_stops.specs.Mapped.{ArePagesShown, later_image, page_after};
 ghost use Rattle.journal_stops.specs.Shown.{HasInWindow};
 ghost use Rattle.count_laws.specs.Turns.{AreInTurn};
-ghost use Rattle.session_stops.specs.Pages.{ArePagesOnIt, HasWholeBlocks, NewPagesStand, PageStands, PagesStand, PutsOnly, SaysTheRest, Settles, SlotStands};
+ghost use Rattle.session_stops.specs.Pages.{ArePagesOnIt, NewPagesStand, PageStands, PagesStand, PutsOnly, SaysTheRest, Settles, SlotStands};
 
 /// Pages that stand are shown by each image, mixed by sectors as they may be: in each slot that the window leaves to it, a
 /// linked page says what the entries give. So the pages of the image can be read. It does nothing.
@@ -30,7 +29,7 @@ pub fn images_show_the_pages_that_stand()
         (entries window : List CommittedEntry) (image : Blocks) →
         ArePagesOnIt opened entries (length opening)
         → PagesStand opening log opened entries window → IsImage opening log image →
-        HasWholeBlocks opened → ArePagesShown opened entries image window }
+        ArePagesShown opened entries image window }
     ensures slots { (opening : Blocks) (log : List Call) (opened : Image)
         (entries window : List CommittedEntry) (image : Blocks) →
         ArePagesOnIt opened entries (length opening)
@@ -39,7 +38,7 @@ pub fn images_show_the_pages_that_stand()
         → SaysTheRest opened entries window page at (block_at image at.0) }
     ensures good { (opening : Blocks) (log : List Call) (opened : Image) (start : ℕ)
         (entries : List CommittedEntry) (image : Blocks)
-        (shown : HasInWindow opened.geometry start image entries) → HasWholeBlocks opened →
+        (shown : HasInWindow opened.geometry start image entries) →
         ArePagesOnIt opened entries (length opening)
         → PagesStand opening log opened entries shown.window → IsImage opening log image →
         ArePagesGood (later_image opened image shown.window) }
@@ -54,7 +53,7 @@ pub fn images_show_the_pages_that_stand()
     // Where no slot is left to a window, each page says by itself what it says with the window of the image.
     ensures full { (opening : Blocks) (log : List Call) (opened : Image) (start : ℕ)
         (entries : List CommittedEntry) (image : Blocks)
-        (shown : HasInWindow opened.geometry start image entries) → HasWholeBlocks opened →
+        (shown : HasInWindow opened.geometry start image entries) →
         ArePagesOnIt opened entries (length opening)
         → PagesStand opening log opened entries [] → IsImage opening log image
         → (page : PageId) (at : Pbn) →
