@@ -11,22 +11,24 @@ use Rattle.blk_base.specs.declared.place.PageId.{PageId}
 use Rattle.blk_base.specs.declared.place.Pbn.{Pbn}
 use Rattle.blk_base.specs.declared.point.Point.{Point}
 use Rattle.dirty_pages.specs.History.{Changed, HandedOut, Written}
-use Rattle.dirty_pages.specs.Marks.{HasPoint, IsDue, clean, marks_at}
+use Rattle.dirty_pages.specs.Marks.{HasPoint, IsDue, changed_at, clean, marks_at, settled, with_marks}
 use Rattle.dirty_pages.specs.declared.marks.Marks.{Marks}
 use Rattle.page_codec.specs.Grammar.{IsPage, IsPageFault}
 use Rattle.page_codec.specs.Spelling.{page_bytes}
 use Rattle.page_codec.specs.declared.fault.PageFault.{PageFault}
 use Rattle.page_codec.specs.declared.forms.MapPage.{MapPage}
 use Rattle.block_map_tree.specs.Opening.{IsOpening, forest_of}
-use Rattle.block_map_tree.specs.Pages.{IsLower, IsTreeOf}
-use Rattle.block_map_tree.specs.Tree.{IsAt, IsThere, Tree, as_root, by_link}
+use Rattle.block_map_tree.specs.Pages.{IsLower, IsTreeOf, page_at}
+use Rattle.block_map_tree.specs.Tree.{IsAt, IsThere, IsTree, Links, Tree, as_root, by_link}
+use Rattle.block_map_tree.specs.Tree as trees
 use Rattle.block_map_tree.specs.declared.forms.Forest.{Forest}
-use Rattle.map_page_cache.specs.CachedPages.{CachedPages, no_pages}
+use Rattle.map_page_cache.specs.CachedPages.{CachedPages, IsCache, no_pages}
 use Rattle.map_page_cache.specs.CachedPages as cached
 use Rattle.map_page_cache.specs.Turns.{no_turns}
-use Rattle.map_zone.specs.Calls.{Apply, AreReadBack, Call, HandOut, HasLink, HasNoLeaf, Install, IsStored, SayOf, Write, changed_by, events_of, mapped}
-use Rattle.map_zone.specs.Serving.{AddsPage, HasPath, Installs, IsOtherPage, IsOwn, IsTooMany, MayAddPage, MayInstall, MayRemap, MissesPage, NeedsLeaf, Remaps, Shows}
-use Rattle.map_zone.specs.Writing.{SettlesLeaf, SettlesNode, TakesLeaf, TakesNode, IsClean, IsLeafFirst, IsLow, IsNodeFirst, IsSpelled, NoneDue, comes_first, lesser_point}
+use Rattle.map_zone.specs.Calls.{Apply, AreReadBack, Call, HandOut, HasLink, HasNoLeaf, Install, IsStored, LeadTo, SayOf, Write, changed_by, events_of, mapped}
+use Rattle.map_zone.specs.declared.forms.Applied.TheVariants as applied
+use Rattle.map_zone.specs.Serving.{AddsPage, Applies, HasPath, Installs, IsOtherPage, IsOwn, IsTooMany, MayAddPage, MayInstall, MayRemap, MissesPage, NeedsLeaf, Remaps, Shows}
+use Rattle.map_zone.specs.Writing.{IsOut, SettlesLeaf, SettlesNode, TakesLeaf, TakesNode, IsClean, IsLeafFirst, IsLow, IsNodeFirst, IsSpelled, NoneDue, comes_first, lesser_point}
 use Rattle.map_zone.specs.ZoneMap.{head_at, IsLeafAt, IsOpened, IsZoneMap, ZoneMap, leaf_of}
 
 abbrev p : ℕ → Point
@@ -142,6 +144,15 @@ more_than_its_frames is = omega (arith, is.cache.fits)
 of_another_image : IsZoneMap (record { tree = linked; cache = record empty { geometry = record g { nonce = 2 } } }) → ⊥
 of_another_image is = omega (arith, ap (λ (h : Geometry). h.nonce) is.geometry)
 
+whole : IsTree linked → IsCache full → IsZoneMap m
+whole tree cache = record { tree = tree; cache = cache; geometry = refl; leaves = leaves }
+  where
+    leaves : (page : PageId) (content' : MapPage) → cached.IsThere full page content' → IsLeafAt linked page content'.head.at
+    leaves page content' ((zero, inside, is), named) =
+        let here : page ≡ leaf = sym named ∙ ap (λ (c : MapPage). c.head.page) (sym is) in
+        subst (λ (q : PageId). IsLeafAt linked q content'.head.at) (sym here) (subst (λ (c : MapPage). IsLeafAt linked leaf c.head.at) is leaf_at)
+    leaves page content' ((suc k, inside, is), named) = absurd (omega (arith, inside))
+
 -- IsOpened: an opened image of these sizes
 
 module _ (opened : Opened) (of_sizes : opened.head.geometry ≡ g) where
@@ -205,6 +216,14 @@ needs_it_elsewhere is = at_another_block (record { level = refl; stands = is.sta
 
 -- MissesPage
 
+misses : MissesPage bare 1 0
+misses = record { low = omega arith; missing = is_missing; above = above }
+  where
+    above : (level : ℕ) → 0 < level → level < 2 → IsThere unlinked (page_at level 1)
+    above zero from inside = absurd (omega (arith, from))
+    above (suc zero) from inside = record { at = b 9; stands = as_root (record { tree = own; level = refl; index = refl }) refl }
+    above (suc (suc level)) from inside = absurd (omega (arith, inside))
+
 misses_one_that_is_linked : MissesPage unread 1 0 → ⊥
 misses_one_that_is_linked is = is.missing (record { at = b 90; stands = stands })
 
@@ -251,6 +270,20 @@ may_not_add_below_nothing at is = never is.above.at is.above.stands
     never at (as_root is' at_root) = omega (arith, is'.level)
     never at (by_link lower leads) = cc
 
+may_add : MayAddPage bare leaf (b 90)
+may_add = record {
+  linkable = record {
+    path = record { address = 1; inside = omega arith; level = omega arith; there = refl; tree = own };
+    lower = λ is. omega (arith, is.level);
+  };
+  above = record { at = b 9; stands = as_root (record { tree = own; level = refl; index = refl }) refl };
+  missing = is_missing;
+  block = record { slab = 0; offset = 5; inside = (omega arith, omega arith); stands = refl };
+}
+
+may_not_add_it_in_the_index : MayAddPage bare leaf (b 84) → ⊥
+may_not_add_it_in_the_index is = omega (arith, is.block.stands)
+
 -- MayInstall
 
 may_install : MayInstall unread leaf
@@ -265,7 +298,36 @@ may_not_install_one_that_is_not_linked is = is_missing is.linked
 may_not_install_a_root : MayInstall unread root → ⊥
 may_not_install_a_root is = omega (arith, is.level)
 
--- Remaps, AddsPage: the rest stays
+-- Remaps, AddsPage: what the cache or the tree makes of it, ..
+
+remaps : (new : CachedPages) → cached.Sets full new leaf 1 Zero (p 5) → Remaps m (record m { cache = new }) 1 Zero (p 5)
+remaps new sets = record { sets = sets; after = refl }
+
+remaps_nothing : Remaps m m 1 Zero (p 5) → ⊥
+remaps_nothing is = never is.sets.frame is.sets.stood.inside (ap (λ (c : CachedPages). c.marks) is.sets.after)
+  where
+    never : (frame : ℕ) → frame < 1 → clean ∷ [] ≡ with_marks (clean ∷ []) frame (changed_at (p 5)) → ⊥
+    never zero inside same = none-some (p 5) (ap (λ (marks : List Marks). (marks_at marks 0).dirty) same)
+    never (suc k) inside same = omega (arith, inside)
+
+adds : (new : Tree) → Links unlinked new leaf (b 90) (p 5) → AddsPage bare (record bare { tree = new }) leaf (b 90) (p 5)
+adds new links = record { links = links; after = refl }
+
+adds_nothing : AddsPage bare bare leaf (b 90) (p 5) → ⊥
+adds_nothing is = none-some (p 5) (ap (λ (t : Tree). (marks_at t.marks 0).dirty) is.links.set)
+
+-- Applies: what needs a leaf changes nothing, and a new page needs none
+
+needs_it_first : Applies unread unread (Remap (record { 0 = 1 }) Unmapped Zero) (p 5) (applied.NeedLeaf leaf (b 90))
+needs_it_first = (needs, refl)
+
+needs_it_and_has_it : Applies unread m (Remap (record { 0 = 1 }) Unmapped Zero) (p 5) (applied.NeedLeaf leaf (b 90)) → ⊥
+needs_it_and_has_it is = omega (arith, ap (λ (z : ZoneMap). length z.cache.pages) is.1)
+
+needs_one_for_a_new_page : Applies bare bare (NewPage leaf (b 90)) (p 5) (applied.NeedLeaf leaf (b 90)) → ⊥
+needs_one_for_a_new_page never = never
+
+-- .. and the rest stays
 remaps_and_forgets_a_link : (new : ZoneMap) → new.tree ≡ unlinked → Remaps m new 1 Zero (p 5) → ⊥
 remaps_and_forgets_a_link new is remaps =
     let no : (Unmapped ∷ []) ∷ [] ≡ (At (b 90) ∷ []) ∷ [] = ap (λ (t : Tree). t.pages) (sym is ∙ ap (λ (z : ZoneMap). z.tree) remaps.after) in cc
@@ -504,6 +566,14 @@ module _ (bytes : List ℕ) (reads : IsPage content.head bytes content.mappings)
   too_many : IsTooMany (record unread { cache = record empty { frames = 0 } }) leaf bytes
   too_many = record { at = b 90; mappings = content.mappings; stands = stands; read = reads; none = record { full = refl; unclean = λ frame inside clean. omega (arith, inside) } }
 
+  -- stands, read: the leaf is linked, and these are its bytes
+  too_many_of_what_is_not_linked : IsTooMany (record bare { cache = record empty { frames = 0 } }) leaf bytes → ⊥
+  too_many_of_what_is_not_linked is = is_missing (record { at = is.at; stands = is.stands })
+
+  too_many_of_other_bytes : (given : List ℕ) → ((at : Pbn) (mappings : List Mapping) → IsPage (head_at unread leaf at) given mappings → ⊥)
+      → IsTooMany (record unread { cache = record empty { frames = 0 } }) leaf given → ⊥
+  too_many_of_other_bytes given other is = other is.at is.mappings is.read
+
 -- TakesLeaf, TakesNode: what the cache hands out is a premise
 
 module _ (point : Point) (new : CachedPages) (copy : MapPage) (expires : cached.Expires both.cache new point leaf copy) (bytes : List ℕ) where
@@ -527,6 +597,39 @@ module _ (point : Point) (new : CachedPages) (copy : MapPage) (expires : cached.
   takes_leaf_and_a_link after is takes =
       let no : (Unmapped ∷ []) ∷ [] ≡ (At (b 90) ∷ []) ∷ [] = ap (λ (t : Tree). t.pages) (sym is ∙ ap (λ (z : ZoneMap). z.tree) takes.after) in cc
 
+  -- spelled: its bytes are written to its own block
+  takes_leaf_elsewhere : (after : ZoneMap) → TakesLeaf alone after point leaf (b 91) bytes → ⊥
+  takes_leaf_elsewhere after takes = never takes.expires.frame takes.copy takes.expires.stood.inside takes.expires.stood.is takes.spelled.placed
+    where
+      never : (frame : ℕ) (copy' : MapPage) → frame < 1 → slice_index_or full.pages frame copy' ≡ copy' → b 91 ≡ copy'.head.at → ⊥
+      never zero copy' inside is placed = omega (arith, ap (λ (k : Pbn). k.0) (placed ∙ ap (λ (c : MapPage). c.head.at) (sym is)))
+      never (suc k) copy' inside is placed = omega (arith, inside)
+
+-- expires: nothing was changed
+takes_a_clean_leaf : (after : ZoneMap) (point : Point) (bytes : List ℕ) → TakesLeaf m after point leaf (b 90) bytes → ⊥
+takes_a_clean_leaf after point bytes takes =
+    none-some takes.expires.marks.first (sym (ap (λ (marks : Marks). marks.dirty) (clean_at takes.expires.frame)) ∙ takes.expires.marks.due.dirty)
+
+takes_a_clean_node : (after : ZoneMap) (point : Point) (bytes : List ℕ) → TakesNode m after point root (b 9) bytes → ⊥
+takes_a_clean_node after point bytes takes = none-some takes.expires.marks.first takes.expires.marks.due.dirty
+
+module _ (point : Point) (new : Tree) (copy : MapPage) (expires : trees.Expires both.tree new point root copy) (bytes : List ℕ) where
+  takes_node : IsSpelled copy (b 9) bytes → TakesNode both (record both { tree = new }) point root (b 9) bytes
+  takes_node spelled' = record {
+    copy = copy;
+    expires = expires;
+    first = λ number first due. omega (arith, due_from 6 number first due, due_from 5 0 expires.marks.first expires.marks.due);
+    spelled = spelled';
+    after = refl;
+  }
+
+  takes_node_elsewhere : (after : ZoneMap) → TakesNode both after point root (b 10) bytes → ⊥
+  takes_node_elsewhere after takes = never takes.copy takes.expires.at takes.spelled.placed
+    where
+      never : (copy' : MapPage) → IsAt both.tree root copy'.head.at → b 10 ≡ copy'.head.at → ⊥
+      never copy' (as_root is at_root) placed = omega (arith, at_root, ap (λ (k : Pbn). k.0) placed)
+      never copy' (by_link lower leads) placed = omega (arith, lower.level)
+
 -- TakesNode: the leaf was changed before, or at the same point
 takes_a_node_too_soon : (new : ZoneMap) (bytes : List ℕ) → TakesNode (record both { tree = record linked { marks = changed 6 } }) new (p 9) root (b 9) bytes → ⊥
 takes_a_node_too_soon new bytes takes = omega (arith, takes.first 0 (p 6) (due_at 6), due_from 6 0 takes.expires.marks.first takes.expires.marks.due)
@@ -537,6 +640,56 @@ settles_one_that_is_not_out new is = none-some is.out.marks.first (sym (ap (λ (
 
 settles_a_root_that_is_not_out : (new : ZoneMap) → SettlesNode m new root → ⊥
 settles_a_root_that_is_not_out new is = none-some is.out.marks.first is.out.marks.is
+
+-- writes: it isn't being written any longer
+abbrev under_way : List Marks
+under_way = (record { dirty = None; writing = Some (p 6) }) ∷ []
+
+abbrev out : ZoneMap
+out = record { tree = record linked { marks = under_way }; cache = record full { marks = under_way } }
+
+settles_leaf : (new : CachedPages) → cached.Writes out.cache new leaf → SettlesLeaf out (record out { cache = new }) leaf
+settles_leaf new writes = record {
+  out = record { frame = 0; content = content; stands = record { inside = omega arith; is = refl; named = refl }; marks = record { first = p 6; is = refl } };
+  writes = writes;
+  after = refl;
+}
+
+settles_no_leaf : SettlesLeaf out out leaf → ⊥
+settles_no_leaf is = never is.writes.frame is.writes.stood.inside (ap (λ (c : CachedPages). c.marks) is.writes.after)
+  where
+    never : (frame : ℕ) → frame < 1 → under_way ≡ with_marks under_way frame settled → ⊥
+    never zero inside same = none-some (p 6) (sym (ap (λ (marks : List Marks). (marks_at marks 0).writing) same))
+    never (suc k) inside same = omega (arith, inside)
+
+root_is_there : trees.IsWriting out.tree root
+root_is_there = record { inner = record { level = omega arith; there = inl (record { tree = own; level = refl; index = refl }) }; marks = record { first = p 6; is = refl } }
+
+settles_node : (new : Tree) → trees.Writes out.tree new root → SettlesNode out (record out { tree = new }) root
+settles_node new writes = record { out = root_is_there; writes = writes; after = refl }
+
+settles_no_node : SettlesNode out out root → ⊥
+settles_no_node is = none-some (p 6) (sym (ap (λ (t : Tree). (marks_at t.marks 0).writing) is.writes.set))
+
+-- IsOut, LeadTo: a page that isn't being written isn't reported
+root_is_out : IsOut out root
+root_is_out = inr root_is_there
+
+none_is_out : IsOut m leaf → ⊥
+none_is_out (inl is) = none-some is.marks.first (sym (ap (λ (marks : Marks). marks.writing) (clean_at is.frame)) ∙ is.marks.is)
+none_is_out (inr is) = omega (arith, is.inner.level)
+
+no_call : LeadTo m [] m
+no_call = refl
+
+no_call_changes_nothing : LeadTo m [] unread → ⊥
+no_call_changes_nothing same = omega (arith, ap (λ (z : ZoneMap). length z.cache.pages) same)
+
+one_call : (new : Tree) → trees.Writes out.tree new root → LeadTo out (Write root ∷ []) (record out { tree = new })
+one_call new writes = (out, refl, (root_is_out, inr (settles_node new writes)))
+
+reported_and_not_out : (new : ZoneMap) → LeadTo m (Write leaf ∷ []) new → ⊥
+reported_and_not_out new lead = none_is_out (subst (λ (z : ZoneMap). IsOut z leaf) lead.1 lead.2.0)
 
 -- after: all else stays
 takes_a_node_and_forgets_a_leaf : (new : ZoneMap) (bytes : List ℕ) → new.cache ≡ empty → TakesNode both new (p 9) root (b 9) bytes → ⊥
