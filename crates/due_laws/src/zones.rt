@@ -1,8 +1,6 @@
 ghost use Rattle.std.specs.Prelude.{◌≡◌, ◌<◌, ◌*◌, ◌/◌, ◌%◌, ℕ, List, length};
 ghost use Rattle.blk_base.specs.Counters.{sectors_per_slab};
-ghost use Rattle.blk_base.specs.declared.geometry.Geometry.{Geometry};
-ghost use Rattle.blk_base.specs.declared.place.Pbn.{Pbn};
-ghost use Rattle.blk_base.specs.declared.point.Point.{Point};
+ghost use Rattle.blk_base.specs.declared.opened.Opened.{Opened};
 ghost use Rattle.reference_blocks.specs.References.{points_of};
 ghost use Rattle.slab_journal.specs.Unsettled.{NoneUnsettled};
 ghost use Rattle.slab_writes.specs.declared.forms.Need.TheVariants.{Head};
@@ -15,10 +13,11 @@ ghost use Rattle.due_laws.specs.StillZones.{NoneOutIn};
 /// The same of each slab of a zone, over every list of calls from an opened zone on, where the opening commit points of the slab
 /// are below the updates taken.
 pub fn no_slab_is_dirty_when_none_is_due()
-    ensures { (g : Geometry) (zone zones room : ℕ) (all : List ℕ) (commits : List Point)
-        (tree_pages : List Pbn) (first z : WholeZone) (calls : List Call)
-        (slab : ℕ) → IsOpeningWhole g zone zones room all commits tree_pages first → IsWhole first →
-        length commits ≡ g.slabs * sectors_per_slab g
+    ensures { (opened : Opened) (zone zones room : ℕ) (first z : WholeZone) (calls : List Call)
+        (slab : ℕ) →
+        let g = opened.head.geometry in
+        let commits = opened.commits.items in
+        IsOpeningWhole opened zone zones room first → IsWhole first → length commits ≡ g.slabs * sectors_per_slab g
         → LeadTo first calls z → slab < g.slabs → slab % zones ≡ zone →
         slab / zones < length z.writes
         → AreAbove g (points_of g slab commits) (updates_in g slab calls) →

@@ -5,9 +5,8 @@ use Rattle.std.proofs.Common.{sym, ◌∙◌, ap, subst, arith, inl, inr, set, g
 use Rattle.std.proofs.lemmas.Bool.{cases_eq, cases_lt}
 use Rattle.std.proofs.lemmas.List.{length-set, get_or_past, get_or_default}
 use Rattle.std.proofs.lemmas.List.Quantifiers.{position-Some}
-use Rattle.blk_base.specs.declared.geometry.Geometry.{Geometry}
+use Rattle.blk_base.specs.declared.opened.Opened.{Opened}
 use Rattle.blk_base.specs.declared.place.Pbn.{Pbn}
-use Rattle.blk_base.specs.declared.point.Point.{Point}
 use Rattle.slab_counts.specs.Counts.{Counts}
 use Rattle.slab_counts.specs.declared.tickets.Ticket.{Ticket}
 use Rattle.slab_tickets.specs.declared.forms.Waiting.{Waiting}
@@ -16,7 +15,7 @@ use Rattle.slab_tickets.specs.Tickets.{Desk, Gives, is_served}
 use Rattle.slab_writes.specs.Writes.{Writes}
 use Rattle.zone_counts.specs.Zone.{Zone, Changes}
 use Rattle.zone_counts.specs.Asking.{WithdrawsFrom}
-use Rattle.slab_zone.specs.Whole.{AreOpenedWrites, nothing, writes_at}
+use Rattle.slab_zone.specs.Whole.{AreOpenedWrites, nothing}
 use Rattle.slab_tests.specs.Out.{AreOut, no_ticket, nobody, out_number}
 use Rattle.slab_tests.specs.Tested.{AreUpTo, IsSecond}
 use Rattle.slab_tests.proofs.OutLaws.{out_withdrawn}
@@ -67,8 +66,8 @@ changed_second old new at c tickets issued step did is = subst (λ (z : Zone). I
 })
 
 -- as an image is opened
-pub opened_up_to : (g : Geometry) (zone zones count : ℕ) (commits : List Point) (writes : List Writes) → AreOpenedWrites g zone zones commits count writes → AreUpTo writes 1000
-opened_up_to g zone zones count commits writes are k = elim (cases_lt k count) [
+pub opened_up_to : (o : Opened) (zone zones count : ℕ) (writes : List Writes) → AreOpenedWrites o zone zones count writes → AreUpTo writes 1000
+opened_up_to o zone zones count writes are k = elim (cases_lt k count) [
   | inl below ↦ omega (arith, ap (λ (w : Writes). w.journal.last.0) (are.each k below))
   | inr past ↦ omega (arith, ap (λ (w : Writes). w.journal.last.0) (get_or_past writes k nothing (omega (arith, past, are.many))))
 ]

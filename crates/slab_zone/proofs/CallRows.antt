@@ -1,11 +1,12 @@
 -- For each clause of what is whole, and of what calls do one after the other, a case that it accepts, and one that breaks it
 -- alone. The zone is that of Rows.
 use Rattle.std.specs.Prelude.{ℕ, ◌≡◌, ◌<◌, List, [], ◌∷◌}
-use Rattle.std.proofs.Common.{ap, arith, inl, inr, refl}
+use Rattle.std.proofs.Common.{◌∙◌, ap, arith, inl, inr, refl, subst, sym}
 use Rattle.std.proofs.lemmas.Bool.{cases_eq}
-use Rattle.blk_base.specs.declared.place.Pbn.{Pbn}
+use Rattle.blk_base.specs.declared.opened.Opened.{Opened}
 use Rattle.blk_base.specs.declared.point.Half.TheVariants.{Decrement}
 use Rattle.blk_base.specs.declared.point.Point.{Point}
+use Rattle.blk_base.specs.declared.geometry.Geometry.{Geometry}
 use Rattle.slab_codec.specs.declared.forms.SlabEntry.{SlabEntry}
 use Rattle.slab_journal.specs.Unsettled.{IsLowPoint, IsUnsettled}
 use Rattle.slab_writes.specs.Calls as writes
@@ -13,13 +14,14 @@ use Rattle.slab_writes.specs.Due.{NoneDue}
 use Rattle.slab_writes.specs.Writes.{Writes}
 use Rattle.slab_writes.specs.declared.forms.Need.{Need}
 use Rattle.zone_counts.specs.Calls as counts
-use Rattle.zone_counts.specs.Zone.{Zone, IsZone, IsOpeningZone, slab_at}
-use Rattle.slab_zone.specs.Whole.{WholeZone, IsWhole, IsOpeningWhole, writes_at}
+use Rattle.zone_counts.specs.Zone.{Zone, IsZone, IsOpeningZone, slab_at, slabs_of_zone}
+use Rattle.slab_zone.specs.Whole.{WholeZone, IsWhole, IsOpeningWhole, writes_at, AreOpenedWrites}
 use Rattle.slab_zone.specs.Writing.{IsLowPointIn, NoneDueIn, NoneUnsettledIn, TakesUpdate}
 use Rattle.slab_zone.specs.Calls.{Call, Counted, Taken, Written, Does, IsDurableIn, LeadTo, entry_in}
 use Rattle.slab_zone.proofs.Rows.{
   after,
   are_opened,
+  as_opened,
   at,
   both,
   commits,
@@ -54,16 +56,18 @@ of_a_step_of_another_zone = λ is. let no : 0 ≡ 1 = is.counts.desk in omega (a
 without_writes_of_a_slab : ¬ IsWhole (record first { writes = opened 1 ∷ [] })
 without_writes_of_a_slab = λ is. omega (arith, is.writes.many)
 
-module _ (all : List ℕ) (pages : List Pbn) where
-  is_opened : IsOpeningZone sizes 1 2 3 all pages zone → IsOpeningWhole sizes 1 2 3 all commits pages first
-  is_opened is = record { counts = is; writes = are_opened }
+module _ (image : Opened) (sizes_are : image.head.geometry ≡ sizes) (commits_are : image.commits.items ≡ commits) where
+  is_opened : IsOpeningZone image 1 2 3 zone → IsOpeningWhole image 1 2 3 first
+  is_opened is =
+      let both_slabs : slabs_of_zone image.head.geometry 1 2 ≡ 2 = ap (λ (g : Geometry). slabs_of_zone g 1 2) sizes_are in
+      record { counts = is; writes = subst (λ (n : ℕ). AreOpenedWrites image 1 2 n both) (sym both_slabs) (are_opened image sizes_are commits_are) }
 
-  opened_as_another_zone : ¬ IsOpeningWhole sizes 0 2 3 all commits pages first
+  opened_as_another_zone : ¬ IsOpeningWhole image 0 2 3 first
   opened_as_another_zone is = let no : 1 ≡ 0 = is.counts.zone in omega (arith, no)
 
-  opened_with_an_update_that_waits : ¬ IsOpeningWhole sizes 1 2 3 all commits pages (record first { writes = waits ∷ opened 3 ∷ [] })
+  opened_with_an_update_that_waits : ¬ IsOpeningWhole image 1 2 3 (record first { writes = waits ∷ opened 3 ∷ [] })
   opened_with_an_update_that_waits is =
-      let no : 513 ≡ 511 = ap (λ (w : Writes). w.journal.last.0) (is.writes.each 0 (omega arith)) in omega (arith, no)
+      let no : 513 ≡ 511 = ap (λ (w : Writes). w.journal.last.0) (is.writes.each 0 (omega arith) ∙ as_opened image sizes_are commits_are 1) in omega (arith, no)
 
 -- Does
 a_call_on_the_counts : Does (Counted counts.Refused) first first

@@ -1,10 +1,11 @@
 -- For each clause of what a zone takes and writes a case that it accepts, and one that breaks it alone.
-use Rattle.std.specs.Prelude.{ℕ, ◌≡◌, ◌<◌, List, [], ◌∷◌, false, drop, length, replicate, None, Some}
-use Rattle.std.proofs.Common.{◌∙◌, ap, arith, inl, inr, refl}
+use Rattle.std.specs.Prelude.{ℕ, ◌≡◌, ◌+◌, ◌*◌, ◌<◌, List, [], ◌∷◌, false, drop, length, replicate, None, Some}
+use Rattle.std.proofs.Common.{◌∙◌, ap, arith, inl, inr, refl, sym}
 use Rattle.std.proofs.lemmas.Bool.{cases_eq}
 use Rattle.std.proofs.lemmas.List.{length-replicate}
 use Rattle.blk_base.specs.declared.geometry.Geometry.{Geometry}
 use Rattle.blk_base.specs.declared.journal_entry.Update.{Update}
+use Rattle.blk_base.specs.declared.opened.Opened.{Opened}
 use Rattle.blk_base.specs.declared.place.Pbn.{Pbn}
 use Rattle.blk_base.specs.declared.point.Half.TheVariants.{Decrement}
 use Rattle.blk_base.specs.declared.point.Point.{Point}
@@ -102,18 +103,25 @@ one_is_missing = λ is. omega (arith, is.many)
 in_the_other_order : ¬ AreOfZone sizes 1 2 2 (opened 3 ∷ opened 1 ∷ [])
 in_the_other_order = λ is. let no : 3 ≡ 1 = (is.each 0 (omega arith)).slab in omega (arith, no)
 
--- AreOpenedWrites
-pub are_opened : AreOpenedWrites sizes 1 2 commits 2 both
-are_opened = record {
-  many = refl;
-  each = λ k below. elim (cases_eq k 0) [ inl is ↦ rw is refl | inr later ↦ let one : k ≡ 1 = omega (arith, below, later) in rw one refl ];
-}
+-- AreOpenedWrites: of an image with these sizes and commit points
+module _ (image : Opened) (sizes_are : image.head.geometry ≡ sizes) (commits_are : image.commits.items ≡ commits) where
+  pub as_opened : (n : ℕ) → opening image.head.geometry n image.commits.items ≡ opened n
+  as_opened n = ap (λ (g : Geometry). opening g n image.commits.items) sizes_are ∙ ap (λ (points : List Point). opening sizes n points) commits_are
 
-one_too_few : ¬ AreOpenedWrites sizes 1 2 commits 2 (opened 1 ∷ [])
-one_too_few = λ is. omega (arith, is.many)
+  pub are_opened : AreOpenedWrites image 1 2 2 both
+  are_opened = record {
+    many = refl;
+    each = λ k below. each k below ∙ sym (as_opened (k * 2 + 1));
+  }
+    where
+      each : (k : ℕ) → k < 2 → writes_at both k ≡ opened (k * 2 + 1)
+      each k below = elim (cases_eq k 0) [ inl is ↦ rw is refl | inr later ↦ let one : k ≡ 1 = omega (arith, below, later) in rw one refl ]
 
-opened_with_an_update : ¬ AreOpenedWrites sizes 1 2 commits 2 (waits ∷ opened 3 ∷ [])
-opened_with_an_update = λ is. let no : 513 ≡ 511 = ap (λ (w : Writes). w.journal.last.0) (is.each 0 (omega arith)) in omega (arith, no)
+  one_too_few : ¬ AreOpenedWrites image 1 2 2 (opened 1 ∷ [])
+  one_too_few = λ is. omega (arith, is.many)
+
+  opened_with_an_update : ¬ AreOpenedWrites image 1 2 2 (waits ∷ opened 3 ∷ [])
+  opened_with_an_update = λ is. let no : 513 ≡ 511 = ap (λ (w : Writes). w.journal.last.0) (is.each 0 (omega arith) ∙ as_opened 1) in omega (arith, no)
 
 -- HasRoomAt, RisesIn
 none_waits : HasRoomAt first (at 107)

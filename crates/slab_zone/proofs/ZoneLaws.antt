@@ -4,7 +4,7 @@ use Rattle.std.proofs.Common.{sym, ◌∙◌, ap, subst, arith, inl, inr, refl}
 use Rattle.blk_base.specs.Counters.{sectors_per_slab}
 use Rattle.blk_base.specs.Limits.{IsGeometry}
 use Rattle.blk_base.specs.declared.geometry.Geometry.{Geometry}
-use Rattle.blk_base.specs.declared.place.Pbn.{Pbn}
+use Rattle.blk_base.specs.declared.opened.Opened.{Opened}
 use Rattle.blk_base.specs.declared.point.Point.{Point}
 use Rattle.reference_blocks.specs.References.{HandsOutBlock, point_at, points_of, sectors_of}
 use Rattle.reference_blocks.specs.Updates.{AreRising, counters_after, up_to}
@@ -64,7 +64,16 @@ pub reference_due : (need : Need) (old new : Writes) (counters bytes : List ℕ)
 reference_due need old new counters bytes work (inl journal) is = let no : part.Journal ≡ part.References = sym journal.1.part ∙ is in cc
 reference_due need old new counters bytes work (inr reference) is = reference.1.hands_out
 
-module _ (g : Geometry) (zone zones room : ℕ) (all : List ℕ) (commits : List Point) (tree_pages : List Pbn) (first : WholeZone) (opened : IsOpeningWhole g zone zones room all commits tree_pages first) (is : IsWhole first) where
+module _ (o : Opened) (zone zones room : ℕ) (first : WholeZone) (opened : IsOpeningWhole o zone zones room first) (is : IsWhole first) where
+  abbrev g : Geometry
+  g = o.head.geometry
+
+  abbrev all : List ℕ
+  all = o.counters.items
+
+  abbrev commits : List Point
+  commits = o.commits.items
+
   has : HasSizes g zone zones first.counts
   has = record { geometry = opened.counts.geometry; zone = opened.counts.zone; zones = opened.counts.zones }
 

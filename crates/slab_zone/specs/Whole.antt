@@ -1,8 +1,8 @@
 -- The slabs of a physical zone: what their blocks are worth to those who ask, and what of each slab is to be written.
 use Rattle.std.specs.Prelude.{ℕ, ◌≡◌, ◌+◌, ◌*◌, ◌<◌, List, [], length, slice_index_or}
 use Rattle.blk_base.specs.declared.geometry.Geometry.{Geometry}
+use Rattle.blk_base.specs.declared.opened.Opened.{Opened}
 use Rattle.blk_base.specs.declared.place.Pbn.{Pbn}
-use Rattle.blk_base.specs.declared.point.Point.{Point}
 use Rattle.slab_writes.specs.Writes.{Writes, opening}
 use Rattle.zone_counts.specs.Zone.{Zone, IsZone, IsOpeningZone, nowhere, place_of, slabs_of_zone}
 
@@ -40,11 +40,11 @@ pub record IsWhole (z : WholeZone) : Type 0 where
   pub writes : AreOfZone z.counts.geometry z.counts.zone z.counts.zones (length z.counts.slabs) z.writes
 
 -- of the first so many slabs of the zone nothing is to be written, as an image with these commit points is opened
-pub record AreOpenedWrites (g : Geometry) (zone zones : ℕ) (commits : List Point) (count : ℕ) (writes : List Writes) : Type 0 where
+pub record AreOpenedWrites (opened : Opened) (zone zones count : ℕ) (writes : List Writes) : Type 0 where
   pub many : length writes ≡ count
-  pub each : (k : ℕ) → k < count → writes_at writes k ≡ opening g (k * zones + zone) commits
+  pub each : (k : ℕ) → k < count → writes_at writes k ≡ opening opened.head.geometry (k * zones + zone) opened.commits.items
 
 -- how a zone is opened: its slabs with the counters of the image, no ticket, no step, and nothing to be written
-pub record IsOpeningWhole (g : Geometry) (zone zones room : ℕ) (all : List ℕ) (commits : List Point) (tree_pages : List Pbn) (z : WholeZone) : Type 0 where
-  pub counts : IsOpeningZone g zone zones room all tree_pages z.counts
-  pub writes : AreOpenedWrites g zone zones commits (slabs_of_zone g zone zones) z.writes
+pub record IsOpeningWhole (opened : Opened) (zone zones room : ℕ) (z : WholeZone) : Type 0 where
+  pub counts : IsOpeningZone opened zone zones room z.counts
+  pub writes : AreOpenedWrites opened zone zones (slabs_of_zone opened.head.geometry zone zones) z.writes

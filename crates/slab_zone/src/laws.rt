@@ -1,8 +1,6 @@
 ghost use Rattle.std.specs.Prelude.{ℕ, ◌≡◌, ◌*◌, ◌/◌, ◌%◌, ◌<◌, ◌⊎◌, List, length, take, drop, Contains};
 ghost use Rattle.blk_base.specs.Counters.{sectors_per_slab};
-ghost use Rattle.blk_base.specs.Limits.{IsGeometry};
-ghost use Rattle.blk_base.specs.declared.geometry.Geometry.{Geometry};
-ghost use Rattle.blk_base.specs.declared.place.Pbn.{Pbn};
+ghost use Rattle.blk_base.specs.declared.opened.Opened.{Opened};
 ghost use Rattle.blk_base.specs.declared.point.Point.{Point};
 ghost use Rattle.reference_blocks.specs.References.{point_at, points_of, sectors_of};
 ghost use Rattle.reference_blocks.specs.Updates.{counters_after, up_to};
@@ -67,11 +65,10 @@ pub fn a_block_is_out_until_it_is_reported()
 /// Over every list of calls from an opened zone on, a journal block that is due has updates alone that these calls took of its
 /// slab.
 pub fn a_journal_block_has_updates_taken_here()
-    ensures { (g : Geometry) (zone zones room : ℕ) (all : List ℕ) (commits : List Point)
-        (tree_pages : List Pbn) (first old new : WholeZone) (calls : List Call)
-        (need : Need) (bytes : List ℕ) (work : SlabWork) →
-        IsOpeningWhole g zone zones room all commits tree_pages first → IsWhole first →
-        LeadTo first calls old
+    ensures { (opened : Opened) (zone zones room : ℕ) (first old new : WholeZone)
+        (calls : List Call) (need : Need) (bytes : List ℕ) (work : SlabWork) →
+        let g = opened.head.geometry in
+        IsOpeningWhole opened zone zones room first → IsWhole first → LeadTo first calls old
         → IsDueIn need old new bytes work → work.part ≡ Journal
         → (entries : List SlabEntry) × (bytes ≡ block_bytes g.nonce work.number work.slab entries)
         ×
@@ -83,37 +80,42 @@ pub fn a_journal_block_has_updates_taken_here()
 /// reference block that is due has in each sector the opening counters with exactly the updates of these calls that aren't
 /// above its commit point.
 pub fn a_reference_block_has_its_updates()
-    ensures { (g : Geometry) (zone zones room : ℕ) (all : List ℕ) (commits : List Point)
-        (tree_pages : List Pbn) (first old new : WholeZone) (calls : List Call)
-        (need : Need) (bytes : List ℕ) (work : SlabWork) →
-        IsOpeningWhole g zone zones room all commits tree_pages first → IsWhole first
+    ensures { (opened : Opened) (zone zones room : ℕ) (first old new : WholeZone)
+        (calls : List Call) (need : Need) (bytes : List ℕ) (work : SlabWork) →
+        let g = opened.head.geometry in
+        let commits = opened.commits.items in
+        IsOpeningWhole opened zone zones room first → IsWhole first
         → length commits ≡ g.slabs * sectors_per_slab g → LeadTo first calls old →
         IsDueIn need old new bytes work → work.part ≡ References
         → AreAbove g (points_of g work.slab commits) (updates_in g work.slab calls)
-        → let opened = take g.slab_blocks (drop (work.slab * g.slab_blocks) all) in
+        →
+        let all = opened.counters.items in
+        let counters = take g.slab_blocks (drop (work.slab * g.slab_blocks) all) in
         let points = (writes_at old.writes (work.slab / zones)).blocks.applied in
         bytes
         ≡ reference_bytes
         (sectors_of g points
-        (counters_after opened (up_to g points (updates_in g work.slab calls))) work.number) }
+        (counters_after counters (up_to g points (updates_in g work.slab calls))) work.number) }
 {}
 
 /// Over every list of calls from an opened zone on, where the opening commit points of a slab are below the updates taken, each
 /// update of the slab that is below the low point of the zone is durable, and each one where there is no low point.
 pub fn every_update_below_the_low_point_is_durable()
-    ensures some { (g : Geometry) (zone zones room : ℕ) (all : List ℕ) (commits : List Point)
-        (tree_pages : List Pbn) (first new : WholeZone) (calls : List Call)
-        (slab : ℕ) (entry : SlabEntry) (low : Point) →
-        IsOpeningWhole g zone zones room all commits tree_pages first → IsWhole first
+    ensures some { (opened : Opened) (zone zones room : ℕ) (first new : WholeZone)
+        (calls : List Call) (slab : ℕ) (entry : SlabEntry) (low : Point) →
+        let g = opened.head.geometry in
+        let commits = opened.commits.items in
+        IsOpeningWhole opened zone zones room first → IsWhole first
         → length commits ≡ g.slabs * sectors_per_slab g → LeadTo first calls new → slab < g.slabs →
         slab % zones ≡ zone
         → AreAbove g (points_of g slab commits) (updates_in g slab calls) →
         Contains (updates_in g slab calls) entry
         → IsLowPointIn new low → entry.point.0 < low.0 → IsDurableIn g slab calls entry }
-    ensures none { (g : Geometry) (zone zones room : ℕ) (all : List ℕ) (commits : List Point)
-        (tree_pages : List Pbn) (first new : WholeZone) (calls : List Call)
-        (slab : ℕ) (entry : SlabEntry) →
-        IsOpeningWhole g zone zones room all commits tree_pages first → IsWhole first
+    ensures none { (opened : Opened) (zone zones room : ℕ) (first new : WholeZone)
+        (calls : List Call) (slab : ℕ) (entry : SlabEntry) →
+        let g = opened.head.geometry in
+        let commits = opened.commits.items in
+        IsOpeningWhole opened zone zones room first → IsWhole first
         → length commits ≡ g.slabs * sectors_per_slab g → LeadTo first calls new → slab < g.slabs →
         slab % zones ≡ zone
         → AreAbove g (points_of g slab commits) (updates_in g slab calls) →
@@ -137,11 +139,13 @@ pub fn due_takes_the_first_slab()
 /// Over every list of calls from an opened zone on, a commit point in a slab's journal is 0, or that with which the reference
 /// block of its sector was handed out before it was reported as durable.
 pub fn a_commit_point_is_of_a_reported_block()
-    ensures { (g : Geometry) (zone zones room : ℕ) (all : List ℕ) (commits : List Point)
-        (tree_pages : List Pbn) (first new : WholeZone) (calls : List Call)
-        (slab sector : ℕ) → IsOpeningWhole g zone zones room all commits tree_pages first →
-        IsWhole first → length commits ≡ g.slabs * sectors_per_slab g
-        → LeadTo first calls new → slab < g.slabs → slab % zones ≡ zone
+    ensures { (opened : Opened) (zone zones room : ℕ) (first new : WholeZone)
+        (calls : List Call) (slab sector : ℕ) →
+        let g = opened.head.geometry in
+        let commits = opened.commits.items in
+        IsOpeningWhole opened zone zones room first → IsWhole first
+        → length commits ≡ g.slabs * sectors_per_slab g → LeadTo first calls new → slab < g.slabs →
+        slab % zones ≡ zone
         → let point = point_at (writes_at new.writes (slab / zones)).journal.commits sector in
         (point ≡ record { 0 = 0 }) ⊎ IsReported g (calls_of g slab calls) sector point }
 {}

@@ -21,8 +21,8 @@ pub(crate) fn opening_writes(
     requires commits { length opened.now.commits.items
         ≡ opened.now.head.geometry.slabs * sectors_per_slab opened.now.head.geometry }
     ensures { IfOk result (λ writes.
-        AreOpenedWrites opened.now.head.geometry zone zones opened.now.commits.items
-        (slabs_of_zone opened.now.head.geometry zone zones) writes.items) }
+        AreOpenedWrites opened.now zone zones (slabs_of_zone opened.now.head.geometry zone zones)
+        writes.items) }
 {
     let geometry = opened.head.geometry;
     let count = (geometry.slabs + zones - 1 - zone) / zones;

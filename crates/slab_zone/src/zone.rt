@@ -63,10 +63,7 @@ impl SlabZone {
             counter ≤ limit_of opened.now.head.geometry) opened.now.counters.items }
         requires commits { length opened.now.commits.items
             ≡ opened.now.head.geometry.slabs * sectors_per_slab opened.now.head.geometry }
-        ensures opening { IfOk result
-            (IsOpeningWhole opened.now.head.geometry zone zones
-            (32 * depth) opened.now.counters.items opened.now.commits.items
-            opened.now.tree_pages.items) }
+        ensures opening { IfOk result (IsOpeningWhole opened.now zone zones (32 * depth)) }
         ensures right { IfOk result IsWhole }
     {
         let counts = ZoneCounts::new(alloc, zone, zones, depth, opened)?;

@@ -8,9 +8,10 @@ use Rattle.blk_base.specs.declared.request.Writer.{Writer}
 use Rattle.slab_counts.specs.Counts.{Counts, IsOfSlab, IsFree, HasNoFree, ClaimsFree, claimed}
 use Rattle.slab_counts.specs.declared.refusals.Refusal.TheVariants.{NotData, NotLive}
 use Rattle.slab_counts.specs.declared.tickets.Ticket.{Ticket}
-use Rattle.slab_tickets.specs.Tickets.{Desk}
-use Rattle.zone_counts.specs.Zone.{Zone, BeginsBehind, IsOf, IsClaimedIn, NoneFree, ClaimsLowest, Serves, IsSettled, slab_at, slabs_of_zone}
+use Rattle.slab_tickets.specs.Tickets.{Desk, empty_desk}
+use Rattle.zone_counts.specs.Zone.{Zone, BeginsBehind, IsOf, IsClaimedIn, NoneFree, ClaimsLowest, Serves, IsSettled, slab_at, slabs_of_zone, AreOpened, IsOpeningZone}
 use Rattle.blk_base.specs.declared.point.Half.TheVariants.{Increment, Decrement}
+use Rattle.blk_base.specs.declared.opened.Opened.{Opened}
 use Rattle.slab_tickets.specs.declared.forms.Withdrawn.TheVariants.{Block, Nothing}
 use Rattle.zone_counts.specs.ByBlock.{has_block, counter_in, claims_in, out_with, makes, drops, maps, unmaps, withdraws, served_block}
 use Rattle.zone_counts.specs.Calls.{Call, Asks', Withdraws', Shares', Extends, Drops, SpendsPage, Applies}
@@ -271,3 +272,41 @@ served_to_the_ticket = refl
 
 served_to_nobody : served_block nothing_is_free ≡ None
 served_to_nobody = refl
+
+-- AreOpened, IsOpeningZone: of an image with these sizes
+abbrev just_opened : Zone
+just_opened = record some { desk = empty_desk 0 3 }
+
+module _ (image : Opened) (sizes_are : image.head.geometry ≡ ones) where
+  both_slabs : slabs_of_zone image.head.geometry 0 1 ≡ 2
+  both_slabs = ap (λ (g : Geometry). slabs_of_zone g 0 1) sizes_are
+
+  one_is_left_out : ¬ AreOpened image 0 1 2 (slab 0 1 0 ∷ [])
+  one_is_left_out are = omega (arith, are.length_is)
+
+  in_another_order : ¬ AreOpened image 0 1 2 (slab 1 0 0 ∷ slab 0 1 0 ∷ [])
+  in_another_order are = let no : 1 ≡ 0 = (are.each 0 (omega arith)).0.slab in omega (arith, no)
+
+  is_opened : AreOpened image 0 1 2 just_opened.slabs → IsOpeningZone image 0 1 3 just_opened
+  is_opened are = record {
+    geometry = sym sizes_are;
+    zone = refl;
+    zones = refl;
+    slabs = subst (λ (n : ℕ). AreOpened image 0 1 n just_opened.slabs) (sym both_slabs) are;
+    desk = refl;
+  }
+
+  of_another_image : ¬ IsOpeningZone image 0 1 3 (record just_opened { geometry = record ones { nonce = 2 } })
+  of_another_image is = let no : 2 ≡ 1 = ap (λ (g : Geometry). g.nonce) (is.geometry ∙ sizes_are) in omega (arith, no)
+
+  of_another_zone : ¬ IsOpeningZone image 1 1 3 just_opened
+  of_another_zone is = let no : 0 ≡ 1 = is.zone in omega (arith, no)
+
+  of_more_zones : ¬ IsOpeningZone image 0 2 3 just_opened
+  of_more_zones is = let no : 1 ≡ 2 = is.zones in omega (arith, no)
+
+  without_a_slab : ¬ IsOpeningZone image 0 1 3 (record just_opened { slabs = slab 0 1 0 ∷ [] })
+  without_a_slab is = omega (arith, is.slabs.length_is, both_slabs)
+
+  behind_a_step : ¬ IsOpeningZone image 0 1 3 (record just_opened { desk = quiet })
+  behind_a_step is = let no : 6 ≡ 0 = ap (λ (d : Desk). d.issued) is.desk in omega (arith, no)

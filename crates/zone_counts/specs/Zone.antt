@@ -3,6 +3,7 @@ use Rattle.std.specs.Prelude.{ℕ, ◌≡◌, ◌+◌, ◌-◌, ◌*◌, ◌/◌
 use Rattle.blk_base.specs.Regions.{IsDataBlock, first_slab_of, slab_stride_of}
 use Rattle.blk_base.specs.Limits.{IsGeometry}
 use Rattle.blk_base.specs.declared.geometry.Geometry.{Geometry}
+use Rattle.blk_base.specs.declared.opened.Opened.{Opened}
 use Rattle.blk_base.specs.declared.place.Pbn.{Pbn}
 use Rattle.slab_counts.specs.Counts.{Counts, IsOpening, HasNoFree, ClaimsFree, claims_of, used_of}
 use Rattle.slab_counts.specs.Kept.{IsWithin}
@@ -126,14 +127,15 @@ abbrev pub slabs_of_zone : Geometry → ℕ → ℕ → ℕ
 slabs_of_zone g zone zones = (g.slabs + zones - 1 - zone) / zones
 
 -- the first so many slabs of the zone, as an image with these counters and tree pages is opened
-pub record AreOpened (g : Geometry) (zone zones : ℕ) (all : List ℕ) (tree_pages : List Pbn) (count : ℕ) (slabs : List Counts) : Type 0 where
+pub record AreOpened (opened : Opened) (zone zones count : ℕ) (slabs : List Counts) : Type 0 where
   pub length_is : length slabs ≡ count
-  pub each : (k : ℕ) → k < count → IsOpening g (k * zones + zone) all tree_pages (slab_at slabs k) × IsWithin (slab_at slabs k)
+  pub each : (k : ℕ) → k < count
+      → IsOpening opened.head.geometry (k * zones + zone) opened.counters.items opened.tree_pages.items (slab_at slabs k) × IsWithin (slab_at slabs k)
 
 -- how a zone is opened: all its slabs, no ticket, and no step
-pub record IsOpeningZone (g : Geometry) (number zones' room : ℕ) (all : List ℕ) (tree_pages : List Pbn) (z : Zone) : Type 0 where
-  pub geometry : z.geometry ≡ g
+pub record IsOpeningZone (opened : Opened) (number zones' room : ℕ) (z : Zone) : Type 0 where
+  pub geometry : z.geometry ≡ opened.head.geometry
   pub zone : z.zone ≡ number
   pub zones : z.zones ≡ zones'
-  pub slabs : AreOpened g number zones' all tree_pages (slabs_of_zone g number zones') z.slabs
+  pub slabs : AreOpened opened number zones' (slabs_of_zone opened.head.geometry number zones') z.slabs
   pub desk : z.desk ≡ empty_desk number room

@@ -22,9 +22,8 @@ pub(crate) fn opening_slabs(
     requires limit { All (λ counter.
         counter ≤ limit_of opened.now.head.geometry) opened.now.counters.items }
     ensures { IfOk result (λ slabs.
-        AreOpened opened.now.head.geometry zone zones opened.now.counters.items
-        opened.now.tree_pages.items
-        (slabs_of_zone opened.now.head.geometry zone zones) slabs.items) }
+        AreOpened opened.now zone zones (slabs_of_zone opened.now.head.geometry zone zones)
+        slabs.items) }
 {
     let geometry = opened.head.geometry;
     let count = (geometry.slabs + zones - 1 - zone) / zones;

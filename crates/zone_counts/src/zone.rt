@@ -64,9 +64,7 @@ impl ZoneCounts {
             ≡ opened.now.head.geometry.slabs * opened.now.head.geometry.slab_blocks }
         requires limit { All (λ counter.
             counter ≤ limit_of opened.now.head.geometry) opened.now.counters.items }
-        ensures opening { IfOk result
-            (IsOpeningZone opened.now.head.geometry zone zones
-            (32 * depth) opened.now.counters.items opened.now.tree_pages.items) }
+        ensures opening { IfOk result (IsOpeningZone opened.now zone zones (32 * depth)) }
         ensures right { IfOk result IsZone }
     {
         let layout = Layout::of(&opened.head.geometry);

@@ -6,10 +6,8 @@ use Rattle.slab_zone.proofs.opened_zone.opening_writes.Goals as goal
 
 pub loop-k-preserved : goal.loop-k-preserved
 loop-k-preserved c =
-    let g = c.args.opened.now.head.geometry in
-    let commits = c.args.opened.now.commits.items in
     record {
-      opened = subst (λ (ws : List Writes). AreOpenedWrites g c.args.zone c.args.zones commits (c.loop-k.k + 1) ws) (sym c.push_reserved.ensures.items)
-          (opened_more g c.args.zone c.args.zones commits c.loop-k.k c.loop-k.writes.items c.in_ok-slab.slab c.loop-k.invariant.opened c.in_ok-slab.ensures.opening);
+      opened = subst (λ (ws : List Writes). AreOpenedWrites c.args.opened.now c.args.zone c.args.zones (c.loop-k.k + 1) ws) (sym c.push_reserved.ensures.items)
+          (opened_more c.args.opened.now c.args.zone c.args.zones c.loop-k.k c.loop-k.writes.items c.in_ok-slab.slab c.loop-k.invariant.opened c.in_ok-slab.ensures.opening);
       capacity = c.push_reserved.ensures.capacity ∙ c.loop-k.invariant.capacity;
     }

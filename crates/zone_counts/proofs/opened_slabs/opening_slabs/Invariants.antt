@@ -5,6 +5,6 @@ use Rattle.zone_counts.proofs.opened_slabs.opening_slabs.Given as goal
 
 abbrev pub invariant-loop-k : goal.invariant-loop-k
 invariant-loop-k l = record {
-  opened : AreOpened l.opened.head.geometry l.zone l.zones l.opened.counters.items l.opened.tree_pages.items l.k l.slabs.items;
+  opened : AreOpened l.opened l.zone l.zones l.k l.slabs.items;
   capacity : vec_capacity l.slabs ≡ vec_capacity l.initial.slabs;
 }
