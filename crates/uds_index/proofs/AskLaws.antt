@@ -8,6 +8,7 @@ use Rattle.std.proofs.lemmas.Bool.{eqb-true, false≢true}
 use Rattle.blk_base.specs.declared.place.Pbn.{Pbn}
 use Rattle.uds_chapters.specs.Chapters.{Numbered, location_of}
 use Rattle.uds_index.specs.Looks.{IsFirstToAsk, IsNamePage, IsNew, NeedsNone, NoneToAsk}
+use Rattle.uds_index.specs.declared.index_search.Region.{Region}
 
 -- what is cached and what was given
 first_there : {X : Type 0} (x y : X) (xs : List X) → x ≡ y → Contains (x ∷ xs) y
@@ -32,12 +33,12 @@ given_there (first ∷ given) at some = step (nat_eq first at) refl some (given_
     step true same some later = first_there first at given (eqb-true first at same)
     step false other some later = behind_there first at given (later some)
 
-module _ (first places : ℕ) (cached given name : List ℕ) where
+module _ (region : Region) (cached given name : List ℕ) where
   abbrev None' : List Numbered → Type 0
-  None' chapters = NoneToAsk first places cached given name chapters
+  None' chapters = NoneToAsk region cached given name chapters
 
   abbrev First : ℕ → List Numbered → Type 0
-  First at chapters = IsFirstToAsk first places cached given name at chapters
+  First at chapters = IsFirstToAsk region cached given name at chapters
 
   -- what is left says what all say
   pub record IsLeft (all left : List Numbered) : Type 0 where
@@ -48,7 +49,7 @@ module _ (first places : ℕ) (cached given name : List ℕ) where
   left_all all = record { none = λ is. is; asks = λ at is. is }
 
   -- a chapter has no page to ask for, and hasn't the name
-  pub left_on : (all : List Numbered) (k : ℕ) (one : Numbered) → drop k all ≡ one ∷ drop (suc k) all → NeedsNone first places cached given name one → location_of name one.records ≡ None
+  pub left_on : (all : List Numbered) (k : ℕ) (one : Numbered) → drop k all ≡ one ∷ drop (suc k) all → NeedsNone region cached given name one → location_of name one.records ≡ None
       → IsLeft all (drop k all) → IsLeft all (drop (suc k) all)
   left_on all k one here needs none left = record {
     none = λ is. left.none (subst (λ (cs : List Numbered). None' cs) (sym here) (needs, λ gone. is));
@@ -56,7 +57,7 @@ module _ (first places : ℕ) (cached given name : List ℕ) where
   }
 
   -- it has the name
-  pub none_known : (all : List Numbered) (k : ℕ) (one : Numbered) (at : Pbn) → drop k all ≡ one ∷ drop (suc k) all → NeedsNone first places cached given name one → location_of name one.records ≡ Some at
+  pub none_known : (all : List Numbered) (k : ℕ) (one : Numbered) (at : Pbn) → drop k all ≡ one ∷ drop (suc k) all → NeedsNone region cached given name one → location_of name one.records ≡ Some at
       → IsLeft all (drop k all) → None' all
   none_known all k one at here needs found left = left.none (subst (λ (cs : List Numbered). None' cs) (sym here) (needs, λ gone. absurd (not_both found gone)))
     where
@@ -64,7 +65,7 @@ module _ (first places : ℕ) (cached given name : List ℕ) where
       not_both some none = let no' : Some at ≡ None = sym some ∙ none in cc
 
   -- its page is asked for
-  pub asks_here : (all : List Numbered) (k : ℕ) (one : Numbered) (at : ℕ) → drop k all ≡ one ∷ drop (suc k) all → IsNamePage first places name at one → IsNew first cached given at
+  pub asks_here : (all : List Numbered) (k : ℕ) (one : Numbered) (at : ℕ) → drop k all ≡ one ∷ drop (suc k) all → IsNamePage region.first region.places name at one → IsNew region.first cached given at
       → IsLeft all (drop k all) → First at all
   asks_here all k one at here page new left = left.asks at (subst (λ (cs : List Numbered). First at cs) (sym here) (inl (page, new)))
 

@@ -7,6 +7,7 @@ use Rattle.index_advice.specs.declared.look.Look.{Look}
 use Rattle.index_advice.specs.declared.look.Look.TheVariants.{Known, Nothing, Read}
 use Rattle.index_advice.specs.Books.{Book, has_tag, first_location, newest_record}
 use Rattle.uds_index.specs.Rooms.{count_at}
+use Rattle.uds_index.specs.declared.index_search.Region.{Region}
 
 -- The index: its book; the index blocks whose pages are cached; and of the look that is under way, the block that it asked
 -- for and wasn't given yet, those that it was given, in their order, and whether one of them couldn't be read.
@@ -46,10 +47,10 @@ pub record MayRead (first places : ℕ) (chapters : List Numbered) (cached given
 
 -- what these chapters say of a name: the record in the first that has one, or that there is none, or which page is to be
 -- read first
-abbrev pub FindsKept : ℕ → ℕ → List Numbered → List ℕ → List ℕ → List ℕ → Look → Type 0
-FindsKept first places chapters cached given name (Known at) = first_location name chapters ≡ Some at
-FindsKept first places chapters cached given name Nothing = first_location name chapters ≡ None
-FindsKept first places chapters cached given name (Read at) = MayRead first places chapters cached given at.0
+abbrev pub FindsKept : Region → List Numbered → List ℕ → List ℕ → List ℕ → Look → Type 0
+FindsKept region chapters cached given name (Known at) = first_location name chapters ≡ Some at
+FindsKept region chapters cached given name Nothing = first_location name chapters ≡ None
+FindsKept region chapters cached given name (Read at) = MayRead region.first region.places chapters cached given at.0
 
 -- Which page is asked for.
 
@@ -60,30 +61,31 @@ pub record IsNamePage (first places : ℕ) (name : List ℕ) (at : ℕ) (chapter
   pub block : at ≡ first + 4 * (chapter.number % places) + min (place / 170) 3
 
 -- the name's page of the chapter needn't be asked for: it is cached or was given, or too many were
-abbrev pub NeedsNone : ℕ → ℕ → List ℕ → List ℕ → List ℕ → Numbered → Type 0
-NeedsNone first places cached given name chapter = (at : ℕ) × IsNamePage first places name at chapter × (IsNew first cached given at → ⊥)
+abbrev pub NeedsNone : Region → List ℕ → List ℕ → List ℕ → Numbered → Type 0
+NeedsNone region cached given name chapter = (at : ℕ) × IsNamePage region.first region.places name at chapter × (IsNew region.first cached given at → ⊥)
 
 -- of these chapters, up to the first that has the name, none has such a page to ask for
-abbrev pub NoneToAsk : ℕ → ℕ → List ℕ → List ℕ → List ℕ → List Numbered → Type 0
-NoneToAsk first places cached given name [] = Unit {0}
-NoneToAsk first places cached given name (chapter ∷ older) =
-    NeedsNone first places cached given name chapter × (location_of name chapter.records ≡ None → NoneToAsk first places cached given name older)
+abbrev pub NoneToAsk : Region → List ℕ → List ℕ → List ℕ → List Numbered → Type 0
+NoneToAsk region cached given name [] = Unit {0}
+NoneToAsk region cached given name (chapter ∷ older) =
+    NeedsNone region cached given name chapter × (location_of name chapter.records ≡ None → NoneToAsk region cached given name older)
 
 -- the block is that of the first of these chapters that has one to ask for, and none before that has the name
-abbrev pub IsFirstToAsk : ℕ → ℕ → List ℕ → List ℕ → List ℕ → ℕ → List Numbered → Type 0
-IsFirstToAsk first places cached given name at [] = ⊥
-IsFirstToAsk first places cached given name at (chapter ∷ older) =
-    (IsNamePage first places name at chapter × IsNew first cached given at)
-    ⊎ (NeedsNone first places cached given name chapter × (location_of name chapter.records ≡ None) × IsFirstToAsk first places cached given name at older)
+abbrev pub IsFirstToAsk : Region → List ℕ → List ℕ → List ℕ → ℕ → List Numbered → Type 0
+IsFirstToAsk region cached given name at [] = ⊥
+IsFirstToAsk region cached given name at (chapter ∷ older) =
+    (IsNamePage region.first region.places name at chapter × IsNew region.first cached given at)
+    ⊎ (NeedsNone region cached given name chapter × (location_of name chapter.records ≡ None) × IsFirstToAsk region cached given name at older)
 
 -- so it asks for that page, and for none where there is none to ask for
-abbrev pub AsksInOrder : ℕ → ℕ → List Numbered → List ℕ → List ℕ → List ℕ → Look → Type 0
-AsksInOrder first places chapters cached given name (Read at) = IsFirstToAsk first places cached given name at.0 chapters
-AsksInOrder first places chapters cached given name other = NoneToAsk first places cached given name chapters
+abbrev pub AsksInOrder : Region → List Numbered → List ℕ → List ℕ → List ℕ → Look → Type 0
+AsksInOrder region chapters cached given name (Read at) = IsFirstToAsk region cached given name at.0 chapters
+AsksInOrder region chapters cached given name other = NoneToAsk region cached given name chapters
 
 -- the same of a book whose open chapter hasn't the name
 abbrev pub AsksOf : Book → List ℕ → List ℕ → List ℕ → Look → Type 0
-AsksOf book cached given name look = location_of name book.unclosed ≡ None → AsksInOrder book.first book.places (chapters_for name book) cached given name look
+AsksOf book cached given name look =
+    location_of name book.unclosed ≡ None → AsksInOrder (record { first = book.first; places = book.places }) (chapters_for name book) cached given name look
 
 -- and of the index, unless a page couldn't be read
 abbrev pub Asks : List ℕ → Index → Look → Type 0

@@ -50,10 +50,10 @@ pub(crate) fn find_kept(
     requires chapters { All IsChapter kept.now }
     requires order { AllPairs IsNewer kept.now }
     requires listed { AreListed kept.now tags.now.tags }
-    ensures finds { FindsKept region.first region.places
+    ensures finds { FindsKept region
         (take 4 (filter (has_tag (tag_of name.now)) kept.now))
         (keys_of cache.now.entries) given.now name.now result }
-    ensures asks { AsksInOrder region.first region.places
+    ensures asks { AsksInOrder region
         (take 4 (filter (has_tag (tag_of name.now)) kept.now))
         (keys_of cache.now.entries) given.now name.now result }
 {

@@ -28,7 +28,7 @@ returns-then-may_read c =
     let new = c.may_read.ensures.0 c.if-may_read.true in
     record {
       finds = record { chapter = c.in-Some.chapter.now; one = step.one; page = c.page_of-at.ensures.page; asks = new };
-      asks = asks_here c.args.region.first c.args.region.places (keys_of c.args.cache.now.entries) c.args.given.now c.args.name.now (take 4 (filter (has_tag (tag_of c.args.name.now)) c.args.kept.now)) c.loop-one.one-index c.in-Some.chapter.now c.page_of-at.result
+      asks = asks_here c.args.region (keys_of c.args.cache.now.entries) c.args.given.now c.args.name.now (take 4 (filter (has_tag (tag_of c.args.name.now)) c.args.kept.now)) c.loop-one.one-index c.in-Some.chapter.now c.page_of-at.result
           step.here c.page_of-at.ensures.named new c.loop-one.invariant.left;
     }
 
@@ -41,12 +41,12 @@ returns-in-Some-location c =
     c.in-Some.chapter.now (sym c.chapter_of.ensures ∙ ap option_copied c.in-Some.is) in
     let found : location_of c.args.name.now c.in-Some.chapter.now.records ≡ Some c.in-Some-location.at =
     ap (location_of c.args.name.now) (sym c.records.ensures.value) ∙ sym c.location.ensures ∙ c.in-Some-location.is in
-    let needs : NeedsNone c.args.region.first c.args.region.places (keys_of c.args.cache.now.entries) c.args.given.now c.args.name.now c.in-Some.chapter.now
+    let needs : NeedsNone c.args.region (keys_of c.args.cache.now.entries) c.args.given.now c.args.name.now c.in-Some.chapter.now
     = (c.page_of-at.result, c.page_of-at.ensures.named, λ new. absurd (false≢true (sym c.if-may_read.false ∙ c.may_read.ensures.1 new))) in
     record {
       finds = search_found c.args.name.now (take 4 (filter (has_tag (tag_of c.args.name.now)) c.args.kept.now)) c.loop-one.one-index c.in-Some.chapter.now c.in-Some-location.at step.here found
           c.loop-one.invariant.same;
-      asks = none_known c.args.region.first c.args.region.places (keys_of c.args.cache.now.entries) c.args.given.now c.args.name.now (take 4 (filter (has_tag (tag_of c.args.name.now)) c.args.kept.now)) c.loop-one.one-index c.in-Some.chapter.now c.in-Some-location.at
+      asks = none_known c.args.region (keys_of c.args.cache.now.entries) c.args.given.now c.args.name.now (take 4 (filter (has_tag (tag_of c.args.name.now)) c.args.kept.now)) c.loop-one.one-index c.in-Some.chapter.now c.in-Some-location.at
           step.here needs found c.loop-one.invariant.left;
     }
 
@@ -60,20 +60,20 @@ loop-one-preserved c =
     let nothing : location_of c.args.name.now c.in-Some.chapter.now.records ≡ None =
     ap (location_of c.args.name.now) (sym c.records.ensures.value) ∙ sym c.location.ensures ∙ c.in_default-location.is in
     let next : suc c.loop-one.one-index ≡ c.loop-one.one-index + 1 = omega arith in
-    let needs : NeedsNone c.args.region.first c.args.region.places (keys_of c.args.cache.now.entries) c.args.given.now c.args.name.now c.in-Some.chapter.now
+    let needs : NeedsNone c.args.region (keys_of c.args.cache.now.entries) c.args.given.now c.args.name.now c.in-Some.chapter.now
     = (c.page_of-at.result, c.page_of-at.ensures.named, λ new. absurd (false≢true (sym c.if-may_read.false ∙ c.may_read.ensures.1 new))) in
     record {
       same = search_on c.args.name.now (take 4 (filter (has_tag (tag_of c.args.name.now)) c.args.kept.now)) c.loop-one.one-index c.in-Some.chapter.now step.here nothing
           c.loop-one.invariant.same
           ∙ ap (λ (n : ℕ). first_location c.args.name.now (drop n (take 4 (filter (has_tag (tag_of c.args.name.now)) c.args.kept.now)))) next;
-      left = subst (λ (n : ℕ). IsLeft c.args.region.first c.args.region.places (keys_of c.args.cache.now.entries) c.args.given.now c.args.name.now (take 4 (filter (has_tag (tag_of c.args.name.now)) c.args.kept.now))
+      left = subst (λ (n : ℕ). IsLeft c.args.region (keys_of c.args.cache.now.entries) c.args.given.now c.args.name.now (take 4 (filter (has_tag (tag_of c.args.name.now)) c.args.kept.now))
           (drop n (take 4 (filter (has_tag (tag_of c.args.name.now)) c.args.kept.now)))) next
-          (left_on c.args.region.first c.args.region.places (keys_of c.args.cache.now.entries) c.args.given.now c.args.name.now (take 4 (filter (has_tag (tag_of c.args.name.now)) c.args.kept.now)) c.loop-one.one-index c.in-Some.chapter.now
+          (left_on c.args.region (keys_of c.args.cache.now.entries) c.args.given.now c.args.name.now (take 4 (filter (has_tag (tag_of c.args.name.now)) c.args.kept.now)) c.loop-one.one-index c.in-Some.chapter.now
           step.here needs nothing c.loop-one.invariant.left);
     }
 
 pub loop-one-init : goal.loop-one-init
 loop-one-init c = record {
   same = search_start c.args.name.now (take 4 (filter (has_tag (tag_of c.args.name.now)) c.args.kept.now));
-  left = left_all c.args.region.first c.args.region.places (keys_of c.args.cache.now.entries) c.args.given.now c.args.name.now (take 4 (filter (has_tag (tag_of c.args.name.now)) c.args.kept.now));
+  left = left_all c.args.region (keys_of c.args.cache.now.entries) c.args.given.now c.args.name.now (take 4 (filter (has_tag (tag_of c.args.name.now)) c.args.kept.now));
 }

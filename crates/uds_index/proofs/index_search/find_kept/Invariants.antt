@@ -9,6 +9,6 @@ abbrev pub invariant-loop-one : goal.invariant-loop-one
 invariant-loop-one l = record {
   same : first_location l.name (take 4 (filter (has_tag (tag_of l.name)) l.kept))
       ≡ first_location l.name (drop l.one-index (take 4 (filter (has_tag (tag_of l.name)) l.kept)));
-  left : IsLeft l.region.first l.region.places (keys_of l.cache.entries) l.given l.name (take 4 (filter (has_tag (tag_of l.name)) l.kept))
+  left : IsLeft l.region (keys_of l.cache.entries) l.given l.name (take 4 (filter (has_tag (tag_of l.name)) l.kept))
       (drop l.one-index (take 4 (filter (has_tag (tag_of l.name)) l.kept)));
 }
