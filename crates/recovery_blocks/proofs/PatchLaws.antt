@@ -1,16 +1,19 @@
 -- Mappings that are put into the slots of a page's block.
-use Rattle.std.proofs.Common.{ℕ, ◌≡◌, ◌+◌, ◌-◌, ◌*◌, ◌<◌, ◌≤◌, ◌++◌, List, length, take, drop, Some, None, refl, sym, ◌∙◌, ap, subst, inl, inr, arith, length-append, length-take-le, length-take, length-drop}
+use Rattle.std.proofs.Common.{ℕ, ◌≡◌, ◌+◌, ◌-◌, ◌*◌, ◌<◌, ◌≤◌, ◌++◌, List, [], length, take, drop, true, false, Option, Some, None, IsSome, refl, sym, ◌∙◌, ap, subst, inl, inr, arith, length-append, length-take-le, length-take, length-drop}
 use Rattle.std.proofs.lemmas.Bool.{cases_lt}
-use Rattle.std.proofs.lemmas.Bool.Decides.{eqb_tells}
 use Rattle.std.proofs.lemmas.List.{drop_at, drop-take, take-take, take_at}
+use Rattle.std.specs.Map.Iter.{TakesFirst}
+use Rattle.std.specs.Prelude.{is_some}
 use Rattle.blk_base.specs.declared.place.Mapping.{Mapping}
 use Rattle.blk_base.specs.declared.place.PageId.{PageId}
+use Rattle.blk_base.specs.declared.sizes.TheConstants.{PAGE_SLOTS}
 use Rattle.byte_fields.proofs.MappingLaws.{length-mapping}
 use Rattle.byte_fields.specs.Mappings.{mapping_bytes}
 use Rattle.page_codec.specs.Grammar.{slot_bytes}
-use Rattle.replay_map.specs.Changes.{changed}
 use Rattle.replay_map.specs.declared.changes.SlotId.{SlotId}
-use Rattle.recovery_blocks.specs.Patches.{IsPatched, IsSlotPut}
+use Rattle.replay_map.proofs.PutLaws.{AreOwn, ArePutBut}
+use Rattle.replay_map.specs.Changes.{changed}
+use Rattle.recovery_blocks.specs.Patches.{HasChange, IsPatched, IsSlotPut}
 
 -- some of the first w bytes
 within : (w off n : ℕ) (xs : List ℕ) → off + n ≤ w → take n (drop off (take w xs)) ≡ take n (drop off xs)
@@ -64,40 +67,28 @@ slot_put slot mapping old new at place size below front rest =
 
 -- One slot after the other.
 
-pub none_patched : (changes : List (SlotId × Mapping)) (page : PageId) (block : List ℕ) → IsPatched changes page 0 block block
-none_patched changes page block = record {
-  size = refl;
-  head = refl;
-  put = λ slot mapping none inside is. absurd (omega (arith, none));
-  others = λ slot inside left. refl;
+pub all_patched : (changes : List (SlotId × Mapping)) (page : PageId) (old new : List ℕ) → length new ≡ length old → take 36 new ≡ take 36 old
+    → ArePutBut slot_bytes mapping_bytes changes page [] old new → IsPatched changes page PAGE_SLOTS old new
+all_patched changes page old new size head are = record {
+  size = size;
+  head = head;
+  put = λ slot mapping below inside is. are.put slot mapping inside refl is;
+  others = λ slot inside left. are.others slot inside (left inside);
 }
 
-pub one_patched : (changes : List (SlotId × Mapping)) (page : PageId) (slot : ℕ) (mapping : Mapping) (old middle new : List ℕ) → IsPatched changes page slot old middle
-    → changed changes page slot ≡ Some mapping → IsSlotPut slot mapping middle new → slot < 812 → IsPatched changes page (slot + 1) old new
-one_patched changes page slot mapping old middle new were is put inside = record {
-  size = put.size ∙ were.size;
-  head = put.head ∙ were.head;
-  put = λ other one below within_page has. elim (eqb_tells other slot) [
-    | inl same ↦
-        let here : changed changes page slot ≡ Some one = subst (λ (n : ℕ). changed changes page n ≡ Some one) same.1 has in
-        let same_mapping : mapping ≡ one = cc (is, here) in
-        ap (λ (n : ℕ). slot_bytes n new) same.1 ∙ put.put ∙ ap mapping_bytes same_mapping
-    | inr differs ↦ let apart = differs.1 in put.others other within_page differs.1 ∙ were.put other one (omega (arith, below, apart)) within_page has
-  ];
-  others = λ other within_page left.
-      let apart : other ≡ slot → ⊥ = λ same. let none = left (omega (arith, same)) in
-      let here : changed changes page slot ≡ None = subst (λ (n : ℕ). changed changes page n ≡ None) same none in absurd (cc (is, here)) in
-      put.others other within_page apart ∙ were.others other within_page (λ before. left (omega (arith, before)));
-}
+-- Whether the first of the changes of a page is there.
 
-pub none_here : (changes : List (SlotId × Mapping)) (page : PageId) (slot : ℕ) (old new : List ℕ) → IsPatched changes page slot old new
-    → changed changes page slot ≡ None → IsPatched changes page (slot + 1) old new
-none_here changes page slot old new were is = record {
-  size = were.size;
-  head = were.head;
-  put = λ other one below within_page has. elim (eqb_tells other slot) [
-    | inl same ↦ let here : changed changes page slot ≡ Some one = subst (λ (n : ℕ). changed changes page n ≡ Some one) same.1 has in absurd (cc (is, here))
-    | inr differs ↦ let apart = differs.1 in were.put other one (omega (arith, below, apart)) within_page has
-  ];
-  others = λ other within_page left. were.others other within_page (λ before. left (omega (arith, before)));
-}
+module _ {A : Type 0} (shows : A → SlotId × Mapping) (changes own left : List (SlotId × Mapping)) (page : PageId) where
+  pub some_first : (first : Option A) → TakesFirst shows own first left → AreOwn changes page own → is_some first ≡ true → HasChange changes page
+  some_first None taken are is = absurd (cc is)
+  some_first (Some one) taken are is =
+      let own_first = subst (λ (xs : List (SlotId × Mapping)). AreOwn changes page xs) taken are in
+      ((shows one).0.slot, own_first.0.1, subst (λ (o : Option Mapping). IsSome o) (sym own_first.0.2) refl)
+
+  pub none_first : (first : Option A) → TakesFirst shows own first left → ((slot : ℕ) → slot < PAGE_SLOTS → changed own page slot ≡ changed changes page slot)
+      → is_some first ≡ false → HasChange changes page → ⊥
+  none_first (Some one) taken each is has = absurd (cc is)
+  none_first None taken each is (slot, inside, some) =
+      let none : changed changes page slot ≡ None = sym (each slot inside) ∙ ap (λ (xs : List (SlotId × Mapping)). changed xs page slot) taken.0 in
+      let never = subst (λ (o : Option Mapping). IsSome o) none some in
+      absurd (cc never)

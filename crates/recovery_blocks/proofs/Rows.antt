@@ -8,7 +8,6 @@ use Rattle.byte_fields.specs.Mappings.{mapping_bytes}
 use Rattle.image_model.proofs.Example.{small}
 use Rattle.replay_counts.specs.declared.forms.SectorPoints.{SectorPoints}
 use Rattle.replay_map.specs.declared.changes.SlotId.{SlotId}
-use Rattle.recovery_blocks.proofs.PatchLaws.{none_patched}
 use Rattle.recovery_blocks.specs.Counters.{AreCountsPut, HasUpdate, IsSectorPut}
 use Rattle.recovery_blocks.specs.Patches.{HasChange, IsPatched}
 
@@ -30,7 +29,7 @@ not_changed : HasChange [] leaf → ⊥
 not_changed (slot, inside, some) = absurd (cc some)
 
 nothing_put : IsPatched changes leaf 0 (page (0 ∷ [])) (page (0 ∷ []))
-nothing_put = none_patched changes leaf (page (0 ∷ []))
+nothing_put = record { size = refl; head = refl; put = λ slot mapping none inside is. absurd (omega (arith, none)); others = λ slot inside left. refl }
 
 zero_bytes : mapping_bytes Zero ≡ 1 ∷ 0 ∷ 0 ∷ 0 ∷ 0 ∷ []
 unfolding mapping_bytes le

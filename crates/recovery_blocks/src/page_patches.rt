@@ -3,7 +3,7 @@ ghost use Rattle.std.specs.Bool.{OnTrue, OnFalse};
 ghost use Rattle.blk_base.specs.declared.sizes.TheConstants.{PAGE_SLOTS};
 ghost use Rattle.recovery_blocks.specs.Patches.{HasChange, IsPatched, IsSlotPut};
 
-use blk_base::{Block, Mapping, PAGE_SLOTS, PageId};
+use blk_base::{Block, Mapping, PageId};
 use byte_fields::put_mapping;
 use replay_map::Changes;
 
@@ -19,10 +19,8 @@ fn put_slots(block: &mut [u8], page: PageId, changes: &Changes)
     requires { length block.old ≡ 4096 }
     ensures { IsPatched changes.now page PAGE_SLOTS block.old block.new }
 {
-    for slot in 0..PAGE_SLOTS {
-        if let Some(mapping) = changes.get(page, slot) {
-            put_slot(block, slot, mapping);
-        }
+    for (id, mapping) in changes.of_page(page) {
+        put_slot(block, id.slot, *mapping);
     }
 }
 
@@ -41,10 +39,5 @@ pub fn has_changes(page: PageId, changes: &Changes) -> bool
     ensures yes { OnTrue result (HasChange changes.now page) }
     ensures no { OnFalse result (HasChange changes.now page → ⊥) }
 {
-    for slot in 0..PAGE_SLOTS {
-        if changes.get(page, slot).is_some() {
-            return true;
-        }
-    }
-    false
+    changes.of_page(page).next().is_some()
 }

@@ -14,6 +14,7 @@ use Rattle.blk_base.specs.declared.place.Mapping.{Mapping}
 use Rattle.blk_base.specs.declared.place.PageId.{PageId}
 use Rattle.blk_base.specs.Pages.{page_order}
 use Rattle.image_model.specs.Maps.{or_else, put_by, put_last}
+use Rattle.image_model.specs.Pages.{is_page}
 use Rattle.replay_map.specs.contracts.changes.SlotIdOrd.TheImpl as slot_ord
 use Rattle.replay_map.specs.Changes.{AreNewest, changed, is_slot}
 use Rattle.replay_map.specs.declared.changes.SlotId.{SlotId}
@@ -42,17 +43,17 @@ tie x y = sym (unsigned_ties x y)
 flipped : (x y : ℕ) → is_eq (nat_cmp x y) ≡ (y == x)
 flipped x y = tie x y ∙ nat_eq_equiv.symm x y
 
--- two slots are alike in the order where they are one
+-- two pages are alike in the order where they are one
+pub pages_alike : (a b : PageId) → is_eq (page_order a b) ≡ is_page a b
+pages_alike a b =
+    both (nat_cmp a.tree b.tree) (ordering_then (nat_cmp a.level b.level) (nat_cmp a.index b.index))
+    ∙ ap₂ (λ (p q : Bool). p && q) (tie a.tree b.tree)
+    (both (nat_cmp a.level b.level) (nat_cmp a.index b.index) ∙ ap₂ (λ (p q : Bool). p && q) (tie a.level b.level) (tie a.index b.index))
+    ∙ apart_of (a.tree == b.tree) (a.level == b.level) (a.index == b.index)
+
+-- and so are two slots
 pub alike : (a b : SlotId) → is_eq (slot_cmp a b) ≡ is_slot b a.page a.slot
-alike a b =
-    both (page_order a.page b.page) (nat_cmp a.slot b.slot)
-    ∙ ap₂ (λ (p q : Bool). p && q)
-    (both (nat_cmp a.page.tree b.page.tree) (ordering_then (nat_cmp a.page.level b.page.level) (nat_cmp a.page.index b.page.index))
-    ∙ ap₂ (λ (p q : Bool). p && q) (tie a.page.tree b.page.tree)
-    (both (nat_cmp a.page.level b.page.level) (nat_cmp a.page.index b.page.index)
-    ∙ ap₂ (λ (p q : Bool). p && q) (tie a.page.level b.page.level) (tie a.page.index b.page.index))
-    ∙ apart_of (a.page.tree == b.page.tree) (a.page.level == b.page.level) (a.page.index == b.page.index))
-    (tie a.slot b.slot)
+alike a b = both (page_order a.page b.page) (nat_cmp a.slot b.slot) ∙ ap₂ (λ (p q : Bool). p && q) (pages_alike a.page b.page) (tie a.slot b.slot)
 
 pub alike_back : (a b : SlotId) → is_eq (slot_cmp a b) ≡ is_slot a b.page b.slot
 alike_back a b =

@@ -161,16 +161,6 @@ links_more page mappings slot old new before now =
     now ∙ ap (λ (xs : List Link). xs ++ link_of page slot (slice_index_or mappings slot Unmapped)) before
     ∙ ap (λ (n : ℕ). links_in page mappings n) (let next : suc slot ≡ slot + 1 = omega arith in next)
 
-pub changes_start : (changes : List (SlotId × Mapping)) (page : PageId) (xs : List SlotChange) → xs ≡ xs ++ changes_in changes page 0
-changes_start changes page xs = sym (append-nil xs)
-
-pub changes_step : (changes : List (SlotId × Mapping)) (page : PageId) (slot : ℕ) (first old new : List SlotChange) → old ≡ first ++ changes_in changes page slot
-    → new ≡ old ++ change_in page slot (changed changes page slot) → new ≡ first ++ changes_in changes page (slot + 1)
-changes_step changes page slot first old new before now =
-    now ∙ ap (λ (xs : List SlotChange). xs ++ change_in page slot (changed changes page slot)) before
-    ∙ append_assoc first (changes_in changes page slot) (change_in page slot (changed changes page slot))
-    ∙ ap (λ (n : ℕ). first ++ changes_in changes page n) (let next : suc slot ≡ slot + 1 = omega arith in next)
-
 link_slot : (page : PageId) (mappings : List Mapping) (n : ℕ) (link : Link) → Contains (links_in page mappings n) link
     → (slot : ℕ) × (slot < n) × (link.page ≡ page_below page slot) × (slice_index_or mappings slot Unmapped ≡ At link.at)
 link_slot page mappings n link there = (links_are page mappings n link.page link.at).0 there

@@ -8,7 +8,7 @@ use Rattle.blk_base.specs.declared.place.Pbn.{Pbn}
 use Rattle.disk_model.proofs.LookedLaws.{one_in-read, one_in-since}
 use Rattle.disk_model.proofs.SinceLaws.{were_only_read}
 use Rattle.disk_model.specs.Images.{IsMixOf}
-use Rattle.disk_model.specs.Log.{Blocks, block_at, settled}
+use Rattle.disk_model.specs.Log.{Blocks, settled}
 use Rattle.disk_model.specs.Seen.{Seen}
 use Rattle.disk_model.specs.Since.{IsUntouched}
 use Rattle.image_layout.specs.Opened.{super_of_image}

@@ -1,4 +1,6 @@
 pub mod ChangeLaws
+pub mod OwnLaws
+pub mod PutLaws
 pub mod PageLaws
 pub mod LinkLaws
 pub mod ReadLaws

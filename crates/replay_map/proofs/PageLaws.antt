@@ -12,12 +12,14 @@ use Rattle.disk_model.specs.Log.{block_at}
 use Rattle.image_model.proofs.MapLaws.{slot_says_its_mapping}
 use Rattle.image_model.specs.Faults.{HasFault}
 use Rattle.image_model.specs.Maps.{Image, IsReadable, head_of, mapping_in, put_last, says}
-use Rattle.page_codec.specs.Grammar.{HasHead, IsSlot, IsSlotFault}
+use Rattle.page_codec.proofs.ReadLaws.{slots}
+use Rattle.page_codec.specs.Grammar.{HasHead, IsPage, IsSlot, IsSlotFault}
 use Rattle.page_codec.specs.declared.fault.PageFault.{PageFault}
 use Rattle.page_codec.specs.declared.forms.PageHead.{PageHead}
 use Rattle.image_model.specs.Windows.{LeadsToData}
 use Rattle.replay_map.specs.Reads.{AreLeading, LeadToData}
-use Rattle.replay_map.specs.Pages.{AreSaid, HasSlotFault, IsReadAs, IsRefused, SaysSlot, Stands}
+use Rattle.replay_map.specs.Changes.{changed}
+use Rattle.replay_map.specs.Pages.{ArePut, AreSaid, HasSlotFault, IsReadAs, IsRefused, SaysSlot, Stands}
 use Rattle.replay_map.specs.declared.changes.SlotId.{SlotId}
 
 -- Slot by slot.
@@ -53,6 +55,18 @@ slot_leads head block changes slot (At at) low lead (inr own) = own.1.held.0
 pub are_leading : (head : PageHead) (block : List ℕ) (changes : List (SlotId × Mapping)) (mappings : List Mapping) → head.page.level < 2 ^ 8
     → AreSaid head block changes PAGE_SLOTS mappings → LeadToData head.geometry changes → AreLeading head.geometry mappings
 are_leading head block changes mappings low said lead slot inside = slot_leads head block changes slot (slice_index_or mappings slot Unmapped) low lead (said slot inside)
+
+-- The mappings of a page with the changes put over them.
+
+over : (head : PageHead) (block : List ℕ) (changes : List (SlotId × Mapping)) (own mappings : List Mapping) (slot : ℕ) (put : Option Mapping) → slot < PAGE_SLOTS → IsPage head block own
+    → ArePut changes head.page own mappings → changed changes head.page slot ≡ put → SaysSlot head block changes slot (slice_index_or mappings slot Unmapped)
+over head block changes own mappings slot (Some mapping) inside page are is = inl (is ∙ ap (λ (m : Mapping). Some m) (sym (are.put slot mapping inside is)))
+over head block changes own mappings slot None inside page are is =
+    inr (is, subst (λ (m : Mapping). IsSlot head block slot m) (sym (are.others slot inside is)) (slots head block own slot page inside))
+
+pub put_said : (head : PageHead) (block : List ℕ) (changes : List (SlotId × Mapping)) (own mappings : List Mapping) → IsPage head block own → ArePut changes head.page own mappings
+    → AreSaid head block changes PAGE_SLOTS mappings
+put_said head block changes own mappings page are slot inside = over head block changes own mappings slot (changed changes head.page slot) inside page are refl
 
 -- In an image.
 

@@ -1,6 +1,8 @@
 -- For each clause of this crate's definitions a small case that it accepts, and one that breaks it alone and is refused.
-use Rattle.std.specs.Prelude.{ℕ, ◌≡◌, ◌<◌, if◌then◌else◌, Bool, true, false, List, [], ◌∷◌, Option, Some, None, length, get_or, replicate, slice_index_or}
+use Rattle.std.specs.Prelude.{ℕ, ◌≡◌, ◌<◌, if◌then◌else◌, Bool, true, false, List, [], ◌∷◌, Option, Some, None, length, get_or, replicate, slice_index_or, slice_set}
 use Rattle.std.proofs.Common.{refl, sym, ◌∙◌, ap, inl, inr, arith}
+use Rattle.std.proofs.lemmas.Bool.Decides.{eqb_tells}
+use Rattle.std.proofs.lemmas.List.{get_or-set_other}
 use Rattle.blk_base.specs.Sectors.{zero_block}
 use Rattle.blk_base.specs.declared.geometry.Geometry.{Geometry}
 use Rattle.blk_base.specs.declared.journal_entry.Entry.TheVariants.{NewPage}
@@ -19,10 +21,13 @@ use Rattle.page_codec.specs.declared.forms.PageHead.{PageHead}
 use Rattle.replay_map.proofs.LinkLaws.{leaf_leads_nowhere, more_of_slots, none_of_slots, where_above_says}
 use Rattle.replay_map.proofs.PageLaws.{read_as}
 use Rattle.replay_map.specs.Changes.{AreNewest, changed, is_slot}
+use Rattle.replay_map.specs.Forms.{as_found}
 use Rattle.replay_map.specs.Links.{AreLinks, AreOfSlots}
 use Rattle.replay_map.specs.declared.links.Link.{Link}
-use Rattle.replay_map.specs.Pages.{AreSaid, HasSlotFault, IsReadAs, IsRefused, SaysSlot, Stands}
+use Rattle.replay_map.specs.Pages.{ArePut, AreSaid, HasSlotFault, IsReadAs, IsRefused, SaysSlot, Stands}
+use Rattle.replay_map.specs.Shares.{is_marked}
 use Rattle.replay_map.specs.declared.changes.SlotId.{SlotId}
+use Rattle.replay_map.specs.declared.found.SlotChange.{SlotChange}
 
 -- Slots: by the page and the number.
 abbrev third : SlotId
@@ -46,6 +51,47 @@ changed_first = refl
 
 changed_nowhere : changed (leads 86 ∷ []) root 4 ≡ None
 changed_nowhere = refl
+
+-- Put over the mappings of a page.
+abbrev blanks : List Mapping
+blanks = replicate 4 Unmapped
+
+put_there : (slot : ℕ) (mapping : Mapping) → changed (leads 86 ∷ []) root slot ≡ Some mapping → slice_index_or (slice_set blanks 3 (At (pbn 86))) slot Unmapped ≡ mapping
+put_there slot mapping is = elim (eqb_tells slot 3) [
+  | inl same ↦ let one = rw same.0 at is in let mapping_is : At (pbn 86) ≡ mapping = cc one in ap (λ (n : ℕ). slice_index_or (slice_set blanks 3 (At (pbn 86))) n Unmapped) same.1 ∙ mapping_is
+  | inr other ↦ let none = rw other.0 at is in absurd (cc none)
+]
+
+left_there : (slot : ℕ) → changed (leads 86 ∷ []) root slot ≡ None → slice_index_or (slice_set blanks 3 (At (pbn 86))) slot Unmapped ≡ slice_index_or blanks slot Unmapped
+left_there slot is = elim (eqb_tells slot 3) [
+  | inl same ↦ let one = rw same.0 at is in absurd (cc one)
+  | inr other ↦ get_or-set_other blanks 3 slot (At (pbn 86)) Unmapped other.1
+]
+
+put_are : ArePut (leads 86 ∷ []) root blanks (slice_set blanks 3 (At (pbn 86)))
+put_are = record { put = λ slot mapping inside is. put_there slot mapping is; others = λ slot inside is. left_there slot is }
+
+-- put: not where the slot is as it was
+put_missing : ArePut (leads 86 ∷ []) root blanks blanks → ⊥
+put_missing are = let there = are.put 3 (At (pbn 86)) (omega arith) refl in absurd (cc there)
+
+-- others: not where one that nothing is put into is another one
+put_besides : ArePut (leads 86 ∷ []) root blanks (slice_set (slice_set blanks 3 (At (pbn 86))) 0 Zero) → ⊥
+put_besides are = let there = are.others 0 (omega arith) refl in absurd (cc there)
+
+-- What a walk finds of a change.
+found_as : as_found (leads 86) ≡ record { page = root; slot = 3; mapping = At (pbn 86) }
+found_as = refl
+
+found_elsewhere : as_found (leads 86) ≡ record { page = root; slot = 4; mapping = At (pbn 86) } → ⊥
+found_elsewhere same = let slot = ap (λ (change : SlotChange). change.slot) same in omega (arith, slot)
+
+-- Marks: of the first blocks.
+marked_is : is_marked (false ∷ true ∷ []) 1 ≡ true
+marked_is = refl
+
+marked_is_not : is_marked (false ∷ true ∷ []) 2 ≡ false
+marked_is_not = refl
 
 -- The newest ones: of a window whose one entry is of a page that slot 3 of the root leads to.
 one_of : (b : Bool) (mapping : Mapping) → (if b then Some mapping else None) ≡ or_else (if b then Some mapping else None) None

@@ -1,12 +1,12 @@
 -- Shared blocks are those that the image shares, and the least one is its fault.
-use Rattle.std.proofs.Common.{ℕ, suc, ◌≡◌, ◌⊎◌, ◌+◌, ◌<◌, ◌≤◌, ◌==◌, ◌||◌, ◌++◌, Bool, true, false, cond, List, [], ◌∷◌, Option, Some, None, Contains, length, get_or, take, slice_index_or, refl, sym, ◌∙◌, ap, subst, inl, inr, arith}
-use Rattle.std.specs.Ordering.{nat_cmp, is_eq}
-use Rattle.std.specs.Cmp.{unsigned_ties}
+use Rattle.std.proofs.Common.{ℕ, suc, ◌≡◌, ◌⊎◌, ◌+◌, ◌<◌, ◌≤◌, ◌==◌, ◌||◌, ◌++◌, Bool, true, false, List, [], ◌∷◌, Option, Some, None, Contains, length, get_or, replicate, take, slice_index_or, slice_set, zero, refl, sym, ◌∙◌, ap, subst, inl, inr, arith}
 use Rattle.std.proofs.Math.Seq.{take-suc}
+use Rattle.std.proofs.lemmas.Bool.Decides.{eqb_tells}
+use Rattle.std.proofs.lemmas.List.{get_or-set_other, get_or-set_same}
 use Rattle.std.proofs.lemmas.List.Elements.{Contains-append_cases, Contains-append_left, Contains-append_right}
 use Rattle.std.proofs.lemmas.List.Folds.{list_any-append}
 use Rattle.blk_base.specs.declared.place.Pbn.{Pbn}
-use Rattle.replay_map.specs.Shares.{IsLeastOf, has_page}
+use Rattle.replay_map.specs.Shares.{IsLeastOf, has_page, is_marked}
 use Rattle.replay_map.specs.declared.links.Link.{Link}
 
 only_one : {T : Type 0} (x y : T) → Contains (x ∷ []) y → x ≡ y
@@ -83,21 +83,36 @@ least_as test other blocks (Some least) same (there, passes, lowest) = (there, s
 pub grown : {T : Type 0} (xs : List T) (i : ℕ) (d : T) → i < length xs → take (i + 1) xs ≡ take i xs ++ get_or xs i d ∷ []
 grown xs i d inside = let one : i + 1 ≡ suc i = omega arith in ap (λ (n : ℕ). take n xs) one ∙ take-suc xs i d inside
 
--- The blocks of pages.
+-- The marks of pages.
 
-tie : (x y : ℕ) → is_eq (nat_cmp x y) ≡ (x == y)
-tie x y = sym (unsigned_ties x y)
+no_mark : (count block : ℕ) → is_marked (replicate count false) block ≡ false
+no_mark zero block = refl
+no_mark (suc count) zero = refl
+no_mark (suc count) (suc block) = no_mark count block
 
-one_more : (b c : Bool) → cond b true c ≡ (c || (b || false))
-one_more true true = refl
-one_more true false = refl
-one_more false true = refl
-one_more false false = refl
+pub none_marked : (marks : List Bool) (count block : ℕ) → marks ≡ replicate count false → is_marked marks block ≡ has_page [] block
+none_marked marks count block is = ap (λ (ms : List Bool). is_marked ms block) is ∙ no_mark count block
 
--- one page more
-pub page_more : (links : List Link) (link : Link) (block : ℕ) (old new : Bool) → old ≡ has_page links block → new ≡ cond (is_eq (nat_cmp link.at.0 block)) true old
-    → new ≡ has_page (links ++ link ∷ []) block
-page_more links link block old new was is =
-    is ∙ ap (λ (b : Bool). cond b true old) (tie link.at.0 block) ∙ ap (λ (b : Bool). cond (link.at.0 == block) true b) was
-    ∙ one_more (link.at.0 == block) (has_page links block)
-    ∙ sym (list_any-append (λ (l : Link). l.at.0 == block) links (link ∷ []))
+with_one : (b c : Bool) → c ≡ true → (b || (c || false)) ≡ true
+with_one true true same = refl
+with_one false true same = refl
+with_one b false same = absurd (cc same)
+
+without : (b c : Bool) → c ≡ false → (b || (c || false)) ≡ b
+without true false same = refl
+without false false same = refl
+without b true same = absurd (cc same)
+
+-- one mark more
+pub mark_more : (links : List Link) (link : Link) (block : ℕ) (old new : List Bool) → link.at.0 < length old → new ≡ slice_set old link.at.0 true
+    → is_marked old block ≡ has_page links block → is_marked new block ≡ has_page (links ++ link ∷ []) block
+mark_more links link block old new inside is were =
+    let both = list_any-append (λ (l : Link). l.at.0 == block) links (link ∷ []) in
+    elim (eqb_tells link.at.0 block) [
+      | inl same ↦
+          ap (λ (ms : List Bool). is_marked ms block) is ∙ ap (λ (n : ℕ). is_marked (slice_set old link.at.0 true) n) (sym same.1)
+          ∙ get_or-set_same old link.at.0 true false inside ∙ sym (with_one (has_page links block) (link.at.0 == block) same.0) ∙ sym both
+      | inr other ↦
+          ap (λ (ms : List Bool). is_marked ms block) is ∙ get_or-set_other old link.at.0 block true false (λ same. other.1 (sym same)) ∙ were
+          ∙ sym (without (has_page links block) (link.at.0 == block) other.0) ∙ sym both
+    ]

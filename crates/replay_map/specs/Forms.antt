@@ -57,6 +57,10 @@ abbrev pub changes_in : List (SlotId × Mapping) → PageId → ℕ → List Slo
 changes_in changes page zero = []
 changes_in changes page (suc n) = changes_in changes page n ++ change_in page n (changed changes page n)
 
+-- a change of a slot as what a walk finds of it
+abbrev pub as_found : SlotId × Mapping → SlotChange
+as_found change = record { page = change.0.page; slot = change.0.slot; mapping = change.1 }
+
 -- what one page adds; a leaf leads to no pages
 pub record Takes (page : PageId) (mappings : List Mapping) (changes : List (SlotId × Mapping)) (old new : Found) : Type 0 where
   pub leaf : page.level ≡ 0 → new.links.items ≡ old.links.items

@@ -2,6 +2,7 @@
 use Rattle.std.specs.Prelude.{ℕ, ◌≡◌, ◌<◌, ◌⊎◌, List, Some, None, slice_index_or}
 use Rattle.blk_base.specs.declared.place.Mapping.{Mapping}
 use Rattle.blk_base.specs.declared.place.Mapping.TheVariants.{Unmapped}
+use Rattle.blk_base.specs.declared.place.PageId.{PageId}
 use Rattle.blk_base.specs.declared.sizes.TheConstants.{PAGE_SLOTS}
 use Rattle.disk_model.specs.Log.{block_at}
 use Rattle.image_model.specs.Maps.{Image, IsGoodPage, says}
@@ -35,6 +36,11 @@ SaysSlot head block changes slot mapping =
 -- each of the first slots says the mapping that stands in this list
 abbrev pub AreSaid : PageHead → List ℕ → List (SlotId × Mapping) → ℕ → List Mapping → Type 0
 AreSaid head block changes count mappings = (i : ℕ) → i < count → SaysSlot head block changes i (slice_index_or mappings i Unmapped)
+
+-- each slot of the page has the mapping that the changes put there, or else the one that it had
+pub record ArePut (changes : List (SlotId × Mapping)) (page : PageId) (old new : List Mapping) : Type 0 where
+  pub put : (slot : ℕ) (mapping : Mapping) → slot < PAGE_SLOTS → changed changes page slot ≡ Some mapping → slice_index_or new slot Unmapped ≡ mapping
+  pub others : (slot : ℕ) → slot < PAGE_SLOTS → changed changes page slot ≡ None → slice_index_or new slot Unmapped ≡ slice_index_or old slot Unmapped
 
 -- a slot that the changes leave has this fault
 abbrev pub HasSlotFault : PageHead → List ℕ → List (SlotId × Mapping) → ℕ → PageFault → Type 0

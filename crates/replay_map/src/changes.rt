@@ -1,13 +1,19 @@
-ghost use Rattle.std.specs.Prelude.{◌≡◌, ◌<◌, ◌^◌, ℕ, if◌then◌else◌, Some, None, IfOk, IfSome, IfNone, OnOk, reverse};
+ghost use Rattle.std.specs.Prelude.{◌≡◌, ◌<◌, ◌^◌, ℕ, if◌then◌else◌, Some, None, IfOk, IfSome, IfNone, OnOk, map, reverse};
+ghost use Rattle.std.specs.Map.Iter.{ShowsInOrder, deref_pair};
 ghost use Rattle.blk_base.specs.Pages.{above, slot_of};
+ghost use Rattle.blk_base.specs.declared.place.Mapping.{Mapping as Put};
 ghost use Rattle.blk_base.specs.declared.place.PageId.{PageId};
+ghost use Rattle.blk_base.specs.declared.sizes.TheConstants.{PAGE_SLOTS as SLOTS};
 ghost use Rattle.image_model.specs.Maps.{or_else, put_by};
 ghost use Rattle.image_model.specs.Pages.{leaf_of, slot_of_address};
 ghost use Rattle.replay_map.specs.Changes.{AreNewest, changed, is_slot};
+ghost use Rattle.replay_map.specs.Forms.{as_found, changes_in};
+ghost use Rattle.replay_map.specs.declared.changes.SlotId.{SlotId as Slot};
 
 use blk_base::{CommittedEntry, Entry, Lba, Mapping, PAGE_SLOTS, PageId, TREES};
 use std::alloc::{AllocError, Global};
 use std::collections::BTreeMap;
+use std::collections::btree_map::Range;
 use std::marker::Model;
 
 /// A slot of a page of the block map. The order is that of the pages' trees, levels and numbers, and then of the slots.
@@ -18,7 +24,7 @@ pub struct SlotId {
     pub slot: u16,
 }
 
-// A page is read with a look-up for each of its slots, and no entry is looked at twice.
+// What is put into a page stands together, so that a page is read with one search.
 /// What the entries of a window put into the slots of pages: of each slot what the newest one does. A contract sees the
 /// slots with their mappings, in the order of slots.
 #[derive(Drop)]
@@ -54,6 +60,21 @@ impl Changes {
         ensures { result ≡ changed self.now page slot }
     {
         self.newest.get(&SlotId { page, slot }).copied()
+    }
+
+    /// What is put into the slots of a page, in the order of its slots. It is found in a time that grows with the logarithm of
+    /// all slots.
+    pub fn of_page(&self, page: PageId) -> Range<'_, SlotId, Mapping>
+        ensures each { (slot : ℕ) → slot < SLOTS → changed result page slot ≡ changed self.now page slot }
+        ensures listed { map as_found result ≡ changes_in self.now page SLOTS }
+        ensures runs { ShowsInOrder (deref_pair {K = Slot} {X = Put}) }
+    {
+        let first = SlotId { page, slot: 0 };
+        let last = SlotId {
+            page,
+            slot: PAGE_SLOTS - 1,
+        };
+        self.newest.range(first..=last)
     }
 }
 

@@ -5,12 +5,12 @@ ghost use Rattle.blk_base.specs.declared.sizes.TheConstants.{PAGE_SLOTS};
 ghost use Rattle.image_model.specs.Faults.{HasFault};
 ghost use Rattle.image_model.specs.Maps.{Image};
 ghost use Rattle.page_codec.specs.Grammar.{HasHead};
-ghost use Rattle.replay_map.specs.Pages.{AreSaid, HasSlotFault, IsReadAs, IsRefused, SaysSlot, Stands};
+ghost use Rattle.replay_map.specs.Pages.{ArePut, AreSaid, HasSlotFault, IsReadAs, IsRefused, SaysSlot, Stands};
 ghost use Rattle.replay_map.specs.Reads.{AreLeading, LeadToData};
 
 use crate::Changes;
-use blk_base::{Block, Mapping, Mappings, PAGE_SLOTS};
-use page_codec::{PageFault, PageHead, slot};
+use blk_base::{Block, Mapping, Mappings, PAGE_SLOTS, PageId};
+use page_codec::{MapPage, PageFault, PageHead, decode, slot};
 
 // The header is looked at even where the window replaces each slot.
 /// Reads the page of this block, with what the changes put into its slots. `into` has then what each slot says in the
@@ -39,8 +39,44 @@ pub fn read_page(
     read_slots(block, want, changes, into)
 }
 
-// The same by the block and the changes alone.
+// The same by the block and the changes alone. A page is decoded whole; only where a slot of it is refused, which the
+// changes may replace, its slots are read one by one.
 fn read_slots(
+    block: &Block,
+    want: &PageHead,
+    changes: &Changes,
+    into: &mut Mappings,
+) -> Result<(), PageFault>
+    requires geometry { IsGeometry want.now.geometry }
+    ensures head { OnOk result (HasHead want.now block.now) }
+    ensures ok { OnOk result (AreSaid want.now block.now changes.now PAGE_SLOTS into.new) }
+    ensures fault { IfErr result (IsRefused want.now block.now changes.now) }
+{
+    let mut page = MapPage {
+        head: *want,
+        mappings: Mappings::new(),
+    };
+    match decode(block, want, &mut page) {
+        Ok(()) => {
+            into.copy_from(&page.mappings);
+            put_over(want.page, changes, into);
+            Ok(())
+        }
+        Err(_) => read_one_by_one(block, want, changes, into),
+    }
+}
+
+// Puts the changes of a page over its mappings.
+fn put_over(page: PageId, changes: &Changes, into: &mut Mappings)
+    ensures { ArePut changes.now page into.old into.new }
+{
+    for (id, mapping) in changes.of_page(page) {
+        into.set(id.slot, *mapping);
+    }
+}
+
+// The same as `read_slots`, slot after slot.
+fn read_one_by_one(
     block: &Block,
     want: &PageHead,
     changes: &Changes,

@@ -126,27 +126,11 @@ fn push_changes(
     ensures exact { OnOk result
         (slots.new.items ≡ slots.old.items ++ changes_in changes.now page PAGE_SLOTS) }
 {
-    for slot in 0..PAGE_SLOTS {
-        push_change(page, slot, changes, slots)?;
-    }
-    Ok(())
-}
-
-// Adds a slot, if they replace it.
-fn push_change(
-    page: PageId,
-    slot: u16,
-    changes: &Changes,
-    slots: &mut Vec<SlotChange>,
-) -> Result<(), AllocError>
-    ensures { OnOk result
-        (slots.new.items ≡ slots.old.items ++ change_in page slot (changed changes.now page slot)) }
-{
-    if let Some(mapping) = changes.get(page, slot) {
+    for (id, mapping) in changes.of_page(page) {
         slots.push(SlotChange {
             page,
-            slot,
-            mapping,
+            slot: id.slot,
+            mapping: *mapping,
         })?;
     }
     Ok(())

@@ -1,17 +1,17 @@
-use Rattle.std.proofs.Common.{◌∙◌, sym, subst, Option}
-use Rattle.std.specs.BTreeSet.{contains}
-use Rattle.std.specs.Ordering.{nat_cmp}
+use Rattle.std.proofs.Common.{subst, Option}
 use Rattle.blk_base.specs.declared.place.Pbn.{Pbn}
-use Rattle.replay_map.proofs.ShareLaws.{least_first, least_lower}
+use Rattle.replay_map.proofs.ShareLaws.{least_first, least_kept, least_lower}
 use Rattle.replay_map.specs.Shares.{IsLeastOf}
 use Rattle.replay_map.proofs.shared_pages.lesser.Goals as goal
 
 pub returns-in-None : goal.returns-in-None
-returns-in-None c blocks is =
-    least_first (contains nat_cmp c.args.pages.now) blocks c.args.at (sym c.contains.ensures ∙ c.if-not-contains.false)
-    (subst (λ (o : Option Pbn). IsLeastOf (contains nat_cmp c.args.pages.now) blocks o) c.in-None.is is)
+returns-in-None c test blocks were passes =
+    least_first test blocks c.args.other passes (subst (λ (o : Option Pbn). IsLeastOf test blocks o) c.in-None.is were)
 
-pub returns-then-at-other : goal.returns-then-at-other
-returns-then-at-other c blocks is =
-    least_lower (contains nat_cmp c.args.pages.now) blocks c.args.at c.in-Some.other (sym c.contains.ensures ∙ c.if-not-contains.false) c.if-at-other.true
-    (subst (λ (o : Option Pbn). IsLeastOf (contains nat_cmp c.args.pages.now) blocks o) c.in-Some.is is)
+pub returns-then-other-least : goal.returns-then-other-least
+returns-then-other-least c test blocks were passes =
+    least_lower test blocks c.args.other c.in-Some.least passes c.if-other-least.true (subst (λ (o : Option Pbn). IsLeastOf test blocks o) c.in-Some.is were)
+
+pub returns-else-other-least : goal.returns-else-other-least
+returns-else-other-least c test blocks were passes =
+    least_kept test blocks c.args.other c.in-Some.least c.if-other-least.false (subst (λ (o : Option Pbn). IsLeastOf test blocks o) c.in-Some.is were)
