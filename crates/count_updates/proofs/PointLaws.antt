@@ -1,8 +1,8 @@
 -- The points of a block's updates, taken from a list that is in order.
-use Rattle.std.proofs.Common.{ℕ, suc, ◌≡◌, ◌⊎◌, ◌+◌, ◌<◌, ◌≤◌, ◌==◌, ◌&&◌, nat_lt, Bool, true, false, if◌then◌else◌, List, [], ◌∷◌, length, get_or, drop, Contains, Result, Err, refl, sym, ◌∙◌, ap, ap₂, subst, inl, inr, arith}
+use Rattle.std.proofs.Common.{ℕ, suc, ◌≡◌, ◌⊎◌, ◌+◌, ◌<◌, ◌≤◌, ◌==◌, ◌&&◌, nat_lt, Bool, true, false, if◌then◌else◌, List, [], ◌∷◌, length, get_or, drop, Contains, Result, Ok, Err, refl, sym, ◌∙◌, ap, ap₂, subst, inl, inr, arith}
 use Rattle.std.specs.List.{AllByRecursion}
 use Rattle.std.proofs.Math.Seq.{drop-cons}
-use Rattle.std.proofs.lemmas.Bool.{cases_lt, lt-ltb, le-ltb, le-leb, lt-leb}
+use Rattle.std.proofs.lemmas.Bool.{cases_lt, eqb-true, lt-ltb, le-ltb, le-leb, lt-leb}
 use Rattle.std.proofs.lemmas.Bool.Decides.{eqb_tells}
 use Rattle.blk_base.specs.declared.journal_entry.Update.{Update}
 use Rattle.image_model.specs.Counts.{AreRising, count_after, count_from}
@@ -176,6 +176,16 @@ from_fits limit commit counter points fits = rw (le-leb counter limit fits) refl
 
 pub from_past : (limit commit counter : ℕ) (points : List ℕ) → limit < counter → count_from limit commit counter points ≡ Err commit
 from_past limit commit counter points past = rw (lt-leb counter limit past) refl
+
+-- without updates it is the counter
+pub none_of : (updates : List Update) → (length updates == 0) ≡ true → updates ≡ []
+none_of [] is = refl
+none_of (update ∷ later) is = absurd (let none = eqb-true (length (update ∷ later)) 0 is in omega (arith, none))
+
+pub without_updates : (limit at commit counter : ℕ) (updates : List Update) → updates ≡ [] → counter ≤ limit → IsCounted limit updates at commit counter (Ok counter)
+without_updates limit at commit counter updates none fits =
+    subst (λ (us : List Update). IsCounted limit us at commit counter (Ok counter)) (sym none)
+    (is_counted limit at commit counter [] (Ok counter) tt (from_fits limit commit counter [] fits))
 
 pub not_both : (n m : ℕ) → n ≤ m → m < n → ⊥
 not_both n m most more = omega (arith, most, more)

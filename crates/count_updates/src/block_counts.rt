@@ -99,6 +99,7 @@ fn end_of_block(updates: &[Update], from: usize, at: Pbn) -> usize
     updates.len()
 }
 
+// Most blocks have no updates, and then nothing is asked of their sector.
 // The count of a data block; `updates` has all of its updates, and may have others.
 fn count_of(
     layout: &Layout,
@@ -117,11 +118,13 @@ fn count_of(
         IsCountedAt layout.now.geometry found.now.counters.items found.now.commits.items updates.now
         place (Err point.0)) }
 {
+    let counter = found.counters[layout.block_number(place.slab, place.offset) as usize];
+    if updates.is_empty() && u16::from(counter) <= layout.limit() {
+        return Ok(u16::from(counter));
+    }
     let at = layout.data_block(place.slab, place.offset);
     let sector = layout.sector_number(place.slab, layout.sector_of_offset(place.offset));
-    let block = layout.block_number(place.slab, place.offset);
     let commit = found.commits[sector as usize];
-    let counter = found.counters[block as usize];
     count_from(layout.limit(), at, commit, counter, updates)
 }
 
