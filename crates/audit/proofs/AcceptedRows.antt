@@ -1,6 +1,6 @@
 -- Audits that are accepted: the report of an empty image, the numbers of blocks that no list has, what was read of a device
 -- that doesn't tell, and a device without a superblock.
-use Rattle.std.proofs.Common.{ℕ, ◌≡◌, ◌+◌, ◌<◌, Bool, true, false, IsTrue, List, [], ◌∷◌, length, replicate, reverse, slice_index, Contains, Ok, Err, Result, refl, sym, ◌∙◌, ap, subst, inl, inr, arith}
+use Rattle.std.proofs.Common.{ℕ, ◌≡◌, ◌+◌, ◌<◌, Bool, true, false, IsTrue, List, [], ◌∷◌, length, replicate, slice_index, Contains, Ok, refl, sym, ◌∙◌, ap, subst, inl, inr, arith}
 use Rattle.std.proofs.lemmas.List.{get_or-replicate, length-replicate}
 use Rattle.blk_base.specs.Regions.{DataBlock, Root, block_of}
 use Rattle.blk_base.specs.Sectors.{zero_block}
@@ -9,23 +9,23 @@ use Rattle.blk_base.specs.declared.geometry.Super.{Super as Superblock}
 use Rattle.blk_base.specs.declared.layout.DataPlace.{DataPlace}
 use Rattle.blk_base.specs.declared.place.Pbn.{Pbn}
 use Rattle.blk_base.specs.declared.sizes.TheConstants.{TREES}
-use Rattle.count_updates.specs.Numbers.{all_blocks, block_number}
+use Rattle.count_updates.specs.Numbers.{block_number}
 use Rattle.disk_model.proofs.SeenLaws.{later_yet, stays_yet}
 use Rattle.disk_model.specs.Log.{Blocks, block_at}
 use Rattle.disk_model.specs.Seen.{Seen}
-use Rattle.disk_model.specs.Since.{AreGiven, WereRead}
+use Rattle.disk_model.specs.Since.{AreGiven}
 use Rattle.image_layout.specs.declared.fault.SuperFault.TheVariants.{NotAnImage}
 use Rattle.image_model.proofs.CountLaws.{none_in_nothing, one_number, one_stored}
 use Rattle.image_model.proofs.EmptyLaws.{blank_slot, has_nothing, pages_good, root_says, sizes_of_image}
 use Rattle.image_model.proofs.Example.{small}
-use Rattle.image_model.specs.Counts.{HasMappings, Stores}
+use Rattle.image_model.specs.Counts.{Stores}
 use Rattle.image_model.specs.Empty.{HasNothing, IsEmpty, empty_root, empty_super}
 use Rattle.image_model.specs.Maps.{ArePagesGood, Image}
 use Rattle.image_model.specs.Sound.{IsDataPlace, image_of}
-use Rattle.image_model.specs.declared.fault.ImageFault.TheVariants.{Counts, Device, Super}
+use Rattle.image_model.specs.declared.fault.ImageFault.TheVariants.{Counts, Super}
 use Rattle.journal_window.specs.States.{WindowState}
 use Rattle.replay_counts.specs.Recovered.{AreSlabsRead}
-use Rattle.slab_reading.specs.Slabs.{blocks_per_slab, first_of_slab}
+use Rattle.slab_reading.specs.Slabs.{first_of_slab}
 use Rattle.audit.specs.Audits.{AuditFails, BothShow}
 use Rattle.audit.specs.Reports.{AreUsed, Differs, HasNoFault, IsReport}
 use Rattle.audit.specs.Tallies.{AreTallied, Tallies, used_in}
@@ -43,8 +43,8 @@ zero_of place inside =
     get_or-replicate 64 (block_number small place) 0 0 (omega (arith, slab, offset))
 
 -- AreTallied: of no page and no address each block has none
-none_are_tallied : AreTallied small [] [] zeros
-none_are_tallied = record { size = length-replicate {A = ℕ} 64 0; each = λ place inside. none place inside }
+none_are_tallied : AreTallied small [] [] (slice_index zeros)
+none_are_tallied = λ place inside. none place inside
   where
     none : (place : DataPlace) → IsDataPlace small place → Tallies [] [] (record { 0 = block_of small (DataBlock place.slab place.offset) }) (slice_index zeros (block_number small place))
     none place inside = record { pages = 0; one_page = inr (refl, λ (link, has, at). none_in_nothing link has); sum = zero_of place inside }

@@ -153,7 +153,7 @@ pub report_ok : {E : Type 0} (result : Result Report E) (A B C P : Report → Ty
 report_ok (Ok report) A B C P a b c follows = follows report a b c
 report_ok (Err e) A B C P a b c follows = tt
 
-pub report_with : (image : Image) (g : Geometry) (links : List Link) (mapped : List Pbn) (stored tallies : List ℕ) (report : Report) → image.geometry ≡ g → IsGeometry g
+pub report_with : (image : Image) (g : Geometry) (links : List Link) (mapped : List Pbn) (stored : List ℕ) (tallies : ℕ → ℕ) (report : Report) → image.geometry ≡ g → IsGeometry g
     → ArePagesGood image → AreUnshared image
     → ((link : Link) → Contains links link ↔ ((link.page.level + 1 < image.geometry.height) × (page_at image link.page ≡ Some link.at)))
     → ((block : Pbn) → times block mapped ≡ mapped_below (mapping_of image) block (address_count image.geometry))

@@ -39,12 +39,12 @@ all_of P (x ∷ xs) each = (each x (0, omega arith, refl), all_of P xs (λ y (k,
 
 -- At most one for each number.
 
-pub few_below : (g : Geometry) (stored mapped : List ℕ) (n : ℕ) → length (differences_below g stored mapped n) ≤ n
+pub few_below : (g : Geometry) (stored : List ℕ) (mapped : ℕ → ℕ) (n : ℕ) → length (differences_below g stored mapped n) ≤ n
 few_below g stored mapped zero = omega arith
 few_below g stored mapped (suc n) =
     let few = few_below g stored mapped n in
     let sum = length-append (differences_below g stored mapped n) (difference_in g stored mapped n) in
-    elim (eqb_tells (slice_index stored n) (slice_index mapped n)) [
+    elim (eqb_tells (slice_index stored n) (mapped n)) [
       | inl same ↦
           let none : length (difference_in g stored mapped n) ≡ 0 = rw same.0 refl in
           omega (arith, few, sum, none)
@@ -53,13 +53,29 @@ few_below g stored mapped (suc n) =
           omega (arith, few, sum, one)
     ]
 
+-- Where nothing differs, nothing is listed.
+
+pub none_between : (g : Geometry) (stored : List ℕ) (mapped : ℕ → ℕ) (first count : ℕ) → ((k : ℕ) → k < count → slice_index stored (first + k) ≡ mapped (first + k))
+    → differences_below g stored mapped (first + count) ≡ differences_below g stored mapped first
+none_between g stored mapped first zero same = let none : first + zero ≡ first = omega arith in ap (differences_below g stored mapped) none
+none_between g stored mapped first (suc count) same =
+    let next : first + suc count ≡ suc (first + count) = omega arith in
+    let here = same count (omega arith) in
+    let none : difference_in g stored mapped (first + count) ≡ [] = elim (eqb_tells (slice_index stored (first + count)) (mapped (first + count))) [
+      | inl equal ↦ rw equal.0 refl
+      | inr differs ↦ absurd (differs.1 here)
+    ] in
+    ap (differences_below g stored mapped) next
+    ∙ ap (λ (ds : List Difference). differences_below g stored mapped (first + count) ++ ds) none ∙ append-nil (differences_below g stored mapped (first + count))
+    ∙ none_between g stored mapped first count (λ k below. same k (omega (arith, below)))
+
 module _ (g : Geometry) (sizes : IsGeometry g) where
   -- Numbers and places.
 
-  place_inside : (n : ℕ) → n < all_blocks g → IsDataPlace g (place_of_number g n)
+  pub place_inside : (n : ℕ) → n < all_blocks g → IsDataPlace g (place_of_number g n)
   place_inside n below = let some = sizes.slab_blocks.0 in (div_below n g.slab_blocks g.slabs (omega (arith, some)) below, mod_below n g.slab_blocks (omega (arith, some)))
 
-  number_again : (n : ℕ) → block_number g (place_of_number g n) ≡ n
+  pub number_again : (n : ℕ) → block_number g (place_of_number g n) ≡ n
   number_again n = div-add-mod' n g.slab_blocks
 
   place_again : (place : DataPlace) → IsDataPlace g place → place_of_number g (block_number g place) ≡ place
@@ -93,9 +109,9 @@ module _ (g : Geometry) (sizes : IsGeometry g) where
 
   -- The list of differences.
 
-  module _ (stored mapped : List ℕ) where
-    in_row : (n : ℕ) (d : Difference) → Contains (difference_in g stored mapped n) d → (row_of g stored mapped n ≡ d) × (slice_index stored n ≡ slice_index mapped n → ⊥)
-    in_row n d has = elim (eqb_tells (slice_index stored n) (slice_index mapped n)) [
+  module _ (stored : List ℕ) (mapped : ℕ → ℕ) where
+    in_row : (n : ℕ) (d : Difference) → Contains (difference_in g stored mapped n) d → (row_of g stored mapped n ≡ d) × (slice_index stored n ≡ mapped n → ⊥)
+    in_row n d has = elim (eqb_tells (slice_index stored n) (mapped n)) [
       | inl same ↦ absurd (none_in_nothing d (subst (λ (b : Bool). Contains (if b then [] else row_of g stored mapped n ∷ []) d) same.0 has))
       | inr differs ↦ (
         elim (is_first_or_behind (row_of g stored mapped n) [] d (subst (λ (b : Bool). Contains (if b then [] else row_of g stored mapped n ∷ []) d) differs.0 has)) [
@@ -106,21 +122,21 @@ module _ (g : Geometry) (sizes : IsGeometry g) where
       )
     ]
 
-    row_there : (n : ℕ) → (slice_index stored n ≡ slice_index mapped n → ⊥) → difference_in g stored mapped n ≡ row_of g stored mapped n ∷ []
-    row_there n differs = elim (eqb_tells (slice_index stored n) (slice_index mapped n)) [
+    row_there : (n : ℕ) → (slice_index stored n ≡ mapped n → ⊥) → difference_in g stored mapped n ≡ row_of g stored mapped n ∷ []
+    row_there n differs = elim (eqb_tells (slice_index stored n) (mapped n)) [
       | inl same ↦ absurd (differs same.1)
       | inr other ↦ rw (other.0) refl
     ]
 
     in_list : (n : ℕ) (d : Difference) → Contains (differences_below g stored mapped n) d
-        → (m : ℕ) × (m < n) × (row_of g stored mapped m ≡ d) × (slice_index stored m ≡ slice_index mapped m → ⊥)
+        → (m : ℕ) × (m < n) × (row_of g stored mapped m ≡ d) × (slice_index stored m ≡ mapped m → ⊥)
     in_list zero d has = absurd (none_in_nothing d has)
     in_list (suc n) d has = elim (Contains-append_cases (differences_below g stored mapped n) (difference_in g stored mapped n) d has) [
       | inl before ↦ let is = in_list n d before in let below = is.1 in (is.0, omega (arith, below), is.2, is.3)
       | inr here ↦ let is = in_row n d here in (n, omega arith, is.0, is.1)
     ]
 
-    list_there : (n m : ℕ) → m < n → (slice_index stored m ≡ slice_index mapped m → ⊥) → Contains (differences_below g stored mapped n) (row_of g stored mapped m)
+    list_there : (n m : ℕ) → m < n → (slice_index stored m ≡ mapped m → ⊥) → Contains (differences_below g stored mapped n) (row_of g stored mapped m)
     list_there zero m below differs = absurd (omega (arith, below))
     list_there (suc n) m below differs = elim (cases_lt m n) [
       | inl less ↦ Contains-append_left (differences_below g stored mapped n) (difference_in g stored mapped n) (row_of g stored mapped m) (list_there n m less differs)
@@ -133,7 +149,7 @@ module _ (g : Geometry) (sizes : IsGeometry g) where
 
     all_rise : (n : ℕ) → n ≤ all_blocks g → AreRising (differences_below g stored mapped n)
     all_rise zero within = tt
-    all_rise (suc n) within = elim (eqb_tells (slice_index stored n) (slice_index mapped n)) [
+    all_rise (suc n) within = elim (eqb_tells (slice_index stored n) (mapped n)) [
       | inl same ↦ rw (same.0, append-nil) (all_rise n (omega (arith, within)))
       | inr differs ↦ rw (differs.0)
           (rising_more (differences_below g stored mapped n) (row_of g stored mapped n) (all_rise n (omega (arith, within)))
@@ -147,7 +163,7 @@ module _ (g : Geometry) (sizes : IsGeometry g) where
 
 -- In an image.
 
-module _ (image : Image) (sizes : IsGeometry image.geometry) (links : List Link) (mapped : List Pbn) (stored tallies : List ℕ)
+module _ (image : Image) (sizes : IsGeometry image.geometry) (links : List Link) (mapped : List Pbn) (stored : List ℕ) (tallies : ℕ → ℕ)
     (all_links : (link : Link) → Contains links link ↔ ((link.page.level + 1 < image.geometry.height) × (page_at image link.page ≡ Some link.at)))
     (all_mapped : (block : Pbn) → times block mapped ≡ mapped_below (mapping_of image) block (address_count image.geometry))
     (size : length stored ≡ all_blocks image.geometry)
@@ -156,9 +172,9 @@ module _ (image : Image) (sizes : IsGeometry image.geometry) (links : List Link)
   abbrev g : Geometry
   g = image.geometry
 
-  has_mappings : (place : DataPlace) → IsDataPlace g place → HasMappings image (block_of_data g place) (slice_index tallies (block_number g place))
+  has_mappings : (place : DataPlace) → IsDataPlace g place → HasMappings image (block_of_data g place) (tallies (block_number g place))
   has_mappings place inside =
-      let is = tallied.each place inside in
+      let is = tallied place inside in
       record {
         pages = is.pages;
         one_page = elim is.one_page [
@@ -180,7 +196,7 @@ module _ (image : Image) (sizes : IsGeometry image.geometry) (links : List Link)
         inside = inside;
         stands = refl;
         stores = subst (λ (n : ℕ). Stores image place (Ok (slice_index stored n))) number (counts place inside);
-        maps = subst (λ (n : ℕ). HasMappings image (block_of_data g place) (slice_index tallies n)) number (has_mappings place inside);
+        maps = subst (λ (n : ℕ). HasMappings image (block_of_data g place) (tallies n)) number (has_mappings place inside);
         apart = is.3;
       })
 
@@ -191,11 +207,11 @@ module _ (image : Image) (sizes : IsGeometry image.geometry) (links : List Link)
       let below = block_inside g place is.inside in
       let one = one_stored image place (Ok d.stored) (Ok (slice_index stored n)) is.stores (counts place is.inside) in
       let stored_is : d.stored ≡ slice_index stored n = cc one in
-      let mapped_is : d.mapped ≡ slice_index tallies n =
-      one_number image (block_of_data g place) d.mapped (slice_index tallies n) (subst (λ (b : Pbn). HasMappings image b d.mapped) (sym is.stands) is.maps) (has_mappings place is.inside) in
+      let mapped_is : d.mapped ≡ tallies n =
+      one_number image (block_of_data g place) d.mapped (tallies n) (subst (λ (b : Pbn). HasMappings image b d.mapped) (sym is.stands) is.maps) (has_mappings place is.inside) in
       let at_is : block_of_data g (place_of_number g n) ≡ d.at = ap (block_of_data g) (place_again g sizes place is.inside) ∙ is.stands in
       let row : row_of g stored tallies n ≡ d =
-      ap (λ (a : Pbn). record { at = a; stored = slice_index stored n; mapped = slice_index tallies n }) at_is
+      ap (λ (a : Pbn). record { at = a; stored = slice_index stored n; mapped = tallies n }) at_is
       ∙ ap₂ (λ (s m : ℕ). record { at = d.at; stored = s; mapped = m }) (sym stored_is) (sym mapped_is) in
       subst (Contains (differences_below g stored tallies (all_blocks g))) row
       (list_there g sizes stored tallies (all_blocks g) n below (λ same. is.apart (stored_is ∙ same ∙ sym mapped_is)))

@@ -1,5 +1,9 @@
 -- For each definition a small case that it accepts, and one that it refuses.
-use Rattle.std.proofs.Common.{ℕ, zero, suc, ◌≡◌, ◌+◌, ◌≤◌, Bool, true, List, [], ◌∷◌, All, length, Contains, reverse, refl, ◌∙◌, ap, subst, inl, inr, arith, length-append}
+use Rattle.std.proofs.Common.{ℕ, zero, suc, ◌≡◌, ◌+◌, ◌<◌, ◌≤◌, Bool, true, List, [], ◌∷◌, All, length, Contains, reverse, slice_index, refl, ◌∙◌, ap, subst, inl, inr, arith, length-append}
+use Rattle.std.specs.BTreeMap.{BTreeMap, is_at}
+use Rattle.std.specs.Map.{lookup}
+use Rattle.std.specs.Ordering.{nat_cmp}
+use Rattle.std.specs.Prelude.{unwrap_or}
 use Rattle.blk_base.specs.Counters.{limit_of}
 use Rattle.blk_base.specs.declared.geometry.Geometry.{Geometry}
 use Rattle.blk_base.specs.declared.geometry.Super.{Super as Superblock}
@@ -17,10 +21,11 @@ use Rattle.replay_map.specs.declared.links.Link.{Link}
 use Rattle.audit.specs.Audits.{AreBothRead, AuditWithFails, IsOpenedTo}
 use Rattle.audit.specs.Reads.{AreContents}
 use Rattle.audit.specs.Reports.{AreRising, AreUsed, Differs, HasNoFault, IsReport}
-use Rattle.audit.specs.Tallies.{AreTallied, IsChanged, IsLinked, Tallies, differences_below, place_of_number, used_in}
+use Rattle.audit.specs.Tallies.{AreTallied, IsChanged, IsLinked, IsSplit, Tallies, differences_below, more_of, number_in, place_of_number, used_in}
 use Rattle.audit.specs.declared.forms.Contents.{Contents}
 use Rattle.audit.specs.declared.forms.Difference.{Difference}
 use Rattle.audit.specs.declared.forms.Report.{Report}
+use Rattle.audit.specs.declared.tallies.MappingCounts.{MappingCounts}
 
 -- Numbers of blocks. A leaf stands at 85.
 abbrev leaf : Link
@@ -50,30 +55,46 @@ page_left_out is = let sum = is.sum in elim is.one_page [
 address_left_out : Tallies [] (pbn 86 ∷ pbn 86 ∷ []) (pbn 86) 1 → ⊥
 address_left_out is = let sum : 1 ≡ 2 + is.pages = is.sum in omega (arith, sum)
 
--- size, each: a number for each data block, and the right one
-too_few : AreTallied small [] [] [] → ⊥
-too_few are = let size = are.size in omega (arith, size)
-
-first_is_one : (counts : List ℕ) → AreTallied small [] [] (1 ∷ counts) → ⊥
+-- each block has the right number
+first_is_one : (counts : List ℕ) → AreTallied small [] [] (slice_index (1 ∷ counts)) → ⊥
 first_is_one counts are =
-    let is = are.each (record { slab = 0; offset = 0 }) (omega arith, omega arith) in
+    let is = are (record { slab = 0; offset = 0 }) (omega arith, omega arith) in
     let sum : 1 ≡ 0 + is.pages = is.sum in
     elim is.one_page [
       | inl one ↦ none_in_nothing one.1.0 one.1.1
       | inr none ↦ let pages = none.0 in omega (arith, sum, pages)
     ]
 
--- size, here, others: the number of block 86 is changed, and no other
-one_shorter : (numbers : List ℕ) → IsChanged small (pbn 86) (λ n. n + 1) (1 ∷ numbers) numbers → ⊥
-one_shorter numbers is = let size = is.size in omega (arith, size)
-
-not_changed : (numbers : List ℕ) → IsChanged small (pbn 86) (λ n. n + 1) (0 ∷ 5 ∷ numbers) (0 ∷ 5 ∷ numbers) → ⊥
+-- here, others: the number of block 86 is changed, and no other
+not_changed : (numbers : List ℕ) → IsChanged small (pbn 86) (λ n. n + 1) (slice_index (0 ∷ 5 ∷ numbers)) (slice_index (0 ∷ 5 ∷ numbers)) → ⊥
 not_changed numbers is = let same : 5 ≡ 6 = is.here (record { slab = 0; offset = 1 }) (omega arith, omega arith) refl in omega (arith, same)
 
-another_changed : (numbers : List ℕ) → IsChanged small (pbn 86) (λ n. n + 1) (0 ∷ 5 ∷ numbers) (1 ∷ 6 ∷ numbers) → ⊥
+another_changed : (numbers : List ℕ) → IsChanged small (pbn 86) (λ n. n + 1) (slice_index (0 ∷ 5 ∷ numbers)) (slice_index (1 ∷ 6 ∷ numbers)) → ⊥
 another_changed numbers is =
     let same : 1 ≡ 0 = is.others (record { slab = 0; offset = 0 }) (omega arith, omega arith) (λ block. let number = ap (λ (b : Pbn). b.0) block in omega (arith, number)) in
     omega (arith, same)
+
+-- What a byte holds, and the map beyond it.
+more_is : (more : BTreeMap ℕ ℕ) → more.entries ≡ (3, 2) ∷ [] → more_of more 3 ≡ 2
+more_is more same = ap (λ (entries : List (ℕ × ℕ)). unwrap_or (lookup (is_at (nat_cmp 3)) entries) 0) same
+
+more_of_another : (more : BTreeMap ℕ ℕ) → more.entries ≡ (3, 2) ∷ [] → more_of more 4 ≡ 0
+more_of_another more same = ap (λ (entries : List (ℕ × ℕ)). unwrap_or (lookup (is_at (nat_cmp 4)) entries) 0) same
+
+byte_and_more : (tally : MappingCounts) → tally.low.items ≡ 255 ∷ [] → more_of tally.more 0 ≡ 2 → number_in tally 0 ≡ 257
+byte_and_more tally low more = let byte = ap (λ (xs : List ℕ). slice_index xs 0) low in omega (arith, byte, more)
+
+byte_alone : (tally : MappingCounts) → tally.low.items ≡ 255 ∷ [] → more_of tally.more 0 ≡ 2 → number_in tally 0 ≡ 255 → ⊥
+byte_alone tally low more is = let byte = ap (λ (xs : List ℕ). slice_index xs 0) low in omega (arith, byte, more, is)
+
+more_behind_the_greatest : (tally : MappingCounts) → tally.low.items ≡ 255 ∷ [] → ((n : ℕ) → 0 < n → more_of tally.more n ≡ 0) → IsSplit tally
+more_behind_the_greatest tally low nowhere zero less = absurd (let byte = ap (λ (xs : List ℕ). slice_index xs 0) low in omega (arith, byte, less))
+more_behind_the_greatest tally low nowhere (suc n) less = nowhere (suc n) (omega arith)
+
+more_behind_another : (tally : MappingCounts) → tally.low.items ≡ 254 ∷ [] → more_of tally.more 0 ≡ 2 → IsSplit tally → ⊥
+more_behind_another tally low more split =
+    let byte = ap (λ (xs : List ℕ). slice_index xs 0) low in
+    let none = split 0 (omega (arith, byte)) in omega (arith, more, none)
 
 -- The data blocks in their order, and those that differ.
 last_of_slab : place_of_number (record small { slabs = 2 }) 63 ≡ record { slab = 0; offset = 63 }
@@ -82,10 +103,10 @@ last_of_slab = refl
 first_of_next : place_of_number (record small { slabs = 2 }) 64 ≡ record { slab = 1; offset = 0 }
 first_of_next = refl
 
-second_differs : differences_below small (1 ∷ 2 ∷ 3 ∷ []) (1 ∷ 3 ∷ 4 ∷ []) 2 ≡ record { at = pbn 86; stored = 2; mapped = 3 } ∷ []
+second_differs : differences_below small (1 ∷ 2 ∷ 3 ∷ []) (slice_index (1 ∷ 3 ∷ 4 ∷ [])) 2 ≡ record { at = pbn 86; stored = 2; mapped = 3 } ∷ []
 second_differs = refl
 
-none_differs : differences_below small (1 ∷ 2 ∷ []) (1 ∷ 2 ∷ []) 2 ≡ []
+none_differs : differences_below small (1 ∷ 2 ∷ []) (slice_index (1 ∷ 2 ∷ [])) 2 ≡ []
 none_differs = refl
 
 two_used : used_in (0 ∷ 3 ∷ 1 ∷ []) ≡ 2

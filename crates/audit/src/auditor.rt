@@ -73,8 +73,8 @@ pub fn audit_with<D: Disk>(
     Ok(report)
 }
 
-/// The report of an image with this map and these counts; it reads nothing. It takes the memory of eight bytes for each data
-/// block, and of the blocks that differ, and fails only where there is none.
+/// The report of an image with this map and these counts; it reads nothing. It takes the memory of a byte for each data block,
+/// and of the blocks that differ, and fails only where there is none.
 pub fn report_of(
     alloc: Global,
     layout: &Layout,
