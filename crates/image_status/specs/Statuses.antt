@@ -22,11 +22,16 @@ pub record HasChapters (tells honest : Bool) (g : Geometry) (before now : Seen) 
   pub loaded : IsLoadedBook g reads book
   pub chapters_are : chapters ≡ length book.kept
 
--- From the superblock and the window on: pages and slabs were read, and then the index. Each image with this window that has
--- what was read has no fault, so many used data blocks, and so many in all.
+-- Pages and slabs were read. Each image with this window that has what was read has no fault, so many used data blocks, and so
+-- many in all.
+abbrev pub HasSpace : Bool → Bool → Super → WindowState → Seen → Seen → ℕ → ℕ → Type 0
+HasSpace tells honest head window before now used all =
+    BothShow tells honest head window before now (λ image. HasNoFault image × AreUsed image used × (all ≡ all_blocks image.geometry))
+
+-- From the superblock and the window on: how much space there is, and then the index.
 pub record IsStatusWith (tells honest : Bool) (head : Super) (window : WindowState) (before now : Seen) (status : ImageStatus) : Type 0 where
   pub middle : Seen
-  pub space : BothShow tells honest head window before middle (λ image. HasNoFault image × AreUsed image status.used × (status.total ≡ all_blocks image.geometry))
+  pub space : HasSpace tells honest head window before middle status.used status.total
   pub chapters : HasChapters tells honest head.geometry middle now status.chapters
   pub clean : status.clean ≡ head.clean
   pub entries : status.entries ≡ length window.entries

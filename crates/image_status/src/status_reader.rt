@@ -5,11 +5,11 @@ ghost use Rattle.blk_base.specs.Regions.{needed_blocks};
 ghost use Rattle.disk_model.specs.Log.{Blocks};
 ghost use Rattle.disk_model.specs.Since.{IsUntouched};
 ghost use Rattle.journal_window.specs.Windows.{IsWindowOf};
-ghost use Rattle.image_status.specs.Statuses.{HasChapters, IsStatusRead, IsStatusWith};
+ghost use Rattle.image_status.specs.Statuses.{HasChapters, HasSpace, IsStatusRead, IsStatusWith};
 
 use crate::ImageStatus;
-use audit::audit_with;
-use blk_base::{Geometry, Super};
+use audit::{count_used, read_contents};
+use blk_base::{Geometry, Layout, Super};
 use disk_model::Disk;
 use image_model::ImageFault;
 use image_opening::read_head;
@@ -57,10 +57,7 @@ fn status_with<D: Disk>(
         (D.seen device.new)) }
     ensures untouched { IsUntouched D.tells (D.seen device.old) (D.seen device.new) }
 {
-    let (used, total) = match audit_with(alloc, head, window, device) {
-        Ok(report) => (report.used, report.total),
-        Err(fault) => return Err(fault),
-    };
+    let (used, total) = read_space(alloc, head, window, device)?;
     let Ok(chapters) = count_chapters(alloc, &head.geometry, device) else {
         return Err(ImageFault::Memory);
     };
@@ -72,6 +69,29 @@ fn status_with<D: Disk>(
         total,
         logical: head.geometry.logical,
     })
+}
+
+// How many data blocks are used, and how many there are. Nothing is compared.
+fn read_space<D: Disk>(
+    alloc: Global,
+    head: &Super,
+    window: &JournalWindow,
+    device: &mut D,
+) -> Result<(u32, u32), ImageFault>
+    requires sizes { IsGeometry head.now.geometry }
+    requires room { needed_blocks head.now.geometry ≤ (D.seen device.old).size }
+    requires window { (journal : Blocks) × IsWindowOf head.now journal window.now }
+    ensures space { IfOk result (λ space.
+        HasSpace D.tells D.honest head.now window.now (D.seen device.old) (D.seen device.new)
+        space.0 space.1) }
+    ensures fault { IfErr result
+        (AuditWithFails D.tells D.honest head.now window.now (D.seen device.old)
+        (D.seen device.new)) }
+    ensures untouched { IsUntouched D.tells (D.seen device.old) (D.seen device.new) }
+{
+    let contents = read_contents(alloc, head, window, device)?;
+    let used = count_used(&contents.counts.counts);
+    Ok((used, Layout::of(&head.geometry).data_blocks()))
 }
 
 // How many chapters the index has.

@@ -3,7 +3,6 @@ use Rattle.std.proofs.lemmas.List.{length-reverse}
 use Rattle.blk_base.specs.declared.journal_entry.CommittedEntry.{CommittedEntry}
 use Rattle.disk_model.proofs.SinceLaws.{untouched_on}
 use Rattle.replay_map.proofs.EntryLaws.{few_entries}
-use Rattle.image_status.proofs.StatusLaws.{space_shown}
 use Rattle.image_status.proofs.status_reader.status_with.Goals as goal
 
 pub overflow_cast-result : goal.overflow_cast-result
@@ -14,16 +13,16 @@ overflow_cast-result g c =
     omega (arith, few, same, turned)
 
 pub returns-in_default-clause-untouched : goal.returns-in_default-clause-untouched
-returns-in_default-clause-untouched g c = untouched_on _ _ _ _ c.audit_with.ensures.untouched c.count_chapters.ensures.untouched
+returns-in_default-clause-untouched g c = untouched_on _ _ _ _ c.read_space.ensures.untouched c.count_chapters.ensures.untouched
 
 pub returns-clause-untouched : goal.returns-clause-untouched
-returns-clause-untouched g c = untouched_on _ _ _ _ c.audit_with.ensures.untouched c.count_chapters.ensures.untouched
+returns-clause-untouched g c = untouched_on _ _ _ _ c.read_space.ensures.untouched c.count_chapters.ensures.untouched
 
 pub returns-clause-status : goal.returns-clause-status
 returns-clause-status g c = record {
-  middle = g.D.Disk.seen c.audit_with.new.device;
-  space = space_shown g.D.Disk.tells g.D.Disk.honest c.args.head.now c.args.window.now (g.D.Disk.seen c.args.device.now) (g.D.Disk.seen c.audit_with.new.device) c.in-Ok.report c.in-Ok.ensures.report;
-  chapters = c.in-Ok-count_chapters.ensures.chapters;
+  middle = g.D.Disk.seen c.read_space.new.device;
+  space = c.in_ok-used.ensures.space;
+  chapters = c.in-Ok.ensures.chapters;
   clean = refl;
   entries =
       let same = ap (λ (window : List CommittedEntry). length window) c.entries.ensures in
