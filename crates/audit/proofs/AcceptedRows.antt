@@ -28,7 +28,7 @@ use Rattle.replay_counts.specs.Recovered.{AreSlabsRead}
 use Rattle.slab_reading.specs.Slabs.{first_of_slab}
 use Rattle.audit.specs.Audits.{AuditFails, BothShow}
 use Rattle.audit.specs.Reports.{AreUsed, Differs, HasNoFault, IsReport}
-use Rattle.audit.specs.Tallies.{AreTallied, Tallies, used_in}
+use Rattle.audit.specs.Tallies.{AreNumbers, AreTallied, Tallies, used_in}
 use Rattle.audit.specs.declared.forms.Difference.{Difference}
 use Rattle.audit.specs.declared.forms.Report.{Report}
 
@@ -42,12 +42,15 @@ zero_of place inside =
     let offset = inside.1 in
     get_or-replicate 64 (block_number small place) 0 0 (omega (arith, slab, offset))
 
--- AreTallied: of no page and no address each block has none
-none_are_tallied : AreTallied small [] [] (slice_index zeros)
-none_are_tallied = λ place inside. none place inside
+-- AreNumbers, AreTallied: of no page and no address each block has none
+none_are_numbered : AreNumbers small [] [] (slice_index zeros)
+none_are_numbered = λ place inside. none place inside
   where
     none : (place : DataPlace) → IsDataPlace small place → Tallies [] [] (record { 0 = block_of small (DataBlock place.slab place.offset) }) (slice_index zeros (block_number small place))
     none place inside = record { pages = 0; one_page = inr (refl, λ (link, has, at). none_in_nothing link has); sum = zero_of place inside }
+
+none_are_tallied : AreTallied small [] [] zeros
+none_are_tallied = record { size = length-replicate {A = ℕ} 64 0; each = none_are_numbered }
 
 -- IsReport: of an empty image no block differs, none is used, and there are 64
 module _ (blocks : Blocks) (empty : IsEmpty small blocks) where

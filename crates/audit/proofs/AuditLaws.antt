@@ -29,7 +29,7 @@ use Rattle.replay_map.specs.declared.recovered.RecoveredMap.{RecoveredMap}
 use Rattle.slab_reading.specs.Reads.{read_of}
 use Rattle.slab_reading.specs.Slabs.{first_of_slab}
 use Rattle.audit.proofs.ReportLaws.{is_report}
-use Rattle.audit.specs.Tallies.{AreTallied, differences_below, used_in}
+use Rattle.audit.specs.Tallies.{AreNumbers, differences_below, used_in}
 use Rattle.audit.specs.Audits.{AuditWithFails, BothShow, IsAuditedWith}
 use Rattle.audit.specs.Reads.{AreContents}
 use Rattle.audit.specs.Reports.{IsReport}
@@ -159,8 +159,8 @@ pub report_with : (image : Image) (g : Geometry) (links : List Link) (mapped : L
     → ((block : Pbn) → times block mapped ≡ mapped_below (mapping_of image) block (address_count image.geometry))
     → length stored ≡ all_blocks image.geometry
     → ((place : DataPlace) → IsDataPlace image.geometry place → Stores image place (Ok (slice_index stored (block_number image.geometry place))))
-    → AreTallied g links mapped tallies → report.differs.items ≡ differences_below g stored tallies (all_blocks g) → report.used ≡ used_in stored → report.total ≡ all_blocks g
+    → AreNumbers g links mapped tallies → report.differs.items ≡ differences_below g stored tallies (all_blocks g) → report.used ≡ used_in stored → report.total ≡ all_blocks g
     → IsReport image report
 report_with image g links mapped stored tallies report same sizes pages unshared all_links all_mapped size counts tallied list used all =
-    is_report image (subst IsGeometry (sym same) sizes) links mapped stored tallies all_links all_mapped size counts (subst (λ (h : Geometry). AreTallied h links mapped tallies) (sym same) tallied)
+    is_report image (subst IsGeometry (sym same) sizes) links mapped stored tallies all_links all_mapped size counts (subst (λ (h : Geometry). AreNumbers h links mapped tallies) (sym same) tallied)
     report pages unshared (list ∙ ap (λ (h : Geometry). differences_below h stored tallies (all_blocks h)) (sym same)) used (all ∙ ap all_blocks (sym same))

@@ -24,7 +24,7 @@ use Rattle.audit.specs.declared.forms.Difference.{Difference}
 use Rattle.audit.specs.declared.forms.Report.{Report}
 use Rattle.audit.specs.Reports.{AreRising, Differs, IsReport}
 use Rattle.audit.proofs.TallyLaws.{one_place}
-use Rattle.audit.specs.Tallies.{AreTallied, difference_in, differences_below, place_of_number, row_of, used_in}
+use Rattle.audit.specs.Tallies.{AreNumbers, difference_in, differences_below, place_of_number, row_of, used_in}
 
 -- Rising lists.
 
@@ -168,7 +168,7 @@ module _ (image : Image) (sizes : IsGeometry image.geometry) (links : List Link)
     (all_mapped : (block : Pbn) → times block mapped ≡ mapped_below (mapping_of image) block (address_count image.geometry))
     (size : length stored ≡ all_blocks image.geometry)
     (counts : (place : DataPlace) → IsDataPlace image.geometry place → Stores image place (Ok (slice_index stored (block_number image.geometry place))))
-    (tallied : AreTallied image.geometry links mapped tallies) where
+    (tallied : AreNumbers image.geometry links mapped tallies) where
   abbrev g : Geometry
   g = image.geometry
 

@@ -21,7 +21,7 @@ use Rattle.replay_map.specs.declared.links.Link.{Link}
 use Rattle.audit.specs.Audits.{AreBothRead, AuditWithFails, IsOpenedTo}
 use Rattle.audit.specs.Reads.{AreContents}
 use Rattle.audit.specs.Reports.{AreRising, AreUsed, Differs, HasNoFault, IsReport}
-use Rattle.audit.specs.Tallies.{AreTallied, IsChanged, IsLinked, IsSplit, Tallies, differences_below, more_of, number_in, place_of_number, used_in}
+use Rattle.audit.specs.Tallies.{AreNumbers, AreTallied, IsChanged, IsLinked, IsSplit, Tallies, differences_below, more_of, number_in, place_of_number, used_in}
 use Rattle.audit.specs.declared.forms.Contents.{Contents}
 use Rattle.audit.specs.declared.forms.Difference.{Difference}
 use Rattle.audit.specs.declared.forms.Report.{Report}
@@ -56,7 +56,7 @@ address_left_out : Tallies [] (pbn 86 ∷ pbn 86 ∷ []) (pbn 86) 1 → ⊥
 address_left_out is = let sum : 1 ≡ 2 + is.pages = is.sum in omega (arith, sum)
 
 -- each block has the right number
-first_is_one : (counts : List ℕ) → AreTallied small [] [] (slice_index (1 ∷ counts)) → ⊥
+first_is_one : (counts : List ℕ) → AreNumbers small [] [] (slice_index (1 ∷ counts)) → ⊥
 first_is_one counts are =
     let is = are (record { slab = 0; offset = 0 }) (omega arith, omega arith) in
     let sum : 1 ≡ 0 + is.pages = is.sum in
@@ -64,6 +64,13 @@ first_is_one counts are =
       | inl one ↦ none_in_nothing one.1.0 one.1.1
       | inr none ↦ let pages = none.0 in omega (arith, sum, pages)
     ]
+
+-- size, each: of a list, which has as many
+too_few : AreTallied small [] [] [] → ⊥
+too_few are = let size = are.size in omega (arith, size)
+
+wrong_in_list : (counts : List ℕ) → AreTallied small [] [] (1 ∷ counts) → ⊥
+wrong_in_list counts are = first_is_one counts are.each
 
 -- here, others: the number of block 86 is changed, and no other
 not_changed : (numbers : List ℕ) → IsChanged small (pbn 86) (λ n. n + 1) (slice_index (0 ∷ 5 ∷ numbers)) (slice_index (0 ∷ 5 ∷ numbers)) → ⊥

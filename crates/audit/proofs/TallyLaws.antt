@@ -1,5 +1,5 @@
 -- How the numbers of blocks are changed, one after another.
-use Rattle.std.proofs.Common.{ℕ, ◌≡◌, ◌⊎◌, ◌+◌, ◌<◌, ◌≤◌, ◌==◌, nat_lt, true, false, cond, Option, Some, List, [], ◌∷◌, ◌++◌, length, get_or, take, replicate, Contains, slice_index, slice_set, refl, sym, ◌∙◌, ap, ap₂, subst, inl, inr, arith}
+use Rattle.std.proofs.Common.{ℕ, ◌≡◌, ◌⊎◌, ◌+◌, ◌<◌, ◌≤◌, ◌==◌, nat_lt, true, false, cond, Option, Some, List, [], ◌∷◌, ◌++◌, length, get_or, take, replicate, Contains, slice_index, slice_set, refl, sym, ◌∙◌, ap, ap₂, subst, inl, inr, arith, ◌-◌, length-append}
 use Rattle.std.specs.BTreeMap.{BTreeMap, get, is_at}
 use Rattle.std.specs.Cmp.{unsigned_ties}
 use Rattle.std.specs.Map.{lookup}
@@ -8,6 +8,8 @@ use Rattle.std.specs.Prelude.{unwrap_or}
 use Rattle.std.proofs.lemmas.Bool.{cond-false, cond-true, eq-eqb, lt-ltb, le-ltb, ne_eqb}
 use Rattle.std.proofs.lemmas.Bool.Decides.{eqb_tells}
 use Rattle.std.proofs.lemmas.Nat.{same_from_place}
+use Rattle.std.proofs.Math.ListN.{get_or-append}
+use Rattle.std.proofs.Math.Seq.{get_or-append_right}
 use Rattle.std.proofs.lemmas.List.{get_or-set_same, get_or-set_other, get_or-replicate, take_more}
 use Rattle.std.proofs.lemmas.List.Elements.{Contains-append_left, Contains-append_right, Contains-append_cases}
 use Rattle.blk_base.specs.Regions.{DataBlock, IsDataBlock}
@@ -24,7 +26,7 @@ use Rattle.plain_laws.proofs.ListLaws.{total-append}
 use Rattle.plain_laws.specs.Sums.{bit, total}
 use Rattle.replay_map.specs.Replayed.{times}
 use Rattle.replay_map.specs.declared.links.Link.{Link}
-use Rattle.audit.specs.Tallies.{AreTallied, IsChanged, IsSplit, more_of, number_in, used_in}
+use Rattle.audit.specs.Tallies.{AreNumbers, AreTallied, IsChanged, IsSplit, more_of, number_in, used_in}
 use Rattle.audit.specs.declared.tallies.MappingCounts.{MappingCounts}
 
 -- A data block has one number.
@@ -68,7 +70,7 @@ changed_nothing g at change old none = record {
 
 -- Pages.
 
-pub none_tallied : (g : Geometry) (counts : List ℕ) → counts ≡ replicate (all_blocks g) 0 → AreTallied g [] [] (slice_index counts)
+pub none_tallied : (g : Geometry) (counts : List ℕ) → counts ≡ replicate (all_blocks g) 0 → AreNumbers g [] [] (slice_index counts)
 none_tallied g counts zeros = λ place inside. record {
   pages = 0;
   one_page = inr (refl, λ linked. none_in_nothing linked.0 linked.1);
@@ -76,7 +78,7 @@ none_tallied g counts zeros = λ place inside. record {
 }
 
 -- the same numbers, told otherwise
-pub tallied_as : (g : Geometry) (links : List Link) (mapped : List Pbn) (counts others : ℕ → ℕ) → ((n : ℕ) → others n ≡ counts n) → AreTallied g links mapped counts → AreTallied g links mapped others
+pub tallied_as : (g : Geometry) (links : List Link) (mapped : List Pbn) (counts others : ℕ → ℕ) → ((n : ℕ) → others n ≡ counts n) → AreNumbers g links mapped counts → AreNumbers g links mapped others
 tallied_as g links mapped counts others same are = λ place inside.
     let is = are place inside in record { pages = is.pages; one_page = is.one_page; sum = same (block_number g place) ∙ is.sum }
 
@@ -86,8 +88,8 @@ same_block one other = elim (eqb_tells one.0 other.0) [
   | inr differs ↦ inr (λ same. differs.1 (ap (λ (b : Pbn). b.0) same))
 ]
 
-pub page_tallied : (g : Geometry) (links : List Link) (i : ℕ) (d : Link) (old new : ℕ → ℕ) → i < length links → AreTallied g (take i links) [] old
-    → IsChanged g (get_or links i d).at (λ n. 1) old new → AreTallied g (take (i + 1) links) [] new
+pub page_tallied : (g : Geometry) (links : List Link) (i : ℕ) (d : Link) (old new : ℕ → ℕ) → i < length links → AreNumbers g (take i links) [] old
+    → IsChanged g (get_or links i d).at (λ n. 1) old new → AreNumbers g (take (i + 1) links) [] new
 page_tallied g links i d old new inside were changed =
     let link = get_or links i d in
     let more : take (i + 1) links ≡ take i links ++ (link ∷ []) = take_more links i d inside in
@@ -124,8 +126,8 @@ times_more block mapped i d inside =
     ap (times block) (take_more mapped i d inside) ∙ total-append (λ (other : Pbn). bit (other.0 == block.0)) (take i mapped) (get_or mapped i d ∷ [])
     ∙ (let one : total (λ (other : Pbn). bit (other.0 == block.0)) (get_or mapped i d ∷ []) ≡ bit ((get_or mapped i d).0 == block.0) = omega arith in omega (arith, one))
 
-pub mapped_tallied : (g : Geometry) (links : List Link) (mapped : List Pbn) (i : ℕ) (d : Pbn) (old new : ℕ → ℕ) → i < length mapped → AreTallied g links (take i mapped) old
-    → IsChanged g (get_or mapped i d) (λ n. n + 1) old new → AreTallied g links (take (i + 1) mapped) new
+pub mapped_tallied : (g : Geometry) (links : List Link) (mapped : List Pbn) (i : ℕ) (d : Pbn) (old new : ℕ → ℕ) → i < length mapped → AreNumbers g links (take i mapped) old
+    → IsChanged g (get_or mapped i d) (λ n. n + 1) old new → AreNumbers g links (take (i + 1) mapped) new
 mapped_tallied g links mapped i d old new inside were changed = λ place there.
     let block = block_of_data g place in
     let was = were place there in
@@ -153,7 +155,7 @@ times_few block (other ∷ mapped) = let rest = times_few block mapped in elim (
   | inr differs ↦ let none : bit (other.0 == block.0) ≡ 0 = ap bit differs.0 in omega (arith, rest, none)
 ]
 
-pub few_counted : (g : Geometry) (links : List Link) (mapped : List Pbn) (counts : ℕ → ℕ) (place : DataPlace) → IsDataPlace g place → AreTallied g links mapped counts
+pub few_counted : (g : Geometry) (links : List Link) (mapped : List Pbn) (counts : ℕ → ℕ) (place : DataPlace) → IsDataPlace g place → AreNumbers g links mapped counts
     → counts (block_number g place) ≤ length mapped + 1
 few_counted g links mapped counts place inside are =
     let is = are place inside in
@@ -183,7 +185,7 @@ all_low tally none n = let nothing = nothing_in tally.more none n in omega (arit
 
 -- pages alone
 pub marked_tallied : (g : Geometry) (links : List Link) (marked : List ℕ) (tally : MappingCounts) → tally.more.entries ≡ [] → tally.low.items ≡ marked
-    → AreTallied g links [] (slice_index marked) → AreTallied g links [] (number_in tally)
+    → AreNumbers g links [] (slice_index marked) → AreNumbers g links [] (number_in tally)
 marked_tallied g links marked tally none same are =
     tallied_as g links [] (slice_index marked) (number_in tally) (λ n. all_low tally none n ∙ ap (λ (xs : List ℕ). slice_index xs n) same) are
 
@@ -231,6 +233,33 @@ module _ (old new : MappingCounts) (n : ℕ) (inside : n < length old.low.items)
       | inl at ↦ absurd (let here = ap (slice_index old.low.items) at.1 in omega (arith, here, byte, less, full))
       | inr differs ↦ more_there k differs.1 ∙ split k (omega (arith, byte, less))
     ]
+
+-- The numbers as a list, one after another.
+
+pub listed_more : (counts : ℕ → ℕ) (n : ℕ) (old new : List ℕ) (count : ℕ) → length old ≡ n → ((k : ℕ) → k < n → slice_index old k ≡ counts k) → count ≡ counts n
+    → new ≡ old ++ count ∷ [] → (length new ≡ n + 1) × ((k : ℕ) → k < n + 1 → slice_index new k ≡ counts k)
+listed_more counts n old new count size each is more = (
+  let grown = ap length more in let sum = length-append old (count ∷ []) in omega (arith, grown, sum, size),
+  λ k below. elim (eqb_tells k n) [
+    | inl same ↦
+        ap (λ (xs : List ℕ). slice_index xs k) more ∙ get_or-append_right old (count ∷ []) k 0 (let at = same.1 in omega (arith, at, size))
+        ∙ ap (λ (i : ℕ). slice_index (count ∷ []) i) (let at = same.1 in let none : k - length old ≡ 0 = omega (arith, at, size) in none)
+        ∙ is ∙ ap counts (sym same.1)
+    | inr differs ↦
+        let low : k < n = let apart = differs.1 in omega (arith, below, apart) in
+        ap (λ (xs : List ℕ). slice_index xs k) more ∙ get_or-append old (count ∷ []) 0 k (omega (arith, low, size)) ∙ each k low
+  ],
+)
+
+pub tallied_list : (g : Geometry) (links : List Link) (mapped : List Pbn) (counts : ℕ → ℕ) (n : ℕ) (list : List ℕ) → n ≡ all_blocks g → length list ≡ n
+    → ((k : ℕ) → k < n → slice_index list k ≡ counts k) → AreNumbers g links mapped counts → AreTallied g links mapped list
+tallied_list g links mapped counts n list all size same are = record {
+  size = size ∙ all;
+  each = λ place inside.
+      let is = are place inside in
+      let below = block_inside g place inside in
+      record { pages = is.pages; one_page = is.one_page; sum = same (block_number g place) (omega (arith, below, all)) ∙ is.sum };
+}
 
 -- How many numbers are above 0.
 

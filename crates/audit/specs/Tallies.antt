@@ -1,11 +1,11 @@
 -- How often blocks stand in lists of pages and of mapped blocks; and which of the data blocks have another stored count.
-use Rattle.std.specs.Prelude.{ℕ, zero, suc, ◌≡◌, ◌⊎◌, ◌+◌, ◌/◌, ◌%◌, ◌<◌, ◌==◌, nat_lt, if◌then◌else◌, List, [], ◌∷◌, ◌++◌, Contains, slice_index, unwrap_or}
+use Rattle.std.specs.Prelude.{ℕ, zero, suc, ◌≡◌, ◌⊎◌, ◌+◌, ◌/◌, ◌%◌, ◌<◌, ◌==◌, nat_lt, if◌then◌else◌, List, [], ◌∷◌, ◌++◌, length, Contains, slice_index, unwrap_or}
 use Rattle.std.specs.BTreeMap.{BTreeMap, get}
 use Rattle.std.specs.Ordering.{nat_cmp}
 use Rattle.blk_base.specs.declared.geometry.Geometry.{Geometry}
 use Rattle.blk_base.specs.declared.layout.DataPlace.{DataPlace}
 use Rattle.blk_base.specs.declared.place.Pbn.{Pbn}
-use Rattle.count_updates.specs.Numbers.{block_number}
+use Rattle.count_updates.specs.Numbers.{all_blocks, block_number}
 use Rattle.image_model.specs.Counts.{block_of_data}
 use Rattle.image_model.specs.Sound.{IsDataPlace}
 use Rattle.plain_laws.specs.Sums.{bit, total}
@@ -25,8 +25,13 @@ pub record Tallies (links : List Link) (mapped : List Pbn) (block : Pbn) (count 
   pub sum : count ≡ times block mapped + pages
 
 -- that of each data block, by its number: slab after slab
-abbrev pub AreTallied : Geometry → List Link → List Pbn → (ℕ → ℕ) → Type 0
-AreTallied g links mapped counts = (place : DataPlace) → IsDataPlace g place → Tallies links mapped (block_of_data g place) (counts (block_number g place))
+abbrev pub AreNumbers : Geometry → List Link → List Pbn → (ℕ → ℕ) → Type 0
+AreNumbers g links mapped counts = (place : DataPlace) → IsDataPlace g place → Tallies links mapped (block_of_data g place) (counts (block_number g place))
+
+-- the same as a list
+pub record AreTallied (g : Geometry) (links : List Link) (mapped : List Pbn) (counts : List ℕ) : Type 0 where
+  pub size : length counts ≡ all_blocks g
+  pub each : (place : DataPlace) → IsDataPlace g place → Tallies links mapped (block_of_data g place) (slice_index counts (block_number g place))
 
 -- the number of this data block was changed so, and no other
 pub record IsChanged (g : Geometry) (at : Pbn) (change : ℕ → ℕ) (old new : ℕ → ℕ) : Type 0 where

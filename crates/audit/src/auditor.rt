@@ -12,7 +12,7 @@ ghost use Rattle.audit.specs.Audits.{AuditFails, AuditWithFails, IsAudited, IsAu
 ghost use Rattle.audit.specs.Reports.{IsReport};
 
 use crate::comparison::compare;
-use crate::tallies::tally;
+use crate::tallies::count_mappings;
 use crate::{Report, read_contents};
 use blk_base::{Layout, Super};
 use disk_model::Disk;
@@ -88,6 +88,6 @@ pub fn report_of(
         IsReport image report) }
     ensures few { IfOk result (λ report. length report.differs.items < 2 ^ 32) }
 {
-    let mapped = tally(alloc, layout, &map.links, &map.mapped)?;
+    let mapped = count_mappings(alloc, layout, &map.links, &map.mapped)?;
     compare(alloc, layout, &counts.counts, &mapped)
 }

@@ -5,7 +5,7 @@ ghost use Rattle.count_updates.specs.Numbers.{all_blocks, block_number};
 ghost use Rattle.image_model.specs.Counts.{block_of_data};
 ghost use Rattle.image_model.specs.Sound.{IsDataPlace};
 ghost use Rattle.replay_map.specs.declared.links.Link.{Link as Page};
-ghost use Rattle.audit.specs.Tallies.{AreTallied, IsChanged, IsSplit, more_of, number_in};
+ghost use Rattle.audit.specs.Tallies.{AreNumbers, AreTallied, IsChanged, IsSplit, more_of, number_in};
 
 use blk_base::{Layout, Pbn, repeated};
 use replay_map::Link;
@@ -58,9 +58,28 @@ impl MappingCounts {
     }
 }
 
-// How often each data block stands in a list of mapped blocks, and once more where a page of the other list stands there;
-// slab after slab.
-pub(crate) fn tally(
+/// How often each data block stands in a list of mapped blocks, and once more where a page of the other list stands
+/// there; slab after slab. It takes the memory of eight bytes for each data block, and fails only where there is none.
+pub fn tally(
+    alloc: Global,
+    layout: &Layout,
+    links: &[Link],
+    mapped: &[Pbn],
+) -> Result<Vec<u64>, AllocError>
+    requires { length mapped.now < 2 ^ 63 }
+    ensures { IfOk result (λ counts.
+        AreTallied layout.now.geometry links.now mapped.now counts.items) }
+{
+    let counts = count_mappings(alloc, layout, links, mapped)?;
+    let mut tallied = Vec::with_capacity(alloc, counts.low.len())?;
+    for n in 0..layout.data_blocks() {
+        tallied.push(counts.of(n))?;
+    }
+    Ok(tallied)
+}
+
+// The same, a byte for each.
+pub(crate) fn count_mappings(
     alloc: Global,
     layout: &Layout,
     links: &[Link],
@@ -70,7 +89,7 @@ pub(crate) fn tally(
     ensures size { IfOk result (λ tally.
         length tally.low.items ≡ all_blocks layout.now.geometry) }
     ensures tallied { IfOk result (λ tally.
-        AreTallied layout.now.geometry links.now mapped.now (number_in tally)) }
+        AreNumbers layout.now.geometry links.now mapped.now (number_in tally)) }
     ensures few { IfOk result (λ tally.
         (n : ℕ) → n < all_blocks layout.now.geometry → number_in tally n < 2 ^ 64) }
     ensures split { IfOk result IsSplit }
@@ -88,7 +107,7 @@ pub(crate) fn tally(
 // Puts 1 where a page stands.
 fn mark_all(counts: &mut [u8], layout: &Layout, links: &[Link])
     requires { counts.old ≡ replicate (all_blocks layout.now.geometry) 0 }
-    ensures { AreTallied layout.now.geometry links.now [] (slice_index counts.new) }
+    ensures { AreNumbers layout.now.geometry links.now [] (slice_index counts.new) }
 {
     for link in links {
         mark(counts, layout, link.at);
@@ -100,11 +119,11 @@ fn count_all(tally: &mut MappingCounts, layout: &Layout, mapped: &[Pbn]) -> Resu
     requires few { length mapped.now < 2 ^ 63 }
     requires size { length tally.old.low.items ≡ all_blocks layout.now.geometry }
     requires tallied { (pages : List Page)
-        × AreTallied layout.now.geometry pages [] (number_in tally.old) }
+        × AreNumbers layout.now.geometry pages [] (number_in tally.old) }
     ensures size { length tally.new.low.items ≡ length tally.old.low.items }
     ensures tallied { OnOk result
-        ((pages : List Page) → AreTallied layout.now.geometry pages [] (number_in tally.old) →
-        AreTallied layout.now.geometry pages mapped.now (number_in tally.new)) }
+        ((pages : List Page) → AreNumbers layout.now.geometry pages [] (number_in tally.old) →
+        AreNumbers layout.now.geometry pages mapped.now (number_in tally.new)) }
     ensures split { OnOk result (IsSplit tally.old → IsSplit tally.new) }
 {
     for at in mapped {

@@ -1,7 +1,7 @@
 use Rattle.std.proofs.Common.{◌∙◌, ◌<◌, List, length, take, subst, arith}
 use Rattle.std.proofs.lemmas.List.{take_all, length-take-le}
 use Rattle.blk_base.specs.declared.place.Pbn.{Pbn}
-use Rattle.audit.specs.Tallies.{AreTallied, number_in}
+use Rattle.audit.specs.Tallies.{AreNumbers, number_in}
 use Rattle.audit.proofs.TallyLaws.{few_counted, mapped_tallied}
 use Rattle.audit.proofs.tallies.count_all.Goals as goal
 
@@ -29,5 +29,5 @@ loop-at-preserved c =
 
 pub returns-clause-tallied : goal.returns-clause-tallied
 returns-clause-tallied c = λ pages were.
-    subst (λ (mapped : List Pbn). AreTallied c.args.layout.now.geometry pages mapped (number_in c.loop-at.tally))
+    subst (λ (mapped : List Pbn). AreNumbers c.args.layout.now.geometry pages mapped (number_in c.loop-at.tally))
     (take_all c.loop-at.at-index c.args.mapped.now c.loop-at-test.false) (c.loop-at.invariant.tallied pages were)
