@@ -5,3 +5,4 @@ pub mod WindowLaws
 pub mod SortLaws
 pub mod AppliedLaws
 pub mod Rows
+pub mod SettledLaws

@@ -15,11 +15,11 @@ use Rattle.image_model.specs.Sound.{IsDataPlace}
 use Rattle.count_updates.specs.Counted.{AreCounted, AreCountedUpTo, IsCountedAt, Leaves}
 use Rattle.count_updates.specs.Numbers.{all_blocks, all_sectors, block_number, sector_number, IsEarlier}
 
-abbrev place_of : ℕ → ℕ → DataPlace
+abbrev pub place_of : ℕ → ℕ → DataPlace
 place_of slab offset = record { slab = slab; offset = offset }
 
 -- a row of one slab ends where the next one begins, and that is no later than the end of all
-row_ends : (slab slabs width : ℕ) → slab < slabs → slab * width + width ≤ slabs * width
+pub row_ends : (slab slabs width : ℕ) → slab < slabs → slab * width + width ≤ slabs * width
 row_ends slab slabs width less = let most = mul-le (slab + 1) width slabs width (omega (arith, less)) (omega arith) in omega (arith, most)
 
 pub block_inside : (g : Geometry) (place : DataPlace) → IsDataPlace g place → block_number g place < all_blocks g

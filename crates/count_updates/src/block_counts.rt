@@ -1,4 +1,5 @@
-ghost use Rattle.std.specs.Prelude.{◌≡◌, ◌+◌, ◌<◌, ◌≤◌, ℕ, List, ◌∷◌, Ok, Err, IfOk, IfErr, IfSome, IfNone, OnOk, length, get_or};
+ghost use Rattle.std.specs.Prelude.{◌≡◌, ◌+◌, ◌<◌, ◌≤◌, ◌++◌, ℕ, List, ◌∷◌, Ok, Err, IfOk, IfErr, IfSome, IfNone, OnOk, length, get_or, slice_index};
+ghost use Rattle.std.specs.Bool.{OnTrue};
 ghost use Rattle.blk_base.specs.declared.journal_entry.Update.{Update};
 ghost use Rattle.image_model.specs.Counts.{block_of_data, count_after};
 ghost use Rattle.image_model.specs.Sound.{IsDataPlace};
@@ -34,6 +35,7 @@ pub fn counts_of(alloc: Global, layout: &Layout, found: &Found) -> Result<Vec<u1
     Ok(counts)
 }
 
+// A slab without updates takes its counters over.
 // Adds the counts of a slab; the updates before `passed` are of earlier slabs. How many are of this one and of those
 // before it.
 fn count_slab(
@@ -64,6 +66,14 @@ fn count_slab(
         found.now.updates.items) }
 {
     let all = found.updates.as_slice();
+    let size = layout.geometry.slab_blocks;
+    let first = layout.block_number(slab, 0) as usize;
+    let counters = &found.counters[first..first + size as usize];
+    let last = layout.data_block(slab, size - 1);
+    if end_of_block(all, passed, last) == passed && are_within(counters, layout.limit()) {
+        push_all(counters, counts)?;
+        return Ok(passed);
+    }
     let mut next = passed;
     for offset in 0..layout.geometry.slab_blocks {
         let at = layout.data_block(slab, offset);
@@ -80,6 +90,32 @@ fn count_slab(
         next = end;
     }
     Ok(next)
+}
+
+// Whether no counter is above the limit. It goes over all of them, so that many are compared at once.
+fn are_within(counters: &[u8], limit: u16) -> bool
+    ensures { OnTrue result ((k : ℕ) → k < length counters.now → slice_index counters.now k ≤ limit) }
+{
+    let mut others = 0_usize;
+    for counter in counters {
+        if u16::from(*counter) > limit {
+            others += 1;
+        }
+    }
+    others == 0
+}
+
+// Adds the counters as counts.
+fn push_all(counters: &[u8], counts: &mut Vec<u16>) -> Result<(), CountFault>
+    ensures added { OnOk result (counts.new.items ≡ counts.old.items ++ counters.now) }
+    ensures memory { IfErr result (λ fault. fault ≡ CountFault.Memory) }
+{
+    for counter in counters {
+        let Ok(()) = counts.push(u16::from(*counter)) else {
+            return Err(CountFault::Memory);
+        };
+    }
+    Ok(())
 }
 
 // The end of the updates of blocks up to this one, from a place on.
