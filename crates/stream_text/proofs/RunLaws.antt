@@ -2,7 +2,7 @@
 use Rattle.std.specs.Prelude.{ℕ, ◌≡◌, ◌≢◌, ◌<◌, ◌≤◌, zero, suc, List, [], ◌∷◌, length, get_or, take, drop, codes, ◌-◌, ◌+◌, ◌++◌, refl}
 use Rattle.std.proofs.Common.{sym, ◌∙◌, ap, arith, inl, inr}
 use Rattle.std.proofs.lemmas.Bool.Decides.{eqb_tells}
-use Rattle.std.proofs.lemmas.List.{take_all, length-drop, drop-drop, get_or-drop}
+use Rattle.std.proofs.lemmas.List.{take_all, length-drop, drop-drop, get_or-drop, get_or-take}
 use Rattle.stream_text.specs.Runs.{Run, with_byte, runs_of, run_text, later_text}
 
 with_same : (byte count : ℕ) (runs : List Run) → with_byte byte (record { count = count; byte = byte } ∷ runs) ≡ record { count = suc count; byte = byte } ∷ runs
@@ -47,6 +47,14 @@ runs_of-first (first ∷ rest) byte (suc n) within same ends =
     rw is (ap (with_byte byte) later ∙ with_same byte (suc n) (runs_of (drop (suc n) rest)))
 
 -- the first run is `n` long, where the next byte is another
+-- bytes of which each is the one before it
+pub one_run : (bytes : List ℕ) → drop 1 bytes ≡ take (length bytes - 1) bytes → (k : ℕ) → k < length bytes → get_or bytes k 0 ≡ get_or bytes 0 0
+one_run bytes same zero below = refl
+one_run bytes same (suc k) below =
+    let place : 1 + k ≡ suc k = omega arith in
+    ap (λ (n : ℕ). get_or bytes n 0) (sym place) ∙ sym (get_or-drop 1 bytes k 0) ∙ ap (λ (xs : List ℕ). get_or xs k 0) same
+    ∙ get_or-take (length bytes - 1) bytes k 0 (omega (arith, below)) ∙ one_run bytes same k (omega (arith, below))
+
 pub first_run : (bytes : List ℕ) (n : ℕ) → 0 < length bytes → n ≤ length bytes → ((k : ℕ) → k < n → get_or bytes k 0 ≡ get_or bytes 0 0)
     → (n < length bytes → get_or bytes n 0 ≢ get_or bytes 0 0)
     → runs_of bytes ≡ record { count = n; byte = get_or bytes 0 0 } ∷ runs_of (drop n bytes)

@@ -1,4 +1,5 @@
-ghost use Rattle.std.specs.Prelude.{◌≡◌, ◌<◌, ◌≤◌, ◌∷◌, ◌++◌, length, drop, slice_index};
+ghost use Rattle.std.specs.Prelude.{◌≡◌, ◌<◌, ◌≤◌, ◌∷◌, ◌++◌, ℕ, length, drop, slice_index};
+ghost use Rattle.std.specs.Bool.{OnTrue};
 ghost use Rattle.disk_model.specs.Streams.{Puts};
 ghost use Rattle.stream_text.specs.Runs.{run_text, runs_of, runs_text, later_text};
 
@@ -14,6 +15,9 @@ fn first_run(bytes: &[u8]) -> usize
         ≡ record { count = result; byte = slice_index bytes.now 0 }
         ∷ runs_of (drop result bytes.now) }
 {
+    if is_one_run(bytes) {
+        return bytes.len();
+    }
     let first = bytes[0];
     for (at, byte) in bytes.iter().enumerate() {
         if *byte != first {
@@ -21,6 +25,15 @@ fn first_run(bytes: &[u8]) -> usize
         }
     }
     bytes.len()
+}
+
+// Whether all bytes are the same. Each is compared with the one before it, many at once.
+fn is_one_run(bytes: &[u8]) -> bool
+    requires { 0 < length bytes.now }
+    ensures { OnTrue result ((k : ℕ) → k < length bytes.now →
+        slice_index bytes.now k ≡ slice_index bytes.now 0) }
+{
+    bytes[1..] == bytes[..bytes.len() - 1]
 }
 
 // Puts a run, and what stands before it.
