@@ -64,7 +64,7 @@ made_grows tells before now calls (Err _) made = λ told. elim (made.logged told
   | inr lost ↦ (made.done, lost.0)
 ]
 
-failed_grows : (tells honest : Bool) (from : ℕ) (before now : Seen) → NextFailed tells honest from before now [] → Grows tells before now
+pub failed_grows : (tells honest : Bool) (from : ℕ) (before now : Seen) → NextFailed tells honest from before now [] → Grows tells before now
 failed_grows tells honest from before now failed = λ told.
     let logged = failed.logged told in
     elim logged.1 [

@@ -22,20 +22,20 @@ use Rattle.image_model.specs.Windows.{IsWindow}
 use Rattle.image_model.specs.Looked.{HasOneImageButIndex, looked_in}
 use Rattle.recovery_laws.proofs.WholeLaws.{cut, failures, parts, stops, stops_behind}
 use Rattle.recovery_laws.specs.Calls.{ArePuts, recovery_calls}
-use Rattle.recovery_laws.specs.Kept.{AreKept, image_in, recovered_super}
+use Rattle.recovery_laws.specs.Kept.{image_in, recovered_super}
 use Rattle.recovery_laws.proofs.AlikeLaws.{alike_is_kept}
 use Rattle.rebuild.specs.Acts.{AreMade, HasStopped, IsStart}
 use Rattle.rebuild.specs.Outcomes.{Ends, IsAllMade, IsKeptSince}
 
 -- Where there were only reads.
 
-reads_behind : (newer older : List Call) → OnlyReads (newer ++ older) → OnlyReads older
+pub reads_behind : (newer older : List Call) → OnlyReads (newer ++ older) → OnlyReads older
 reads_behind [] older reads = reads
 reads_behind (Read at bytes ok ∷ newer) older reads = reads_behind newer older reads
 reads_behind (Write at bytes ok ∷ newer) older reads = absurd reads
 reads_behind (Flush ok ∷ newer) older reads = absurd reads
 
-reads_miss : (b : ℕ) (calls : List Call) → OnlyReads calls → AllByRecursion (λ call. Misses call b) calls
+pub reads_miss : (b : ℕ) (calls : List Call) → OnlyReads calls → AllByRecursion (λ call. Misses call b) calls
 reads_miss b [] reads = tt
 reads_miss b (Read at bytes ok ∷ calls) reads = (tt, reads_miss b calls reads)
 reads_miss b (Write at bytes ok ∷ calls) reads = absurd reads

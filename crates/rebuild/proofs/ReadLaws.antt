@@ -1,5 +1,5 @@
 -- What the reads of an image show of the one image of an honest device, of which the index isn't read.
-use Rattle.std.proofs.Common.{ℕ, ◌≡◌, ◌+◌, ◌-◌, ◌<◌, ◌≤◌, ◌++◌, Bool, IsTrue, List, [], ◌∷◌, length, reverse, sym, ◌∙◌, ap, subst, inl, inr, arith, Ok}
+use Rattle.std.proofs.Common.{ℕ, ◌≡◌, ◌+◌, ◌-◌, ◌<◌, ◌≤◌, Bool, IsTrue, List, [], ◌∷◌, length, reverse, sym, ◌∙◌, ap, subst, inl, inr, arith, Ok}
 use Rattle.std.proofs.lemmas.Bool.Decides.{eqb_tells}
 use Rattle.std.proofs.lemmas.List.{length-reverse, reverse-reverse}
 use Rattle.std.proofs.lemmas.Nat.{mul-add-lt}
@@ -8,7 +8,7 @@ use Rattle.blk_base.specs.Regions.{needed_blocks, slab_stride_of}
 use Rattle.blk_base.specs.declared.geometry.Geometry.{Geometry}
 use Rattle.blk_base.specs.declared.geometry.Super.{Super as Superblock}
 use Rattle.disk_model.proofs.SinceLaws.{were_only_read}
-use Rattle.disk_model.specs.Log.{Blocks, block_at, settled}
+use Rattle.disk_model.specs.Log.{Blocks, block_at}
 use Rattle.disk_model.specs.Seen.{Seen}
 use Rattle.disk_model.specs.Since.{IsUntouched}
 use Rattle.disk_model.proofs.LookedLaws.{one_in-since, given_block}

@@ -39,7 +39,7 @@ use Rattle.rebuild.specs.Acts.{Acts, IsStart}
 use Rattle.rebuild.specs.Done.{AreBothDone, AreLinksDone, ArePagesDone, AreRootsDone, AreSlabsDone, HasContents, HasLinks, HasPage, HasPages, HasRoots, HasTheseCounts, IsBlockDone, IsPageDone, IsSlabDone}
 
 -- the last one of a list, or one before it
-contains_last : (links : List Link) (last other : Link) → Contains (links ++ (last ∷ [])) other → Contains links other ⊎ (other ≡ last)
+pub contains_last : (links : List Link) (last other : Link) → Contains (links ++ (last ∷ [])) other → Contains links other ⊎ (other ≡ last)
 contains_last [] last other is = elim (is_first_or_behind last [] other is) [ inl same ↦ inr (sym same) | inr none ↦ absurd (none_in_nothing other none) ]
 contains_last (link ∷ links) last other is = elim (is_first_or_behind link (links ++ (last ∷ [])) other is) [
   | inl same ↦ inl (subst (Contains (link ∷ links)) same (is_first link links))

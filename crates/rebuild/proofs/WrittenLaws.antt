@@ -110,7 +110,7 @@ put_held g last (committed ∷ older) page slot put sizes each is =
 
 -- Pages.
 
-page_of_mix : (image : Image) (page : PageId) (at : Pbn) (options : List (List ℕ)) (bytes : List ℕ) → length bytes ≡ 4096 → IsMixOf options bytes
+pub page_of_mix : (image : Image) (page : PageId) (at : Pbn) (options : List (List ℕ)) (bytes : List ℕ) → length bytes ≡ 4096 → IsMixOf options bytes
     → AllByRecursion (IsPartPage image page at) options → IsPartPage image page at bytes
 page_of_mix image page at options bytes whole mix all =
     let head = head_of image page at in
@@ -129,7 +129,7 @@ page_of_mix image page at options bytes whole mix all =
           };
     }
 
-page_of_patch : (image : Image) (last : ℕ) (page : PageId) (at : Pbn) (changes : List (SlotId × Mapping)) (given bytes : List ℕ) → IsGeometry image.geometry
+pub page_of_patch : (image : Image) (last : ℕ) (page : PageId) (at : Pbn) (changes : List (SlotId × Mapping)) (given bytes : List ℕ) → IsGeometry image.geometry
     → All (IsKnown image.geometry last) image.window → page.level < 2 ^ 8 → AreNewest image.window changes → IsPartPage image page at given
     → IsPatched changes page PAGE_SLOTS given bytes → IsFullPage image page at bytes
 page_of_patch image last page at changes given bytes sizes all_known low newest part patched =

@@ -1,3 +1,4 @@
+//! The calls of a device that write an image: each fails with the device.
 ghost use Rattle.std.specs.Prelude.{◌<◌, ◌^◌, ◌∷◌, [], true};
 ghost use Rattle.disk_model.specs.declared.call.Call.TheVariants.{Flush};
 ghost use Rattle.image_format.specs.Calls.{put};
@@ -9,8 +10,8 @@ use blk_base::{Block, Geometry, Pbn, Super};
 use disk_model::{Disk, Failed};
 use image_layout::write_super;
 
-// Writes a block.
-pub(crate) fn put<D: Disk>(device: &mut D, at: Pbn, block: &Block) -> Result<(), Failed>
+/// Writes a block.
+pub fn put<D: Disk>(device: &mut D, at: Pbn, block: &Block) -> Result<(), Failed>
     requires { at.0 < (D.seen device.old).size }
     ensures { Makes D.tells (D.seen device.old) (D.seen device.new)
         (put at.0 block.now ∷ []) result }
@@ -25,8 +26,9 @@ fn flush<D: Disk>(device: &mut D) -> Result<(), Failed>
     device.flush()
 }
 
-// Once all pages and counters are written: the superblock of a closed image, which goes on behind this last sequence.
-pub(crate) fn close<D: Disk>(device: &mut D, sizes: &Geometry, last: u64) -> Result<(), Failed>
+/// Once all pages and counters are written: makes them last, writes the superblock of a closed image, which goes on
+/// behind this last sequence, and makes it last.
+pub fn close<D: Disk>(device: &mut D, sizes: &Geometry, last: u64) -> Result<(), Failed>
     requires some { 0 < (D.seen device.old).size }
     requires few { last < 2 ^ 55 }
     ensures { Makes D.tells (D.seen device.old) (D.seen device.new)

@@ -24,7 +24,7 @@
 //! which has rows.
 #![tactic(auto)]
 
-mod calls;
+pub mod calls;
 mod clean_image;
 mod counters;
 mod forms;

@@ -1,0 +1,17 @@
+pub mod OtherLaws
+pub mod CounterLaws
+pub mod SoundLaws
+pub mod SlabLaws
+pub mod PutLaws
+pub mod StopLaws
+pub mod MomentLaws
+pub mod ActLaws
+pub mod PageLaws
+pub mod TurnLaws
+pub mod EndLaws
+pub mod CountedLaws
+pub mod ShownLaws
+pub mod ForceLaws
+pub mod AcceptLaws
+pub mod Rows
+pub mod CountedRows
