@@ -115,6 +115,30 @@ mend() {
     same "$? $printed" "$audited" "audit of $1 after its recovery"
 }
 
+# rebuild FILE BLOCKS: what a forced rebuild of a copy of a file prints is what the plain program finds. A second one prints the
+# same, and an audit finds no block that differs; what is refused is left as it is.
+rebuild() {
+    cp "$1" rebuilt
+    printed=$("$vdo" rebuilt "$2" force-rebuild </dev/null 2>errors)
+    found=$?
+    if [ -n "$python" ]; then
+        plain=$($python "$top/tools/whole_image.py" force-rebuild "$1" "$2")
+        same "$found $printed" "$? $plain" "force-rebuild of $1"
+    fi
+    case "$found $printed" in
+        '0 rebuilt, '*)
+            try 0 "$printed" rebuilt "$2" force-rebuild
+            try 0 "audit clean, ${printed#rebuilt, }" rebuilt "$2" audit
+            ;;
+        *) alike "$1" rebuilt "$1 was written" ;;
+    esac
+}
+
+# noise FILE FROM COUNT: blocks of a file are filled with ones.
+noise() {
+    head -c "$((4096 * $3))" /dev/zero | tr '\000' '\377' | dd of="$1" bs=4096 seek="$2" conv=notrunc 2>errors || exit 1
+}
+
 # A file that isn't there is made, as large as what is written to it: the last block of the slab's journal is block 153.
 try 0 'formatted 154 blocks, 1 slab of 64, logical 1000' image 154 format
 same "$(wc -c <image | tr -d ' ')" 630784 'size of an image of 154 blocks'
@@ -146,6 +170,8 @@ agree again 223
 try 0 clean image 154 recover
 alike image kept 'a closed image was written'
 mend again 223
+rebuild image 154
+rebuild again 223
 
 # A byte is changed in each region: in the superblock, the recovery journal, a root and its last slot, the index, a data
 # block, the counter of the first block and that past its limit, and the slab's journal.
@@ -188,9 +214,11 @@ for place in 0 12 40 48 56 400 4096 32767 36864 36899 36900 69632 40959 282624 3
         put changed "$place" "$byte"
         agree changed 154
         mend changed 154
+        rebuild changed 154
         put changed 48 000
         agree changed 154
         mend changed 154
+        rebuild changed 154
     done
 done
 
@@ -209,7 +237,18 @@ used 2 of 64
 logical 1000' stopped 154 status
 try 0 'audit clean, used 2 of 64' stopped 154 audit
 mend stopped 154
+rebuild stopped 154
 cp stopped unclosed
+
+# The same with noise in the counters and in the slab's journal: only a forced rebuild makes something of it.
+cp stopped noisy
+noise noisy 149 5
+try 4 'bad image: counter 85' noisy 154 audit
+mend noisy 154
+rebuild noisy 154
+try 0 'rebuilt, used 2 of 64' noisy 154 force-rebuild
+same "$(bytes noisy 48 16)" 01000000000000000300000000000000 'clean, and start 3'
+try 0 'audit clean, used 2 of 64' noisy 154 audit
 cp stopped kept
 try 0 'recovered 2 entries' stopped 154 recover
 same "$(bytes stopped 48 16)" 01000000000000000300000000000000 'clean, and start 3'
@@ -272,6 +311,7 @@ try 2 usage image +154 format
 try 2 usage image 154 erase
 try 2 usage image 154 run
 try 2 usage image 154 recover --schedule 0
+try 2 usage image 154 force-rebuild --slabs 1
 try 2 usage image 154 crash
 try 2 usage image 154 audit now
 try 2 usage image 154 status --logical 1
@@ -282,6 +322,7 @@ try 3 'device fault' directory 154 format
 try 3 'device fault' directory 154 audit
 try 3 'device fault' directory 154 status
 try 3 'device fault' directory 154 recover
+try 3 'device fault' directory 154 force-rebuild
 try 3 'device fault' missing/image 154 format
 mkfifo pipe
 try 3 'device fault' pipe 154 format
@@ -315,6 +356,7 @@ else
     try 0 'audit clean, used 0 of 64' readable 154 audit
     try 3 'device fault' readable 154 format
     try 3 'device fault' readable 154 recover
+    try 3 'device fault' readable 154 force-rebuild
     vdo=$caller
     alike readable kept 'a file that may only be read was written'
 fi
@@ -325,6 +367,7 @@ if [ "$(id -u)" = 0 ] && mkdir sealed && mount -t tmpfs -o size=4m tmpfs sealed 
     mount -o remount,ro sealed 2>errors
     try 0 'audit clean, used 0 of 64' sealed/image 154 audit
     try 3 'device fault' sealed/image 154 recover
+    try 3 'device fault' sealed/image 154 force-rebuild
     try 3 'device fault' sealed/absent 154 status
     umount sealed
 else
@@ -335,11 +378,11 @@ fi
 if command -v flock >errors; then
     cp image held
     cp held kept
-    for command in format recover audit status; do
+    for command in format recover force-rebuild audit status; do
         printed=$(flock -x held "$vdo" held 154 "$command" 2>errors)
         same "$? $printed" '3 device fault' "$command of a file that another changes"
     done
-    for command in format recover; do
+    for command in format recover force-rebuild; do
         printed=$(flock -s held "$vdo" held 154 "$command" 2>errors)
         same "$? $printed" '3 device fault' "$command of a file that another looks at"
     done

@@ -1,10 +1,11 @@
 #!/usr/bin/env python3
-"""What `audit`, `status` and `recover` print of an image, found in the plainest way; and the images of the tests of these
-commands. Nothing is written.
+"""What `audit`, `status`, `recover` and `force-rebuild` print of an image, found in the plainest way; and the images of the
+tests of these commands. Nothing is written.
 
     python3 tools/whole_image.py audit FILE BLOCKS
     python3 tools/whole_image.py status FILE BLOCKS
     python3 tools/whole_image.py recover FILE BLOCKS
+    python3 tools/whole_image.py force-rebuild FILE BLOCKS
 """
 
 from __future__ import annotations
@@ -27,6 +28,7 @@ from vector import BLOCK_BYTES, SECTOR_BYTES, SECTORS, Literal, Vector
 
 FILE = "tool_tests/src/inspections.rt"
 RECOVERIES = "tool_tests/src/recoveries.rt"
+REBUILDS = "tool_tests/src/rebuilds.rt"
 
 GREATEST_COUNT = 254
 INCREMENT = 0
@@ -406,6 +408,31 @@ def recover(image: Image) -> tuple[str, int]:
         return f"bad image: {why}\n", 4
 
 
+def counted(image: Image) -> dict[int, int]:
+    """How often each data block is mapped, by the window and the pages alone; the journal may not be at its end either way."""
+    head = image.head()
+    sizes = head.sizes
+    found = BlockMap(image, sizes, Journal(image, replace(head, clean=False)).window())
+    for at in sorted(found.pages):
+        if found.mapped[at]:
+            raise BadImage(f"shared page {at}")
+    blocks = [sizes.data_block(k, offset) for k in range(sizes.slabs) for offset in range(sizes.slab_blocks)]
+    mapped = {at: found.mapped[at] + (at in found.pages) for at in blocks}
+    for at, count in mapped.items():
+        if count > GREATEST_COUNT:
+            raise BadImage(f"block {at} stored {GREATEST_COUNT} mapped {count}")
+    return mapped
+
+
+def force_rebuild(image: Image) -> tuple[str, int]:
+    """The text of `force-rebuild`, and its status."""
+    try:
+        mapped = counted(image)
+    except BadImage as why:
+        return f"bad image: {why}\n", 4
+    return f"rebuilt, used {sum(count > 0 for count in mapped.values())} of {len(mapped)}\n", 0
+
+
 # The images of the tests: an empty one of the default sizes, with some bytes of it changed.
 
 Patch = tuple[int, int, bytes]
@@ -516,6 +543,41 @@ def refused_cases() -> tuple[tuple[Patch, ...], ...]:
     )
 
 
+def noise() -> tuple[Patch, ...]:
+    """Noise in all blocks of the slab but its data."""
+    return tuple((at, 0, bytes([255]) * BLOCK_BYTES) for at in range(149, 154))
+
+
+def rebuilt_cases() -> dict[str, tuple[tuple[Patch, ...], bool]]:
+    """Images that are rebuilt, and whether there is noise in their counters and in the slab's journal."""
+    images = cases()
+    return {
+        "FRESH": ((), False),
+        "COUNTED_TWICE": (images["COUNTED_TWICE"], False),
+        "COUNTED_NEVER": (images["COUNTED_NEVER"], False),
+        "COUNTER": (images["COUNTER"], False),
+        "WRITTEN_WITH_NOISE": (images["WRITTEN"], True),
+        "STOPPED_LATER": (images["STOPPED_LATER"], False),
+        "STOPPED_WITH_NOISE": (images["STOPPED"], True),
+    }
+
+
+def unrebuilt_cases() -> tuple[tuple[Patch, ...], ...]:
+    images = cases()
+    late: Patch = (0, 56, bytes([255] * 6 + [63]))
+    same = ("NOT_AN_IMAGE", "ANOTHER_VERSION", "SMALL_JOURNAL", "LATE_START", "BLOCK_IS_MISSING")
+    return (
+        *(images[name] for name in same),
+        (late,),
+        *(images[name] for name in ("HEADER", "COMPRESSED", "OUT_OF_RANGE", "SHARED_PAGE")),
+    )
+
+
+def shared(mappings: int) -> tuple[Patch, ...]:
+    """Block 86 is mapped so often."""
+    return (*cases()["WRITTEN"], *(slot(85, place, mapping.at(86)) for place in range(mappings)))
+
+
 def literals(patches: tuple[Patch, ...], *told: tuple[str, int]) -> tuple[Literal, ...]:
     flat: list[Literal] = [part for patch in patches for part in patch]
     for text, found in told:
@@ -533,9 +595,17 @@ def vectors() -> Iterator[Vector]:
     for patches in refused_cases():
         line, _ = recover(patched(patches))
         yield Vector(RECOVERIES, "REFUSED", (*literals(patches), line.encode()))
+    for item, (patches, noisy) in rebuilt_cases().items():
+        told = force_rebuild(patched((*patches, *(noise() if noisy else ()))))
+        yield Vector(REBUILDS, item, literals(patches, told))
+    for patches in unrebuilt_cases():
+        line, _ = force_rebuild(patched(patches))
+        yield Vector(REBUILDS, "REFUSED", (*literals(patches), line.encode()))
+    yield Vector(REBUILDS, "AS_OFTEN_AS_CAN_BE", literals((), force_rebuild(patched(shared(254)))))
+    yield Vector(REBUILDS, "TOO_OFTEN", literals((), force_rebuild(patched(shared(255)))))
 
 
-COMMANDS = {"audit": audit, "status": status, "recover": recover}
+COMMANDS = {"audit": audit, "status": status, "recover": recover, "force-rebuild": force_rebuild}
 
 
 def main() -> int:

@@ -5,10 +5,12 @@ use Rattle.audit.specs.declared.forms.Difference.{Difference}
 use Rattle.audit.specs.declared.forms.Report.{Report}
 use Rattle.blk_base.specs.declared.geometry.Geometry.{Geometry}
 use Rattle.image_status.specs.declared.forms.ImageStatus.{ImageStatus}
+use Rattle.force_rebuild.specs.declared.forms.Forced.{Forced}
 use Rattle.rebuild.specs.declared.forms.Recovered.TheVariants.{Clean, Entries}
 use Rattle.command_text.specs.declared.parts.Space.{Space}
 use Rattle.command_text.specs.declared.parts.DamagedPlace.TheVariants.{Page, Count}
 use Rattle.command_text.specs.Parts.{recovered_text, recovery_text, space_pieces, space_text, damaged_text, damage_text}
+use Rattle.command_text.specs.Rebuilt.{rebuilt_text}
 use Rattle.command_text.specs.Formats.{slabs_text, formatted_text, layout_line}
 use Rattle.image_layout.specs.declared.fault.Field.TheVariants.{SlabBlocks}
 use Rattle.image_layout.specs.declared.fault.LayoutFault.TheVariants.{TooSmall, LogicalTooLarge, Size, TooLargeToCrash}
@@ -112,6 +114,12 @@ report_clean report none used total = rw (none, used, total) findings_clean
 pub report_differs : (report : Report) → report.differs.items ≡ stray ∷ []
     → report_text report ≡ codes "block 86 stored 2 mapped 1\naudit differs 1\n"
 report_differs report one = rw one findings_differ
+
+pub rebuilt_some : rebuilt_text (record { used = 2; total = 64 }) ≡ codes "rebuilt, used 2 of 64\n"
+rebuilt_some = simp numerals refl
+
+pub rebuilt_none : rebuilt_text (record { used = 0; total = 64 }) ≡ codes "rebuilt, used 0 of 64\n"
+rebuilt_none = simp numerals refl
 
 pub mode_clean : mode_text true 30 ≡ codes "mode clean\nrecovery none\n"
 mode_clean = refl

@@ -3,6 +3,7 @@ pub mod Parts
 pub mod Formats
 pub mod Faults
 pub mod Audits
+pub mod Rebuilt
 pub mod Statuses
 pub mod Runs
 pub mod Tallies

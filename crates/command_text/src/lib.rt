@@ -3,7 +3,7 @@
 //! Only tested: a table of texts.
 //!
 //! Not there: a command that prints `run`, `crash`, `workload` or `sectors` by these texts: the program prints what
-//! `format`, `recover`, `audit` and `status` do, and why there is no image.
+//! `format`, `recover`, `force-rebuild`, `audit` and `status` do, and why there is no image.
 #![tactic(auto)]
 
 mod audits;
@@ -13,6 +13,7 @@ mod formats;
 mod layouts;
 mod parts;
 mod pieces;
+mod rebuilt;
 mod runs;
 mod sectors;
 mod statuses;
@@ -26,6 +27,7 @@ pub use formats::put_formatted;
 pub use layouts::put_layout_fault;
 pub use parts::{DamagedPlace, Space, put_recovery};
 pub use pieces::{Line, Piece, put_lines};
+pub use rebuilt::put_rebuilt;
 pub use runs::{RunNotes, put_run};
 pub use sectors::{SectorAnswer, SectorAsked, SectorLine, put_sector_lines, put_sectors};
 pub use statuses::put_status;

@@ -177,6 +177,7 @@ fn runs(rt: HostRuntime) -> Result<(), Fail> {
 fn other_commands(rt: HostRuntime) -> Result<(), Fail> {
     let rows = [
         ("recover", Command::Recover),
+        ("force-rebuild", Command::ForceRebuild),
         ("audit", Command::Audit),
         ("status", Command::Status),
         ("crash --after 0 --image 0", crash(0, CORE, 0, 0)),

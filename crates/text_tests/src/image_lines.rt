@@ -1,10 +1,12 @@
-//! What the commands print that look at an image: `format`, `recover`, `audit` and `status`.
+//! What the commands print that look at an image: `format`, `recover`, `force-rebuild`, `audit` and `status`.
 use audit::{Difference, Report};
 use blk_base::{Geometry, Layout, Pbn, Point};
 use command_text::{
-    put_audit, put_formatted, put_image_fault, put_layout_fault, put_recovery, put_status,
+    put_audit, put_formatted, put_image_fault, put_layout_fault, put_rebuilt, put_recovery,
+    put_status,
 };
 use disk_model::{Failed, MemSink};
+use force_rebuild::Forced;
 use image_layout::{Field, LayoutFault, SuperFault};
 use image_model::ImageFault;
 use image_status::ImageStatus;
@@ -134,6 +136,15 @@ fn recoveries_are_told(rt: HostRuntime) -> Result<(), Fail> {
     put_recovery(Recovered::Clean, &mut out)?;
     put_recovery(Recovered::Entries(30), &mut out)?;
     assert_eq!(rt; out.bytes(), b"clean\nrecovered 30 entries\n".as_slice());
+    Ok(())
+}
+
+#[test]
+fn a_rebuild_is_told(rt: HostRuntime) -> Result<(), Fail> {
+    let mut out = MemSink::new(rt.alloc(), 1000)?;
+    let forced = Forced { used: 2, total: 64 };
+    put_rebuilt(forced, &mut out)?;
+    assert_eq!(rt; out.bytes(), b"rebuilt, used 2 of 64\n".as_slice());
     Ok(())
 }
 

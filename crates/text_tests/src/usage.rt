@@ -50,6 +50,8 @@ const REFUSED: [&str; 50] = [
     "run --schedule 18446744073709551616",
     "format --height 4294967296",
     "recover --depth 1",
+    "force-rebuild --slabs 1",
+    "force",
     "crash --after 1",
     "crash --image 1 --depth 2",
     "workload --requests 65537",

@@ -271,7 +271,7 @@ fn put_bytes(block: &mut Block, place: usize, bytes: &[u8]) {
     }
 }
 
-fn put_patch(device: &mut MemDisk, (at, place, bytes): Patch) {
+pub(crate) fn put_patch(device: &mut MemDisk, (at, place, bytes): Patch) {
     let mut block = Block::zero();
     if device.blocks() > at && device.read(Pbn(at), &mut block).is_ok() {
         put_bytes(&mut block, place, bytes);

@@ -6,4 +6,6 @@ mod formats;
 #[cfg(test)]
 mod inspections;
 #[cfg(test)]
+mod rebuilds;
+#[cfg(test)]
 mod recoveries;

@@ -1,4 +1,5 @@
-//! The program: it makes an image on a file, recovers one, or looks at one, or serves a script on a fresh image in memory.
+//! The program: it makes an image on a file, recovers or rebuilds one, or looks at one, or serves a script on a fresh
+//! image in memory.
 //!
 //! Only tested: the stored run; which device and command the words name, and a file that can't be opened or written
 //! (`tools/image_files.sh`); the instructions of a run (docs/PERFORMANCE.md).

@@ -2,13 +2,13 @@
 use Rattle.std.proofs.Common.{ℕ, ◌≡◌, true, false, List, [], ◌∷◌, Some, None, codes, refl}
 use Rattle.blk_base.specs.declared.geometry.Geometry.{Geometry}
 use Rattle.vdo_words.specs.declared.commands.Command.TheVariants.{Run, Workload}
-use Rattle.vdo_words.specs.declared.commands.Command.TheVariants.{Audit as AuditCommand, Recover as RecoverCommand, Status as StatusCommand}
+use Rattle.vdo_words.specs.declared.commands.Command.TheVariants.{Audit as AuditCommand, ForceRebuild as RebuildCommand, Recover as RecoverCommand, Status as StatusCommand}
 use Rattle.vdo_words.specs.declared.commands.Command.TheVariants.{Format as FormatCommand}
 use Rattle.vdo_words.specs.declared.commands.FormatOptions.{FormatOptions}
 use Rattle.vdo_words.specs.declared.commands.CoreOptions.{CoreOptions}
 use Rattle.vdo_words.specs.declared.commands.WorkloadOptions.{WorkloadOptions}
 use Rattle.vdo_words.specs.declared.commands.Drive.TheVariants.{Schedule, Threads}
-use Rattle.vdo_cli.specs.declared.words.Served.TheVariants.{Audit, Script, Format, Recover, Status}
+use Rattle.vdo_cli.specs.declared.words.Served.TheVariants.{Audit, ForceRebuild, Script, Format, Recover, Status}
 use Rattle.vdo_cli.specs.Commands.{are_default, number_of, served_in, served_of, sizes_of}
 
 -- the options of a core that has none
@@ -38,7 +38,7 @@ each_size_is_its_option : sizes_of (record { logical = 1; slabs = 2; slab_blocks
     ≡ record { logical = 1; slabs = 2; slab_blocks = 3; journal = 4; index = 5; slab_journal = 6; height = 7; nonce = 8 }
 each_size_is_its_option = refl
 
--- served_in: `run` with such a core and a schedule, `format`, `recover`, `audit` and `status`
+-- served_in: `run` with such a core and a schedule, `format`, `recover`, `force-rebuild`, `audit` and `status`
 in_run : (number : ℕ) → served_in (Some (Run (record { drive = Schedule number; core = core }))) ≡ Some (Script number)
 in_run number = refl
 
@@ -53,6 +53,9 @@ in_format options = refl
 
 in_recover : served_in (Some RecoverCommand) ≡ Some Recover
 in_recover = refl
+
+in_force_rebuild : served_in (Some RebuildCommand) ≡ Some ForceRebuild
+in_force_rebuild = refl
 
 in_audit : served_in (Some AuditCommand) ≡ Some Audit
 in_audit = refl
@@ -101,6 +104,16 @@ recovered = refl
 
 recovered_with_an_option : served_of (codes "recover" ∷ codes "--schedule" ∷ codes "2" ∷ []) ≡ None
 recovered_with_an_option = refl
+
+-- nor has a forced rebuild
+abbrev pub rebuild_words : List (List ℕ)
+rebuild_words = codes "force-rebuild" ∷ []
+
+pub rebuilt : served_of rebuild_words ≡ Some ForceRebuild
+rebuilt = refl
+
+rebuilt_with_an_option : served_of (codes "force-rebuild" ∷ codes "--slabs" ∷ codes "2" ∷ []) ≡ None
+rebuilt_with_an_option = refl
 
 -- nor has the audit
 abbrev pub audit_words : List (List ℕ)

@@ -15,6 +15,7 @@ pub mod FormatPins
 pub mod AuditPins
 pub mod StatusPins
 pub mod RecoveryPins
+pub mod RebuildPins
 pub mod EmptyScript
 pub mod ServePins
 pub mod SessionPins

@@ -13,6 +13,7 @@ use Rattle.vdo_cli.specs.declared.words.Served.{Served}
 use Rattle.vdo_cli.specs.declared.words.Served.TheVariants as served
 use Rattle.vdo_cli.specs.Commands.{served_of}
 use Rattle.vdo_cli.specs.NewImages.{MakesImage}
+use Rattle.vdo_cli.specs.Rebuilds.{EndsRebuild}
 use Rattle.vdo_cli.specs.Recoveries.{EndsRecovery}
 use Rattle.vdo_cli.specs.Outsides.{Outcome, Outside, Setting}
 use Rattle.vdo_cli.specs.Runs.{EndsAs, EndsSo, NotBegun, PlayedOut, RunsScriptBy}
@@ -56,6 +57,13 @@ recovery_goes_on s before after ends is = elim is.ends [
   | inr refused ↦ record { stays = refused.cause.stays; calls = refused.cause.grows }
 ]
 
+rebuild_goes_on : (s : Setting) (before after : Outside) (ends : Outcome)
+    → EndsRebuild s before after ends → GoesOn s.device.tells before.device after.device
+rebuild_goes_on s before after ends is = elim is.ends [
+  | inl done ↦ record { stays = done.forcing.stays; calls = done.forcing.grows }
+  | inr refused ↦ record { stays = refused.cause.stays; calls = refused.cause.grows }
+]
+
 same_device : (tells : Bool) (before after : Seen) → after ≡ before → GoesOn tells before after
 same_device tells before after same = rw same (record { stays = record { opening = refl; size = refl }; calls = λ told. ([], refl) })
 
@@ -66,6 +74,7 @@ served_goes_on s None before after outcome ends = same_device s.device.tells bef
 served_goes_on s (Some (served.Script schedule)) before after outcome ends = script_goes_on outcome.fault s schedule before after outcome ends
 served_goes_on s (Some (served.Format sizes)) before after outcome ends = format_goes_on s sizes before after outcome ends
 served_goes_on s (Some served.Recover) before after outcome ends = recovery_goes_on s before after outcome ends
+served_goes_on s (Some served.ForceRebuild) before after outcome ends = rebuild_goes_on s before after outcome ends
 served_goes_on s (Some served.Audit) before after outcome ends = untouched s.device.tells before.device after.device ends.looks.untouched
 served_goes_on s (Some served.Status) before after outcome ends = untouched s.device.tells before.device after.device ends.looks.untouched
 

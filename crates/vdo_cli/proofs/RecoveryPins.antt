@@ -67,10 +67,10 @@ none_flushed (Read place bytes ok ∷ calls) is reads = absurd cc
 none_flushed (Write place bytes ok ∷ calls) is reads = reads
 none_flushed (Flush ok ∷ calls) is reads = reads
 
-abbrev flushed : Seen
+abbrev pub flushed : Seen
 flushed = device [] (Flush true ∷ []) 0 0
 
-not_flushed : IsUntouched true begins.device flushed → ⊥
+pub not_flushed : IsUntouched true begins.device flushed → ⊥
 not_flushed untouched = let since = untouched.reads refl in none_flushed since.0 since.1 since.2
 
 -- a refused image isn't written
@@ -87,7 +87,7 @@ image-not_written held ends = elim ends.ends [
     no_device why is failed = let same = ap status_in (is ∙ ap (λ (w : ImageFault). Some (told_as w)) failed) in omega (arith, same)
 
 -- Device. The last call failed,
-abbrev failed : Seen
+abbrev pub failed : Seen
 failed = device [] (Read (at 0) [] false ∷ []) 1 0
 
 failed_so : IsRecovery true false begins.device failed (Err image.Device)
@@ -122,20 +122,20 @@ device-failed = record {
 }
 
 -- and none was made after it
-abbrev went_on : Seen
+abbrev pub went_on : Seen
 went_on = device [] (Flush true ∷ Flush false ∷ []) 1 0
+
+pub not_last : (call : Call) (done : List Call) → IsFailed call → FailedInLog (done ++ []) (Flush true ∷ Flush false ∷ []) call (Rose 0 0) → ⊥
+not_last call done is (inr lost) = let rose = lost.1 in omega (arith, rose)
+not_last (Read place bytes ok) done is (inl stands) = absurd (cc stands)
+not_last (Write place bytes ok) done is (inl stands) = absurd (cc stands)
+not_last (Flush ok) done is (inl stands) = let front : Flush true ≡ Flush ok = cc stands in absurd (cc (front, is))
 
 device-not_last : (held : List ℕ) → Ends recover_words begins (outside went_on (source (7 ∷ []) 0) (sink held 0)) 3 no_report (Some fault.Device) → ⊥
 device-not_last held ends = elim ends.ends [ inl told ↦ told.line | inr nothing ↦ of_why nothing.why nothing.fault_is nothing.cause ]
   where
-    of_last : (call : Call) (done : List Call) → IsFailed call → FailedInLog (done ++ []) (Flush true ∷ Flush false ∷ []) call (Rose 0 0) → ⊥
-    of_last call done is (inr lost) = let rose = lost.1 in omega (arith, rose)
-    of_last (Read place bytes ok) done is (inl stands) = absurd (cc stands)
-    of_last (Write place bytes ok) done is (inl stands) = absurd (cc stands)
-    of_last (Flush ok) done is (inl stands) = let front : Flush true ≡ Flush ok = cc stands in absurd (cc (front, is))
-
     of_why : (why : ImageFault) → Some fault.Device ≡ Some (told_as why) → IsRecovery true false begins.device went_on (Err why) → ⊥
-    of_why image.Device is recovery = let last = (recover_last true false begins.device went_on recovery.fails).logged refl in of_last last.0 last.1 last.2 last.3
+    of_why image.Device is recovery = let last = (recover_last true false begins.device went_on recovery.fails).logged refl in not_last last.0 last.1 last.2 last.3
     of_why image.Memory is recovery = absurd (cc is)
     of_why image.Unclean is recovery = absurd (cc is)
     of_why (image.Super refusal) is recovery = absurd (cc is)
@@ -146,7 +146,7 @@ device-not_last held ends = elim ends.ends [ inl told ↦ told.line | inr nothin
     of_why (image.Counts block stored mapped) is recovery = absurd (cc is)
 
 -- the first byte of a line
-abbrev first_of : List ℕ → ℕ
+abbrev pub first_of : List ℕ → ℕ
 first_of [] = 0
 first_of (byte ∷ bytes) = byte
 

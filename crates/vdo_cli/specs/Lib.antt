@@ -8,5 +8,6 @@ pub mod Outsides
 pub mod NewImages
 pub mod Inspections
 pub mod Recoveries
+pub mod Rebuilds
 pub mod Runs
 pub mod Onward

@@ -13,6 +13,7 @@ use Rattle.vdo_cli.specs.Commands.{served_of}
 use Rattle.vdo_cli.specs.Endings.{RunsSession, PlayFails}
 use Rattle.vdo_cli.specs.Inspections.{EndsAudit, EndsStatus}
 use Rattle.vdo_cli.specs.NewImages.{MakesImage}
+use Rattle.vdo_cli.specs.Rebuilds.{EndsRebuild}
 use Rattle.vdo_cli.specs.Recoveries.{EndsRecovery}
 use Rattle.vdo_cli.specs.Outsides.{Outcome, Outside, PutsOrFails, Refuses, Setting, input_setting_of, inputs_of}
 use Rattle.vdo_cli.specs.Texts.{some_lost, desk_status}
@@ -63,6 +64,7 @@ EndsAs s None before after outcome = IsUsage s before after outcome
 EndsAs s (Some (served.Script schedule)) before after outcome = RunsScript s schedule before after outcome
 EndsAs s (Some (served.Format sizes)) before after outcome = MakesImage s sizes before after outcome
 EndsAs s (Some served.Recover) before after outcome = EndsRecovery s before after outcome
+EndsAs s (Some served.ForceRebuild) before after outcome = EndsRebuild s before after outcome
 EndsAs s (Some served.Audit) before after outcome = EndsAudit s before after outcome
 EndsAs s (Some served.Status) before after outcome = EndsStatus s before after outcome
 

@@ -12,8 +12,8 @@ pub enum Fault {
     /// A line of the script has a fault. Status 2.
     #[error("{0}")]
     Script(ScriptRefusal),
-    /// The device failed: a read before the script was read, or while an image was looked at, or a call while one was made
-    /// or recovered. Status 3.
+    /// The device failed: a read before the script was read, or while an image was looked at, or a call while one was made,
+    /// recovered or rebuilt. Status 3.
     #[error("device fault")]
     Device,
     /// An image of the wanted sizes can't be had on the device. Status 8.
@@ -23,7 +23,7 @@ pub enum Fault {
     #[error("bad image: {0}")]
     Image(ImageFault),
     /// Memory ran out before the first request was served, or while an image was looked at, or before the first write of a
-    /// recovery. Status 5.
+    /// recovery or a rebuild. Status 5.
     #[error("no memory")]
     Memory,
     /// An audit found so many blocks whose stored count isn't the number of their mappings. Status 6.

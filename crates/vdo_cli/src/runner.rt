@@ -3,6 +3,7 @@ ghost use Rattle.stream_text.specs.AnswerRooms.{HasRoomFor};
 ghost use Rattle.vdo_cli.specs.Inspections.{EndsAudit, EndsStatus, TellsReport};
 ghost use Rattle.vdo_cli.specs.NewImages.{MakesImage};
 ghost use Rattle.vdo_cli.specs.Outsides.{Refuses, Tells, no_report, outcome, outside, setting};
+ghost use Rattle.vdo_cli.specs.Rebuilds.{EndsRebuild};
 ghost use Rattle.vdo_cli.specs.Recoveries.{EndsRecovery};
 ghost use Rattle.vdo_cli.specs.Runs.{EndsSo, Closes, RunsScript};
 
@@ -15,6 +16,7 @@ use audit::{Report, audit};
 use blk_base::Geometry;
 use command_text::{Line, put_audit};
 use disk_model::{Disk, Sink, Source, ZoneGate};
+use force_rebuild::force;
 use image_status::read_status;
 use rebuild::recover;
 use std::alloc::Global;
@@ -187,6 +189,25 @@ fn recover_device<D: Disk, S: Source, K: Sink>(
     }
 }
 
+// Sets the stored counts of the image from its block map.
+fn rebuild_device<D: Disk, S: Source, K: Sink>(
+    alloc: Global,
+    device: D,
+    script: &S,
+    out: &mut K,
+) -> Ended<D>
+    ensures { EndsRebuild (setting D.tells D.honest S.tells K.tells)
+        (outside (D.seen device) (S.seen script.now) (K.seen out.old))
+        (outside (D.seen result.device) (S.seen script.now) (K.seen out.new))
+        (outcome result.status result.report result.fault) }
+{
+    let mut device = device;
+    match force(alloc, &mut device) {
+        Ok(forced) => tell(alloc, &forced, device, out),
+        Err(why) => refuse(alloc, fault_of(why), device, out),
+    }
+}
+
 // Compares the stored counts of the image with its mappings.
 fn audit_device<D: Disk, S: Source, K: Sink>(
     alloc: Global,
@@ -231,6 +252,9 @@ fn status_of_device<D: Disk, S: Source, K: Sink>(
 /// is read from the window of the recovery journal. `format`, with the sizes of an image as its options: an empty image
 /// is made on the device, and a line says so. `recover`: an image whose last session wasn't closed is closed, and how many
 /// entries of its journal were used is told; a sound one says the same then; nothing is written where it was closed.
+/// `force-rebuild`: each data block gets the number of its mappings as its stored count, whatever the image's counters and
+/// slabs' journals hold, the image is closed, and how many blocks are used is told; each address keeps its value, where
+/// nothing in the recovery journal is from a later time.
 /// `audit`: each data block whose stored count isn't the number of its mappings is told, or how many are used where
 /// none differs; nothing is written. `status`: what the image says of itself is told, and nothing is written.
 ///
@@ -240,16 +264,16 @@ fn status_of_device<D: Disk, S: Source, K: Sink>(
 /// later run opens this image isn't claimed: a run refuses one whose sequences are used up, and one with a new page of the
 /// block map in its window. The report's marks say which calls of the device made the flushes last. A stop while an image is
 /// made leaves what the old image said, or no image, or an empty one. One while a sound image is recovered leaves a sound one
-/// that says the same.
+/// that says the same. One while an image is rebuilt leaves one with the same map, which can be rebuilt again.
 ///
 /// | Status | Comes where |
 /// |---|---|
-/// | 0 | each request was answered Ok, or with bytes; or the image was made; or recovered, or was closed; or no block differs, or the status was told |
+/// | 0 | each request was answered Ok, or with bytes; or the image was made; or recovered, or was closed; or rebuilt; or no block differs, or the status was told |
 /// | 1 | a request was answered Full: no journal block was left for its entry, or no data block |
 /// | 2 | the words are no command that is served (`Usage`) or a line of the script has a fault (`Script`) |
-/// | 3 | the device failed: before the script was read, or while an image was made, recovered or looked at (`Device`), or a request was answered Stopped or with a read fault |
-/// | 4 | the device has no image, or a block of its window can't be replayed or has a new page, or a recovery, an audit or a status met a page or a count that can't be (`Image`) |
-/// | 5 | memory ran out before the first request was served, or while an image was looked at, or before the first write of a recovery (`Memory`) |
+/// | 3 | the device failed: before the script was read, or while an image was made, recovered, rebuilt or looked at (`Device`), or a request was answered Stopped or with a read fault |
+/// | 4 | the device has no image, or a block of its window can't be replayed or has a new page, or a recovery, a rebuild, an audit or a status met a page or a count that can't be (`Image`) |
+/// | 5 | memory ran out before the first request was served, or while an image was looked at, or before the first write of a recovery or a rebuild (`Memory`) |
 /// | 6 | an audit found blocks that differ (`Differs`) |
 /// | 7 | the source or the sink failed (`Read`, `Sink`) |
 /// | 8 | an image of these sizes can't be had on the device (`Layout`) |
@@ -273,6 +297,7 @@ pub fn run<R: Threads + Wait + Sync, D: Disk + Send + Drop, S: Source, K: Sink, 
         Some(Served::Script(schedule)) => run_script(rt, alloc, schedule, device, script, out),
         Some(Served::Format(sizes)) => format(alloc, &sizes, device, script, out),
         Some(Served::Recover) => recover_device(alloc, device, script, out),
+        Some(Served::ForceRebuild) => rebuild_device(alloc, device, script, out),
         Some(Served::Audit) => audit_device(alloc, device, script, out),
         Some(Served::Status) => status_of_device(alloc, device, script, out),
         None => refuse(alloc, Fault::Usage, device, out),

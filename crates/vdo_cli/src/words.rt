@@ -27,6 +27,8 @@ pub(crate) enum Served {
     Format(Geometry),
     /// An image whose last session wasn't closed is closed.
     Recover,
+    /// An image's stored counts are set from its block map.
+    ForceRebuild,
     /// An image's stored counts are compared with its mappings.
     Audit,
     /// An image is asked what it says of itself.
@@ -60,6 +62,7 @@ fn served_in(command: Option<Command>) -> Option<Served>
         },
         Some(Command::Format(options)) => Some(Served::Format(sizes_of(&options))),
         Some(Command::Recover) => Some(Served::Recover),
+        Some(Command::ForceRebuild) => Some(Served::ForceRebuild),
         Some(Command::Audit) => Some(Served::Audit),
         Some(Command::Status) => Some(Served::Status),
         _ => None,

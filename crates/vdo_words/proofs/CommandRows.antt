@@ -3,7 +3,7 @@ use Rattle.std.specs.Prelude.{◌≡◌, [], ◌∷◌, codes, Some, None, Ok, E
 use Rattle.vdo_words.specs.Commands.{command_of, read}
 use Rattle.vdo_words.specs.declared.commands.CoreOptions.{CoreOptions}
 use Rattle.vdo_words.specs.declared.commands.Drive.TheVariants as drive
-use Rattle.vdo_words.specs.declared.commands.Command.TheVariants.{Format, Run, Recover, Audit, Status, Crash, Workload}
+use Rattle.vdo_words.specs.declared.commands.Command.TheVariants.{Format, Run, Recover, ForceRebuild, Audit, Status, Crash, Workload}
 
 abbrev core : CoreOptions
 core = record { depth = 1; logical_zones = 1; physical_zones = 1; hash_zones = 1; cache = 16 }
@@ -63,6 +63,12 @@ recover-alone = refl
 
 recover-more : command_of (codes "recover" ∷ codes "--depth=1" ∷ []) ≡ None
 recover-more = refl
+
+force-rebuild-alone : command_of (codes "force-rebuild" ∷ []) ≡ Some ForceRebuild
+force-rebuild-alone = refl
+
+force-rebuild-more : command_of (codes "force-rebuild" ∷ codes "--slabs=1" ∷ []) ≡ None
+force-rebuild-more = refl
 
 audit-alone : command_of (codes "audit" ∷ []) ≡ Some Audit
 audit-alone = refl

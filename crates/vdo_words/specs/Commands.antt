@@ -13,7 +13,7 @@ use Rattle.vdo_words.specs.declared.commands.WorkloadOptions.{WorkloadOptions}
 use Rattle.vdo_words.specs.declared.commands.Drive.{Drive}
 use Rattle.vdo_words.specs.declared.commands.Drive.TheVariants as drive
 use Rattle.vdo_words.specs.declared.commands.Command.{Command}
-use Rattle.vdo_words.specs.declared.commands.Command.TheVariants.{Format, Run, Recover, Audit, Status, Crash, Workload}
+use Rattle.vdo_words.specs.declared.commands.Command.TheVariants.{Format, Run, Recover, ForceRebuild, Audit, Status, Crash, Workload}
 use Rattle.vdo_words.specs.declared.commands.Usage.{Usage}
 
 -- the options of a core
@@ -86,6 +86,7 @@ command_named name options =
     if bytes_eq name (codes "format") then option_map Format (format_of options)
     else if bytes_eq name (codes "run") then option_map Run (run_of options)
     else if bytes_eq name (codes "recover") then bare_command Recover options
+    else if bytes_eq name (codes "force-rebuild") then bare_command ForceRebuild options
     else if bytes_eq name (codes "audit") then bare_command Audit options
     else if bytes_eq name (codes "status") then bare_command Status options
     else if bytes_eq name (codes "crash") then option_map Crash (crash_of options)

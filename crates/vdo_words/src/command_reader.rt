@@ -163,6 +163,7 @@ fn named(alloc: Global, name: &str, words: &[String]) -> Option<Command>
         "format" => Some(Command::Format(format(alloc, words)?)),
         "run" => Some(Command::Run(run(alloc, words)?)),
         "recover" => bare(Command::Recover, words),
+        "force-rebuild" => bare(Command::ForceRebuild, words),
         "audit" => bare(Command::Audit, words),
         "status" => bare(Command::Status, words),
         "crash" => Some(Command::Crash(crash(alloc, words)?)),

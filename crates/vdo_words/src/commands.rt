@@ -9,6 +9,8 @@ pub enum Command {
     Run(RunOptions),
     /// Recover the image.
     Recover,
+    /// Set the counts from the block map, and close the image.
+    ForceRebuild,
     /// Compare the counts with the mappings.
     Audit,
     /// Print the mode and the counts.
